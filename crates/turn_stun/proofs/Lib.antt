@@ -1,0 +1,4 @@
+pub mod WalkLemmas
+pub mod GrammarLemmas
+pub mod FaultLemmas
+pub mod SeenLemmas

@@ -1,0 +1,6 @@
+pub mod Attributes
+pub mod Iterator
+pub mod Message
+pub mod MessageType
+pub mod Number
+pub mod Values

@@ -1,0 +1,14 @@
+-- Numbers in network byte order (RFC 8489, section 5: "all fields are in network order, big endian").
+use Rattle.std.specs.Prelude.{ℕ, ◌+◌, ◌*◌, List, [], ◌∷◌, fold, slice_index}
+
+-- the number that the bytes are, the first byte the most significant
+abbrev pub big_endian : List ℕ → ℕ
+big_endian bytes = fold (λ number byte. number * 256 + byte) 0 bytes
+
+-- the two bytes from this place on, as a number
+abbrev pub u16_at : List ℕ → ℕ → ℕ
+u16_at bytes at = slice_index bytes at * 256 + slice_index bytes (at + 1)
+
+-- the four bytes from this place on, as a number
+abbrev pub u32_at : List ℕ → ℕ → ℕ
+u32_at bytes at = u16_at bytes at * 65536 + u16_at bytes (at + 2)

@@ -1,0 +1,78 @@
+//! The header of a message (RFC 8489, section 5).
+
+ghost use Rattle.std.specs.Prelude.{◌≡◌, ◌+◌, ◌*◌, ◌/◌, ◌%◌, ◌^◌, ◌<◌, ◌↔◌, length, IsTrue, IfOk, IfErr, IsOk, Some};
+ghost use Rattle.turn_stun.specs.Message.{type_of, length_of, id_of};
+ghost use Rattle.turn_stun.specs.MessageType.{type_number, method_of, class_of, IsResponse};
+
+use crate::message::method::Method;
+
+/// What a message is for.
+#[derive(Clone, Copy, Debug, PartialEq, Eq)]
+pub enum MessageClass {
+    /// It asks, and a response is awaited.
+    Request,
+    /// It tells, and nothing is awaited.
+    Indication,
+    /// It grants a request.
+    Success,
+    /// It refuses a request.
+    Error,
+}
+
+/// The method and class of a message: the first two bytes of its header.
+#[derive(Clone, Copy, Debug, PartialEq, Eq)]
+pub struct MessageType {
+    /// What is asked, granted, refused or told.
+    pub method: Method,
+    /// Which of these it is.
+    pub class: MessageClass,
+}
+
+impl MessageType {
+    /// The type with this 14-bit number, in which the two bits of the class stand between those of
+    /// the method.
+    pub fn from_number(number: u16) -> MessageType
+        requires { number < 2 ^ 14 }
+        ensures method { result.method.value ≡ method_of number }
+        ensures class { result.class ≡ class_of number }
+        ensures number { type_number result.method.value result.class ≡ number }
+    {
+        let class = match (number / 0x10 % 2, number / 0x100 % 2) {
+            (0, 0) => MessageClass::Request,
+            (_, 0) => MessageClass::Indication,
+            (0, _) => MessageClass::Success,
+            (_, _) => MessageClass::Error,
+        };
+        let value = number % 0x10 + number / 0x20 % 8 * 0x10 + number / 0x200 * 0x80;
+        MessageType {
+            method: Method { value },
+            class,
+        }
+    }
+
+    /// The 14-bit number of the type.
+    pub fn to_number(self) -> u16
+        ensures value { result ≡ type_number self.method.value self.class }
+        ensures range { result < 2 ^ 14 }
+        ensures method { method_of result ≡ self.method.value }
+        ensures class { class_of result ≡ self.class }
+    {
+        let method = self.method.value;
+        let class = match self.class {
+            MessageClass::Request => 0,
+            MessageClass::Indication => 0x10,
+            MessageClass::Success => 0x100,
+            MessageClass::Error => 0x110,
+        };
+        method % 0x10 + method / 0x10 % 8 * 0x20 + method / 0x80 * 0x200 + class
+    }
+}
+
+impl MessageClass {
+    /// Whether it answers a request: a success or an error.
+    pub fn is_response(self) -> bool
+        ensures { IsTrue result ↔ IsResponse self }
+    {
+        matches!(self, MessageClass::Success | MessageClass::Error)
+    }
+}

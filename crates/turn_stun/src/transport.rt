@@ -1,0 +1,68 @@
+//! Packets and the transports that carry them.
+
+ghost use Rattle.std.specs.Prelude.{◌≡◌};
+
+use std::net::SocketAddr;
+
+/// What carries a packet.
+#[derive(Clone, Copy, Debug, PartialEq, Eq)]
+pub enum TransportType {
+    /// Datagrams.
+    Udp,
+    /// A stream of bytes.
+    Tcp,
+}
+
+/// A packet, which the caller sends or has received: its bytes and its way.
+///
+/// `T` holds the bytes, as `Data` or a slice of the caller's own.
+#[derive(Debug, Drop)]
+pub struct Transmit<T> {
+    /// What the packet carries.
+    pub payload: T,
+    /// What carries the packet.
+    pub transport: TransportType,
+    /// Where it comes from.
+    pub from: SocketAddr,
+    /// Where it goes.
+    pub to: SocketAddr,
+}
+
+impl<T> Transmit<T> {
+    /// The packet with this payload and this way.
+    pub fn new(payload: T, transport: TransportType, from: SocketAddr, to: SocketAddr) -> Transmit<T>
+        ensures payload { result.payload ≡ payload }
+        ensures transport { result.transport ≡ transport }
+        ensures from { result.from ≡ from }
+        ensures to { result.to ≡ to }
+    {
+        Transmit {
+            payload,
+            transport,
+            from,
+            to,
+        }
+    }
+
+    /// The packet of the same way whose payload is what `f` makes of this one's.
+    pub fn reinterpret_data<U, F: FnOnce(T) -> U>(self, f: F) -> Transmit<U>
+        requires { F.pre f self.payload }
+        ensures payload { F.post f self.payload result.payload }
+        ensures transport { result.transport ≡ self.transport }
+        ensures from { result.from ≡ self.from }
+        ensures to { result.to ≡ self.to }
+    {
+        let Transmit {
+            payload,
+            transport,
+            from,
+            to,
+        } = self;
+        Transmit {
+            payload: f(payload),
+            transport,
+            from,
+            to,
+        }
+    }
+}
