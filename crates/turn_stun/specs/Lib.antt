@@ -4,3 +4,4 @@ pub mod Message
 pub mod MessageType
 pub mod Number
 pub mod Values
+pub mod XorAddress

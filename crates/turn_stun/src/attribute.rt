@@ -6,6 +6,7 @@ ghost use Rattle.turn_stun.specs.Message.{attribute_size, padded_len};
 
 pub mod realm;
 pub mod typed;
+pub mod xor_address;
 
 /// The type of an attribute: a number of sixteen bits (RFC 8489, section 18.3).
 #[derive(Clone, Copy, Debug, PartialEq, Eq)]

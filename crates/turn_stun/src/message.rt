@@ -10,7 +10,7 @@ ghost use Rattle.turn_stun.specs.Iterator.{attributes_left, placed};
 pub mod attributes;
 pub mod header;
 pub mod method;
-mod parse;
+pub(crate) mod parse;
 mod seen;
 
 use std::marker::Model;

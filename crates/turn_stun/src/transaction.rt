@@ -1,7 +1,7 @@
 //! Transaction IDs (RFC 8489, section 5).
 
 ghost use Rattle.std.specs.Prelude.{◌≡◌, ◌+◌, ◌%◌, ◌^◌, ◌<◌, length};
-ghost use Rattle.turn_stun.specs.Number.{big_endian};
+ghost use Rattle.turn_stun.specs.Number.{big_endian, id_segments};
 
 use std::fmt;
 use std::marker::Model;
@@ -58,6 +58,20 @@ impl TransactionId {
         TransactionId {
             number: high * 0x1_0000_0000_0000_0000 + low,
         }
+    }
+
+    /// The six groups of sixteen bits of the ID, the most significant first.
+    pub(crate) fn segments(self) -> [u16; 6]
+        ensures { result ≡ id_segments self }
+    {
+        [
+            (self.number / 0x1_0000_0000_0000_0000_0000) as u16,
+            (self.number / 0x1_0000_0000_0000_0000 % 0x1_0000) as u16,
+            (self.number / 0x1_0000_0000_0000 % 0x1_0000) as u16,
+            (self.number / 0x1_0000_0000 % 0x1_0000) as u16,
+            (self.number / 0x1_0000 % 0x1_0000) as u16,
+            (self.number % 0x1_0000) as u16,
+        ]
     }
 }
 

@@ -1,0 +1,152 @@
+//! Addresses that are XORed, so that no device on the way rewrites them (RFC 8489, section 14.2).
+
+ghost use Rattle.std.specs.Prelude.{◌≡◌, ℕ, ◌++◌, length, OnOk, OnErr};
+ghost use Rattle.turn_stun.specs.XorAddress.{xor_addr, xor_ipv4, xor_ipv6, xor_value, xor_value_len, ipv4_value, ipv6_value};
+
+use std::alloc::AllocError;
+use std::marker::Model;
+use std::net::{Ipv4Addr, Ipv6Addr, SocketAddr, SocketAddrV4, SocketAddrV6};
+
+use crate::message::parse::u16_at;
+use crate::transaction::TransactionId;
+
+/// A transport address as XOR-MAPPED-ADDRESS and TURN's address attributes spell it. Contracts see
+/// it as the address.
+#[derive(Clone, Copy, Debug, PartialEq, Eq)]
+pub struct XorSocketAddr {
+    addr: SocketAddr,
+}
+
+impl Model for XorSocketAddr {
+    ghost use Rattle.std.specs.declared.net.socket_addr.SocketAddr.{SocketAddr};
+
+    ghost Value = { SocketAddr };
+
+    ghost view = { λ xor. xor.addr };
+
+    ghost inverse = { λ addr. record { addr = addr } };
+}
+
+impl XorSocketAddr {
+    /// The attribute's value for this address.
+    pub fn new(addr: SocketAddr) -> XorSocketAddr
+        ensures { result ≡ addr }
+    {
+        XorSocketAddr { addr }
+    }
+
+    /// The address.
+    pub fn addr(&self) -> SocketAddr
+        ensures { result ≡ self.now }
+    {
+        self.addr
+    }
+
+    /// The address that a value spells under a transaction ID, or `None` where the value is
+    /// malformed: its length is not that of its family, or the family is neither 1 nor 2. Flow
+    /// information and scope of an IPv6 address are 0, since they are not sent.
+    pub fn decode(value: &[u8], id: TransactionId) -> Option<XorSocketAddr>
+        ensures { result ≡ xor_addr value.now id }
+    {
+        match (value.get(1), value.len()) {
+            (Some(1), 8) => Some(XorSocketAddr::new(SocketAddr::V4(ipv4_of(value)))),
+            (Some(2), 20) => Some(XorSocketAddr::new(SocketAddr::V6(ipv6_of(value, id)))),
+            _ => None,
+        }
+    }
+
+    /// How many bytes the value has: 8 for IPv4 and 20 for IPv6.
+    pub fn value_len(&self) -> usize
+        ensures len { result ≡ xor_value_len self.now }
+        ensures every { (id : ℕ) → length (xor_value self.now id) ≡ result }
+    {
+        match self.addr {
+            SocketAddr::V4(_) => 8,
+            SocketAddr::V6(_) => 20,
+        }
+    }
+
+    /// Writes the value into a place of its length, `value_len`.
+    pub fn encode(&self, id: TransactionId, place: &mut [u8])
+        requires { length place.old ≡ xor_value_len self.now }
+        ensures { place.new ≡ xor_value self.now id }
+    {
+        match self.addr {
+            SocketAddr::V4(addr) => place.copy_from_slice(&ipv4_value(addr)),
+            SocketAddr::V6(addr) => place.copy_from_slice(&ipv6_value(addr, id)),
+        }
+    }
+
+    /// Appends the value. On an error `out` is as before.
+    pub fn append(&self, id: TransactionId, out: &mut Vec<u8>) -> Result<(), AllocError>
+        ensures ok { OnOk result (out.new.items ≡ out.old.items ++ xor_value self.now id) }
+        ensures err { OnErr result (out.new.items ≡ out.old.items) }
+    {
+        match self.addr {
+            SocketAddr::V4(addr) => out.extend_from_slice(&ipv4_value(addr)),
+            SocketAddr::V6(addr) => out.extend_from_slice(&ipv6_value(addr, id)),
+        }
+    }
+}
+
+/// The IPv4 address of a value of eight bytes.
+fn ipv4_of(value: &[u8]) -> SocketAddrV4
+    requires { length value.now ≡ 8 }
+    ensures { result ≡ xor_ipv4 value.now }
+{
+    let port = u16_at(value, 2) ^ 0x2112;
+    let ip = Ipv4Addr::new(
+        value[4] ^ 0x21,
+        value[5] ^ 0x12,
+        value[6] ^ 0xa4,
+        value[7] ^ 0x42,
+    );
+    SocketAddrV4::new(ip, port)
+}
+
+/// The IPv6 address of a value of twenty bytes.
+fn ipv6_of(value: &[u8], id: TransactionId) -> SocketAddrV6
+    requires { length value.now ≡ 20 }
+    ensures { result ≡ xor_ipv6 value.now id }
+{
+    let port = u16_at(value, 2) ^ 0x2112;
+    let [a, b, c, d, e, f] = id.segments();
+    let ip = Ipv6Addr::new(
+        u16_at(value, 4) ^ 0x2112,
+        u16_at(value, 6) ^ 0xa442,
+        u16_at(value, 8) ^ a,
+        u16_at(value, 10) ^ b,
+        u16_at(value, 12) ^ c,
+        u16_at(value, 14) ^ d,
+        u16_at(value, 16) ^ e,
+        u16_at(value, 18) ^ f,
+    );
+    SocketAddrV6::new(ip, port, 0, 0)
+}
+
+fn ipv4_value(addr: SocketAddrV4) -> [u8; 8]
+    ensures { result ≡ ipv4_value addr }
+{
+    let [p, q] = (addr.port() ^ 0x2112).to_be_bytes();
+    let [a, b, c, d] = addr.ip().octets();
+    [0, 1, p, q, a ^ 0x21, b ^ 0x12, c ^ 0xa4, d ^ 0x42]
+}
+
+fn ipv6_value(addr: SocketAddrV6, id: TransactionId) -> [u8; 20]
+    ensures { result ≡ ipv6_value addr id }
+{
+    let [p, q] = (addr.port() ^ 0x2112).to_be_bytes();
+    let [a, b, c, d, e, f, g, h] = addr.ip().segments();
+    let [i, j, k, l, m, n] = id.segments();
+    let [a0, a1] = (a ^ 0x2112).to_be_bytes();
+    let [b0, b1] = (b ^ 0xa442).to_be_bytes();
+    let [c0, c1] = (c ^ i).to_be_bytes();
+    let [d0, d1] = (d ^ j).to_be_bytes();
+    let [e0, e1] = (e ^ k).to_be_bytes();
+    let [f0, f1] = (f ^ l).to_be_bytes();
+    let [g0, g1] = (g ^ m).to_be_bytes();
+    let [h0, h1] = (h ^ n).to_be_bytes();
+    [
+        0, 2, p, q, a0, a1, b0, b1, c0, c1, d0, d1, e0, e1, f0, f1, g0, g1, h0, h1,
+    ]
+}
