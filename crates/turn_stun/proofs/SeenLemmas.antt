@@ -1,7 +1,7 @@
 -- The scan for seen attributes, one attribute at a time.
-use Rattle.std.proofs.Common.{◌≡◌, ℕ, Bool, true, false, cond, List, [], ◌∷◌, ◌++◌, length, unwrap_or, refl, arith}
+use Rattle.std.proofs.Common.{◌≡◌, ℕ, Bool, true, false, cond, List, [], ◌∷◌, ◌++◌, refl}
 use Rattle.std.specs.Prelude.{◌||◌}
-use Rattle.turn_stun.specs.Message.{Attribute, attributes_from}
+use Rattle.turn_stun.specs.Message.{Attribute}
 use Rattle.turn_stun.specs.Attributes.{seen_after, is_seen, is_sha1, is_sha256}
 
 in_front : (seen : Bool) (a : Attribute) (others : List Attribute) → cond seen (a ∷ others) others ≡ cond seen (a ∷ []) [] ++ others
@@ -13,8 +13,14 @@ pub seen_after-cons : (any sha256 : Bool) (a : Attribute) (later : List Attribut
 unfolding seen_after
 seen_after-cons any sha256 a later = in_front (is_seen any sha256 a.kind) a _
 
--- behind the last attribute nothing is seen
-pub seen_after-none : (any sha256 : Bool) (at : ℕ) (bytes : List ℕ) → length bytes ≡ 0 → seen_after any sha256 (unwrap_or (attributes_from 0 at bytes) []) ≡ []
-unfolding seen_after attributes_from
-seen_after-none any sha256 at [] h = refl
-seen_after-none any sha256 at (b ∷ bs) h = absurd (omega arith)
+-- an attribute that is seen
+pub seen_after-seen : (any sha256 : Bool) (a : Attribute) (later : List Attribute) → is_seen any sha256 a.kind ≡ true → seen_after any sha256 (a ∷ later) ≡ a ∷ seen_after (any || is_sha1 a.kind || is_sha256 a.kind) (sha256 || is_sha256 a.kind) later
+seen_after-seen any sha256 a later seen = rw (seen_after-cons any sha256 a later, seen) refl
+
+-- an attribute that is not
+pub seen_after-unseen : (any sha256 : Bool) (a : Attribute) (later : List Attribute) → is_seen any sha256 a.kind ≡ false → seen_after any sha256 (a ∷ later) ≡ seen_after (any || is_sha1 a.kind || is_sha256 a.kind) (sha256 || is_sha256 a.kind) later
+seen_after-unseen any sha256 a later seen = rw (seen_after-cons any sha256 a later, seen) refl
+
+pub seen_after-nil : (any sha256 : Bool) → seen_after any sha256 [] ≡ []
+unfolding seen_after
+seen_after-nil any sha256 = refl

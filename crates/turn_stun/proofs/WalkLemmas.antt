@@ -3,6 +3,7 @@ use Rattle.std.proofs.Common.{◌≡◌, ℕ, zero, suc, ◌+◌, ◌-◌, ◌*�
 use Rattle.std.proofs.lemmas.Bool.{cases_lt}
 use Rattle.std.specs.Option.{option_map}
 use Rattle.turn_stun.specs.Number.{u16_at}
+use Rattle.turn_stun.specs.Iterator.{found_from}
 use Rattle.turn_stun.specs.Message.{Attribute, attribute_at, attribute_size, attributes_from, padded_len}
 
 pub skip_whole : (n at : ℕ) (bytes : List ℕ) → n ≤ length bytes → attributes_from n at bytes ≡ attributes_from 0 (at + n) (drop n bytes)
@@ -82,3 +83,18 @@ walks_on at (b ∷ bs) left h =
           found = rw (step_whole at b bs whole) (unwrap_or-option_map _ _ on);
         }
     ]
+
+-- whether there is a walk doesn't depend on the offsets
+pub is_some-anywhere : (skip at place : ℕ) (bytes : List ℕ) → is_some (attributes_from skip at bytes) ≡ is_some (attributes_from skip place bytes)
+unfolding attributes_from
+is_some-anywhere zero at place [] = refl
+is_some-anywhere zero at place (b ∷ bs) =
+    is_some-option_map _ _ ∙ is_some-anywhere (attribute_size (b ∷ bs) - 1) (at + 1) (place + 1) bs ∙ sym (is_some-option_map _ _)
+is_some-anywhere (suc skip) at place [] = refl
+is_some-anywhere (suc skip) at place (b ∷ bs) = is_some-anywhere skip (at + 1) (place + 1) bs
+
+-- nothing is found where nothing is left
+pub found_from-none : (at : ℕ) (bytes : List ℕ) → length bytes ≡ 0 → found_from at bytes ≡ []
+unfolding attributes_from
+found_from-none at [] h = refl
+found_from-none at (b ∷ bs) h = absurd (omega arith)

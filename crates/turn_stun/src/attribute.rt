@@ -4,8 +4,14 @@ ghost use Rattle.std.specs.Prelude.{◌≡◌, ◌+◌, ◌^◌, ◌<◌, ◌≤
 ghost use Rattle.turn_stun.specs.Number.{u16_at};
 ghost use Rattle.turn_stun.specs.Message.{attribute_size, padded_len};
 
+pub mod error_code;
+pub mod nonce;
+pub mod password_algorithms;
 pub mod realm;
 pub mod typed;
+pub mod userhash;
+pub mod username;
+pub(crate) mod walk;
 pub mod xor_address;
 
 /// The type of an attribute: a number of sixteen bits (RFC 8489, section 18.3).

@@ -1,6 +1,6 @@
 //! Which bytes are a message.
 
-ghost use Rattle.std.specs.Prelude.{◌≡◌, ◌+◌, ◌*◌, ◌^◌, ◌<◌, ◌≤◌, length, drop, slice_index, is_some};
+ghost use Rattle.std.specs.Prelude.{◌≡◌, ℕ, ◌+◌, ◌*◌, ◌^◌, ◌<◌, ◌≤◌, length, drop, slice_index, is_some};
 ghost use Rattle.turn_stun.specs.Number.{u16_at, u32_at};
 ghost use Rattle.turn_stun.specs.Message.{fault_of, is_stun_header, attributes_from};
 
@@ -44,8 +44,8 @@ pub(crate) fn u16_at(bytes: &[u8], at: usize) -> u16
 }
 
 /// Whether the bytes are attributes, one after the other, none of which runs past the end.
-fn are_attributes(bytes: &[u8]) -> bool
-    ensures { result ≡ is_some (attributes_from 0 20 bytes.now) }
+pub(crate) fn are_attributes(bytes: &[u8]) -> bool
+    ensures { (at : ℕ) → is_some (attributes_from 0 at bytes.now) ≡ result }
 {
     let mut rest = bytes;
     while !rest.is_empty() {

@@ -15,6 +15,12 @@ pub(crate) struct IntegrityBefore {
 }
 
 impl IntegrityBefore {
+    /// At the front of a message nothing stands before.
+    pub(crate) const NONE: IntegrityBefore = IntegrityBefore {
+        any: false,
+        sha256: false,
+    };
+
     /// Whether an attribute of the type is seen there (RFC 8489, sections 14.5 and 14.6).
     pub(crate) fn lets_see(self, kind: AttributeType) -> bool
         ensures { result ≡ is_seen self.any self.sha256 kind.value }

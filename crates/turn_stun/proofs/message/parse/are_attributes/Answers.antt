@@ -2,7 +2,7 @@ use Rattle.std.proofs.Common.{◌≡◌, ℕ, ◌+◌, ◌<◌, ◌≤◌, lengt
 use Rattle.std.proofs.lemmas.Bool.{eqb-true, eqb-false}
 use Rattle.std.proofs.lemmas.List.{take_rest}
 use Rattle.turn_stun.specs.Message.{attributes_from, attribute_size, padded_len}
-use Rattle.turn_stun.proofs.WalkLemmas.{is_some-whole, is_some-cut, is_some-none}
+use Rattle.turn_stun.proofs.WalkLemmas.{is_some-whole, is_some-cut, is_some-none, is_some-anywhere}
 use Rattle.turn_stun.proofs.message.parse.are_attributes.Goals as goal
 
 pub loop-rest-init : goal.loop-rest-init
@@ -12,7 +12,7 @@ pub returns-in_default : goal.returns-in_default
 returns-in_default c =
     let left : 0 < length c.loop-rest.rest.now = 
       (let some : length c.loop-rest.rest.now ≡ 0 → ⊥ = eqb-false _ _ (sym c.loop-rest-test.ensures) in omega arith) in
-    sym (c.loop-rest.invariant.1 ∙ is_some-cut _ c.loop-rest.rest.now left c.in_default.ensures.cut)
+    λ at. is_some-anywhere 0 at 20 c.args.bytes.now ∙ (c.loop-rest.invariant.1 ∙ is_some-cut _ c.loop-rest.rest.now left c.in_default.ensures.cut)
 
 pub loop-rest-preserved : goal.loop-rest-preserved
 loop-rest-preserved c =
@@ -26,4 +26,5 @@ loop-rest-preserved c =
     )
 
 pub returns : goal.returns
-returns c = sym (c.loop-rest.invariant.1 ∙ is_some-none _ c.loop-rest.rest.now (eqb-true _ _ (sym c.loop-rest-test.ensures)))
+returns c =
+    λ at. is_some-anywhere 0 at 20 c.args.bytes.now ∙ (c.loop-rest.invariant.1 ∙ is_some-none _ c.loop-rest.rest.now (eqb-true _ _ (sym c.loop-rest-test.ensures)))
