@@ -2,3 +2,4 @@ pub mod WalkLemmas
 pub mod GrammarLemmas
 pub mod FaultLemmas
 pub mod SeenLemmas
+pub mod WriteLemmas

@@ -5,4 +5,5 @@ pub mod MessageType
 pub mod Number
 pub mod Refusal
 pub mod Values
+pub mod Writer
 pub mod XorAddress

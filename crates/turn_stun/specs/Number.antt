@@ -1,5 +1,6 @@
 -- Numbers in network byte order (RFC 8489, section 5: "all fields are in network order, big endian").
-use Rattle.std.specs.Prelude.{ℕ, ◌+◌, ◌*◌, ◌/◌, ◌%◌, ◌^◌, List, [], ◌∷◌, fold, slice_index}
+use Rattle.std.specs.Prelude.{ℕ, ◌+◌, ◌*◌, ◌/◌, ◌%◌, ◌^◌, List, [], ◌∷◌, ◌++◌, fold, slice_index}
+use Rattle.std.specs.Int.{w32, w64, to_be_bytes}
 
 -- the number that the bytes are, the first byte the most significant
 abbrev pub big_endian : List ℕ → ℕ
@@ -18,3 +19,7 @@ abbrev pub id_segments : ℕ → List ℕ
 id_segments id =
     (id / 2 ^ 80) ∷ (id / 2 ^ 64 % 2 ^ 16) ∷ (id / 2 ^ 48 % 2 ^ 16)
     ∷ (id / 2 ^ 32 % 2 ^ 16) ∷ (id / 2 ^ 16 % 2 ^ 16) ∷ (id % 2 ^ 16) ∷ []
+
+-- the twelve bytes of a number of 96 bits
+abbrev pub id_bytes : ℕ → List ℕ
+id_bytes id = to_be_bytes w32 (id / 2 ^ 64) ++ to_be_bytes w64 (id % 2 ^ 64)

@@ -12,6 +12,7 @@ pub mod header;
 pub mod method;
 pub(crate) mod parse;
 mod seen;
+pub mod write;
 
 use std::marker::Model;
 
@@ -21,7 +22,7 @@ use crate::error::{AttributeError, ParseError};
 use crate::message::attributes::MessageAttributesIter;
 use crate::message::header::{MessageClass, MessageType};
 use crate::message::method::Method;
-use crate::message::parse::{fault_in, u16_at};
+use crate::message::parse::{fault_in, id_at, u16_at};
 use crate::transaction::TransactionId;
 
 /// A STUN message: its bytes, which were found to be one.
@@ -98,9 +99,7 @@ impl<'a> Message<'a> {
     pub fn transaction_id(&self) -> TransactionId
         ensures { result ≡ id_of self.now }
     {
-        let mut id = [0; 12];
-        id.copy_from_slice(&self.bytes[8..20]);
-        TransactionId::from_bytes(id)
+        id_at(self.bytes)
     }
 
     /// Whether the message is a success or an error.

@@ -1,7 +1,7 @@
 //! Transaction IDs (RFC 8489, section 5).
 
 ghost use Rattle.std.specs.Prelude.{◌≡◌, ◌+◌, ◌%◌, ◌^◌, ◌<◌, length};
-ghost use Rattle.turn_stun.specs.Number.{big_endian, id_segments};
+ghost use Rattle.turn_stun.specs.Number.{big_endian, id_bytes, id_segments};
 
 use std::fmt;
 use std::marker::Model;
@@ -39,7 +39,9 @@ impl TransactionId {
 
     /// The twelve bytes of the ID, as they stand in a header.
     pub fn to_bytes(self) -> [u8; 12]
-        ensures { big_endian result ≡ self }
+        ensures bytes { result ≡ id_bytes self }
+        ensures number { big_endian result ≡ self }
+        ensures range { self < 2 ^ 96 }
     {
         let high = (self.number / 0x1_0000_0000_0000_0000) as u32;
         let low = (self.number % 0x1_0000_0000_0000_0000) as u64;

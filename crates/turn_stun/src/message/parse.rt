@@ -2,10 +2,11 @@
 
 ghost use Rattle.std.specs.Prelude.{◌≡◌, ℕ, ◌+◌, ◌*◌, ◌^◌, ◌<◌, ◌≤◌, length, drop, slice_index, is_some};
 ghost use Rattle.turn_stun.specs.Number.{u16_at, u32_at};
-ghost use Rattle.turn_stun.specs.Message.{fault_of, is_stun_header, attributes_from};
+ghost use Rattle.turn_stun.specs.Message.{fault_of, id_of, is_stun_header, attributes_from};
 
 use crate::attribute::RawAttribute;
 use crate::error::ParseError;
+use crate::transaction::TransactionId;
 
 /// The first thing that keeps the bytes from being a message.
 #[tactic(auto, unfolding(crate::specs::Message::fault_of))]
@@ -41,6 +42,16 @@ pub(crate) fn u16_at(bytes: &[u8], at: usize) -> u16
     ensures { result ≡ u16_at bytes.now at }
 {
     u16::from_be_bytes([bytes[at], bytes[at + 1]])
+}
+
+/// The transaction ID in a header.
+pub(crate) fn id_at(bytes: &[u8]) -> TransactionId
+    requires { 20 ≤ length bytes.now }
+    ensures { result ≡ id_of bytes.now }
+{
+    let mut id = [0; 12];
+    id.copy_from_slice(&bytes[8..20]);
+    TransactionId::from_bytes(id)
 }
 
 /// Whether the bytes are attributes, one after the other, none of which runs past the end.
