@@ -3,3 +3,4 @@ pub mod GrammarLemmas
 pub mod FaultLemmas
 pub mod SeenLemmas
 pub mod WriteLemmas
+pub mod XorLemmas

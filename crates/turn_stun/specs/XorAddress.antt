@@ -30,21 +30,23 @@ cookie_octets = 0x21 ∷ 0x12 ∷ 0xa4 ∷ 0x42 ∷ []
 abbrev pub cookie_and_id : ℕ → List ℕ
 cookie_and_id id = 0x2112 ∷ 0xa442 ∷ id_segments id
 
--- the port and the address of a value with an IPv4 address
-abbrev pub xor_ipv4 : List ℕ → SocketAddrV4
-xor_ipv4 value = record {
-  ip = record { octets = xored cookie_octets (map (slice_index value) (4 ∷ 5 ∷ 6 ∷ 7 ∷ [])) };
-  port = xored_port (u16_at value 2);
-}
+-- the IPv4 address of these octets with this port
+abbrev pub xor_v4 : List ℕ → ℕ → SocketAddrV4
+xor_v4 octets port = record { ip = record { octets = octets }; port = port }
 
--- those of a value with an IPv6 address, which has neither flow information nor scope
+-- the IPv6 address of these segments with this port, with no flow information and no scope
+abbrev pub xor_v6 : List ℕ → ℕ → SocketAddrV6
+xor_v6 segments port = record { ip = record { segments = segments }; port = port; flowinfo = 0; scope_id = 0 }
+
+-- the IPv4 address and the port of a value
+abbrev pub xor_ipv4 : List ℕ → SocketAddrV4
+xor_ipv4 value =
+    xor_v4 (xored cookie_octets (map (slice_index value) (4 ∷ 5 ∷ 6 ∷ 7 ∷ []))) (xored_port (u16_at value 2))
+
+-- the IPv6 address and the port of a value under a transaction ID
 abbrev pub xor_ipv6 : List ℕ → ℕ → SocketAddrV6
-xor_ipv6 value id = record {
-  ip = record { segments = xored (cookie_and_id id) (map (u16_at value) (4 ∷ 6 ∷ 8 ∷ 10 ∷ 12 ∷ 14 ∷ 16 ∷ 18 ∷ [])) };
-  port = xored_port (u16_at value 2);
-  flowinfo = 0;
-  scope_id = 0;
-}
+xor_ipv6 value id =
+    xor_v6 (xored (cookie_and_id id) (map (u16_at value) (4 ∷ 6 ∷ 8 ∷ 10 ∷ 12 ∷ 14 ∷ 16 ∷ 18 ∷ []))) (xored_port (u16_at value 2))
 
 -- the address of a value under a transaction ID: an unread byte, the family (1 is IPv4, 2 is IPv6),
 -- the port, and the address of that family and no more
@@ -74,3 +76,11 @@ xor_value (V6 a) id = ipv6_value a id
 abbrev pub xor_value_len : SocketAddr → ℕ
 xor_value_len (V4 a) = 8
 xor_value_len (V6 a) = 20
+
+-- the address without flow information and scope, which are not sent
+abbrev pub plain_v6 : SocketAddrV6 → SocketAddrV6
+plain_v6 a = xor_v6 (ipv6_segments (v6_ip a)) (v6_port a)
+
+abbrev pub plain : SocketAddr → SocketAddr
+plain (V4 a) = V4 a
+plain (V6 a) = V6 (plain_v6 a)

@@ -14,6 +14,11 @@ pub mod username;
 pub(crate) mod walk;
 pub mod xor_address;
 
+use std::alloc::AllocError;
+
+use crate::attribute::typed::AttributeWrite;
+use crate::transaction::TransactionId;
+
 /// The type of an attribute: a number of sixteen bits (RFC 8489, section 18.3).
 #[derive(Clone, Copy, Debug, PartialEq, Eq)]
 pub struct AttributeType {
@@ -105,6 +110,25 @@ impl<'a> RawAttribute<'a> {
         ensures { result ≡ 4 + padded_len (length self.now.value.now) }
     {
         4 + padded_len(self.value.len())
+    }
+}
+
+/// An attribute of any type is written as it is.
+impl AttributeWrite for RawAttribute<'_> {
+    ghost written_kind = { λ raw. raw.attribute_type.value };
+
+    ghost encoded = { λ raw id. raw.value.now };
+
+    fn get_type(&self) -> AttributeType {
+        self.attribute_type
+    }
+
+    fn value_len(&self) -> usize {
+        self.value.len()
+    }
+
+    fn write_value(&self, _id: TransactionId, out: &mut Vec<u8>) -> Result<(), AllocError> {
+        out.extend_from_slice(self.value)
     }
 }
 

@@ -64,7 +64,8 @@ impl TransactionId {
 
     /// The six groups of sixteen bits of the ID, the most significant first.
     pub(crate) fn segments(self) -> [u16; 6]
-        ensures { result ≡ id_segments self }
+        ensures groups { result ≡ id_segments self }
+        ensures range { self < 2 ^ 96 }
     {
         [
             (self.number / 0x1_0000_0000_0000_0000_0000) as u16,

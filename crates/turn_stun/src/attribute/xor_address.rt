@@ -1,7 +1,9 @@
 //! Addresses that are XORed, so that no device on the way rewrites them (RFC 8489, section 14.2).
 
-ghost use Rattle.std.specs.Prelude.{◌≡◌, ℕ, ◌++◌, length, OnOk, OnErr};
-ghost use Rattle.turn_stun.specs.XorAddress.{xor_addr, xor_ipv4, xor_ipv6, xor_value, xor_value_len, ipv4_value, ipv6_value};
+ghost use Rattle.std.specs.Prelude.{◌≡◌, ℕ, ◌^◌, ◌<◌, ◌∷◌, ◌++◌, length, drop, Some, IfSome, OnOk, OnErr};
+ghost use Rattle.std.specs.Net.Addr.{IsIpv6Addr, ipv4_octets};
+ghost use Rattle.std.specs.Net.Socket.{v4_ip, v4_port, v6_ip, v6_port};
+ghost use Rattle.turn_stun.specs.XorAddress.{xor_addr, xor_ipv4, xor_ipv6, xor_value, xor_value_len, ipv4_value, ipv6_value, plain};
 
 use std::alloc::AllocError;
 use std::marker::Model;
@@ -9,6 +11,10 @@ use std::net::{Ipv4Addr, Ipv6Addr, SocketAddr, SocketAddrV4, SocketAddrV6};
 
 use crate::message::parse::u16_at;
 use crate::transaction::TransactionId;
+
+/// The families (RFC 8489, section 14.1).
+const IPV4: u8 = 1;
+const IPV6: u8 = 2;
 
 /// A transport address as XOR-MAPPED-ADDRESS and TURN's address attributes spell it. Contracts see
 /// it as the address.
@@ -46,13 +52,17 @@ impl XorSocketAddr {
     /// malformed: its length is not that of its family, or the family is neither 1 nor 2. Flow
     /// information and scope of an IPv6 address are 0, since they are not sent.
     pub fn decode(value: &[u8], id: TransactionId) -> Option<XorSocketAddr>
-        ensures { result ≡ xor_addr value.now id }
+        ensures addr { result ≡ xor_addr value.now id }
+        // It is written again as it was, the unread byte aside.
+        ensures again { IfSome result (λ addr. xor_value addr id ≡ 0 ∷ drop 1 value.now) }
     {
-        match (value.get(1), value.len()) {
-            (Some(1), 8) => Some(XorSocketAddr::new(SocketAddr::V4(ipv4_of(value)))),
-            (Some(2), 20) => Some(XorSocketAddr::new(SocketAddr::V6(ipv6_of(value, id)))),
-            _ => None,
+        if value.len() == 8 && value[1] == IPV4 {
+            return Some(XorSocketAddr::new(SocketAddr::V4(ipv4_of(value))));
         }
+        if value.len() == 20 && value[1] == IPV6 {
+            return Some(XorSocketAddr::new(SocketAddr::V6(ipv6_of(value, id))));
+        }
+        None
     }
 
     /// How many bytes the value has: 8 for IPv4 and 20 for IPv6.
@@ -69,7 +79,9 @@ impl XorSocketAddr {
     /// Writes the value into a place of its length, `value_len`.
     pub fn encode(&self, id: TransactionId, place: &mut [u8])
         requires { length place.old ≡ xor_value_len self.now }
-        ensures { place.new ≡ xor_value self.now id }
+        ensures value { place.new ≡ xor_value self.now id }
+        // It is read again as it was, but for flow information and scope.
+        ensures again { xor_addr place.new id ≡ Some (plain self.now) }
     {
         match self.addr {
             SocketAddr::V4(addr) => place.copy_from_slice(&ipv4_value(addr)),
@@ -125,15 +137,20 @@ fn ipv6_of(value: &[u8], id: TransactionId) -> SocketAddrV6
 }
 
 fn ipv4_value(addr: SocketAddrV4) -> [u8; 8]
-    ensures { result ≡ ipv4_value addr }
+    ensures value { result ≡ ipv4_value addr }
+    ensures octets { length (ipv4_octets (v4_ip addr)) ≡ 4 }
+    ensures port { v4_port addr < 2 ^ 16 }
 {
     let [p, q] = (addr.port() ^ 0x2112).to_be_bytes();
     let [a, b, c, d] = addr.ip().octets();
-    [0, 1, p, q, a ^ 0x21, b ^ 0x12, c ^ 0xa4, d ^ 0x42]
+    [0, IPV4, p, q, a ^ 0x21, b ^ 0x12, c ^ 0xa4, d ^ 0x42]
 }
 
 fn ipv6_value(addr: SocketAddrV6, id: TransactionId) -> [u8; 20]
-    ensures { result ≡ ipv6_value addr id }
+    ensures value { result ≡ ipv6_value addr id }
+    ensures segments { IsIpv6Addr (v6_ip addr) }
+    ensures port { v6_port addr < 2 ^ 16 }
+    ensures id { id < 2 ^ 96 }
 {
     let [p, q] = (addr.port() ^ 0x2112).to_be_bytes();
     let [a, b, c, d, e, f, g, h] = addr.ip().segments();
@@ -147,6 +164,6 @@ fn ipv6_value(addr: SocketAddrV6, id: TransactionId) -> [u8; 20]
     let [g0, g1] = (g ^ m).to_be_bytes();
     let [h0, h1] = (h ^ n).to_be_bytes();
     [
-        0, 2, p, q, a0, a1, b0, b1, c0, c1, d0, d1, e0, e1, f0, f1, g0, g1, h0, h1,
+        0, IPV6, p, q, a0, a1, b0, b1, c0, c1, d0, d1, e0, e1, f0, f1, g0, g1, h0, h1,
     ]
 }
