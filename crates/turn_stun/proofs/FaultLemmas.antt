@@ -1,9 +1,7 @@
 -- The bytes in which there is no fault are the messages of the grammar.
-use Rattle.std.proofs.Common.{◌≡◌, ℕ, ◌+◌, ◌*◌, ◌/◌, ◌%◌, ◌<◌, ◌≤◌, Bool, true, false, not, cond, List, [], ◌∷◌, length, drop, Option, Some, None, is_none, is_some, unwrap_or, refl, sym, ap, ◌∙◌, arith, eqb, ltb, length-drop}
-use Rattle.std.proofs.lemmas.Bool.{eqb-true, ltb-true, le-ltb, eq-eqb, lt-ltb, not-false, and_parts, and_from}
-use Rattle.turn_stun.specs.Number.{u16_at}
-use Rattle.turn_stun.specs.declared.error.ParseError.{ParseError}
-use Rattle.turn_stun.specs.Message.{Attribute, AreAttributes, IsMessage, IsFaultless, fault_of, is_stun_header, type_of, length_of, cookie_of, id_of, attributes_from, attributes_of, padded_len}
+use Rattle.std.proofs.Common.{◌≡◌, ℕ, ◌+◌, ◌%◌, Bool, true, false, not, cond, List, [], length, drop, Option, Some, None, is_none, is_some, unwrap_or, refl, arith, eqb, ltb, length-drop}
+use Rattle.std.proofs.lemmas.Bool.{eqb-true, ltb-true, le-ltb, eq-eqb, lt-ltb, not-false, and_parts}
+use Rattle.turn_stun.specs.Message.{Attribute, IsMessage, IsFaultless, fault_of, is_stun_header, type_of, length_of, cookie_of, id_of, attributes_from, attributes_of}
 use Rattle.turn_stun.proofs.GrammarLemmas.{attributes_from-sound, attributes_from-complete, AreAttributes-fours}
 
 -- a chain of refusals ends with none only where each test fails

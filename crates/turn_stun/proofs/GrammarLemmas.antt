@@ -1,5 +1,5 @@
 -- The walk finds the attributes of the grammar, all of them and no others.
-use Rattle.std.proofs.Common.{◌≡◌, ℕ, zero, suc, ◌+◌, ◌-◌, ◌*◌, ◌/◌, ◌%◌, ◌<◌, ◌≤◌, List, [], ◌∷◌, ◌++◌, length, take, drop, get_or, Option, Some, None, refl, sym, ap, subst, ◌∙◌, ⊎_elim, inl, inr, arith, append_assoc, length-append}
+use Rattle.std.proofs.Common.{◌≡◌, ℕ, ◌+◌, ◌-◌, ◌%◌, ◌<◌, ◌≤◌, List, [], ◌∷◌, ◌++◌, length, take, drop, Option, Some, None, refl, sym, ap, subst, ◌∙◌, inl, inr, arith, append_assoc, length-append}
 use Rattle.std.proofs.lemmas.List.{take-append-drop, drop-drop, take_at, drop_at, length-take, length-drop, get_or-take, get_or_append_left}
 use Rattle.std.proofs.lemmas.Bool.{cases_lt}
 use Rattle.std.specs.Option.{option_map}
@@ -33,9 +33,9 @@ four_parts : (n p : ℕ) (bytes : List ℕ) → n ≤ p → bytes ≡ take 4 byt
 four_parts n p bytes h =
     let e : 4 + p ≡ (4 + n) + (p - n) = omega arith in
     let behind : take (p - n) (drop (4 + n) bytes) ++ drop (4 + p) bytes ≡ drop (4 + n) bytes =
-      rw (e, ← drop-drop (p - n) (4 + n) bytes) (take-append-drop (p - n) (drop (4 + n) bytes)) in
+    rw (e, ← drop-drop (p - n) (4 + n) bytes) (take-append-drop (p - n) (drop (4 + n) bytes)) in
     let value : take n (drop 4 bytes) ++ drop (4 + n) bytes ≡ drop 4 bytes =
-      rw (← drop-drop n 4 bytes) (take-append-drop n (drop 4 bytes)) in
+    rw (← drop-drop n 4 bytes) (take-append-drop n (drop 4 bytes)) in
     rw (behind, value, take-append-drop 4 bytes) refl
 
 pub front_is_attribute : (at : ℕ) (bytes : List ℕ) → attribute_size bytes ≤ length bytes → IsAttributeThen at bytes (attribute_at at bytes) (drop (attribute_size bytes) bytes)
@@ -64,11 +64,10 @@ cons_not_nil x (Some l) h = cc
 with_later : (at : ℕ) (bytes : List ℕ) (a : Attribute) (later : List Attribute) → attribute_at at bytes ≡ a → attribute_size bytes ≤ length bytes → AreAttributes (at + attribute_size bytes) (drop (attribute_size bytes) bytes) later → AreAttributes at bytes (a ∷ later)
 with_later at bytes a later e whole more =
     let size : 4 + padded_len (length a.value) ≡ attribute_size bytes =
-      rw (← e) (rw (length-value at bytes whole) refl) in
-    (
+    rw (← e) (rw (length-value at bytes whole) refl) in (
       drop (attribute_size bytes) bytes,
       subst (λ x. IsAttributeThen at bytes x (drop (attribute_size bytes) bytes)) e (front_is_attribute at bytes whole),
-      rw size more
+      rw size more,
     )
 
 -- what the walk finds is what the grammar says
@@ -81,8 +80,8 @@ attributes_from-sound (a ∷ later) at (b ∷ bs) h =
     elim (cases_lt (length (b ∷ bs)) (attribute_size (b ∷ bs))) [
       | inl cut ↦ let none : None ≡ Some (a ∷ later) = sym (step_cut at b bs cut) ∙ h in cc
       | inr whole ↦
-        let found = cons_found _ (sym (step_whole at b bs whole) ∙ h) in
-        with_later at (b ∷ bs) a later found.1 whole
+          let found = cons_found _ (sym (step_whole at b bs whole) ∙ h) in
+          with_later at (b ∷ bs) a later found.1 whole
           (attributes_from-sound later (at + attribute_size (b ∷ bs)) (drop (attribute_size (b ∷ bs)) (b ∷ bs)) found.0)
     ]
 
@@ -95,12 +94,11 @@ read_apart at bytes a rest is =
     let value : take (length a.value) (drop 4 bytes) ≡ a.value = rw (is.spelled, drop_at is.header behind 4 is.four_bytes) (take_at a.value (is.padding ++ rest) (length a.value) refl) in
     let front = is.header ++ (a.value ++ is.padding) in
     let front_size : length front ≡ 4 + padded_len (length a.value) =
-      omega (arith, length-append is.header (a.value ++ is.padding), length-append a.value is.padding, is.four_bytes, is.padded) in
-    let joined : bytes ≡ front ++ rest = is.spelled ∙ simp append_assoc in
-    (
+    omega (arith, length-append is.header (a.value ++ is.padding), length-append a.value is.padding, is.four_bytes, is.padded) in
+    let joined : bytes ≡ front ++ rest = is.spelled ∙ simp append_assoc in (
       same_attribute a at (u16_at bytes 0) (take (u16_at bytes 2) (drop 4 bytes)) (sym is.placed) kind (rw size value),
       rw (size, joined) (drop_at front rest (4 + padded_len (length a.value)) front_size),
-      rw size (rw joined (omega (arith, length-append front rest, front_size)))
+      rw size (rw joined (omega (arith, length-append front rest, front_size))),
     )
 
 -- what the grammar says is what the walk finds
@@ -112,9 +110,9 @@ attributes_from-complete (a ∷ later) at [] h =
 attributes_from-complete (a ∷ later) at (b ∷ bs) h =
     let apart = read_apart at (b ∷ bs) a h.0 h.1 in
     let size : attribute_size (b ∷ bs) ≡ 4 + padded_len (length a.value) =
-      ap (λ n. 4 + padded_len n) (sym (length-value at (b ∷ bs) apart.2) ∙ ap (λ (x : Attribute). length x.value) apart.0) in
+    ap (λ n. 4 + padded_len n) (sym (length-value at (b ∷ bs) apart.2) ∙ ap (λ (x : Attribute). length x.value) apart.0) in
     let found : attributes_from 0 (at + attribute_size (b ∷ bs)) (drop (attribute_size (b ∷ bs)) (b ∷ bs)) ≡ Some later =
-      rw (apart.1, size) (attributes_from-complete later _ h.0 h.2) in
+    rw (apart.1, size) (attributes_from-complete later _ h.0 h.2) in
     step_whole at b bs apart.2 ∙ rw (found, apart.0) refl
 
 -- attributes take a multiple of four bytes

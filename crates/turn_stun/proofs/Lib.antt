@@ -4,3 +4,4 @@ pub mod FaultLemmas
 pub mod SeenLemmas
 pub mod WriteLemmas
 pub mod XorLemmas
+pub mod PlaceLemmas

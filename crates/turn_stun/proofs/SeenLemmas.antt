@@ -1,5 +1,5 @@
 -- The scan for seen attributes, one attribute at a time.
-use Rattle.std.proofs.Common.{◌≡◌, ℕ, Bool, true, false, cond, List, [], ◌∷◌, ◌++◌, refl}
+use Rattle.std.proofs.Common.{◌≡◌, Bool, true, false, cond, List, [], ◌∷◌, ◌++◌, refl}
 use Rattle.std.specs.Prelude.{◌||◌}
 use Rattle.turn_stun.specs.Message.{Attribute}
 use Rattle.turn_stun.specs.Attributes.{seen_after, is_seen, is_sha1, is_sha256}

@@ -1,10 +1,9 @@
 -- One step of the walk over attributes, as an equation of `attributes_from`.
-use Rattle.std.proofs.Common.{◌≡◌, ℕ, zero, suc, ◌+◌, ◌-◌, ◌*◌, ◌/◌, ◌<◌, ◌≤◌, List, [], ◌∷◌, ◌++◌, length, take, drop, get_or, Bool, true, false, Option, Some, None, is_some, unwrap_or, inl, inr, refl, sym, ap, subst, ◌∙◌, arith, add-one, add-zero, sub-one}
+use Rattle.std.proofs.Common.{◌≡◌, ℕ, zero, suc, ◌+◌, ◌-◌, ◌<◌, ◌≤◌, List, [], ◌∷◌, length, drop, true, false, Option, Some, None, is_some, unwrap_or, inl, inr, refl, sym, ap, ◌∙◌, arith, add-zero}
 use Rattle.std.proofs.lemmas.Bool.{cases_lt}
 use Rattle.std.specs.Option.{option_map}
-use Rattle.turn_stun.specs.Number.{u16_at}
 use Rattle.turn_stun.specs.Iterator.{found_from}
-use Rattle.turn_stun.specs.Message.{Attribute, attribute_at, attribute_size, attributes_from, padded_len}
+use Rattle.turn_stun.specs.Message.{attribute_at, attribute_size, attributes_from}
 
 pub skip_whole : (n at : ℕ) (bytes : List ℕ) → n ≤ length bytes → attributes_from n at bytes ≡ attributes_from 0 (at + n) (drop n bytes)
 unfolding attributes_from
@@ -31,8 +30,8 @@ pub step_whole : (at b : ℕ) (bs : List ℕ) → attribute_size (b ∷ bs) ≤ 
 unfolding attributes_from
 step_whole at b bs h =
     ap (option_map (λ later. attribute_at at (b ∷ bs) ∷ later))
-      (skip_whole (attribute_size (b ∷ bs) - 1) (at + 1) bs (omega arith)
-        ∙ past_first (attribute_size (b ∷ bs) - 1) (attribute_size (b ∷ bs)) at b bs (omega arith))
+    (skip_whole (attribute_size (b ∷ bs) - 1) (at + 1) bs (omega arith)
+    ∙ past_first (attribute_size (b ∷ bs) - 1) (attribute_size (b ∷ bs)) at b bs (omega arith))
 
 -- an attribute that runs past the end: there is no walk
 pub step_cut : (at b : ℕ) (bs : List ℕ) → length (b ∷ bs) < attribute_size (b ∷ bs) → attributes_from 0 at (b ∷ bs) ≡ None
@@ -76,12 +75,12 @@ walks_on at (b ∷ bs) left h =
     elim (cases_lt (length (b ∷ bs)) (attribute_size (b ∷ bs))) [
       | inl cut ↦ let none : false ≡ true = sym (is_some-cut at (b ∷ bs) left cut) ∙ h in cc
       | inr whole ↦
-        let on : is_some (attributes_from 0 (at + attribute_size (b ∷ bs)) (drop (attribute_size (b ∷ bs)) (b ∷ bs))) ≡ true = sym (is_some-whole at (b ∷ bs) left whole) ∙ h in
-        record {
-          within = whole;
-          goes_on = on;
-          found = rw (step_whole at b bs whole) (unwrap_or-option_map _ _ on);
-        }
+          let on : is_some (attributes_from 0 (at + attribute_size (b ∷ bs)) (drop (attribute_size (b ∷ bs)) (b ∷ bs))) ≡ true = sym (is_some-whole at (b ∷ bs) left whole) ∙ h in
+          record {
+            within = whole;
+            goes_on = on;
+            found = rw (step_whole at b bs whole) (unwrap_or-option_map _ _ on);
+          }
     ]
 
 -- whether there is a walk doesn't depend on the offsets

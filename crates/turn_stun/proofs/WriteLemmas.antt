@@ -1,5 +1,5 @@
 -- What writing an attribute does to the bytes of a message.
-use Rattle.std.proofs.Common.{◌≡◌, ℕ, ◌+◌, ◌-◌, ◌*◌, ◌/◌, ◌%◌, ◌^◌, ◌<◌, ◌≤◌, List, [], ◌∷◌, ◌++◌, length, take, drop, replicate, refl, subst, sym, ap, ◌∙◌, arith, append_assoc, lit≤}
+use Rattle.std.proofs.Common.{◌≡◌, ℕ, ◌+◌, ◌-◌, ◌*◌, ◌^◌, ◌<◌, ◌≤◌, List, [], ◌∷◌, ◌++◌, length, take, drop, replicate, refl, subst, sym, ap, ◌∙◌, arith, append_assoc, lit≤}
 use Rattle.std.proofs.lemmas.List.{take-take, take_at, drop_at, drop-drop, drop-append-le, take-append-le, length-append, length-take, length-drop, get_or-drop, append-nil, length-replicate}
 use Rattle.std.specs.Int.{w16, to_be_bytes}
 use Rattle.turn_stun.specs.Number.{big_endian, u16_at, u32_at}
@@ -70,7 +70,7 @@ IsAttributeThen-more at bytes a rest more is = record {
   placed = is.placed;
 }
 
-size_of_attribute : (at : ℕ) (bytes : List ℕ) (a : Attribute) (rest : List ℕ) → IsAttributeThen at bytes a rest → length bytes ≡ 4 + padded_len (length a.value) + length rest
+pub size_of_attribute : (at : ℕ) (bytes : List ℕ) (a : Attribute) (rest : List ℕ) → IsAttributeThen at bytes a rest → length bytes ≡ 4 + padded_len (length a.value) + length rest
 size_of_attribute at bytes a rest is =
     rw is.spelled (omega (arith, length-append is.header (a.value ++ (is.padding ++ rest)), length-append a.value (is.padding ++ rest), length-append is.padding rest, is.four_bytes, is.padded))
 
@@ -81,12 +81,11 @@ AreAttributes-push [] at bytes more a are is =
     ([], rw are (subst (λ n. IsAttributeThen n more a []) here is), refl)
 AreAttributes-push (b ∷ later) at bytes more a are is =
     let behind : at + length bytes ≡ at + (4 + padded_len (length b.value)) + length are.0 =
-      omega (arith, size_of_attribute at bytes b are.0 are.1) in
-    (
+    omega (arith, size_of_attribute at bytes b are.0 are.1) in (
       are.0 ++ more,
       IsAttributeThen-more at bytes b are.0 more are.1,
       AreAttributes-push later (at + (4 + padded_len (length b.value))) are.0 more a are.2
-        (subst (λ n. IsAttributeThen n more a []) behind is)
+          (subst (λ n. IsAttributeThen n more a []) behind is),
     )
 
 -- a number within the front stays when bytes follow
@@ -111,9 +110,9 @@ module _ (n : ℕ) (message more : List ℕ) (twenty : 20 ≤ length message) wh
   behind : (k : ℕ) → 4 + k ≤ length message → drop (4 + k) sent ≡ drop (4 + k) message ++ more
   unfolding sent
   behind k h =
-    let four : 4 ≤ length message = omega arith in
-    let left : k ≤ length (drop 4 message) = rw length-drop (omega arith) in
-    sym (drop-drop k 4 sent)
+      let four : 4 ≤ length message = omega arith in
+      let left : k ≤ length (drop 4 message) = rw length-drop (omega arith) in
+      sym (drop-drop k 4 sent)
       ∙ (ap (drop k) (drop_4-with_length n (message ++ more) long ∙ drop-append-le 4 message more four)
       ∙ (drop-append-le k (drop 4 message) more left ∙ ap (λ xs. xs ++ more) (drop-drop k 4 message)))
 
@@ -123,24 +122,24 @@ module _ (n : ℕ) (message more : List ℕ) (twenty : 20 ≤ length message) wh
   length_of-sent : n < 2 ^ 16 → length_of sent ≡ n
   unfolding sent
   length_of-sent h =
-    u16_at-drop 2 0 sent
+      u16_at-drop 2 0 sent
       ∙ (ap (λ xs. u16_at xs 0) (drop_2-with_length n (message ++ more) long) ∙ u16_at-to_be_bytes n (drop 4 (message ++ more)) h)
 
   cookie_of-sent : cookie_of sent ≡ cookie_of message
   cookie_of-sent =
-    let left : 2 + 1 < length (drop 4 message) = rw length-drop (omega arith) in
-    let right : 0 + 1 < length (drop 4 message) = rw length-drop (omega arith) in
-    let four = behind 0 (omega arith) in
-    let first : u16_at sent 4 ≡ u16_at message 4 =
+      let left : 2 + 1 < length (drop 4 message) = rw length-drop (omega arith) in
+      let right : 0 + 1 < length (drop 4 message) = rw length-drop (omega arith) in
+      let four = behind 0 (omega arith) in
+      let first : u16_at sent 4 ≡ u16_at message 4 =
       u16_at-drop 4 0 sent ∙ (ap (λ xs. u16_at xs 0) four ∙ (u16_at-append (drop 4 message) more 0 right ∙ sym (u16_at-drop 4 0 message))) in
-    let second : u16_at sent 6 ≡ u16_at message 6 =
+      let second : u16_at sent 6 ≡ u16_at message 6 =
       u16_at-drop 4 2 sent ∙ (ap (λ xs. u16_at xs 2) four ∙ (u16_at-append (drop 4 message) more 2 left ∙ sym (u16_at-drop 4 2 message))) in
-    ap (λ m. m * 65536 + u16_at sent 6) first ∙ ap (λ m. u16_at message 4 * 65536 + m) second
+      ap (λ m. m * 65536 + u16_at sent 6) first ∙ ap (λ m. u16_at message 4 * 65536 + m) second
 
   id_of-sent : id_of sent ≡ id_of message
   id_of-sent =
-    let left : 12 ≤ length (drop 8 message) = rw length-drop (omega arith) in
-    ap (λ xs. big_endian (take 12 xs)) (behind 4 (omega arith)) ∙ ap big_endian (take-append-le 12 (drop 8 message) more left)
+      let left : 12 ≤ length (drop 8 message) = rw length-drop (omega arith) in
+      ap (λ xs. big_endian (take 12 xs)) (behind 4 (omega arith)) ∙ ap big_endian (take-append-le 12 (drop 8 message) more left)
 
 -- a message with one attribute more at its end is a message, and has it
 pub with_length-IsMessage : (n : ℕ) (message more : List ℕ) (a : Attribute) → IsMessage message (type_of message) (id_of message) (attributes_of message) → IsAttributeThen (length message) more a [] → n + 20 ≡ length message + length more → n < 2 ^ 16 → IsMessage (with_length n (message ++ more)) (type_of message) (id_of message) (attributes_of message ++ a ∷ [])
@@ -154,8 +153,8 @@ with_length-IsMessage n message more a is one sum fits =
       has_cookie = cookie_of-sent n message more twenty ∙ is.has_cookie;
       has_id = id_of-sent n message more twenty;
       has_attributes =
-        let place : length message ≡ 20 + length (drop 20 message) = rw length-drop (omega arith) in
-        rw (behind n message more twenty 16 twenty)
+          let place : length message ≡ 20 + length (drop 20 message) = rw length-drop (omega arith) in
+          rw (behind n message more twenty 16 twenty)
           (AreAttributes-push (attributes_of message) 20 (drop 20 message) more a is.has_attributes (subst (λ m. IsAttributeThen m more a []) place one));
     }
 
@@ -170,7 +169,7 @@ unfolding with_attribute
 length-with_attribute kind value message k short twenty =
     let long : 4 ≤ length (message ++ attribute_bytes kind value) = omega (arith, length-append message (attribute_bytes kind value)) in
     length-with_length (length message - 20 + (4 + padded_len (length value))) (message ++ attribute_bytes kind value) long
-      ∙ (length-append message (attribute_bytes kind value) ∙ ap (λ n. length message + n) (length-attribute_bytes kind value k short))
+    ∙ (length-append message (attribute_bytes kind value) ∙ ap (λ n. length message + n) (length-attribute_bytes kind value k short))
 
 -- a message with one attribute more at its end is a message, and has it
 pub with_attribute-IsMessage : (kind : ℕ) (value message : List ℕ) → IsMessage message (type_of message) (id_of message) (attributes_of message) → kind < 2 ^ 16 → length message + (4 + padded_len (length value)) ≤ 65552 → IsMessage (with_attribute kind value message) (type_of message) (id_of message) (attributes_of message ++ record { offset = length message; kind = kind; value = value } ∷ [])
@@ -223,5 +222,5 @@ pub with_attribute-made : (kind n : ℕ) (value message longer : List ℕ) → k
 unfolding with_attribute
 with_attribute-made kind n value message longer k short twenty e m =
     let size : n ≡ length message - 20 + (4 + padded_len (length value)) =
-      m ∙ rw (e, length-append message (attribute_bytes kind value), length-attribute_bytes kind value k short) (omega arith) in
+    m ∙ rw (e, length-append message (attribute_bytes kind value), length-attribute_bytes kind value k short) (omega arith) in
     rw (size, e) refl

@@ -1,9 +1,9 @@
 -- What is XORed twice is as before, so an address is read as it was written.
-use Rattle.std.proofs.Common.{◌≡◌, ℕ, zero, suc, ◌+◌, ◌*◌, ◌/◌, ◌%◌, ◌^◌, ◌<◌, ◌≤◌, List, [], ◌∷◌, ◌++◌, length, get_or, take, drop, slice_index, Option, Some, refl, sym, ap, ◌∙◌, arith, bit_xor}
+use Rattle.std.proofs.Common.{◌≡◌, ℕ, zero, suc, ◌+◌, ◌*◌, ◌/◌, ◌%◌, ◌^◌, ◌<◌, ◌≤◌, List, [], ◌∷◌, length, get_or, take, drop, slice_index, Some, refl, sym, ap, ◌∙◌, arith, bit_xor}
 use Rattle.std.specs.Int.Bits.{xor_self, xor_zero_r, xor_assoc}
 use Rattle.std.proofs.lemmas.List.{drop_more, take_all}
 use Rattle.std.proofs.lemmas.Nat.{xor_of_16}
-use Rattle.std.specs.Net.Addr.{IsIpv4Addr, IsIpv6Addr, ipv4_octets, ipv6_segments}
+use Rattle.std.specs.Net.Addr.{IsIpv6Addr, ipv4_octets, ipv6_segments}
 use Rattle.std.specs.Net.Socket.{v4_ip, v4_port, v6_ip, v6_port}
 use Rattle.std.specs.declared.net.socket_addr.SocketAddr.TheVariants.{V4, V6}
 use Rattle.std.specs.declared.net.socket_addr.SocketAddrV4.{SocketAddrV4}
@@ -55,7 +55,7 @@ unfolding cells_from
 xor_addr-ipv4_value a id four port =
     let o = ipv4_octets (v4_ip a) in
     let octets : bit_xor (bit_xor (get_or o 0 0) 0x21) 0x21 ∷ bit_xor (bit_xor (get_or o 1 0) 0x12) 0x12 ∷ bit_xor (bit_xor (get_or o 2 0) 0xa4) 0xa4 ∷ bit_xor (bit_xor (get_or o 3 0) 0x42) 0x42 ∷ [] ≡ o =
-      rw (xor_twice (get_or o 0 0) 0x21, xor_twice (get_or o 1 0) 0x12, xor_twice (get_or o 2 0) 0xa4, xor_twice (get_or o 3 0) 0x42) (cells_from-all 4 o four) in
+    rw (xor_twice (get_or o 0 0) 0x21, xor_twice (get_or o 1 0) 0x12, xor_twice (get_or o 2 0) 0xa4, xor_twice (get_or o 3 0) 0x42) (cells_from-all 4 o four) in
     ap (λ x. Some (V4 x)) (same_v4 a _ _ octets (group_again (v4_port a) 0x2112 port (omega arith)))
 
 -- what is written of an IPv6 address is read again
@@ -72,7 +72,7 @@ xor_addr-ipv6_value a id is port short =
       group_again (get_or s 4 0) (id / 2 ^ 48 % 2 ^ 16) (is.1 4) (omega arith),
       group_again (get_or s 5 0) (id / 2 ^ 32 % 2 ^ 16) (is.1 5) (omega arith),
       group_again (get_or s 6 0) (id / 2 ^ 16 % 2 ^ 16) (is.1 6) (omega arith),
-      group_again (get_or s 7 0) (id % 2 ^ 16) (is.1 7) (omega arith)
+      group_again (get_or s 7 0) (id % 2 ^ 16) (is.1 7) (omega arith),
     ) segments) (group_again (v6_port a) 0x2112 port (omega arith)))
 
 -- behind the unread byte and the family
@@ -87,8 +87,12 @@ unfolding cells_from
 ipv4_value-xor_ipv4 value eight family bytes =
     let v : ℕ → ℕ = λ i. get_or value i 0 in
     rw (
-      high_again (v 2) (v 3) 0x2112 (bytes 2) (bytes 3), low_again (v 2) (v 3) 0x2112 (bytes 3),
-      xor_twice (v 4) 0x21, xor_twice (v 5) 0x12, xor_twice (v 6) 0xa4, xor_twice (v 7) 0x42
+      high_again (v 2) (v 3) 0x2112 (bytes 2) (bytes 3),
+      low_again (v 2) (v 3) 0x2112 (bytes 3),
+      xor_twice (v 4) 0x21,
+      xor_twice (v 5) 0x12,
+      xor_twice (v 6) 0xa4,
+      xor_twice (v 7) 0x42,
     ) (past_family 6 1 value eight family)
 
 -- and likewise one of twenty
@@ -97,13 +101,22 @@ unfolding cells_from
 ipv6_value-xor_ipv6 value id twenty family bytes =
     let v : ℕ → ℕ = λ i. get_or value i 0 in
     rw (
-      high_again (v 2) (v 3) 0x2112 (bytes 2) (bytes 3), low_again (v 2) (v 3) 0x2112 (bytes 3),
-      high_again (v 4) (v 5) 0x2112 (bytes 4) (bytes 5), low_again (v 4) (v 5) 0x2112 (bytes 5),
-      high_again (v 6) (v 7) 0xa442 (bytes 6) (bytes 7), low_again (v 6) (v 7) 0xa442 (bytes 7),
-      high_again (v 8) (v 9) (id / 2 ^ 80) (bytes 8) (bytes 9), low_again (v 8) (v 9) (id / 2 ^ 80) (bytes 9),
-      high_again (v 10) (v 11) (id / 2 ^ 64 % 2 ^ 16) (bytes 10) (bytes 11), low_again (v 10) (v 11) (id / 2 ^ 64 % 2 ^ 16) (bytes 11),
-      high_again (v 12) (v 13) (id / 2 ^ 48 % 2 ^ 16) (bytes 12) (bytes 13), low_again (v 12) (v 13) (id / 2 ^ 48 % 2 ^ 16) (bytes 13),
-      high_again (v 14) (v 15) (id / 2 ^ 32 % 2 ^ 16) (bytes 14) (bytes 15), low_again (v 14) (v 15) (id / 2 ^ 32 % 2 ^ 16) (bytes 15),
-      high_again (v 16) (v 17) (id / 2 ^ 16 % 2 ^ 16) (bytes 16) (bytes 17), low_again (v 16) (v 17) (id / 2 ^ 16 % 2 ^ 16) (bytes 17),
-      high_again (v 18) (v 19) (id % 2 ^ 16) (bytes 18) (bytes 19), low_again (v 18) (v 19) (id % 2 ^ 16) (bytes 19)
+      high_again (v 2) (v 3) 0x2112 (bytes 2) (bytes 3),
+      low_again (v 2) (v 3) 0x2112 (bytes 3),
+      high_again (v 4) (v 5) 0x2112 (bytes 4) (bytes 5),
+      low_again (v 4) (v 5) 0x2112 (bytes 5),
+      high_again (v 6) (v 7) 0xa442 (bytes 6) (bytes 7),
+      low_again (v 6) (v 7) 0xa442 (bytes 7),
+      high_again (v 8) (v 9) (id / 2 ^ 80) (bytes 8) (bytes 9),
+      low_again (v 8) (v 9) (id / 2 ^ 80) (bytes 9),
+      high_again (v 10) (v 11) (id / 2 ^ 64 % 2 ^ 16) (bytes 10) (bytes 11),
+      low_again (v 10) (v 11) (id / 2 ^ 64 % 2 ^ 16) (bytes 11),
+      high_again (v 12) (v 13) (id / 2 ^ 48 % 2 ^ 16) (bytes 12) (bytes 13),
+      low_again (v 12) (v 13) (id / 2 ^ 48 % 2 ^ 16) (bytes 13),
+      high_again (v 14) (v 15) (id / 2 ^ 32 % 2 ^ 16) (bytes 14) (bytes 15),
+      low_again (v 14) (v 15) (id / 2 ^ 32 % 2 ^ 16) (bytes 15),
+      high_again (v 16) (v 17) (id / 2 ^ 16 % 2 ^ 16) (bytes 16) (bytes 17),
+      low_again (v 16) (v 17) (id / 2 ^ 16 % 2 ^ 16) (bytes 17),
+      high_again (v 18) (v 19) (id % 2 ^ 16) (bytes 18) (bytes 19),
+      low_again (v 18) (v 19) (id % 2 ^ 16) (bytes 19),
     ) (past_family 18 2 value twenty family)

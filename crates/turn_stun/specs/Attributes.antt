@@ -1,5 +1,5 @@
 -- Which attributes of a message are seen (RFC 8489, sections 14.5 to 14.7).
-use Rattle.std.specs.Prelude.{ℕ, Bool, true, false, not, ◌==◌, ◌&&◌, ◌||◌, if◌then◌else◌, List, [], ◌∷◌, Option, find, filter, slice_get}
+use Rattle.std.specs.Prelude.{ℕ, Bool, false, not, ◌==◌, ◌&&◌, ◌||◌, if◌then◌else◌, List, [], ◌∷◌, Option, find, filter, slice_get}
 use Rattle.turn_stun.specs.Message.{Attribute, attributes_of}
 
 -- MESSAGE-INTEGRITY (section 14.5), MESSAGE-INTEGRITY-SHA256 (14.6) and FINGERPRINT (14.7)

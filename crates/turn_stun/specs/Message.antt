@@ -3,7 +3,6 @@ use Rattle.std.specs.Prelude.{◌≡◌, ℕ, zero, suc, ◌+◌, ◌-◌, ◌*�
 use Rattle.std.specs.Option.{option_map}
 use Rattle.turn_stun.specs.Number.{big_endian, u16_at, u32_at}
 use Rattle.turn_stun.specs.declared.error.ParseError.{ParseError}
-use Rattle.turn_stun.specs.declared.error.ParseError.TheVariants as ParseError
 use Rattle.turn_stun.specs.declared.error.ParseError.TheVariants.{Short, NotStun, Length}
 
 -- an attribute: its offset in the message, its type, and its value without padding
@@ -85,7 +84,7 @@ unfoldable pub attributes_from : ℕ → ℕ → List ℕ → Option (List Attri
 attributes_from zero at [] = Some []
 attributes_from zero at (b ∷ bs) =
     option_map (λ later. attribute_at at (b ∷ bs) ∷ later)
-      (attributes_from (attribute_size (b ∷ bs) - 1) (at + 1) bs)
+    (attributes_from (attribute_size (b ∷ bs) - 1) (at + 1) bs)
 attributes_from (suc skip) at [] = None
 attributes_from (suc skip) at (b ∷ bs) = attributes_from skip (at + 1) bs
 
@@ -97,6 +96,13 @@ attributes_of bytes = unwrap_or (attributes_from 0 20 (drop 20 bytes)) []
 abbrev pub is_stun_header : List ℕ → Bool
 is_stun_header bytes =
     nat_lt (type_of bytes) 0x4000 && (cookie_of bytes == 0x2112a442) && (length_of bytes % 4 == 0)
+
+-- the first refusal of a header that holds, whatever follows it
+abbrev pub header_fault_of : List ℕ → Option ParseError
+header_fault_of bytes =
+    if nat_lt (length bytes) 20 then Some Short
+    else (if not (is_stun_header bytes) then Some NotStun
+    else None)
 
 -- the first refusal that holds, or none: then the bytes are a message
 unfoldable pub fault_of : List ℕ → Option ParseError

@@ -37,7 +37,7 @@ error_number value = slice_index value 3
 abbrev pub error_code_of : List ℕ → Option Refusal
 error_code_of value =
     if nat_le 4 (length value) && nat_le 3 (error_class value) && nat_le (error_class value) 6
-      && nat_le (error_number value) 99
+    && nat_le (error_number value) 99
     then Some (record { code = error_class value * 100 + error_number value; reason = drop 4 value })
     else None
 

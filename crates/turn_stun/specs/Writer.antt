@@ -1,8 +1,8 @@
 -- How a message is written (RFC 8489, sections 5 and 14).
-use Rattle.std.specs.Prelude.{◌≡◌, ℕ, ◌+◌, ◌-◌, ◌≤◌, List, [], ◌∷◌, ◌++◌, length, take, drop, replicate, None}
+use Rattle.std.specs.Prelude.{◌≡◌, ℕ, ◌+◌, ◌-◌, ◌≤◌, List, [], ◌∷◌, ◌++◌, length, take, drop, replicate}
 use Rattle.std.specs.Int.{w16, w32, to_be_bytes}
 use Rattle.turn_stun.specs.Number.{id_bytes}
-use Rattle.turn_stun.specs.Message.{Attribute, IsFaultless, padded_len, type_of, id_of, attributes_of}
+use Rattle.turn_stun.specs.Message.{IsFaultless, padded_len, type_of, id_of, attributes_of}
 
 -- a message with no attributes: its type, the length 0, the magic cookie and the transaction ID
 abbrev pub header_of : ℕ → ℕ → List ℕ
@@ -22,7 +22,7 @@ attribute_bytes kind value =
 unfoldable pub with_attribute : ℕ → List ℕ → List ℕ → List ℕ
 with_attribute kind value message =
     with_length (length message - 20 + (4 + padded_len (length value)))
-      (message ++ attribute_bytes kind value)
+    (message ++ attribute_bytes kind value)
 
 -- what that means: the attributes end with that one, and type and transaction ID stay
 pub record AddsAttribute (old new : List ℕ) (kind : ℕ) (value : List ℕ) : Type 0 where

@@ -1,5 +1,5 @@
 -- Addresses that are XORed with the magic cookie and the transaction ID (RFC 8489, section 14.2).
-use Rattle.std.specs.Prelude.{ℕ, zero, suc, ◌+◌, ◌==◌, ◌&&◌, bit_xor, if◌then◌else◌, List, [], ◌∷◌, ◌++◌, map, flat_map, length, slice_index, Option, Some, None}
+use Rattle.std.specs.Prelude.{ℕ, ◌+◌, ◌==◌, ◌&&◌, bit_xor, if◌then◌else◌, List, [], ◌∷◌, ◌++◌, map, flat_map, length, slice_index, Option, Some, None}
 use Rattle.std.specs.Int.{w16, to_be_bytes}
 use Rattle.std.specs.Net.Addr.{ipv4_octets, ipv6_segments}
 use Rattle.std.specs.Net.Socket.{v4_ip, v4_port, v6_ip, v6_port}

@@ -14,10 +14,9 @@ pub mod username;
 pub(crate) mod walk;
 pub mod xor_address;
 
-use std::alloc::AllocError;
-
 use crate::attribute::typed::AttributeWrite;
 use crate::transaction::TransactionId;
+use std::alloc::AllocError;
 
 /// The type of an attribute: a number of sixteen bits (RFC 8489, section 18.3).
 #[derive(Clone, Copy, Debug, PartialEq, Eq)]

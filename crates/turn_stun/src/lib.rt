@@ -1,4 +1,10 @@
-//! STUN messages (RFC 8489) with no IO.
+//! STUN messages (RFC 8489), moments and packets, with no IO: nothing here opens a socket or reads a
+//! clock.
+//!
+//! Begin with [`message::Message::from_bytes`], which says whether bytes are a message and lets the
+//! caller look into it without memory, and with [`message::write::MessageWriteVec`], which makes
+//! one. The values of attributes are in [`attribute`]. Integrity, keys and retransmission are left
+//! to the crates above, and so are TURN's own attributes.
 #![tactic(auto)]
 
 pub mod attribute;
@@ -6,5 +12,12 @@ pub mod data;
 pub mod error;
 pub mod instant;
 pub mod message;
+#[cfg(test)]
+mod tests;
 pub mod transaction;
 pub mod transport;
+
+/// The traits of attributes, as `use turn_stun::prelude::*` brings them.
+pub mod prelude {
+    pub use crate::attribute::typed::{AttributeFromRaw, AttributeWrite};
+}

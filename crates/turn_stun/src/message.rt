@@ -1,6 +1,7 @@
 //! Messages: parsing, and what may be read in one (RFC 8489, sections 5 and 14).
 
 ghost use Rattle.std.specs.Prelude.{◌≡◌, ℕ, ◌+◌, ◌≤◌, ◌↔◌, List, length, All, IsTrue, IsOk, IsSome, IfOk, IfErr, IfSome, MatchOption, MatchResult, Some, None};
+ghost use Rattle.std.specs.List.{AllByRecursion};
 ghost use Rattle.std.specs.Option.{option_map};
 ghost use Rattle.turn_stun.specs.Message.{Attribute, IsMessage, IsWithin, fault_of, type_of, id_of, attributes_of};
 ghost use Rattle.turn_stun.specs.MessageType.{method_of, class_of, IsResponse};
@@ -14,8 +15,6 @@ pub(crate) mod parse;
 mod seen;
 pub mod write;
 
-use std::marker::Model;
-
 use crate::attribute::typed::AttributeFromRaw;
 use crate::attribute::{AttributeType, RawAttribute};
 use crate::error::{AttributeError, ParseError};
@@ -24,6 +23,7 @@ use crate::message::header::{MessageClass, MessageType};
 use crate::message::method::Method;
 use crate::message::parse::{fault_in, id_at, u16_at};
 use crate::transaction::TransactionId;
+use std::marker::Model;
 
 /// A STUN message: its bytes, which were found to be one.
 ///
@@ -126,6 +126,7 @@ impl<'a> Message<'a> {
     /// The seen attributes with their offsets, in the order of the message.
     pub fn iter_attributes(&self) -> MessageAttributesIter<'a>
         ensures seen { attributes_left result ≡ seen_of self.now }
+        ensures within { AllByRecursion (IsWithin 20 (length self.now)) (seen_of self.now) }
     {
         MessageAttributesIter::new(&self.bytes[20..], 20)
     }
@@ -133,6 +134,7 @@ impl<'a> Message<'a> {
     /// The first seen attribute of the type, with its offset.
     pub fn raw_attribute(&self, attribute_type: AttributeType) -> Option<(usize, RawAttribute<'a>)>
         ensures first { option_map placed result ≡ first_of attribute_type.value (seen_of self.now) }
+        ensures within { IfSome result (λ found. IsWithin 20 (length self.now) (placed found)) }
     {
         for (offset, raw) in self.iter_attributes() {
             if raw.attribute_type == attribute_type {
@@ -159,8 +161,8 @@ impl<'a> Message<'a> {
         ensures { MatchOption (first_of A.kind (seen_of self.now))
             (result ≡ Err AttributeError.Absent)
             (λ first. MatchResult result
-                (λ attribute. A.decodes first.value (id_of self.now) (Some attribute))
-                (λ error. (error ≡ AttributeError.Malformed) × A.decodes first.value (id_of self.now) None)) }
+            (λ attribute. A.decodes first.value (id_of self.now) (Some attribute))
+            (λ error. (error ≡ AttributeError.Malformed) × A.decodes first.value (id_of self.now) None)) }
     {
         match self.raw_attribute(A::attribute_type()) {
             Some((_, raw)) => self.decode(raw),
@@ -178,8 +180,8 @@ impl<'a> Message<'a> {
         ensures { MatchOption (nth_of A.kind n (seen_of self.now))
             (result ≡ Err AttributeError.Absent)
             (λ nth. MatchResult result
-                (λ attribute. A.decodes nth.value (id_of self.now) (Some attribute))
-                (λ error. (error ≡ AttributeError.Malformed) × A.decodes nth.value (id_of self.now) None)) }
+            (λ attribute. A.decodes nth.value (id_of self.now) (Some attribute))
+            (λ error. (error ≡ AttributeError.Malformed) × A.decodes nth.value (id_of self.now) None)) }
     {
         match self.nth_raw_attribute(A::attribute_type(), n) {
             Some((_, raw)) => self.decode(raw),
@@ -187,7 +189,11 @@ impl<'a> Message<'a> {
         }
     }
 
-    fn nth_raw_attribute(&self, attribute_type: AttributeType, n: usize) -> Option<(usize, RawAttribute<'a>)>
+    fn nth_raw_attribute(
+        &self,
+        attribute_type: AttributeType,
+        n: usize,
+    ) -> Option<(usize, RawAttribute<'a>)>
         ensures { option_map placed result ≡ nth_of attribute_type.value n (seen_of self.now) }
     {
         let mut before = n;

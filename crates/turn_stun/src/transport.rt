@@ -30,7 +30,12 @@ pub struct Transmit<T> {
 
 impl<T> Transmit<T> {
     /// The packet with this payload and this way.
-    pub fn new(payload: T, transport: TransportType, from: SocketAddr, to: SocketAddr) -> Transmit<T>
+    pub fn new(
+        payload: T,
+        transport: TransportType,
+        from: SocketAddr,
+        to: SocketAddr,
+    ) -> Transmit<T>
         ensures payload { result.payload ≡ payload }
         ensures transport { result.transport ≡ transport }
         ensures from { result.from ≡ from }

@@ -3,12 +3,11 @@
 ghost use Rattle.std.specs.Prelude.{◌≡◌, ◌+◌, ◌≤◌, length};
 ghost use Rattle.turn_stun.specs.Values.{error_code_of, error_code_value};
 
-use std::alloc::AllocError;
-use std::marker::Model;
-
 use crate::attribute::AttributeType;
 use crate::attribute::typed::{AttributeFromRaw, AttributeWrite};
 use crate::transaction::TransactionId;
+use std::alloc::AllocError;
+use std::marker::Model;
 
 /// Why a request is refused (RFC 8489, section 14.8): a code from 300 to 699, and a text for people.
 #[derive(Debug, Drop)]

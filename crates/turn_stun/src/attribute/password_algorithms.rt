@@ -5,14 +5,13 @@ ghost use Rattle.std.specs.List.{list_any};
 ghost use Rattle.turn_stun.specs.Message.{attributes_from};
 ghost use Rattle.turn_stun.specs.Values.{password_algorithms_of, algorithm_number, entries_of, is_bare_entry};
 
-use std::alloc::AllocError;
-use std::marker::Model;
-
+use crate::attribute::AttributeType;
 use crate::attribute::typed::{AttributeFromRaw, AttributeWrite};
 use crate::attribute::walk::AttributeWalk;
-use crate::attribute::AttributeType;
 use crate::message::parse::are_attributes;
 use crate::transaction::TransactionId;
+use std::alloc::AllocError;
+use std::marker::Model;
 
 /// How a key is made of a user, a realm and a password (RFC 8489, section 18.5).
 #[derive(Clone, Copy, Debug, PartialEq, Eq)]

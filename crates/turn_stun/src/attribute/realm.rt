@@ -3,12 +3,11 @@
 ghost use Rattle.std.specs.Prelude.{◌≡◌, ◌≤◌, length};
 ghost use Rattle.turn_stun.specs.Values.{realm_of};
 
-use std::alloc::AllocError;
-use std::marker::Model;
-
 use crate::attribute::AttributeType;
 use crate::attribute::typed::{AttributeFromRaw, AttributeWrite};
 use crate::transaction::TransactionId;
+use std::alloc::AllocError;
+use std::marker::Model;
 
 /// The protection space in which a user and a password count (RFC 8489, section 14.9): 1 to 763
 /// bytes, which are not looked into. Contracts see it as these bytes.

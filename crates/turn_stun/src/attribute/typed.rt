@@ -2,10 +2,9 @@
 
 ghost use Rattle.std.specs.Prelude.{◌≡◌, ℕ, ◌++◌, List, length, take, Option, OnOk, OnErr};
 
-use std::alloc::AllocError;
-
 use crate::attribute::AttributeType;
 use crate::transaction::TransactionId;
+use std::alloc::AllocError;
 
 /// An attribute that is read from a message. It may borrow the message's bytes.
 pub trait AttributeFromRaw<'a>: Sized {

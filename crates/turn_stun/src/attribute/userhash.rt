@@ -3,12 +3,11 @@
 ghost use Rattle.std.specs.Prelude.{◌≡◌, length};
 ghost use Rattle.turn_stun.specs.Values.{userhash_of};
 
-use std::alloc::AllocError;
-use std::marker::Model;
-
 use crate::attribute::AttributeType;
 use crate::attribute::typed::{AttributeFromRaw, AttributeWrite};
 use crate::transaction::TransactionId;
+use std::alloc::AllocError;
+use std::marker::Model;
 
 /// Who asks, as the SHA-256 of user and realm (RFC 8489, section 14.4): 32 bytes. Contracts see it
 /// as these bytes.

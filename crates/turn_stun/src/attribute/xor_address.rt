@@ -5,15 +5,15 @@ ghost use Rattle.std.specs.Net.Addr.{IsIpv6Addr, ipv4_octets};
 ghost use Rattle.std.specs.Net.Socket.{v4_ip, v4_port, v6_ip, v6_port};
 ghost use Rattle.turn_stun.specs.XorAddress.{xor_addr, xor_ipv4, xor_ipv6, xor_value, xor_value_len, ipv4_value, ipv6_value, plain};
 
+use crate::message::parse::u16_at;
+use crate::transaction::TransactionId;
 use std::alloc::AllocError;
 use std::marker::Model;
 use std::net::{Ipv4Addr, Ipv6Addr, SocketAddr, SocketAddrV4, SocketAddrV6};
 
-use crate::message::parse::u16_at;
-use crate::transaction::TransactionId;
-
 /// The families (RFC 8489, section 14.1).
 const IPV4: u8 = 1;
+
 const IPV6: u8 = 2;
 
 /// A transport address as XOR-MAPPED-ADDRESS and TURN's address attributes spell it. Contracts see

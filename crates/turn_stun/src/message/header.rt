@@ -1,10 +1,13 @@
 //! The header of a message (RFC 8489, section 5).
 
-ghost use Rattle.std.specs.Prelude.{◌≡◌, ◌+◌, ◌*◌, ◌/◌, ◌%◌, ◌^◌, ◌<◌, ◌↔◌, length, IsTrue, IfOk, IfErr, IsOk, Some};
-ghost use Rattle.turn_stun.specs.Message.{type_of, length_of, id_of};
+ghost use Rattle.std.specs.Prelude.{◌≡◌, ◌+◌, ◌*◌, ◌/◌, ◌%◌, ◌^◌, ◌<◌, ◌↔◌, length, IsTrue, IfOk, IfErr, IsOk, Some, None};
+ghost use Rattle.turn_stun.specs.Message.{header_fault_of, type_of, length_of, id_of};
 ghost use Rattle.turn_stun.specs.MessageType.{type_number, method_of, class_of, IsResponse};
 
+use crate::error::ParseError;
 use crate::message::method::Method;
+use crate::message::parse::{has_stun_header, id_at, u16_at};
+use crate::transaction::TransactionId;
 
 /// What a message is for.
 #[derive(Clone, Copy, Debug, PartialEq, Eq)]
@@ -74,5 +77,48 @@ impl MessageClass {
         ensures { IsTrue result ↔ IsResponse self }
     {
         matches!(self, MessageClass::Success | MessageClass::Error)
+    }
+}
+
+/// The header of a message (RFC 8489, section 5), whatever stands behind it.
+#[derive(Clone, Copy, Debug, PartialEq, Eq)]
+pub struct MessageHeader {
+    /// The method and the class.
+    pub message_type: MessageType,
+    /// How many bytes of attributes follow the header: a multiple of four.
+    pub data_length: u16,
+    /// The transaction ID.
+    pub transaction_id: TransactionId,
+}
+
+impl MessageHeader {
+    /// The bytes of a header.
+    pub const LENGTH: usize = 20;
+
+    /// The header at the front of the bytes. Bytes behind it are unread.
+    ///
+    /// # Errors
+    ///
+    /// `Short` where there are fewer than 20 bytes, else `NotStun` where the first two bits are not
+    /// zero, the cookie is another, or the length is no multiple of four.
+    pub fn from_bytes(bytes: &[u8]) -> Result<MessageHeader, ParseError>
+        ensures found { IsOk result ↔ (header_fault_of bytes.now ≡ None) }
+        ensures method { IfOk result (λ header. header.message_type.method.value ≡ method_of (type_of bytes.now)) }
+        ensures class { IfOk result (λ header. header.message_type.class ≡ class_of (type_of bytes.now)) }
+        ensures length { IfOk result (λ header. header.data_length ≡ length_of bytes.now) }
+        ensures id { IfOk result (λ header. header.transaction_id ≡ id_of bytes.now) }
+        ensures fault { IfErr result (λ fault. header_fault_of bytes.now ≡ Some fault) }
+    {
+        if bytes.len() < MessageHeader::LENGTH {
+            return Err(ParseError::Short);
+        }
+        if !has_stun_header(bytes) {
+            return Err(ParseError::NotStun);
+        }
+        Ok(MessageHeader {
+            message_type: MessageType::from_number(u16_at(bytes, 0)),
+            data_length: u16_at(bytes, 2),
+            transaction_id: id_at(bytes),
+        })
     }
 }

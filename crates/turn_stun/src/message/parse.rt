@@ -28,7 +28,8 @@ pub(crate) fn fault_in(bytes: &[u8]) -> Option<ParseError>
     None
 }
 
-fn has_stun_header(bytes: &[u8]) -> bool
+/// Whether the header begins as one of STUN does (RFC 8489, section 5).
+pub(crate) fn has_stun_header(bytes: &[u8]) -> bool
     requires { 20 ≤ length bytes.now }
     ensures { result ≡ is_stun_header bytes.now }
 {

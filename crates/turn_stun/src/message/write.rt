@@ -7,11 +7,6 @@ ghost use Rattle.turn_stun.specs.MessageType.{type_number, method_of, class_of};
 ghost use Rattle.turn_stun.specs.Writer.{AddsAttribute, IsWritten, header_of, with_length, with_attribute, attribute_bytes};
 ghost use Rattle.turn_stun.specs.declared.message.header.MessageClass.TheVariants.{Request, Success, Error};
 
-use std::alloc::{AllocError, Global};
-use std::marker::Model;
-
-use byteorder::{BigEndian, ByteOrder};
-
 use crate::attribute::padded_len;
 use crate::attribute::typed::AttributeWrite;
 use crate::error::WriteError;
@@ -19,6 +14,9 @@ use crate::message::header::{MessageClass, MessageType};
 use crate::message::method::Method;
 use crate::message::parse::{id_at, u16_at};
 use crate::transaction::TransactionId;
+use byteorder::{BigEndian, ByteOrder};
+use std::alloc::{AllocError, Global};
+use std::marker::Model;
 
 /// The bytes of a header.
 const HEADER_LEN: usize = 20;
@@ -225,7 +223,9 @@ impl MessageWriteVec {
     {
         let len = attribute.value_len();
         let before = self.bytes.len();
-        if len > MAX_ATTRIBUTES_LEN || before + (4 + padded_len(len)) > HEADER_LEN + MAX_ATTRIBUTES_LEN {
+        if len > MAX_ATTRIBUTES_LEN
+            || before + (4 + padded_len(len)) > HEADER_LEN + MAX_ATTRIBUTES_LEN
+        {
             return Err(WriteError::TooLong);
         }
         let id = id_at(self.bytes.as_slice());

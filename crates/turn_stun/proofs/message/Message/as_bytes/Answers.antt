@@ -1,5 +1,3 @@
-use Rattle.std.proofs.Common.{sym, ap, ◌∙◌}
-use Rattle.turn_stun.specs.Message.{fault_of}
 use Rattle.turn_stun.proofs.FaultLemmas.{fault_of-none}
 use Rattle.turn_stun.proofs.message.Message.as_bytes.Goals as goal
 

@@ -1,5 +1,4 @@
-use Rattle.std.proofs.Common.{refl, sym, ◌∙◌, ◌≡◌, None}
-use Rattle.turn_stun.specs.Message.{fault_of}
+use Rattle.std.proofs.Common.{refl, sym, ◌∙◌}
 use Rattle.turn_stun.proofs.FaultLemmas.{fault_of-none, IsMessage-no_fault, attributes_of-is, no_fault-IsFaultless}
 use Rattle.turn_stun.proofs.message.Message.from_bytes.Goals as goal
 

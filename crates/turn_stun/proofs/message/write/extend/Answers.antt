@@ -9,7 +9,7 @@ returns-in-Ok-clause-ok g c =
     let short : length value < 2 ^ 16 = omega (arith, c.requires.room, padded_len-ge (length value)) in
     let len : c.len-attributes_len.result - 20 ≡ length c.append_attribute.new.out.items - 20 = search rules in
     c.set_length.ensures
-      ∙ with_attribute-made (g.A.AttributeWrite.written_kind c.args.attribute.now) _ _ c.args.message.now.items _ c.in-Ok.ensures.kind short c.requires.written.faultless.long c.in-Ok.ensures.ok len
+    ∙ with_attribute-made (g.A.AttributeWrite.written_kind c.args.attribute.now) _ _ c.args.message.now.items _ c.in-Ok.ensures.kind short c.requires.written.faultless.long c.in-Ok.ensures.ok len
 
 pub returns-in-Ok-clause-added : goal.returns-in-Ok-clause-added
 returns-in-Ok-clause-added g c =

@@ -1,0 +1,7 @@
+//! Values from the standards, bounds, each public call once, and refused memory.
+
+mod memory;
+mod messages;
+mod moments;
+mod values;
+mod writing;
