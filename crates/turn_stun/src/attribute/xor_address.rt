@@ -3,7 +3,7 @@
 ghost use Rattle.std.specs.Prelude.{◌≡◌, ℕ, ◌^◌, ◌<◌, ◌∷◌, ◌++◌, length, drop, Some, IfSome, OnOk, OnErr};
 ghost use Rattle.std.specs.Net.Addr.{IsIpv6Addr, ipv4_octets};
 ghost use Rattle.std.specs.Net.Socket.{v4_ip, v4_port, v6_ip, v6_port};
-ghost use Rattle.turn_stun.specs.XorAddress.{xor_addr, xor_ipv4, xor_ipv6, xor_value, xor_value_len, ipv4_value, ipv6_value, plain};
+ghost use Rattle.turn_stun.specs.XorAddress.{xor_addr, xor_ipv4, xor_ipv6, xor_value, xor_value_len, xored_port, ipv4_value, ipv6_value, plain};
 
 use crate::message::parse::u16_at;
 use crate::transaction::TransactionId;
@@ -101,12 +101,19 @@ impl XorSocketAddr {
     }
 }
 
+/// A port as it is sent, or as it was before.
+fn xored_port(port: u16) -> u16
+    ensures { result ≡ xored_port port }
+{
+    port ^ 0x2112
+}
+
 /// The IPv4 address of a value of eight bytes.
 fn ipv4_of(value: &[u8]) -> SocketAddrV4
     requires { length value.now ≡ 8 }
     ensures { result ≡ xor_ipv4 value.now }
 {
-    let port = u16_at(value, 2) ^ 0x2112;
+    let port = xored_port(u16_at(value, 2));
     let ip = Ipv4Addr::new(
         value[4] ^ 0x21,
         value[5] ^ 0x12,
@@ -121,7 +128,7 @@ fn ipv6_of(value: &[u8], id: TransactionId) -> SocketAddrV6
     requires { length value.now ≡ 20 }
     ensures { result ≡ xor_ipv6 value.now id }
 {
-    let port = u16_at(value, 2) ^ 0x2112;
+    let port = xored_port(u16_at(value, 2));
     let [a, b, c, d, e, f] = id.segments();
     let ip = Ipv6Addr::new(
         u16_at(value, 4) ^ 0x2112,
@@ -141,7 +148,7 @@ fn ipv4_value(addr: SocketAddrV4) -> [u8; 8]
     ensures octets { length (ipv4_octets (v4_ip addr)) ≡ 4 }
     ensures port { v4_port addr < 2 ^ 16 }
 {
-    let [p, q] = (addr.port() ^ 0x2112).to_be_bytes();
+    let [p, q] = xored_port(addr.port()).to_be_bytes();
     let [a, b, c, d] = addr.ip().octets();
     [0, IPV4, p, q, a ^ 0x21, b ^ 0x12, c ^ 0xa4, d ^ 0x42]
 }
@@ -152,7 +159,7 @@ fn ipv6_value(addr: SocketAddrV6, id: TransactionId) -> [u8; 20]
     ensures port { v6_port addr < 2 ^ 16 }
     ensures id { id < 2 ^ 96 }
 {
-    let [p, q] = (addr.port() ^ 0x2112).to_be_bytes();
+    let [p, q] = xored_port(addr.port()).to_be_bytes();
     let [a, b, c, d, e, f, g, h] = addr.ip().segments();
     let [i, j, k, l, m, n] = id.segments();
     let [a0, a1] = (a ^ 0x2112).to_be_bytes();
