@@ -1,0 +1,191 @@
+-- The calls of an agent, by the place of the transaction that each is about.
+use Rattle.std.proofs.Common.{◌≡◌, ℕ, suc, add-one, drop-cons, ◌+◌, ◌-◌, ◌<◌, ◌≤◌, ◌^◌, Bool, true, false, eqb, leb, ltb, ◌&&◌, List, [], ◌∷◌, ◌++◌, length, take, drop, get_or, set, map, find, fold, min, Option, Some, None, refl, sym, ◌∙◌, arith}
+use Rattle.std.specs.Prelude.{slice_get, IsSome}
+use Rattle.std.specs.List.{list_any, position, position_or_len}
+use Rattle.std.proofs.Math.Nat.{min-le_left, min-le_right, le-min}
+use Rattle.std.proofs.lemmas.Bool.{ltb-true, ltb-false, eqb-true, and_parts, and_right, lt-leb, leb-false}
+use Rattle.std.proofs.lemmas.List.Folds.{find_at}
+use Rattle.std.proofs.lemmas.Option.{cond_some, slice_get-get_or, slice_get_past, none-some, same_Some}
+use Rattle.std.specs.declared.net.socket_addr.SocketAddr.{SocketAddr}
+use Rattle.turn_stun.specs.declared.message.header.MessageClass.{MessageClass}
+use Rattle.turn_stun.specs.declared.message.header.MessageClass.TheVariants.{Request, Indication, Success, Error}
+use Rattle.turn_stun.specs.declared.transport.TransportType.{TransportType}
+use Rattle.turn_stun.specs.declared.transport.Transmit.{Transmit}
+use Rattle.turn_stun.specs.Message.{type_of, id_of}
+use Rattle.turn_stun.specs.MessageType.{class_of, IsResponse}
+use Rattle.turn_agent.specs.Schedule.{Timers, resends_of}
+use Rattle.turn_agent.specs.Agent.{Agent, AreDistinct, without, sent_again, answers, same_address, is_response, handle_step, poll_step, transmit_step, given_up, is_due, is_given_up, next_moment, IsSilentAt}
+use Rattle.turn_agent.specs.declared.agent.StunAgentPollRet.{StunAgentPollRet}
+use Rattle.turn_agent.specs.declared.agent.StunAgentPollRet.TheVariants.{TransactionTimedOut}
+use Rattle.turn_agent.specs.declared.transaction.Transaction.{Transaction}
+use Rattle.turn_agent.proofs.TransactionLemmas.{remove-without, set-resent}
+
+-- the first one that passes, and where it stands
+pub record IsFirst {X : Type 0} (p : X → Bool) (xs : List X) (i : ℕ) : Type 0 where
+  pub within : i < length xs
+  pub found : (d : X) → find p xs ≡ Some (get_or xs i d)
+
+pub position-IsFirst : {X : Type 0} (p : X → Bool) (xs : List X) (i : ℕ) → position p xs ≡ Some i → IsFirst p xs i
+position-IsFirst p xs i at =
+    let parts = cond_some (ltb (position_or_len p xs) (length xs)) (position_or_len p xs) i at in
+    let within = ltb-true _ _ parts.0 in
+    record {
+      within = omega (arith, within, parts.1);
+      found = λ d. rw (find_at p xs, parts.1) (slice_get-get_or xs i d (omega (arith, within, parts.1)));
+    }
+
+pub position-none : {X : Type 0} (p : X → Bool) (xs : List X) → position p xs ≡ None → find p xs ≡ None
+position-none p xs none = by (ltb (position_or_len p xs) (length xs)) refl
+  where
+    by : (b : Bool) → ltb (position_or_len p xs) (length xs) ≡ b → find p xs ≡ None
+    by true within = absurd (none-some _ (sym (rw within at none)))
+    by false past = rw (find_at p xs) (slice_get_past xs (position_or_len p xs) (ltb-false _ _ past))
+
+-- what is found passes
+pub find-passes : {X : Type 0} (p : X → Bool) (xs : List X) (x : X) → find p xs ≡ Some x → p x ≡ true
+find-passes p [] x found = absurd (none-some x found)
+find-passes p (y ∷ xs) x found = by (find-passes p xs x) (p y) refl
+  where
+    by : (find p xs ≡ Some x → p x ≡ true) → (b : Bool) → p y ≡ b → p x ≡ true
+    by later true passes = rw (← same_Some y x (rw passes at found)) passes
+    by later false fails = later (rw fails at found)
+
+-- the first test fails where the second one passes and both do not
+and_false_left : (x y : Bool) → y ≡ true → (x && y) ≡ false → x ≡ false
+and_false_left true y passes fails = sym passes ∙ fails
+and_false_left false y passes fails = refl
+
+-- none is found where none passes
+pub list_any-some : {X : Type 0} (p : X → Bool) (xs : List X) (x : X) → find p xs ≡ Some x → list_any p xs ≡ true
+list_any-some p [] x found = absurd (none-some x found)
+list_any-some p (y ∷ xs) x found = by (list_any-some p xs x) (p y) refl
+  where
+    by : (find p xs ≡ Some x → list_any p xs ≡ true) → (b : Bool) → p y ≡ b → list_any p (y ∷ xs) ≡ true
+    by later true passes = rw passes refl
+    by later false fails = rw fails (later (rw fails at found))
+
+pub list_any-none : {X : Type 0} (p : X → Bool) (xs : List X) → find p xs ≡ None → list_any p xs ≡ false
+list_any-none p [] none = refl
+list_any-none p (y ∷ xs) none = by (list_any-none p xs) (p y) refl
+  where
+    by : (find p xs ≡ None → list_any p xs ≡ false) → (b : Bool) → p y ≡ b → list_any p (y ∷ xs) ≡ false
+    by later true passes = absurd (none-some y (sym (rw passes at none)))
+    by later false fails = rw fails (later (rw fails at none))
+
+-- ---- messages
+
+-- a class answers a request
+IsResponse-true : (class : MessageClass) → IsResponse class → is_response class ≡ true
+IsResponse-true Request is = absurd is
+IsResponse-true Indication is = absurd is
+IsResponse-true Success is = refl
+IsResponse-true Error is = refl
+
+-- a response that answers no transaction
+pub handle_step-stray : (a : Agent) (message : List ℕ) (from : SocketAddr) → IsResponse (class_of (type_of message)) → position (answers (id_of message) from) a.transactions ≡ None → ◌≡◌ {A = Bool × Agent} (false, a) (handle_step a message from)
+handle_step-stray a message from is none =
+    let unanswered = list_any-none _ a.transactions (position-none _ a.transactions none) in
+    rw (IsResponse-true (class_of (type_of message)) is, unanswered) refl
+
+-- to take out the transaction that a response answers is to leave out its ID
+pub remove-answered : (id : ℕ) (from : SocketAddr) (ts : List Transaction) (i : ℕ) (d : Transaction) → AreDistinct ts → position (answers id from) ts ≡ Some i → take i ts ++ drop (suc i) ts ≡ without id ts
+remove-answered id from ts i d distinct at =
+    let first = position-IsFirst (answers id from) ts i at in
+    let t = get_or ts i d in
+    let passes = find-passes (answers id from) ts t (first.found d) in
+    let same : t.id ≡ id = eqb-true t.id id (and_parts (eqb t.id id) (same_address t.to from) passes).0 in
+    rw (remove-without ts i d distinct first.within, same) refl
+
+-- a response that answers the transaction at this place
+pub handle_step-ended : (a : Agent) (message : List ℕ) (from : SocketAddr) (i : ℕ) (d : Transaction) → AreDistinct a.transactions → IsResponse (class_of (type_of message)) → position (answers (id_of message) from) a.transactions ≡ Some i → ◌≡◌ {A = Bool × Agent} (true, record a { transactions = take i a.transactions ++ drop (suc i) a.transactions }) (handle_step a message from)
+handle_step-ended a message from i d distinct is at =
+    let first = position-IsFirst (answers (id_of message) from) a.transactions i at in
+    let answered = list_any-some (answers (id_of message) from) a.transactions (get_or a.transactions i d) (first.found d) in
+    rw (IsResponse-true (class_of (type_of message)) is, answered, remove-answered (id_of message) from a.transactions i d distinct at) refl
+
+-- ---- one pass over the transactions
+
+-- those before the place were passed: none of them is given up, and the least moment counts them
+pub record IsScanned (timers : Timers) (transport : TransportType) (now : ℕ) (ts : List Transaction) (i least : ℕ) : Type 0 where
+  pub none : find (is_given_up timers transport now) (drop i ts) ≡ find (is_given_up timers transport now) ts
+  pub rest : fold min least (map (next_moment timers transport) (drop i ts)) ≡ fold min (2 ^ 63 - 1) (map (next_moment timers transport) ts)
+
+-- the one at the place is the first that is given up
+pub IsScanned-found : (timers : Timers) (transport : TransportType) (now : ℕ) (ts : List Transaction) (i least : ℕ) (d : Transaction) → IsScanned timers transport now ts i least → i < length ts → is_given_up timers transport now (get_or ts i d) ≡ true → find (is_given_up timers transport now) ts ≡ slice_get ts i
+IsScanned-found timers transport now ts i least d is within over =
+    let front : drop i ts ≡ get_or ts i d ∷ drop (i + 1) ts = rw add-one (drop-cons ts i d within) in
+    let none = rw front at is.none in
+    rw (slice_get-get_or ts i d within) (sym (rw over at none))
+
+-- ---- poll
+
+-- the transaction at this place is given up
+pub poll_step-over : (a : Agent) (now i : ℕ) (d : Transaction) → AreDistinct a.transactions → i < length a.transactions → given_up a now ≡ slice_get a.transactions i → ◌≡◌ {A = StunAgentPollRet × Agent} (TransactionTimedOut (get_or a.transactions i d).id, record a { transactions = take i a.transactions ++ drop (suc i) a.transactions }) (poll_step a now)
+poll_step-over a now i d distinct within first =
+    let removed = remove-without a.transactions i d distinct within in
+    let found = slice_get-get_or a.transactions i d within in
+    rw (removed, first, found) refl
+
+-- the least of all is not above where it began
+fold_min-le : (start : ℕ) (moments : List ℕ) → fold min start moments ≤ start
+fold_min-le start [] = omega arith
+fold_min-le start (m ∷ moments) = omega (arith, fold_min-le (min start m) moments, min-le_left start m)
+
+-- before the least moment of all nothing passes that waits for its own
+find-before : (next : Transaction → ℕ) (p : Transaction → Bool) (moment : ℕ) → ((t : Transaction) → moment < next t → p t ≡ false) → (start : ℕ) (ts : List Transaction) → moment < fold min start (map next ts) → find p ts ≡ None
+find-before next p moment waits start [] before = refl
+find-before next p moment waits start (t ∷ ts) before =
+    let here = waits t (omega (arith, before, fold_min-le (min start (next t)) (map next ts), min-le_right start (next t))) in
+    rw here (find-before next p moment waits (min start (next t)) ts before)
+
+pub IsSilentAt-before : (a : Agent) (moment : ℕ) → moment < fold min (2 ^ 63 - 1) (map (next_moment a.timers a.transport) a.transactions) → IsSilentAt a moment
+IsSilentAt-before a moment before =
+    let next = next_moment a.timers a.transport in
+    let none_due = find-before next (is_due a.timers a.transport moment) moment (λ t later. and_right _ _ (lt-leb (next t) moment later)) (2 ^ 63 - 1) a.transactions before in
+    let none_over = find-before next (is_given_up a.timers a.transport moment) moment (λ t later. and_right _ _ (lt-leb (next t) moment later)) (2 ^ 63 - 1) a.transactions before in
+    record { sends_nothing = rw none_due refl; gives_nothing_up = none_over }
+
+-- what is neither due nor given up waits on
+waits_on : (timers : Timers) (transport : TransportType) (now : ℕ) (t : Transaction) → is_due timers transport now t ≡ false → is_given_up timers transport now t ≡ false → now < next_moment timers transport t
+waits_on timers transport now t not_due not_over = by (leb (next_moment timers transport t) now) refl
+  where
+    by : (b : Bool) → leb (next_moment timers transport t) now ≡ b → now < next_moment timers transport t
+    by false later = leb-false (next_moment timers transport t) now later
+    by true past =
+        let more : ltb t.resends (resends_of timers transport) ≡ false = and_false_left _ _ past not_due in
+        let last : leb (resends_of timers transport) t.resends ≡ false = and_false_left _ _ past not_over in
+        absurd (omega (arith, ltb-false _ _ more, leb-false _ _ last))
+
+-- where a wait is over and nothing is given up, a request is due
+pub some_due : (timers : Timers) (transport : TransportType) (now start : ℕ) (ts : List Transaction) → find (is_given_up timers transport now) ts ≡ None → now < start → fold min start (map (next_moment timers transport) ts) ≤ now → IsSome (find (is_due timers transport now) ts)
+some_due timers transport now start [] none below past = absurd (omega arith)
+some_due timers transport now start (t ∷ ts) none below past =
+    by (some_due timers transport now (min start (next_moment timers transport t)) ts) (is_given_up timers transport now t) refl (is_due timers transport now t) refl
+  where
+    by : (find (is_given_up timers transport now) ts ≡ None → now < min start (next_moment timers transport t) → fold min (min start (next_moment timers transport t)) (map (next_moment timers transport) ts) ≤ now → IsSome (find (is_due timers transport now) ts)) → (over : Bool) → is_given_up timers transport now t ≡ over → (is : Bool) → is_due timers transport now t ≡ is → IsSome (find (is_due timers transport now) (t ∷ ts))
+    by later true over b is = absurd (none-some t (sym (rw over at none)))
+    by later false over true is = rw is refl
+    by later false over false is =
+        rw is (later (rw over at none) (le-min {k = suc now} below (waits_on timers transport now t is over)) past)
+
+-- ---- poll_transmit
+
+pub transmit_step-none : (a : Agent) (now : ℕ) → position (is_due a.timers a.transport now) a.transactions ≡ None → ◌≡◌ {A = Option (Transmit (List ℕ)) × Agent} (None, a) (transmit_step a now)
+transmit_step-none a now none = rw (position-none _ a.transactions none) refl
+
+-- the request at this place is sent
+pub transmit_step-sent : (a : Agent) (now i : ℕ) (d : Transaction) → AreDistinct a.transactions → position (is_due a.timers a.transport now) a.transactions ≡ Some i → ◌≡◌ {A = Option (Transmit (List ℕ)) × Agent} (Some (record { payload = (get_or a.transactions i d).request; transport = a.transport; from = a.local; to = (get_or a.transactions i d).to }), record a { transactions = set a.transactions i (sent_again now (get_or a.transactions i d)) }) (transmit_step a now)
+transmit_step-sent a now i d distinct at =
+    let first = position-IsFirst (is_due a.timers a.transport now) a.transactions i at in
+    rw (first.found d, set-resent now a.transactions i d distinct first.within) refl
+
+-- a packet is its four parts
+pub same_transmit : (packet : Transmit (List ℕ)) (payload : List ℕ) (transport : TransportType) (from to : SocketAddr) → packet.payload ≡ payload → packet.transport ≡ transport → packet.from ≡ from → packet.to ≡ to → packet ≡ record { payload = payload; transport = transport; from = from; to = to }
+same_transmit packet payload transport from to p k f t = rw (← p, ← k, ← f, ← t) refl
+
+-- it is not sent more often than a number of 32 bits can tell
+pub is_due-counted : (timers : Timers) (transport : TransportType) (now : ℕ) (ts : List Transaction) (i : ℕ) (d : Transaction) → position (is_due timers transport now) ts ≡ Some i → (get_or ts i d).resends < resends_of timers transport
+is_due-counted timers transport now ts i d at =
+    let first = position-IsFirst (is_due timers transport now) ts i at in
+    let passes = find-passes (is_due timers transport now) ts (get_or ts i d) (first.found d) in
+    ltb-true (get_or ts i d).resends (resends_of timers transport) (and_parts (ltb (get_or ts i d).resends (resends_of timers transport)) (leb (next_moment timers transport (get_or ts i d)) now) passes).0

@@ -1,0 +1,3 @@
+pub mod AgentLemmas
+pub mod ScheduleLemmas
+pub mod TransactionLemmas

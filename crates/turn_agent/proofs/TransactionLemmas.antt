@@ -1,0 +1,103 @@
+-- Transactions by their IDs.
+use Rattle.std.proofs.Common.{◌≡◌, ℕ, zero, suc, ◌<◌, Bool, true, false, eqb, List, [], ◌∷◌, ◌++◌, length, take, drop, get_or, set, refl, sym, arith}
+use Rattle.std.proofs.lemmas.Bool.{or_parts, eq-eqb, ne_eqb, eqb-false}
+use Rattle.std.proofs.lemmas.List.Folds.{list_any-append}
+use Rattle.turn_agent.specs.Agent.{is_outstanding, AreDistinct, without, resent, sent_again}
+use Rattle.turn_agent.specs.declared.transaction.Transaction.{Transaction}
+
+-- two numbers differ in either order
+eqb-false_back : (a b : ℕ) → eqb a b ≡ false → eqb b a ≡ false
+eqb-false_back a b differ = ne_eqb b a (λ same. eqb-false a b differ (sym same))
+
+-- one more transaction, of an ID that was not outstanding
+pub AreDistinct-push : (ts : List Transaction) (t : Transaction) → AreDistinct ts → is_outstanding t.id ts ≡ false → AreDistinct (ts ++ t ∷ [])
+AreDistinct-push [] t distinct fresh = (refl, tt)
+AreDistinct-push (u ∷ ts) t distinct fresh =
+    let parts = or_parts (eqb u.id t.id) (is_outstanding t.id ts) fresh in (
+      rw (list_any-append (λ x. eqb x.id u.id) ts (t ∷ []), distinct.0, eqb-false_back u.id t.id parts.0) refl,
+      AreDistinct-push ts t distinct.1 parts.1,
+    )
+
+-- where the ID is not outstanding, nothing is left out
+pub without-none : (id : ℕ) (ts : List Transaction) → is_outstanding id ts ≡ false → without id ts ≡ ts
+without-none id [] none = refl
+without-none id (t ∷ ts) none =
+    let parts = or_parts (eqb t.id id) (is_outstanding id ts) none in
+    rw (parts.0, without-none id ts parts.1) refl
+
+-- the ID that was left out is not outstanding
+pub is_outstanding-without : (id : ℕ) (ts : List Transaction) → is_outstanding id (without id ts) ≡ false
+is_outstanding-without id [] = refl
+is_outstanding-without id (t ∷ ts) = by (is_outstanding-without id ts) (eqb t.id id) refl
+  where
+    by : is_outstanding id (without id ts) ≡ false → (b : Bool) → eqb t.id id ≡ b → is_outstanding id (without id (t ∷ ts)) ≡ false
+    by others true same = rw same others
+    by others false other = rw other (rw other others)
+
+-- nor is one that was not before
+is_outstanding-without_other : (id other : ℕ) (ts : List Transaction) → is_outstanding other ts ≡ false → is_outstanding other (without id ts) ≡ false
+is_outstanding-without_other id other [] none = refl
+is_outstanding-without_other id other (t ∷ ts) none =
+    let parts = or_parts (eqb t.id other) (is_outstanding other ts) none in
+    by (is_outstanding-without_other id other ts parts.1) parts.0 (eqb t.id id) refl
+  where
+    by : is_outstanding other (without id ts) ≡ false → eqb t.id other ≡ false → (b : Bool) → eqb t.id id ≡ b → is_outstanding other (without id (t ∷ ts)) ≡ false
+    by others here true same = rw same others
+    by others here false differ = rw differ (rw here others)
+
+pub AreDistinct-without : (id : ℕ) (ts : List Transaction) → AreDistinct ts → AreDistinct (without id ts)
+AreDistinct-without id [] distinct = tt
+AreDistinct-without id (t ∷ ts) distinct = by (AreDistinct-without id ts distinct.1) (eqb t.id id) refl
+  where
+    by : AreDistinct (without id ts) → (b : Bool) → eqb t.id id ≡ b → AreDistinct (without id (t ∷ ts))
+    by others true same = rw same others
+    by others false differ = rw differ (is_outstanding-without_other id t.id ts distinct.0, others)
+
+-- the transaction at a place has another ID than one that is not outstanding
+other_id_at : (id : ℕ) (ts : List Transaction) (i : ℕ) (d : Transaction) → is_outstanding id ts ≡ false → i < length ts → eqb (get_or ts i d).id id ≡ false
+other_id_at id [] i d none within = absurd (omega arith)
+other_id_at id (t ∷ ts) zero d none within = (or_parts (eqb t.id id) (is_outstanding id ts) none).0
+other_id_at id (t ∷ ts) (suc i) d none within =
+    other_id_at id ts i d (or_parts (eqb t.id id) (is_outstanding id ts) none).1 (omega arith)
+
+-- to take out the one at a place is to leave out its ID
+pub remove-without : (ts : List Transaction) (i : ℕ) (d : Transaction) → AreDistinct ts → i < length ts → take i ts ++ drop (suc i) ts ≡ without (get_or ts i d).id ts
+remove-without [] i d distinct within = absurd (omega arith)
+remove-without (t ∷ ts) zero d distinct within = rw (eq-eqb t.id t.id refl) (sym (without-none t.id ts distinct.0))
+remove-without (t ∷ ts) (suc i) d distinct within =
+    let inside : i < length ts = omega arith in
+    let differ = eqb-false_back _ _ (other_id_at t.id ts i d distinct.0 inside) in
+    rw (differ, remove-without ts i d distinct.1 inside) refl
+
+-- where the ID is not outstanding, nothing is sent again
+resent-none : (id now : ℕ) (ts : List Transaction) → is_outstanding id ts ≡ false → resent id now ts ≡ ts
+resent-none id now [] none = refl
+resent-none id now (t ∷ ts) none =
+    let parts = or_parts (eqb t.id id) (is_outstanding id ts) none in
+    rw (parts.0, resent-none id now ts parts.1) refl
+
+-- to send the one at a place again is to do so by its ID
+pub set-resent : (now : ℕ) (ts : List Transaction) (i : ℕ) (d : Transaction) → AreDistinct ts → i < length ts → set ts i (sent_again now (get_or ts i d)) ≡ resent (get_or ts i d).id now ts
+set-resent now [] i d distinct within = absurd (omega arith)
+set-resent now (t ∷ ts) zero d distinct within = rw (eq-eqb t.id t.id refl, resent-none t.id now ts distinct.0) refl
+set-resent now (t ∷ ts) (suc i) d distinct within =
+    let inside : i < length ts = omega arith in
+    let differ = eqb-false_back _ _ (other_id_at t.id ts i d distinct.0 inside) in
+    rw (differ, set-resent now ts i d distinct.1 inside) refl
+
+-- a request that is sent again keeps its ID
+is_outstanding-resent : (id other now : ℕ) (ts : List Transaction) → is_outstanding other (resent id now ts) ≡ is_outstanding other ts
+is_outstanding-resent id other now [] = refl
+is_outstanding-resent id other now (t ∷ ts) = by (is_outstanding-resent id other now ts) (eqb t.id id) refl
+  where
+    by : is_outstanding other (resent id now ts) ≡ is_outstanding other ts → (b : Bool) → eqb t.id id ≡ b → is_outstanding other (resent id now (t ∷ ts)) ≡ is_outstanding other (t ∷ ts)
+    by others true same = rw (same, others) refl
+    by others false differ = rw (differ, others) refl
+
+pub AreDistinct-resent : (id now : ℕ) (ts : List Transaction) → AreDistinct ts → AreDistinct (resent id now ts)
+AreDistinct-resent id now [] distinct = tt
+AreDistinct-resent id now (t ∷ ts) distinct = by (AreDistinct-resent id now ts distinct.1) (eqb t.id id) refl
+  where
+    by : AreDistinct (resent id now ts) → (b : Bool) → eqb t.id id ≡ b → AreDistinct (resent id now (t ∷ ts))
+    by others true same = rw same (rw (is_outstanding-resent id t.id now ts) distinct.0, others)
+    by others false differ = rw differ (rw (is_outstanding-resent id t.id now ts) distinct.0, others)

@@ -1,0 +1,177 @@
+-- The requests of an agent that await their responses (RFC 8489, section 6).
+use Rattle.std.specs.Prelude.{◌≡◌, ℕ, ◌+◌, ◌-◌, ◌^◌, ◌<◌, min, nat_le, nat_lt, not, ◌==◌, ◌&&◌, ◌||◌, if◌then◌else◌, Bool, true, false, List, [], ◌∷◌, ◌++◌, length, map, filter, find, fold, Option, Some, None, slice_get, ◌≤◌, IsSome}
+use Rattle.std.specs.List.{list_any}
+use Rattle.std.specs.Cmp.Lexicographic.{pointwise}
+use Rattle.std.specs.declared.net.socket_addr.SocketAddr.{SocketAddr}
+use Rattle.std.specs.declared.net.socket_addr.SocketAddr.TheVariants.{V4, V6}
+use Rattle.std.specs.Net.Addr.{ipv4_octets, ipv6_segments}
+use Rattle.std.specs.Net.Socket.{v4_ip, v4_port, v6_ip, v6_port, v6_flowinfo, v6_scope_id}
+use Rattle.turn_stun.specs.declared.message.header.MessageClass.{MessageClass}
+use Rattle.turn_stun.specs.declared.message.header.MessageClass.TheVariants.{Request, Indication, Success, Error}
+use Rattle.turn_stun.specs.declared.transport.TransportType.{TransportType}
+use Rattle.turn_stun.specs.declared.transport.Transmit.{Transmit}
+use Rattle.turn_stun.specs.Message.{type_of, id_of}
+use Rattle.turn_stun.specs.MessageType.{class_of}
+use Rattle.turn_agent.specs.Schedule.{Timers, resends_of, wait_at}
+use Rattle.turn_agent.specs.declared.agent.StunAgentPollRet.{StunAgentPollRet}
+use Rattle.turn_agent.specs.declared.agent.StunAgentPollRet.TheVariants.{WaitUntil, TransactionTimedOut}
+use Rattle.turn_agent.specs.declared.agent.Progress.{Progress}
+use Rattle.turn_agent.specs.declared.agent.Progress.TheVariants.{Over, Waiting, Idle}
+use Rattle.turn_agent.specs.declared.transaction.Transaction.{Transaction}
+
+-- what a contract sees of an agent; its transactions are in the order of their first sends
+pub record Agent : Type 0 where
+  pub transport : TransportType
+  pub local : SocketAddr
+  pub remote : Option SocketAddr
+  pub timers : Timers
+  pub transactions : List Transaction
+
+-- a transaction whose request was just sent
+abbrev pub first_sent : ℕ → SocketAddr → ℕ → List ℕ → Transaction
+first_sent id to now request = record { id = id; to = to; resends = 0; last_send = now; request = request }
+
+-- the transaction when its request was sent again at this moment
+abbrev pub sent_again : ℕ → Transaction → Transaction
+sent_again now t = record t { resends = t.resends + 1; last_send = now }
+
+-- when the wait behind its last send is over; the greatest moment is 2^63 - 1
+abbrev pub next_moment : Timers → TransportType → Transaction → ℕ
+next_moment timers transport t = min (t.last_send + wait_at timers transport t.resends) (2 ^ 63 - 1)
+
+-- that wait is over, and the request is to be sent again
+abbrev pub is_due : Timers → TransportType → ℕ → Transaction → Bool
+is_due timers transport now t =
+    nat_lt t.resends (resends_of timers transport) && nat_le (next_moment timers transport t) now
+
+-- that wait is over, and it was the last one
+abbrev pub is_given_up : Timers → TransportType → ℕ → Transaction → Bool
+is_given_up timers transport now t =
+    nat_le (resends_of timers transport) t.resends && nat_le (next_moment timers transport t) now
+
+-- whether a request of this ID awaits its response
+abbrev pub is_outstanding : ℕ → List Transaction → Bool
+is_outstanding id transactions = list_any (λ t. t.id == id) transactions
+
+-- no two have one ID
+abbrev pub AreDistinct : List Transaction → Type 0
+AreDistinct [] = Unit {0}
+AreDistinct (t ∷ others) = (is_outstanding t.id others ≡ false) × AreDistinct others
+
+-- the transactions but for the one of this ID
+abbrev pub without : ℕ → List Transaction → List Transaction
+without id transactions = filter (λ t. not (t.id == id)) transactions
+
+-- the transactions when the request of this ID was sent again at this moment
+abbrev pub resent : ℕ → ℕ → List Transaction → List Transaction
+resent id now transactions = map (λ t. if t.id == id then sent_again now t else t) transactions
+
+-- the two addresses are one: IP, port and, for IPv6, flow information and scope
+abbrev pub same_address : SocketAddr → SocketAddr → Bool
+same_address (V4 a) (V4 b) =
+    pointwise ◌==◌ (ipv4_octets (v4_ip a)) (ipv4_octets (v4_ip b)) && (v4_port a == v4_port b)
+same_address (V6 a) (V6 b) =
+    pointwise ◌==◌ (ipv6_segments (v6_ip a)) (ipv6_segments (v6_ip b)) && (v6_port a == v6_port b)
+    && (v6_flowinfo a == v6_flowinfo b) && (v6_scope_id a == v6_scope_id b)
+same_address (V4 a) (V6 b) = false
+same_address (V6 a) (V4 b) = false
+
+-- ---- the calls
+
+-- a request goes out for the first time
+abbrev pub asked : Agent → ℕ → SocketAddr → ℕ → List ℕ → Agent
+asked a id to now request =
+    record a { transactions = a.transactions ++ first_sent id to now request ∷ [] }
+
+-- the transaction whose request is sent next: the oldest one that is due
+abbrev pub due : Agent → ℕ → Option Transaction
+due a now = find (is_due a.timers a.transport now) a.transactions
+
+-- the transaction that is given up next: the oldest one whose last wait is over
+abbrev pub given_up : Agent → ℕ → Option Transaction
+given_up a now = find (is_given_up a.timers a.transport now) a.transactions
+
+-- the least moment at which a wait is over, or 9999 s from now where nothing is outstanding (our
+-- choice)
+abbrev pub next_wakeup : Agent → ℕ → ℕ
+next_wakeup a now =
+    if length a.transactions == 0 then min (now + 9_999_000_000_000) (2 ^ 63 - 1)
+    else fold min (2 ^ 63 - 1) (map (next_moment a.timers a.transport) a.transactions)
+
+-- what `poll` answers, and the agent after it
+abbrev pub poll_step : Agent → ℕ → StunAgentPollRet × Agent
+poll_step a now = by (given_up a now)
+  where
+    by : Option Transaction → StunAgentPollRet × Agent
+    by None = (WaitUntil (next_wakeup a now), a)
+    by (Some t) = (TransactionTimedOut t.id, record a { transactions = without t.id a.transactions })
+
+-- what `poll_transmit` gives, and the agent after it
+abbrev pub transmit_step : Agent → ℕ → Option (Transmit (List ℕ)) × Agent
+transmit_step a now = by (due a now)
+  where
+    by : Option Transaction → Option (Transmit (List ℕ)) × Agent
+    by None = (None, a)
+    by (Some t) = (
+      Some (record { payload = t.request; transport = a.transport; from = a.local; to = t.to }),
+      record a { transactions = resent t.id now a.transactions },
+    )
+
+-- a response of this ID from this address answers the transaction
+abbrev pub answers : ℕ → SocketAddr → Transaction → Bool
+answers id from t = t.id == id && same_address t.to from
+
+-- a message of this class answers a request
+abbrev pub is_response : MessageClass → Bool
+is_response Request = false
+is_response Indication = false
+is_response Success = true
+is_response Error = true
+
+-- a message of this class and ID, from this address, ends a transaction
+abbrev pub ends_one : List Transaction → MessageClass → ℕ → SocketAddr → Bool
+ends_one transactions class id from = is_response class && list_any (answers id from) transactions
+
+-- what `handle_stun_message` answers, and the agent after it: all but a response is accepted
+abbrev pub handle_step : Agent → List ℕ → SocketAddr → Bool × Agent
+handle_step a message from =
+    let class = class_of (type_of message) in
+    let ended = ends_one a.transactions class (id_of message) from in (
+      not (is_response class) || ended,
+      record a { transactions = if ended then without (id_of message) a.transactions else a.transactions },
+    )
+
+-- ---- the alarm
+
+-- at this moment nothing is sent again and nothing is given up
+pub record IsSilentAt (a : Agent) (moment : ℕ) : Type 0 where
+  pub sends_nothing : (transmit_step a moment).0 ≡ None
+  pub gives_nothing_up : given_up a moment ≡ None
+
+-- nothing happens before the moment that `poll` tells
+abbrev pub IsSilentUntil : StunAgentPollRet → Agent → Type 0
+IsSilentUntil (WaitUntil t) a = (moment : ℕ) → moment < t → IsSilentAt a moment
+IsSilentUntil (TransactionTimedOut id) a = Unit {0}
+
+-- where the moment told is not later than now, a request is due, so a caller that sends what is due
+-- does not ask in vain; at the greatest moment this may fail, since no later one can be told
+abbrev pub IsBusy : StunAgentPollRet → Agent → ℕ → Type 0
+IsBusy (WaitUntil t) a now = t ≤ now → now < 2 ^ 63 - 1 → IsSome (due a now)
+IsBusy (TransactionTimedOut id) a now = Unit {0}
+
+-- what was given up is no longer outstanding
+abbrev pub IsEnded : StunAgentPollRet → Agent → Type 0
+IsEnded (WaitUntil t) a = Unit {0}
+IsEnded (TransactionTimedOut id) a = is_outstanding id a.transactions ≡ false
+
+-- ---- one pass over the transactions
+
+-- how far they have come: the place of the oldest one whose last wait is over, or else the least
+-- moment at which a wait is over
+abbrev pub IsProgress : Timers → TransportType → ℕ → List Transaction → Progress → Type 0
+IsProgress timers transport now ts (Over place) =
+    (place < length ts) × (find (is_given_up timers transport now) ts ≡ slice_get ts place)
+IsProgress timers transport now ts (Waiting moment) =
+    (find (is_given_up timers transport now) ts ≡ None) × (0 < length ts)
+    × (moment ≡ fold min (2 ^ 63 - 1) (map (next_moment timers transport) ts))
+IsProgress timers transport now ts Idle = ts ≡ []

@@ -1,0 +1,3 @@
+pub mod Agent
+pub mod Schedule
+pub mod TransactionIds

@@ -1,0 +1,347 @@
+//! Requests from first send to response.
+
+ghost use Rattle.std.specs.Prelude.{◌≡◌, ◌<◌, ◌^◌, false, ℕ, [], None, Some, IsTrue, OnOk, IfOk, OnErr, IsOk, option_copied};
+ghost use Rattle.turn_stun.specs.Message.{type_of, id_of};
+ghost use Rattle.turn_stun.specs.MessageType.{class_of, IsResponse};
+ghost use Rattle.turn_agent.specs.Schedule.{wait_of, default_timers, resends_of};
+ghost use Rattle.turn_agent.specs.Agent.{Agent, is_outstanding, asked, due, is_due, answers, poll_step, transmit_step, handle_step, IsEnded, IsSilentUntil, IsBusy, IsProgress};
+ghost use Rattle.std.specs.List.{position};
+
+use crate::schedule::{RequestTimers, Schedule};
+use crate::transaction::Transaction;
+use std::alloc::{AllocError, Global};
+use std::convert::AsSlice;
+use std::marker::Model;
+use std::net::SocketAddr;
+use std::time::Duration;
+use turn_stun::data::Data;
+use turn_stun::instant::Instant;
+use turn_stun::message::Message;
+use turn_stun::transaction::TransactionId;
+use turn_stun::transport::{Transmit, TransportType};
+
+/// How long an agent with nothing outstanding lets its caller sleep, in seconds (our choice).
+const IDLE_SECONDS: u64 = 9_999;
+
+/// What an agent wants of its caller.
+#[derive(Clone, Copy, Debug, PartialEq, Eq)]
+pub enum StunAgentPollRet {
+    /// Nothing is to be done before that moment. Where it is not later than now, a request is to be
+    /// sent again now.
+    WaitUntil(Instant),
+    /// The request with that ID was sent as often as it is to be, and no response came. It is no
+    /// longer outstanding.
+    TransactionTimedOut(TransactionId),
+}
+
+/// What makes an agent. Contracts see the agent that it makes.
+#[derive(Debug, Drop)]
+pub struct StunAgentBuilder {
+    alloc: Global,
+    transport: TransportType,
+    local_addr: SocketAddr,
+    remote_addr: Option<SocketAddr>,
+    timers: RequestTimers,
+}
+
+impl Model for StunAgentBuilder {
+    ghost use Rattle.std.specs.Prelude.{[]};
+    ghost use Rattle.turn_agent.specs.Agent.{Agent};
+
+    ghost Value = { Agent };
+
+    ghost view = { λ b. record {
+      transport = b.transport;
+      local = b.local_addr;
+      remote = b.remote_addr;
+      timers = b.timers;
+      transactions = [];
+    } };
+}
+
+impl StunAgentBuilder {
+    /// Names the server that the agent is for.
+    pub fn remote_addr(mut self, addr: SocketAddr) -> StunAgentBuilder
+        ensures { result ≡ record self { remote = Some addr } }
+    {
+        self.remote_addr = Some(addr);
+        self
+    }
+
+    /// Sets how often a request is sent, and how long a response is awaited: `RequestTimers::new`
+    /// says what each of these is.
+    pub fn request_retransmits(
+        self,
+        initial: Duration,
+        max: Duration,
+        retransmits: u32,
+        final_retransmit_timeout: Duration,
+    ) -> StunAgentBuilder
+        ensures { result ≡ record self {
+          timers = record {
+            initial = wait_of initial;
+            max = wait_of max;
+            transmissions = retransmits;
+            last = wait_of final_retransmit_timeout;
+          };
+        } }
+    {
+        self.request_timers(RequestTimers::new(initial, max, retransmits, final_retransmit_timeout))
+    }
+
+    /// Sets how often a request is sent, and how long a response is awaited.
+    pub fn request_timers(mut self, timers: RequestTimers) -> StunAgentBuilder
+        ensures { result ≡ record self { timers = timers } }
+    {
+        self.timers = timers;
+        self
+    }
+
+    /// The agent, with nothing outstanding.
+    pub fn build(self) -> StunAgent
+        ensures { result ≡ self }
+    {
+        StunAgent {
+            alloc: self.alloc,
+            local_addr: self.local_addr,
+            remote_addr: self.remote_addr,
+            schedule: Schedule::new(self.transport, self.timers),
+            transactions: Vec::new(self.alloc),
+        }
+    }
+}
+
+/// Sends requests again until a response comes or the last wait is over.
+///
+/// Many requests may be outstanding at once. Contracts see the record `Agent`.
+#[derive(Debug, Drop)]
+pub struct StunAgent {
+    alloc: Global,
+    local_addr: SocketAddr,
+    remote_addr: Option<SocketAddr>,
+    schedule: Schedule,
+    transactions: Vec<Transaction>,
+}
+
+impl Model for StunAgent {
+    ghost use Rattle.turn_agent.specs.Agent.{Agent, AreDistinct};
+
+    ghost Value = { Agent };
+
+    ghost view = { λ a. record {
+      transport = a.schedule.transport;
+      local = a.local_addr;
+      remote = a.remote_addr;
+      timers = a.schedule.timers;
+      transactions = a.transactions.items;
+    } };
+
+    ghost invariant = { λ a. AreDistinct a.transactions.items };
+}
+
+impl StunAgent {
+    /// What makes an agent over this transport that sends from this address, with the timers of
+    /// RFC 8489, section 6.2.1, and with no server named.
+    pub fn builder(
+        alloc: Global,
+        transport: TransportType,
+        local_addr: SocketAddr,
+    ) -> StunAgentBuilder
+        ensures { result ≡ record {
+          transport = transport;
+          local = local_addr;
+          remote = None;
+          timers = default_timers;
+          transactions = [];
+        } }
+    {
+        StunAgentBuilder {
+            alloc,
+            transport,
+            local_addr,
+            remote_addr: None,
+            timers: RequestTimers::default(),
+        }
+    }
+
+    /// Where the agent sends from.
+    pub fn local_addr(&self) -> SocketAddr
+        ensures { result ≡ self.now.local }
+    {
+        self.local_addr
+    }
+
+    /// The server that the agent was made for, if one was named.
+    pub fn remote_addr(&self) -> Option<SocketAddr>
+        ensures { result ≡ self.now.remote }
+    {
+        self.remote_addr
+    }
+
+    /// What carries the agent's packets.
+    pub fn transport(&self) -> TransportType
+        ensures { result ≡ self.now.transport }
+    {
+        self.schedule.transport
+    }
+
+    /// Whether a request of this ID awaits its response.
+    pub fn is_outstanding(&self, id: TransactionId) -> bool
+        ensures { result ≡ is_outstanding id self.now.transactions }
+    {
+        self.transactions
+            .iter()
+            .any(|transaction| transaction.id == id)
+    }
+
+    /// Counts the first send of a request at `now`, and hands its bytes back as the packet.
+    ///
+    /// One copy of the bytes is kept, to be sent again. The caller sees to it that they are a
+    /// request with this ID.
+    ///
+    /// # Errors
+    ///
+    /// There is no memory for the copy. Nothing is outstanding that was not before.
+    pub fn send_request<T: AsSlice<u8> + Drop>(
+        &mut self,
+        id: TransactionId,
+        bytes: T,
+        to: SocketAddr,
+        now: Instant,
+    ) -> Result<Transmit<T>, AllocError>
+        requires fresh { is_outstanding id self.old.transactions ≡ false }
+        ensures packet { IfOk result (λ packet. packet ≡ record {
+          payload = bytes;
+          transport = self.old.transport;
+          from = self.old.local;
+          to = to;
+        }) }
+        ensures ok { OnOk result (self.new ≡ asked self.old id to now (T.items bytes)) }
+        ensures err { OnErr result (self.new ≡ self.old) }
+    {
+        let kept = bytes.as_slice().to_vec(self.alloc)?;
+        self.transactions.reserve(1)?;
+        self.transactions.push_reserved(Transaction {
+            id,
+            to,
+            resends: 0,
+            last_send: now,
+            request: Data::from(kept),
+        });
+        Ok(Transmit::new(bytes, self.schedule.transport, self.local_addr, to))
+    }
+
+    /// Takes a message that came in from this address, and says whether it is accepted.
+    ///
+    /// A response is accepted where its ID is outstanding (RFC 8489, section 6.3) and it came from
+    /// the address that was asked (our choice). It ends the transaction, so no copy of it is
+    /// accepted. Requests and indications always are.
+    pub fn handle_stun_message(&mut self, message: &Message<'_>, from: SocketAddr) -> bool
+        ensures step { (result, self.new) ≡ handle_step self.old message.now from }
+        ensures ended { IsTrue result → IsResponse (class_of (type_of message.now))
+            → is_outstanding (id_of message.now) self.new.transactions ≡ false }
+    {
+        if !message.is_response() {
+            return true;
+        }
+        let id = message.transaction_id();
+        match answered(&self.transactions, id, from) {
+            Some(place) => {
+                let _ended = self.transactions.remove(place);
+                true
+            }
+            None => false,
+        }
+    }
+
+    /// Gives a request up, or tells when to ask again.
+    ///
+    /// The oldest request whose last wait is over is given up, one a call. With none, the answer is
+    /// the least moment at which a wait is over, or 9999 s from now where nothing is outstanding
+    /// (our choice). Before that moment `poll_transmit` gives nothing.
+    pub fn poll(&mut self, now: Instant) -> StunAgentPollRet
+        ensures step { (result, self.new) ≡ poll_step self.old now }
+        ensures ended { IsEnded result self.new }
+        // Nothing is due before the moment that is told, and something is where that is not later.
+        ensures alarm { IsSilentUntil result self.new }
+        ensures busy { IsBusy result self.new now }
+    {
+        match progress_of(&self.transactions, &self.schedule, now) {
+            Progress::Over(place) => {
+                let given_up = self.transactions.remove(place);
+                StunAgentPollRet::TransactionTimedOut(given_up.id)
+            }
+            Progress::Waiting(moment) => StunAgentPollRet::WaitUntil(moment),
+            Progress::Idle => {
+                StunAgentPollRet::WaitUntil(now.plus(Duration::from_secs(IDLE_SECONDS)))
+            }
+        }
+    }
+
+    /// The oldest request that is due, to be sent again: counted as sent at `now`.
+    ///
+    /// # Errors
+    ///
+    /// There is no memory for its bytes. It is still due.
+    pub fn poll_transmit(&mut self, now: Instant) -> Result<Option<Transmit<Data>>, AllocError>
+        ensures step { IfOk result (λ packet. (packet, self.new) ≡ transmit_step self.old now) }
+        ensures err { OnErr result (self.new ≡ self.old) }
+        // Where nothing is due, no memory is taken.
+        ensures none { due self.old now ≡ None → IsOk result }
+    {
+        let Some(place) = first_due(&self.transactions, &self.schedule, now) else {
+            return Ok(None);
+        };
+        let transaction = &mut self.transactions[place];
+        let payload = transaction.send_again(self.alloc, now)?;
+        let to = transaction.to;
+        Ok(Some(Transmit::new(payload, self.schedule.transport, self.local_addr, to)))
+    }
+}
+
+/// How far the requests of an agent have come.
+enum Progress {
+    /// The last wait of the one at this place is over.
+    Over(usize),
+    /// The least moment at which a wait is over.
+    Waiting(Instant),
+    /// Nothing is outstanding.
+    Idle,
+}
+
+/// The place of the transaction that a response of this ID from this address answers.
+fn answered(transactions: &[Transaction], id: TransactionId, from: SocketAddr) -> Option<usize>
+    ensures { result ≡ position (answers id from) transactions.now }
+{
+    transactions.iter().position(|transaction| transaction.id == id && transaction.to == from)
+}
+
+/// The place of the oldest transaction whose request is to be sent again now.
+fn first_due(transactions: &[Transaction], schedule: &Schedule, now: Instant) -> Option<usize>
+    ensures place { result ≡ position (is_due schedule.now.timers schedule.now.transport now) transactions.now }
+    ensures range { resends_of schedule.now.timers schedule.now.transport < 2 ^ 32 }
+{
+    let resends = schedule.resends();
+    transactions.iter().position(|transaction| {
+        transaction.resends < resends && transaction.next_moment(schedule) <= now
+    })
+}
+
+/// The oldest transaction whose last wait is over, or else the least moment at which one is.
+fn progress_of(transactions: &[Transaction], schedule: &Schedule, now: Instant) -> Progress
+    ensures { IsProgress schedule.now.timers schedule.now.transport now transactions.now result }
+{
+    if transactions.is_empty() {
+        return Progress::Idle;
+    }
+    let resends = schedule.resends();
+    let mut least = Instant::from_nanos(u64::MAX);
+    for (place, transaction) in transactions.iter().enumerate() {
+        let next = transaction.next_moment(schedule);
+        if next <= now && resends <= transaction.resends {
+            return Progress::Over(place);
+        }
+        least = least.min(next);
+    }
+    Progress::Waiting(least)
+}
