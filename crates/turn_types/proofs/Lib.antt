@@ -1,0 +1,9 @@
+pub mod BufferLemmas
+pub mod ChannelLemmas
+pub mod CutLemmas
+pub mod FrameLemmas
+pub mod RunLemmas
+pub mod SendLemmas
+pub mod SplitLemmas
+pub mod StepLemmas
+pub mod XorLemmas

@@ -1,0 +1,12 @@
+pub mod Buffers
+pub mod Channel
+pub mod Cuts
+pub mod Delayed
+pub mod Family
+pub mod Frames
+pub mod Heads
+pub mod Icmp
+pub mod Incoming
+pub mod Send
+pub mod Streams
+pub mod Values

@@ -1,0 +1,91 @@
+//! ADDITIONAL-ADDRESS-FAMILY (RFC 8656, section 18.11).
+
+ghost use Rattle.std.specs.Prelude.{◌≡◌, Some, IfSome};
+ghost use Rattle.turn_types.specs.Values.{family_of, family_value};
+
+use crate::attribute::value::leading_byte;
+use crate::family::AddressFamily;
+use std::alloc::AllocError;
+use std::marker::Model;
+use turn_stun::attribute::AttributeType;
+use turn_stun::attribute::typed::{AttributeFromRaw, AttributeWrite};
+use turn_stun::transaction::TransactionId;
+
+/// The family of which a client asks for an address beside the IPv4 one (RFC 8656, section 18.11).
+/// Contracts see it as the family.
+///
+/// Both families are read and written: that a client asks for no second IPv4 address is for the
+/// client to know.
+#[derive(Clone, Copy, Debug, PartialEq, Eq)]
+pub struct AdditionalAddressFamily {
+    family: AddressFamily,
+}
+
+impl Model for AdditionalAddressFamily {
+    ghost use Rattle.turn_types.specs.declared.family.AddressFamily.{AddressFamily};
+
+    ghost Value = { AddressFamily };
+
+    ghost view = { λ asked. asked.family };
+
+    ghost inverse = { λ family. record { family = family } };
+}
+
+impl AdditionalAddressFamily {
+    /// The type of the attribute.
+    pub const TYPE: AttributeType = AttributeType { value: 0x8000 };
+
+    /// The attribute that asks for this family.
+    pub fn new(family: AddressFamily) -> AdditionalAddressFamily
+        ensures family { result ≡ family }
+        ensures again { family_of (family_value result) ≡ Some family }
+    {
+        AdditionalAddressFamily { family }
+    }
+
+    /// The family that is asked for.
+    pub fn family(&self) -> AddressFamily
+        ensures { result ≡ self.now }
+    {
+        self.family
+    }
+}
+
+impl<'a> AttributeFromRaw<'a> for AdditionalAddressFamily {
+    ghost kind = { 0x8000 };
+
+    ghost decodes = { λ value id found. found ≡ family_of value };
+
+    fn attribute_type() -> AttributeType
+        ensures { result.value ≡ 0x8000 }
+    {
+        AdditionalAddressFamily::TYPE
+    }
+
+    fn from_value(value: &'a [u8], _id: TransactionId) -> Option<AdditionalAddressFamily>
+        ensures found { result ≡ family_of value.now }
+        // It is written again as it was.
+        ensures again { IfSome result (λ family. family_value family ≡ value.now) }
+    {
+        let family = AddressFamily::from_number(leading_byte(value)?)?;
+        Some(AdditionalAddressFamily { family })
+    }
+}
+
+impl AttributeWrite for AdditionalAddressFamily {
+    ghost written_kind = { λ _. 0x8000 };
+
+    ghost encoded = { λ family id. family_value family };
+
+    fn get_type(&self) -> AttributeType {
+        AdditionalAddressFamily::TYPE
+    }
+
+    fn value_len(&self) -> usize {
+        4
+    }
+
+    fn write_value(&self, _id: TransactionId, out: &mut Vec<u8>) -> Result<(), AllocError> {
+        out.extend_from_slice(&[self.family.number(), 0, 0, 0])
+    }
+}

@@ -1,0 +1,93 @@
+//! XOR-PEER-ADDRESS (RFC 8656, section 18.3).
+
+ghost use Rattle.std.specs.Prelude.{◌≡◌, ℕ, ◌^◌, ◌<◌, ◌∷◌, drop, Some, IfSome};
+ghost use Rattle.turn_stun.specs.XorAddress.{plain, xor_addr, xor_value};
+
+use crate::address::plain;
+use std::alloc::AllocError;
+use std::marker::Model;
+use std::net::SocketAddr;
+use turn_stun::attribute::AttributeType;
+use turn_stun::attribute::typed::{AttributeFromRaw, AttributeWrite};
+use turn_stun::attribute::xor_address::XorSocketAddr;
+use turn_stun::transaction::TransactionId;
+
+/// The address of a peer, as the server sees it (RFC 8656, section 18.3). Contracts see it as the
+/// address.
+#[derive(Clone, Copy, Debug, PartialEq, Eq)]
+pub struct XorPeerAddress {
+    addr: XorSocketAddr,
+}
+
+impl Model for XorPeerAddress {
+    ghost use Rattle.std.specs.declared.net.socket_addr.SocketAddr.{SocketAddr};
+
+    ghost Value = { SocketAddr };
+
+    ghost view = { λ xor. xor.addr };
+
+    ghost inverse = { λ addr. record { addr = addr } };
+}
+
+impl XorPeerAddress {
+    /// The type of the attribute.
+    pub const TYPE: AttributeType = AttributeType { value: 0x0012 };
+
+    /// The attribute with this address, but for the flow information and the scope of an IPv6
+    /// address, which are not sent.
+    pub fn new(addr: SocketAddr) -> XorPeerAddress
+        ensures addr { result ≡ plain addr }
+        ensures value { (id : ℕ) → xor_value result id ≡ xor_value addr id }
+        ensures again { (id : ℕ) → id < 2 ^ 96 → xor_addr (xor_value result id) id ≡ Some result }
+    {
+        XorPeerAddress {
+            addr: XorSocketAddr::new(plain(addr)),
+        }
+    }
+
+    /// The address.
+    pub fn addr(&self) -> SocketAddr
+        ensures { result ≡ self.now }
+    {
+        self.addr.addr()
+    }
+}
+
+impl<'a> AttributeFromRaw<'a> for XorPeerAddress {
+    ghost kind = { 0x0012 };
+
+    ghost decodes = { λ value id found. found ≡ xor_addr value id };
+
+    fn attribute_type() -> AttributeType
+        ensures { result.value ≡ 0x0012 }
+    {
+        XorPeerAddress::TYPE
+    }
+
+    fn from_value(value: &'a [u8], id: TransactionId) -> Option<XorPeerAddress>
+        ensures found { result ≡ xor_addr value.now id }
+        // It is written again as it was, the unread byte aside.
+        ensures again { IfSome result (λ addr. xor_value addr id ≡ 0 ∷ drop 1 value.now) }
+    {
+        let addr = XorSocketAddr::decode(value, id)?;
+        Some(XorPeerAddress { addr })
+    }
+}
+
+impl AttributeWrite for XorPeerAddress {
+    ghost written_kind = { λ _. 0x0012 };
+
+    ghost encoded = { xor_value };
+
+    fn get_type(&self) -> AttributeType {
+        XorPeerAddress::TYPE
+    }
+
+    fn value_len(&self) -> usize {
+        self.addr.value_len()
+    }
+
+    fn write_value(&self, id: TransactionId, out: &mut Vec<u8>) -> Result<(), AllocError> {
+        self.addr.append(id, out)
+    }
+}

@@ -1,0 +1,3 @@
+//! The traits whose methods callers use.
+
+pub use crate::transmit::DelayedTransmitBuild;

@@ -1,0 +1,245 @@
+//! A buffer between the pieces of a stream and its frames.
+
+ghost use Rattle.std.specs.Prelude.{◌≡◌, ◌+◌, ◌<◌, ◌↔◌, true, false, [], length, IsTrue, OnOk, OnErr, IsOk, IsErr, IfOk, IsNone, IsSome, IfSome, Some, None, Ok};
+ghost use Rattle.std.specs.Option.{option_map};
+ghost use Rattle.turn_types.specs.Buffers.{IsCounted, IsKept, front_of, left_of};
+ghost use Rattle.turn_types.specs.Frames.{frame_len};
+ghost use Rattle.turn_types.specs.Incoming.{stored_bytes, incoming_bytes, IsNamedStored, IsNamedIncoming, ComesWith};
+ghost use Rattle.turn_types.specs.Streams.{turn_at, broken_stream, framed, with_piece};
+ghost use Rattle.turn_types.specs.Streams.Call.{Piece, Poll};
+
+mod held;
+
+use crate::tcp::counts::TcpCounts;
+use crate::tcp::head::{Head, head_of};
+use crate::tcp::incoming::{IncomingTcp, StoredTcp};
+use std::alloc::{AllocError, Global};
+use std::convert::AsSlice;
+use std::marker::Model;
+use turn_stun::transport::Transmit;
+
+/// The bytes of a stream that wait for the rest of their frame (RFC 8656, section 12.5).
+///
+/// A piece of the stream goes in by `incoming_tcp`, which gives out its first frame. Then `poll_recv`
+/// gives out the others, until it has none: what is left is fewer than 65,556 bytes, the front of the
+/// next frame. A stream whose next frame begins with the bits 10 or 11 is broken, since no frame does;
+/// and so is one whose bytes found no memory. It drops what it holds, and gives nothing from then on.
+///
+/// Taking a frame moves no byte. At the end of a call the rest moves to the front where it is shorter
+/// than what was taken before it: so at most twice the bytes that wait are held, and over any calls no
+/// more bytes are moved than were taken.
+#[derive(Debug, Drop)]
+pub struct TurnTcpBuffer {
+    /// What was taken and is not yet written over, and behind it what waits.
+    bytes: Vec<u8>,
+    /// How many bytes in front were taken.
+    start: usize,
+    is_broken: bool,
+    counts: TcpCounts,
+}
+
+impl Model for TurnTcpBuffer {
+    ghost use Rattle.std.specs.Prelude.{drop};
+    ghost use Rattle.turn_types.specs.Buffers.{Buffered, IsHeld};
+
+    ghost Value = { Buffered };
+
+    ghost view = { λ b. record { stream = record { bytes = drop b.start b.bytes.items; is_broken = b.is_broken }; start = b.start; counts = b.counts } };
+
+    ghost invariant = { λ b. IsHeld b.bytes.items b.start b.is_broken b.counts };
+}
+
+impl TurnTcpBuffer {
+    /// The buffer of a stream that has not begun. It takes no memory.
+    pub fn new(alloc: Global) -> TurnTcpBuffer
+        ensures stream { result.stream ≡ framed [] }
+        ensures start { result.start ≡ 0 }
+        ensures counts { result.counts ≡ record { taken = 0; moved = 0 } }
+    {
+        TurnTcpBuffer {
+            bytes: Vec::new(alloc),
+            start: 0,
+            is_broken: false,
+            counts: TcpCounts::NONE,
+        }
+    }
+
+    /// Takes in a piece of the stream, and gives out the first frame, if it is whole by now.
+    ///
+    /// Where nothing waited, the frame is a range of what the piece carries: it is not copied, and a
+    /// piece that is one whole frame takes no memory. Else it is owned. The bytes behind it are kept
+    /// for `poll_recv`. A piece with no frame to give out is let go.
+    ///
+    /// # Errors
+    ///
+    /// `AllocError` where there is no memory. The stream is then broken.
+    pub fn incoming_tcp<T: AsSlice<u8> + Drop>(
+        &mut self,
+        transmit: Transmit<T>,
+    ) -> Result<Option<IncomingTcp<T>>, AllocError>
+        // The piece goes behind what waits, and then it is the turn of what is in front.
+        ensures frame { IfOk result (λ given. (turn_at self.old.stream (Piece (T.items transmit.payload))).frame ≡ option_map (incoming_bytes T.items) given) }
+        ensures named { IfOk result (λ given. IfSome given (IsNamedIncoming T.items)) }
+        ensures place { IfOk result (λ given. IfSome given (ComesWith T.items self.old.stream.bytes transmit)) }
+        ensures after { OnOk result (self.new.stream ≡ (turn_at self.old.stream (Piece (T.items transmit.payload))).after) }
+
+        // Without memory the stream breaks. One whole frame wants none where nothing waits.
+        ensures err { OnErr result (self.new.stream ≡ broken_stream) }
+        ensures whole { self.old.stream.bytes ≡ [] → frame_len (T.items transmit.payload) ≡ Some (length (T.items transmit.payload)) → IsOk result }
+        ensures broken { self.old.stream.is_broken ≡ true → (result ≡ Ok None) × (self.new ≡ self.old) }
+
+        // What is held, and what was moved.
+        ensures drained { IfOk result (λ given. IsNone given → length self.new.stream.bytes < 65556) }
+        ensures kept { IsKept self.new }
+        ensures counted { let left = left_of (with_piece self.old.stream (T.items transmit.payload)).bytes self.new in IsCounted self.old self.new left (front_of self.old left) }
+    {
+        if self.is_broken {
+            return Ok(None);
+        }
+        if self.rest().is_empty() {
+            self.first_of(transmit)
+        } else {
+            self.next_of(transmit)
+        }
+    }
+
+    /// `incoming_tcp` where nothing waits: a frame at the front of the piece is a range of it.
+    fn first_of<T: AsSlice<u8> + Drop>(
+        &mut self,
+        transmit: Transmit<T>,
+    ) -> Result<Option<IncomingTcp<T>>, AllocError>
+        requires nothing { self.old.stream ≡ framed [] }
+        requires start { self.old.start ≡ 0 }
+        ensures frame { IfOk result (λ given. (turn_at self.old.stream (Piece (T.items transmit.payload))).frame ≡ option_map (incoming_bytes T.items) given) }
+        ensures named { IfOk result (λ given. IfSome given (IsNamedIncoming T.items)) }
+        ensures place { IfOk result (λ given. IfSome given (ComesWith T.items self.old.stream.bytes transmit)) }
+        ensures after { OnOk result (self.new.stream ≡ (turn_at self.old.stream (Piece (T.items transmit.payload))).after) }
+        ensures err { OnErr result (self.new.stream ≡ broken_stream) }
+        ensures whole { frame_len (T.items transmit.payload) ≡ Some (length (T.items transmit.payload)) → IsOk result }
+        ensures drained { IfOk result (λ given. IsNone given → length self.new.stream.bytes < 65556) }
+        ensures kept { IsKept self.new }
+        ensures counted { IsCounted self.old self.new (left_of (T.items transmit.payload) self.new) 0 }
+    {
+        let piece = transmit.payload.as_slice();
+        match head_of(piece) {
+            Head::Partial => {
+                self.keep_behind(piece, 0)?;
+                Ok(None)
+            }
+            Head::NoFrame => {
+                self.break_off(piece.len());
+                Ok(None)
+            }
+            Head::Message(len) => {
+                self.keep_behind(piece, len)?;
+                Ok(Some(IncomingTcp::CompleteMessage(transmit, 0..len)))
+            }
+            Head::Channel(len) => {
+                self.keep_behind(piece, len)?;
+                Ok(Some(IncomingTcp::CompleteChannel(transmit, 0..len)))
+            }
+        }
+    }
+
+    /// `incoming_tcp` behind bytes that wait: the piece is kept, and a frame at the front is copied out.
+    fn next_of<T: AsSlice<u8> + Drop>(
+        &mut self,
+        transmit: Transmit<T>,
+    ) -> Result<Option<IncomingTcp<T>>, AllocError>
+        requires unbroken { self.old.stream.is_broken ≡ false }
+        requires waiting { 0 < length self.old.stream.bytes }
+        ensures frame { IfOk result (λ given. (turn_at self.old.stream (Piece (T.items transmit.payload))).frame ≡ option_map (incoming_bytes T.items) given) }
+        ensures named { IfOk result (λ given. IfSome given (IsNamedIncoming T.items)) }
+        ensures place { IfOk result (λ given. IfSome given (ComesWith T.items self.old.stream.bytes transmit)) }
+        ensures after { OnOk result (self.new.stream ≡ (turn_at self.old.stream (Piece (T.items transmit.payload))).after) }
+        ensures err { OnErr result (self.new.stream ≡ broken_stream) }
+        ensures drained { IfOk result (λ given. IsNone given → length self.new.stream.bytes < 65556) }
+        ensures kept { IsKept self.new }
+        ensures counted { let left = left_of (with_piece self.old.stream (T.items transmit.payload)).bytes self.new in IsCounted self.old self.new left (self.old.start + left) }
+    {
+        let piece = transmit.payload.as_slice();
+        if let Err(error) = self.store(piece) {
+            self.break_off(piece.len());
+            return Err(error);
+        }
+        match self.poll_recv()? {
+            None => Ok(None),
+            Some(StoredTcp::Message(frame)) => {
+                let incoming = IncomingTcp::StoredMessage(frame, transmit);
+                Ok(Some(incoming))
+            }
+            Some(StoredTcp::Channel(frame)) => {
+                let incoming = IncomingTcp::StoredChannel(frame, transmit);
+                Ok(Some(incoming))
+            }
+        }
+    }
+
+    /// Gives out the next frame that waits, if it is whole.
+    ///
+    /// # Errors
+    ///
+    /// `AllocError` where there is no memory for the frame. The stream is then broken.
+    pub fn poll_recv(&mut self) -> Result<Option<StoredTcp>, AllocError>
+        // It is the turn of what is in front.
+        ensures frame { IfOk result (λ given. (turn_at self.old.stream Poll).frame ≡ option_map stored_bytes given) }
+        ensures named { IfOk result (λ given. IfSome given IsNamedStored) }
+        ensures after { OnOk result (self.new.stream ≡ (turn_at self.old.stream Poll).after) }
+
+        // Without memory the stream breaks. Only a frame wants memory.
+        ensures err { OnErr result (self.new.stream ≡ broken_stream) }
+        ensures memory { IsErr result → IsSome (turn_at self.old.stream Poll).frame }
+
+        // What is held, and what was moved.
+        ensures drained { IfOk result (λ given. IsNone given → length self.new.stream.bytes < 65556) }
+        ensures kept { IsKept self.new }
+        ensures counted { let left = left_of self.old.stream.bytes self.new in IsCounted self.old self.new left (self.old.start + left) }
+    {
+        match head_of(self.rest()) {
+            Head::Partial => Ok(None),
+            Head::NoFrame => {
+                self.break_off(0);
+                Ok(None)
+            }
+            Head::Message(len) => {
+                let frame = self.take_front(len)?;
+                Ok(Some(StoredTcp::Message(frame)))
+            }
+            Head::Channel(len) => {
+                let frame = self.take_front(len)?;
+                Ok(Some(StoredTcp::Channel(frame)))
+            }
+        }
+    }
+
+    /// The bytes that wait, none of a broken stream. They are moved at most once, and no memory is
+    /// taken.
+    pub fn into_inner(self) -> Vec<u8>
+        ensures { result.items ≡ self.stream.bytes }
+    {
+        let TurnTcpBuffer {
+            mut bytes,
+            start,
+            ..
+        } = self;
+        let rest = bytes.len() - start;
+        bytes.rotate_left(start);
+        bytes.truncate(rest);
+        bytes
+    }
+
+    /// Whether nothing waits.
+    pub fn is_empty(&self) -> bool
+        ensures { IsTrue result ↔ (self.now.stream.bytes ≡ []) }
+    {
+        self.rest().is_empty()
+    }
+
+    /// How many bytes were taken, and how many were moved for it.
+    pub fn counts(&self) -> TcpCounts
+        ensures counts { result ≡ self.now.counts }
+        ensures kept { IsKept self.now }
+    {
+        self.counts
+    }
+}
