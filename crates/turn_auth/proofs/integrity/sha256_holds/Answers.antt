@@ -1,0 +1,17 @@
+use Rattle.std.proofs.Common.{arith, sym, ◌∙◌}
+use Rattle.std.specs.Cmp.Lexicographic.{unequal}
+use Rattle.turn_auth.proofs.IntegrityLemmas.{IsMessage-short}
+use Rattle.turn_auth.proofs.DigestLemmas.{length-hmac_sha256}
+use Rattle.turn_auth.proofs.integrity.sha256_holds.Goals as goal
+
+-- a value of another length is no HMAC
+pub returns-then-raw-ne32 : goal.returns-then-raw-ne32
+returns-then-raw-ne32 c = λ key holds.
+    rw (← c.in-Some.ensures.first) (sym (unequal _ _ _ (λ e. c.if-raw-ne32.true (e ∙ length-hmac_sha256 key _))))
+
+-- the attribute ends within the message, which its length field can tell
+pub sha256_value-requires-clause-short : goal.sha256_value-requires-clause-short
+sha256_value-requires-clause-short c =
+    let short = IsMessage-short c.args.message.now _ _ _ c.as_bytes-bytes.ensures.message
+    (rw (← c.as_bytes-bytes.ensures.bytes) (c.type_inv.bytes 2)) (rw (← c.as_bytes-bytes.ensures.bytes) (c.type_inv.bytes 3)) in
+    omega (arith, c.in-Some.ensures.within, short, c.if-raw-ne32.false)

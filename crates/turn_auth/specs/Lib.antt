@@ -1,0 +1,10 @@
+pub mod Challenge
+pub mod Credentials
+pub mod Hmac
+pub mod Integrity
+pub mod Kept
+pub mod Key
+pub mod Keyed
+pub mod LongTerm
+pub mod Signature
+pub mod Validation

@@ -1,0 +1,118 @@
+//! Which messages are challenges (RFC 8489, sections 9.2.3 to 9.2.5).
+
+ghost use Rattle.std.specs.Prelude.{◌≡◌, option_copied};
+ghost use Rattle.std.specs.Str.{bytes_eq};
+ghost use Rattle.turn_stun.specs.Attributes.{seen_of, first_of};
+ghost use Rattle.turn_auth.specs.LongTerm.{supports};
+ghost use Rattle.turn_auth.specs.Challenge.{value_in, realm_in, nonce_in, code_in, denial_in, offers_sha256, picked};
+
+use crate::integrity::IntegrityAlgorithm;
+use turn_stun::attribute::AttributeType;
+use turn_stun::attribute::error_code::ErrorCode;
+use turn_stun::attribute::nonce::Nonce;
+use turn_stun::attribute::password_algorithms::{PasswordAlgorithm, PasswordAlgorithms};
+use turn_stun::attribute::realm::Realm;
+use turn_stun::message::Message;
+use turn_stun::message::header::MessageClass;
+
+/// The most bytes of a PASSWORD-ALGORITHMS that is sent back (our choice: they are kept inline).
+pub(crate) const MAX_ALGORITHMS_LEN: usize = 64;
+
+/// What an error response says to a client: why, and what to sign the request with.
+#[derive(Drop)]
+pub(crate) struct Denial<'a> {
+    /// The protection space in which the credentials count.
+    pub(crate) realm: Realm<'a>,
+    /// What the server wants to see again.
+    pub(crate) nonce: Nonce<'a>,
+    /// The code of the ERROR-CODE.
+    pub(crate) code: u16,
+}
+
+impl<'a> Denial<'a> {
+    /// What the message says, or `None` where it is no error response, or lacks one of the three
+    /// attributes in good form.
+    pub(crate) fn in_message(message: &Message<'a>) -> Option<Denial<'a>>
+        ensures { result ≡ denial_in message.now }
+    {
+        if !message.has_class(MessageClass::Error) {
+            return None;
+        }
+        Some(Denial {
+            realm: realm_in(message)?,
+            nonce: nonce_in(message)?,
+            code: code_in(message)?,
+        })
+    }
+}
+
+fn realm_in<'a>(message: &Message<'a>) -> Option<Realm<'a>>
+    ensures { result ≡ realm_in message.now }
+{
+    message.attribute::<Realm<'a>>().ok()
+}
+
+fn nonce_in<'a>(message: &Message<'a>) -> Option<Nonce<'a>>
+    ensures { result ≡ nonce_in message.now }
+{
+    message.attribute::<Nonce<'a>>().ok()
+}
+
+fn code_in(message: &Message<'_>) -> Option<u16>
+    ensures { result ≡ code_in message.now }
+{
+    match message.attribute::<ErrorCode<'_>>() {
+        Ok(error) => Some(error.code()),
+        Err(_) => None,
+    }
+}
+
+/// The value of the first seen PASSWORD-ALGORITHMS, well formed or not.
+pub(crate) fn offered_in<'a>(message: &Message<'a>) -> Option<&'a [u8]>
+    ensures { option_copied result ≡ value_in 0x8002 message.now }
+{
+    match message.raw_attribute(AttributeType::PASSWORD_ALGORITHMS) {
+        Some((_, raw)) => Some(raw.value),
+        None => None,
+    }
+}
+
+/// Whether the value of a PASSWORD-ALGORITHMS offers SHA-256, and is short enough to be sent back.
+fn offers_sha256(value: &[u8]) -> bool
+    ensures { result ≡ offers_sha256 value.now }
+{
+    if value.len() > MAX_ALGORITHMS_LEN {
+        return false;
+    }
+    match PasswordAlgorithms::from_bytes(value) {
+        Some(algorithms) => algorithms.contains(PasswordAlgorithm::Sha256),
+        None => false,
+    }
+}
+
+/// Whether the algorithm is among these.
+pub(crate) fn supports(algorithms: &[IntegrityAlgorithm], algorithm: IntegrityAlgorithm) -> bool
+    ensures { result ≡ supports algorithms.now algorithm }
+{
+    algorithms.iter().any(|each| *each == algorithm)
+}
+
+/// The algorithm that a first challenge picks: the better one that both sides have.
+pub(crate) fn picked(
+    supported: &[IntegrityAlgorithm],
+    message: &Message<'_>,
+) -> Option<IntegrityAlgorithm>
+    ensures { result ≡ picked supported.now (value_in 0x8002 message.now) }
+{
+    if supports(supported, IntegrityAlgorithm::Sha256) {
+        if let Some(value) = offered_in(message) {
+            if offers_sha256(value) {
+                return Some(IntegrityAlgorithm::Sha256);
+            }
+        }
+    }
+    if supports(supported, IntegrityAlgorithm::Sha1) {
+        return Some(IntegrityAlgorithm::Sha1);
+    }
+    None
+}

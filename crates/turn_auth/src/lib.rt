@@ -1,0 +1,15 @@
+//! HMAC, keys, challenges and the long-term credentials of STUN (RFC 8489, section 9.2), with no IO.
+#![tactic(auto)]
+
+mod challenge;
+pub mod credentials;
+pub mod feature;
+mod held;
+pub mod hmac;
+pub mod integrity;
+mod key;
+pub mod long_term;
+mod signature;
+#[cfg(test)]
+mod tests;
+pub mod validation;

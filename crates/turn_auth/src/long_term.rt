@@ -1,0 +1,268 @@
+//! The client's side of the long-term credential mechanism (RFC 8489, section 9.2).
+
+ghost use Rattle.std.specs.Prelude.{◌≡◌, ◌≢◌, ◌+◌, ◌≤◌, length, true, [], ◌∷◌, Some, None, option_map, ◌↔◌, IsTrue, IsSome, IsNone, IsSomeAnd, IfSome, OnOk, OnErr};
+ghost use Rattle.turn_auth.specs.LongTerm.{Challenge, with_algorithm};
+ghost use Rattle.turn_auth.specs.Challenge.{IsChallenge, value_in, chosen, held_after, challenge_of};
+ghost use Rattle.turn_auth.specs.Validation.{IsResendRequest, IsSigned, IsValidated, validation_of};
+ghost use Rattle.turn_auth.specs.Signature.{is_unsigned, signature_len, signed_text};
+ghost use Rattle.turn_stun.specs.Message.{type_of, id_of, attributes_of};
+ghost use Rattle.turn_stun.specs.MessageType.{class_of};
+ghost use Rattle.turn_stun.specs.declared.message.header.MessageClass.{MessageClass};
+ghost use Rattle.turn_stun.specs.declared.message.header.MessageClass.TheVariants.{Request, Indication};
+
+use crate::challenge::{Denial, offered_in, picked, supports};
+use crate::credentials::TurnCredentials;
+use crate::feature::Feature;
+use crate::held::Held;
+use crate::integrity::IntegrityAlgorithm;
+use crate::key::SigningKey;
+use crate::signature::signed_copy;
+use crate::validation::Validation;
+use smallvec::SmallVec;
+use std::alloc::{AllocError, Global};
+use std::fmt;
+use std::marker::Model;
+use turn_stun::attribute::error_code::ErrorCode;
+use turn_stun::message::Message;
+use turn_stun::message::write::MessageWriteVec;
+
+/// A client that signs its requests with a user name and a password, and judges what comes back
+/// (RFC 8489, section 9.2).
+///
+/// Contracts see its configuration, and what it holds since a challenge: a realm and an algorithm,
+/// which never change then, and a nonce. Debug prints no password and no key.
+#[derive(Drop)]
+pub struct LongTermClientAuth {
+    alloc: Global,
+    credentials: Option<TurnCredentials>,
+    supported: SmallVec<IntegrityAlgorithm, 2>,
+    anonymous_username: Feature,
+    held: Option<Held>,
+}
+
+impl Model for LongTermClientAuth {
+    ghost use Rattle.turn_auth.specs.LongTerm.{ClientAuth};
+
+    ghost Value = { ClientAuth };
+
+    ghost use Rattle.turn_auth.specs.Kept.{auth_view, IsSound};
+
+    ghost view = { auth_view };
+
+    ghost invariant = { IsSound };
+}
+
+impl LongTermClientAuth {
+    /// A client with no credentials, which holds nothing: SHA-1 is configured, and whether the user
+    /// is named is `Feature::Auto`.
+    pub fn new(alloc: Global) -> LongTermClientAuth
+        ensures { result ≡ record {
+          credentials = None;
+          supported = IntegrityAlgorithm.Sha1 ∷ [];
+          anonymous_username = Feature.Auto;
+          held = None;
+        } }
+    {
+        LongTermClientAuth {
+            alloc,
+            credentials: None,
+            supported: SmallVec::from_slice(alloc, &[IntegrityAlgorithm::Sha1]).unwrap(),
+            anonymous_username: Feature::Auto,
+            held: None,
+        }
+    }
+
+    /// Sets who the client is. A key that is kept is made anew.
+    pub fn set_credentials(&mut self, credentials: TurnCredentials)
+        ensures { self.new ≡ record self.old { credentials = Some credentials } }
+    {
+        if let Some(held) = &mut self.held {
+            held.key = SigningKey::new(&credentials, held.realm.as_slice(), held.key.algorithm());
+        }
+        self.credentials = Some(credentials);
+    }
+
+    /// The credentials that were set.
+    pub fn credentials(&self) -> Option<&TurnCredentials>
+        ensures { option_map (λ credentials. credentials.now) result ≡ self.now.credentials }
+    {
+        self.credentials.as_ref()
+    }
+
+    /// Makes this algorithm the one that a challenge may pick.
+    pub fn set_supported_integrity(&mut self, algorithm: IntegrityAlgorithm)
+        ensures { self.new ≡ record self.old { supported = algorithm ∷ [] } }
+    {
+        self.supported = SmallVec::from_slice(self.alloc, &[algorithm]).unwrap();
+    }
+
+    /// Adds an algorithm that a challenge may pick, where it is not there yet.
+    pub fn add_supported_integrity(&mut self, algorithm: IntegrityAlgorithm)
+        ensures { self.new ≡ record self.old { supported = with_algorithm self.old.supported algorithm } }
+    {
+        if !supports(self.supported.as_slice(), algorithm) {
+            self.supported.push_reserved(algorithm);
+        }
+    }
+
+    /// Sets whether requests hide the user name.
+    pub fn set_anonymous_username(&mut self, anonymous_username: Feature)
+        ensures { self.new ≡ record self.old { anonymous_username = anonymous_username } }
+    {
+        self.anonymous_username = anonymous_username;
+    }
+
+    /// What is to be done with the message. It takes no memory, and copies nothing of the message.
+    ///
+    /// A challenge is judged before any integrity attribute (our choice: the first one cannot be
+    /// signed, RFC 8489, section 9.2.5).
+    #[tactic(auto, using(crate::proofs::ChallengeLemmas::challenge_of_is))]
+    pub fn validate_incoming_message(&self, message: &Message<'_>) -> Validation
+        ensures exact { result ≡ validation_of self.now message.now }
+
+        // What is asked for again is a challenge, and what is valid is signed and no challenge.
+        ensures resend { IsResendRequest result ↔ IsSome (challenge_of self.now message.now) }
+        ensures validated { IsValidated result ↔ (IsNone (challenge_of self.now message.now) × IsSigned self.now message.now) }
+
+        // What is computed of a challenge is what a challenge is.
+        ensures challenge { (challenge : Challenge) → (challenge_of self.now message.now ≡ Some challenge) ↔ IsChallenge self.now message.now challenge }
+    {
+        if let Some((_, algorithm)) = self.challenge_in(message) {
+            return Validation::ResendRequest(algorithm);
+        }
+        match &self.held {
+            Some(held) => held.judge(message),
+            None => Validation::Refused { integrity: false },
+        }
+    }
+
+    /// Takes what a challenge gives: the nonce, and where nothing is held yet the realm and the
+    /// algorithm, which never change then.
+    ///
+    /// # Errors
+    ///
+    /// Where there is no memory. All is then as before.
+    pub fn take_challenge(&mut self, message: &Message<'_>) -> Result<(), AllocError>
+        requires { IsSome (challenge_of self.old message.now) }
+        ensures ok { OnOk result (self.new ≡ record self.old { held = challenge_of self.old message.now }) }
+        ensures kept { IfSome self.old.held (λ old. IsSomeAnd self.new.held (λ new. (new.realm ≡ old.realm) × (new.algorithm ≡ old.algorithm))) }
+        ensures err { OnErr result (self.new ≡ self.old) }
+    {
+        let (Some((denial, algorithm)), Some(credentials)) = (
+            self.challenge_in(message),
+            &self.credentials,
+        ) else {
+            unreachable!();
+        };
+        match &mut self.held {
+            Some(held) => held.nonce = Vec::from_slice(self.alloc, denial.nonce.as_bytes())?,
+            None => {
+                let offered = offered_in(message);
+                let held = Held::first(self.alloc, credentials, &denial, algorithm, offered)?;
+                self.held = Some(held);
+            }
+        }
+        Ok(())
+    }
+
+    /// Whether a realm is held, without which nothing can be signed.
+    pub fn has_realm(&self) -> bool
+        ensures { IsTrue result ↔ IsSome self.now.held }
+    {
+        self.held.is_some()
+    }
+
+    /// Signs the message. To a request it adds who asks, the realm, the nonce, with SHA-256 the
+    /// password algorithms, and the integrity, in this order; to a response the integrity alone
+    /// (RFC 8489, section 9.2.4). The attributes that were there are written anew, with zeros for
+    /// padding.
+    ///
+    /// # Errors
+    ///
+    /// Where there is no memory. The message is then as before.
+    pub fn sign_outgoing_message(&self, message: &mut MessageWriteVec) -> Result<(), AllocError>
+        requires held { IsSome self.now.held }
+        requires class { class_of (type_of message.old) ≢ Indication }
+        requires unsigned { is_unsigned (attributes_of message.old) ≡ true }
+        requires room { length message.old + signature_len self.now (class_of (type_of message.old)) ≤ 65552 }
+        ensures text { OnOk result (message.new ≡ signed_text self.now message.old) }
+        ensures signed { OnOk result (IsSigned self.now message.new) }
+        ensures len { OnOk result (length message.new ≡ length message.old + signature_len self.now (class_of (type_of message.old))) }
+        ensures same_type { OnOk result (type_of message.new ≡ type_of message.old) }
+        ensures same_id { OnOk result (id_of message.new ≡ id_of message.old) }
+        ensures err { OnErr result (message.new ≡ message.old) }
+    {
+        let (Some(credentials), Some(held)) = (&self.credentials, &self.held) else {
+            unreachable!();
+        };
+        *message = signed_copy(
+            self.alloc,
+            message,
+            self.anonymous_username,
+            credentials,
+            held,
+        )?;
+        Ok(())
+    }
+
+    /// How many bytes signing adds to a request, and 0 while no realm is held.
+    pub fn message_signature_bytes(&self) -> usize
+        ensures value { result ≡ signature_len self.now Request }
+        ensures short { (class : MessageClass) → signature_len self.now class ≤ 2160 }
+    {
+        match (&self.credentials, &self.held) {
+            (Some(credentials), Some(held)) => {
+                held.signature_len(credentials, self.anonymous_username)
+            }
+            _ => 0,
+        }
+    }
+
+    /// What the message says and the algorithm to go on with, where it is a challenge.
+    fn challenge_in<'a>(&self, message: &Message<'a>) -> Option<(Denial<'a>, IntegrityAlgorithm)>
+        ensures held { option_map (λ found. held_after self.now.held (value_in 0x8002 message.now) found.0 found.1) result ≡ challenge_of self.now message.now }
+        ensures chosen { IfSome result (λ found. chosen self.now.supported self.now.held (value_in 0x8002 message.now) found.0 ≡ Some found.1) }
+    {
+        if self.credentials.is_none() {
+            return None;
+        }
+        let denial = Denial::in_message(message)?;
+        let algorithm = self.chosen(&denial, message)?;
+        Some((denial, algorithm))
+    }
+
+    /// The algorithm to go on with after a denial, or `None` where that is no challenge to this
+    /// client.
+    fn chosen(&self, denial: &Denial<'_>, message: &Message<'_>) -> Option<IntegrityAlgorithm>
+        ensures { result ≡ chosen self.now.supported self.now.held (value_in 0x8002 message.now) denial.now }
+    {
+        match &self.held {
+            None => {
+                if denial.code == ErrorCode::UNAUTHORIZED || denial.code == ErrorCode::STALE_NONCE {
+                    return picked(self.supported.as_slice(), message);
+                }
+                None
+            }
+            Some(held) => {
+                if denial.code == ErrorCode::STALE_NONCE
+                    && denial.realm.as_bytes() == held.realm.as_slice()
+                {
+                    return Some(held.key.algorithm());
+                }
+                None
+            }
+        }
+    }
+}
+
+/// The user name, the configuration, the realm and the nonce, and neither password nor key.
+impl fmt::Debug for LongTermClientAuth {
+    fn fmt<W: fmt::Write>(&self, f: &mut fmt::Formatter<W>) -> fmt::Result {
+        f.debug_struct("LongTermClientAuth")
+            .field("credentials", &self.credentials)
+            .field("supported", &self.supported)
+            .field("anonymous_username", &self.anonymous_username)
+            .field("held", &self.held)
+            .finish_non_exhaustive()
+    }
+}

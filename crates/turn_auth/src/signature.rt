@@ -1,0 +1,240 @@
+//! What signing adds to a message (RFC 8489, sections 9.2.4, 14.5 and 14.6).
+
+ghost use Rattle.std.specs.Prelude.{◌≡◌, ◌+◌, ◌≤◌, ℕ, List, length, OnOk, IfOk, Some, true, is_some, [], ◌∷◌};
+ghost use Rattle.turn_stun.specs.Message.{attributes_from, type_of, id_of, attributes_of};
+ghost use Rattle.turn_stun.specs.MessageType.{class_of, type_number};
+ghost use Rattle.turn_stun.specs.Writer.{with_attribute, AddsAttribute};
+ghost use Rattle.turn_auth.specs.Signature.{AddsAll, additions_for, rewritten, signed_by, signature_len_by, additions_len, written_len, is_plain, is_unsigned, request_additions, user_addition, algorithm_additions, with_integrity};
+ghost use Rattle.turn_auth.specs.Integrity.{IntegrityHolds, integrity_len};
+ghost use Rattle.turn_auth.specs.Keyed.{HoldsKey, HoldsSha1, HoldsSha256, algorithm_of};
+ghost use Rattle.turn_auth.specs.Validation.{held_key};
+ghost use Rattle.turn_auth.specs.Kept.{held_view, IsKept};
+ghost use Rattle.turn_auth.specs.declared.integrity.IntegrityAlgorithm.TheVariants.{Sha256};
+
+use crate::credentials::TurnCredentials;
+use crate::feature::Feature;
+use crate::held::Held;
+use crate::hmac::{HmacSha1, HmacSha256};
+use crate::integrity::{IntegrityAlgorithm, sha1_value, sha256_value};
+use crate::key::{SigningKey, userhash};
+use std::alloc::{AllocError, Global};
+use turn_stun::attribute::nonce::Nonce;
+use turn_stun::attribute::password_algorithms::PasswordAlgorithms;
+use turn_stun::attribute::realm::Realm;
+use turn_stun::attribute::typed::AttributeWrite;
+use turn_stun::attribute::userhash::Userhash;
+use turn_stun::attribute::username::Username;
+use turn_stun::attribute::{AttributeType, RawAttribute};
+use turn_stun::error::WriteError;
+use turn_stun::message::Message;
+use turn_stun::message::header::{MessageClass, MessageType};
+use turn_stun::message::write::MessageWriteVec;
+
+/// The message, signed. The one that is given stays as it is.
+pub(crate) fn signed_copy(
+    alloc: Global,
+    message: &MessageWriteVec,
+    anonymous: Feature,
+    credentials: &TurnCredentials,
+    held: &Held,
+) -> Result<MessageWriteVec, AllocError>
+    requires kept { IsKept credentials.now held.now }
+    requires unsigned { is_unsigned (attributes_of message.now) ≡ true }
+    requires room { length message.now + signature_len_by (Some credentials.now) (Some (held_view held.now)) anonymous (class_of (type_of message.now)) ≤ 65552 }
+    ensures text { IfOk result (λ signed. signed ≡ signed_by (Some credentials.now) (Some (held_view held.now)) anonymous message.now) }
+    ensures holds { IfOk result (λ signed. IntegrityHolds signed (held_view held.now).algorithm (held_key credentials.now (held_view held.now))) }
+    ensures len { IfOk result (λ signed. length signed ≡ length message.now + signature_len_by (Some credentials.now) (Some (held_view held.now)) anonymous (class_of (type_of message.now))) }
+    ensures same_type { IfOk result (λ signed. type_of signed ≡ type_of message.now) }
+    ensures same_id { IfOk result (λ signed. id_of signed ≡ id_of message.now) }
+{
+    let mut signed = copy_of(alloc, message)?;
+    add_attributes(&mut signed, anonymous, credentials, held)?;
+    add_integrity(&mut signed, &held.key)?;
+    Ok(signed)
+}
+
+/// The message written anew, so that the first one stays as it is until the second is signed.
+pub(crate) fn copy_of(
+    alloc: Global,
+    message: &MessageWriteVec,
+) -> Result<MessageWriteVec, AllocError>
+    requires unsigned { is_unsigned (attributes_of message.now) ≡ true }
+    ensures text { IfOk result (λ copy. copy ≡ rewritten message.now) }
+    ensures len { IfOk result (λ copy. length copy ≡ length message.now) }
+    ensures same_type { IfOk result (λ copy. type_of copy ≡ type_of message.now) }
+    ensures same_id { IfOk result (λ copy. id_of copy ≡ id_of message.now) }
+    ensures unsigned { IfOk result (λ copy. is_unsigned (attributes_of copy) ≡ true) }
+{
+    let mut copy = MessageWriteVec::builder(alloc, type_of(message), message.transaction_id())?;
+    let Ok(parsed) = Message::from_bytes(message.as_bytes()) else {
+        unreachable!();
+    };
+    for (_, raw) in parsed.iter_attributes() {
+        add(&mut copy, &raw)?;
+    }
+    Ok(copy)
+}
+
+/// The method and class of the message.
+fn type_of(message: &MessageWriteVec) -> MessageType
+    ensures { type_number result.method.value result.class ≡ type_of message.now }
+{
+    let bytes = message.as_bytes();
+    MessageType::from_number(u16::from_be_bytes([bytes[0], bytes[1]]))
+}
+
+/// Adds what stands in front of the integrity: nothing in a response (RFC 8489, section 9.2.4).
+fn add_attributes(
+    message: &mut MessageWriteVec,
+    anonymous: Feature,
+    credentials: &TurnCredentials,
+    held: &Held,
+) -> Result<(), AllocError>
+    requires kept { IsKept credentials.now held.now }
+    requires room { length message.old + additions_len (additions_for (class_of (type_of message.old)) anonymous credentials.now (held_view held.now)) ≤ 65552 }
+    ensures { OnOk result (AddsAll message.old message.new (additions_for (class_of (type_of message.old)) anonymous credentials.now (held_view held.now))) }
+{
+    match message.message_type().class {
+        MessageClass::Request => add_request_attributes(message, anonymous, credentials, held),
+        _ => Ok(()),
+    }
+}
+
+/// Adds what a request carries in front of the integrity: who asks, in which realm, with which nonce,
+/// and with SHA-256 how the key is made.
+pub(crate) fn add_request_attributes(
+    message: &mut MessageWriteVec,
+    anonymous: Feature,
+    credentials: &TurnCredentials,
+    held: &Held,
+) -> Result<(), AllocError>
+    requires kept { IsKept credentials.now held.now }
+    requires room { length message.old + additions_len (request_additions anonymous credentials.now (held_view held.now)) ≤ 65552 }
+    ensures { OnOk result (AddsAll message.old message.new (request_additions anonymous credentials.now (held_view held.now))) }
+{
+    add_user(message, anonymous, credentials, held.realm.as_slice())?;
+    add(message, &Realm::new(held.realm.as_slice()))?;
+    add(message, &Nonce::new(held.nonce.as_slice()))?;
+    match held.key.algorithm() {
+        IntegrityAlgorithm::Sha1 => Ok(()),
+        IntegrityAlgorithm::Sha256 => {
+            add_algorithms(message, held.password_algorithms.as_slice())?;
+            Ok(())
+        }
+    }
+}
+
+/// Adds who asks: the user name, or its hash in its place.
+fn add_user(
+    message: &mut MessageWriteVec,
+    anonymous: Feature,
+    credentials: &TurnCredentials,
+    realm: &[u8],
+) -> Result<(), AllocError>
+    requires room { length message.old + written_len (user_addition anonymous credentials.now realm.now).value ≤ 65552 }
+    ensures { OnOk result (AddsAll message.old message.new (user_addition anonymous credentials.now realm.now ∷ [])) }
+{
+    match anonymous {
+        Feature::Required => {
+            add(message, &Userhash::new(userhash(credentials, realm)))?;
+            Ok(())
+        }
+        Feature::Auto | Feature::Disabled => {
+            add(message, &Username::new(credentials.user()))?;
+            Ok(())
+        }
+    }
+}
+
+/// Adds the algorithms that the server offered, as they came, and the one of the key.
+fn add_algorithms(message: &mut MessageWriteVec, offered: &[u8]) -> Result<(), AllocError>
+    requires whole { is_some (attributes_from 0 0 offered.now) ≡ true }
+    requires room { length message.old + additions_len (algorithm_additions Sha256 offered.now) ≤ 65552 }
+    ensures { OnOk result (AddsAll message.old message.new (algorithm_additions Sha256 offered.now)) }
+{
+    add(message, &PasswordAlgorithms::from_bytes(offered).unwrap())?;
+    let sha256 = RawAttribute {
+        attribute_type: AttributeType::PASSWORD_ALGORITHM,
+        value: &[0, 2, 0, 0],
+    };
+    add(message, &sha256)?;
+    Ok(())
+}
+
+/// Adds the integrity attribute, for which there is room.
+pub(crate) fn add_integrity(
+    message: &mut MessageWriteVec,
+    key: &SigningKey,
+) -> Result<(), AllocError>
+    requires room { length message.old + (4 + integrity_len (algorithm_of key.now)) ≤ 65552 }
+    requires unsigned { is_unsigned (attributes_of message.old) ≡ true }
+    ensures text { (k : List ℕ) → HoldsKey key.now k → OnOk result (message.new ≡ with_integrity (algorithm_of key.now) k message.old) }
+    ensures len { OnOk result (length message.new ≡ length message.old + (4 + integrity_len (algorithm_of key.now))) }
+    ensures holds { (k : List ℕ) → HoldsKey key.now k → OnOk result (IntegrityHolds message.new (algorithm_of key.now) k) }
+    ensures same_type { OnOk result (type_of message.new ≡ type_of message.old) }
+    ensures same_id { OnOk result (id_of message.new ≡ id_of message.old) }
+{
+    match key {
+        SigningKey::Sha1(mac) => add_sha1(message, mac),
+        SigningKey::Sha256(mac) => add_sha256(message, mac),
+    }
+}
+
+/// Adds a MESSAGE-INTEGRITY, for which there is room.
+fn add_sha1(message: &mut MessageWriteVec, mac: &HmacSha1) -> Result<(), AllocError>
+    requires room { length message.old + 24 ≤ 65552 }
+    requires unsigned { is_unsigned (attributes_of message.old) ≡ true }
+    ensures text { (k : List ℕ) → HoldsSha1 mac.now k [] → OnOk result (message.new ≡ with_integrity IntegrityAlgorithm.Sha1 k message.old) }
+    ensures len { OnOk result (length message.new ≡ length message.old + 24) }
+    ensures holds { (k : List ℕ) → HoldsSha1 mac.now k [] → OnOk result (IntegrityHolds message.new IntegrityAlgorithm.Sha1 k) }
+    ensures same_type { OnOk result (type_of message.new ≡ type_of message.old) }
+    ensures same_id { OnOk result (id_of message.new ≡ id_of message.old) }
+{
+    let bytes = message.as_bytes();
+    let value = sha1_value(mac, bytes, bytes.len());
+    let integrity = RawAttribute {
+        attribute_type: AttributeType::MESSAGE_INTEGRITY,
+        value: &value,
+    };
+    add(message, &integrity)?;
+    Ok(())
+}
+
+/// Adds a MESSAGE-INTEGRITY-SHA256, for which there is room.
+fn add_sha256(message: &mut MessageWriteVec, mac: &HmacSha256) -> Result<(), AllocError>
+    requires room { length message.old + 36 ≤ 65552 }
+    requires unsigned { is_unsigned (attributes_of message.old) ≡ true }
+    ensures text { (k : List ℕ) → HoldsSha256 mac.now k [] → OnOk result (message.new ≡ with_integrity IntegrityAlgorithm.Sha256 k message.old) }
+    ensures len { OnOk result (length message.new ≡ length message.old + 36) }
+    ensures holds { (k : List ℕ) → HoldsSha256 mac.now k [] → OnOk result (IntegrityHolds message.new IntegrityAlgorithm.Sha256 k) }
+    ensures same_type { OnOk result (type_of message.new ≡ type_of message.old) }
+    ensures same_id { OnOk result (id_of message.new ≡ id_of message.old) }
+{
+    let bytes = message.as_bytes();
+    let value = sha256_value(mac, bytes, bytes.len());
+    let integrity = RawAttribute {
+        attribute_type: AttributeType::MESSAGE_INTEGRITY_SHA256,
+        value: &value,
+    };
+    add(message, &integrity)?;
+    Ok(())
+}
+
+/// Adds an attribute for which there is room in a message.
+pub(crate) fn add<A: AttributeWrite>(
+    message: &mut MessageWriteVec,
+    attribute: &A,
+) -> Result<(), AllocError>
+    requires room { length message.old + written_len (A.encoded attribute.now (id_of message.old)) ≤ 65552 }
+    ensures text { OnOk result (message.new ≡ with_attribute (A.written_kind attribute.now) (A.encoded attribute.now (id_of message.old)) message.old) }
+    ensures added { OnOk result (AddsAttribute message.old message.new (A.written_kind attribute.now) (A.encoded attribute.now (id_of message.old))) }
+    ensures plain { OnOk result (is_plain (A.written_kind attribute.now) ≡ true → is_unsigned (attributes_of message.old) ≡ true → is_unsigned (attributes_of message.new) ≡ true) }
+    ensures len { OnOk result (length message.new ≡ length message.old + written_len (A.encoded attribute.now (id_of message.old))) }
+{
+    let _ = message.as_bytes();
+    match message.add_attribute(attribute) {
+        Ok(()) => Ok(()),
+        Err(WriteError::OutOfMemory) => Err(AllocError),
+        Err(WriteError::TooLong) => unreachable!(),
+    }
+}

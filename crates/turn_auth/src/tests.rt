@@ -1,0 +1,8 @@
+//! Values from the standards, worked messages, each public call once, and refused memory.
+
+mod configuration;
+mod fixture;
+mod hmac;
+mod judging;
+mod memory;
+mod signing;

@@ -1,0 +1,137 @@
+ghost use Rattle.std.specs.Prelude.{◌≡◌, ◌≢◌, ◌+◌, ◌≤◌, length, true, IfOk};
+ghost use Rattle.turn_stun.specs.Message.{type_of, attributes_of};
+ghost use Rattle.turn_stun.specs.MessageType.{class_of};
+ghost use Rattle.turn_stun.specs.declared.message.header.MessageClass.TheVariants.{Request, Success, Indication};
+ghost use Rattle.turn_auth.specs.Signature.{is_unsigned};
+
+use crate::credentials::{CredentialsError, TurnCredentials};
+use crate::integrity::IntegrityAlgorithm;
+use crate::long_term::LongTermClientAuth;
+use crate::validation::Validation;
+use std::alloc::{AllocError, Global};
+use std::process::Abort;
+use std::test::Fail;
+use turn_stun::attribute::error_code::ErrorCode;
+use turn_stun::attribute::nonce::Nonce;
+use turn_stun::attribute::realm::Realm;
+use turn_stun::attribute::{AttributeType, RawAttribute};
+use turn_stun::error::WriteError;
+use turn_stun::message::Message;
+use turn_stun::message::method::Method;
+use turn_stun::message::write::MessageWriteVec;
+use turn_stun::transaction::TransactionId;
+
+pub(crate) const ALLOCATE: Method = Method { value: 3 };
+
+/// The second ID of the zero seed.
+pub(crate) const SECOND_ID: [u8; 12] = *b"\x53\x86\xbd\x28\xbd\xd2\x19\xb8\xa0\x8d\xed\x1a";
+
+/// Both password algorithms, SHA-256 first.
+pub(crate) const BOTH_ALGORITHMS: &[u8] = b"\x00\x02\x00\x00\x00\x01\x00\x00";
+
+pub(crate) fn raw(kind: u16, value: &[u8]) -> RawAttribute<'_>
+    ensures { result.attribute_type.value ≡ kind }
+{
+    RawAttribute {
+        attribute_type: AttributeType { value: kind },
+        value,
+    }
+}
+
+/// A client with the credentials `user` and `pass`.
+pub(crate) fn client(alloc: Global) -> Result<LongTermClientAuth, CredentialsError> {
+    let mut auth = LongTermClientAuth::new(alloc);
+    auth.set_credentials(TurnCredentials::new(alloc, b"user", b"pass")?);
+    Ok(auth)
+}
+
+/// The bytes of an error response with that code, realm, nonce and value of PASSWORD-ALGORITHMS.
+pub(crate) fn denial(
+    rt: &impl Abort,
+    alloc: Global,
+    code: u16,
+    realm: &[u8],
+    nonce: &[u8],
+    algorithms: Option<&[u8]>,
+) -> Result<Vec<u8>, WriteError> {
+    let id = TransactionId::from_bytes(SECOND_ID);
+    let mut message = MessageWriteVec::builder_error(alloc, ALLOCATE, id)?;
+    assert!(rt; (300..=699).contains(&code));
+    message.add_attribute(&ErrorCode::new(code, b""))?;
+    message.add_attribute(&raw(0x0014, realm))?;
+    message.add_attribute(&raw(0x0015, nonce))?;
+    if let Some(value) = algorithms {
+        message.add_attribute(&raw(0x8002, value))?;
+    }
+    Ok(message.finish())
+}
+
+/// How the client judges the bytes, which are a message.
+pub(crate) fn judge(rt: &impl Abort, auth: &LongTermClientAuth, bytes: &[u8]) -> Validation {
+    let message = Message::from_bytes(bytes).expect(rt, "a message");
+    auth.validate_incoming_message(&message)
+}
+
+/// Takes the challenge that the bytes are.
+pub(crate) fn take(
+    rt: &impl Abort,
+    auth: &mut LongTermClientAuth,
+    bytes: &[u8],
+) -> Result<(), AllocError> {
+    let message = Message::from_bytes(bytes).expect(rt, "a message");
+    match auth.validate_incoming_message(&message) {
+        Validation::ResendRequest(_) => auth.take_challenge(&message)?,
+        _ => panic!(rt; "a challenge"),
+    }
+    Ok(())
+}
+
+/// The client of these algorithms after the challenge of `realm` and `nonce` that offers both.
+pub(crate) fn challenged(
+    rt: &impl Abort,
+    alloc: Global,
+    algorithm: IntegrityAlgorithm,
+) -> Result<LongTermClientAuth, Fail> {
+    let mut auth = client(alloc)?;
+    auth.set_supported_integrity(algorithm);
+    let bytes = denial(rt, alloc, 401, b"realm", b"nonce", Some(BOTH_ALGORITHMS))?;
+    take(rt, &mut auth, bytes.as_slice())?;
+    Ok(auth)
+}
+
+/// A response to ALLOCATE, which carries nothing yet.
+pub(crate) fn response(alloc: Global) -> Result<MessageWriteVec, AllocError>
+    ensures unsigned { IfOk result (λ message. is_unsigned (attributes_of message) ≡ true) }
+    ensures class { IfOk result (λ message. class_of (type_of message) ≡ Success) }
+{
+    let id = TransactionId::from_bytes(SECOND_ID);
+    let message = MessageWriteVec::builder_success(alloc, ALLOCATE, id)?;
+    Ok(message)
+}
+
+/// A request to allocate, which carries REQUESTED-TRANSPORT and LIFETIME.
+pub(crate) fn allocate(alloc: Global) -> Result<MessageWriteVec, WriteError>
+    ensures unsigned { IfOk result (λ message. is_unsigned (attributes_of message) ≡ true) }
+    ensures class { IfOk result (λ message. class_of (type_of message) ≡ Request) }
+{
+    let id = TransactionId::from_bytes(SECOND_ID);
+    let mut message = MessageWriteVec::builder_request(alloc, ALLOCATE, id)?;
+    message.add_attribute(&raw(0x0019, b"\x11\x00\x00\x00"))?;
+    message.add_attribute(&raw(0x000d, b"\x00\x00\x07\x08"))?;
+    Ok(message)
+}
+
+/// Signs a message for which there is room.
+pub(crate) fn sign(
+    rt: &impl Abort,
+    auth: &LongTermClientAuth,
+    message: &mut MessageWriteVec,
+) -> Result<(), AllocError>
+    requires unsigned { is_unsigned (attributes_of message.old) ≡ true }
+    requires class { class_of (type_of message.old) ≢ Indication }
+{
+    assert!(rt; auth.has_realm());
+    assert!(rt; message.as_bytes().len() < 60_000);
+    let _ = auth.message_signature_bytes();
+    auth.sign_outgoing_message(message)
+}
