@@ -1,0 +1,9 @@
+use Rattle.std.proofs.Common.{◌≡◌, rules}
+use Rattle.turn_client_api.specs.SameConfig.{same_config}
+use Rattle.turn_client_api.specs.SameConfigLaws.{told_content}
+use Rattle.turn_client_api.proofs.config.TurnConfigPartialEq.eq.Goals as goal
+
+pub returns-then-is_same_user-clause-content : goal.returns-then-is_same_user-clause-content
+returns-then-is_same_user-clause-content c =
+    let settings : c.eq.result ≡ same_config c.args.self.now c.args.other.now = search rules in
+    told_content _ _ _ settings

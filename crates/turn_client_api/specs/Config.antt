@@ -1,0 +1,53 @@
+-- What a client is configured with.
+use Rattle.std.specs.Prelude.{◌≡◌, Bool, true, false, List, [], ◌∷◌, ◌++◌, Option, if◌then◌else◌}
+use Rattle.std.specs.List.{list_any}
+use Rattle.smallvec.specs.SmallVec.{SmallVec}
+use Rattle.turn_stun.specs.declared.transport.TransportType.{TransportType}
+use Rattle.turn_types.specs.declared.family.AddressFamily.{AddressFamily}
+use Rattle.turn_types.specs.declared.family.AddressFamily.TheVariants.{IPV4, IPV6}
+use Rattle.turn_auth.specs.Credentials.{Credentials}
+use Rattle.turn_auth.specs.declared.feature.Feature.{Feature}
+use Rattle.turn_auth.specs.declared.integrity.IntegrityAlgorithm.{IntegrityAlgorithm}
+use Rattle.turn_auth.specs.declared.integrity.IntegrityAlgorithm.TheVariants.{Sha1, Sha256}
+use Rattle.turn_client_api.specs.declared.config.RequestRetransmits.{RequestRetransmits}
+
+-- the settings; the times of requests are there only where they were set
+pub record Config : Type 0 where
+  pub allocation_transport : TransportType
+  pub address_families : List AddressFamily
+  pub credentials : Credentials
+  pub supported_integrity : List IntegrityAlgorithm
+  pub anonymous_username : Feature
+  pub request_retransmits : Option RequestRetransmits
+
+-- whether two families are the same
+abbrev pub same_family : AddressFamily → AddressFamily → Bool
+same_family IPV4 IPV4 = true
+same_family IPV4 IPV6 = false
+same_family IPV6 IPV4 = false
+same_family IPV6 IPV6 = true
+
+-- the families with one more, each of them once
+abbrev pub with_family : List AddressFamily → AddressFamily → List AddressFamily
+with_family families family = if list_any (same_family family) families then families else families ++ family ∷ []
+
+-- a list of families that is not empty and has each of them at most once
+abbrev pub is_family_list : List AddressFamily → Bool
+is_family_list (family ∷ []) = true
+is_family_list (IPV4 ∷ IPV6 ∷ []) = true
+is_family_list (IPV6 ∷ IPV4 ∷ []) = true
+is_family_list _ = false
+
+-- a list of algorithms that is not empty and has each of them at most once
+abbrev pub is_algorithm_list : List IntegrityAlgorithm → Bool
+is_algorithm_list (algorithm ∷ []) = true
+is_algorithm_list (Sha1 ∷ Sha256 ∷ []) = true
+is_algorithm_list (Sha256 ∷ Sha1 ∷ []) = true
+is_algorithm_list _ = false
+
+-- what every configuration keeps; a list that has room for two never grows past its inline places
+pub record IsKeptConfig (families : SmallVec AddressFamily) (algorithms : SmallVec IntegrityAlgorithm) : Type 0 where
+  pub some_family : is_family_list families.items ≡ true
+  pub room_for_families : families.capacity ≡ 2
+  pub some_algorithm : is_algorithm_list algorithms.items ≡ true
+  pub room_for_algorithms : algorithms.capacity ≡ 2

@@ -1,0 +1,19 @@
+-- What packets that are built when they are sent are made of.
+use Rattle.std.specs.Prelude.{ℕ, List}
+use Rattle.std.specs.declared.convert.AsSlice.{Ghosts}
+use Rattle.turn_types.specs.Delayed.{delayed_channel_bytes, delayed_message_bytes}
+use Rattle.turn_client_api.specs.declared.send.DelayedTransmit.{DelayedTransmit}
+use Rattle.turn_client_api.specs.declared.send.DelayedMessageOrChannelSend.{DelayedMessageOrChannelSend}
+use Rattle.turn_client_api.specs.declared.send.DelayedMessageOrChannelSend.TheVariants.{Channel, Message, Data, OwnedData}
+use Rattle.turn_client_api.specs.Range.{part_of}
+
+-- the part that a `DelayedTransmit` sends
+abbrev pub delayed_part : {T : Type 0} {g : Ghosts T ℕ} → DelayedTransmit T g → List ℕ
+delayed_part d = part_of d.part
+
+-- what is sent to the server for a peer
+abbrev pub delayed_send_bytes : {T : Type 0} {g : Ghosts T ℕ} → DelayedMessageOrChannelSend T g → List ℕ
+delayed_send_bytes (Channel channel) = delayed_channel_bytes channel
+delayed_send_bytes (Message message) = delayed_message_bytes message
+delayed_send_bytes {g = g} (Data payload) = g.items payload
+delayed_send_bytes (OwnedData bytes) = bytes.items

@@ -1,0 +1,7 @@
+pub mod Addresses
+pub mod Config
+pub mod Delayed
+pub mod Range
+pub mod Received
+pub mod SameConfig
+pub mod SameConfigLaws

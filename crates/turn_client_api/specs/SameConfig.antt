@@ -1,0 +1,60 @@
+-- When two configurations have the same settings.
+use Rattle.std.specs.Prelude.{Bool, true, false, ◌==◌, ◌&&◌, Option, Some, None}
+use Rattle.std.specs.Cmp.Lexicographic.{pointwise}
+use Rattle.std.specs.declared.time.Duration.{Duration}
+use Rattle.turn_stun.specs.declared.transport.TransportType.{TransportType}
+use Rattle.turn_stun.specs.declared.transport.TransportType.TheVariants.{Udp, Tcp}
+use Rattle.turn_auth.specs.Credentials.{Credentials}
+use Rattle.turn_auth.specs.LongTerm.{same_algorithm}
+use Rattle.turn_auth.specs.declared.feature.Feature.{Feature}
+use Rattle.turn_auth.specs.declared.feature.Feature.TheVariants.{Auto, Disabled, Required}
+use Rattle.turn_client_api.specs.declared.config.RequestRetransmits.{RequestRetransmits}
+use Rattle.turn_client_api.specs.Config.{Config, same_family}
+
+abbrev pub same_transport : TransportType → TransportType → Bool
+same_transport Udp Udp = true
+same_transport Udp Tcp = false
+same_transport Tcp Udp = false
+same_transport Tcp Tcp = true
+
+abbrev pub same_feature : Feature → Feature → Bool
+same_feature Auto Auto = true
+same_feature Disabled Disabled = true
+same_feature Required Required = true
+same_feature _ _ = false
+
+abbrev pub same_credentials : Credentials → Credentials → Bool
+same_credentials a b = pointwise ◌==◌ a.user b.user && pointwise ◌==◌ a.password b.password
+
+abbrev pub same_duration : Duration → Duration → Bool
+same_duration a b = (a.secs == b.secs) && (a.nanos == b.nanos)
+
+abbrev pub same_times : RequestRetransmits → RequestRetransmits → Bool
+same_times a b =
+    same_duration a.initial b.initial
+    && same_duration a.max b.max
+    && (a.retransmits == b.retransmits)
+    && same_duration a.final_retransmit_timeout b.final_retransmit_timeout
+
+-- times that were never set are not the same as any that were
+abbrev pub same_set_times : Option RequestRetransmits → Option RequestRetransmits → Bool
+same_set_times None None = true
+same_set_times None (Some b) = false
+same_set_times (Some a) None = false
+same_set_times (Some a) (Some b) = same_times a b
+
+-- both ask for the same allocations
+abbrev pub same_request : Config → Config → Bool
+same_request a b =
+    same_transport a.allocation_transport b.allocation_transport
+    && pointwise same_family a.address_families b.address_families
+
+-- both are the same to a server, and keep integrity by the same algorithms
+abbrev pub same_user : Config → Config → Bool
+same_user a b =
+    same_credentials a.credentials b.credentials
+    && pointwise same_algorithm a.supported_integrity b.supported_integrity
+    && same_feature a.anonymous_username b.anonymous_username
+
+abbrev pub same_config : Config → Config → Bool
+same_config a b = same_request a b && same_user a b && same_set_times a.request_retransmits b.request_retransmits

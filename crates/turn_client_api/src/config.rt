@@ -1,0 +1,292 @@
+//! What a client is to ask of its server, and as whom.
+
+ghost use Rattle.std.specs.Prelude.{◌≡◌, ◌<◌, ◌≤◌, ◌≢◌, [], ◌∷◌, Some, None, length, IfOk, AllPairs, Contains};
+ghost use Rattle.turn_auth.specs.LongTerm.{with_algorithm};
+ghost use Rattle.turn_client_api.specs.Config.{Config, with_family};
+ghost use Rattle.turn_client_api.specs.SameConfig.{same_request, same_user};
+
+use smallvec::SmallVec;
+use std::alloc::{AllocError, Global};
+use std::marker::Model;
+use std::time::Duration;
+use turn_auth::credentials::TurnCredentials;
+use turn_auth::feature::Feature;
+use turn_auth::integrity::IntegrityAlgorithm;
+use turn_types::{AddressFamily, TransportType};
+
+/// When a request is sent again and when it is given up, as the caller set it (RFC 8489, section
+/// 6.2).
+#[derive(Clone, Copy, Debug, PartialEq, Eq)]
+pub struct RequestRetransmits {
+    /// The wait behind the first send. It doubles from send to send.
+    pub initial: Duration,
+    /// The longest wait between two sends.
+    pub max: Duration,
+    /// How often the request is sent in all.
+    pub retransmits: u32,
+    /// The wait behind the last send.
+    pub final_retransmit_timeout: Duration,
+}
+
+/// How a client is to be set up: who it is, and what it asks its server for.
+///
+/// Contracts see it as a record of its settings. Neither list is ever empty or names a value twice,
+/// and both have room for all their values, so that no setter takes memory. Debug prints no
+/// password.
+#[derive(Debug, Drop)]
+pub struct TurnConfig {
+    allocation_transport: TransportType,
+    address_families: SmallVec<AddressFamily, 2>,
+    credentials: TurnCredentials,
+    supported_integrity: SmallVec<IntegrityAlgorithm, 2>,
+    anonymous_username: Feature,
+    request_retransmits: Option<RequestRetransmits>,
+}
+
+impl Model for TurnConfig {
+    ghost use Rattle.turn_client_api.specs.Config.{Config, IsKeptConfig};
+
+    ghost Value = { Config };
+
+    ghost view = { λ c. record {
+      allocation_transport = c.allocation_transport;
+      address_families = c.address_families.items;
+      credentials = c.credentials;
+      supported_integrity = c.supported_integrity.items;
+      anonymous_username = c.anonymous_username;
+      request_retransmits = c.request_retransmits;
+    } };
+
+    ghost invariant = { λ c. IsKeptConfig c.address_families c.supported_integrity };
+}
+
+impl TurnConfig {
+    /// The configuration of a client with these credentials: it asks for an IPv4 address that relays
+    /// over UDP, keeps integrity by SHA-1, is named as `Feature::Auto` says, and sends its requests
+    /// again by the times of RFC 8489, section 6.2.1. It takes no memory.
+    pub fn new(alloc: Global, credentials: TurnCredentials) -> TurnConfig
+        ensures { result ≡ record {
+          allocation_transport = TransportType.Udp;
+          address_families = AddressFamily.IPV4 ∷ [];
+          credentials = credentials;
+          supported_integrity = IntegrityAlgorithm.Sha1 ∷ [];
+          anonymous_username = Feature.Auto;
+          request_retransmits = None;
+        } }
+    {
+        TurnConfig {
+            allocation_transport: TransportType::Udp,
+            address_families: SmallVec::from_slice(alloc, &[AddressFamily::IPV4]).unwrap(),
+            credentials,
+            supported_integrity: SmallVec::from_slice(alloc, &[IntegrityAlgorithm::Sha1]).unwrap(),
+            anonymous_username: Feature::Auto,
+            request_retransmits: None,
+        }
+    }
+
+    /// Sets what the server is to relay over, between its address and the peers. An allocation over
+    /// TCP needs a client that reaches its server over TCP (RFC 6062, section 4.1).
+    pub fn set_allocation_transport(&mut self, allocation_transport: TransportType)
+        ensures { self.new ≡ record self.old { allocation_transport = allocation_transport } }
+    {
+        self.allocation_transport = allocation_transport;
+    }
+
+    /// What the server is to relay over.
+    pub fn allocation_transport(&self) -> TransportType
+        ensures { result ≡ self.now.allocation_transport }
+    {
+        self.allocation_transport
+    }
+
+    /// Asks for an address of this family too (RFC 8656, section 7.1), behind those asked for before.
+    /// One that is asked for already changes nothing. It takes no memory.
+    pub fn add_address_family(&mut self, family: AddressFamily)
+        ensures settings { self.new ≡ record self.old { address_families = with_family self.old.address_families family } }
+        ensures there { Contains self.old.address_families family → self.new ≡ self.old }
+    {
+        if !self.address_families.as_slice().contains(&family) {
+            self.address_families.push_reserved(family);
+        }
+    }
+
+    /// Asks for an address of this family alone. It takes no memory.
+    pub fn set_address_family(&mut self, family: AddressFamily)
+        ensures { self.new ≡ record self.old { address_families = family ∷ [] } }
+    {
+        self.address_families.clear();
+        self.address_families.push_reserved(family);
+    }
+
+    /// The families of the addresses that are asked for, in the order in which they were named: one
+    /// or two of them, and none twice.
+    #[tactic(auto, using(crate::proofs::ConfigLemmas::few_families))]
+    pub fn address_families(&self) -> &[AddressFamily]
+        ensures families { result.now ≡ self.now.address_families }
+        ensures some { 0 < length result.now }
+        ensures few { length result.now ≤ 2 }
+        ensures distinct { AllPairs (λ a b. a ≢ b) result.now }
+    {
+        self.address_families.as_slice()
+    }
+
+    /// Who the client is to its server (RFC 8489, section 9.2).
+    pub fn credentials(&self) -> &TurnCredentials
+        ensures { result.now ≡ self.now.credentials }
+    {
+        &self.credentials
+    }
+
+    /// Lets the server pick this algorithm too, by which messages are signed from then on. One that it
+    /// may pick already changes nothing. It takes no memory.
+    pub fn add_supported_integrity(&mut self, algorithm: IntegrityAlgorithm)
+        ensures settings { self.new ≡ record self.old { supported_integrity = with_algorithm self.old.supported_integrity algorithm } }
+        ensures there { Contains self.old.supported_integrity algorithm → self.new ≡ self.old }
+    {
+        if !self.supported_integrity.as_slice().contains(&algorithm) {
+            self.supported_integrity.push_reserved(algorithm);
+        }
+    }
+
+    /// Lets the server pick this algorithm alone. It takes no memory.
+    pub fn set_supported_integrity(&mut self, algorithm: IntegrityAlgorithm)
+        ensures { self.new ≡ record self.old { supported_integrity = algorithm ∷ [] } }
+    {
+        self.supported_integrity.clear();
+        self.supported_integrity.push_reserved(algorithm);
+    }
+
+    /// The algorithms that the server may pick, in the order in which they were named: one or two of
+    /// them, and none twice.
+    #[tactic(auto, using(crate::proofs::ConfigLemmas::few_algorithms))]
+    pub fn supported_integrity(&self) -> &[IntegrityAlgorithm]
+        ensures algorithms { result.now ≡ self.now.supported_integrity }
+        ensures some { 0 < length result.now }
+        ensures few { length result.now ≤ 2 }
+        ensures distinct { AllPairs (λ a b. a ≢ b) result.now }
+    {
+        self.supported_integrity.as_slice()
+    }
+
+    /// Sets whether requests hide the user name. `Feature::Required` needs a server that knows
+    /// USERHASH (RFC 8489, section 14.4).
+    pub fn set_anonymous_username(&mut self, anonymous_username: Feature)
+        ensures { self.new ≡ record self.old { anonymous_username = anonymous_username } }
+    {
+        self.anonymous_username = anonymous_username;
+    }
+
+    /// Whether requests hide the user name.
+    pub fn anonymous_username(&self) -> Feature
+        ensures { result ≡ self.now.anonymous_username }
+    {
+        self.anonymous_username
+    }
+
+    /// Sets when each request is sent again and when it is given up (RFC 8489, section 6.2):
+    ///
+    /// - `initial` is the wait behind the first send, which doubles from send to send. It is to be at
+    ///   least 500 ms unless more is known of the way to the server. Where it is at most 1 ms, a
+    ///   request is sent but once (our choice).
+    /// - `max` is the longest wait between two sends.
+    /// - `retransmits` is how often a request is sent in all. 0 stands for 1.
+    /// - `final_retransmit_timeout` is the wait behind the last send.
+    ///
+    /// By default these are 500 ms, no longest wait, 7, and 8 s, which is 16 times the first wait. Over
+    /// TCP a request is sent once, and is given up when all these waits together are over.
+    pub fn set_request_retransmits(
+        &mut self,
+        initial: Duration,
+        max: Duration,
+        retransmits: u32,
+        final_retransmit_timeout: Duration,
+    )
+        ensures { self.new ≡ record self.old {
+          request_retransmits = Some (record {
+            initial = initial;
+            max = max;
+            retransmits = retransmits;
+            final_retransmit_timeout = final_retransmit_timeout;
+          });
+        } }
+    {
+        self.request_retransmits = Some(RequestRetransmits {
+            initial,
+            max,
+            retransmits,
+            final_retransmit_timeout,
+        });
+    }
+
+    /// What `set_request_retransmits` set last, or `None` where it was never called and the default
+    /// holds.
+    pub fn request_retransmits(&self) -> Option<RequestRetransmits>
+        ensures { result ≡ self.now.request_retransmits }
+    {
+        self.request_retransmits
+    }
+
+    /// A configuration with the same settings.
+    ///
+    /// # Errors
+    ///
+    /// Where there is no memory for a copy of the credentials.
+    #[tactic(auto, using(crate::proofs::ConfigLemmas::few_families, crate::proofs::ConfigLemmas::few_algorithms))]
+    pub fn clone(&self) -> Result<TurnConfig, AllocError>
+        ensures { IfOk result (λ copy. copy ≡ self.now) }
+    {
+        let alloc = *self.address_families.allocator();
+        Ok(TurnConfig {
+            allocation_transport: self.allocation_transport,
+            address_families: SmallVec::from_slice(alloc, self.address_families.as_slice())?,
+            credentials: self.credentials.clone()?,
+            supported_integrity: SmallVec::from_slice(alloc, self.supported_integrity.as_slice())?,
+            anonymous_username: self.anonymous_username,
+            request_retransmits: self.request_retransmits,
+        })
+    }
+
+    /// Whether both ask for the same allocations.
+    fn is_same_request(&self, other: &TurnConfig) -> bool
+        ensures { result ≡ same_request self.now other.now }
+    {
+        self.allocation_transport == other.allocation_transport
+            && self.address_families.as_slice() == other.address_families.as_slice()
+    }
+
+    /// Whether both are the same to a server, and keep integrity by the same algorithms.
+    fn is_same_user(&self, other: &TurnConfig) -> bool
+        ensures { result ≡ same_user self.now other.now }
+    {
+        self.credentials == other.credentials
+            && self.supported_integrity.as_slice() == other.supported_integrity.as_slice()
+            && self.anonymous_username == other.anonymous_username
+    }
+}
+
+/// By content. Times that were never set differ from the same times that were set.
+impl PartialEq for TurnConfig {
+    ghost use Rattle.std.specs.Prelude.{◌≡◌, ◌↔◌, IsTrue};
+    ghost use Rattle.std.specs.Cmp.{partial_equiv_from_equiv};
+    ghost use Rattle.turn_client_api.specs.SameConfig.{same_config};
+    ghost use Rattle.turn_client_api.specs.SameConfigLaws.{same_config-equivalence};
+
+    ghost eq = { same_config };
+
+    ghost laws = { partial_equiv_from_equiv same_config-equivalence };
+
+    fn eq(&self, other: &TurnConfig) -> bool
+        ensures settings { result ≡ same_config self.now other.now }
+        ensures content { IsTrue result ↔ (self.now ≡ other.now) }
+    {
+        self.is_same_request(other)
+            && self.is_same_user(other)
+            && self.request_retransmits == other.request_retransmits
+    }
+}
+
+impl Eq for TurnConfig {
+    ghost use Rattle.turn_client_api.specs.SameConfigLaws.{same_config-equivalence};
+
+    ghost laws = { same_config-equivalence };
+}

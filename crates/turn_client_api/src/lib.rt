@@ -1,0 +1,34 @@
+//! What a caller of a TURN client hands in and gets back: its configuration, the answers and events
+//! of a client, why a call is refused, payloads as parts of the caller's own bytes, and packets that
+//! are built when they are sent. No IO.
+//!
+//! Begin with `TurnConfig`, then with `TurnPollRet`, `TurnRecvRet` and `TurnEvent`, which are what a
+//! client answers. What a client does is left to the crates above.
+#![tactic(auto)]
+
+mod addresses;
+mod config;
+mod error;
+mod event;
+mod poll;
+mod receive;
+mod send;
+
+pub use addresses::{
+    PermissionAddressesIter, PermissionRecord, RelayedAddressesIter, RelayedRecord,
+};
+pub use config::{RequestRetransmits, TurnConfig};
+pub use error::{
+    BindChannelError, CreatePermissionError, DeleteError, SendError, TcpAllocateError,
+    TcpConnectError,
+};
+pub use event::TurnEvent;
+pub use poll::{Socket5Tuple, TurnPollRet};
+pub use receive::{DataRange, DataRangeOrOwned, TurnPeerData, TurnRecvRet};
+pub use send::{DelayedMessageOrChannelSend, DelayedTransmit};
+pub use turn_stun::data::Data;
+pub use turn_stun::transport::Transmit;
+pub use turn_types::transmit::TransmitBuild;
+
+#[cfg(test)]
+mod tests;

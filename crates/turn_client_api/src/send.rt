@@ -1,0 +1,102 @@
+//! What a caller sends on its client's behalf, built when it is sent.
+
+ghost use Rattle.std.specs.Prelude.{◌≡◌, ◌≤◌, length, slice_range};
+ghost use Rattle.turn_client_api.specs.Range.{part_of};
+ghost use Rattle.turn_client_api.specs.Delayed.{delayed_part, delayed_send_bytes};
+
+use crate::receive::DataRange;
+use std::alloc::{AllocError, Global};
+use std::convert::AsSlice;
+use std::ops::Range;
+use turn_types::transmit::{DelayedChannel, DelayedMessage, DelayedTransmitBuild};
+
+/// A part of some bytes, which is sent as it is. It is copied when it is sent.
+#[derive(Debug, Drop)]
+pub struct DelayedTransmit<T: AsSlice<u8>> {
+    part: DataRange<T>,
+}
+
+impl<T: AsSlice<u8>> DelayedTransmit<T> {
+    /// The part of these bytes in this range, which lies inside them.
+    pub fn new(data: T, range: Range<usize>) -> DelayedTransmit<T>
+        requires ordered { range.start ≤ range.end }
+        requires inside { range.end ≤ length (T.items «data») }
+        ensures { delayed_part result ≡ slice_range (T.items «data») range.start range.end }
+    {
+        DelayedTransmit {
+            part: DataRange::new(data, range),
+        }
+    }
+}
+
+impl<T: AsSlice<u8> + Drop> DelayedTransmitBuild for DelayedTransmit<T> {
+    ghost bytes = { delayed_part };
+
+    fn len(&self) -> usize {
+        self.part.as_slice().len()
+    }
+
+    fn build(self, alloc: Global) -> Result<Vec<u8>, AllocError> {
+        Vec::from_slice(alloc, self.part.as_slice())
+    }
+
+    fn write_into(self, place: &mut [u8]) -> usize {
+        place.copy_from_slice(self.part.as_slice());
+        place.len()
+    }
+}
+
+/// What `send_to` of a client makes of data for a peer: a packet for the server, which is built when
+/// it is sent.
+#[derive(Debug, Drop)]
+pub enum DelayedMessageOrChannelSend<T: AsSlice<u8>> {
+    /// Over the channel of the peer (RFC 8656, section 12.5).
+    Channel(DelayedChannel<T>),
+    /// As a Send indication (RFC 8656, section 11.1).
+    Message(DelayedMessage<T>),
+    /// The data as it is, as over a data connection (RFC 6062, section 4.3).
+    Data(T),
+    /// Bytes that are built already.
+    OwnedData(Vec<u8>),
+}
+
+impl<T: AsSlice<u8> + Drop> DelayedTransmitBuild for DelayedMessageOrChannelSend<T> {
+    ghost bytes = { delayed_send_bytes };
+
+    fn len(&self) -> usize {
+        match self {
+            DelayedMessageOrChannelSend::Channel(channel) => channel.len(),
+            DelayedMessageOrChannelSend::Message(message) => message.len(),
+            DelayedMessageOrChannelSend::Data(data) => data.as_slice().len(),
+            DelayedMessageOrChannelSend::OwnedData(bytes) => bytes.len(),
+        }
+    }
+
+    fn build(self, alloc: Global) -> Result<Vec<u8>, AllocError> {
+        match self {
+            DelayedMessageOrChannelSend::Channel(channel) => channel.build(alloc),
+            DelayedMessageOrChannelSend::Message(message) => message.build(alloc),
+            DelayedMessageOrChannelSend::Data(data) => Vec::from_slice(alloc, data.as_slice()),
+            DelayedMessageOrChannelSend::OwnedData(bytes) => Ok(bytes),
+        }
+    }
+
+    fn write_into(self, place: &mut [u8]) -> usize {
+        match self {
+            DelayedMessageOrChannelSend::Channel(channel) => channel.write_into(place),
+            DelayedMessageOrChannelSend::Message(message) => message.write_into(place),
+            DelayedMessageOrChannelSend::Data(data) => copied(data.as_slice(), place),
+            DelayedMessageOrChannelSend::OwnedData(bytes) => copied(bytes.as_slice(), place),
+        }
+    }
+}
+
+/// Copies the bytes into a place of just their length, and answers this length.
+fn copied(bytes: &[u8], place: &mut [u8]) -> usize
+    requires { length place.old ≡ length bytes.now }
+    ensures copied { place.new ≡ bytes.now }
+    ensures len { result ≡ length bytes.now }
+{
+    place.copy_from_slice(bytes);
+    bytes.len()
+}

@@ -1,0 +1,42 @@
+//! What no clause says: outside values, printed texts, and that each call succeeds while there is
+//! memory.
+
+mod addresses;
+mod configuration;
+mod memory;
+mod payloads;
+mod texts;
+
+use crate::TurnConfig;
+use std::alloc::Global;
+use std::net::{IpAddr, Ipv4Addr, Ipv6Addr, SocketAddr};
+use turn_auth::credentials::{CredentialsError, TurnCredentials};
+
+/// A Data indication from 10.0.0.3:9000 (RFC 8656, section 11.4): `hello` stands at 36 to 41.
+const HELLO: [u8; 44] = [
+    0x00, 0x17, 0x00, 0x18, 0x21, 0x12, 0xa4, 0x42, 0, 0, 0, 0, 0, 0, 0, 0, 0, 0, 0, 1, 0x00, 0x12,
+    0x00, 0x08, 0x00, 0x01, 0x02, 0x3a, 0x2b, 0x12, 0xa4, 0x41, 0x00, 0x13, 0x00, 0x05, 0x68, 0x65,
+    0x6c, 0x6c, 0x6f, 0x00, 0x00, 0x00,
+];
+
+/// 10.0.0.3:9000.
+fn peer() -> SocketAddr {
+    SocketAddr::new(IpAddr::V4(Ipv4Addr::new(10, 0, 0, 3)), 9000)
+}
+
+/// 10.0.0.4:40000.
+fn relayed() -> SocketAddr {
+    SocketAddr::new(IpAddr::V4(Ipv4Addr::new(10, 0, 0, 4)), 40000)
+}
+
+/// [::1]:40000.
+fn relayed_ipv6() -> SocketAddr {
+    let ip = Ipv6Addr::new(0, 0, 0, 0, 0, 0, 0, 1);
+    SocketAddr::new(IpAddr::V6(ip), 40000)
+}
+
+/// The configuration of `user` with the password `pass`.
+fn config(alloc: Global) -> Result<TurnConfig, CredentialsError> {
+    let credentials = TurnCredentials::new(alloc, b"user", b"pass")?;
+    Ok(TurnConfig::new(alloc, credentials))
+}
