@@ -7,9 +7,12 @@
 #![tactic(auto)]
 
 mod addresses;
+mod client;
+mod closed;
 mod config;
 mod error;
 mod event;
+pub mod laws;
 mod poll;
 mod receive;
 mod send;
@@ -17,6 +20,7 @@ mod send;
 pub use addresses::{
     PermissionAddressesIter, PermissionRecord, RelayedAddressesIter, RelayedRecord,
 };
+pub use client::TurnClientApi;
 pub use config::{RequestRetransmits, TurnConfig};
 pub use error::{
     BindChannelError, CreatePermissionError, DeleteError, SendError, TcpAllocateError,

@@ -1,0 +1,140 @@
+-- What is in a list.
+use Rattle.std.proofs.Common.{◌≡◌, ℕ, zero, suc, ◌≤◌, min, Bool, true, false, List, [], ◌∷◌, ◌++◌, map, filter, flat_map, filter_map, find, fold, Option, Some, None, ◌⊎◌, inl, inr, refl, sym, subst, arith}
+use Rattle.std.specs.Prelude.{All}
+use Rattle.std.proofs.lemmas.Option.{none-some, same_Some}
+use Rattle.std.proofs.Math.Nat.{min-le_left, min-le_right}
+
+-- x is in the list
+abbrev pub Has : {X : Type 0} → X → List X → Type 0
+Has x [] = ⊥
+Has x (y ∷ ys) = (x ≡ y) ⊎ Has x ys
+
+pub has-left : {X : Type 0} (x : X) (xs ys : List X) → Has x xs → Has x (xs ++ ys)
+has-left x [] ys h = absurd h
+has-left x (y ∷ xs) ys (inl e) = inl e
+has-left x (y ∷ xs) ys (inr h) = inr (has-left x xs ys h)
+
+pub has-right : {X : Type 0} (x : X) (xs ys : List X) → Has x ys → Has x (xs ++ ys)
+has-right x [] ys h = h
+has-right x (y ∷ xs) ys h = inr (has-right x xs ys h)
+
+pub has-append : {X : Type 0} (x : X) (xs ys : List X) → Has x (xs ++ ys) → Has x xs ⊎ Has x ys
+has-append x [] ys h = inr h
+has-append x (y ∷ xs) ys (inl e) = inl (inl e)
+has-append x (y ∷ xs) ys (inr h) = by (has-append x xs ys h)
+  where
+    by : Has x xs ⊎ Has x ys → ((x ≡ y) ⊎ Has x xs) ⊎ Has x ys
+    by (inl here) = inl (inr here)
+    by (inr there) = inr there
+
+-- what stays passed, and was there
+pub has-filter : {X : Type 0} (p : X → Bool) (x : X) (xs : List X) → Has x (filter p xs) → Has x xs × (p x ≡ true)
+has-filter p x [] h = absurd h
+has-filter p x (y ∷ xs) h = by (p y) refl (has-filter p x xs)
+  where
+    by : (b : Bool) → p y ≡ b → (Has x (filter p xs) → Has x xs × (p x ≡ true)) → Has x (y ∷ xs) × (p x ≡ true)
+    by true passes later = at (rw passes at h)
+      where
+        at : (x ≡ y) ⊎ Has x (filter p xs) → Has x (y ∷ xs) × (p x ≡ true)
+        at (inl e) = (inl e, rw e passes)
+        at (inr there) = (inr (later there).0, (later there).1)
+    by false fails later = (inr (later (rw fails at h)).0, (later (rw fails at h)).1)
+
+pub filter-has : {X : Type 0} (p : X → Bool) (x : X) (xs : List X) → Has x xs → p x ≡ true → Has x (filter p xs)
+filter-has p x [] h passes = absurd h
+filter-has p x (y ∷ xs) (inl e) passes = rw (rw e at passes) (inl e)
+filter-has p x (y ∷ xs) (inr h) passes = by (p y) refl (filter-has p x xs h passes)
+  where
+    by : (b : Bool) → p y ≡ b → Has x (filter p xs) → Has x (filter p (y ∷ xs))
+    by true here later = rw here (inr later)
+    by false here later = rw here later
+
+pub map-has : {X Y : Type 0} (f : X → Y) (x : X) (xs : List X) → Has x xs → Has (f x) (map f xs)
+map-has f x [] h = absurd h
+map-has f x (y ∷ xs) (inl e) = inl (rw e refl)
+map-has f x (y ∷ xs) (inr h) = inr (map-has f x xs h)
+
+pub flat_map-has : {X Y : Type 0} (f : X → List Y) (x : X) (y : Y) (xs : List X) → Has x xs → Has y (f x) → Has y (flat_map f xs)
+flat_map-has f x y [] h inside = absurd h
+flat_map-has f x y (z ∷ xs) (inl e) inside = has-left y (f z) (flat_map f xs) (rw e at inside)
+flat_map-has f x y (z ∷ xs) (inr h) inside = has-right y (f z) (flat_map f xs) (flat_map-has f x y xs h inside)
+
+-- an element of which y came
+pub record Came {X Y : Type 0} (f : X → List Y) (y : Y) (xs : List X) : Type 0 where
+  pub from : X
+  pub there : Has from xs
+  pub gives : Has y (f from)
+
+pub has-flat_map : {X Y : Type 0} (f : X → List Y) (y : Y) (xs : List X) → Has y (flat_map f xs) → Came f y xs
+has-flat_map f y [] h = absurd h
+has-flat_map f y (z ∷ xs) h = by (has-flat_map f y xs) (has-append y (f z) (flat_map f xs) h)
+  where
+    by : (Has y (flat_map f xs) → Came f y xs) → Has y (f z) ⊎ Has y (flat_map f xs) → Came f y (z ∷ xs)
+    by later (inl here) = record { from = z; there = inl refl; gives = here }
+    by later (inr there) = record { from = (later there).from; there = inr (later there).there; gives = (later there).gives }
+
+pub filter_map-has : {X Y : Type 0} (f : X → Option Y) (x : X) (y : Y) (xs : List X) → Has x xs → f x ≡ Some y → Has y (filter_map f xs)
+filter_map-has f x y [] h gives = absurd h
+filter_map-has f x y (z ∷ xs) (inl e) gives = rw (rw e at gives) (inl refl)
+filter_map-has {Y = Y} f x y (z ∷ xs) (inr h) gives = by (f z) refl (filter_map-has f x y xs h gives)
+  where
+    by : (o : Option Y) → f z ≡ o → Has y (filter_map f xs) → Has y (filter_map f (z ∷ xs))
+    by None e later = rw e later
+    by (Some w) e later = rw e (inr later)
+
+pub has-filter_map : {X Y : Type 0} (f : X → Option Y) (y : Y) (xs : List X) → Has y (filter_map f xs) → (x : X) × Has x xs × (f x ≡ Some y)
+has-filter_map f y [] h = absurd h
+has-filter_map {X = X} {Y = Y} f y (z ∷ xs) h = by (f z) refl (has-filter_map f y xs)
+  where
+    Found : List X → Type 0
+    Found list = (x : X) × Has x list × (f x ≡ Some y)
+
+    later : Found xs → Found (z ∷ xs)
+    later (x, there, gives) = (x, inr there, gives)
+
+    by : (o : Option Y) → f z ≡ o → (Has y (filter_map f xs) → Found xs) → Found (z ∷ xs)
+    by None e others = later (others (rw e at h))
+    by (Some w) e others = at (rw e at h)
+      where
+        at : (y ≡ w) ⊎ Has y (filter_map f xs) → Found (z ∷ xs)
+        at (inl same) = (z, inl refl, rw same e)
+        at (inr there) = later (others there)
+
+-- what is found is there, and passes
+pub has-found : {X : Type 0} (p : X → Bool) (x : X) (xs : List X) → find p xs ≡ Some x → Has x xs × (p x ≡ true)
+has-found p x [] found = absurd (none-some x found)
+has-found p x (y ∷ xs) found = by (p y) refl (has-found p x xs)
+  where
+    by : (b : Bool) → p y ≡ b → (find p xs ≡ Some x → Has x xs × (p x ≡ true)) → Has x (y ∷ xs) × (p x ≡ true)
+    by true passes later =
+        let same : y ≡ x = same_Some y x (rw passes at found) in
+        (inl (sym same), rw (sym same) passes)
+    by false fails later = (inr (later (rw fails at found)).0, (later (rw fails at found)).1)
+
+pub find-none : {X : Type 0} (p : X → Bool) (xs : List X) → ((x : X) → Has x xs → p x ≡ false) → find p xs ≡ None
+find-none p [] fails = refl
+find-none p (y ∷ xs) fails = rw (fails y (inl refl)) (find-none p xs (λ x h. fails x (inr h)))
+
+pub filter-none : {X : Type 0} (p : X → Bool) (xs : List X) → ((x : X) → Has x xs → p x ≡ false) → filter p xs ≡ []
+filter-none p [] fails = refl
+filter-none p (y ∷ xs) fails = rw (fails y (inl refl)) (filter-none p xs (λ x h. fails x (inr h)))
+
+-- the least is not above any, and is one of them or where it began
+pub least-start : (start : ℕ) (ms : List ℕ) → fold min start ms ≤ start
+least-start start [] = omega arith
+least-start start (m ∷ ms) = omega (arith, least-start (min start m) ms, min-le_left start m)
+
+pub least-le : (start m : ℕ) (ms : List ℕ) → Has m ms → fold min start ms ≤ m
+least-le start m [] h = absurd h
+least-le start m (k ∷ ms) (inl e) = rw e (omega (arith, least-start (min start k) ms, min-le_right start k))
+least-le start m (k ∷ ms) (inr h) = least-le (min start k) m ms h
+
+pub all-has : {X : Type 0} (P : X → Type 0) (xs : List X) → ((x : X) → Has x xs → P x) → All P xs
+all-has P [] each k d within = absurd (omega (arith, within))
+all-has P (y ∷ xs) each zero d within = each y (inl refl)
+all-has P (y ∷ xs) each (suc k) d within = all-has P xs (λ x h. each x (inr h)) k d (omega (arith, within))
+
+pub has-all : {X : Type 0} (P : X → Type 0) (x : X) (xs : List X) → All P xs → Has x xs → P x
+has-all P x [] all h = absurd h
+has-all P x (y ∷ xs) all (inl e) = subst P (sym e) (all zero y (omega arith))
+has-all P x (y ∷ xs) all (inr h) = has-all P x xs (λ k d within. all (suc k) d (omega (arith, within))) h

@@ -1,0 +1,132 @@
+-- What each message keeps, the streams keep, however many turns they take.
+use Rattle.std.proofs.Common.{◌≡◌, ℕ, zero, suc, ◌++◌, Bool, true, false, not, cond, ◌&&◌, List, [], ◌∷◌, take, drop, Option, Some, None, refl}
+use Rattle.std.specs.Prelude.{find}
+use Rattle.std.specs.declared.net.socket_addr.SocketAddr.{SocketAddr}
+use Rattle.turn_stun.specs.declared.transport.TransportType.{TransportType}
+use Rattle.turn_stun.specs.declared.transport.TransportType.TheVariants.{Udp, Tcp}
+use Rattle.turn_types.specs.Frames.{begins_message, begins_no_frame}
+use Rattle.turn_agent.specs.Agent.{same_address}
+use Rattle.turn_client_api.specs.State.{State, Mode, Control, Waiting, Bound, Broken, Stream}
+use Rattle.turn_client_api.specs.Grants.{same_transport}
+use Rattle.turn_client_api.specs.Connections.{bind_step}
+use Rattle.turn_client_api.specs.Payloads.{Payload, Outcome, Handled, Ignored, PeerData, PeerIcmp, channel_sent, datagram_step, is_channel_frame, is_message, message_step}
+use Rattle.turn_client_api.specs.Streams.{broken_at, control_frame_step, frame_step, go_on, is_bound, is_ready, most_turns, poll_recv_step, ready_len, stream_at, turn, turns, turn_of_first, waiting_frame_step, with_bytes, without_stream}
+use Rattle.turn_client_api.specs.Receive.{connection_gone, first_turn, is_from_server, piece_step, recv_step, stream_step, tcp_closed_step, then_all}
+
+-- Of a relation between a state and a later one: each state is as itself, later is later again, streams
+-- do not count, and messages and the ends of connections keep it.
+pub record IsKept (R : State → State → Type 0) : Type 0 where
+  pub same : (s : State) → R s s
+  pub trans : (s t u : State) → R s t → R t u → R s u
+  pub streams : (s : State) (streams : List Stream) → R s (record s { streams = streams })
+  pub message : (message : List ℕ) (now : ℕ) (s : State) → R s (message_step message now s).1
+  pub binds : (local : SocketAddr) (message : List ℕ) (now : ℕ) (s : State) → R s (bind_step local message now s)
+  pub gone : (local : SocketAddr) (s : State) → R s (connection_gone local s)
+
+module _ (R : State → State → Type 0) (k : IsKept R) where
+  pub kept-cond : {A : Type 0} (b : Bool) (s : State) (x y : A × State) → R s x.1 → R s y.1 → R s (cond b x y).1
+  kept-cond true s x y p q = p
+  kept-cond false s x y p q = q
+
+  control-kept : (frame : List ℕ) (now : ℕ) (s : State) → R s (control_frame_step frame now s).1
+  control-kept frame now s =
+      kept-cond (not (begins_message frame)) s (channel_sent s frame, s) _ (k.same s)
+      (kept-cond (is_message frame) s (message_step frame now s) (Handled, s) (k.message frame now s) (k.same s))
+
+  waiting-kept : (local : SocketAddr) (frame : List ℕ) (now : ℕ) (s : State) → R s (waiting_frame_step local frame now s).1
+  waiting-kept local frame now s =
+      kept-cond (not (begins_message frame)) s (Ignored, s) _ (k.same s)
+      (kept-cond (is_message frame) s (Handled, bind_step local frame now s) (Handled, s) (k.binds local frame now s) (k.same s))
+
+  frame_in_mode : (m : Mode) (stream : Stream) (frame : List ℕ) (now : ℕ) (s : State) → R s (frame_step (record stream { mode = m }) frame now s).1
+  frame_in_mode Control stream frame now s = control-kept frame now s
+  frame_in_mode Waiting stream frame now s = waiting-kept stream.local frame now s
+  frame_in_mode (Bound peer) stream frame now s = k.same s
+  frame_in_mode Broken stream frame now s = k.same s
+
+  pub frame-kept : (stream : Stream) (frame : List ℕ) (now : ℕ) (s : State) → R s (frame_step stream frame now s).1
+  frame-kept stream frame now s = frame_in_mode stream.mode stream frame now s
+
+  turn-kept : (stream : Stream) (now : ℕ) (s : State) → R s (turn stream now s).1
+  turn-kept stream now s = by (ready_len stream) refl
+    where
+      by : (o : Option ℕ) → ready_len stream ≡ o → R s (turn stream now s).1
+      by None e = rw e (k.same s)
+      by (Some len) e =
+          let fed = with_bytes stream.local (drop len stream.bytes) s in
+          rw e (kept-cond (not (is_bound stream.mode) && begins_no_frame stream.bytes) s (Handled, broken_at stream.local s) (frame_step stream (take len stream.bytes) now fed)
+          (k.streams s (broken_at stream.local s).streams)
+          (k.trans s fed (frame_step stream (take len stream.bytes) now fed).1 (k.streams s fed.streams) (frame-kept stream (take len stream.bytes) now fed)))
+
+  go_on-kept : (next : State → Option Payload × State) (s : State) (p : Outcome × State) → R s p.1 → ((t : State) → R t (next t).1) → R s (go_on next p).1
+  go_on-kept next s (PeerData payload, t) first more = first
+  go_on-kept next s (Handled, t) first more = k.trans s t (next t).1 first (more t)
+  go_on-kept next s (Ignored, t) first more = k.trans s t (next t).1 first (more t)
+  go_on-kept next s (PeerIcmp transport peer icmp, t) first more = k.trans s t (next t).1 first (more t)
+
+  pub turns-kept : (n now : ℕ) (s : State) → R s (turns n now s).1
+  unfolding turns
+  turns-kept zero now s = k.same s
+  turns-kept (suc n) now s = by (find is_ready s.streams) (λ t. turns-kept n now t)
+    where
+      by : (o : Option Stream) → ((t : State) → R t (turns n now t).1) → R s (turn_of_first (turns n now) now s o).1
+      by None more = k.same s
+      by (Some stream) more = go_on-kept (turns n now) s (turn stream now s) (turn-kept stream now s) more
+
+  pub poll_recv-kept : (now : ℕ) (s : State) → R s (poll_recv_step now s).1
+  poll_recv-kept now s = turns-kept (most_turns s) now s
+
+  then_all-kept : (now : ℕ) (s : State) (p : Outcome × State) → R s p.1 → R s (then_all now p).1
+  then_all-kept now s (PeerData payload, t) first = first
+  then_all-kept now s (PeerIcmp transport peer icmp, t) first = first
+  then_all-kept now s (Handled, t) first = k.trans s t (poll_recv_step now t).1 first (poll_recv-kept now t)
+  then_all-kept now s (Ignored, t) first = k.trans s t (poll_recv_step now t).1 first (poll_recv-kept now t)
+
+  first_turn-kept : (stream : Stream) (piece : List ℕ) (now : ℕ) (s : State) → R s (first_turn stream piece now s).1
+  first_turn-kept stream piece now s =
+      let fed = record stream { bytes = stream.bytes ++ piece } in
+      let t = with_bytes stream.local fed.bytes s in
+      k.trans s t (turn fed now t).1 (k.streams s t.streams) (turn-kept fed now t)
+
+  piece_in_mode : (m : Mode) (stream : Stream) (piece : List ℕ) (now : ℕ) (s : State) → R s (piece_step (record stream { mode = m }) piece now s).1
+  piece_in_mode Control stream piece now s = then_all-kept now s (first_turn (record stream { mode = Control }) piece now s) (first_turn-kept (record stream { mode = Control }) piece now s)
+  piece_in_mode Waiting stream piece now s = first_turn-kept (record stream { mode = Waiting }) piece now s
+  piece_in_mode (Bound peer) stream piece now s = k.streams s (with_bytes stream.local [] s).streams
+  piece_in_mode Broken stream piece now s =
+      kept-cond (same_address stream.local s.local) s (then_all now (Handled, s)) (Handled, s) (then_all-kept now s (Handled, s) (k.same s)) (k.same s)
+
+  stream-kept : (stream : Stream) (piece : List ℕ) (now : ℕ) (s : State) → R s (stream_step stream piece now s).1
+  stream-kept stream [] now s =
+      let t = connection_gone stream.local s in
+      k.trans s t (without_stream stream.local t) (k.gone stream.local s) (k.streams t (without_stream stream.local t).streams)
+  stream-kept stream (b ∷ bs) now s = piece_in_mode stream.mode stream (b ∷ bs) now s
+
+  datagram-kept : (bytes : List ℕ) (now : ℕ) (s : State) → R s (datagram_step bytes now s).1
+  datagram-kept bytes now s =
+      kept-cond (is_message bytes) s (message_step bytes now s) _ (k.message bytes now s)
+      (kept-cond (is_channel_frame bytes) s (channel_sent s bytes, s) (Ignored, s) (k.same s) (k.same s))
+
+  recv_over : (carrier : TransportType) (transport : TransportType) (from to : SocketAddr) (bytes : List ℕ) (now : ℕ) (s : State) → R (record s { transport = carrier }) (recv_step transport from to bytes now (record s { transport = carrier })).1
+  recv_over Udp transport from to bytes now s =
+      let u = record s { transport = Udp } in
+      kept-cond (is_from_server transport from u) u _ (Ignored, u)
+      (kept-cond (same_address to s.local) u (datagram_step bytes now u) (Ignored, u) (datagram-kept bytes now u) (k.same u)) (k.same u)
+  recv_over Tcp transport from to bytes now s = by (is_from_server transport from u) refl (stream_at to s) refl
+    where
+      u : State
+      u = record s { transport = Tcp }
+
+      by : (b : Bool) → is_from_server transport from u ≡ b → (o : Option Stream) → stream_at to s ≡ o → R u (recv_step transport from to bytes now u).1
+      by false e o f = rw e (k.same u)
+      by true e None f = rw (e, f) (k.same u)
+      by true e (Some stream) f = rw (e, f) (stream-kept stream bytes now u)
+
+  pub recv-kept : (transport : TransportType) (from to : SocketAddr) (bytes : List ℕ) (now : ℕ) (s : State) → R s (recv_step transport from to bytes now s).1
+  recv-kept transport from to bytes now s = recv_over s.transport transport from to bytes now s
+
+  pub tcp_closed-kept : (local remote : SocketAddr) (s : State) → R s (tcp_closed_step local remote s)
+  tcp_closed-kept local remote s = by (same_transport s.transport Tcp && same_address remote s.remote)
+    where
+      by : (b : Bool) → R s (cond b (connection_gone local s) s)
+      by true = k.gone local s
+      by false = k.same s

@@ -1,0 +1,8 @@
+use Rattle.std.proofs.Common.{refl}
+use Rattle.turn_client_api.proofs.laws.rows.channel_numbers_count_up.Goals as goal
+
+pub returns-clause-first : goal.returns-clause-first
+returns-clause-first c = λ s. refl
+
+pub returns-clause-second : goal.returns-clause-second
+returns-clause-second c = λ s. refl

@@ -1,0 +1,20 @@
+use Rattle.std.proofs.Common.{refl}
+use Rattle.turn_client_api.proofs.laws.rows.moments_are_told.Goals as goal
+
+pub returns-clause-allocations : goal.returns-clause-allocations
+returns-clause-allocations c = λ s. refl
+
+pub returns-clause-permission : goal.returns-clause-permission
+returns-clause-permission c = λ s. refl
+
+pub returns-clause-lapse : goal.returns-clause-lapse
+returns-clause-lapse c = λ s. refl
+
+pub returns-clause-queued : goal.returns-clause-queued
+returns-clause-queued c = λ s. refl
+
+pub returns-clause-paused : goal.returns-clause-paused
+returns-clause-paused c = λ s. refl
+
+pub returns-clause-challenge : goal.returns-clause-challenge
+returns-clause-challenge c = λ text challenge s. refl

@@ -1,0 +1,65 @@
+-- What the moment means that `poll` tells.
+use Rattle.std.specs.Prelude.{◌≡◌, ◌≢◌, ◌⊎◌, ℕ, ◌<◌, ◌≤◌, true, false, [], All, is_some, None, IsSome, IfSome, ⊤}
+use Rattle.turn_agent.specs.Agent.{given_up, is_outstanding}
+use Rattle.turn_agent.specs.declared.transaction.Transaction.{Transaction}
+use Rattle.turn_client_api.specs.State.{State, Phase, New, Requesting, Authenticating, Grant, Allocation, Permission, Channel, Connection, Active, agent_of}
+use Rattle.turn_client_api.specs.Grants.{allocation_of, family_of_grant}
+use Rattle.turn_client_api.specs.Due.{has_queued_request}
+use Rattle.turn_client_api.specs.Poll.{next_offer}
+use Rattle.turn_client_api.specs.Transmit.{next_transmit}
+use Rattle.turn_client_api.specs.declared.poll.TurnPollRet.{TurnPollRet}
+use Rattle.turn_client_api.specs.declared.poll.TurnPollRet.TheVariants.{WaitUntil, AllocateTcpSocket, TcpClose, Closed as Ended}
+
+-- the grant does not end before this moment; an expired allocation has ended already
+abbrev pub Lasts : ℕ → Grant → Type 0
+Lasts moment (Allocation a) = a.is_expired ≡ false → moment ≤ a.expiry
+Lasts moment (Permission ip (Active expiry)) = moment ≤ expiry
+Lasts moment (Channel number peer (Active expiry)) = moment ≤ expiry
+Lasts moment (Connection c) = IfSome c.deadline (λ deadline. moment ≤ deadline)
+Lasts moment _ = ⊤
+
+-- Nothing is to be done from now on before that moment: no packet is to be sent, no transaction ends,
+-- nothing waits, and no grant ends.
+pub record IsSilent (now moment : ℕ) (s : State) : Type 0 where
+  pub sends_nothing : (t : ℕ) → now ≤ t → t < moment → next_transmit t s ≡ None
+  pub ends_nothing : (t : ℕ) → now ≤ t → t < moment → given_up (agent_of s) t ≡ None
+  pub no_event : s.events ≡ []
+  pub no_offer : next_offer s ≡ None
+  pub no_close : s.closes ≡ []
+  pub grants_last : All (Lasts moment) s.grants
+
+-- There is something to do now: an event waits, or a packet is to be sent, or the call before, which
+-- found the client as it was, gave up a transaction.
+abbrev pub IsBusy : ℕ → State → State → Type 0
+IsBusy now was s =
+    (s.events ≢ []) ⊎ (IsSome (next_transmit now s)
+    ⊎ ((t : Transaction) × (is_outstanding t.id was.transactions ≡ true) × (is_outstanding t.id s.transactions ≡ false)))
+
+-- a caller that sleeps until the moment that it is told sleeps through nothing, and one that does what
+-- is due does not call in vain
+abbrev pub IsTimely : TurnPollRet → ℕ → State → State → Type 0
+IsTimely (WaitUntil moment) now was s = (now < moment → IsSilent now moment s) × (moment ≤ now → IsBusy now was s)
+IsTimely (AllocateTcpSocket id socket peer) now was s = ⊤
+IsTimely (TcpClose local remote) now was s = ⊤
+IsTimely Ended now was s = ⊤
+
+-- ---- what that rests on
+
+abbrev pub IsBeforeGrants : Phase → Type 0
+IsBeforeGrants Requesting = ⊤
+IsBeforeGrants Authenticating = ⊤
+IsBeforeGrants _ = ⊥
+
+-- each grant stands in an allocation, as it was made for one
+abbrev pub StandsIn : State → Grant → Type 0
+StandsIn s g = is_some (allocation_of (family_of_grant g) s) ≡ true
+
+abbrev pub AllStandIn : State → Type 0
+AllStandIn s = All (StandsIn s) s.grants
+
+-- What every client keeps. The pause begins with the first packet: in `New` none was sent, and later a
+-- request is queued only behind one that was sent. No grant is there before the server allocated.
+pub record IsOrderly (s : State) : Type 0 where
+  pub nothing_sent : s.phase ≡ New → s.last_send ≡ None
+  pub sent_before : s.phase ≢ New → has_queued_request s ≡ true → IsSome s.last_send
+  pub no_grants : IsBeforeGrants s.phase → s.grants ≡ []

@@ -1,0 +1,159 @@
+-- What the answers of a client say of a step of the machine.
+use Rattle.std.specs.Prelude.{◌≡◌, ◌⊎◌, ℕ, ◌==◌, Bool, true, false, not, ◌&&◌, ◌||◌, List, find, nat_lt, length, drop, slice_get, option_and_then, Option, Some, None, Result, Ok, Err, IsSomeAnd, if◌then◌else◌, ⊤}
+use Rattle.std.specs.declared.convert.AsSlice.{Ghosts}
+use Rattle.std.specs.declared.ops.Range.{Range}
+use Rattle.std.specs.declared.net.socket_addr.SocketAddr.{SocketAddr}
+use Rattle.turn_stun.specs.declared.message.header.MessageClass.{MessageClass}
+use Rattle.turn_stun.specs.declared.message.header.MessageClass.TheVariants.{Indication}
+use Rattle.turn_stun.specs.declared.transport.TransportType.{TransportType}
+use Rattle.turn_stun.specs.declared.transport.TransportType.TheVariants.{Udp, Tcp}
+use Rattle.turn_stun.specs.declared.transport.Transmit.{Transmit}
+use Rattle.turn_types.specs.declared.transmit.TransmitBuild.{TransmitBuild}
+use Rattle.std.specs.Option.{option_map_or}
+use Rattle.turn_agent.specs.Agent.{same_address}
+use Rattle.turn_client_api.specs.Delayed.{delayed_send_bytes}
+use Rattle.turn_client_api.specs.Range.{source_of, place_of}
+use Rattle.turn_client_api.specs.Received.{held_in, payload_of}
+use Rattle.turn_client_api.specs.State.{State, Stream, Mode, Control, Broken}
+use Rattle.turn_client_api.specs.Requests.{data_method}
+use Rattle.turn_client_api.specs.Judgement.{class_in, method_in}
+use Rattle.turn_client_api.specs.Effect.{closed}
+use Rattle.turn_client_api.specs.Payloads.{Payload, Outcome, is_channel_frame, is_message}
+use Rattle.turn_client_api.specs.Payloads as O
+use Rattle.turn_client_api.specs.Streams.{broken_at, is_bound, is_ready, stream_at, turns}
+use Rattle.turn_client_api.specs.Receive.{first_turn, is_from_server}
+use Rattle.turn_client_api.specs.declared.receive.DataRangeOrOwned.{DataRangeOrOwned}
+use Rattle.turn_client_api.specs.declared.receive.DataRangeOrOwned.TheVariants as Data
+use Rattle.turn_client_api.specs.declared.receive.TurnPeerData.{TurnPeerData}
+use Rattle.turn_client_api.specs.declared.receive.TurnRecvRet.{TurnRecvRet}
+use Rattle.turn_client_api.specs.declared.receive.TurnRecvRet.TheVariants as Recv
+use Rattle.turn_client_api.specs.declared.send.DelayedMessageOrChannelSend.{DelayedMessageOrChannelSend}
+use Rattle.turn_client_api.specs.declared.event.TurnEvent.{TurnEvent}
+use Rattle.turn_client_api.specs.declared.error.BindChannelError.{BindChannelError}
+use Rattle.turn_client_api.specs.declared.error.BindChannelError.TheVariants as Bind
+use Rattle.turn_client_api.specs.declared.error.CreatePermissionError.{CreatePermissionError}
+use Rattle.turn_client_api.specs.declared.error.CreatePermissionError.TheVariants as Create
+use Rattle.turn_client_api.specs.declared.error.DeleteError.{DeleteError}
+use Rattle.turn_client_api.specs.declared.error.DeleteError.TheVariants as Delete
+use Rattle.turn_client_api.specs.declared.error.SendError.{SendError}
+use Rattle.turn_client_api.specs.declared.error.TcpAllocateError.{TcpAllocateError}
+use Rattle.turn_client_api.specs.declared.error.TcpAllocateError.TheVariants as Socket
+use Rattle.turn_client_api.specs.declared.error.TcpConnectError.{TcpConnectError}
+use Rattle.turn_client_api.specs.declared.error.TcpConnectError.TheVariants as Join
+
+-- ---- calls that may be refused: memory is asked for only by a call that would be done otherwise, and
+-- nothing changes where there is none
+
+abbrev pub CreatesPermission : Result Unit CreatePermissionError → State → State → Result Unit CreatePermissionError × State → Type 0
+CreatesPermission (Err Create.OutOfMemory) was s said = (said.0 ≡ Ok tt) × (s ≡ was)
+CreatesPermission answer was s said = (answer ≡ said.0) × (s ≡ said.1)
+
+abbrev pub BindsChannel : Result Unit BindChannelError → State → State → Result Unit BindChannelError × State → Type 0
+BindsChannel (Err Bind.OutOfMemory) was s said = (said.0 ≡ Ok tt) × (s ≡ was)
+BindsChannel answer was s said = (answer ≡ said.0) × (s ≡ said.1)
+
+abbrev pub Connects : Result Unit TcpConnectError → State → State → Result Unit TcpConnectError × State → Type 0
+Connects (Err Join.OutOfMemory) was s said = (said.0 ≡ Ok tt) × (s ≡ was)
+Connects answer was s said = (answer ≡ said.0) × (s ≡ said.1)
+
+abbrev pub TakesSocket : Result Unit TcpAllocateError → State → State → Result Unit TcpAllocateError × State → Type 0
+TakesSocket (Err Socket.OutOfMemory) was s said = (said.0 ≡ Ok tt) × (s ≡ was)
+TakesSocket answer was s said = (answer ≡ said.0) × (s ≡ said.1)
+
+abbrev pub Deletes : Result Unit DeleteError → State → State → Result Unit DeleteError × State → Type 0
+Deletes (Err Delete.OutOfMemory) was s said = (said.0 ≡ Ok tt) × (s ≡ was)
+Deletes answer was s said = (answer ≡ said.0) × (s ≡ said.1)
+
+-- ---- events
+
+abbrev pub event_step : State → Option TurnEvent × State
+event_step s = (slice_get s.events 0, record s { events = drop 1 s.events })
+
+-- ---- data for a peer
+
+-- the packet that is built later is the one that the machine sends
+abbrev pub IsSent : {T : Type 0} {g : Ghosts T ℕ} → Result (Option (TransmitBuild (DelayedMessageOrChannelSend T g))) SendError → Result (Transmit (List ℕ)) SendError → Type 0
+IsSent (Ok (Some packet)) said =
+    said ≡ Ok (record { payload = delayed_send_bytes packet.payload; transport = packet.transport; from = packet.from; to = packet.to })
+IsSent (Ok None) said = ⊥
+IsSent (Err refusal) said = said ≡ Err refusal
+
+-- ---- what came in
+
+-- where the bytes stand in what the caller handed in, unless they are owned
+abbrev pub place_in : {T : Type 0} {g : Ghosts T ℕ} → DataRangeOrOwned T g → Option (Range ℕ)
+place_in (Data.Range range) = Some (place_of range)
+place_in (Data.Owned bytes) = None
+
+abbrev pub given_payload : {T : Type 0} {g : Ghosts T ℕ} → TurnPeerData T g → Payload
+given_payload p = record { transport = p.transport; peer = p.peer; bytes = payload_of p; place = place_in (held_in p) }
+
+abbrev pub outcome_of : {T : Type 0} {g : Ghosts T ℕ} → TurnRecvRet T g → Outcome
+outcome_of Recv.Handled = O.Handled
+outcome_of (Recv.Ignored transmit) = O.Ignored
+outcome_of (Recv.PeerData p) = O.PeerData (given_payload p)
+outcome_of (Recv.PeerIcmp transport peer icmp_type icmp_code icmp_data) =
+    O.PeerIcmp transport peer (record { icmp_type = icmp_type; code = icmp_code; «data» = icmp_data })
+
+-- bytes that are not owned are a part of what the caller handed in
+abbrev pub IsPartOf : {T : Type 0} {g : Ghosts T ℕ} → T → DataRangeOrOwned T g → Type 0
+IsPartOf handed (Data.Range range) = source_of range ≡ handed
+IsPartOf handed (Data.Owned bytes) = ⊤
+
+-- what is not for the client is handed back whole
+abbrev pub HandsBack : {T : Type 0} {g : Ghosts T ℕ} → Transmit T → TurnRecvRet T g → Type 0
+HandsBack transmit Recv.Handled = ⊤
+HandsBack transmit (Recv.Ignored back) = back ≡ transmit
+HandsBack transmit (Recv.PeerData p) = IsPartOf transmit.payload (held_in p)
+HandsBack transmit (Recv.PeerIcmp transport peer icmp_type icmp_code icmp_data) = ⊤
+
+-- ---- want of memory
+
+-- the stream whose turn it is gives nothing any more
+abbrev pub next_broken : State → State
+next_broken s = option_map_or (λ stream. broken_at stream.local s) (find is_ready s.streams) s
+
+-- After some number of turns without a payload there was no memory for the next one: its stream is
+-- broken, and the client has ended, with what these turns left.
+abbrev pub EndsAfterTurns : ℕ → State → State → Type 0
+EndsAfterTurns now before s =
+    (n : ℕ) × ((turns n now before).0 ≡ None) × (s ≡ closed (next_broken (turns n now before).1))
+
+-- the state in which all streams have their turns, where a piece of the control stream sets them going
+abbrev pub before_others : SocketAddr → List ℕ → ℕ → State → Option State
+before_others to piece now s = option_and_then (λ stream. by stream stream.mode) (stream_at to s)
+  where
+    behind : Outcome × State → Option State
+    behind (O.PeerData payload, t) = None
+    behind (O.PeerIcmp transport peer icmp, t) = None
+    behind (_, t) = Some t
+
+    by : Stream → Mode → Option State
+    by stream Control = behind (first_turn stream piece now s)
+    by stream Broken = if same_address stream.local s.local then Some s else None
+    by stream _ = None
+
+-- there was none for the piece or for its first frame, or for what came behind it
+abbrev pub RecvEnds : SocketAddr → List ℕ → ℕ → State → State → Type 0
+RecvEnds to piece now was s =
+    (s ≡ closed (broken_at to was)) ⊎ IsSomeAnd (before_others to piece now was) (λ t. EndsAfterTurns now t s)
+
+-- DATA indications and channel frames take no memory over UDP, nor bytes of a bound connection where
+-- nothing waits in its stream
+abbrev pub is_data_indication : List ℕ → Bool
+is_data_indication bytes = by (class_in bytes)
+  where
+    by : MessageClass → Bool
+    by Indication = method_in bytes == data_method
+    by _ = false
+
+abbrev pub datagram_takes_none : List ℕ → Bool
+datagram_takes_none bytes = if is_message bytes then is_data_indication bytes else is_channel_frame bytes
+
+-- nor does what is not for the client
+abbrev pub takes_no_memory : TransportType → SocketAddr → SocketAddr → List ℕ → State → Bool
+takes_no_memory transport from to bytes s = not (is_from_server transport from s) || by s.transport
+  where
+    by : TransportType → Bool
+    by Udp = not (same_address to s.local) || datagram_takes_none bytes
+    by Tcp = option_map_or (λ stream. is_bound stream.mode && not (nat_lt 0 (length stream.bytes))) (stream_at to s) true

@@ -1,0 +1,139 @@
+-- Data connections to peers (RFC 6062).
+use Rattle.std.specs.Prelude.{ℕ, ◌==◌, nat_lt, Bool, true, false, not, ◌&&◌, ◌||◌, if◌then◌else◌, List, [], ◌∷◌, ◌++◌, map, filter, find, filter_map, length, codes, Option, Some, None, is_some}
+use Rattle.std.specs.List.{list_any}
+use Rattle.std.specs.Net.Socket.{socket_ip}
+use Rattle.std.specs.declared.net.socket_addr.SocketAddr.{SocketAddr}
+use Rattle.turn_stun.specs.Message.{id_of}
+use Rattle.turn_stun.specs.declared.transport.TransportType.TheVariants.{Tcp}
+use Rattle.turn_auth.specs.LongTerm.{Challenge}
+use Rattle.turn_agent.specs.Agent.{same_address}
+use Rattle.turn_client_api.specs.State.{State, Phase, Allocated, Grant, Offer, Connection, DataConnection, Origin, ServerRequest, ServerIndication, Mode, Bound, Stream, Purpose, later_by}
+use Rattle.std.specs.Option.{option_map_or}
+use Rattle.turn_client_api.specs.Grants.{allocation_for, connection_in, is_connect_to, is_connection_from, is_permitted, offer_in, purposes_of, unlisted, without, wait, failures_of}
+use Rattle.turn_client_api.specs.Requests.{fresh_id, requested, refused_reply, replied, connection_bind_method}
+use Rattle.turn_client_api.specs.Judgement.{Judgement, Challenged, Granted, Denied, bind_judgement, is_bind_of, connection_id_in, peer_in, method_in}
+use Rattle.turn_client_api.specs.Effect.{ended, with_offer}
+use Rattle.turn_client_api.specs.Retry.{bind_time, with_held}
+use Rattle.turn_client_api.specs.declared.event.TurnEvent.TheVariants.{TcpConnected}
+
+-- ---- which connections there are
+
+abbrev pub is_connection_to : SocketAddr → Grant → Bool
+is_connection_to peer (Connection c) = same_address c.peer peer
+is_connection_to peer (Offer offer) = same_address offer.peer peer
+is_connection_to peer _ = false
+
+-- one to this peer is there, or the caller is to open it
+abbrev pub is_connected : SocketAddr → State → Bool
+is_connected peer s = list_any (is_connection_to peer) s.grants
+
+-- one to this peer was asked for
+abbrev pub is_connecting : SocketAddr → State → Bool
+is_connecting peer s = list_any (is_connect_to peer) s.grants
+
+-- the connection from this local end
+abbrev pub connection_at : SocketAddr → State → Option DataConnection
+connection_at local s = find (λ c. same_address c.local local) (filter_map connection_in s.grants)
+
+-- ---- the server asks for one, since a peer connected to the relayed address (RFC 6062, section 4.4)
+
+-- a request is always answered (our choice: RFC 6062 has an indication alone)
+abbrev pub attempt_requested : List ℕ → State → State
+attempt_requested message s = by (connection_id_in message) (peer_in message)
+  where
+    refused : ℕ → List ℕ → State
+    refused code reason = replied (refused_reply code reason s (id_of message)) s
+
+    by : Option ℕ → Option SocketAddr → State
+    by (Some connection_id) (Some peer) =
+        if not (is_some (allocation_for Tcp (socket_ip peer) s)) then refused 400 (codes "Bad Request")
+        else (if is_connected peer s then refused 446 (codes "Connection Already Exists")
+        else with_offer connection_id peer (ServerRequest (id_of message)) s)
+    by _ _ = refused 400 (codes "Bad Request")
+
+-- so many offers by indications stand at most, since these are not signed (our choice)
+abbrev pub most_indicated : ℕ
+most_indicated = 64
+
+abbrev pub is_indicated : Grant → Bool
+is_indicated grant = option_map_or (λ offer. by offer.origin) (offer_in grant) false
+  where
+    by : Origin → Bool
+    by ServerIndication = true
+    by _ = false
+
+-- An indication is heeded for a peer with a permission alone, as RFC 6062, section 4.4, has it, and
+-- where no other connection to it is there or comes: it answers whether it is.
+abbrev pub is_heeded : SocketAddr → State → Bool
+is_heeded peer s =
+    is_some (allocation_for Tcp (socket_ip peer) s) && is_permitted (socket_ip peer) s
+    && not (is_connected peer s || is_connecting peer s)
+    && nat_lt (length (filter is_indicated s.grants)) most_indicated
+
+abbrev pub attempt_indicated : List ℕ → State → Option State
+attempt_indicated message s = by (connection_id_in message) (peer_in message)
+  where
+    by : Option ℕ → Option SocketAddr → Option State
+    by (Some connection_id) (Some peer) =
+        if is_heeded peer s then Some (with_offer connection_id peer ServerIndication s) else None
+    by _ _ = None
+
+-- ---- a connection is bound (RFC 6062, section 4.3)
+
+-- the bytes of the stream at this local end are meant so from now on
+abbrev pub with_mode : SocketAddr → Mode → State → State
+with_mode local mode s = record s { streams = map by s.streams }
+  where
+    by : Stream → Stream
+    by stream = if same_address stream.local local then record stream { mode = mode } else stream
+
+-- the server may bind the connection up to this moment; none says that it did
+abbrev pub with_deadline : SocketAddr → Option ℕ → State → State
+with_deadline local deadline s = record s { grants = map by s.grants }
+  where
+    by : Grant → Grant
+    by (Connection c) = if same_address c.local local then Connection (record c { deadline = deadline }) else Connection c
+    by grant = grant
+
+abbrev pub with_close : SocketAddr → State → State
+with_close local s = record s { closes = s.closes ++ local ∷ [] }
+
+-- what follows on the stream is what the peer sent
+abbrev pub bound : DataConnection → State → State
+bound c s =
+    wait (TcpConnected c.peer ∷ [])
+    (with_mode c.local (Bound c.peer) (with_deadline c.local None (unlisted (is_connection_from c.local) s)))
+
+-- the caller is to close it
+abbrev pub not_bound : DataConnection → State → State
+not_bound c s =
+    wait (failures_of (is_connection_from c.local) s)
+    (with_close c.local (without (is_connection_from c.local) s))
+
+-- The nonce is taken, and another CONNECTION_BIND takes the place of the one with this ID, which stays
+-- outstanding. Challenges are not counted here: each takes one connection (our choice).
+abbrev pub bind_again : DataConnection → ℕ → Challenge → ℕ → State → State
+bind_again c id challenge now s = option_map_or again (find (is_bind_of c.local) (purposes_of id s)) s
+  where
+    again : Purpose → State
+    again purpose =
+        with_deadline c.local (Some (later_by bind_time now))
+        (requested (fresh_id s) purpose now (unlisted (is_connection_from c.local) (with_held challenge s)))
+
+-- a message of a connection that waits to be bound
+abbrev pub bind_answered : DataConnection → List ℕ → ℕ → State → State
+bind_answered c message now s = by (bind_judgement s c.local message)
+  where
+    by : Judgement → State
+    by (Challenged challenge) = bind_again c (id_of message) challenge now s
+    by Granted = bound c (ended (id_of message) s)
+    by Denied = not_bound c (ended (id_of message) s)
+    by _ = not_bound c s
+
+-- what a message of a data connection changes: nothing, where it is about no such connection
+abbrev pub bind_step : SocketAddr → List ℕ → ℕ → State → State
+bind_step local message now s = by s.phase (connection_at local s)
+  where
+    by : Phase → Option DataConnection → State
+    by Allocated (Some c) = if method_in message == connection_bind_method then bind_answered c message now s else s
+    by _ _ = s

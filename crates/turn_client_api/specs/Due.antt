@@ -1,0 +1,103 @@
+-- When something falls due (RFC 8656, sections 7 to 12).
+use Rattle.std.specs.Prelude.{ℕ, ◌-◌, ◌/◌, min, max, nat_le, nat_lt, Bool, true, false, not, ◌&&◌, ◌||◌, if◌then◌else◌, List, [], ◌∷◌, ◌++◌, map, flat_map, fold, length, Option, Some, None, option_to_list}
+use Rattle.std.specs.Option.{option_map_or}
+use Rattle.std.specs.List.{list_any}
+use Rattle.turn_agent.specs.Agent.{next_moment}
+use Rattle.turn_client_api.specs.State.{State, Phase, New, Grant, Allocation, Permission, Channel, Connection, Relay, Active, agent_of, greatest_moment, later_by, seconds}
+use Rattle.turn_client_api.specs.Grants.{allocation_of, family_of_grant, has_request}
+use Rattle.turn_client_api.specs.Calls.{is_allocated}
+
+-- ---- numbers of ours
+
+-- between two requests, so that a server is not flooded (our choice)
+abbrev pub pause : ℕ
+pause = 50_000_000
+
+-- a grant is refreshed so long before it ends (our choice: RFC 8656, section 8, asks for about a
+-- minute)
+abbrev pub refresh_ahead : ℕ
+refresh_ahead = seconds 60
+
+-- an allocation whose first lifetime is no longer is refreshed half of it before it ends (our choice)
+abbrev pub short_lifetime : ℕ
+short_lifetime = seconds 120
+
+-- how long a caller sleeps at most (our choice)
+abbrev pub longest_sleep : ℕ
+longest_sleep = seconds 9999
+
+-- ---- what waits to be sent
+
+abbrev pub has_reply : State → Bool
+has_reply s = list_any (λ q. not q.is_request) s.queue
+
+abbrev pub has_queued_request : State → Bool
+has_queued_request s = list_any (λ q. q.is_request) s.queue
+
+-- before this moment no request is sent that was not sent before
+abbrev pub pause_end : State → ℕ
+pause_end s = option_map_or (later_by pause) s.last_send 0
+
+abbrev pub is_paused : ℕ → State → Bool
+is_paused now s = nat_lt now (pause_end s)
+
+-- ---- refreshes
+
+abbrev pub refresh_time_of : Relay → ℕ
+refresh_time_of a =
+    if nat_le a.first_lifetime short_lifetime then a.expiry - a.first_lifetime / 2 else a.expiry - refresh_ahead
+
+-- an allocation that is expired is refreshed no more, nor is what is in it
+abbrev pub is_in_use : Grant → State → Bool
+is_in_use (Allocation a) s = not a.is_expired
+is_in_use grant s = option_map_or (λ a. not a.is_expired) (allocation_of (family_of_grant grant) s) false
+
+-- when the grant is to be refreshed, unless that is asked for already
+abbrev pub refresh_time : State → Grant → Option ℕ
+refresh_time s grant = if is_in_use grant s && not (has_request grant s) then by grant else None
+  where
+    by : Grant → Option ℕ
+    by (Allocation a) = Some (refresh_time_of a)
+    by (Permission ip (Active expiry)) = Some (expiry - refresh_ahead)
+    by (Channel number peer (Active expiry)) = Some (expiry - refresh_ahead)
+    by _ = None
+
+-- ---- when a client has to be polled again
+
+-- the end of a grant; one of an allocation that is past is no moment to wait for
+abbrev pub end_of : ℕ → Grant → List ℕ
+end_of now (Allocation a) = if nat_lt now a.expiry then a.expiry ∷ [] else []
+end_of now (Permission ip (Active expiry)) = expiry ∷ []
+end_of now (Channel number peer (Active expiry)) = expiry ∷ []
+end_of now (Connection c) = option_to_list c.deadline
+end_of now _ = []
+
+abbrev pub refresh_of : State → Grant → List ℕ
+refresh_of s grant = map (max (pause_end s)) (option_to_list (refresh_time s grant))
+
+-- Each moment at which something falls due: the longest sleep, a queued request, a transaction, the
+-- end of a grant, a refresh.
+abbrev pub due_moments : ℕ → State → List ℕ
+due_moments now s =
+    later_by longest_sleep now
+    ∷ (if has_queued_request s then pause_end s ∷ [] else [])
+    ++ map (next_moment (agent_of s).timers s.transport) s.transactions
+    ++ flat_map (λ g. end_of now g ++ refresh_of s g) s.grants
+
+abbrev pub least_due : ℕ → State → ℕ
+least_due now s = fold min greatest_moment (due_moments now s)
+
+abbrev pub has_event : State → Bool
+has_event s = nat_lt 0 (length s.events)
+
+abbrev pub is_new : Phase → Bool
+is_new New = true
+is_new _ = false
+
+-- When the caller is to call again: now, where something waits or was just given up, and else when
+-- something falls due, but not in the past where there are grants.
+abbrev pub next_wakeup : Bool → ℕ → State → ℕ
+next_wakeup has_given_up now s =
+    if is_new s.phase || has_event s || has_reply s || has_given_up then now
+    else (if is_allocated s.phase then max now (least_due now s)
+    else least_due now s)

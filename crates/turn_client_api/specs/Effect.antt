@@ -1,0 +1,227 @@
+-- What the server's reply to a request changes (RFC 8656, sections 7.3 to 12.3, and RFC 6062, section
+-- 4.3).
+use Rattle.std.specs.Prelude.{ℕ, ◌==◌, nat_le, Bool, true, false, not, ◌&&◌, ◌||◌, if◌then◌else◌, List, [], ◌∷◌, ◌++◌, map, filter, filter_map, fold, length, Option, Some, None, take_while, is_some}
+use Rattle.std.specs.List.{list_any}
+use Rattle.std.specs.Option.{option_map_or}
+use Rattle.std.specs.declared.net.ip_addr.IpAddr.{IpAddr}
+use Rattle.std.specs.declared.net.socket_addr.SocketAddr.{SocketAddr}
+use Rattle.turn_stun.specs.Attributes.{seen_of}
+use Rattle.turn_stun.specs.Message.{id_of}
+use Rattle.turn_stun.specs.XorAddress.{xor_addr}
+use Rattle.turn_types.specs.declared.family.AddressFamily.{AddressFamily}
+use Rattle.turn_types.specs.declared.family.AddressFamily.TheVariants.{IPV4, IPV6}
+use Rattle.turn_auth.specs.Challenge.{code_in}
+use Rattle.turn_agent.specs.Agent as A
+use Rattle.turn_client_api.specs.State.{State, Phase, Allocated, Closed, Grant, Allocation, Permission, Channel, Offer, Origin, OwnConnect, Progress, Pending, Active, Reserved, Purpose, ForAllocation, ForRefresh, ForPermission, ForChannel, ForConnect, later_by, seconds}
+use Rattle.turn_client_api.specs.Grants.{allocation_in, channel_progress, first_in, is_channel_of, is_connect_to, is_of, is_of_family, is_listed_for, is_pending_permission, is_permission_of, permission_for, purposes_of, is_for_allocation, unlisted, without, with_allocations, with_grant, jump, wait, failures_of}
+use Rattle.turn_client_api.specs.Requests.{relayed_kind, requested}
+use Rattle.turn_client_api.specs.Judgement.{lifetime_in, connection_id_in}
+use Rattle.turn_client_api.specs.declared.event.TurnEvent.TheVariants.{AllocationCreated, AllocationCreateFailed, PermissionCreated, ChannelCreated}
+
+-- ---- numbers of the standards
+
+-- RFC 8656, section 9
+abbrev pub permission_lifetime : ℕ
+permission_lifetime = seconds 300
+
+-- RFC 8656, section 12, and how long neither its number nor its peer is bound again when it is over
+abbrev pub channel_lifetime : ℕ
+channel_lifetime = seconds 600
+
+abbrev pub reserved_time : ℕ
+reserved_time = seconds 300
+
+-- a shorter lifetime in reply to a REFRESH is not taken, in seconds (RFC 8656, section 7.2: a server
+-- gives at least the default of 600)
+abbrev pub least_lifetime : ℕ
+least_lifetime = 600
+
+-- error codes (RFC 8656, section 19): Allocation Mismatch, and Address Family not Supported
+abbrev pub allocation_mismatch : ℕ
+allocation_mismatch = 437
+
+abbrev pub family_not_supported : ℕ
+family_not_supported = 440
+
+abbrev pub has_code : ℕ → List ℕ → Bool
+has_code code message = option_map_or (λ other. other == code) (code_in message) false
+
+-- ---- the end of a client
+
+-- each family that is still asked for fails
+abbrev pub fail_all : State → State
+fail_all s = wait (map AllocationCreateFailed s.families) (record s { families = [] })
+
+-- no reply to an ALLOCATE is awaited any more
+abbrev pub in_phase : Phase → State → State
+in_phase phase s = record s { phase = phase; listed = filter (λ l. not (is_for_allocation l.purpose)) s.listed }
+
+abbrev pub closed : State → State
+closed s = in_phase Closed s
+
+-- the request of this ID is no longer outstanding
+abbrev pub ended : ℕ → State → State
+ended id s = record s { transactions = A.without id s.transactions }
+
+-- the server took a request: challenges are counted anew
+abbrev pub heeded : State → State
+heeded s = record s { challenges = 0 }
+
+-- ---- ALLOCATE
+
+-- the relayed addresses, up to the first that is malformed
+abbrev pub relayed_in : List ℕ → List SocketAddr
+relayed_in message = filter_map (λ a. a) (take_while is_some (map (λ a. xor_addr a.value (id_of message)) (filter (λ a. a.kind == relayed_kind) (seen_of message))))
+
+-- the first address of each family that is asked for
+abbrev pub taken_addresses : List AddressFamily → List SocketAddr → List SocketAddr
+taken_addresses families [] = []
+taken_addresses families (a ∷ later) =
+    if list_any (λ family. is_of_family family a) families
+    then a ∷ taken_addresses (filter (λ family. not (is_of_family family a)) families) later
+    else taken_addresses families later
+
+abbrev pub new_allocation : ℕ → ℕ → SocketAddr → Grant
+new_allocation lifetime now relayed =
+    Allocation (record { relayed = relayed; first_lifetime = seconds lifetime; expiry = later_by (seconds lifetime) now; is_expired = false })
+
+-- with no address the client ends
+abbrev pub phase_with : List SocketAddr → Phase
+phase_with [] = Closed
+phase_with (a ∷ others) = Allocated
+
+-- the server allocated these addresses for so many seconds
+abbrev pub allocated : ℕ → List SocketAddr → ℕ → State → State
+allocated lifetime addresses now s =
+    wait (map (AllocationCreated s.config.allocation_transport) addresses ++ map AllocationCreateFailed (filter (λ family. not (list_any (is_of_family family) addresses)) s.families))
+    (record (in_phase (phase_with addresses) s) {
+      families = [];
+      grants = s.grants ++ map (new_allocation lifetime now) addresses;
+    })
+
+abbrev pub allocate_granted : List ℕ → ℕ → State → State
+allocate_granted message now s =
+    option_map_or (λ lifetime. allocated lifetime (taken_addresses s.families (relayed_in message)) now s)
+    (lifetime_in message) (closed (fail_all s))
+
+-- The server has no address of one of two families: IPv4 is given up, and IPv6 asked for alone
+-- (RFC 8656, section 7.4). The ID is new to all that was outstanding or listed before the reply.
+abbrev pub allocate_denied : ℕ → List ℕ → ℕ → State → State
+allocate_denied fresh message now s =
+    if has_code family_not_supported message && nat_le 2 (length s.families)
+    then requested fresh ForAllocation now (wait (AllocationCreateFailed IPV4 ∷ []) (record (in_phase s.phase s) { families = IPV6 ∷ [] }))
+    else closed (fail_all s)
+
+-- ---- REFRESH (RFC 8656, section 8.3)
+
+-- all allocations go, with all that is in them
+abbrev pub all_gone : State → State
+all_gone s = closed (without (λ g. true) s)
+
+-- What was to be given back is gone once the server says so, or that it never was there.
+abbrev pub given_back : Bool → List ℕ → State → State
+given_back is_granted message s = if is_granted || has_code allocation_mismatch message then heeded (all_gone s) else s
+
+-- what was asked for longer lasts as long as the server says
+abbrev pub prolonged : AddressFamily → ℕ → ℕ → State → State
+prolonged family lifetime now s =
+    if nat_le least_lifetime lifetime
+    then heeded (with_allocations (λ a. is_of_family family a.relayed) (λ a. record a { expiry = later_by (seconds lifetime) now })
+    (unlisted (λ g. is_some (allocation_in g) && is_of family g) s))
+    else s
+
+-- so many seconds more were asked for
+abbrev pub refreshed : AddressFamily → ℕ → Bool → List ℕ → ℕ → State → State
+refreshed family lifetime is_granted message now s =
+    if lifetime == 0 then given_back is_granted message s
+    else (if is_granted then option_map_or (λ granted. prolonged family granted now s) (lifetime_in message) s
+    else s)
+
+-- ---- permissions (RFC 8656, section 10.3)
+
+-- what was active lasts up to another moment; it keeps its place
+abbrev pub renewed : (Grant → Bool) → ℕ → State → State
+renewed which expiry s = record s { grants = map by s.grants }
+  where
+    last : Grant → Grant
+    last (Permission ip progress) = Permission ip (Active expiry)
+    last (Channel number peer progress) = Channel number peer (Active expiry)
+    last grant = grant
+
+    by : Grant → Grant
+    by grant = if which grant then last grant else grant
+
+abbrev pub permission_answered : IpAddr → Bool → ℕ → State → State
+permission_answered ip is_granted now s = by (permission_for ip s) is_granted
+  where
+    by : Option Progress → Bool → State
+    by (Some Pending) true =
+        wait (PermissionCreated s.config.allocation_transport ip ∷ [])
+        (with_grant (Permission ip (Active (later_by permission_lifetime now))) (without (is_permission_of ip) s))
+    by (Some Pending) false = wait (failures_of (is_permission_of ip) s) (without (is_permission_of ip) s)
+    by (Some (Active expiry)) true =
+        renewed (is_permission_of ip) (later_by permission_lifetime now) (unlisted (is_permission_of ip) s)
+    by (Some (Active expiry)) false = jump (failures_of (is_permission_of ip) s) (without (is_permission_of ip) s)
+    by _ _ = s
+
+-- the permissions that the request of this ID was made for
+abbrev pub permissions_answered : ℕ → Bool → ℕ → State → State
+permissions_answered id is_granted now s = fold by s (purposes_of id s)
+  where
+    by : State → Purpose → State
+    by t (ForPermission ip) = permission_answered ip is_granted now t
+    by t _ = t
+
+-- ---- channels (RFC 8656, section 12.3)
+
+-- Neither its number nor its peer is bound again for a while (RFC 8656, section 12). It goes behind
+-- all others.
+abbrev pub reserved : ℕ → SocketAddr → ℕ → State → State
+reserved number peer expiry s =
+    with_grant (Channel number peer (Reserved (later_by reserved_time expiry))) (without (is_channel_of number) s)
+
+-- the pending permission that the request of this ID was to bring
+abbrev pub permission_refused_too : ℕ → State → State
+permission_refused_too id s = wait (failures_of which s) (without which s)
+  where
+    which : Grant → Bool
+    which g = is_pending_permission g && is_listed_for id g s
+
+-- The binding brings a permission with it, where one was asked for with it (RFC 8656, section 12.2). A
+-- refusal takes it too.
+abbrev pub channel_answered : ℕ → SocketAddr → ℕ → Bool → ℕ → State → State
+channel_answered number peer id is_granted now s = by (first_in (channel_progress number) s) is_granted
+  where
+    by : Option Progress → Bool → State
+    by (Some Pending) true =
+        wait (ChannelCreated s.config.allocation_transport peer ∷ [])
+        (with_grant (Channel number peer (Active (later_by channel_lifetime now)))
+        (without (is_channel_of number) (permissions_answered id true now s)))
+    by (Some Pending) false =
+        permission_refused_too id (wait (failures_of (is_channel_of number) s) (without (is_channel_of number) s))
+    by (Some (Active expiry)) true =
+        renewed (is_channel_of number) (later_by channel_lifetime now) (unlisted (is_channel_of number) s)
+    by (Some (Active expiry)) false = wait (failures_of (is_channel_of number) s) (reserved number peer expiry s)
+    by _ _ = s
+
+-- ---- CONNECT (RFC 6062, section 4.3)
+
+-- the caller is to open a connection to the peer
+abbrev pub with_offer : ℕ → SocketAddr → Origin → State → State
+with_offer connection_id peer origin s =
+    with_grant (Offer (record { connection_id = connection_id; peer = peer; is_told = false; origin = origin })) s
+
+abbrev pub connect_answered : SocketAddr → Option ℕ → State → State
+connect_answered peer (Some connection_id) s = with_offer connection_id peer OwnConnect (without (is_connect_to peer) s)
+connect_answered peer None s = wait (failures_of (is_connect_to peer) s) (without (is_connect_to peer) s)
+
+-- ---- a signed reply, whose request is outstanding no longer
+
+-- what it changes for one purpose of its request
+abbrev pub effect : ℕ → Bool → List ℕ → ℕ → State → Purpose → State
+effect id is_granted message now s (ForRefresh family lifetime) = refreshed family lifetime is_granted message now s
+effect id is_granted message now s (ForPermission ip) = heeded (permission_answered ip is_granted now s)
+effect id is_granted message now s (ForChannel number peer) = heeded (channel_answered number peer id is_granted now s)
+effect id is_granted message now s (ForConnect peer) =
+    heeded (connect_answered peer (if is_granted then connection_id_in message else None) s)
+effect id is_granted message now s _ = s

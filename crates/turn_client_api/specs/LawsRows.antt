@@ -1,0 +1,93 @@
+-- Worked states, so that the check computes what the machine answers in them.
+use Rattle.std.specs.Prelude.{ℕ, List, [], ◌∷◌, ◌++◌, Some, None}
+use Rattle.std.specs.declared.net.ip_addr.IpAddr.{IpAddr}
+use Rattle.std.specs.declared.net.ip_addr.IpAddr.TheVariants as Ip
+use Rattle.std.specs.declared.net.socket_addr.SocketAddr.{SocketAddr}
+use Rattle.turn_stun.specs.Number.{id_bytes}
+use Rattle.turn_stun.specs.XorAddress.{xor_v4, xor_v6}
+use Rattle.std.specs.declared.net.socket_addr.SocketAddr.TheVariants.{V4, V6}
+use Rattle.turn_stun.specs.declared.transport.TransportType.TheVariants.{Udp}
+use Rattle.turn_types.specs.declared.family.AddressFamily.TheVariants.{IPV4, IPV6}
+use Rattle.turn_agent.specs.declared.transaction.Transaction.{Transaction}
+use Rattle.turn_agent.specs.Agent.{first_sent}
+use Rattle.turn_client_api.specs.State.{State, Requesting, Allocated, ForAllocation, Grant, Channel, Permission, Pending, Purpose, ForRefresh, ForChannel, ForPermission}
+use Rattle.turn_client_api.specs.Requests.{listings}
+use Rattle.turn_client_api.specs.Effect.{new_allocation}
+use Rattle.turn_client_api.specs.Calls.{all_expired}
+
+-- ---- addresses
+
+-- 10.0.0.1:5000, and with the last group 1 of IPv6
+abbrev pub relayed_v4 : SocketAddr
+relayed_v4 = V4 (xor_v4 (10 ∷ 0 ∷ 0 ∷ 1 ∷ []) 5000)
+
+abbrev pub relayed_v6 : SocketAddr
+relayed_v6 = V6 (xor_v6 (0x2001 ∷ 0xdb8 ∷ 0 ∷ 0 ∷ 0 ∷ 0 ∷ 0 ∷ 1 ∷ []) 5000)
+
+-- 10.0.0.3, and its port 9000
+abbrev pub peer_ip : IpAddr
+peer_ip = Ip.V4 (record { octets = 10 ∷ 0 ∷ 0 ∷ 3 ∷ [] })
+
+abbrev pub peer : SocketAddr
+peer = V4 (xor_v4 (10 ∷ 0 ∷ 0 ∷ 3 ∷ []) 9000)
+
+-- ---- states
+
+-- a client over UDP with these grants, that sent its last request at this moment and awaits nothing
+abbrev pub granted_at : ℕ → List Grant → State → State
+granted_at moment grants s = record s {
+  config = record s.config { allocation_transport = Udp; request_retransmits = None };
+  transport = Udp;
+  phase = Allocated;
+  grants = grants;
+  listed = [];
+  transactions = [];
+  queue = [];
+  last_send = Some moment;
+  events = [];
+  closes = [];
+}
+
+-- a new client over UDP that sent its first ALLOCATE, number 7, at moment 0
+abbrev pub requesting : List ℕ → State → State
+requesting text s = record (granted_at 0 [] s) {
+  phase = Requesting;
+  listed = listings 7 (ForAllocation ∷ []);
+  transactions = first_sent 7 s.remote 0 text ∷ [];
+}
+
+-- ---- the first ALLOCATE (RFC 8656, section 7.1)
+
+-- so many bytes behind the header, a lifetime of 1800 s, and UDP to be relayed unfragmented
+abbrev pub allocate_bytes : ℕ → ℕ → List ℕ → List ℕ
+allocate_bytes len id others =
+    (0x00 ∷ 0x03 ∷ 0x00 ∷ len ∷ 0x21 ∷ 0x12 ∷ 0xa4 ∷ 0x42 ∷ []) ++ id_bytes id
+    ++ (0x00 ∷ 0x0d ∷ 0x00 ∷ 0x04 ∷ 0x00 ∷ 0x00 ∷ 0x07 ∷ 0x08 ∷ [])
+    ++ (0x00 ∷ 0x19 ∷ 0x00 ∷ 0x04 ∷ 0x11 ∷ 0x00 ∷ 0x00 ∷ 0x00 ∷ [])
+    ++ (0x00 ∷ 0x1a ∷ 0x00 ∷ 0x00 ∷ []) ++ others
+
+-- ---- requests that get no response
+
+-- Over UDP with the default times a request is given up 39.5 s behind its first send: this one, number 7,
+-- was first sent at 1 s, and for the seventh and last time at 32.5 s (RFC 8489, section 6.2.1).
+abbrev pub last_sent : SocketAddr → List ℕ → Transaction
+last_sent to text = record { id = 7; to = to; resends = 6; last_send = 32_500_000_000; request = text }
+
+-- the request was made for these
+abbrev pub awaiting : List Purpose → SocketAddr → List ℕ → State → State
+awaiting purposes to text s = record s { transactions = last_sent to text ∷ []; listed = listings 7 purposes }
+
+-- allocations of both families, granted for 1800 s at 50 ms
+abbrev pub both_allocations : List Grant
+both_allocations = new_allocation 1800 50_000_000 relayed_v4 ∷ new_allocation 1800 50_000_000 relayed_v6 ∷ []
+
+-- the client gave them back at 1 s, and nothing came
+abbrev pub deleted_in_silence : SocketAddr → List ℕ → State → State
+deleted_in_silence to text s =
+    awaiting (ForRefresh IPV4 0 ∷ ForRefresh IPV6 0 ∷ []) to text (all_expired 1_000_000_000 (granted_at 32_500_000_000 both_allocations s))
+
+-- the client asked for a channel and the permission that it needs, and nothing came
+abbrev pub binding_in_silence : SocketAddr → List ℕ → State → State
+binding_in_silence to text s =
+    awaiting (ForChannel 0x4000 peer ∷ ForPermission peer_ip ∷ []) to text
+    (granted_at 32_500_000_000 (new_allocation 1800 50_000_000 relayed_v4 ∷ Channel 0x4000 peer Pending ∷ Permission peer_ip Pending ∷ []) s)

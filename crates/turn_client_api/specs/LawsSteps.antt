@@ -1,0 +1,37 @@
+-- What every call keeps.
+use Rattle.std.specs.Prelude.{◌≡◌, ◌⊎◌, ◌+◌, ◌<◌, ◌≤◌, Some, IsSome, ℕ}
+use Rattle.turn_auth.specs.LongTerm.{Challenge}
+use Rattle.turn_client_api.specs.State.{State, Phase, New, Requesting, Authenticating, Allocated, Closed}
+use Rattle.turn_client_api.specs.Retry.{most_challenges}
+
+-- a client that has ended stays so
+abbrev pub StaysClosed : State → State → Type 0
+StaysClosed s t = s.phase ≡ Closed → t.phase ≡ Closed
+
+-- no more challenges are answered than may be
+abbrev pub StaysPatient : State → State → Type 0
+StaysPatient s t = s.challenges ≤ most_challenges → t.challenges ≤ most_challenges
+
+-- realm and algorithm, once held, stay
+abbrev pub KeepsRealm : State → State → Type 0
+KeepsRealm s t =
+    (c : Challenge) → s.held ≡ Some c → (d : Challenge) × (t.held ≡ Some d) × (d.realm ≡ c.realm) × (d.algorithm ≡ c.algorithm)
+
+-- A challenge over the control connection is answered only where fewer than nine were, and counted then.
+-- One that is about nothing changes nothing, and one too many ends the client.
+abbrev pub IsCounted : State → State → Type 0
+IsCounted s t =
+    (t ≡ s) ⊎ (((s.challenges < most_challenges) × (t.challenges ≡ s.challenges + 1))
+    ⊎ ((most_challenges ≤ s.challenges) × (t.phase ≡ Closed) × (t.challenges ≡ s.challenges)))
+
+-- how far a client has come
+abbrev pub rank : Phase → ℕ
+rank New = 0
+rank Requesting = 1
+rank Authenticating = 2
+rank Allocated = 3
+rank Closed = 4
+
+-- a client goes on from phase to phase and never back, and it stays one that has sent a request
+abbrev pub GoesOn : State → State → Type 0
+GoesOn s t = (rank s.phase ≤ rank t.phase) × (IsSome s.last_send → IsSome t.last_send)

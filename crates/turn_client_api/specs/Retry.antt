@@ -1,0 +1,67 @@
+-- A request is made again, signed as the server's challenge asks (RFC 8489, section 9.2.5).
+use Rattle.std.specs.Prelude.{ℕ, ◌+◌, Bool, true, false, List, find, Option, Some, None}
+use Rattle.turn_auth.specs.LongTerm.{Challenge}
+use Rattle.turn_client_api.specs.State.{State, Phase, Requesting, Authenticating, Purpose, ForAllocation, ForRefresh, ForPermission, ForChannel, ForConnect}
+use Rattle.turn_client_api.specs.Grants.{purposes_of}
+use Rattle.turn_client_api.specs.Requests.{fresh_id, asked, queued, request_for}
+use Rattle.turn_client_api.specs.Effect.{ended}
+
+-- so many challenges are answered one after the other: a server that always asks for another nonce ends
+-- the client (our choice)
+abbrev pub most_challenges : ℕ
+most_challenges = 9
+
+abbrev pub is_refresh : Purpose → Bool
+is_refresh (ForRefresh family lifetime) = true
+is_refresh _ = false
+
+abbrev pub is_channel_bind : Purpose → Bool
+is_channel_bind (ForChannel number peer) = true
+is_channel_bind _ = false
+
+abbrev pub is_create_permission : Purpose → Bool
+is_create_permission (ForPermission ip) = true
+is_create_permission _ = false
+
+abbrev pub is_allocate_or_connect : Purpose → Bool
+is_allocate_or_connect ForAllocation = true
+is_allocate_or_connect (ForConnect peer) = true
+is_allocate_or_connect _ = false
+
+-- The first of these, or else what follows. A request that binds a channel is listed for a permission
+-- too, and is made again as it was.
+abbrev pub first_or : Option Purpose → Option Purpose → Option Purpose
+first_or (Some purpose) others = Some purpose
+first_or None others = others
+
+-- the purpose for which the request of this ID is made again over the control connection
+abbrev pub retried : List Purpose → Option Purpose
+retried purposes =
+    first_or (find is_refresh purposes)
+    (first_or (find is_channel_bind purposes)
+    (first_or (find is_create_permission purposes)
+    (find is_allocate_or_connect purposes)))
+
+-- once it is answered, the first ALLOCATE is a signed one
+abbrev pub phase_after : Phase → Phase
+phase_after Requesting = Authenticating
+phase_after phase = phase
+
+-- the nonce is taken, and by the first challenge realm and algorithm, which never change then
+abbrev pub with_held : Challenge → State → State
+with_held challenge s = record s { held = Some challenge }
+
+-- Realm, nonce and algorithm are taken, and the request of this ID is made again under a new one, which
+-- is listed for all that the old one is listed for. The old one is outstanding no longer.
+abbrev pub state_after_retry : State → ℕ → Purpose → Challenge → ℕ → State
+state_after_retry s id purpose challenge now =
+    let t = with_held challenge (record (ended id s) { phase = phase_after s.phase; challenges = s.challenges + 1 }) in
+    let text = request_for t purpose (fresh_id s) in
+    queued true s.local text (asked (fresh_id s) text (purposes_of id s) now t)
+
+-- ---- CONNECTION_BIND
+
+-- how long the server may take to bind a data connection: as long as a request by default (RFC 6062,
+-- section 4.3, and RFC 8489, section 6.2.1)
+abbrev pub bind_time : ℕ
+bind_time = 39_500_000_000

@@ -1,0 +1,47 @@
+-- Each call that may change a client, and the state after it.
+use Rattle.std.specs.Prelude.{ℕ, List, Option}
+use Rattle.std.specs.declared.net.ip_addr.IpAddr.{IpAddr}
+use Rattle.std.specs.declared.net.socket_addr.SocketAddr.{SocketAddr}
+use Rattle.turn_stun.specs.declared.transport.TransportType.{TransportType}
+use Rattle.turn_client_api.specs.declared.poll.Socket5Tuple.{Socket5Tuple}
+use Rattle.turn_client_api.specs.State.{State}
+use Rattle.turn_client_api.specs.Streams.{poll_recv_step}
+use Rattle.turn_client_api.specs.Receive.{recv_step, tcp_closed_step}
+use Rattle.turn_client_api.specs.Calls.{allocated_tcp_socket_step, bind_channel_step, create_permission_step, delete_step, protocol_error_step, send_to_step, tcp_connect_step}
+use Rattle.turn_client_api.specs.Poll.{poll_step}
+use Rattle.turn_client_api.specs.Transmit.{transmit_step}
+use Rattle.turn_client_api.specs.Answers.{event_step}
+
+-- a call, and the moment at which it comes
+pub data Call : Type 0 where
+  Delete : ℕ → Call
+  CreatePermission : TransportType → IpAddr → ℕ → Call
+  BindChannel : TransportType → SocketAddr → ℕ → Call
+  TcpConnect : SocketAddr → ℕ → Call
+  -- the number, the control connection, the peer, and the local end, or none
+  AllocatedTcpSocket : ℕ → Socket5Tuple → SocketAddr → Option SocketAddr → ℕ → Call
+  TcpClosed : SocketAddr → SocketAddr → Call
+  SendTo : TransportType → SocketAddr → List ℕ → ℕ → Call
+  -- from, to, and the bytes
+  Recv : TransportType → SocketAddr → SocketAddr → List ℕ → ℕ → Call
+  PollRecv : ℕ → Call
+  Poll : ℕ → Call
+  PollTransmit : ℕ → Call
+  PollEvent : Call
+  ProtocolError : Call
+
+-- the state after the call, which found memory
+abbrev pub state_after : Call → State → State
+state_after (Delete now) s = (delete_step now s).1
+state_after (CreatePermission transport peer now) s = (create_permission_step transport peer now s).1
+state_after (BindChannel transport peer now) s = (bind_channel_step transport peer now s).1
+state_after (TcpConnect peer now) s = (tcp_connect_step peer now s).1
+state_after (AllocatedTcpSocket id tuple peer local now) s = (allocated_tcp_socket_step id tuple peer local now s).1
+state_after (TcpClosed local remote) s = tcp_closed_step local remote s
+state_after (SendTo transport peer bytes now) s = (send_to_step transport peer bytes now s).1
+state_after (Recv transport from to bytes now) s = (recv_step transport from to bytes now s).1
+state_after (PollRecv now) s = (poll_recv_step now s).1
+state_after (Poll now) s = (poll_step now s).1
+state_after (PollTransmit now) s = (transmit_step now s).1
+state_after PollEvent s = (event_step s).1
+state_after ProtocolError s = protocol_error_step s

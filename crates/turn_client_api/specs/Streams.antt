@@ -1,0 +1,148 @@
+-- The streams of a client over TCP, cut into frames (RFC 8656, section 12.5, and RFC 6062).
+use Rattle.std.specs.Prelude.{ℕ, zero, suc, Bool, true, false, not, ◌&&◌, if◌then◌else◌, List, [], ◌∷◌, ◌++◌, map, filter, find, sum_by, length, take, drop, Option, Some, None, is_some, option_to_list}
+use Rattle.std.specs.declared.ops.Range.{Range}
+use Rattle.std.specs.declared.net.socket_addr.SocketAddr.{SocketAddr}
+use Rattle.turn_stun.specs.declared.transport.TransportType.TheVariants.{Tcp}
+use Rattle.turn_types.specs.Frames.{begins_message, begins_no_frame, frame_len}
+use Rattle.turn_agent.specs.Agent.{same_address}
+use Rattle.turn_client_api.specs.State.{State, Mode, Control, Waiting, Bound, Broken, Stream}
+use Rattle.turn_client_api.specs.Connections.{bind_step}
+use Rattle.turn_client_api.specs.Payloads.{Payload, Outcome, Handled, Ignored, PeerData, PeerIcmp, channel_sent, is_message, message_step}
+
+-- ---- the list of streams
+
+abbrev pub stream_at : SocketAddr → State → Option Stream
+stream_at local s = find (λ stream. same_address stream.local local) s.streams
+
+abbrev pub without_stream : SocketAddr → State → State
+without_stream local s = record s { streams = filter (λ stream. not (same_address stream.local local)) s.streams }
+
+-- the stream at this local end has these bytes now
+abbrev pub with_bytes : SocketAddr → List ℕ → State → State
+with_bytes local bytes s = record s { streams = map by s.streams }
+  where
+    by : Stream → Stream
+    by stream = if same_address stream.local local then record stream { bytes = bytes } else stream
+
+-- nothing more comes of the stream at this local end, and what waits there is dropped
+abbrev pub broken_at : SocketAddr → State → State
+broken_at local s = record s { streams = map by s.streams }
+  where
+    by : Stream → Stream
+    by stream = if same_address stream.local local then record stream { mode = Broken; bytes = [] } else stream
+
+-- ---- one whole frame
+
+-- bytes that have stood in a stream are handed out owned
+abbrev pub owned : Outcome → Outcome
+owned (PeerData payload) = PeerData (record payload { place = None })
+owned outcome = outcome
+
+-- what does not parse as a message is dropped, and is handled
+abbrev pub control_frame_step : List ℕ → ℕ → State → Outcome × State
+control_frame_step frame now s =
+    if not (begins_message frame) then (channel_sent s frame, s)
+    else (if is_message frame then message_step frame now s
+    else (Handled, s))
+
+-- on a connection that waits to be bound only messages are handled
+abbrev pub waiting_frame_step : SocketAddr → List ℕ → ℕ → State → Outcome × State
+waiting_frame_step local frame now s =
+    if not (begins_message frame) then (Ignored, s)
+    else (if is_message frame then (Handled, bind_step local frame now s)
+    else (Handled, s))
+
+abbrev pub sent_by : SocketAddr → List ℕ → Option (Range ℕ) → Payload
+sent_by peer bytes place = record { transport = Tcp; peer = peer; bytes = bytes; place = place }
+
+-- what is made of one whole frame of a stream, or of the bytes of a bound one
+abbrev pub frame_step : Stream → List ℕ → ℕ → State → Outcome × State
+frame_step stream frame now s = by stream.mode
+  where
+    by : Mode → Outcome × State
+    by Control = control_frame_step frame now s
+    by Waiting = waiting_frame_step stream.local frame now s
+    by (Bound peer) = (PeerData (sent_by peer frame None), s)
+    by Broken = (Handled, s)
+
+-- ---- the turn of a stream
+
+-- how many bytes are handled next, or nothing where a stream has to wait for more
+abbrev pub ready_len : Stream → Option ℕ
+ready_len stream = by stream.mode stream.bytes
+  where
+    framed : List ℕ → Option ℕ
+    framed bytes = if begins_no_frame bytes then Some (length bytes) else frame_len bytes
+
+    by : Mode → List ℕ → Option ℕ
+    by Control bytes = framed bytes
+    by Waiting bytes = framed bytes
+    by (Bound peer) [] = None
+    by (Bound peer) bytes = Some (length bytes)
+    by Broken bytes = None
+
+abbrev pub is_ready : Stream → Bool
+is_ready stream = is_some (ready_len stream)
+
+abbrev pub is_bound : Mode → Bool
+is_bound (Bound peer) = true
+is_bound _ = false
+
+-- Of frames, what no frame begins with breaks the stream when its turn comes (our choice: where the
+-- next frame begins can't be known). Of a bound stream all bytes are handled at once.
+abbrev pub turn_of_len : Stream → ℕ → ℕ → State → Outcome × State
+turn_of_len stream len now s =
+    if not (is_bound stream.mode) && begins_no_frame stream.bytes then (Handled, broken_at stream.local s)
+    else frame_step stream (take len stream.bytes) now (with_bytes stream.local (drop len stream.bytes) s)
+
+abbrev pub turn : Stream → ℕ → State → Outcome × State
+turn stream now s = by (ready_len stream)
+  where
+    by : Option ℕ → Outcome × State
+    by (Some len) = turn_of_len stream len now s
+    by None = (Handled, s)
+
+-- ---- all streams, in the order of their opening
+
+-- up to a payload
+abbrev pub go_on : (State → Option Payload × State) → Outcome × State → Option Payload × State
+go_on next (PeerData payload, s) = (Some (record payload { place = None }), s)
+go_on next (Handled, s) = next s
+go_on next (Ignored, s) = next s
+go_on next (PeerIcmp transport peer icmp, s) = next s
+
+abbrev pub turn_of_first : (State → Option Payload × State) → ℕ → State → Option Stream → Option Payload × State
+turn_of_first next now s None = (None, s)
+turn_of_first next now s (Some stream) = go_on next (turn stream now s)
+
+-- so many turns, each of the first stream that is ready, or as many as there are up to a payload; what
+-- ICMP tells is dropped here
+unfoldable pub turns : ℕ → ℕ → State → Option Payload × State
+turns zero now s = (None, s)
+turns (suc n) now s = turn_of_first (turns n now) now s (find is_ready s.streams)
+
+-- each turn takes a byte at least
+abbrev pub most_turns : State → ℕ
+most_turns s = sum_by (λ stream. length stream.bytes) s.streams
+
+-- what is handed out next of what the streams hold
+abbrev pub poll_recv_step : ℕ → State → Option Payload × State
+poll_recv_step now s = turns (most_turns s) now s
+
+-- ---- payloads
+
+-- a whole frame, and the stream that it came in
+pub record Framed : Type 0 where
+  pub stream : Stream
+  pub frame : List ℕ
+
+abbrev pub payload_in : Outcome → Option Payload
+payload_in (PeerData payload) = Some payload
+payload_in _ = None
+
+-- the payloads of whole frames, each handled in the state that the one before left
+abbrev pub payloads : List Framed → ℕ → State → List Payload
+payloads [] now s = []
+payloads (f ∷ later) now s =
+    let step = frame_step f.stream f.frame now s in
+    option_to_list (payload_in step.0) ++ payloads later now step.1

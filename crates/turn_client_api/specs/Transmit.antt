@@ -1,0 +1,83 @@
+-- What a client sends next (RFC 8489, section 6.2; RFC 8656, sections 8 to 12).
+use Rattle.std.specs.Prelude.{ℕ, ◌==◌, slice_get, drop, nat_le, nat_lt, Bool, false, ◌&&◌, if◌then◌else◌, List, [], ◌∷◌, filter, filter_map, flat_map, Option, Some, None}
+use Rattle.turn_stun.specs.declared.transport.Transmit.{Transmit}
+use Rattle.std.specs.Option.{option_map_or}
+use Rattle.turn_agent.specs.Agent.{due, resent}
+use Rattle.turn_client_api.specs.State.{State, Phase, New, Requesting, Allocated, Grant, Allocation, Permission, Channel, Relay, Active, Purpose, ForAllocation, ForRefresh, ForPermission, ForChannel, Queued, agent_of}
+use Rattle.turn_client_api.specs.Grants.{allocations, family_of, is_of}
+use Rattle.turn_client_api.specs.Requests.{asked, asked_lifetime, first_allocate, fresh_id, request_for, to_server}
+use Rattle.turn_client_api.specs.Due.{is_paused, refresh_time}
+
+-- a request was sent, so the pause begins anew
+abbrev pub sent : ℕ → State → State
+sent now s = record s { last_send = Some now }
+
+-- ---- refreshes
+
+-- for what a grant is asked again; what has lapsed is not, and an allocation only up to its end
+abbrev pub refresh_purpose : ℕ → Grant → Option Purpose
+refresh_purpose now (Allocation a) = if nat_le now a.expiry then Some (ForRefresh (family_of a.relayed) asked_lifetime) else None
+refresh_purpose now (Permission ip (Active expiry)) = if nat_lt now expiry then Some (ForPermission ip) else None
+refresh_purpose now (Channel number peer (Active expiry)) = if nat_lt now expiry then Some (ForChannel number peer) else None
+refresh_purpose now _ = None
+
+-- the time to refresh the grant has come
+abbrev pub is_refresh_due : ℕ → State → Grant → Bool
+is_refresh_due now s grant = option_map_or (λ moment. nat_le moment now) (refresh_time s grant) false
+
+-- in an allocation itself comes first, then its channels, then its permissions
+abbrev pub is_ranked : ℕ → Grant → Bool
+is_ranked rank (Allocation a) = rank == 0
+is_ranked rank (Channel number peer progress) = rank == 1
+is_ranked rank (Permission ip progress) = rank == 2
+is_ranked rank _ = false
+
+-- what is to be refreshed in one allocation, unless that is past its end
+abbrev pub refreshes_in : ℕ → State → Relay → List Purpose
+refreshes_in now s a = if nat_le now a.expiry then flat_map ranked (0 ∷ 1 ∷ 2 ∷ []) else []
+  where
+    ranked : ℕ → List Purpose
+    ranked rank = filter_map (refresh_purpose now) (filter (λ g. is_ranked rank g && is_of (family_of a.relayed) g && is_refresh_due now s g) s.grants)
+
+-- a request is made and goes out at once
+abbrev pub sent_at_once : List ℕ → Purpose → ℕ → State → Option (Transmit (List ℕ)) × State
+sent_at_once text purpose now s =
+    (Some (to_server s s.local text), sent now (asked (fresh_id s) text (purpose ∷ []) now s))
+
+-- the request that refreshes the first grant whose time has come
+abbrev pub refresh_step : ℕ → State → Option (Transmit (List ℕ)) × State
+refresh_step now s =
+    option_map_or (λ purpose. sent_at_once (request_for s purpose (fresh_id s)) purpose now s)
+    (slice_get (flat_map (refreshes_in now s) (allocations s)) 0) (None, s)
+
+-- ---- what waits
+
+abbrev pub reply_in : Queued → Option (Transmit (List ℕ))
+reply_in q = if q.is_request then None else Some q.packet
+
+abbrev pub without_first_reply : List Queued → List Queued
+without_first_reply [] = []
+without_first_reply (q ∷ others) = if q.is_request then q ∷ without_first_reply others else others
+
+-- within the pause a reply goes out alone, and does not prolong it
+abbrev pub reply_step : State → Option (Transmit (List ℕ)) × State
+reply_step s = (slice_get (filter_map reply_in s.queue) 0, record s { queue = without_first_reply s.queue })
+
+-- with nothing queued, a new client sends the first ALLOCATE, and one with allocations refreshes them
+abbrev pub idle_step : Phase → ℕ → State → Option (Transmit (List ℕ)) × State
+idle_step New now s = sent_at_once (first_allocate s (fresh_id s)) ForAllocation now (record s { phase = Requesting })
+idle_step Allocated now s = refresh_step now s
+idle_step _ now s = (None, s)
+
+abbrev pub queue_step : ℕ → State → Option (Transmit (List ℕ)) × State
+queue_step now s =
+    option_map_or (λ q. (Some q.packet, sent now (record s { queue = drop 1 s.queue }))) (slice_get s.queue 0) (idle_step s.phase now s)
+
+-- what is sent next: what is due again, what is queued, and then what the client has to ask for
+abbrev pub transmit_step : ℕ → State → Option (Transmit (List ℕ)) × State
+transmit_step now s =
+    option_map_or (λ t. (Some (record (to_server s s.local t.request) { to = t.to }), sent now (record s { transactions = resent t.id now s.transactions })))
+    (due (agent_of s) now) (if is_paused now s then reply_step s else queue_step now s)
+
+abbrev pub next_transmit : ℕ → State → Option (Transmit (List ℕ))
+next_transmit now s = (transmit_step now s).0

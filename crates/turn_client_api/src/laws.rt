@@ -1,0 +1,18 @@
+//! Laws of the machine. Their functions do nothing: what they ensure is the law.
+
+mod alarm;
+mod order;
+mod peers;
+mod rows;
+mod steps;
+mod wakeup;
+
+pub use alarm::sleeps_through_nothing;
+pub use order::clients_stay_in_order;
+pub use peers::only_let_in;
+pub use rows::{
+    channel_numbers_count_up, delete_is_one_request, failures_jump, first_allocate_is_spelled,
+    moments_are_told,
+};
+pub use steps::{challenges_are_counted, phases_go_on, realm_stays, stays_closed};
+pub use wakeup::wakeup_is_the_least_moment;
