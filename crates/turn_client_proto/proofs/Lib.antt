@@ -1,0 +1,2 @@
+pub mod AlarmLemmas
+pub mod RunLemmas

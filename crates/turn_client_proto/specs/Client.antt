@@ -1,0 +1,8 @@
+-- The client over any transport.
+use Rattle.turn_client_proto.specs.First.{State}
+use Rattle.turn_client_proto.specs.declared.client.TurnClient.{TurnClient}
+use Rattle.turn_client_proto.specs.declared.client.TurnClient.TheVariants.{Udp}
+
+-- what a contract sees of it
+abbrev pub state_of : TurnClient → State
+state_of (Udp client) = client

@@ -1,0 +1,16 @@
+//! What every client does, and what it is handed and answers.
+//!
+//! A client reads no clock and opens no socket. Its caller hands in what came and the moment, sends
+//! what `poll_transmit` gives, takes what `poll_event` gives, and calls again at the moment that
+//! `poll` tells.
+
+mod calls;
+
+pub use calls::TurnClientApi;
+pub use turn_client_api::{
+    BindChannelError, CreatePermissionError, Data, DataRange, DataRangeOrOwned,
+    DelayedMessageOrChannelSend, DelayedTransmit, DeleteError, PermissionAddressesIter,
+    PermissionRecord, RelayedAddressesIter, RelayedRecord, RequestRetransmits, SendError,
+    Socket5Tuple, TcpAllocateError, TcpConnectError, Transmit, TransmitBuild, TurnConfig,
+    TurnEvent, TurnPeerData, TurnPollRet, TurnRecvRet,
+};

@@ -1,0 +1,6 @@
+//! What no clause says: outside bytes, worked runs, and that calls succeed while there is memory.
+
+mod calls;
+mod fixture;
+mod memory;
+mod worked_runs;

@@ -1,0 +1,5 @@
+//! What TURN adds to STUN: attributes, channel frames, and packets that are built when they are sent.
+
+pub use turn_types::{
+    AddressFamily, TransportType, attribute, channel, error, message, tcp, transmit,
+};
