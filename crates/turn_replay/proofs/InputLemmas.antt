@@ -1,0 +1,38 @@
+-- Reading off a reader, one read after the other.
+use Rattle.std.proofs.Common.{◌≡◌, ℕ, ◌<◌, ◌≤◌, Bool, List, ◌++◌, length, Option, Some, None, sym, ap, ◌∙◌, arith, append_assoc}
+use Rattle.std.proofs.lemmas.List.{append-nil, take_all, take-append-le}
+use Rattle.std.specs.Io.KnownBytes.{Consumes, IsAtEnd}
+use Rattle.turn_replay.specs.Answer.{IsRead, ReadsMore, taken}
+
+-- what two reads took, one behind the other
+Consumes-append : (old mid new : Option (List ℕ)) (a b : List ℕ) → Consumes old mid a → Consumes mid new b → Consumes old new (a ++ b)
+Consumes-append None mid new a b h k = tt
+Consumes-append (Some xs) None new a b h k = absurd h
+Consumes-append (Some xs) (Some ys) None a b h k = absurd k
+Consumes-append (Some xs) (Some ys) (Some zs) a b h k = h ∙ ap (λ rest. a ++ rest) k ∙ sym (append_assoc a b zs)
+
+-- what is kept from read to read
+abbrev pub Kept : Option (List ℕ) → Option (List ℕ) → List ℕ → Type 0
+Kept old new bytes = Consumes old new bytes × (length bytes ≤ 1048577)
+
+pub kept_more : (old mid new : Option (List ℕ)) (before after : List ℕ) (goes_on : Bool) → Kept old mid before → ReadsMore mid new before after goes_on → Kept old new after
+kept_more old mid new before after goes_on k r =
+    (rw r.appended (Consumes-append old mid new before r.more k.0 r.consumed), r.few)
+
+-- one byte more than a trace may have was read
+pub read_when_full : (old new : Option (List ℕ)) (bytes : List ℕ) → Kept old new bytes → 1048576 < length bytes → IsRead old new bytes
+read_when_full None new bytes k full = record { all = tt; consumed = tt }
+read_when_full (Some xs) None bytes k full = absurd k.0
+read_when_full (Some xs) (Some ys) bytes k full =
+    let few = k.1 in
+    let all : bytes ≡ taken xs = sym (ap taken k.0 ∙ take-append-le 1048577 bytes ys (omega arith) ∙ take_all 1048577 bytes few) in
+    record { all = all; consumed = k.0 }
+
+-- there is no more
+pub read_at_end : (old new : Option (List ℕ)) (bytes : List ℕ) → Kept old new bytes → IsAtEnd new → IsRead old new bytes
+read_at_end None new bytes k end = record { all = tt; consumed = tt }
+read_at_end (Some xs) None bytes k end = absurd k.0
+read_at_end (Some xs) (Some ys) bytes k end =
+    let few = k.1 in
+    let same : xs ≡ bytes = k.0 ∙ ap (λ rest. bytes ++ rest) end ∙ append-nil bytes in
+    record { all = sym (ap taken same ∙ take_all 1048577 bytes few); consumed = k.0 }

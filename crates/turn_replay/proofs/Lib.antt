@@ -1,0 +1,8 @@
+pub mod AddressLemmas
+pub mod CallLemmas
+pub mod InputLemmas
+pub mod LawLemmas
+pub mod NumberLemmas
+pub mod PartsLemmas
+pub mod RunLemmas
+pub mod TraceLemmas

@@ -1,0 +1,100 @@
+-- What a run of the program reads and writes.
+use Rattle.std.specs.Prelude.{◌≡◌, ℕ, ◌/◌, ◌%◌, ◌≤◌, ◌⊎◌, Bool, false, List, ◌++◌, length, take, codes, Option, Some, None, IfSome, Result, Ok, Err, ⊤}
+use Rattle.std.specs.Duration.{as_nanos}
+use Rattle.std.specs.declared.time.Duration.{Duration}
+use Rattle.std.specs.Io.KnownBytes.{Appends, Consumes, IsAtEnd}
+use Rattle.turn_stun.specs.declared.transport.TransportType.TheVariants.{Udp}
+use Rattle.turn_client_api.specs.declared.config.RequestRetransmits.{RequestRetransmits}
+use Rattle.turn_client_proto.specs.Run.{run}
+use Rattle.turn_client_proto.specs.declared.runs.call.Call.{Call}
+use Rattle.turn_replay.specs.Configuration.{config_with}
+use Rattle.turn_replay.specs.Text.{answers_text, bad_text}
+use Rattle.turn_replay.specs.Trace.{trace_of}
+use Rattle.turn_replay.specs.declared.fault.BadLine.{BadLine}
+use Rattle.turn_replay.specs.declared.head.Head.{Head}
+use Rattle.turn_replay.specs.declared.head.waits.Waits.{Waits}
+use Rattle.turn_replay.specs.declared.status.Status.{Status}
+use Rattle.turn_replay.specs.declared.status.Status.TheVariants.{Answered, Malformed, OutOfMemory, ReadFailed, WriteFailed}
+
+-- all of the input, or of a longer one a byte more than a trace may have
+abbrev pub taken : List ℕ → List ℕ
+taken input = take 1048577 input
+
+-- these bytes were read off a reader, and no more
+pub record IsRead (old new : Option (List ℕ)) (bytes : List ℕ) : Type 0 where
+  pub all : IfSome old (λ input. bytes ≡ taken input)
+  pub consumed : Consumes old new bytes
+
+-- a read added some bytes; where it does not go on, there are no more
+pub record ReadsMore (old new : Option (List ℕ)) (before after : List ℕ) (goes_on : Bool) : Type 0 where
+  pub more : List ℕ
+  pub appended : after ≡ before ++ more
+  pub consumed : Consumes old new more
+  pub few : length after ≤ 1048577
+  pub end : goes_on ≡ false → IsAtEnd new
+
+-- ---- when the client sends again
+
+-- durations of these nanoseconds
+abbrev pub Tells : Option Waits → Option RequestRetransmits → Type 0
+Tells None None = ⊤
+Tells None (Some times) = ⊥
+Tells (Some waits) None = ⊥
+Tells (Some waits) (Some times) =
+    (as_nanos times.initial ≡ waits.initial) × (as_nanos times.max ≡ waits.max) × (times.retransmits ≡ waits.count)
+    × (as_nanos times.final_retransmit_timeout ≡ waits.last)
+
+-- a duration of so many nanoseconds
+abbrev pub duration_of : ℕ → Duration
+duration_of nanos = record { secs = nanos / 1_000_000_000; nanos = nanos % 1_000_000_000 }
+
+abbrev pub times_of : Option Waits → Option RequestRetransmits
+times_of None = None
+times_of (Some waits) = Some (record {
+  initial = duration_of waits.initial;
+  max = duration_of waits.max;
+  retransmits = waits.count;
+  final_retransmit_timeout = duration_of waits.last;
+})
+
+-- ---- what is written
+
+-- a line for each answer of the client to the calls
+abbrev pub answered_text : Head → List Call → List ℕ
+answered_text head calls =
+    answers_text (run Udp head.ends.local head.ends.remote (config_with head.request head.credentials (times_of head.waits)) head.seed calls).0
+
+-- the status and the text for a trace: a line for each call, or the one line for its first bad line
+abbrev pub answer_of : Result (Head × List Call) BadLine → Status × List ℕ
+answer_of (Ok trace) = (Answered, answered_text trace.0 trace.1)
+answer_of (Err bad) = (Malformed, bad_text bad)
+
+abbrev pub answer_to : List ℕ → Status × List ℕ
+answer_to trace = answer_of (trace_of trace)
+
+-- a writer was told this text alone and the answer is that status, or the writer failed
+abbrev pub Told : Option (List ℕ) → Option (List ℕ) → Status → List ℕ → Status → Type 0
+Told old new status text result = (result ≡ WriteFailed) ⊎ ((result ≡ status) × Appends old new text)
+
+-- what was read of an input was answered, and nothing else was written
+abbrev pub Answers : Option (List ℕ) → Option (List ℕ) → Option (List ℕ) → Option (List ℕ) → Status → Type 0
+Answers input left old new status = IfSome input (λ bytes.
+    Consumes input left (taken bytes)
+    × (status ≡ (answer_to (taken bytes)).0)
+    × Appends old new (answer_to (taken bytes)).1)
+
+-- What a run of the program does, by how it ends. `input` is what the reader has, `left` what it has
+-- afterwards, `old` what the writer holds and `new` what it holds afterwards, where these are known.
+abbrev pub Runs : Option (List ℕ) → Option (List ℕ) → Option (List ℕ) → Option (List ℕ) → Status → Type 0
+Runs input left old new Answered = Answers input left old new Answered
+Runs input left old new Malformed = Answers input left old new Malformed
+Runs input left old new OutOfMemory = Appends old new (codes "no memory\n")
+Runs input left old new ReadFailed = Appends old new (codes "read failed\n")
+Runs input left old new WriteFailed = ⊤
+
+abbrev pub code_of : Status → ℕ
+code_of Answered = 0
+code_of Malformed = 2
+code_of OutOfMemory = 3
+code_of ReadFailed = 4
+code_of WriteFailed = 4

@@ -1,0 +1,12 @@
+pub mod Address
+pub mod Answer
+pub mod Call
+pub mod Configuration
+pub mod Fault
+pub mod Field
+pub mod Head
+pub mod Line
+pub mod Number
+pub mod Parts
+pub mod Text
+pub mod Trace

@@ -1,0 +1,46 @@
+-- A trace: its lines, the head and the calls.
+use Rattle.std.specs.Prelude.{ℕ, ◌+◌, ◌-◌, ◌==◌, ◌&&◌, nat_lt, if◌then◌else◌, List, [], ◌∷◌, length, take, slice_index, Result, Ok, Err}
+use Rattle.turn_client_proto.specs.declared.runs.call.Call.{Call}
+use Rattle.turn_replay.specs.Call.{call_of}
+use Rattle.turn_replay.specs.Fault.{needed, ◌>>=◌}
+use Rattle.turn_replay.specs.Head.{head_of}
+use Rattle.turn_replay.specs.Parts.{parts_of}
+use Rattle.turn_replay.specs.declared.fault.BadKind.{BadKind}
+use Rattle.turn_replay.specs.declared.fault.BadKind.TheVariants as Bad
+use Rattle.turn_replay.specs.declared.fault.BadLine.{BadLine}
+use Rattle.turn_replay.specs.declared.head.Head.{Head}
+
+abbrev pub bad_line : ℕ → BadKind → BadLine
+bad_line number kind = record { number = number; kind = kind }
+
+-- the first line is the head
+abbrev pub head_line_of : List (List ℕ) → Result (Head × List (List ℕ)) BadLine
+head_line_of [] = Err (bad_line 1 Bad.Head)
+head_line_of (line ∷ lines) = needed (head_of line) (bad_line 1 Bad.Head) (λ head. Ok (head, lines))
+
+-- the fault of a line, with its number
+abbrev pub at_line : {A : Type 0} → ℕ → Result A BadKind → Result A BadLine
+at_line number (Ok value) = Ok value
+at_line number (Err kind) = Err (bad_line number kind)
+
+-- the 10,000th call stands on line 10,001
+abbrev pub numbered_call_of : ℕ → List ℕ → Result Call BadLine
+numbered_call_of number line =
+    if nat_lt 10001 number then Err (bad_line number Bad.Size) else at_line number (call_of line)
+
+-- the calls of these lines, of which the first has this number
+unfoldable pub calls_of : ℕ → List (List ℕ) → Result (List Call) BadLine
+calls_of number [] = Ok []
+calls_of number (line ∷ lines) =
+    numbered_call_of number line >>= λ call. calls_of (number + 1) lines >>= λ calls. Ok (call ∷ calls)
+
+-- each line ends with LF, which the last may lack
+abbrev pub without_last_feed : List ℕ → List ℕ
+without_last_feed text =
+    if nat_lt 0 (length text) && (slice_index text (length text - 1) == 10) then take (length text - 1) text else text
+
+-- the head and the calls, or the first line that is bad; the size of the whole comes before all
+unfoldable pub trace_of : List ℕ → Result (Head × List Call) BadLine
+trace_of text =
+    if nat_lt 1048576 (length text) then Err (bad_line 0 Bad.Size)
+    else head_line_of (parts_of 10 (without_last_feed text)) >>= λ head. calls_of 2 head.1 >>= λ calls. Ok (head.0, calls)

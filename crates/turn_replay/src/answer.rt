@@ -1,0 +1,78 @@
+//! What a trace is answered.
+
+ghost use Rattle.std.specs.Prelude.{◌≡◌, IfOk, string_bytes};
+ghost use Rattle.turn_replay.specs.Answer.{Tells, answer_to, answered_text};
+
+use crate::configuration::configuration;
+use crate::fault::ReadError;
+use crate::head::{Head, Waits};
+use crate::print::{answers_text, bad_text};
+use crate::status::Status;
+use crate::trace::{Trace, parse_trace};
+use std::alloc::{AllocError, Global};
+use std::time::Duration;
+use turn_client_api::RequestRetransmits;
+use turn_client_proto::runs::replay;
+use turn_types::TransportType;
+
+/// The text that answers a trace: a line for each call of it, or the one line that says which line
+/// of it is bad. The whole trace is read before a client runs.
+///
+/// # Errors
+///
+/// There is no memory for the trace, for the client or for the text.
+pub fn answer(alloc: Global, text: &[u8]) -> Result<(Status, String), AllocError>
+    ensures { IfOk result (λ answer. (answer.0, string_bytes answer.1) ≡ answer_to text.now) }
+{
+    match parse_trace(alloc, text) {
+        Ok(trace) => {
+            let answers = replayed_text(alloc, trace)?;
+            Ok((Status::Answered, answers))
+        }
+        Err(ReadError::Bad(bad)) => {
+            let line = bad_text(alloc, bad)?;
+            Ok((Status::Malformed, line))
+        }
+        Err(ReadError::OutOfMemory) => Err(AllocError),
+    }
+}
+
+/// The lines of a client's answers.
+#[tactic(auto, using(crate::proofs::RunLemmas::run_same))]
+fn replayed_text(alloc: Global, trace: Trace) -> Result<String, AllocError>
+    ensures { IfOk result (λ text. string_bytes text ≡ answered_text trace.head trace.calls.items) }
+{
+    let Trace { head, calls } = trace;
+    let Head {
+        ends,
+        request,
+        credentials,
+        seed,
+        waits,
+    } = head;
+    let times = request_times(waits);
+    let config = configuration(alloc, request, credentials, times);
+    let replayed = replay(
+        alloc,
+        TransportType::Udp,
+        ends.local,
+        ends.remote,
+        config,
+        seed,
+        calls.as_slice(),
+    )?;
+    answers_text(alloc, replayed.replies.as_slice())
+}
+
+/// When requests are sent again, as a client is told it.
+fn request_times(waits: Option<Waits>) -> Option<RequestRetransmits>
+    ensures { Tells waits result }
+{
+    let waits = waits?;
+    Some(RequestRetransmits {
+        initial: Duration::from_nanos(waits.initial),
+        max: Duration::from_nanos(waits.max),
+        retransmits: waits.count,
+        final_retransmit_timeout: Duration::from_nanos(waits.last),
+    })
+}

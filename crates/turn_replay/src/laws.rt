@@ -1,0 +1,12 @@
+//! Laws on what a trace says.
+
+ghost use Rattle.std.specs.Prelude.{◌≡◌, ◌≤◌, ◌^◌, ℕ, Ok};
+ghost use Rattle.turn_client_proto.specs.declared.runs.call.Call.{Call};
+ghost use Rattle.turn_replay.specs.Call.{call_of};
+ghost use Rattle.turn_replay.specs.Line.{HasLine, call_line};
+
+/// The line of a call, read again, is that call. So no line is that of two calls.
+#[tactic(auto, using(crate::proofs::CallLemmas::call_is_read_again))]
+pub fn a_call_is_read_again()
+    ensures { (idle : ℕ) (call : Call) → idle ≤ 2 ^ 62 → HasLine call → call_of (call_line idle call) ≡ Ok call }
+{}

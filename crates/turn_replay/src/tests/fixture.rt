@@ -1,0 +1,38 @@
+//! A client of `user` with `pass`, and runs over memory.
+
+use crate::program::run;
+use crate::status::Status;
+use std::alloc::Global;
+use std::test::Fail;
+
+/// A head up to the seed.
+pub const CLIENT: &str = "udp 192.168.0.1:1000 10.0.0.2:2000 udp 4 sha1 auto 75736572 70617373";
+
+/// A seed of zeros.
+pub const SEED: &str = "0000000000000000000000000000000000000000000000000000000000000000";
+
+/// What comes from the server: its transport, its address and the client's.
+pub const FROM_SERVER: &str = "udp 10.0.0.2:2000 192.168.0.1:1000";
+
+/// The first ALLOCATE of this client (RFC 8656, section 7.1) under the first ID of the seed, as a
+/// packet that is to be sent.
+pub const SEND_ALLOCATE: &str =
+    "send udp 192.168.0.1:1000 10.0.0.2:2000 000300142112a44276b8e0ada0f13d90405d6ae5000d0004000007080019000411000000001a0000";
+
+/// A 400 (Bad Request) to it, without integrity (RFC 8489, section 14.8).
+pub const BAD_REQUEST: &str =
+    "011300142112a44276b8e0ada0f13d90405d6ae50009000f00000400426164205265717565737400";
+
+/// How the run of these bytes ended, and what it wrote.
+pub fn run_bytes(alloc: Global, trace: &[u8]) -> (Status, Vec<u8>) {
+    let mut reader = trace;
+    let mut written = Vec::new(alloc);
+    let status = run(alloc, &mut reader, &mut written);
+    (status, written)
+}
+
+/// The same of a text.
+pub fn run_text(alloc: Global, trace: &str) -> Result<(Status, String), Fail> {
+    let (status, written) = run_bytes(alloc, trace.as_bytes());
+    Ok((status, String::from_utf8(written)?))
+}

@@ -1,0 +1,36 @@
+//! Want of memory at each place: one line tells it, and nothing else is written.
+//!
+//! The test takes the refusal as an answer. `rt try --test --fail-alloc N` makes the Nth allocation
+//! fail.
+
+use crate::program::run;
+use crate::status::Status;
+use crate::tests::fixture::SEND_ALLOCATE;
+use std::test::Fail;
+
+const TRACE: &[u8] =
+    b"udp 192.168.0.1:1000 10.0.0.2:2000 udp 4 sha1 auto 75736572 70617373 0000000000000000000000000000000000000000000000000000000000000000 500000000,1000000000,2,1000000000
+0 transmit
+0 recv udp 10.0.0.2:2000 192.168.0.1:1000 0001
+500000000 transmit
+";
+
+#[test]
+fn refused_memory_is_told(rt: HostRuntime) -> Result<(), Fail> {
+    let mut reader = TRACE;
+    let mut room = [0; 512];
+    let mut writer = room.as_mut_slice();
+    let status = run(rt.alloc(), &mut reader, &mut writer);
+    let count = 512usize
+        .checked_sub(writer.len())
+        .ok_or("more is left than there was")?;
+    let written = room.get(..count).ok_or("more is left than there was")?;
+    if status == Status::OutOfMemory {
+        assert_eq!(rt; written, b"no memory\n".as_slice());
+        return Ok(());
+    }
+    assert_eq!(rt; status, Status::Answered);
+    let want = format!(in rt.alloc(); "{SEND_ALLOCATE}\nignored\n{SEND_ALLOCATE}\n")?;
+    assert_eq!(rt; written, want.as_bytes());
+    Ok(())
+}
