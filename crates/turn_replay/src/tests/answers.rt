@@ -121,6 +121,18 @@ fn seven_sends_by_default(rt: HostRuntime) -> Result<(), Fail> {
     Ok(())
 }
 
+// A wait that no moment ends: the caller is to come again in 9999 s.
+#[test]
+fn no_sleep_is_longer_than_9999_seconds(rt: HostRuntime) -> Result<(), Fail> {
+    let trace = format!(in rt.alloc();
+        "{CLIENT} {SEED} 18446744073709551615,18446744073709551615,2,0\n0 transmit\n0 poll\n"
+    )?;
+    let (_, written) = run_text(rt.alloc(), trace.as_str())?;
+    let want = format!(in rt.alloc(); "{SEND_ALLOCATE}\nwait 9999000000000\n")?;
+    assert_eq!(rt; written.as_str(), want.as_str());
+    Ok(())
+}
+
 #[test]
 fn a_refusal_ends_the_client(rt: HostRuntime) -> Result<(), Fail> {
     let trace = format!(in rt.alloc();
