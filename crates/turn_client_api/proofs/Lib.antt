@@ -5,6 +5,10 @@ pub mod HasLemmas
 pub mod KeepLemmas
 pub mod LapseLemmas
 pub mod MessageKeepLemmas
+pub mod NumberCallLemmas
+pub mod NumberKeepLemmas
+pub mod NumberLemmas
+pub mod NumberMessageLemmas
 pub mod PeerLemmas
 pub mod ReadyLemmas
 pub mod RunKeepLemmas

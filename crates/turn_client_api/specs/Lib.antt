@@ -10,6 +10,7 @@ pub mod Due
 pub mod Effect
 pub mod Grants
 pub mod Judgement
+pub mod LawsNumbers
 pub mod LawsOrder
 pub mod LawsPeers
 pub mod LawsRows

@@ -1,0 +1,9 @@
+use Rattle.turn_client_api.proofs.NumberCallLemmas.{call-apart}
+use Rattle.turn_client_api.proofs.NumberKeepLemmas.{initial-numbers}
+use Rattle.turn_client_api.proofs.laws.numbers.numbers_are_distinct.Goals as goal
+
+pub returns-clause-initial : goal.returns-clause-initial
+returns-clause-initial c = initial-numbers
+
+pub returns-clause-kept : goal.returns-clause-kept
+returns-clause-kept c = call-apart

@@ -1,0 +1,16 @@
+-- The numbers of a client's channels, over all calls.
+use Rattle.std.specs.Prelude.{ℕ, ◌==◌, List, filter_map, Option, Some, None}
+use Rattle.std.specs.List.{IsDistinct}
+use Rattle.turn_client_api.specs.State.{State, Grant, Channel}
+
+-- the number of a channel, whether it is asked for, active or reserved
+abbrev pub channel_number : Grant → Option ℕ
+channel_number (Channel number peer progress) = Some number
+channel_number _ = None
+
+abbrev pub channel_numbers_of : State → List ℕ
+channel_numbers_of s = filter_map channel_number s.grants
+
+-- no two channels have one number
+abbrev pub HasDistinctNumbers : State → Type 0
+HasDistinctNumbers s = IsDistinct ◌==◌ (channel_numbers_of s)
