@@ -2,6 +2,7 @@ pub mod AddressLemmas
 pub mod CallKeepLemmas
 mod ConfigLemmas
 pub mod HasLemmas
+pub mod IdLemmas
 pub mod KeepLemmas
 pub mod LapseLemmas
 pub mod MessageKeepLemmas

@@ -1,6 +1,7 @@
 //! Laws of the machine. Their functions do nothing: what they ensure is the law.
 
 mod alarm;
+mod ids;
 mod numbers;
 mod order;
 mod peers;
@@ -9,6 +10,7 @@ mod steps;
 mod wakeup;
 
 pub use alarm::sleeps_through_nothing;
+pub use ids::drawn_ids_are_free;
 pub use numbers::numbers_are_distinct;
 pub use order::clients_stay_in_order;
 pub use peers::only_let_in;

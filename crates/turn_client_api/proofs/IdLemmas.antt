@@ -1,0 +1,152 @@
+-- Of more IDs than are taken one is free.
+use Rattle.std.proofs.Common.{◌≡◌, ℕ, zero, suc, ◌+◌, ◌/◌, ◌%◌, ◌<◌, ◌≤◌, ◌^◌, Bool, true, false, not, eqb, leb, List, [], ◌∷◌, ◌++◌, map, filter_map, find, length, Option, Some, None, refl, ◌∙◌, arith}
+use Rattle.std.specs.List.{list_any, range_with_len, IsDistinct, AllByRecursion}
+use Rattle.std.specs.Prelude.{option_and_then}
+use Rattle.std.specs.Set.{is_member}
+use Rattle.std.proofs.Math.Bool.{or_assoc}
+use Rattle.std.proofs.Math.Nat.{div-add-mod, mul-le-mul_left, mul-suc}
+use Rattle.std.proofs.lemmas.Bool.{eqb-true, leb-true, leb-false, ne_eqb, not-false, not-true}
+use Rattle.std.proofs.lemmas.Cmp.{nat_eq_equiv}
+use Rattle.std.proofs.lemmas.List.{length-append, length-map}
+use Rattle.std.proofs.lemmas.List.Folds.{list_any-append}
+use Rattle.std.proofs.lemmas.List.FromFn.{length-map-range_with_len}
+use Rattle.std.proofs.lemmas.Map.Made.{length-le_from_is_member}
+use Rattle.turn_agent.specs.Agent.{is_outstanding}
+use Rattle.turn_agent.specs.TransactionIds.{next_id}
+use Rattle.turn_agent.proofs.AgentLemmas.{find-passes}
+use Rattle.turn_client_api.specs.State.{State, Grant, Allocation, Permission, Channel, Connect, Offer, Connection, Origin, OwnConnect, ServerRequest, ServerIndication}
+use Rattle.turn_client_api.specs.Grants.{is_of_request, offer_in}
+use Rattle.turn_client_api.specs.Requests.{fresh_id, is_taken, most_taken}
+
+-- ---- candidates
+
+-- two numbers less than m apart differ modulo m
+unlike-mod : (a b m : ℕ) → a < b → b < a + m → a % m ≡ b % m → ⊥
+unlike-mod a b m less near same = by (leb (b / m) (a / m)) refl
+  where
+    by : (t : Bool) → leb (b / m) (a / m) ≡ t → ⊥
+    by true e = omega (arith, less, same, div-add-mod a m, div-add-mod b m, mul-le-mul_left m (leb-true (b / m) (a / m) e))
+    by false e =
+        let up : suc (a / m) ≤ b / m = leb-false (b / m) (a / m) e in
+        omega (arith, near, same, div-add-mod a m, div-add-mod b m, mul-le-mul_left m up, mul-suc m (a / m))
+
+-- so many numbers from a place on, counted up from the start modulo m
+abbrev candidates : ℕ → ℕ → ℕ → ℕ → List ℕ
+candidates start m place count = map (λ n. (start + n) % m) (range_with_len place count)
+
+later-differ : (start m i place count : ℕ) → i < place → place + count ≤ i + m → AllByRecursion (λ y. eqb ((start + i) % m) y ≡ false) (candidates start m place count)
+later-differ start m i place zero behind within = tt
+later-differ start m i place (suc count) behind within = (
+  ne_eqb ((start + i) % m) ((start + place) % m) (unlike-mod (start + i) (start + place) m (omega (arith, behind)) (omega (arith, within))),
+  later-differ start m i (place + 1) count (omega (arith, behind)) (omega (arith, within)),
+)
+
+candidates-distinct : (start m place count : ℕ) → count ≤ m → IsDistinct eqb (candidates start m place count)
+unfolding IsDistinct
+candidates-distinct start m place zero within = tt
+candidates-distinct start m place (suc count) within =
+    (later-differ start m place (place + 1) count (omega arith) (omega (arith, within)), candidates-distinct start m (place + 1) count (omega (arith, within)))
+
+-- ---- IDs that are taken
+
+-- the ID of the server's request that is to be answered
+request_in : Origin → Option ℕ
+request_in (ServerRequest id) = Some id
+request_in _ = None
+
+offered_id : Grant → Option ℕ
+offered_id grant = option_and_then (λ offer. request_in offer.origin) (offer_in grant)
+
+taken_ids : State → List ℕ
+taken_ids s = map (λ t. t.id) s.transactions ++ map (λ l. l.id) s.listed ++ filter_map offered_id s.grants
+
+any-ids : {X : Type 0} (id : X → ℕ) (q : ℕ) (xs : List X) → list_any (eqb q) (map id xs) ≡ list_any (λ x. eqb (id x) q) xs
+any-ids id q [] = refl
+any-ids id q (x ∷ xs) = rw (nat_eq_equiv.symm q (id x), any-ids id q xs) refl
+
+any-offered : (q : ℕ) (gs : List Grant) → list_any (eqb q) (filter_map offered_id gs) ≡ list_any (is_of_request q) gs
+unfolding offered_id request_in
+any-offered q [] = refl
+any-offered q (Allocation a ∷ gs) = any-offered q gs
+any-offered q (Permission ip progress ∷ gs) = any-offered q gs
+any-offered q (Channel number peer progress ∷ gs) = any-offered q gs
+any-offered q (Connect peer ∷ gs) = any-offered q gs
+any-offered q (Connection c ∷ gs) = any-offered q gs
+any-offered q (Offer offer ∷ gs) = by offer.origin (any-offered q gs)
+  where
+    Same : List Grant → Type 0
+    Same list = list_any (eqb q) (filter_map offered_id list) ≡ list_any (is_of_request q) list
+
+    by : (o : Origin) → Same gs → Same (Offer (record offer { origin = o }) ∷ gs)
+    by OwnConnect later = later
+    by ServerIndication later = later
+    by (ServerRequest id) later = rw (nat_eq_equiv.symm q id, later) refl
+
+any-taken : (q : ℕ) (s : State) → list_any (eqb q) (taken_ids s) ≡ is_taken q s
+unfolding taken_ids
+any-taken q s =
+    rw (
+      list_any-append (eqb q) (map (λ t. t.id) s.transactions ++ map (λ l. l.id) s.listed) (filter_map offered_id s.grants),
+      list_any-append (eqb q) (map (λ t. t.id) s.transactions) (map (λ l. l.id) s.listed),
+      any-ids (λ t. t.id) q s.transactions,
+      any-ids (λ l. l.id) q s.listed,
+      any-offered q s.grants,
+    )
+    (or_assoc (is_outstanding q s.transactions) (list_any (λ l. eqb l.id q) s.listed) (list_any (is_of_request q) s.grants))
+
+length-filter_map : {X Y : Type 0} (f : X → Option Y) (xs : List X) → length (filter_map f xs) ≤ length xs
+length-filter_map f [] = omega arith
+length-filter_map {Y = Y} f (x ∷ xs) = by (f x) refl (length-filter_map f xs)
+  where
+    by : (o : Option Y) → f x ≡ o → length (filter_map f xs) ≤ length xs → length (filter_map f (x ∷ xs)) ≤ length (x ∷ xs)
+    by None e later = rw e (omega (arith, later))
+    by (Some y) e later = rw e (omega (arith, later))
+
+length-taken : (s : State) → length (taken_ids s) ≤ most_taken s
+unfolding taken_ids
+length-taken s =
+    rw (
+      length-append (map (λ t. t.id) s.transactions ++ map (λ l. l.id) s.listed) (filter_map offered_id s.grants),
+      length-append (map (λ t. t.id) s.transactions) (map (λ l. l.id) s.listed),
+      length-map s.transactions (λ t. t.id),
+      length-map s.listed (λ l. l.id),
+    )
+    (omega (arith, length-filter_map offered_id s.grants))
+
+-- ---- one is free
+
+-- where none passes, no element does
+none-passes : (p : ℕ → Bool) (q : ℕ) (xs : List ℕ) → find p xs ≡ None → list_any (eqb q) xs ≡ true → p q ≡ false
+none-passes p q [] none member = cc
+none-passes p q (x ∷ xs) none member = by (p x) refl (eqb q x) refl (none-passes p q xs)
+  where
+    by : (b : Bool) → p x ≡ b → (c : Bool) → eqb q x ≡ c → (find p xs ≡ None → list_any (eqb q) xs ≡ true → p q ≡ false) → p q ≡ false
+    by true e c f later = let found : Some x ≡ None = rw e at none in cc
+    by false e true f later = rw (eqb-true q x f) e
+    by false e false f later = later (rw e at none) (rw f at member)
+
+below-le : (n m : ℕ) → n < m → n + 1 ≤ m
+below-le n m below = omega (arith, below)
+
+none-absurd : (n k l : ℕ) → n + 1 ≤ k → k ≤ l → l ≤ n → ⊥
+none-absurd n k l above more most = omega (arith, above, more, most)
+
+pub fresh-free : (s : State) → most_taken s < 2 ^ 96 → is_taken (fresh_id s) s ≡ false
+fresh-free s few = by (find (λ id. not (is_taken id s)) ids) refl
+  where
+    ids : List ℕ
+    ids = candidates (next_id s.ids) (2 ^ 96) 0 (most_taken s + 1)
+
+    all_taken : find (λ id. not (is_taken id s)) ids ≡ None → (q : ℕ) → is_member eqb ids q ≡ true → is_member eqb (taken_ids s) q ≡ true
+    all_taken none q member = any-taken q s ∙ not-false (is_taken q s) (none-passes (λ id. not (is_taken id s)) q ids none member)
+
+    too_many : find (λ id. not (is_taken id s)) ids ≡ None → ⊥
+    too_many none =
+        let distinct = candidates-distinct (next_id s.ids) (2 ^ 96) 0 (most_taken s + 1) (below-le (most_taken s) (2 ^ 96) few) in
+        let more = length-le_from_is_member nat_eq_equiv ids (taken_ids s) distinct (all_taken none) in
+        let each = length-map-range_with_len (λ n. (next_id s.ids + n) % 2 ^ 96) 0 (most_taken s + 1) in
+        none-absurd (most_taken s) (length ids) (length (taken_ids s)) (rw each (omega arith)) more (length-taken s)
+
+    by : (o : Option ℕ) → find (λ id. not (is_taken id s)) ids ≡ o → is_taken (fresh_id s) s ≡ false
+    by (Some id) e = rw e (not-true (is_taken id s) (find-passes (λ q. not (is_taken q s)) ids id e))
+    by None e = absurd (too_many e)
