@@ -1,6 +1,8 @@
 pub mod AddressLemmas
+pub mod CallDrawLemmas
 pub mod CallKeepLemmas
 mod ConfigLemmas
+pub mod DrawLemmas
 pub mod HasLemmas
 pub mod IdLemmas
 pub mod KeepLemmas
@@ -12,9 +14,12 @@ pub mod NumberLemmas
 pub mod NumberMessageLemmas
 pub mod PeerLemmas
 pub mod ReadyLemmas
+pub mod ReplyLemmas
 pub mod RunKeepLemmas
 pub mod SteadyCallLemmas
 pub mod SteadyLemmas
+pub mod StrayLemmas
 pub mod StreamPeerLemmas
 pub mod TimelyLemmas
+pub mod TurnLemmas
 pub mod WakeupLemmas

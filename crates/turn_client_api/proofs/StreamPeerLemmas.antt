@@ -20,7 +20,7 @@ use Rattle.turn_stun.specs.declared.transport.TransportType.{TransportType}
 use Rattle.turn_stun.specs.declared.transport.TransportType.TheVariants.{Udp, Tcp}
 use Rattle.turn_client_api.proofs.PeerLemmas.{Contains-here, Contains-later, datagram-IsLetThrough, frame-IsLetIn}
 
-find-Contains : {X : Type 0} (p : X → Bool) (xs : List X) (x : X) → find p xs ≡ Some x → Contains xs x
+pub find-Contains : {X : Type 0} (p : X → Bool) (xs : List X) (x : X) → find p xs ≡ Some x → Contains xs x
 find-Contains p [] x h = cc
 find-Contains p (y ∷ ys) x h = by (find-Contains p ys x) (p y) refl
   where
@@ -85,7 +85,7 @@ go_on-IsGiven next (PeerIcmp transport peer icmp, t) payload h = inr (refl, h)
 go_on-IsGiven next (PeerData q, t) payload h = inl (q, refl, same_Some _ _ h)
 
 -- a turn that gives no payload is one turn more
-turns-suc : (n now : ℕ) (s : State) (stream : Stream) → find is_ready s.streams ≡ Some stream → payload_in (turn stream now s).0 ≡ None → turns (suc n) now s ≡ turns n now (turn stream now s).1
+pub turns-suc : (n now : ℕ) (s : State) (stream : Stream) → find is_ready s.streams ≡ Some stream → payload_in (turn stream now s).0 ≡ None → turns (suc n) now s ≡ turns n now (turn stream now s).1
 unfolding turns
 turns-suc n now s stream e none = rw e (go_on-none (turns n now) (turn stream now s) none)
 
@@ -178,7 +178,7 @@ others-IsReceived to piece now s t outcome is e = by (poll_recv_step now t).0 (p
     by None polled (PeerIcmp transport peer icmp) is = absurd is
 
 -- the state behind a first turn without anything of a peer
-behind : Outcome × State → Option State
+unfoldable pub behind : Outcome × State → Option State
 behind (PeerData payload, t) = None
 behind (PeerIcmp transport peer icmp, t) = None
 behind (_, t) = Some t

@@ -13,8 +13,10 @@ pub mod Judgement
 pub mod LawsNumbers
 pub mod LawsOrder
 pub mod LawsPeers
+pub mod LawsReplies
 pub mod LawsRows
 pub mod LawsSteps
+pub mod LawsTurns
 pub mod LawsWakeup
 pub mod Payloads
 pub mod Poll
