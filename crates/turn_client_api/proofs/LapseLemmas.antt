@@ -66,7 +66,7 @@ has-reverse x [] h = absurd h
 has-reverse x (y ∷ xs) (inl e) = rw (reverse-append (y ∷ []) xs) (has-right x (reverse xs) (y ∷ []) (inl e))
 has-reverse x (y ∷ xs) (inr h) = rw (reverse-append (y ∷ []) xs) (has-left x (reverse xs) (y ∷ []) (has-reverse x xs h))
 
-has-unreversed : {X : Type 0} (x : X) (xs : List X) → Has x (reverse xs) → Has x xs
+pub has-unreversed : {X : Type 0} (x : X) (xs : List X) → Has x (reverse xs) → Has x xs
 has-unreversed x [] h = h
 has-unreversed x (y ∷ xs) h = by (has-unreversed x xs) (has-append x (reverse xs) (y ∷ []) (rw (reverse-append (y ∷ []) xs) at h))
   where

@@ -5,6 +5,11 @@ mod ConfigLemmas
 pub mod DrawLemmas
 pub mod HasLemmas
 pub mod IdLemmas
+pub mod HousedCallLemmas
+pub mod HousedEffectLemmas
+pub mod HousedLemmas
+pub mod HousedMessageLemmas
+pub mod HousedPollLemmas
 pub mod KeepLemmas
 pub mod LapseLemmas
 pub mod MessageKeepLemmas

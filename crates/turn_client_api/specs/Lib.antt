@@ -11,6 +11,7 @@ pub mod Effect
 pub mod Grants
 pub mod Judgement
 pub mod LawsNumbers
+pub mod LawsHoused
 pub mod LawsOrder
 pub mod LawsPeers
 pub mod LawsReplies

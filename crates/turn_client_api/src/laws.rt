@@ -3,6 +3,7 @@
 mod alarm;
 mod ids;
 mod numbers;
+mod housed;
 mod order;
 mod peers;
 mod replies;
@@ -13,6 +14,7 @@ mod wakeup;
 pub use alarm::sleeps_through_nothing;
 pub use ids::drawn_ids_are_free;
 pub use numbers::numbers_are_distinct;
+pub use housed::grants_stand_in_allocations;
 pub use order::clients_stay_in_order;
 pub use peers::only_let_in;
 pub use replies::{ids_are_drawn, replies_count_once};
