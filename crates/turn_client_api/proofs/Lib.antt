@@ -3,6 +3,11 @@ pub mod CallDrawLemmas
 pub mod CallKeepLemmas
 mod ConfigLemmas
 pub mod DrawLemmas
+pub mod GivenCallLemmas
+pub mod GivenEffectLemmas
+pub mod GivenLemmas
+pub mod GivenMessageLemmas
+pub mod GrantedLemmas
 pub mod HasLemmas
 pub mod IdLemmas
 pub mod HousedCallLemmas
@@ -21,6 +26,7 @@ pub mod PeerLemmas
 pub mod ReadyLemmas
 pub mod ReplyLemmas
 pub mod RunKeepLemmas
+pub mod StandLemmas
 pub mod SteadyCallLemmas
 pub mod SteadyLemmas
 pub mod StrayLemmas

@@ -12,6 +12,7 @@ pub mod Grants
 pub mod Judgement
 pub mod LawsNumbers
 pub mod LawsHoused
+pub mod LawsGranted
 pub mod LawsOrder
 pub mod LawsPeers
 pub mod LawsReplies

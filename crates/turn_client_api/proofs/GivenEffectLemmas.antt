@@ -1,0 +1,212 @@
+-- What a signed reply leaves standing, effect by effect.
+use Rattle.std.proofs.Common.{◌≡◌, ◌≤◌, ℕ, zero, suc, Bool, true, false, cond, ◌||◌, eqb, leb, List, map, Option, Some, None, ◌⊎◌, inl, inr, refl, arith}
+use Rattle.std.specs.Option.{option_map_or}
+use Rattle.std.specs.Cmp.Lexicographic.{nat_list_eq_equiv}
+use Rattle.std.specs.Net.Addr.{ipv4_octets, ipv6_segments}
+use Rattle.std.specs.declared.net.ip_addr.IpAddr.{IpAddr}
+use Rattle.std.specs.declared.net.ip_addr.IpAddr.TheVariants.{V4, V6}
+use Rattle.std.specs.declared.net.socket_addr.SocketAddr.{SocketAddr}
+use Rattle.std.proofs.lemmas.Bool.{eqb-true, leb-true}
+use Rattle.turn_types.specs.declared.family.AddressFamily.{AddressFamily}
+use Rattle.turn_client_api.specs.State.{State, Grant, Allocation, Permission, Channel, Connect, Offer, Connection, DataOffer, Relay, Progress, Pending, Active, Reserved, Purpose, ForAllocation, ForRefresh, ForPermission, ForChannel, ForConnect, ForBind, OwnConnect, later_by, seconds}
+use Rattle.turn_client_api.specs.Grants.{channel_progress, first_in, is_channel_of, is_connect_to, is_of_family, is_permission_of, permission_for, purposes_of, same_ip, wait, unlisted, with_grant, without, failures_of}
+use Rattle.turn_client_api.specs.Judgement.{connection_id_in, lifetime_in}
+use Rattle.turn_client_api.specs.Effect.{all_gone, allocation_mismatch, channel_answered, channel_lifetime, connect_answered, effect, has_code, heeded, least_lifetime, permission_answered, permission_lifetime, permission_refused_too, permissions_answered, prolonged, refreshed, reserved_time}
+use Rattle.turn_client_api.specs.LawsGranted.{IsStanding, IsKeptAs}
+use Rattle.turn_client_api.proofs.HasLemmas.{Has}
+use Rattle.turn_client_api.proofs.StandLemmas.{kept-same, left-filter}
+use Rattle.turn_client_api.proofs.GivenLemmas.{IsGivenOf, Takes, gives-left, gives-map, gives-one, gives-trans, takes-cond, takes-fold, takes-same, takes-trans, within-filter}
+
+same_ip-same : (ip : IpAddr) → same_ip ip ip ≡ true
+same_ip-same (V4 a) = nat_list_eq_equiv.refl (ipv4_octets a)
+same_ip-same (V6 a) = nat_list_eq_equiv.refl (ipv6_segments a)
+
+-- what a test lets pass is changed
+abbrev pub changed_allocation : (Relay → Bool) → (Relay → Relay) → Grant → Grant
+changed_allocation which change (Allocation a) = cond (which a) (Allocation (change a)) (Allocation a)
+changed_allocation which change grant = grant
+
+abbrev lasting : ℕ → Grant → Grant
+lasting expiry (Permission ip progress) = Permission ip (Active expiry)
+lasting expiry (Channel number peer progress) = Channel number peer (Active expiry)
+lasting expiry grant = grant
+
+abbrev lasting_if : (Grant → Bool) → ℕ → Grant → Grant
+lasting_if which expiry grant = cond (which grant) (lasting expiry grant) grant
+
+-- a lifetime that is not 0
+eqb-positive : (n : ℕ) → eqb n 0 ≡ false → 1 ≤ n
+eqb-positive zero e = cc
+eqb-positive (suc n) e = omega arith
+
+module _ (purposes : List Purpose) (message : List ℕ) (now : ℕ) where
+  abbrev Is : Grant → Grant → Type 0
+  Is was is = IsStanding is → IsKeptAs was is ⊎ IsGivenOf purposes message now is
+
+  abbrev Taken : State → State → Type 0
+  Taken s t = Takes purposes message now s t
+
+  -- where the reply is a success, the purpose is one of these
+  abbrev Names : Bool → Purpose → Type 0
+  Names is_granted p = is_granted ≡ true → Has p purposes
+
+  -- and so is each that the request of this ID was made for
+  abbrev NamesAll : Bool → ℕ → State → Type 0
+  NamesAll is_granted id s = is_granted ≡ true → (p : Purpose) → Has p (purposes_of id s) → Has p purposes
+
+  same : (s : State) → Taken s s
+  same s = takes-same purposes message now s
+
+  trans : (s t u : State) → Taken s t → Taken t u → Taken s u
+  trans s t u first second = takes-trans purposes message now s t u first second
+
+  without-takes : (which : Grant → Bool) (s : State) → Taken s (without which s)
+  without-takes which s = (within-filter _ s.listed, gives-left purposes message now s.grants _ (left-filter _ s.grants))
+
+  -- a grant comes for what goes
+  replaced-takes : (which : Grant → Bool) (one : Grant) (s : State) → (IsStanding one → IsGivenOf purposes message now one) → Taken s (with_grant one (without which s))
+  replaced-takes which one s gives =
+      let less = without-takes which s in
+      (less.0, gives-trans purposes message now s.grants _ _ less.1 (gives-one purposes message now (without which s).grants one gives))
+
+  -- what is there lasts, with nothing listed for it any more
+  lasting-takes : (which : Grant → Bool) (f : Grant → Grant) (s : State) → ((g : Grant) → Is g (f g)) → Taken s (record (unlisted which s) { grants = map f s.grants })
+  lasting-takes which f s keeps = (within-filter _ s.listed, gives-map purposes message now f keeps s.grants)
+
+  -- a permission of this IP address is given anew
+  permission_lasts : (ip : IpAddr) → Has (ForPermission ip) purposes → (g : Grant) → Is g (lasting_if (is_permission_of ip) (later_by permission_lifetime now) g)
+  permission_lasts ip one (Permission other progress) = by (same_ip other ip) refl
+    where
+      by : (b : Bool) → same_ip other ip ≡ b → Is (Permission other progress) (cond b (Permission other (Active (later_by permission_lifetime now))) (Permission other progress))
+      by true e stands = inr (record { purpose = ForPermission ip; one = one; given = (e, refl) })
+      by false e stands = inl (kept-same (Permission other progress) stands)
+  permission_lasts ip one (Allocation a) = λ stands. inl (kept-same (Allocation a) stands)
+  permission_lasts ip one (Channel number peer progress) = λ stands. inl (kept-same (Channel number peer progress) stands)
+  permission_lasts ip one (Connect peer) = λ stands. absurd stands
+  permission_lasts ip one (Offer offer) = λ stands. absurd stands
+  permission_lasts ip one (Connection c) = λ stands. absurd stands
+
+  -- a channel of this number is given anew
+  channel_lasts : (number : ℕ) (peer : SocketAddr) → Has (ForChannel number peer) purposes → (g : Grant) → Is g (lasting_if (is_channel_of number) (later_by channel_lifetime now) g)
+  channel_lasts number peer one (Channel other to progress) = by (eqb other number) refl
+    where
+      by : (b : Bool) → eqb other number ≡ b → Is (Channel other to progress) (cond b (Channel other to (Active (later_by channel_lifetime now))) (Channel other to progress))
+      by true e stands = inr (record { purpose = ForChannel number peer; one = one; given = (eqb-true other number e, refl) })
+      by false e stands = inl (kept-same (Channel other to progress) stands)
+  channel_lasts number peer one (Allocation a) = λ stands. inl (kept-same (Allocation a) stands)
+  channel_lasts number peer one (Permission ip progress) = λ stands. inl (kept-same (Permission ip progress) stands)
+  channel_lasts number peer one (Connect to) = λ stands. absurd stands
+  channel_lasts number peer one (Offer offer) = λ stands. absurd stands
+  channel_lasts number peer one (Connection c) = λ stands. absurd stands
+
+  permission-takes : (ip : IpAddr) (is_granted : Bool) (s : State) → Names is_granted (ForPermission ip) → Taken s (permission_answered ip is_granted now s)
+  permission-takes ip is_granted s = by (permission_for ip s) refl is_granted
+    where
+      by : (o : Option Progress) → permission_for ip s ≡ o → (g : Bool) → Names g (ForPermission ip) → Taken s (permission_answered ip g now s)
+      by None e g one = rw e (same s)
+      by (Some Pending) e true one =
+          rw e (replaced-takes (is_permission_of ip) (Permission ip (Active (later_by permission_lifetime now))) s
+          (λ stands. record { purpose = ForPermission ip; one = one refl; given = (same_ip-same ip, refl) }))
+      by (Some Pending) e false one = rw e (without-takes (is_permission_of ip) s)
+      by (Some (Active expiry)) e true one =
+          rw e (lasting-takes (is_permission_of ip) (lasting_if (is_permission_of ip) (later_by permission_lifetime now)) s (permission_lasts ip (one refl)))
+      by (Some (Active expiry)) e false one = rw e (without-takes (is_permission_of ip) s)
+      by (Some (Reserved until)) e g one = rw e (same s)
+
+  abbrev permission_by : Bool → State → Purpose → State
+  permission_by is_granted t (ForPermission ip) = permission_answered ip is_granted now t
+  permission_by is_granted t _ = t
+
+  permission_by-takes : (is_granted : Bool) (t : State) (p : Purpose) → Names is_granted p → Taken t (permission_by is_granted t p)
+  permission_by-takes is_granted t (ForPermission ip) one = permission-takes ip is_granted t one
+  permission_by-takes is_granted t ForAllocation one = same t
+  permission_by-takes is_granted t (ForRefresh family lifetime) one = same t
+  permission_by-takes is_granted t (ForChannel number peer) one = same t
+  permission_by-takes is_granted t (ForConnect peer) one = same t
+  permission_by-takes is_granted t (ForBind local peer id) one = same t
+
+  permissions-takes : (id : ℕ) (is_granted : Bool) (s : State) → NamesAll is_granted id s → Taken s (permissions_answered id is_granted now s)
+  permissions-takes id is_granted s all =
+      takes-fold purposes message now (permission_by is_granted) s (purposes_of id s)
+      (λ t p within there. permission_by-takes is_granted t p (λ granted. all granted p there))
+      (purposes_of id s) (λ p there. there) s (λ l there. there)
+
+  channel-takes : (number : ℕ) (peer : SocketAddr) (id : ℕ) (is_granted : Bool) (s : State) → Names is_granted (ForChannel number peer) → NamesAll is_granted id s → Taken s (channel_answered number peer id is_granted now s)
+  channel-takes number peer id is_granted s = by (first_in (channel_progress number) s) refl is_granted
+    where
+      reserved_for : ℕ → Grant
+      reserved_for expiry = Channel number peer (Reserved (later_by reserved_time expiry))
+
+      by : (o : Option Progress) → first_in (channel_progress number) s ≡ o → (g : Bool) → Names g (ForChannel number peer) → NamesAll g id s → Taken s (channel_answered number peer id g now s)
+      by None e g one all = rw e (same s)
+      by (Some Pending) e true one all =
+          let t = permissions_answered id true now s in
+          let new = Channel number peer (Active (later_by channel_lifetime now)) in
+          rw e (trans s t (with_grant new (without (is_channel_of number) t)) (permissions-takes id true s all)
+          (replaced-takes (is_channel_of number) new t (λ stands. record { purpose = ForChannel number peer; one = one refl; given = (refl, refl) })))
+      by (Some Pending) e false one all =
+          let t = wait (failures_of (is_channel_of number) s) (without (is_channel_of number) s) in
+          rw e (trans s t (permission_refused_too id t) (without-takes (is_channel_of number) s) (without-takes _ t))
+      by (Some (Active expiry)) e true one all =
+          rw e (lasting-takes (is_channel_of number) (lasting_if (is_channel_of number) (later_by channel_lifetime now)) s (channel_lasts number peer (one refl)))
+      by (Some (Active expiry)) e false one all = rw e (replaced-takes (is_channel_of number) (reserved_for expiry) s (λ stands. absurd stands))
+      by (Some (Reserved until)) e g one all = rw e (same s)
+
+  connect-takes : (peer : SocketAddr) (o : Option ℕ) (s : State) → Taken s (connect_answered peer o s)
+  connect-takes peer (Some id) s =
+      let offer : DataOffer = record { connection_id = id; peer = peer; is_told = false; origin = OwnConnect } in
+      replaced-takes (is_connect_to peer) (Offer offer) s (λ stands. absurd stands)
+  connect-takes peer None s = without-takes (is_connect_to peer) s
+
+  abbrev prolonged_by : AddressFamily → ℕ → Grant → Grant
+  prolonged_by family n g = changed_allocation (λ a. is_of_family family a.relayed) (λ a. record a { expiry = later_by (seconds n) now }) g
+
+  -- so many seconds were asked for and are given
+  abbrev Lengthens : AddressFamily → ℕ → ℕ → Type 0
+  Lengthens family lifetime n = Has (ForRefresh family lifetime) purposes × (1 ≤ lifetime) × (lifetime_in message ≡ Some n) × (least_lifetime ≤ n)
+
+  -- an allocation of this family is given anew
+  allocation_lasts : (family : AddressFamily) (lifetime n : ℕ) → Lengthens family lifetime n → (g : Grant) → Is g (prolonged_by family n g)
+  allocation_lasts family lifetime n (one, asked, said, enough) (Allocation a) = by (is_of_family family a.relayed) refl
+    where
+      by : (b : Bool) → is_of_family family a.relayed ≡ b → Is (Allocation a) (cond b (Allocation (record a { expiry = later_by (seconds n) now })) (Allocation a))
+      by true e stands = inr (record { purpose = ForRefresh family lifetime; one = one; given = (asked, e, (n, said, enough, refl)) })
+      by false e stands = inl (kept-same (Allocation a) stands)
+  allocation_lasts family lifetime n lengthens (Permission ip progress) = λ stands. inl (kept-same (Permission ip progress) stands)
+  allocation_lasts family lifetime n lengthens (Channel number peer progress) = λ stands. inl (kept-same (Channel number peer progress) stands)
+  allocation_lasts family lifetime n lengthens (Connect peer) = λ stands. absurd stands
+  allocation_lasts family lifetime n lengthens (Offer offer) = λ stands. absurd stands
+  allocation_lasts family lifetime n lengthens (Connection c) = λ stands. absurd stands
+
+  refreshed-takes : (family : AddressFamily) (lifetime : ℕ) (is_granted : Bool) (s : State) → Names is_granted (ForRefresh family lifetime) → Taken s (refreshed family lifetime is_granted message now s)
+  refreshed-takes family lifetime is_granted s = by (eqb lifetime 0) refl is_granted
+    where
+      gone : Taken s (heeded (all_gone s))
+      gone =
+          let t = without (λ g. true) s in
+          trans s t (heeded (all_gone s)) (without-takes (λ g. true) s) (within-filter _ t.listed, (same t).1)
+
+      longer : Has (ForRefresh family lifetime) purposes → 1 ≤ lifetime → (o : Option ℕ) → lifetime_in message ≡ o → Taken s (option_map_or (λ granted. prolonged family granted now s) o s)
+      longer one asked None said = same s
+      longer one asked (Some n) said = at (leb least_lifetime n) refl
+        where
+          at : (b : Bool) → leb least_lifetime n ≡ b → Taken s (prolonged family n now s)
+          at false e = rw e (same s)
+          at true e =
+              let lengthens : Lengthens family lifetime n = (one, asked, said, leb-true least_lifetime n e) in
+              rw e (lasting-takes _ (prolonged_by family n) s (allocation_lasts family lifetime n lengthens))
+
+      by : (b : Bool) → eqb lifetime 0 ≡ b → (g : Bool) → Names g (ForRefresh family lifetime) → Taken s (refreshed family lifetime g message now s)
+      by true e g one = rw e (takes-cond purposes message now (g || has_code allocation_mismatch message) s _ _ gone (same s))
+      by false e false one = rw e (same s)
+      by false e true one = rw e (longer (one refl) (eqb-positive lifetime e) (lifetime_in message) refl)
+
+  -- ---- a whole effect
+
+  pub effect-takes : (id : ℕ) (is_granted : Bool) (s : State) (p : Purpose) → Names is_granted p → NamesAll is_granted id s → Taken s (effect id is_granted message now s p)
+  effect-takes id is_granted s (ForRefresh family lifetime) one all = refreshed-takes family lifetime is_granted s one
+  effect-takes id is_granted s (ForPermission ip) one all = permission-takes ip is_granted s one
+  effect-takes id is_granted s (ForChannel number peer) one all = channel-takes number peer id is_granted s one all
+  effect-takes id is_granted s (ForConnect peer) one all = connect-takes peer (cond is_granted (connection_id_in message) None) s
+  effect-takes id is_granted s ForAllocation one all = same s
+  effect-takes id is_granted s (ForBind local peer other) one all = same s

@@ -1,0 +1,133 @@
+-- What a success gives for the purposes of its request, list by list.
+use Rattle.std.proofs.Common.{◌≡◌, ℕ, Bool, true, false, cond, eqb, List, [], ◌∷◌, ◌++◌, map, filter, fold, ◌⊎◌, inl, inr, refl, sym}
+use Rattle.turn_client_api.specs.State.{State, Grant, Purpose, Listing}
+use Rattle.turn_client_api.specs.Grants.{purposes_of}
+use Rattle.turn_client_api.specs.LawsGranted.{IsStanding, IsKeptAs, IsGivenFor}
+use Rattle.turn_client_api.proofs.HasLemmas.{Has, has-append, has-filter, filter-has, map-has}
+use Rattle.turn_client_api.proofs.StandLemmas.{Covers, Left, covers-has, kept-same, kept-stood, kept-trans}
+
+-- the message gives the grant for one of these purposes
+pub record IsGivenOf (purposes : List Purpose) (message : List ℕ) (now : ℕ) (g : Grant) : Type 0 where
+  pub purpose : Purpose
+  pub one : Has purpose purposes
+  pub given : IsGivenFor purpose message now g
+
+-- it gives what is kept as this grant
+abbrev pub IsGiven : List Purpose → List ℕ → ℕ → Grant → Type 0
+IsGiven purposes message now g = (was : Grant) × IsGivenOf purposes message now was × IsKeptAs was g
+
+-- All that stands in the second list stood in the first, and ended no earlier there, or was given.
+abbrev pub Gives : List Purpose → List ℕ → ℕ → List Grant → List Grant → Type 0
+Gives purposes message now grants later = (g : Grant) → Has g later → IsStanding g → Covers grants g ⊎ IsGiven purposes message now g
+
+-- these requests were listed
+abbrev pub Within : List Listing → List Listing → Type 0
+Within listed later = (l : Listing) → Has l later → Has l listed
+
+-- what a success leaves of a state: nothing is listed anew, and nothing stands but what stood or was given
+abbrev pub Takes : List Purpose → List ℕ → ℕ → State → State → Type 0
+Takes purposes message now s t = Within s.listed t.listed × Gives purposes message now s.grants t.grants
+
+pub within-same : (listed : List Listing) → Within listed listed
+within-same listed l there = there
+
+pub within-filter : (p : Listing → Bool) (listed : List Listing) → Within listed (filter p listed)
+within-filter p listed l there = (has-filter p l listed there).0
+
+pub has-mapped : {X Y : Type 0} (f : X → Y) (y : Y) (xs : List X) → Has y (map f xs) → (x : X) × Has x xs × (y ≡ f x)
+has-mapped f y [] h = absurd h
+has-mapped f y (x ∷ xs) (inl e) = (x, inl refl, e)
+has-mapped {X = X} f y (x ∷ xs) (inr h) = by (has-mapped f y xs h)
+  where
+    by : (z : X) × Has z xs × (y ≡ f z) → (z : X) × Has z (x ∷ xs) × (y ≡ f z)
+    by (z, there, e) = (z, inr there, e)
+
+module _ (purposes : List Purpose) (message : List ℕ) (now : ℕ) where
+  given-kept : (g h : Grant) → IsKeptAs g h → IsGiven purposes message now g → IsGiven purposes message now h
+  given-kept g h kept (was, given, k) = (was, given, kept-trans was g h k kept)
+
+  -- what was given stands
+  pub gives-covers : (grants later : List Grant) (g : Grant) → Gives purposes message now grants later → Covers later g → Covers grants g ⊎ IsGiven purposes message now g
+  gives-covers grants later g gives (is, there, kept) = by (gives is there (kept-stood is g kept))
+    where
+      by : Covers grants is ⊎ IsGiven purposes message now is → Covers grants g ⊎ IsGiven purposes message now g
+      by (inl (was, before, k)) = inl (was, before, kept-trans was is g k kept)
+      by (inr given) = inr (given-kept is g kept given)
+
+  pub gives-left : (grants later : List Grant) → Left grants later → Gives purposes message now grants later
+  gives-left grants later left g there stands = inl (left g there stands)
+
+  pub gives-trans : (a b c : List Grant) → Gives purposes message now a b → Gives purposes message now b c → Gives purposes message now a c
+  gives-trans a b c first second g there stands = by (second g there stands)
+    where
+      by : Covers b g ⊎ IsGiven purposes message now g → Covers a g ⊎ IsGiven purposes message now g
+      by (inl covers) = gives-covers a b g first covers
+      by (inr given) = inr given
+
+  pub gives-append : (grants more : List Grant) → ((g : Grant) → Has g more → IsStanding g → IsGivenOf purposes message now g) → Gives purposes message now grants (grants ++ more)
+  gives-append grants more gives g there stands = by (has-append g grants more there)
+    where
+      by : Has g grants ⊎ Has g more → Covers grants g ⊎ IsGiven purposes message now g
+      by (inl here) = inl (covers-has grants g here stands)
+      by (inr behind) = inr (g, gives g behind stands, kept-same g stands)
+
+  pub gives-one : (grants : List Grant) (one : Grant) → (IsStanding one → IsGivenOf purposes message now one) → Gives purposes message now grants (grants ++ one ∷ [])
+  gives-one grants one gives = gives-append grants (one ∷ []) by
+    where
+      by : (g : Grant) → Has g (one ∷ []) → IsStanding g → IsGivenOf purposes message now g
+      by g (inl e) stands = rw e (gives (rw (sym e) stands))
+      by g (inr h) stands = absurd h
+
+  -- where the second stands, it is the first, or was given
+  abbrev Is : Grant → Grant → Type 0
+  Is was is = IsStanding is → IsKeptAs was is ⊎ IsGivenOf purposes message now is
+
+  pub gives-map : (f : Grant → Grant) → ((g : Grant) → Is g (f g)) → (grants : List Grant) → Gives purposes message now grants (map f grants)
+  gives-map f keeps grants g there stands = by (has-mapped f g grants there)
+    where
+      by : (x : Grant) × Has x grants × (g ≡ f x) → Covers grants g ⊎ IsGiven purposes message now g
+      by (x, before, e) = at (keeps x (rw (sym e) stands))
+        where
+          at : IsKeptAs x (f x) ⊎ IsGivenOf purposes message now (f x) → Covers grants g ⊎ IsGiven purposes message now g
+          at (inl kept) = inl (x, before, rw e kept)
+          at (inr given) = inr (f x, given, rw e (kept-same (f x) (rw (sym e) stands)))
+
+  -- ---- states
+
+  -- the success leaves it so
+  abbrev Taken : State → State → Type 0
+  Taken s t = Takes purposes message now s t
+
+  pub takes-same : (s : State) → Taken s s
+  takes-same s = (within-same s.listed, gives-left s.grants s.grants (covers-has s.grants))
+
+  pub takes-trans : (s t u : State) → Taken s t → Taken t u → Taken s u
+  takes-trans s t u first second = (λ l there. first.0 l (second.0 l there), gives-trans s.grants t.grants u.grants first.1 second.1)
+
+  pub takes-cond : (b : Bool) (s t u : State) → Taken s t → Taken s u → Taken s (cond b t u)
+  takes-cond true s t u k l = k
+  takes-cond false s t u k l = l
+
+  abbrev Among : List Purpose → List Purpose → Type 0
+  Among some all = (p : Purpose) → Has p some → Has p all
+
+  -- what each purpose changes, wherever no more is listed than at first
+  abbrev EachTaken : (State → Purpose → State) → List Purpose → State → Type 0
+  EachTaken f all s = (t : State) (p : Purpose) → Within s.listed t.listed → Has p all → Taken t (f t p)
+
+  -- one purpose after the other, none of which lists anything anew
+  pub takes-fold : (f : State → Purpose → State) (s : State) (all : List Purpose) → EachTaken f all s → (some : List Purpose) → Among some all → (t : State) → Within s.listed t.listed → Taken t (fold f t some)
+  takes-fold f s all step [] each t within = takes-same t
+  takes-fold f s all step (p ∷ some) each t within =
+      let one = step t p within (each p (inl refl)) in
+      takes-trans t (f t p) (fold f (f t p) some) one
+      (takes-fold f s all step some (λ q there. each q (inr there)) (f t p) (λ l there. within l (one.0 l there)))
+
+-- a purpose of what is listed still was one before
+pub purposes-within : (id : ℕ) (s t : State) → Within s.listed t.listed → (p : Purpose) → Has p (purposes_of id t) → Has p (purposes_of id s)
+purposes-within id s t within p there = by (has-mapped (λ (l : Listing). l.purpose) p (filter (λ (l : Listing). eqb l.id id) t.listed) there)
+  where
+    by : (l : Listing) × Has l (filter (λ (l : Listing). eqb l.id id) t.listed) × (p ≡ l.purpose) → Has p (purposes_of id s)
+    by (l, still, e) =
+        let (later, same) = has-filter (λ (l : Listing). eqb l.id id) l t.listed still in
+        rw e (map-has (λ (l : Listing). l.purpose) l (filter (λ (l : Listing). eqb l.id id) s.listed) (filter-has (λ (l : Listing). eqb l.id id) l s.listed (within l later) same))

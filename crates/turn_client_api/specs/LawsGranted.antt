@@ -1,0 +1,66 @@
+-- What is granted by a signed success of the server alone (RFC 8489, section 9.2.5; RFC 8656, sections 7.3
+-- to 12.3).
+use Rattle.std.specs.Prelude.{◌≡◌, ◌≤◌, ℕ, true, List, Some, ⊤}
+use Rattle.std.specs.List.{Contains}
+use Rattle.turn_stun.specs.Message.{id_of}
+use Rattle.turn_stun.specs.declared.message.header.MessageClass.TheVariants.{Success}
+use Rattle.turn_auth.specs.Validation.{IsValidated, validation_of}
+use Rattle.turn_agent.specs.Agent.{is_outstanding}
+use Rattle.turn_client_api.specs.State.{State, Grant, Allocation, Permission, Channel, Relay, Active, Purpose, ForAllocation, ForRefresh, ForPermission, ForChannel, auth_of, later_by, seconds}
+use Rattle.turn_client_api.specs.Grants.{is_of_family, purposes_of, same_ip}
+use Rattle.turn_client_api.specs.Judgement.{class_in, lifetime_in}
+use Rattle.turn_client_api.specs.Effect.{channel_lifetime, least_lifetime, permission_lifetime, relayed_in}
+use Rattle.turn_client_api.specs.LawsTurns.{Deed}
+use Rattle.turn_client_api.specs.Steps.{Call, Delete}
+
+-- what the server granted: an allocation, and an active permission or channel
+abbrev pub IsStanding : Grant → Type 0
+IsStanding (Allocation a) = ⊤
+IsStanding (Permission ip (Active expiry)) = ⊤
+IsStanding (Channel number peer (Active expiry)) = ⊤
+IsStanding _ = ⊥
+
+-- the second is the first, granted, and ends no later
+abbrev pub IsKeptAs : Grant → Grant → Type 0
+IsKeptAs (Allocation was) (Allocation is) = (was.relayed ≡ is.relayed) × (is.expiry ≤ was.expiry)
+IsKeptAs (Permission ip (Active was)) (Permission other (Active is)) = (ip ≡ other) × (is ≤ was)
+IsKeptAs (Channel number peer (Active was)) (Channel other to (Active is)) = (number ≡ other) × (peer ≡ to) × (is ≤ was)
+IsKeptAs _ _ = ⊥
+
+-- it stood already, up to this end at least
+abbrev pub Stood : State → Grant → Type 0
+Stood s g = (was : Grant) × Contains s.grants was × IsKeptAs was g
+
+-- what a success that comes now gives for a purpose of its request
+abbrev pub IsGivenFor : Purpose → List ℕ → ℕ → Grant → Type 0
+IsGivenFor ForAllocation message now (Allocation a) =
+    (n : ℕ) × (lifetime_in message ≡ Some n) × (a.expiry ≡ later_by (seconds n) now)
+    × Contains (relayed_in message) a.relayed
+IsGivenFor (ForRefresh family lifetime) message now (Allocation a) =
+    (1 ≤ lifetime) × (is_of_family family a.relayed ≡ true)
+    × ((n : ℕ) × (lifetime_in message ≡ Some n) × (least_lifetime ≤ n) × (a.expiry ≡ later_by (seconds n) now))
+IsGivenFor (ForPermission ip) message now (Permission other (Active expiry)) =
+    (same_ip other ip ≡ true) × (expiry ≡ later_by permission_lifetime now)
+IsGivenFor (ForChannel number peer) message now (Channel other to (Active expiry)) =
+    (other ≡ number) × (expiry ≡ later_by channel_lifetime now)
+IsGivenFor _ message now _ = ⊥
+
+-- The message is a success that is signed under the held realm and the client's credentials, it answers
+-- an outstanding request, and this request was made for a purpose that the grant is given for.
+pub record IsGrantedBy (message : List ℕ) (now : ℕ) (s : State) (g : Grant) : Type 0 where
+  pub success : class_in message ≡ Success
+  pub signed : IsValidated (validation_of (auth_of s) message)
+  pub outstanding : is_outstanding (id_of message) s.transactions ≡ true
+  pub purpose : Purpose
+  pub listed : Contains (purposes_of (id_of message) s) purpose
+  pub given : IsGivenFor purpose message now g
+
+-- the message granted it, up to this end at least
+abbrev pub IsGrant : Grant → Deed
+IsGrant g message now s = (was : Grant) × IsGrantedBy message now s was × IsKeptAs was g
+
+-- the caller gives the allocation back, which ends now
+abbrev pub IsEndedNow : Call → State → Grant → Type 0
+IsEndedNow (Delete now) s (Allocation a) =
+    (a.expiry ≡ now) × ((was : Relay) × Contains s.grants (Allocation was) × (was.relayed ≡ a.relayed))
+IsEndedNow _ s _ = ⊥
