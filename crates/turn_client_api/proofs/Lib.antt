@@ -9,12 +9,12 @@ pub mod GivenLemmas
 pub mod GivenMessageLemmas
 pub mod GrantedLemmas
 pub mod HasLemmas
-pub mod IdLemmas
 pub mod HousedCallLemmas
 pub mod HousedEffectLemmas
 pub mod HousedLemmas
 pub mod HousedMessageLemmas
 pub mod HousedPollLemmas
+pub mod IdLemmas
 pub mod KeepLemmas
 pub mod LapseLemmas
 pub mod MessageKeepLemmas

@@ -1,5 +1,5 @@
 -- A reply that is accepted is to a request that is outstanding, and ends it.
-use Rattle.std.proofs.Common.{◌≡◌, ℕ, Bool, true, false, not, cond, ◌&&◌, eqb, List, Option, Some, None, inl, inr, refl}
+use Rattle.std.proofs.Common.{◌≡◌, ◌∙◌, ◌<◌, ◌^◌, sym, ℕ, Bool, true, false, not, cond, ◌&&◌, eqb, List, Option, Some, None, inl, inr, refl}
 use Rattle.std.specs.List.{list_any}
 use Rattle.std.specs.declared.net.socket_addr.SocketAddr.{SocketAddr}
 use Rattle.turn_stun.specs.Message.{id_of}
@@ -14,12 +14,13 @@ use Rattle.turn_agent.specs.Agent as A
 use Rattle.turn_agent.proofs.TransactionLemmas.{is_outstanding-without}
 use Rattle.turn_client_api.specs.State.{State, DataConnection, Phase, New, Requesting, Authenticating, Allocated, Closed, auth_of}
 use Rattle.turn_client_api.specs.Grants.{purposes_of}
-use Rattle.turn_client_api.specs.Requests.{connection_attempt_method, data_method, fresh_id}
+use Rattle.turn_client_api.specs.Requests.{connection_attempt_method, data_method, fresh_id, is_taken, most_taken}
 use Rattle.turn_client_api.specs.Judgement.{Judgement, Nothing, Challenged, Wrong, Late, PeerSent, Attempt, Asked, Granted, Denied, allocated_judgement, answers_allocate, answers_one, authenticating_judgement, bind_judgement, by_class, challenge_in, challenged_or, class_in, indication_judgement, is_bind_of, judgement_of, method_in}
 use Rattle.turn_client_api.specs.Connections.{bind_answered}
 use Rattle.turn_client_api.specs.Payloads.{message_step}
 use Rattle.turn_client_api.specs.LawsReplies.{IsAccepted}
 use Rattle.turn_client_api.proofs.DrawLemmas.{IsOneOf, signed-one}
+use Rattle.turn_client_api.proofs.IdLemmas.{fresh-free}
 
 -- ---- which replies are accepted
 
@@ -137,3 +138,17 @@ bind-ended c message now s = by (bind_judgement s c.local message) refl
     by PeerSent e = rw e (λ h. absurd h)
     by Attempt e = rw e (λ h. absurd h)
     by Asked e = rw e (λ h. absurd h)
+
+unlike : true ≡ false → ⊥
+unlike e = cc
+
+-- what is drawn is free, so that it is not the ID of the reply
+pub accepted-gone : (message : List ℕ) (now : ℕ) (s : State) → most_taken s < 2 ^ 96 → IsAccepted (judgement_of s message) → is_outstanding (id_of message) (message_step message now s).1.transactions ≡ false
+accepted-gone message now s few accepted = by (is_outstanding (id_of message) (message_step message now s).1.transactions) refl
+  where
+    by : (b : Bool) → is_outstanding (id_of message) (message_step message now s).1.transactions ≡ b → is_outstanding (id_of message) (message_step message now s).1.transactions ≡ false
+    by false e = e
+    by true e =
+        let taken : is_taken (id_of message) s ≡ true = rw (accepted-outstanding message s accepted) refl in
+        let free : is_taken (id_of message) s ≡ false = rw (accepted-ended message now s accepted e) (fresh-free s few) in
+        absurd (unlike (sym taken ∙ free))

@@ -10,9 +10,9 @@ pub mod Due
 pub mod Effect
 pub mod Grants
 pub mod Judgement
-pub mod LawsNumbers
-pub mod LawsHoused
 pub mod LawsGranted
+pub mod LawsHoused
+pub mod LawsNumbers
 pub mod LawsOrder
 pub mod LawsPeers
 pub mod LawsReplies

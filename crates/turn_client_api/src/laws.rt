@@ -1,10 +1,10 @@
 //! Laws of the machine. Their functions do nothing: what they ensure is the law.
 
 mod alarm;
+mod granted;
+mod housed;
 mod ids;
 mod numbers;
-mod housed;
-mod granted;
 mod order;
 mod peers;
 mod replies;
@@ -13,10 +13,10 @@ mod steps;
 mod wakeup;
 
 pub use alarm::sleeps_through_nothing;
+pub use granted::only_a_signed_success_grants;
+pub use housed::grants_stand_in_allocations;
 pub use ids::drawn_ids_are_free;
 pub use numbers::numbers_are_distinct;
-pub use housed::grants_stand_in_allocations;
-pub use granted::only_a_signed_success_grants;
 pub use order::clients_stay_in_order;
 pub use peers::only_let_in;
 pub use replies::{ids_are_drawn, replies_count_once};

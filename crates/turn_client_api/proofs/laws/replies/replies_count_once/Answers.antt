@@ -1,4 +1,4 @@
-use Rattle.turn_client_api.proofs.ReplyLemmas.{accepted-ended, accepted-outstanding, bind-ended, bind-outstanding}
+use Rattle.turn_client_api.proofs.ReplyLemmas.{accepted-ended, accepted-gone, accepted-outstanding, bind-ended, bind-outstanding}
 use Rattle.turn_client_api.proofs.StrayLemmas.{stray-binds, stray-grants}
 use Rattle.turn_client_api.proofs.laws.replies.replies_count_once.Goals as goal
 
@@ -7,6 +7,9 @@ returns-clause-outstanding c = accepted-outstanding
 
 pub returns-clause-ended : goal.returns-clause-ended
 returns-clause-ended c = accepted-ended
+
+pub returns-clause-gone : goal.returns-clause-gone
+returns-clause-gone c = accepted-gone
 
 pub returns-clause-bind_outstanding : goal.returns-clause-bind_outstanding
 returns-clause-bind_outstanding c = bind-outstanding
