@@ -1,11 +1,13 @@
 -- Worked states, so that the check computes what the machine answers in them.
-use Rattle.std.specs.Prelude.{ℕ, List, [], ◌∷◌, ◌++◌, Some, None}
+use Rattle.std.specs.Prelude.{ℕ, zero, suc, ◌*◌, List, [], ◌∷◌, ◌++◌, map, Option, Some, None}
+use Rattle.std.specs.declared.time.Duration.{Duration}
 use Rattle.std.specs.declared.net.ip_addr.IpAddr.{IpAddr}
 use Rattle.std.specs.declared.net.ip_addr.IpAddr.TheVariants as Ip
 use Rattle.std.specs.declared.net.socket_addr.SocketAddr.{SocketAddr}
 use Rattle.turn_stun.specs.Number.{id_bytes}
 use Rattle.turn_stun.specs.XorAddress.{xor_v4, xor_v6}
 use Rattle.std.specs.declared.net.socket_addr.SocketAddr.TheVariants.{V4, V6}
+use Rattle.turn_stun.specs.declared.transport.TransportType.{TransportType}
 use Rattle.turn_stun.specs.declared.transport.TransportType.TheVariants.{Udp}
 use Rattle.turn_types.specs.declared.family.AddressFamily.TheVariants.{IPV4, IPV6}
 use Rattle.turn_agent.specs.declared.transaction.Transaction.{Transaction}
@@ -14,6 +16,11 @@ use Rattle.turn_client_api.specs.State.{State, Requesting, Allocated, ForAllocat
 use Rattle.turn_client_api.specs.Requests.{listings}
 use Rattle.turn_client_api.specs.Effect.{new_allocation}
 use Rattle.turn_client_api.specs.Calls.{all_expired}
+use Rattle.turn_client_api.specs.Poll.{poll_step}
+use Rattle.turn_client_api.specs.Transmit.{transmit_step}
+use Rattle.turn_client_api.specs.declared.config.RequestRetransmits.{RequestRetransmits}
+use Rattle.turn_client_api.specs.declared.poll.TurnPollRet.{TurnPollRet}
+use Rattle.turn_client_api.specs.declared.poll.TurnPollRet.TheVariants.{WaitUntil, Closed as Ended}
 
 -- ---- addresses
 
@@ -55,6 +62,41 @@ requesting text s = record (granted_at 0 [] s) {
   listed = listings 7 (ForAllocation ∷ []);
   transactions = first_sent 7 s.remote 0 text ∷ [];
 }
+
+-- ---- a server that keeps silent
+
+abbrev pub so_long : ℕ → ℕ → Duration
+so_long secs nanos = record { secs = secs; nanos = nanos }
+
+-- 600 ms behind the first send, 1 s at most behind others, three sends, and 3 s behind the last
+abbrev pub short_times : RequestRetransmits
+short_times = record {
+  initial = so_long 0 600_000_000;
+  max = so_long 1 0;
+  retransmits = 3;
+  final_retransmit_timeout = so_long 3 0;
+}
+
+-- the client has sent its first ALLOCATE at moment 0 over this transport, and waits by these times
+abbrev pub requesting_by : Option RequestRetransmits → TransportType → List ℕ → State → State
+requesting_by times transport text s = record (requesting text s) {
+  config = record s.config { request_retransmits = times };
+  transport = transport;
+}
+
+abbrev pub told_and_then : (ℕ → State → List TurnPollRet) → TurnPollRet × State → List TurnPollRet
+told_and_then later (WaitUntil moment, s) = WaitUntil moment ∷ later moment s
+told_and_then later (answer, s) = answer ∷ []
+
+-- What the client says when it is polled so often: each time at the moment that it told before, once
+-- what is due was sent.
+unfoldable pub told_in_turn : ℕ → ℕ → State → List TurnPollRet
+told_in_turn zero now s = []
+told_in_turn (suc n) now s = told_and_then (told_in_turn n) (poll_step now (transmit_step now s).1)
+
+-- these moments, in milliseconds, and then that it has ended
+abbrev pub waits_and_ends : List ℕ → List TurnPollRet
+waits_and_ends moments = map (λ m. WaitUntil (m * 1_000_000)) moments ++ Ended ∷ []
 
 -- ---- the first ALLOCATE (RFC 8656, section 7.1)
 

@@ -22,7 +22,7 @@ pub use peers::only_let_in;
 pub use replies::{ids_are_drawn, replies_count_once};
 pub use rows::{
     channel_numbers_count_up, delete_is_one_request, failures_jump, first_allocate_is_spelled,
-    moments_are_told,
+    moments_are_told, silence_is_timed,
 };
 pub use steps::{challenges_are_counted, phases_go_on, realm_stays, stays_closed};
 pub use wakeup::wakeup_is_the_least_moment;

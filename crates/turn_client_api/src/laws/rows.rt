@@ -1,7 +1,7 @@
 //! Worked states.
 
 ghost use Rattle.std.specs.Prelude.{true, map, ◌≡◌, ℕ, List, [], ◌∷◌, Some, None};
-ghost use Rattle.turn_stun.specs.declared.transport.TransportType.TheVariants.{Udp};
+ghost use Rattle.turn_stun.specs.declared.transport.TransportType.TheVariants.{Udp, Tcp};
 ghost use Rattle.turn_types.specs.declared.family.AddressFamily.TheVariants.{IPV4, IPV6};
 ghost use Rattle.turn_client_api.specs.State.{State, Channel, ForAllocation, ForRefresh, Permission, Pending, Active};
 ghost use Rattle.turn_client_api.specs.Requests.{first_allocate};
@@ -11,7 +11,7 @@ ghost use Rattle.turn_client_api.specs.Retry.{state_after_retry};
 ghost use Rattle.turn_client_api.specs.Calls.{create_permission_step, delete_step, free_number, relayed_addresses_of};
 ghost use Rattle.turn_client_api.specs.Poll.{poll_step};
 ghost use Rattle.turn_client_api.specs.Transmit.{next_transmit};
-ghost use Rattle.turn_client_api.specs.LawsRows.{allocate_bytes, binding_in_silence, both_allocations, deleted_in_silence, granted_at, peer, peer_ip, relayed_v4, relayed_v6, requesting};
+ghost use Rattle.turn_client_api.specs.LawsRows.{allocate_bytes, binding_in_silence, both_allocations, deleted_in_silence, granted_at, peer, peer_ip, relayed_v4, relayed_v6, requesting, requesting_by, short_times, told_in_turn, waits_and_ends};
 ghost use Rattle.std.specs.declared.net.socket_addr.SocketAddr.{SocketAddr};
 ghost use Rattle.turn_client_api.specs.declared.event.TurnEvent.TheVariants.{ChannelCreateFailed, PermissionCreateFailed};
 ghost use Rattle.turn_client_api.specs.declared.poll.TurnPollRet.TheVariants as Do;
@@ -44,6 +44,18 @@ pub fn moments_are_told()
     // A permission that is asked for at 60 ms, 10 ms behind the last request: the end of the pause.
     ensures queued { (s : State) → (poll_step 60_000_000 (create_permission_step Udp peer_ip 60_000_000 (granted_at 50_000_000 (new_allocation 1800 50_000_000 relayed_v4 ∷ []) s)).1).0 ≡ Do.WaitUntil 100_000_000 }
     ensures paused { (s : State) → next_transmit 99_999_999 (create_permission_step Udp peer_ip 60_000_000 (granted_at 50_000_000 (new_allocation 1800 50_000_000 relayed_v4 ∷ []) s)).1 ≡ None }
+{}
+
+/// A first ALLOCATE that was sent at moment 0 and gets no response (RFC 8489, sections 6.2.1 and 6.2.2): what a
+/// caller is told that comes back at each told moment, and sends what is due.
+pub fn silence_is_timed()
+    // By default it is sent at 0, 0.5, 1.5, 3.5, 7.5, 15.5 and 31.5 s, and given up at 39.5 s.
+    ensures default { (text : List ℕ) (s : State) → told_in_turn 8 0 (requesting_by None Udp text s) ≡ waits_and_ends (500 ∷ 1_500 ∷ 3_500 ∷ 7_500 ∷ 15_500 ∷ 31_500 ∷ 39_500 ∷ []) }
+    // With 600 ms behind the first send, at most 1 s behind others, three sends, and 3 s behind the last.
+    ensures set { (text : List ℕ) (s : State) → told_in_turn 4 0 (requesting_by (Some short_times) Udp text s) ≡ waits_and_ends (600 ∷ 1_600 ∷ 4_600 ∷ []) }
+    // Over TCP it is sent once.
+    ensures tcp { (text : List ℕ) (s : State) → told_in_turn 2 0 (requesting_by None Tcp text s) ≡ waits_and_ends (39_500 ∷ []) }
+    ensures tcp_set { (text : List ℕ) (s : State) → told_in_turn 2 0 (requesting_by (Some short_times) Tcp text s) ≡ waits_and_ends (4_600 ∷ []) }
 {}
 
 /// `delete` with two allocations (RFC 8656, section 8.1): one REFRESH gives both back, and neither is
