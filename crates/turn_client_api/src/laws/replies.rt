@@ -15,8 +15,9 @@ ghost use Rattle.turn_client_api.specs.LawsReplies.{IsAccepted, IsDrawn};
 
 /// A reply counts once (RFC 8489, section 6.3): one that is accepted is to a request that is
 /// outstanding, and that request is so no longer, unless its ID is drawn anew, which it is not while
-/// fewer than 2^96 IDs are taken. The same holds on a connection that waits to be bound. A response to no request that is outstanding, such as a second
-/// copy, changes no grant and binds no connection.
+/// fewer than 2^96 IDs are taken. The same holds on a connection that waits to be bound. Over the
+/// control connection a response to no request that is outstanding, such as a second copy, changes no
+/// grant; on a connection that waits to be bound it binds none, and may end that connection.
 pub fn replies_count_once()
     ensures outstanding { (message : List ℕ) (s : State) → IsAccepted (judgement_of s message) → is_outstanding (id_of message) s.transactions ≡ true }
     ensures ended { (message : List ℕ) (now : ℕ) (s : State) → IsAccepted (judgement_of s message) → is_outstanding (id_of message) (message_step message now s).1.transactions ≡ true → id_of message ≡ fresh_id s }
