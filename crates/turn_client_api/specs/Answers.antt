@@ -133,10 +133,11 @@ before_others to piece now s = option_and_then (λ stream. by stream stream.mode
     by stream Broken = if same_address stream.local s.local then Some s else None
     by stream _ = None
 
--- there was none for the piece or for its first frame, or for what came behind it
+-- there was none for what came or for its first frame, or over TCP for what came behind that
 abbrev pub RecvEnds : SocketAddr → List ℕ → ℕ → State → State → Type 0
 RecvEnds to piece now was s =
-    (s ≡ closed (broken_at to was)) ⊎ IsSomeAnd (before_others to piece now was) (λ t. EndsAfterTurns now t s)
+    (s ≡ closed (broken_at to was))
+    ⊎ ((was.transport ≡ Tcp) × IsSomeAnd (before_others to piece now was) (λ t. EndsAfterTurns now t s))
 
 -- DATA indications and channel frames take no memory over UDP, nor bytes of a bound connection where
 -- nothing waits in its stream
