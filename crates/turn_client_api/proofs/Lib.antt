@@ -17,6 +17,7 @@ pub mod HousedPollLemmas
 pub mod IdLemmas
 pub mod KeepLemmas
 pub mod LapseLemmas
+pub mod MemoryLemmas
 pub mod MessageKeepLemmas
 pub mod NumberCallLemmas
 pub mod NumberKeepLemmas

@@ -82,7 +82,7 @@ module _ (R : State → State → Type 0) (k : IsKept R) where
   then_all-kept now s (Handled, t) first = k.trans s t (poll_recv_step now t).1 first (poll_recv-kept now t)
   then_all-kept now s (Ignored, t) first = k.trans s t (poll_recv_step now t).1 first (poll_recv-kept now t)
 
-  first_turn-kept : (stream : Stream) (piece : List ℕ) (now : ℕ) (s : State) → R s (first_turn stream piece now s).1
+  pub first_turn-kept : (stream : Stream) (piece : List ℕ) (now : ℕ) (s : State) → R s (first_turn stream piece now s).1
   first_turn-kept stream piece now s =
       let fed = record stream { bytes = stream.bytes ++ piece } in
       let t = with_bytes stream.local fed.bytes s in

@@ -73,7 +73,7 @@ module _ (P : State → Type 0) (Did : Deed) (k : IsBringing P Did) where
       by (Some len) e h = by_len len (not (is_bound stream.mode) && begins_no_frame stream.bytes) (rw e at h)
 
   -- in the first turn, or in a later one
-  abbrev IsTurned : ℕ → State → Type 0
+  abbrev pub IsTurned : ℕ → State → Type 0
   IsTurned now s = P s ⊎ IsBroughtInTurn Did now s
 
   now-IsTurned : (stream : Stream) (now : ℕ) (s : State) → find is_ready s.streams ≡ Some stream → P s ⊎ IsByNext stream now s → IsTurned now s
@@ -93,7 +93,7 @@ module _ (P : State → Type 0) (Did : Deed) (k : IsBringing P Did) where
   go_on-brings next (Ignored, t) h = inr (refl, h)
   go_on-brings next (PeerIcmp transport peer icmp, t) h = inr (refl, h)
 
-  turns-bring : (n now : ℕ) (s : State) → P (turns n now s).1 → IsTurned now s
+  pub turns-bring : (n now : ℕ) (s : State) → P (turns n now s).1 → IsTurned now s
   unfolding turns
   turns-bring zero now s h = inl h
   turns-bring (suc n) now s h = by (find is_ready s.streams) refl (λ t. turns-bring n now t) h
@@ -112,10 +112,10 @@ module _ (P : State → Type 0) (Did : Deed) (k : IsBringing P Did) where
   -- ---- what comes in
 
   -- by the first bytes of the stream at this local end
-  abbrev IsFirst : SocketAddr → List ℕ → ℕ → State → Type 0
+  abbrev pub IsFirst : SocketAddr → List ℕ → ℕ → State → Type 0
   IsFirst to piece now s = P s ⊎ ((stream : Stream) × (len : ℕ) × (stream_at to s ≡ Some stream) × Did (take len (stream.bytes ++ piece)) now s)
 
-  first_turn-brings : (to : SocketAddr) (stream : Stream) (piece : List ℕ) (now : ℕ) (s : State) → stream_at to s ≡ Some stream → P (first_turn stream piece now s).1 → IsFirst to piece now s
+  pub first_turn-brings : (to : SocketAddr) (stream : Stream) (piece : List ℕ) (now : ℕ) (s : State) → stream_at to s ≡ Some stream → P (first_turn stream piece now s).1 → IsFirst to piece now s
   first_turn-brings to stream piece now s e h = by (turn-brings fed now t h)
     where
       fed : Stream
@@ -128,10 +128,10 @@ module _ (P : State → Type 0) (Did : Deed) (k : IsBringing P Did) where
       by (inl here) = inl (k.streams s t.streams here)
       by (inr (len, d)) = inr (stream, len, e, k.did (take len fed.bytes) now s t.streams d)
 
-  abbrev IsReceived : SocketAddr → List ℕ → ℕ → State → Type 0
+  abbrev pub IsReceived : SocketAddr → List ℕ → ℕ → State → Type 0
   IsReceived to piece now s = P s ⊎ IsBroughtByPiece Did to piece now s
 
-  first-IsReceived : (to : SocketAddr) (piece : List ℕ) (now : ℕ) (s : State) → IsFirst to piece now s → IsReceived to piece now s
+  pub first-IsReceived : (to : SocketAddr) (piece : List ℕ) (now : ℕ) (s : State) → IsFirst to piece now s → IsReceived to piece now s
   first-IsReceived to piece now s (inl h) = inl h
   first-IsReceived to piece now s (inr d) = inr (inl d)
 

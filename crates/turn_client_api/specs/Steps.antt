@@ -1,16 +1,17 @@
 -- Each call that may change a client, and the state after it.
-use Rattle.std.specs.Prelude.{ℕ, List, Option}
+use Rattle.std.specs.Prelude.{◌≡◌, ◌⊎◌, ℕ, List, Option}
 use Rattle.std.specs.declared.net.ip_addr.IpAddr.{IpAddr}
 use Rattle.std.specs.declared.net.socket_addr.SocketAddr.{SocketAddr}
 use Rattle.turn_stun.specs.declared.transport.TransportType.{TransportType}
 use Rattle.turn_client_api.specs.declared.poll.Socket5Tuple.{Socket5Tuple}
 use Rattle.turn_client_api.specs.State.{State}
+use Rattle.turn_client_api.specs.Effect.{closed}
 use Rattle.turn_client_api.specs.Streams.{poll_recv_step}
 use Rattle.turn_client_api.specs.Receive.{recv_step, tcp_closed_step}
 use Rattle.turn_client_api.specs.Calls.{allocated_tcp_socket_step, bind_channel_step, create_permission_step, delete_step, protocol_error_step, send_to_step, tcp_connect_step}
 use Rattle.turn_client_api.specs.Poll.{poll_step}
 use Rattle.turn_client_api.specs.Transmit.{transmit_step}
-use Rattle.turn_client_api.specs.Answers.{event_step}
+use Rattle.turn_client_api.specs.Answers.{EndsAfterTurns, RecvEnds, event_step}
 
 -- a call, and the moment at which it comes
 pub data Call : Type 0 where
@@ -45,3 +46,19 @@ state_after (Poll now) s = (poll_step now s).1
 state_after (PollTransmit now) s = (transmit_step now s).1
 state_after PollEvent s = (event_step s).1
 state_after ProtocolError s = protocol_error_step s
+
+-- the states that the call may leave where it finds no memory; most calls change nothing then, and two
+-- always find it
+abbrev pub EndsWithoutMemory : Call → State → State → Type 0
+EndsWithoutMemory (Recv transport from to bytes now) s t = RecvEnds to bytes now s t
+EndsWithoutMemory (PollRecv now) s t = EndsAfterTurns now s t
+EndsWithoutMemory (Poll now) s t = t ≡ closed s
+EndsWithoutMemory (PollTransmit now) s t = t ≡ closed s
+EndsWithoutMemory ProtocolError s t = t ≡ closed s
+EndsWithoutMemory (SendTo transport peer bytes now) s t = ⊥
+EndsWithoutMemory PollEvent s t = ⊥
+EndsWithoutMemory _ s t = t ≡ s
+
+-- a state that the call may leave
+abbrev pub Leaves : Call → State → State → Type 0
+Leaves call s t = (t ≡ state_after call s) ⊎ EndsWithoutMemory call s t

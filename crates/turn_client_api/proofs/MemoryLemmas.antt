@@ -1,0 +1,166 @@
+-- What a call leaves that finds no memory: what messages and the end of a client keep is kept, and what
+-- there is then, there was, or a message brought it whose turn came.
+use Rattle.std.proofs.Common.{◌≡◌, ◌⊎◌, ℕ, Bool, true, false, cond, List, Option, Some, None, refl, subst, sym, inl, inr}
+use Rattle.std.specs.Prelude.{IsSomeAnd, find}
+use Rattle.std.specs.Option.{option_map_or}
+use Rattle.std.proofs.lemmas.Option.{none-some, same_Some}
+use Rattle.std.specs.declared.net.socket_addr.SocketAddr.{SocketAddr}
+use Rattle.turn_stun.specs.declared.transport.TransportType.{TransportType}
+use Rattle.turn_agent.specs.Agent.{same_address}
+use Rattle.turn_client_api.specs.State.{State, Mode, Control, Waiting, Bound, Broken, Stream}
+use Rattle.turn_client_api.specs.Effect.{closed}
+use Rattle.turn_client_api.specs.Payloads.{Outcome, Handled, Ignored, PeerData, PeerIcmp}
+use Rattle.turn_client_api.specs.Streams.{broken_at, is_ready, stream_at, turns}
+use Rattle.turn_client_api.specs.Receive.{first_turn}
+use Rattle.turn_client_api.specs.Answers.{EndsAfterTurns, RecvEnds, before_others, next_broken}
+use Rattle.turn_client_api.specs.Steps.{Call, EndsWithoutMemory, Leaves, state_after}
+use Rattle.turn_client_api.specs.Steps.{Delete, CreatePermission, BindChannel, TcpConnect, AllocatedTcpSocket, TcpClosed, SendTo, Recv, PollRecv, Poll, PollTransmit, PollEvent, ProtocolError}
+use Rattle.turn_client_api.specs.LawsTurns.{Deed, IsBroughtBy, IsBroughtIn, IsBroughtInTurn}
+use Rattle.turn_client_api.proofs.RunKeepLemmas.{IsKept, first_turn-kept, turns-kept}
+use Rattle.turn_client_api.proofs.StreamPeerLemmas.{behind}
+use Rattle.turn_client_api.proofs.TurnLemmas.{IsBringing, IsFirst, IsReceived, first-IsReceived, first_turn-brings, turns-bring}
+
+-- ---- before all streams have their turns
+
+-- the stream at this local end had its first turn, or it is broken and nothing has changed
+abbrev IsBehind : SocketAddr → List ℕ → ℕ → State → State → Type 0
+IsBehind to piece now s u =
+    (stream : Stream) × (stream_at to s ≡ Some stream) × ((u ≡ (first_turn stream piece now s).1) ⊎ (u ≡ s))
+
+behind-same : (p : Outcome × State) (u : State) → behind p ≡ Some u → u ≡ p.1
+unfolding behind
+behind-same (Handled, t) u e = sym (same_Some t u e)
+behind-same (Ignored, t) u e = sym (same_Some t u e)
+behind-same (PeerData payload, t) u e = absurd (none-some u e)
+behind-same (PeerIcmp transport peer icmp, t) u e = absurd (none-some u e)
+
+before-IsBehind : (to : SocketAddr) (piece : List ℕ) (now : ℕ) (s u : State) → before_others to piece now s ≡ Some u → IsBehind to piece now s u
+unfolding behind
+before-IsBehind to piece now s u e = by (stream_at to s) refl
+  where
+    in_mode : (m : Mode) (stream : Stream) → stream_at to s ≡ Some (record stream { mode = m }) → IsBehind to piece now s u
+    in_mode Control stream f =
+        let first = record stream { mode = Control } in
+        (first, f, inl (behind-same (first_turn first piece now s) u (rw f at e)))
+    in_mode Broken stream f = (record stream { mode = Broken }, f, inr (at (same_address stream.local s.local) (rw f at e)))
+      where
+        at : (b : Bool) → cond b (Some s) None ≡ Some u → u ≡ s
+        at true g = sym (same_Some s u g)
+        at false g = absurd (none-some u g)
+    in_mode Waiting stream f = absurd (none-some u (rw f at e))
+    in_mode (Bound peer) stream f = absurd (none-some u (rw f at e))
+
+    by : (o : Option Stream) → stream_at to s ≡ o → IsBehind to piece now s u
+    by None f = absurd (none-some u (rw f at e))
+    by (Some stream) f = in_mode stream.mode stream f
+
+-- ---- what is kept
+
+module _ (R : State → State → Type 0) (k : IsKept R) (ends : (s : State) → R s (closed s)) where
+  closed-kept : (s t u : State) → R s t → u ≡ closed t → R s u
+  closed-kept s t u kept e = subst (λ (x : State). R s x) (sym e) (k.trans s t (closed t) kept (ends t))
+
+  next-kept : (s : State) → R s (next_broken s)
+  next-kept s = by (find is_ready s.streams)
+    where
+      by : (o : Option Stream) → R s (option_map_or (λ stream. broken_at stream.local s) o s)
+      by None = k.same s
+      by (Some stream) = k.streams s (broken_at stream.local s).streams
+
+  turns_end-kept : (now : ℕ) (s t : State) → EndsAfterTurns now s t → R s t
+  turns_end-kept now s t (n, none, e) =
+      let u = (turns n now s).1 in
+      closed-kept s (next_broken u) t (k.trans s u (next_broken u) (turns-kept R k n now s) (next-kept u)) e
+
+  before-kept : (to : SocketAddr) (piece : List ℕ) (now : ℕ) (s u : State) → IsBehind to piece now s u → R s u
+  before-kept to piece now s u (stream, f, inl e) = subst (λ (x : State). R s x) (sym e) (first_turn-kept R k stream piece now s)
+  before-kept to piece now s u (stream, f, inr e) = subst (λ (x : State). R s x) (sym e) (k.same s)
+
+  recv_end-kept : (to : SocketAddr) (piece : List ℕ) (now : ℕ) (s t : State) → RecvEnds to piece now s t → R s t
+  recv_end-kept to piece now s t (inl e) = closed-kept s (broken_at to s) t (k.streams s (broken_at to s).streams) e
+  recv_end-kept to piece now s t (inr (over, later)) = by (before_others to piece now s) refl later
+    where
+      by : (o : Option State) → before_others to piece now s ≡ o → IsSomeAnd o (λ u. EndsAfterTurns now u t) → R s t
+      by None e none = absurd none
+      by (Some u) e h = k.trans s u t (before-kept to piece now s u (before-IsBehind to piece now s u e)) (turns_end-kept now u t h)
+
+  -- nothing changes
+  same-kept : (s t : State) → t ≡ s → R s t
+  same-kept s t e = subst (λ (x : State). R s x) (sym e) (k.same s)
+
+  memory-kept : (call : Call) (s t : State) → EndsWithoutMemory call s t → R s t
+  memory-kept (Delete now) s t e = same-kept s t e
+  memory-kept (CreatePermission transport peer now) s t e = same-kept s t e
+  memory-kept (BindChannel transport peer now) s t e = same-kept s t e
+  memory-kept (TcpConnect peer now) s t e = same-kept s t e
+  memory-kept (AllocatedTcpSocket id tuple peer local now) s t e = same-kept s t e
+  memory-kept (TcpClosed local remote) s t e = same-kept s t e
+  memory-kept (SendTo transport peer bytes now) s t none = absurd none
+  memory-kept (Recv transport from to bytes now) s t h = recv_end-kept to bytes now s t h
+  memory-kept (PollRecv now) s t h = turns_end-kept now s t h
+  memory-kept (Poll now) s t e = closed-kept s s t (k.same s) e
+  memory-kept (PollTransmit now) s t e = closed-kept s s t (k.same s) e
+  memory-kept PollEvent s t none = absurd none
+  memory-kept ProtocolError s t e = closed-kept s s t (k.same s) e
+
+  -- what each call keeps that finds memory, each call keeps
+  pub leaves-kept : ((call : Call) (s : State) → R s (state_after call s)) → (call : Call) (s t : State) → Leaves call s t → R s t
+  leaves-kept after call s t (inl e) = subst (λ (x : State). R s x) (sym e) (after call s)
+  leaves-kept after call s t (inr h) = memory-kept call s t h
+
+-- ---- what is brought about
+
+module _ (P : State → Type 0) (Did : Deed) (k : IsBringing P Did) (ends : (s : State) → P (closed s) → P s) where
+  closed-brings : (s t : State) → t ≡ closed s → P t → P s
+  closed-brings s t e h = ends s (subst P e h)
+
+  next-brings : (s : State) → P (next_broken s) → P s
+  next-brings s = by (find is_ready s.streams)
+    where
+      by : (o : Option Stream) → P (option_map_or (λ stream. broken_at stream.local s) o s) → P s
+      by None h = h
+      by (Some stream) h = k.streams s (broken_at stream.local s).streams h
+
+  turns_end-brings : (now : ℕ) (s t : State) → EndsAfterTurns now s t → P t → P s ⊎ IsBroughtInTurn Did now s
+  turns_end-brings now s t (n, none, e) h =
+      let u = (turns n now s).1 in
+      turns-bring P Did k n now s (next-brings u (closed-brings (next_broken u) t e h))
+
+  before-brings : (to : SocketAddr) (piece : List ℕ) (now : ℕ) (s u : State) → IsBehind to piece now s u → P u → IsFirst P Did k to piece now s
+  before-brings to piece now s u (stream, f, inl e) h = first_turn-brings P Did k to stream piece now s f (subst P e h)
+  before-brings to piece now s u (stream, f, inr e) h = inl (subst P e h)
+
+  others_end-brings : (to : SocketAddr) (piece : List ℕ) (now : ℕ) (s u t : State)
+      → before_others to piece now s ≡ Some u → EndsAfterTurns now u t → P t → IsReceived P Did k to piece now s
+  others_end-brings to piece now s u t e end h = by (turns_end-brings now u t end h)
+    where
+      by : P u ⊎ IsBroughtInTurn Did now u → IsReceived P Did k to piece now s
+      by (inl here) = first-IsReceived P Did k to piece now s (before-brings to piece now s u (before-IsBehind to piece now s u e) here)
+      by (inr d) = inr (inr (u, e, d))
+
+  recv_end-brings : (to : SocketAddr) (piece : List ℕ) (now : ℕ) (s t : State) → RecvEnds to piece now s t → P t → P s ⊎ IsBroughtIn s.transport Did to piece now s
+  recv_end-brings to piece now s t (inl e) h = inl (k.streams s (broken_at to s).streams (closed-brings (broken_at to s) t e h))
+  recv_end-brings to piece now s t (inr (over, later)) h = by (before_others to piece now s) refl later
+    where
+      at : IsReceived P Did k to piece now s → P s ⊎ IsBroughtIn s.transport Did to piece now s
+      at (inl here) = inl here
+      at (inr d) = inr (subst (λ (carrier : TransportType). IsBroughtIn carrier Did to piece now s) (sym over) d)
+
+      by : (o : Option State) → before_others to piece now s ≡ o → IsSomeAnd o (λ u. EndsAfterTurns now u t) → P s ⊎ IsBroughtIn s.transport Did to piece now s
+      by None e none = absurd none
+      by (Some u) e end = at (others_end-brings to piece now s u t e end h)
+
+  pub memory-brings : (call : Call) (s t : State) → EndsWithoutMemory call s t → P t → P s ⊎ IsBroughtBy Did call s
+  memory-brings (Delete now) s t e h = inl (subst P e h)
+  memory-brings (CreatePermission transport peer now) s t e h = inl (subst P e h)
+  memory-brings (BindChannel transport peer now) s t e h = inl (subst P e h)
+  memory-brings (TcpConnect peer now) s t e h = inl (subst P e h)
+  memory-brings (AllocatedTcpSocket id tuple peer local now) s t e h = inl (subst P e h)
+  memory-brings (TcpClosed local remote) s t e h = inl (subst P e h)
+  memory-brings (SendTo transport peer bytes now) s t none h = absurd none
+  memory-brings (Recv transport from to bytes now) s t end h = recv_end-brings to bytes now s t end h
+  memory-brings (PollRecv now) s t end h = turns_end-brings now s t end h
+  memory-brings (Poll now) s t e h = inl (closed-brings s t e h)
+  memory-brings (PollTransmit now) s t e h = inl (closed-brings s t e h)
+  memory-brings PollEvent s t none h = absurd none
+  memory-brings ProtocolError s t e h = inl (closed-brings s t e h)
