@@ -11,7 +11,7 @@ use Rattle.turn_client_api.specs.Effect.{closed, ended, fail_all}
 use Rattle.std.specs.declared.net.ip_addr.IpAddr.{IpAddr}
 use Rattle.turn_client_api.specs.State.{Queued, Relay}
 use Rattle.turn_client_api.specs.Grants.{allocation_for, same_transport}
-use Rattle.turn_client_api.specs.Steps.{Call, state_after}
+use Rattle.turn_client_api.specs.Steps.{Call, Leaves, state_after}
 use Rattle.turn_client_api.specs.LawsOrder.{IsSteady}
 use Rattle.turn_client_api.proofs.CallKeepLemmas.{bound_by, call-keeps}
 use Rattle.std.proofs.Common.{Result}
@@ -33,6 +33,7 @@ use Rattle.turn_client_api.specs.Poll.{answer_step, given_up_step, is_listed_for
 use Rattle.turn_client_api.specs.Transmit.{idle_step, queue_step, reply_step, transmit_step, without_first_reply}
 use Rattle.turn_client_api.specs.Steps.{Delete, CreatePermission, BindChannel, TcpConnect, AllocatedTcpSocket, TcpClosed, SendTo, Recv, PollRecv, Poll, PollTransmit, PollEvent, ProtocolError}
 use Rattle.turn_client_api.specs.declared.error.BindChannelError.TheVariants as Bind
+use Rattle.turn_client_api.proofs.MemoryLemmas.{leaves-kept}
 use Rattle.turn_client_api.proofs.SteadyLemmas.{Steadies, Steadies-IsKept, from_allocated}
 
 -- ---- calls
@@ -204,5 +205,12 @@ call_in_phase Authenticating call s steady = quiet_steady call (record s { phase
 call_in_phase Closed call s steady = quiet_steady call (record s { phase = Closed }) refl steady (λ now. poll_steady now (record s { phase = Closed }) refl steady) (λ now. transmit_closed now s steady)
 call_in_phase Allocated call s steady = from_allocated s (state_after call (record s { phase = Allocated })) (call-keeps call (record s { phase = Allocated })).3 steady
 
-pub call-steadies : (call : Call) (s : State) → IsSteady s → IsSteady (state_after call s)
+call-steadies : (call : Call) (s : State) → IsSteady s → IsSteady (state_after call s)
 call-steadies call s = call_in_phase s.phase call s
+
+closed-steady : (s : State) → Steadies s (closed s)
+closed-steady s steady = (λ e. cc, λ b. absurd b, steady.2, λ u. absurd u)
+
+-- whether or not the call finds memory
+pub leaves-steadies : (call : Call) (s t : State) → Leaves call s t → IsSteady s → IsSteady t
+leaves-steadies = leaves-kept Steadies Steadies-IsKept closed-steady call-steadies

@@ -1,4 +1,4 @@
-use Rattle.turn_client_api.proofs.SteadyCallLemmas.{call-steadies}
+use Rattle.turn_client_api.proofs.SteadyCallLemmas.{leaves-steadies}
 use Rattle.turn_client_api.proofs.SteadyLemmas.{initial-steady, steady-IsOrderly}
 use Rattle.turn_client_api.proofs.laws.order.clients_stay_in_order.Goals as goal
 
@@ -6,7 +6,7 @@ pub returns-clause-initial : goal.returns-clause-initial
 returns-clause-initial c = initial-steady
 
 pub returns-clause-kept : goal.returns-clause-kept
-returns-clause-kept c = call-steadies
+returns-clause-kept c = leaves-steadies
 
 pub returns-clause-orderly : goal.returns-clause-orderly
 returns-clause-orderly c = steady-IsOrderly
