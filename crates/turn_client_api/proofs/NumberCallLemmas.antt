@@ -31,11 +31,12 @@ use Rattle.turn_client_api.specs.Poll.{lapsed_in, last_channel_lapsed, next_offe
 use Rattle.turn_client_api.specs.Receive.{connection_gone}
 use Rattle.turn_client_api.specs.Transmit.{idle_step, queue_step, refreshes_in, transmit_step}
 use Rattle.turn_client_api.specs.Transmit as T
-use Rattle.turn_client_api.specs.Steps.{Call, state_after, Delete, CreatePermission, BindChannel, TcpConnect, AllocatedTcpSocket, TcpClosed, SendTo, Recv, PollRecv, Poll, PollTransmit, PollEvent}
+use Rattle.turn_client_api.specs.Steps.{Call, Leaves, state_after, Delete, CreatePermission, BindChannel, TcpConnect, AllocatedTcpSocket, TcpClosed, SendTo, Recv, PollRecv, Poll, PollTransmit, PollEvent}
 use Rattle.turn_client_api.specs.Steps.{ProtocolError}
 use Rattle.turn_client_api.proofs.HasLemmas.{has-found}
 use Rattle.turn_client_api.proofs.RunKeepLemmas.{IsKept, poll_recv-kept, recv-kept, tcp_closed-kept}
 use Rattle.turn_client_api.proofs.CallKeepLemmas.{bound_by}
+use Rattle.turn_client_api.proofs.MemoryLemmas.{leaves-kept}
 use Rattle.turn_client_api.proofs.NumberLemmas.{apart-channel, numbers-permissions, numbers-told_first, numbers-without_first}
 use Rattle.turn_client_api.proofs.NumberKeepLemmas.{StayApart, allocations-apart, apart-same, apart-trans, apart-cond, apart-fold, other-apart, reserved-apart, without-apart}
 use Rattle.turn_client_api.proofs.NumberMessageLemmas.{message-apart, bind-apart as bound-apart}
@@ -255,7 +256,7 @@ transmit-apart now s =
 
 -- ---- all of them
 
-pub call-apart : (call : Call) (s : State) → StayApart s (state_after call s)
+call-apart : (call : Call) (s : State) → StayApart s (state_after call s)
 call-apart (Delete now) s = delete-apart now s
 call-apart (CreatePermission transport peer now) s = permission-apart transport peer now s
 call-apart (BindChannel transport peer now) s = bind-apart transport peer now s
@@ -269,3 +270,7 @@ call-apart (Poll now) s = poll-apart now s
 call-apart (PollTransmit now) s = transmit-apart now s
 call-apart PollEvent s = apart-same s
 call-apart ProtocolError s = error-apart s
+
+-- whether or not the call finds memory
+pub leaves-apart : (call : Call) (s t : State) → Leaves call s t → StayApart s t
+leaves-apart = leaves-kept StayApart StayApart-IsKept apart-same call-apart

@@ -1,4 +1,4 @@
-use Rattle.turn_client_api.proofs.NumberCallLemmas.{call-apart}
+use Rattle.turn_client_api.proofs.NumberCallLemmas.{leaves-apart}
 use Rattle.turn_client_api.proofs.NumberKeepLemmas.{initial-numbers}
 use Rattle.turn_client_api.proofs.laws.numbers.numbers_are_distinct.Goals as goal
 
@@ -6,4 +6,4 @@ pub returns-clause-initial : goal.returns-clause-initial
 returns-clause-initial c = initial-numbers
 
 pub returns-clause-kept : goal.returns-clause-kept
-returns-clause-kept c = call-apart
+returns-clause-kept c = leaves-apart
