@@ -19,10 +19,11 @@ use Rattle.turn_client_api.specs.Poll.{answer_step, channel_lapsed, connections_
 use Rattle.turn_client_api.specs.Requests.{asked_lifetime, fresh_id}
 use Rattle.turn_client_api.specs.Transmit.{idle_step, is_ranked, is_refresh_due, queue_step, refresh_purpose, refreshes_in, transmit_step}
 use Rattle.turn_client_api.specs.Transmit as T
-use Rattle.turn_client_api.specs.Steps.{Call, state_after, Delete, CreatePermission, BindChannel, TcpConnect, AllocatedTcpSocket, TcpClosed, SendTo, Recv, PollRecv, Poll, PollTransmit, PollEvent, ProtocolError}
+use Rattle.turn_client_api.specs.Steps.{Call, Leaves, state_after, Delete, CreatePermission, BindChannel, TcpConnect, AllocatedTcpSocket, TcpClosed, SendTo, Recv, PollRecv, Poll, PollTransmit, PollEvent, ProtocolError}
 use Rattle.turn_client_api.specs.LawsHoused.{asked_family, IsAskedIn, IsBacked, IsHoused}
 use Rattle.turn_client_api.proofs.RunKeepLemmas.{poll_recv-kept, recv-kept, tcp_closed-kept}
 use Rattle.turn_client_api.proofs.LapseLemmas.{has-unreversed}
+use Rattle.turn_client_api.proofs.MemoryLemmas.{leaves-kept}
 use Rattle.turn_client_api.proofs.HasLemmas.{Has, all-has, has-all, has-filter, has-filter_map, has-flat_map, has-found}
 use Rattle.turn_client_api.proofs.HousedLemmas.{Backed, Housed, Houses, Spares, SparesAll, any-has, has-any, housed-filter, of-room, room-of, same_family-self, same_family-true, shape}
 use Rattle.turn_client_api.proofs.HousedEffectLemmas.{first-has, houses-cond, houses-fold, replaced-carries, shaped-carries, unlisted-carries, without-carries, without-houses}
@@ -226,6 +227,10 @@ call-houses (PollTransmit now) s = transmit-houses now s
 call-houses PollEvent s = λ h. h
 call-houses ProtocolError s = error-houses s
 
+-- whether or not the call finds memory
+leaves-houses : (call : Call) (s t : State) → Leaves call s t → Houses s t
+leaves-houses = leaves-kept Houses Houses-IsKept (λ s. housed-filter s.grants _ s.listed) call-houses
+
 -- ---- what the law says
 
 if-some : {X : Type 0} (P : X → Type 0) (o : Option X) (x : X) → IfSome o P → o ≡ Some x → P x
@@ -263,8 +268,8 @@ initial-IsHoused transport local remote config seed =
     let s = initial transport local remote config seed in
     housed-IsHoused s (record { stands = λ g none. absurd none; backed = λ l none. absurd none })
 
-pub call-IsHoused : (call : Call) (s : State) → IsHoused s → IsHoused (state_after call s)
-call-IsHoused call s h = housed-IsHoused (state_after call s) (call-houses call s (IsHoused-housed s h))
+pub leaves-IsHoused : (call : Call) (s t : State) → Leaves call s t → IsHoused s → IsHoused t
+leaves-IsHoused call s t leaves h = housed-IsHoused t (leaves-houses call s t leaves (IsHoused-housed s h))
 
 pub IsHoused-AllStandIn : (s : State) → IsHoused s → AllStandIn s
 IsHoused-AllStandIn s h = h.0
