@@ -26,10 +26,11 @@ use Rattle.turn_client_api.specs.Due.{has_event, has_reply, is_paused}
 use Rattle.turn_client_api.specs.Poll.{answer_step, channel_lapsed, given_up_step, goes, in_vain, is_lapsed_channel, is_listed_for_allocation, lapsed, lapsed_allocation, lapsed_in, next_offer, offer_step, poll_step, timed_step}
 use Rattle.turn_client_api.specs.Transmit.{idle_step, queue_step, refresh_step, refreshes_in, transmit_step}
 use Rattle.turn_client_api.specs.Transmit as T
-use Rattle.turn_client_api.specs.Steps.{Call, state_after, Delete, CreatePermission, BindChannel, TcpConnect, AllocatedTcpSocket, TcpClosed, SendTo, Recv, PollRecv, Poll, PollTransmit, PollEvent, ProtocolError}
+use Rattle.turn_client_api.specs.Steps.{Call, Leaves, state_after, Delete, CreatePermission, BindChannel, TcpConnect, AllocatedTcpSocket, TcpClosed, SendTo, Recv, PollRecv, Poll, PollTransmit, PollEvent, ProtocolError}
+use Rattle.turn_client_api.proofs.MemoryLemmas.{leaves-kept}
 use Rattle.turn_client_api.proofs.RunKeepLemmas.{poll_recv-kept, recv-kept, tcp_closed-kept}
 use Rattle.turn_client_api.specs.Receive.{connection_gone}
-use Rattle.turn_client_api.proofs.KeepLemmas.{Keeps, keeps-same, keeps-trans, keeps-cond, keeps-fold, rank-le}
+use Rattle.turn_client_api.proofs.KeepLemmas.{Keeps, keeps-closed, keeps-same, keeps-trans, keeps-cond, keeps-fold, rank-le}
 use Rattle.turn_client_api.proofs.MessageKeepLemmas.{message-keeps, bind-keeps as bound-keeps}
 use Rattle.turn_client_api.proofs.RunKeepLemmas.{IsKept}
 
@@ -237,6 +238,10 @@ call-keeps (Poll now) s = poll-keeps now s
 call-keeps (PollTransmit now) s = transmit-keeps now s
 call-keeps PollEvent s = keeps-same s
 call-keeps ProtocolError s = error-keeps s
+
+-- whether or not the call finds memory
+pub leaves-keeps : (call : Call) (s t : State) → Leaves call s t → Keeps s t
+leaves-keeps = leaves-kept Keeps Keeps-IsKept (λ s. keeps-closed s s (keeps-same s)) call-keeps
 
 -- a client that has ended says so when nothing waits
 told_of : (p : Phase) (events : List TurnEvent) (now : ℕ) (s : State) → p ≡ Closed → events ≡ [] → has_reply s ≡ false → (poll_step now (record s { phase = p; events = events })).0 ≡ Do.Closed

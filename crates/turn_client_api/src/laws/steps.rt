@@ -1,4 +1,4 @@
-//! What every call keeps.
+//! What every call keeps, whether or not it finds memory.
 
 ghost use Rattle.std.specs.Prelude.{◌≡◌, ℕ, false, List, [], Some};
 ghost use Rattle.turn_auth.specs.LongTerm.{Challenge};
@@ -7,14 +7,14 @@ ghost use Rattle.turn_client_api.specs.Judgement.{Judgement, Challenged, judgeme
 ghost use Rattle.turn_client_api.specs.Payloads.{message_step};
 ghost use Rattle.turn_client_api.specs.Due.{has_reply};
 ghost use Rattle.turn_client_api.specs.Poll.{poll_step};
-ghost use Rattle.turn_client_api.specs.Steps.{Call, state_after};
+ghost use Rattle.turn_client_api.specs.Steps.{Call, Leaves};
 ghost use Rattle.turn_client_api.specs.LawsSteps.{StaysClosed, StaysPatient, KeepsRealm, IsCounted, GoesOn};
 ghost use Rattle.turn_client_api.specs.declared.poll.TurnPollRet.TheVariants as Do;
 
-/// A client that has ended stays so, whatever is called. Once no event waits, nor a reply to be sent,
-/// `poll` says that it has ended (our choice).
+/// A client that has ended stays so, whatever is called, whether or not a call finds memory. Once no
+/// event waits, nor a reply to be sent, `poll` says that it has ended (our choice).
 pub fn stays_closed()
-    ensures stays { (call : Call) (s : State) → StaysClosed s (state_after call s) }
+    ensures stays { (call : Call) (s t : State) → Leaves call s t → StaysClosed s t }
     ensures told { (now : ℕ) (s : State) → s.phase ≡ Closed → s.events ≡ [] → has_reply s ≡ false → (poll_step now s).0 ≡ Do.Closed }
 {}
 
@@ -22,18 +22,18 @@ pub fn stays_closed()
 /// choice: RFC 8489, section 9.2.5, has no end): each answer is counted, and the server's heed of a
 /// request begins the count anew.
 pub fn challenges_are_counted()
-    ensures stays { (call : Call) (s : State) → StaysPatient s (state_after call s) }
+    ensures stays { (call : Call) (s t : State) → Leaves call s t → StaysPatient s t }
     ensures each { (message : List ℕ) (now : ℕ) (s : State) (challenge : Challenge) → judgement_of s message ≡ Challenged challenge → IsCounted s (message_step message now s).1 }
 {}
 
 /// Realm and algorithm, once held, never change (RFC 8489, section 9.2.5: a later challenge brings a
 /// nonce).
 pub fn realm_stays()
-    ensures { (call : Call) (s : State) → KeepsRealm s (state_after call s) }
+    ensures { (call : Call) (s t : State) → Leaves call s t → KeepsRealm s t }
 {}
 
 /// A client goes on from phase to phase and never back: new, requesting, authenticating, allocated and
 /// closed. Once it has sent a packet, the moment of the last one is known.
 pub fn phases_go_on()
-    ensures { (call : Call) (s : State) → GoesOn s (state_after call s) }
+    ensures { (call : Call) (s t : State) → Leaves call s t → GoesOn s t }
 {}

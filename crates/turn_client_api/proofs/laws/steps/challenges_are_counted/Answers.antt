@@ -1,9 +1,9 @@
-use Rattle.turn_client_api.proofs.CallKeepLemmas.{call-keeps}
+use Rattle.turn_client_api.proofs.CallKeepLemmas.{leaves-keeps}
 use Rattle.turn_client_api.proofs.MessageKeepLemmas.{challenge-IsCounted}
 use Rattle.turn_client_api.proofs.laws.steps.challenges_are_counted.Goals as goal
 
 pub returns-clause-stays : goal.returns-clause-stays
-returns-clause-stays c = λ call s. (call-keeps call s).1
+returns-clause-stays c = λ call s t leaves. (leaves-keeps call s t leaves).1
 
 pub returns-clause-each : goal.returns-clause-each
 returns-clause-each c = challenge-IsCounted

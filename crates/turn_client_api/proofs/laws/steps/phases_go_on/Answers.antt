@@ -1,5 +1,5 @@
-use Rattle.turn_client_api.proofs.CallKeepLemmas.{call-keeps}
+use Rattle.turn_client_api.proofs.CallKeepLemmas.{leaves-keeps}
 use Rattle.turn_client_api.proofs.laws.steps.phases_go_on.Goals as goal
 
 pub returns : goal.returns
-returns c = λ call s. (call-keeps call s).3
+returns c = λ call s t leaves. (leaves-keeps call s t leaves).3
