@@ -1,5 +1,5 @@
 -- Which requests are outstanding after a call: those that were, and one of an ID that was drawn.
-use Rattle.std.proofs.Common.{◌≡◌, ◌⊎◌, ℕ, Bool, true, false, not, cond, leb, ◌&&◌, ◌||◌, List, [], ◌∷◌, Option, Some, None, Result, Err, refl, inl, inr, ◌∙◌}
+use Rattle.std.proofs.Common.{◌≡◌, ◌⊎◌, ℕ, Bool, true, false, not, cond, leb, ◌&&◌, ◌||◌, List, [], ◌∷◌, Option, Some, None, Result, Err, refl, subst, inl, inr, ◌∙◌}
 use Rattle.std.specs.Prelude.{is_some, find, reverse, filter_map, flat_map, slice_get}
 use Rattle.std.specs.List.{list_any}
 use Rattle.std.specs.Option.{option_map_or}
@@ -28,9 +28,10 @@ use Rattle.turn_client_api.specs.Transmit.{idle_step, queue_step, refreshes_in, 
 use Rattle.turn_client_api.specs.Transmit as T
 use Rattle.turn_client_api.specs.LawsReplies.{IsDrawn}
 use Rattle.turn_client_api.specs.LawsTurns.{IsBroughtBy}
-use Rattle.turn_client_api.specs.Steps.{Call, state_after, Delete, CreatePermission, BindChannel, TcpConnect, AllocatedTcpSocket, TcpClosed, SendTo, Recv, PollRecv, Poll, PollTransmit, PollEvent, ProtocolError}
+use Rattle.turn_client_api.specs.Steps.{Call, Leaves, state_after, Delete, CreatePermission, BindChannel, TcpConnect, AllocatedTcpSocket, TcpClosed, SendTo, Recv, PollRecv, Poll, PollTransmit, PollEvent, ProtocolError}
 use Rattle.turn_client_api.proofs.CallKeepLemmas.{bound_by}
 use Rattle.turn_client_api.proofs.DrawLemmas.{AsksNothing, Draws, IsOneOf, asks-cond, asks-fold, bind-draws, draws-more, draws-nothing, draws-same, message-draws, outstanding-resent, outstanding-without}
+use Rattle.turn_client_api.proofs.MemoryLemmas.{memory-brings}
 use Rattle.turn_client_api.proofs.TurnLemmas.{IsBringing, poll_recv-brings, recv-brings}
 
 -- ---- as time passes, nothing is asked for
@@ -228,7 +229,7 @@ module _ (id : ℕ) where
   brought call s (inl was) = inr was
   brought call s (inr d) = inl (inr d)
 
-  pub call-draws : (call : Call) (s : State) → is_outstanding id (state_after call s).transactions ≡ true → IsDrawn call id s ⊎ (is_outstanding id s.transactions ≡ true)
+  call-draws : (call : Call) (s : State) → is_outstanding id (state_after call s).transactions ≡ true → IsDrawn call id s ⊎ (is_outstanding id s.transactions ≡ true)
   call-draws (Delete now) s = at_once (Delete now) s (delete-draws now s)
   call-draws (CreatePermission transport peer now) s = at_once (CreatePermission transport peer now) s (permission-draws transport peer now s)
   call-draws (BindChannel transport peer now) s = at_once (BindChannel transport peer now) s (bind_channel-draws transport peer now s)
@@ -242,3 +243,8 @@ module _ (id : ℕ) where
   call-draws (PollTransmit now) s = at_once (PollTransmit now) s (transmit-draws now s)
   call-draws PollEvent s = at_once PollEvent s (draws-same id s)
   call-draws ProtocolError s = at_once ProtocolError s (draws-nothing id s (protocol_error_step s) (asks-cond (is_closed s.phase) s s _ refl refl))
+
+  -- whether or not the call finds memory
+  pub leaves-draws : (call : Call) (s t : State) → Leaves call s t → is_outstanding id t.transactions ≡ true → IsDrawn call id s ⊎ (is_outstanding id s.transactions ≡ true)
+  leaves-draws call s t (inl e) h = call-draws call s (subst (λ (x : State). is_outstanding id x.transactions ≡ true) e h)
+  leaves-draws call s t (inr end) h = brought call s (memory-brings _ _ draws-IsBringing (λ u there. there) call s t end h)

@@ -10,7 +10,7 @@ ghost use Rattle.turn_client_api.specs.Requests.{fresh_id, most_taken};
 ghost use Rattle.turn_client_api.specs.Judgement.{bind_judgement, class_in, judgement_of};
 ghost use Rattle.turn_client_api.specs.Connections.{bind_answered, bind_step};
 ghost use Rattle.turn_client_api.specs.Payloads.{message_step};
-ghost use Rattle.turn_client_api.specs.Steps.{Call, state_after};
+ghost use Rattle.turn_client_api.specs.Steps.{Call, Leaves};
 ghost use Rattle.turn_client_api.specs.LawsReplies.{IsAccepted, IsDrawn};
 
 /// A reply counts once (RFC 8489, section 6.3): one that is accepted is to a request that is
@@ -29,7 +29,7 @@ pub fn replies_count_once()
 {}
 
 /// No call makes a request outstanding but under an ID that it draws for it (RFC 8489, section 5: each
-/// request has an ID of its own).
+/// request has an ID of its own), whether or not the call finds memory.
 pub fn ids_are_drawn()
-    ensures { (call : Call) (id : ℕ) (s : State) → is_outstanding id (state_after call s).transactions ≡ true → IsDrawn call id s ⊎ (is_outstanding id s.transactions ≡ true) }
+    ensures { (call : Call) (id : ℕ) (s t : State) → Leaves call s t → is_outstanding id t.transactions ≡ true → IsDrawn call id s ⊎ (is_outstanding id s.transactions ≡ true) }
 {}
