@@ -1,5 +1,5 @@
 -- What all calls leave standing: a signed success alone grants more.
-use Rattle.std.proofs.Common.{◌≡◌, ℕ, Bool, true, false, not, cond, ◌&&◌, ◌||◌, List, [], ◌∷◌, filter, Option, Some, None, Result, Ok, Err, refl, sym, inl, inr, ◌⊎◌}
+use Rattle.std.proofs.Common.{◌≡◌, ℕ, Bool, true, false, not, cond, ◌&&◌, ◌||◌, List, [], ◌∷◌, filter, Option, Some, None, Result, Ok, Err, refl, subst, sym, inl, inr, ◌⊎◌}
 use Rattle.std.specs.Prelude.{is_some, find, reverse, flat_map, slice_get}
 use Rattle.std.specs.List.{Contains}
 use Rattle.turn_types.specs.declared.family.AddressFamily.{AddressFamily}
@@ -22,12 +22,14 @@ use Rattle.turn_client_api.specs.Transmit as T
 use Rattle.turn_client_api.specs.LawsTurns.{IsBroughtBy}
 use Rattle.turn_client_api.specs.LawsGranted.{IsEndedNow, IsGrant, IsKeptAs, IsStanding, Stood}
 use Rattle.turn_client_api.specs.Steps.{Call, state_after, Delete, CreatePermission, BindChannel, TcpConnect, AllocatedTcpSocket, TcpClosed, SendTo, Recv, PollRecv, Poll, PollTransmit, PollEvent, ProtocolError}
+use Rattle.turn_client_api.specs.Steps as S
 use Rattle.turn_client_api.proofs.HasLemmas.{Has, has-filter}
 use Rattle.turn_client_api.proofs.StandLemmas.{Covers, Leaves, Left, contains-has, covers-has, covers-left, covers-stood, has-contains, kept-same, leaves-cond, leaves-fold, leaves-same, leaves-trans, left-cons, left-filter, left-one, left-same, left-trans}
 use Rattle.turn_client_api.proofs.GivenLemmas.{has-mapped}
 use Rattle.turn_client_api.proofs.GivenEffectLemmas.{changed_allocation}
 use Rattle.turn_client_api.proofs.GivenMessageLemmas.{message-brings}
 use Rattle.turn_client_api.proofs.GivenCallLemmas.{bind-leaves, bind_channel-leaves, connect-leaves, either, error-leaves, found, gone-leaves, permission-leaves, send-leaves, tcp_closed-leaves, tcp_socket-leaves, without-leaves}
+use Rattle.turn_client_api.proofs.MemoryLemmas.{memory-brings}
 use Rattle.turn_client_api.proofs.TurnLemmas.{IsBringing, poll_recv-brings, recv-brings}
 
 -- ---- as time passes
@@ -199,9 +201,9 @@ module _ (s : State) (g : Grant) (stands : IsStanding g) where
   left call X leaves there = inl (covers-stood s g (leaves g there stands))
 
   -- of what comes in
-  came : (X : Type 0) → Covers s.grants g ⊎ X → Stood s g ⊎ ⊥ ⊎ X
-  came X (inl covers) = inl (covers-stood s g covers)
-  came X (inr did) = inr (inr did)
+  came : (E X : Type 0) → Covers s.grants g ⊎ X → Stood s g ⊎ E ⊎ X
+  came E X (inl covers) = inl (covers-stood s g covers)
+  came E X (inr did) = inr (inr did)
 
   deleted-or : (X : Type 0) (now : ℕ) → Stood s g ⊎ IsEndedNow (Delete now) s g → Stood s g ⊎ IsEndedNow (Delete now) s g ⊎ X
   deleted-or X now (inl stood) = inl stood
@@ -216,13 +218,19 @@ module _ (s : State) (g : Grant) (stands : IsStanding g) where
   has-grants (TcpClosed local remote) there = left (TcpClosed local remote) _ (tcp_closed-leaves local remote s) there
   has-grants (SendTo transport peer bytes now) there = left (SendTo transport peer bytes now) _ (send-leaves transport peer bytes now s) there
   has-grants (Recv transport from to bytes now) there =
-      came _ (recv-brings (λ s. Covers s.grants g) (IsGrant g) (bringing g) transport from to bytes now s (covers-has _ g there stands))
+      came _ _ (recv-brings (λ s. Covers s.grants g) (IsGrant g) (bringing g) transport from to bytes now s (covers-has _ g there stands))
   has-grants (PollRecv now) there =
-      came _ (poll_recv-brings (λ s. Covers s.grants g) (IsGrant g) (bringing g) now s (covers-has _ g there stands))
+      came _ _ (poll_recv-brings (λ s. Covers s.grants g) (IsGrant g) (bringing g) now s (covers-has _ g there stands))
   has-grants (Poll now) there = left (Poll now) _ (poll-leaves now s) there
   has-grants (PollTransmit now) there = left (PollTransmit now) _ (transmit-leaves now s) there
   has-grants PollEvent there = left PollEvent _ (leaves-same s) there
   has-grants ProtocolError there = left ProtocolError _ (error-leaves s) there
 
-pub call-grants : (call : Call) (s : State) (g : Grant) → Contains (state_after call s).grants g → IsStanding g → Stood s g ⊎ IsEndedNow call s g ⊎ IsBroughtBy (IsGrant g) call s
-call-grants call s g contains stands = has-grants s g stands call (contains-has g (state_after call s).grants contains)
+  -- whether or not the call finds memory
+  has-left : (call : Call) (t : State) → S.Leaves call s t → Has g t.grants → Stood s g ⊎ IsEndedNow call s g ⊎ IsBroughtBy (IsGrant g) call s
+  has-left call t (inl e) there = has-grants call (subst (λ (x : State). Has g x.grants) e there)
+  has-left call t (inr end) there =
+      came _ _ (memory-brings (λ u. Covers u.grants g) (IsGrant g) (bringing g) (λ u covers. covers) call s t end (covers-has t.grants g there stands))
+
+pub leaves-grants : (call : Call) (s t : State) (g : Grant) → S.Leaves call s t → Contains t.grants g → IsStanding g → Stood s g ⊎ IsEndedNow call s g ⊎ IsBroughtBy (IsGrant g) call s
+leaves-grants call s t g leaves contains stands = has-left s g stands call t leaves (contains-has g t.grants contains)
