@@ -1,11 +1,18 @@
 -- What the tests of addresses say.
-use Rattle.std.proofs.Common.{◌≡◌, ℕ, true, List, sym, ap}
+use Rattle.std.proofs.Common.{◌≡◌, ℕ, true, List, refl, sym, ap, eqb, ◌&&◌, ◌∙◌}
+use Rattle.std.proofs.lemmas.Bool.{and_parts, eqb-true, eq-eqb}
+use Rattle.std.proofs.lemmas.Slice.Eq.{bytes_eq-Decides}
 use Rattle.std.specs.Cmp.Lexicographic.{same_text}
 use Rattle.std.specs.Net.Addr.{ipv4_octets, ipv6_segments}
 use Rattle.std.specs.declared.net.ip_addr.IpAddr.{IpAddr}
 use Rattle.std.specs.declared.net.ip_addr.IpAddr.TheVariants.{V4, V6}
 use Rattle.std.specs.declared.net.ipv4_addr.Ipv4Addr.{Ipv4Addr}
 use Rattle.std.specs.declared.net.ipv6_addr.Ipv6Addr.{Ipv6Addr}
+use Rattle.std.specs.Cmp.Lexicographic.{pointwise}
+use Rattle.std.specs.Net.Socket.{v4_ip, v4_port, v6_ip, v6_port, v6_flowinfo, v6_scope_id}
+use Rattle.std.specs.declared.net.socket_addr.SocketAddr.{SocketAddr}
+use Rattle.std.specs.declared.net.socket_addr.SocketAddr.TheVariants as At
+use Rattle.turn_agent.specs.Agent.{same_address}
 use Rattle.turn_client_api.specs.Grants.{same_ip}
 
 abbrev ipv4 : List ℕ → Ipv4Addr
@@ -19,3 +26,37 @@ same_ip-true (V4 a) (V4 b) h = ap (λ (o : List ℕ). V4 (ipv4 o)) (same_text (i
 same_ip-true (V6 a) (V6 b) h = ap (λ (o : List ℕ). V6 (ipv6 o)) (same_text (ipv6_segments a) (ipv6_segments b) (sym h))
 same_ip-true (V4 a) (V6 b) h = cc
 same_ip-true (V6 a) (V4 b) h = cc
+
+-- ---- an address and its port
+
+abbrev socket_v4 : List ℕ → ℕ → SocketAddr
+socket_v4 octets port = At.V4 (record { ip = ipv4 octets; port = port })
+
+abbrev socket_v6 : List ℕ → ℕ → ℕ → ℕ → SocketAddr
+socket_v6 segments port flowinfo scope_id = At.V6 (record { ip = ipv6 segments; port = port; flowinfo = flowinfo; scope_id = scope_id })
+
+pub same_address-true : (a b : SocketAddr) → same_address a b ≡ true → a ≡ b
+same_address-true (At.V4 a) (At.V4 b) h =
+    let parts = and_parts (pointwise eqb (ipv4_octets (v4_ip a)) (ipv4_octets (v4_ip b))) (eqb (v4_port a) (v4_port b)) h in
+    ap (λ o. socket_v4 o (v4_port a)) (same_text (ipv4_octets (v4_ip a)) (ipv4_octets (v4_ip b)) (sym parts.0))
+    ∙ ap (socket_v4 (ipv4_octets (v4_ip b))) (eqb-true (v4_port a) (v4_port b) parts.1)
+same_address-true (At.V6 a) (At.V6 b) h =
+    let scope = and_parts (pointwise eqb (ipv6_segments (v6_ip a)) (ipv6_segments (v6_ip b)) && eqb (v6_port a) (v6_port b) && eqb (v6_flowinfo a) (v6_flowinfo b)) (eqb (v6_scope_id a) (v6_scope_id b)) h in
+    let flow = and_parts (pointwise eqb (ipv6_segments (v6_ip a)) (ipv6_segments (v6_ip b)) && eqb (v6_port a) (v6_port b)) (eqb (v6_flowinfo a) (v6_flowinfo b)) scope.0 in
+    let ip = and_parts (pointwise eqb (ipv6_segments (v6_ip a)) (ipv6_segments (v6_ip b))) (eqb (v6_port a) (v6_port b)) flow.0 in
+    ap (λ o. socket_v6 o (v6_port a) (v6_flowinfo a) (v6_scope_id a)) (same_text (ipv6_segments (v6_ip a)) (ipv6_segments (v6_ip b)) (sym ip.0))
+    ∙ (ap (λ n. socket_v6 (ipv6_segments (v6_ip b)) n (v6_flowinfo a) (v6_scope_id a)) (eqb-true (v6_port a) (v6_port b) ip.1)
+    ∙ (ap (λ n. socket_v6 (ipv6_segments (v6_ip b)) (v6_port b) n (v6_scope_id a)) (eqb-true (v6_flowinfo a) (v6_flowinfo b) flow.1)
+    ∙ ap (socket_v6 (ipv6_segments (v6_ip b)) (v6_port b) (v6_flowinfo b)) (eqb-true (v6_scope_id a) (v6_scope_id b) scope.1)))
+same_address-true (At.V4 a) (At.V6 b) h = cc
+same_address-true (At.V6 a) (At.V4 b) h = cc
+
+eqb-self : (n : ℕ) → eqb n n ≡ true
+eqb-self n = eq-eqb n n refl
+
+same_list : (xs : List ℕ) → pointwise eqb xs xs ≡ true
+same_list xs = (bytes_eq-Decides xs xs).1 refl
+
+pub same_address-self : (a : SocketAddr) → same_address a a ≡ true
+same_address-self (At.V4 a) = rw (same_list (ipv4_octets (v4_ip a)), eqb-self (v4_port a)) refl
+same_address-self (At.V6 a) = rw (same_list (ipv6_segments (v6_ip a)), eqb-self (v6_port a), eqb-self (v6_flowinfo a), eqb-self (v6_scope_id a)) refl

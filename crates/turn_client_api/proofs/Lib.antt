@@ -31,7 +31,11 @@ pub mod StandLemmas
 pub mod SteadyCallLemmas
 pub mod SteadyLemmas
 pub mod StrayLemmas
+pub mod StreamDrainLemmas
+pub mod StreamMessageLemmas
 pub mod StreamPeerLemmas
+pub mod StreamShortLemmas
+pub mod StreamWeightLemmas
 pub mod TimelyLemmas
 pub mod TurnLemmas
 pub mod WakeupLemmas

@@ -18,6 +18,7 @@ pub mod LawsPeers
 pub mod LawsReplies
 pub mod LawsRows
 pub mod LawsSteps
+pub mod LawsStreams
 pub mod LawsTurns
 pub mod LawsWakeup
 pub mod Payloads

@@ -10,6 +10,7 @@ mod peers;
 mod replies;
 mod rows;
 mod steps;
+mod streams;
 mod wakeup;
 
 pub use alarm::sleeps_through_nothing;
@@ -25,4 +26,5 @@ pub use rows::{
     moments_are_told, silence_is_timed,
 };
 pub use steps::{challenges_are_counted, phases_go_on, realm_stays, stays_closed};
+pub use streams::streams_are_drained;
 pub use wakeup::wakeup_is_the_least_moment;

@@ -1,0 +1,232 @@
+-- The turns that `poll_recv` takes are enough: what they leave in the streams waits for more bytes.
+use Rattle.std.proofs.Common.{◌≡◌, ℕ, zero, suc, ◌<◌, ◌≤◌, Bool, true, false, not, cond, ◌&&◌, List, [], ◌∷◌, ◌++◌, length, take, drop, Option, Some, None, refl, sym, ap, ◌∙◌, inl, inr, arith}
+use Rattle.std.specs.Prelude.{All, find, is_some}
+use Rattle.std.proofs.lemmas.List.{length-drop}
+use Rattle.std.proofs.lemmas.List.Elements.{All-nil, All-cons}
+use Rattle.std.proofs.lemmas.Option.{same_Some}
+use Rattle.std.specs.declared.net.socket_addr.SocketAddr.{SocketAddr}
+use Rattle.turn_types.specs.Frames.{IsFrame, begins_no_frame, frame_len}
+use Rattle.turn_types.proofs.FrameLemmas.{frame_len-IsWhole}
+use Rattle.turn_types.proofs.SplitLemmas.{IsFrame-frame_len}
+use Rattle.turn_agent.specs.Agent.{same_address}
+use Rattle.turn_client_api.specs.State.{State, Mode, Control, Waiting, Bound, Broken, Stream}
+use Rattle.turn_client_api.specs.Payloads.{Payload, Outcome, Handled, Ignored, PeerData, PeerIcmp}
+use Rattle.turn_client_api.specs.Streams.{broken_at, frame_step, go_on, is_bound, is_ready, most_turns, poll_recv_step, ready_len, turn, turn_of_first, turns, with_bytes}
+use Rattle.turn_client_api.specs.LawsStreams.{HasNoFrame, IsDrained}
+use Rattle.turn_client_api.proofs.StreamMessageLemmas.{Rebound, frame-rebound}
+use Rattle.turn_client_api.proofs.StreamWeightLemmas.{KeepsHeld, Sets, weight, weight-kept, weight-le, weight-less}
+
+-- ---- how many bytes a turn takes
+
+framed : List ℕ → Option ℕ
+framed bytes = cond (begins_no_frame bytes) (Some (length bytes)) (frame_len bytes)
+
+framed-takes : (bytes : List ℕ) (len : ℕ) → framed bytes ≡ Some len → length (drop len bytes) < length bytes
+unfolding framed
+framed-takes [] len e = cc
+framed-takes (b ∷ bytes) len e = by (begins_no_frame (b ∷ bytes)) e
+  where
+    by : (t : Bool) → cond t (Some (length (b ∷ bytes))) (frame_len (b ∷ bytes)) ≡ Some len → length (drop len (b ∷ bytes)) < length (b ∷ bytes)
+    by true f = let all : length (b ∷ bytes) ≡ len = same_Some _ _ f in rw length-drop (omega (arith, all))
+    by false f = let is = frame_len-IsWhole (b ∷ bytes) len f in rw length-drop (omega (arith, is.least))
+
+-- it takes one byte at least
+takes : (mode : Mode) (stream : Stream) (len : ℕ) → ready_len (record stream { mode = mode }) ≡ Some len → length (drop len stream.bytes) < length stream.bytes
+unfolding framed
+takes Control stream len e = framed-takes stream.bytes len e
+takes Waiting stream len e = framed-takes stream.bytes len e
+takes Broken stream len e = cc
+takes (Bound peer) stream len e = by stream.bytes e
+  where
+    by : (bytes : List ℕ) → ready_len (record stream { mode = Bound peer; bytes = bytes }) ≡ Some len → length (drop len bytes) < length bytes
+    by [] f = cc
+    by (b ∷ bytes) f = let all : length (b ∷ bytes) ≡ len = same_Some _ _ f in rw length-drop (omega (arith, all))
+
+-- ---- a turn makes what the streams hold less
+
+bytes_by : SocketAddr → List ℕ → Stream → Stream
+bytes_by local bytes x = cond (same_address x.local local) (record x { bytes = bytes }) x
+
+broken_by : SocketAddr → Stream → Stream
+broken_by local x = cond (same_address x.local local) (record x { mode = Broken; bytes = [] }) x
+
+mode_by : SocketAddr → Mode → Stream → Stream
+mode_by local mode x = cond (same_address x.local local) (record x { mode = mode }) x
+
+bytes_by-Sets : (local : SocketAddr) (bytes : List ℕ) → Sets local bytes (bytes_by local bytes)
+unfolding bytes_by
+bytes_by-Sets local bytes = record {
+  keeps = λ x. by (same_address x.local local) x;
+  at = λ x e. rw e refl;
+  others = λ x e. rw e refl;
+}
+  where
+    by : (b : Bool) (x : Stream) → (cond b (record x { bytes = bytes }) x).local ≡ x.local
+    by true x = refl
+    by false x = refl
+
+broken_by-Sets : (local : SocketAddr) → Sets local [] (broken_by local)
+unfolding broken_by
+broken_by-Sets local = record {
+  keeps = λ x. by (same_address x.local local) x;
+  at = λ x e. rw e refl;
+  others = λ x e. rw e refl;
+}
+  where
+    by : (b : Bool) (x : Stream) → (cond b (record x { mode = Broken; bytes = [] }) x).local ≡ x.local
+    by true x = refl
+    by false x = refl
+
+mode_by-KeepsHeld : (local : SocketAddr) (mode : Mode) → KeepsHeld (mode_by local mode)
+unfolding mode_by
+mode_by-KeepsHeld local mode = record {
+  local = λ x. ends (same_address x.local local) x;
+  bytes = λ x. held (same_address x.local local) x;
+}
+  where
+    ends : (b : Bool) (x : Stream) → (cond b (record x { mode = mode }) x).local ≡ x.local
+    ends true x = refl
+    ends false x = refl
+
+    held : (b : Bool) (x : Stream) → (cond b (record x { mode = mode }) x).bytes ≡ x.bytes
+    held true x = refl
+    held false x = refl
+
+rebound-weight : (s t : State) → Rebound s t → weight t.streams ≡ weight s.streams
+unfolding mode_by
+rebound-weight s t (inl same) = ap weight same
+rebound-weight s t (inr (local, peer, is)) = ap weight is ∙ weight-kept (mode_by local (Bound peer)) (mode_by-KeepsHeld local (Bound peer)) s.streams
+
+turn-less : (stream : Stream) (now : ℕ) (s : State) → find is_ready s.streams ≡ Some stream → (len : ℕ) → ready_len stream ≡ Some len → weight (turn stream now s).1.streams < weight s.streams
+unfolding bytes_by broken_by
+turn-less stream now s found len e = rw e (by (not (is_bound stream.mode) && begins_no_frame stream.bytes))
+  where
+    fewer : length (drop len stream.bytes) < length stream.bytes
+    fewer = takes stream.mode stream len e
+
+    fed : State
+    fed = with_bytes stream.local (drop len stream.bytes) s
+
+    by : (b : Bool) → weight (cond {A = Outcome × State} b (Handled, broken_at stream.local s) (frame_step stream (take len stream.bytes) now fed)).1.streams < weight s.streams
+    by true = weight-less is_ready s.streams stream [] (broken_by stream.local) found (broken_by-Sets stream.local) (omega (arith, fewer))
+    by false =
+        let less = weight-less is_ready s.streams stream (drop len stream.bytes) (bytes_by stream.local (drop len stream.bytes)) found (bytes_by-Sets stream.local (drop len stream.bytes)) fewer in
+        rw (rebound-weight fed (frame_step stream (take len stream.bytes) now fed).1 (frame-rebound stream (take len stream.bytes) now fed)) less
+
+-- ---- as many turns as there are bytes
+
+some-absurd : {X : Type 0} (o : Option X) → is_some o ≡ true → o ≡ None → ⊥
+some-absurd None is none = cc
+some-absurd (Some x) is none = cc
+
+-- the first stream that is ready has bytes for a turn
+found-ready : (xs : List Stream) (stream : Stream) → find is_ready xs ≡ Some stream → is_ready stream ≡ true
+found-ready [] stream e = cc
+found-ready (x ∷ xs) stream e = by (is_ready x) refl (found-ready xs stream) e
+  where
+    by : (b : Bool) → is_ready x ≡ b → (find is_ready xs ≡ Some stream → is_ready stream ≡ true) → cond b (Some x) (find is_ready xs) ≡ Some stream → is_ready stream ≡ true
+    by true f later g = let same : x ≡ stream = same_Some _ _ g in rw (← same) f
+    by false f later g = later g
+
+pub turn-lighter : (stream : Stream) (now : ℕ) (s : State) → find is_ready s.streams ≡ Some stream → weight (turn stream now s).1.streams < weight s.streams
+turn-lighter stream now s found = by (ready_len stream) refl
+  where
+    by : (o : Option ℕ) → ready_len stream ≡ o → weight (turn stream now s).1.streams < weight s.streams
+    by None e = absurd (some-absurd (ready_len stream) (found-ready s.streams stream found) e)
+    by (Some len) e = turn-less stream now s found len e
+
+-- two ways to go on that agree on all that is lighter
+go_on-same : (next other : State → Option Payload × State) (p : Outcome × State) → next p.1 ≡ other p.1 → go_on next p ≡ go_on other p
+go_on-same next other (PeerData payload, t) same = refl
+go_on-same next other (Handled, t) same = same
+go_on-same next other (Ignored, t) same = same
+go_on-same next other (PeerIcmp transport peer icmp, t) same = same
+
+none-ready : (now : ℕ) (s : State) → weight s.streams ≤ 0 → (o : Option Stream) → find is_ready s.streams ≡ o → o ≡ None
+none-ready now s empty None e = refl
+none-ready now s empty (Some stream) e = let less = turn-lighter stream now s e in absurd (omega (arith, empty, less))
+
+-- more turns than the streams' weight give the same
+turns-enough : (n m now : ℕ) (s : State) → weight s.streams ≤ n → weight s.streams ≤ m → turns n now s ≡ turns m now s
+unfolding turns
+turns-enough zero zero now s hn hm = refl
+turns-enough zero (suc m) now s hn hm = rw (none-ready now s hn _ refl) refl
+turns-enough (suc n) zero now s hn hm = rw (none-ready now s hm _ refl) refl
+turns-enough (suc n) (suc m) now s hn hm = by (find is_ready s.streams) refl (λ t p q. turns-enough n m now t p q)
+  where
+    by : (o : Option Stream) → find is_ready s.streams ≡ o → ((t : State) → weight t.streams ≤ n → weight t.streams ≤ m → turns n now t ≡ turns m now t) → turn_of_first (turns n now) now s o ≡ turn_of_first (turns m now) now s o
+    by None e more = refl
+    by (Some stream) e more =
+        let less = turn-lighter stream now s e in
+        go_on-same (turns n now) (turns m now) (turn stream now s) (more (turn stream now s).1 (omega (arith, less)) (omega (arith, less)))
+
+pub poll_recv-enough : (n now : ℕ) (s : State) → most_turns s ≤ n → turns n now s ≡ poll_recv_step now s
+poll_recv-enough n now s h =
+    let most = weight-le s.streams in
+    turns-enough n (most_turns s) now s (omega (arith, most, h)) most
+
+-- no stream is ready where no payload came
+abbrev IsDone : Option Payload × State → Type 0
+IsDone p = p.0 ≡ None → find is_ready p.1.streams ≡ None
+
+go_on-done : (next : State → Option Payload × State) (p : Outcome × State) → IsDone (next p.1) → IsDone (go_on next p)
+go_on-done next (PeerData payload, t) done = λ h. absurd (some-none h)
+  where
+    some-none : Some (record payload { place = None }) ≡ None → ⊥
+    some-none h = cc
+go_on-done next (Handled, t) done = done
+go_on-done next (Ignored, t) done = done
+go_on-done next (PeerIcmp transport peer icmp, t) done = done
+
+turns-done : (n now : ℕ) (s : State) → weight s.streams ≤ n → IsDone (turns n now s)
+unfolding turns
+turns-done zero now s h = λ none. none-ready now s h _ refl
+turns-done (suc n) now s h = by (find is_ready s.streams) refl (λ t p. turns-done n now t p)
+  where
+    by : (o : Option Stream) → find is_ready s.streams ≡ o → ((t : State) → weight t.streams ≤ n → IsDone (turns n now t)) → IsDone (turn_of_first (turns n now) now s o)
+    by None e more = λ none. e
+    by (Some stream) e more =
+        let less = turn-lighter stream now s e in
+        go_on-done (turns n now) (turn stream now s) (more (turn stream now s).1 (omega (arith, less)))
+
+-- ---- what is not ready
+
+framed-none : (bytes : List ℕ) → framed bytes ≡ None → (begins_no_frame bytes ≡ false) × (frame_len bytes ≡ None)
+unfolding framed
+framed-none bytes = by (begins_no_frame bytes)
+  where
+    by : (b : Bool) → cond b (Some (length bytes)) (frame_len bytes) ≡ None → (b ≡ false) × (frame_len bytes ≡ None)
+    by true e = cc
+    by false e = (refl, e)
+
+framed-HasNoFrame : (bytes : List ℕ) → framed bytes ≡ None → HasNoFrame bytes
+framed-HasNoFrame bytes e = ((framed-none bytes e).0, by)
+  where
+    by : (frame more : List ℕ) → bytes ≡ frame ++ more → ¬ IsFrame frame
+    by frame more spelled is =
+        let found : frame_len bytes ≡ Some (length frame) = rw spelled (IsFrame-frame_len frame more is) in
+        let clash : None ≡ Some (length frame) = sym (framed-none bytes e).1 ∙ found in
+        cc
+
+drained-in : (mode : Mode) (stream : Stream) → ready_len (record stream { mode = mode }) ≡ None → IsDrained (record stream { mode = mode })
+unfolding framed
+drained-in Control stream e = framed-HasNoFrame stream.bytes e
+drained-in Waiting stream e = framed-HasNoFrame stream.bytes e
+drained-in Broken stream e = tt
+drained-in (Bound peer) stream e = by stream.bytes e
+  where
+    by : (bytes : List ℕ) → ready_len (record stream { mode = Bound peer; bytes = bytes }) ≡ None → bytes ≡ []
+    by [] f = refl
+    by (b ∷ bytes) f = cc
+
+all-drained : (xs : List Stream) → find is_ready xs ≡ None → All IsDrained xs
+all-drained [] e = All-nil IsDrained
+all-drained (x ∷ xs) e = by (ready_len x) refl (all-drained xs) e
+  where
+    by : (o : Option ℕ) → ready_len x ≡ o → (find is_ready xs ≡ None → All IsDrained xs) → cond (is_some o) (Some x) (find is_ready xs) ≡ None → All IsDrained (x ∷ xs)
+    by None f later g = All-cons IsDrained x xs (drained-in x.mode x f) (later g)
+    by (Some len) f later g = cc
+
+pub poll_recv-drained : (now : ℕ) (s : State) → (poll_recv_step now s).0 ≡ None → All IsDrained (poll_recv_step now s).1.streams
+poll_recv-drained now s none =
+    all-drained (poll_recv_step now s).1.streams (turns-done (most_turns s) now s (weight-le s.streams) none)

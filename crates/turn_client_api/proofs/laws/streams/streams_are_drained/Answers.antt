@@ -1,0 +1,12 @@
+use Rattle.turn_client_api.proofs.StreamDrainLemmas.{poll_recv-drained, poll_recv-enough}
+use Rattle.turn_client_api.proofs.StreamShortLemmas.{drained-short}
+use Rattle.turn_client_api.proofs.laws.streams.streams_are_drained.Goals as goal
+
+pub returns-clause-drained : goal.returns-clause-drained
+returns-clause-drained c = poll_recv-drained
+
+pub returns-clause-short : goal.returns-clause-short
+returns-clause-short c = drained-short
+
+pub returns-clause-enough : goal.returns-clause-enough
+returns-clause-enough c = poll_recv-enough

@@ -1,0 +1,19 @@
+-- What the streams of a client over TCP hold between two calls.
+use Rattle.std.specs.Prelude.{◌≡◌, ℕ, false, List, [], ◌++◌, ⊤}
+use Rattle.turn_types.specs.Frames.{IsFrame, begins_no_frame}
+use Rattle.turn_client_api.specs.State.{Mode, Control, Waiting, Bound, Broken, Stream}
+
+-- no whole frame is in front, nor a byte that no frame begins with
+abbrev pub HasNoFrame : List ℕ → Type 0
+HasNoFrame bytes =
+    (begins_no_frame bytes ≡ false) × ((frame more : List ℕ) → bytes ≡ frame ++ more → ¬ IsFrame frame)
+
+-- nothing of the stream is handled before more of it comes
+abbrev pub IsDrained : Stream → Type 0
+IsDrained stream = by stream.mode
+  where
+    by : Mode → Type 0
+    by Control = HasNoFrame stream.bytes
+    by Waiting = HasNoFrame stream.bytes
+    by (Bound peer) = stream.bytes ≡ []
+    by Broken = ⊤

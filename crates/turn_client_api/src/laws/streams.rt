@@ -1,0 +1,16 @@
+//! What waits in the streams of a client over TCP.
+
+ghost use Rattle.std.specs.Prelude.{◌≡◌, ◌≢◌, ℕ, ◌<◌, ◌≤◌, length, All, None};
+ghost use Rattle.turn_client_api.specs.State.{State, Stream, Broken};
+ghost use Rattle.turn_client_api.specs.Streams.{most_turns, poll_recv_step, turns};
+ghost use Rattle.turn_client_api.specs.LawsStreams.{IsDrained};
+
+/// `poll_recv` leaves nothing behind (RFC 8656, section 12.5): where it gives no payload, no stream
+/// holds a whole frame, nor a bound one any byte, and each that is not broken holds less than the
+/// longest frame, a message of 65,555 bytes. It takes as many turns as it needs: more would give the
+/// same.
+pub fn streams_are_drained()
+    ensures drained { (now : ℕ) (s : State) → (poll_recv_step now s).0 ≡ None → All IsDrained (poll_recv_step now s).1.streams }
+    ensures short { (stream : Stream) → IsDrained stream → stream.mode ≢ Broken → All (λ b. b < 256) stream.bytes → length stream.bytes < 65555 }
+    ensures enough { (n now : ℕ) (s : State) → most_turns s ≤ n → turns n now s ≡ poll_recv_step now s }
+{}
