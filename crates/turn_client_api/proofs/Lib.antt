@@ -31,10 +31,13 @@ pub mod StandLemmas
 pub mod SteadyCallLemmas
 pub mod SteadyLemmas
 pub mod StrayLemmas
+pub mod StreamApartLemmas
+pub mod StreamCallLemmas
 pub mod StreamDrainLemmas
 pub mod StreamMessageLemmas
 pub mod StreamPeerLemmas
 pub mod StreamShortLemmas
+pub mod StreamStepLemmas
 pub mod StreamWeightLemmas
 pub mod TimelyLemmas
 pub mod TurnLemmas

@@ -44,13 +44,13 @@ takes (Bound peer) stream len e = by stream.bytes e
 
 -- ---- a turn makes what the streams hold less
 
-bytes_by : SocketAddr → List ℕ → Stream → Stream
+unfoldable pub bytes_by : SocketAddr → List ℕ → Stream → Stream
 bytes_by local bytes x = cond (same_address x.local local) (record x { bytes = bytes }) x
 
-broken_by : SocketAddr → Stream → Stream
+unfoldable pub broken_by : SocketAddr → Stream → Stream
 broken_by local x = cond (same_address x.local local) (record x { mode = Broken; bytes = [] }) x
 
-mode_by : SocketAddr → Mode → Stream → Stream
+unfoldable pub mode_by : SocketAddr → Mode → Stream → Stream
 mode_by local mode x = cond (same_address x.local local) (record x { mode = mode }) x
 
 bytes_by-Sets : (local : SocketAddr) (bytes : List ℕ) → Sets local bytes (bytes_by local bytes)
@@ -120,7 +120,7 @@ some-absurd None is none = cc
 some-absurd (Some x) is none = cc
 
 -- the first stream that is ready has bytes for a turn
-found-ready : (xs : List Stream) (stream : Stream) → find is_ready xs ≡ Some stream → is_ready stream ≡ true
+pub found-ready : (xs : List Stream) (stream : Stream) → find is_ready xs ≡ Some stream → is_ready stream ≡ true
 found-ready [] stream e = cc
 found-ready (x ∷ xs) stream e = by (is_ready x) refl (found-ready xs stream) e
   where
@@ -154,7 +154,10 @@ turns-enough zero (suc m) now s hn hm = rw (none-ready now s hn _ refl) refl
 turns-enough (suc n) zero now s hn hm = rw (none-ready now s hm _ refl) refl
 turns-enough (suc n) (suc m) now s hn hm = by (find is_ready s.streams) refl (λ t p q. turns-enough n m now t p q)
   where
-    by : (o : Option Stream) → find is_ready s.streams ≡ o → ((t : State) → weight t.streams ≤ n → weight t.streams ≤ m → turns n now t ≡ turns m now t) → turn_of_first (turns n now) now s o ≡ turn_of_first (turns m now) now s o
+    Later : Type 0
+    Later = (t : State) → weight t.streams ≤ n → weight t.streams ≤ m → turns n now t ≡ turns m now t
+
+    by : (o : Option Stream) → find is_ready s.streams ≡ o → Later → turn_of_first (turns n now) now s o ≡ turn_of_first (turns m now) now s o
     by None e more = refl
     by (Some stream) e more =
         let less = turn-lighter stream now s e in

@@ -1,7 +1,9 @@
 -- What the streams of a client over TCP hold between two calls.
-use Rattle.std.specs.Prelude.{◌≡◌, ℕ, false, List, [], ◌++◌, ⊤}
+use Rattle.std.specs.Prelude.{◌≡◌, ℕ, false, List, [], ◌++◌, map, All, ⊤}
+use Rattle.std.specs.List.{IsDistinct}
 use Rattle.turn_types.specs.Frames.{IsFrame, begins_no_frame}
-use Rattle.turn_client_api.specs.State.{Mode, Control, Waiting, Bound, Broken, Stream}
+use Rattle.turn_agent.specs.Agent.{same_address}
+use Rattle.turn_client_api.specs.State.{State, Mode, Control, Waiting, Bound, Broken, Stream}
 
 -- no whole frame is in front, nor a byte that no frame begins with
 abbrev pub HasNoFrame : List ℕ → Type 0
@@ -17,3 +19,11 @@ IsDrained stream = by stream.mode
     by Waiting = HasNoFrame stream.bytes
     by (Bound peer) = stream.bytes ≡ []
     by Broken = ⊤
+
+-- where the stream is broken, it holds nothing
+abbrev pub IsEmptyIfBroken : Stream → Type 0
+IsEmptyIfBroken stream = stream.mode ≡ Broken → stream.bytes ≡ []
+
+-- no two streams have one local end, and what is broken holds nothing
+abbrev pub AreApart : State → Type 0
+AreApart s = IsDistinct same_address (map (λ stream. stream.local) s.streams) × All IsEmptyIfBroken s.streams

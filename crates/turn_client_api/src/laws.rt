@@ -26,5 +26,5 @@ pub use rows::{
     moments_are_told, silence_is_timed,
 };
 pub use steps::{challenges_are_counted, phases_go_on, realm_stays, stays_closed};
-pub use streams::streams_are_drained;
+pub use streams::{streams_are_drained, streams_stay_apart};
 pub use wakeup::wakeup_is_the_least_moment;

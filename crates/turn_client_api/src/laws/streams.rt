@@ -1,9 +1,13 @@
 //! What waits in the streams of a client over TCP.
 
-ghost use Rattle.std.specs.Prelude.{◌≡◌, ◌≢◌, ℕ, ◌<◌, ◌≤◌, length, All, None};
-ghost use Rattle.turn_client_api.specs.State.{State, Stream, Broken};
+ghost use Rattle.std.specs.Prelude.{◌≡◌, ◌≢◌, ℕ, ◌<◌, ◌≤◌, length, List, All, None};
+ghost use Rattle.std.specs.declared.net.socket_addr.SocketAddr.{SocketAddr};
+ghost use Rattle.turn_stun.specs.declared.transport.TransportType.{TransportType};
+ghost use Rattle.turn_client_api.specs.Config.{Config};
+ghost use Rattle.turn_client_api.specs.State.{State, Stream, Broken, initial};
 ghost use Rattle.turn_client_api.specs.Streams.{most_turns, poll_recv_step, turns};
-ghost use Rattle.turn_client_api.specs.LawsStreams.{IsDrained};
+ghost use Rattle.turn_client_api.specs.Steps.{Call, state_after};
+ghost use Rattle.turn_client_api.specs.LawsStreams.{AreApart, IsDrained};
 
 /// `poll_recv` leaves nothing behind (RFC 8656, section 12.5): where it gives no payload, no stream
 /// holds a whole frame, nor a bound one any byte, and each that is not broken holds less than the
@@ -13,4 +17,11 @@ pub fn streams_are_drained()
     ensures drained { (now : ℕ) (s : State) → (poll_recv_step now s).0 ≡ None → All IsDrained (poll_recv_step now s).1.streams }
     ensures short { (stream : Stream) → IsDrained stream → stream.mode ≢ Broken → All (λ b. b < 256) stream.bytes → length stream.bytes < 65555 }
     ensures enough { (n now : ℕ) (s : State) → most_turns s ≤ n → turns n now s ≡ poll_recv_step now s }
+{}
+
+/// No two streams have one local end (RFC 6062, section 4.3: each data connection is a TCP connection of
+/// its own), and a broken stream holds nothing. So it is from the first, and stays so whatever is called.
+pub fn streams_stay_apart()
+    ensures initial { (transport : TransportType) (local remote : SocketAddr) (config : Config) (seed : List ℕ) → AreApart (initial transport local remote config seed) }
+    ensures kept { (call : Call) (s : State) → AreApart s → AreApart (state_after call s) }
 {}
