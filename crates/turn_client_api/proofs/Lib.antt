@@ -34,6 +34,7 @@ pub mod StrayLemmas
 pub mod StreamApartLemmas
 pub mod StreamCallLemmas
 pub mod StreamDrainLemmas
+pub mod StreamFewerLemmas
 pub mod StreamMessageLemmas
 pub mod StreamPeerLemmas
 pub mod StreamShortLemmas

@@ -18,7 +18,7 @@ abbrev pub Apart : List Stream → Type 0
 Apart xs = IsDistinct same_address (ends xs) × All IsEmptyIfBroken xs
 
 -- what differs one way differs the other
-differ-sym : (a b : SocketAddr) → same_address a b ≡ false → same_address b a ≡ false
+pub differ-sym : (a b : SocketAddr) → same_address a b ≡ false → same_address b a ≡ false
 differ-sym a b differ = false_from_ne_true (same_address b a) by
   where
     by : same_address b a ≡ true → ⊥
@@ -28,7 +28,7 @@ differ-sym a b differ = false_from_ne_true (same_address b a) by
         cc
 
 -- the local end is none of theirs
-abbrev IsNoneOf : SocketAddr → List Stream → Type 0
+abbrev pub IsNoneOf : SocketAddr → List Stream → Type 0
 IsNoneOf local xs = AllByRecursion (λ y. same_address local y ≡ false) (ends xs)
 
 -- and none of theirs is the local end

@@ -1,4 +1,5 @@
 use Rattle.turn_client_api.proofs.StreamDrainLemmas.{poll_recv-drained, poll_recv-enough}
+use Rattle.turn_client_api.proofs.StreamFewerLemmas.{poll_recv-fewer}
 use Rattle.turn_client_api.proofs.StreamShortLemmas.{drained-short}
 use Rattle.turn_client_api.proofs.laws.streams.streams_are_drained.Goals as goal
 
@@ -10,3 +11,6 @@ returns-clause-short c = drained-short
 
 pub returns-clause-enough : goal.returns-clause-enough
 returns-clause-enough c = poll_recv-enough
+
+pub returns-clause-fewer : goal.returns-clause-fewer
+returns-clause-fewer c = poll_recv-fewer
