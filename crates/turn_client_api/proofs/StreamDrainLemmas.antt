@@ -3,6 +3,7 @@ use Rattle.std.proofs.Common.{◌≡◌, ℕ, zero, suc, ◌<◌, ◌≤◌, Boo
 use Rattle.std.specs.Prelude.{All, find, is_some}
 use Rattle.std.proofs.lemmas.List.{length-drop}
 use Rattle.std.proofs.lemmas.List.Elements.{All-nil, All-cons}
+use Rattle.std.specs.Option.{option_map_or}
 use Rattle.std.proofs.lemmas.Option.{same_Some}
 use Rattle.std.specs.declared.net.socket_addr.SocketAddr.{SocketAddr}
 use Rattle.turn_types.specs.Frames.{IsFrame, begins_no_frame, frame_len}
@@ -12,6 +13,8 @@ use Rattle.turn_agent.specs.Agent.{same_address}
 use Rattle.turn_client_api.specs.State.{State, Mode, Control, Waiting, Bound, Broken, Stream}
 use Rattle.turn_client_api.specs.Payloads.{Payload, Outcome, Handled, Ignored, PeerData, PeerIcmp}
 use Rattle.turn_client_api.specs.Streams.{broken_at, frame_step, go_on, is_bound, is_ready, most_turns, poll_recv_step, ready_len, turn, turn_of_first, turns, with_bytes}
+use Rattle.turn_client_api.specs.Receive.{first_turn, piece_step, then_all}
+use Rattle.turn_client_api.specs.LawsPeers.{IsNobodys}
 use Rattle.turn_client_api.specs.LawsStreams.{HasNoFrame, IsDrained}
 use Rattle.turn_client_api.proofs.StreamMessageLemmas.{Rebound, frame-rebound}
 use Rattle.turn_client_api.proofs.StreamWeightLemmas.{KeepsHeld, Sets, weight, weight-kept, weight-le, weight-less}
@@ -233,3 +236,28 @@ all-drained (x ∷ xs) e = by (ready_len x) refl (all-drained xs) e
 pub poll_recv-drained : (now : ℕ) (s : State) → (poll_recv_step now s).0 ≡ None → All IsDrained (poll_recv_step now s).1.streams
 poll_recv-drained now s none =
     all-drained (poll_recv_step now s).1.streams (turns-done (most_turns s) now s (weight-le s.streams) none)
+
+-- ---- a piece of the control stream
+
+then_all-drained : (now : ℕ) (p : Outcome × State) → IsNobodys (then_all now p).0 → All IsDrained (then_all now p).1.streams
+then_all-drained now (PeerData payload, t) h = absurd h
+then_all-drained now (PeerIcmp transport peer icmp, t) h = absurd h
+then_all-drained now (Handled, t) h = by (poll_recv_step now t).0 refl h
+  where
+    by : (o : Option Payload) → (poll_recv_step now t).0 ≡ o → IsNobodys (option_map_or PeerData o Handled) → All IsDrained (poll_recv_step now t).1.streams
+    by None e k = poll_recv-drained now t e
+    by (Some payload) e k = absurd k
+then_all-drained now (Ignored, t) h = by (poll_recv_step now t).0 refl h
+  where
+    by : (o : Option Payload) → (poll_recv_step now t).0 ≡ o → IsNobodys (option_map_or PeerData o Ignored) → All IsDrained (poll_recv_step now t).1.streams
+    by None e k = poll_recv-drained now t e
+    by (Some payload) e k = absurd k
+
+piece_in : (mode : Mode) (stream : Stream) (piece : List ℕ) (now : ℕ) (s : State) → mode ≡ Control → IsNobodys (piece_step (record stream { mode = mode }) piece now s).0 → All IsDrained (piece_step (record stream { mode = mode }) piece now s).1.streams
+piece_in Control stream piece now s e = then_all-drained now (first_turn (record stream { mode = Control }) piece now s)
+piece_in Waiting stream piece now s e = cc
+piece_in (Bound peer) stream piece now s e = cc
+piece_in Broken stream piece now s e = cc
+
+pub piece-drained : (stream : Stream) (piece : List ℕ) (now : ℕ) (s : State) → stream.mode ≡ Control → IsNobodys (piece_step stream piece now s).0 → All IsDrained (piece_step stream piece now s).1.streams
+piece-drained stream = piece_in stream.mode stream

@@ -4,18 +4,22 @@ ghost use Rattle.std.specs.Prelude.{◌≡◌, ◌≢◌, ℕ, ◌<◌, ◌≤�
 ghost use Rattle.std.specs.declared.net.socket_addr.SocketAddr.{SocketAddr};
 ghost use Rattle.turn_stun.specs.declared.transport.TransportType.{TransportType};
 ghost use Rattle.turn_client_api.specs.Config.{Config};
-ghost use Rattle.turn_client_api.specs.State.{State, Stream, Broken, initial};
+ghost use Rattle.turn_client_api.specs.State.{State, Stream, Control, Broken, initial};
 ghost use Rattle.turn_client_api.specs.Streams.{most_turns, poll_recv_step, turns};
+ghost use Rattle.turn_client_api.specs.Receive.{piece_step};
 ghost use Rattle.turn_client_api.specs.Steps.{Call, state_after};
+ghost use Rattle.turn_client_api.specs.LawsPeers.{IsNobodys};
 ghost use Rattle.turn_client_api.specs.LawsStreams.{AreApart, IsDrained};
 
 /// `poll_recv` leaves nothing behind (RFC 8656, section 12.5): where it gives no payload, no stream
 /// holds a whole frame, nor a bound one any byte, and each that is not broken holds less than the
-/// longest frame, a message of 65,555 bytes. It takes as many turns as it needs: more would give the
-/// same. With each payload the streams of a client, which stay apart, hold fewer bytes: a caller that
-/// polls until nothing comes gets to the end.
+/// longest frame, a message of 65,555 bytes. The same holds behind a piece of the control stream that
+/// brings nothing of a peer. It takes as many turns as it needs: more would give the same. With each
+/// payload the streams of a client, which stay apart, hold fewer bytes: a caller that polls until
+/// nothing comes gets to the end.
 pub fn streams_are_drained()
     ensures drained { (now : ℕ) (s : State) → (poll_recv_step now s).0 ≡ None → All IsDrained (poll_recv_step now s).1.streams }
+    ensures piece { (stream : Stream) (piece : List ℕ) (now : ℕ) (s : State) → stream.mode ≡ Control → IsNobodys (piece_step stream piece now s).0 → All IsDrained (piece_step stream piece now s).1.streams }
     ensures short { (stream : Stream) → IsDrained stream → stream.mode ≢ Broken → All (λ b. b < 256) stream.bytes → length stream.bytes < 65555 }
     ensures enough { (n now : ℕ) (s : State) → most_turns s ≤ n → turns n now s ≡ poll_recv_step now s }
     ensures fewer { (now : ℕ) (s : State) → AreApart s → IsSome (poll_recv_step now s).0 → most_turns (poll_recv_step now s).1 < most_turns s }

@@ -1,10 +1,13 @@
-use Rattle.turn_client_api.proofs.StreamDrainLemmas.{poll_recv-drained, poll_recv-enough}
+use Rattle.turn_client_api.proofs.StreamDrainLemmas.{piece-drained, poll_recv-drained, poll_recv-enough}
 use Rattle.turn_client_api.proofs.StreamFewerLemmas.{poll_recv-fewer}
 use Rattle.turn_client_api.proofs.StreamShortLemmas.{drained-short}
 use Rattle.turn_client_api.proofs.laws.streams.streams_are_drained.Goals as goal
 
 pub returns-clause-drained : goal.returns-clause-drained
 returns-clause-drained c = poll_recv-drained
+
+pub returns-clause-piece : goal.returns-clause-piece
+returns-clause-piece c = piece-drained
 
 pub returns-clause-short : goal.returns-clause-short
 returns-clause-short c = drained-short
