@@ -15,6 +15,7 @@ pub mod LawsHoused
 pub mod LawsNumbers
 pub mod LawsOrder
 pub mod LawsPeers
+pub mod LawsPieces
 pub mod LawsReplies
 pub mod LawsRows
 pub mod LawsSteps

@@ -7,6 +7,7 @@ mod ids;
 mod numbers;
 mod order;
 mod peers;
+mod pieces;
 mod replies;
 mod rows;
 mod steps;
@@ -20,6 +21,7 @@ pub use ids::drawn_ids_are_free;
 pub use numbers::numbers_are_distinct;
 pub use order::clients_stay_in_order;
 pub use peers::only_let_in;
+pub use pieces::{connections_are_bound, pieces_are_cut};
 pub use replies::{ids_are_drawn, replies_count_once};
 pub use rows::{
     channel_numbers_count_up, delete_is_one_request, failures_jump, first_allocate_is_spelled,

@@ -1,0 +1,47 @@
+//! Worked pieces of streams.
+
+ghost use Rattle.std.specs.Prelude.{false, ◌≡◌, ◌∷◌, ◌++◌, List, [], ℕ, Some, None};
+ghost use Rattle.turn_auth.specs.declared.validation.Validation.TheVariants.{Validated, Refused};
+ghost use Rattle.turn_auth.specs.declared.integrity.IntegrityAlgorithm.TheVariants.{Sha1};
+ghost use Rattle.turn_client_api.specs.State.{State};
+ghost use Rattle.turn_client_api.specs.declared.event.TurnEvent.TheVariants.{TcpConnected, TcpConnectFailed};
+ghost use Rattle.turn_client_api.specs.Payloads.{Handled, Ignored, PeerData, PeerIcmp};
+ghost use Rattle.turn_client_api.specs.LawsRows.{peer};
+ghost use Rattle.turn_client_api.specs.LawsPieces.{IsJudged, abc, abc_frame, bind_success, client, data_end, from_peer, hello, hello_message, icmp_message, piece_at, polled, relayed, reported, with_bound, with_channel, with_waiting};
+
+/// What comes of pieces of the control stream (RFC 8656, sections 11.6, 12.5 and 12.6), each at a client
+/// with a channel to the peer.
+pub fn pieces_are_cut()
+    // A whole frame, without its padding, is a part of the piece, and leaves nothing behind.
+    ensures frame { (s : State) → piece_at client abc_frame (with_channel s) ≡ (PeerData (relayed abc (Some 4)), with_channel s) }
+    // Half of a header is kept.
+    ensures half { (s : State) → (piece_at client (0x40 ∷ 0x00 ∷ []) (with_channel s)).0 ≡ Handled }
+    // With the rest it is a frame, whose data is owned.
+    ensures joined { (s : State) → piece_at client (0x00 ∷ 0x03 ∷ 0x61 ∷ 0x62 ∷ 0x63 ∷ 0x00 ∷ []) (piece_at client (0x40 ∷ 0x00 ∷ []) (with_channel s)).1 ≡ (PeerData (relayed abc None), with_channel s) }
+    // Of two frames in one piece the second is polled.
+    ensures second { (s : State) → polled (piece_at client (abc_frame ++ hello_message) (with_channel s)).1 ≡ (Some (relayed hello None), with_channel s) }
+    // A message is cut from the stream like a frame.
+    ensures message { (s : State) → piece_at client hello_message (with_channel s) ≡ (PeerData (relayed hello (Some 36)), with_channel s) }
+    ensures report { (s : State) → piece_at client icmp_message (with_channel s) ≡ (reported 3 4 1280, with_channel s) }
+    // The frame before is data, and the stream breaks behind it.
+    ensures unbroken { (s : State) → (piece_at client (abc_frame ++ 0xc0 ∷ []) (with_channel s)).0 ≡ PeerData (relayed abc (Some 4)) }
+    ensures broken { (s : State) → (piece_at client abc_frame (piece_at client (abc_frame ++ 0xc0 ∷ []) (with_channel s)).1).0 ≡ Handled }
+    // An empty piece ends the stream.
+    ensures ended { (s : State) → (piece_at client [] (with_channel s)).0 ≡ Handled }
+    ensures gone { (s : State) → (piece_at client abc_frame (piece_at client [] (with_channel s)).1).0 ≡ Ignored }
+{}
+
+/// What comes of pieces of a data connection (RFC 6062, section 4.3).
+pub fn connections_are_bound()
+    // All of a piece of a bound connection is data, also what no frame begins with.
+    ensures bound { (s : State) → piece_at data_end (0xff ∷ 0x00 ∷ []) (with_bound s) ≡ (PeerData (from_peer (0xff ∷ 0x00 ∷ []) (Some 0)), with_bound s) }
+    // A reply and data of the peer come in one piece: the reply is handled, and where it is a signed success the
+    // connection is bound, and the data is polled.
+    ensures handled { (text : List ℕ) (s : State) → (piece_at data_end (bind_success ++ hello) (with_waiting text s)).0 ≡ Handled }
+    ensures behind { (text : List ℕ) (s : State) → IsJudged (Validated Sha1) bind_success (with_waiting text s) → (polled (piece_at data_end (bind_success ++ hello) (with_waiting text s)).1).0 ≡ Some (from_peer hello None) }
+    ensures told { (text : List ℕ) (s : State) → IsJudged (Validated Sha1) bind_success (with_waiting text s) → (piece_at data_end bind_success (with_waiting text s)).1.events ≡ TcpConnected peer ∷ [] }
+    // One that is not signed binds nothing: the connection is to be closed, and gives no data.
+    ensures unsigned { (text : List ℕ) (s : State) → IsJudged (Refused false) bind_success (with_waiting text s) → (piece_at data_end (bind_success ++ hello) (with_waiting text s)).1.closes ≡ data_end ∷ [] }
+    ensures failed { (text : List ℕ) (s : State) → IsJudged (Refused false) bind_success (with_waiting text s) → (piece_at data_end (bind_success ++ hello) (with_waiting text s)).1.events ≡ TcpConnectFailed peer ∷ [] }
+    ensures silent { (text : List ℕ) (s : State) → IsJudged (Refused false) bind_success (with_waiting text s) → (polled (piece_at data_end (bind_success ++ hello) (with_waiting text s)).1).0 ≡ None }
+{}
