@@ -16,6 +16,7 @@ pub mod LawsNumbers
 pub mod LawsOrder
 pub mod LawsPeers
 pub mod LawsPieces
+pub mod LawsReplied
 pub mod LawsReplies
 pub mod LawsRows
 pub mod LawsSteps

@@ -8,6 +8,7 @@ mod numbers;
 mod order;
 mod peers;
 mod pieces;
+mod replied;
 mod replies;
 mod rows;
 mod steps;
@@ -22,6 +23,9 @@ pub use numbers::numbers_are_distinct;
 pub use order::clients_stay_in_order;
 pub use peers::only_let_in;
 pub use pieces::{connections_are_bound, pieces_are_cut};
+pub use replied::{
+    allocations_are_answered, connects_are_answered, grants_are_answered, refreshes_are_answered,
+};
 pub use replies::{ids_are_drawn, replies_count_once};
 pub use rows::{
     channel_numbers_count_up, delete_is_one_request, failures_jump, first_allocate_is_spelled,

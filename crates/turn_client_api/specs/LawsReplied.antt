@@ -1,0 +1,142 @@
+-- Worked messages of the server, so that the check computes what the machine makes of them.
+use Rattle.std.specs.Prelude.{◌≡◌, ℕ, ◌*◌, false, List, [], ◌∷◌, ◌++◌, length, map, Some}
+use Rattle.std.specs.declared.net.socket_addr.SocketAddr.{SocketAddr}
+use Rattle.std.specs.declared.net.socket_addr.SocketAddr.TheVariants.{V4, V6}
+use Rattle.turn_stun.specs.XorAddress.{xor_v4, xor_v6}
+use Rattle.turn_stun.specs.declared.transport.TransportType.TheVariants.{Udp, Tcp}
+use Rattle.turn_types.specs.declared.family.AddressFamily.TheVariants.{IPV4, IPV6}
+use Rattle.turn_auth.specs.Validation.{validation_of}
+use Rattle.turn_auth.specs.declared.integrity.IntegrityAlgorithm.TheVariants.{Sha1}
+use Rattle.turn_auth.specs.declared.validation.Validation.TheVariants.{Validated, Refused}
+use Rattle.turn_client_api.specs.State.{State, auth_of, Authenticating, Grant, Allocation, Permission, Channel, Connect, Offer, DataOffer, Origin, Active, Pending, Purpose, ForAllocation, ForRefresh, ForPermission, ForChannel, ForConnect, seconds}
+use Rattle.turn_client_api.specs.Effect.{new_allocation}
+use Rattle.turn_client_api.specs.Payloads.{Outcome, message_step}
+use Rattle.turn_client_api.specs.LawsRows.{awaiting, granted_at, peer, peer_ip, relayed_v4, relayed_v6}
+
+-- ---- messages
+
+-- a moment in milliseconds
+abbrev pub ms : ℕ → ℕ
+ms n = n * 1_000_000
+
+-- a message with these two bytes of type, ID 7 and these attributes
+abbrev pub message_with : ℕ → ℕ → List ℕ → List ℕ
+message_with high low attributes =
+    (high ∷ low ∷ 0x00 ∷ length attributes ∷ 0x21 ∷ 0x12 ∷ 0xa4 ∷ 0x42 ∷ 0 ∷ 0 ∷ 0 ∷ 0 ∷ 0 ∷ 0 ∷ 0 ∷ 0 ∷ 0 ∷ 0 ∷ 0 ∷ 7 ∷ [])
+    ++ attributes
+
+abbrev pub with_lifetime : ℕ → ℕ → List ℕ
+with_lifetime high low = 0x00 ∷ 0x0d ∷ 0x00 ∷ 0x04 ∷ 0x00 ∷ 0x00 ∷ high ∷ low ∷ []
+
+-- the relayed addresses 10.0.0.1:5000 and 2001:db8::1, with the same port
+abbrev pub with_relayed_v4 : List ℕ
+with_relayed_v4 = 0x00 ∷ 0x16 ∷ 0x00 ∷ 0x08 ∷ 0x00 ∷ 0x01 ∷ 0x32 ∷ 0x9a ∷ 0x2b ∷ 0x12 ∷ 0xa4 ∷ 0x43 ∷ []
+
+abbrev pub with_relayed_v6 : List ℕ
+with_relayed_v6 =
+    (0x00 ∷ 0x16 ∷ 0x00 ∷ 0x14 ∷ 0x00 ∷ 0x02 ∷ 0x32 ∷ 0x9a ∷ 0x01 ∷ 0x13 ∷ 0xa9 ∷ 0xfa ∷ [])
+    ++ (0 ∷ 0 ∷ 0 ∷ 0 ∷ 0 ∷ 0 ∷ 0 ∷ 0 ∷ 0 ∷ 0 ∷ 0 ∷ 6 ∷ [])
+
+abbrev pub with_integrity : List ℕ
+with_integrity =
+    (0x00 ∷ 0x08 ∷ 0x00 ∷ 0x14 ∷ []) ++ (0 ∷ 0 ∷ 0 ∷ 0 ∷ 0 ∷ 0 ∷ 0 ∷ 0 ∷ 0 ∷ 0 ∷ 0 ∷ 0 ∷ 0 ∷ 0 ∷ 0 ∷ 0 ∷ 0 ∷ 0 ∷ 0 ∷ 0 ∷ [])
+
+-- 400 and so many more
+abbrev pub with_error : ℕ → List ℕ
+with_error number = 0x00 ∷ 0x09 ∷ 0x00 ∷ 0x04 ∷ 0x00 ∷ 0x00 ∷ 0x04 ∷ number ∷ []
+
+abbrev pub with_connection_id : List ℕ
+with_connection_id = 0x00 ∷ 0x2a ∷ 0x00 ∷ 0x04 ∷ 0x00 ∷ 0x00 ∷ 0x00 ∷ 0x09 ∷ []
+
+abbrev pub with_peer : List ℕ
+with_peer = 0x00 ∷ 0x12 ∷ 0x00 ∷ 0x08 ∷ 0x00 ∷ 0x01 ∷ 0x02 ∷ 0x3a ∷ 0x2b ∷ 0x12 ∷ 0xa4 ∷ 0x41 ∷ []
+
+-- ALLOCATE: 1000 s for both families, for IPv4 with more behind the integrity, and nothing but the address
+-- before it; and no address of one family
+abbrev pub both_allocated : List ℕ
+both_allocated = message_with 0x01 0x03 (with_lifetime 0x03 0xe8 ++ with_relayed_v6 ++ with_relayed_v4)
+
+abbrev pub one_allocated : List ℕ
+one_allocated = message_with 0x01 0x03 (with_lifetime 0x03 0xe8 ++ with_relayed_v4 ++ with_integrity ++ with_relayed_v6)
+
+abbrev pub lifetime_behind : List ℕ
+lifetime_behind = message_with 0x01 0x03 (with_relayed_v4 ++ with_integrity ++ with_lifetime 0x03 0xe8)
+
+abbrev pub one_family_alone : List ℕ
+one_family_alone = message_with 0x01 0x13 (with_error 40)
+
+-- REFRESH: a lifetime of 599 s, of 600 s and of 0, and that there is no such allocation
+abbrev pub refreshed_for : ℕ → ℕ → List ℕ
+refreshed_for high low = message_with 0x01 0x04 (with_lifetime high low)
+
+abbrev pub mismatched : List ℕ
+mismatched = message_with 0x01 0x14 (with_error 37)
+
+-- CREATE_PERMISSION and CHANNEL_BIND
+abbrev pub permitted : List ℕ
+permitted = message_with 0x01 0x08 []
+
+abbrev pub bound : List ℕ
+bound = message_with 0x01 0x09 []
+
+abbrev pub not_bound : List ℕ
+not_bound = message_with 0x01 0x19 (with_error 3)
+
+-- CONNECT: the server's connection 9, also in an error, which counts for nothing
+abbrev pub connected : List ℕ
+connected = message_with 0x01 0x0a with_connection_id
+
+abbrev pub not_connected : List ℕ
+not_connected = message_with 0x01 0x1a (with_error 47 ++ with_connection_id)
+
+-- a ConnectionAttempt indication of the server's connection 9
+abbrev pub attempted : List ℕ
+attempted = message_with 0x00 0x1c (with_connection_id ++ with_peer)
+
+-- ---- replies
+
+-- what the client makes of it at 100 ms
+abbrev pub replied : List ℕ → State → Outcome × State
+replied message s = message_step message (ms 100) s
+
+-- where it is signed under what the client holds, this is so of what comes of it
+abbrev pub IfSigned : List ℕ → State → (Outcome × State → Type 0) → Type 0
+IfSigned message s Is = validation_of (auth_of s) message ≡ Validated Sha1 → Is (replied message s)
+
+-- where it is not signed at all
+abbrev pub IfUnsigned : List ℕ → State → (Outcome × State → Type 0) → Type 0
+IfUnsigned message s Is = validation_of (auth_of s) message ≡ Refused false → Is (replied message s)
+
+-- ---- clients that await the response to request 7
+
+-- it asked for addresses of both families
+abbrev pub allocating : SocketAddr → List ℕ → State → State
+allocating to text s = record (awaiting (ForAllocation ∷ []) to text (granted_at 0 [] s)) {
+  phase = Authenticating;
+  families = IPV4 ∷ IPV6 ∷ [];
+}
+
+-- an IPv4 allocation of 1000 s, that was granted at 50 ms
+abbrev pub allocation : Grant
+allocation = new_allocation 1000 (ms 50) relayed_v4
+
+-- it was made for these, and this was asked for
+abbrev pub asking : List Purpose → List Grant → SocketAddr → List ℕ → State → State
+asking purposes grants to text s = awaiting purposes to text (granted_at 0 (allocation ∷ grants) s)
+
+abbrev pub asking_permission : SocketAddr → List ℕ → State → State
+asking_permission to text s = asking (ForPermission peer_ip ∷ []) (Permission peer_ip Pending ∷ []) to text s
+
+abbrev pub asking_channel : SocketAddr → List ℕ → State → State
+asking_channel to text s =
+    asking (ForChannel 0x4000 peer ∷ ForPermission peer_ip ∷ []) (Channel 0x4000 peer Pending ∷ Permission peer_ip Pending ∷ []) to text s
+
+abbrev pub asking_connection : SocketAddr → List ℕ → State → State
+asking_connection to text s = asking (ForConnect peer ∷ []) (Permission peer_ip (Active (seconds 300)) ∷ Connect peer ∷ []) to text s
+
+abbrev pub refreshing : ℕ → SocketAddr → List ℕ → State → State
+refreshing lifetime to text s = asking (ForRefresh IPV4 lifetime ∷ []) [] to text s
+
+-- an offer of the server's connection 9 to the peer
+abbrev pub offer_of : Origin → Grant
+offer_of origin = Offer (record { connection_id = 9; peer = peer; is_told = false; origin = origin })
