@@ -1,5 +1,5 @@
 -- Worked pieces of streams, so that the check computes what the machine makes of them.
-use Rattle.std.specs.Prelude.{◌≡◌, ℕ, ◌+◌, false, List, [], ◌∷◌, ◌++◌, length, Option, Some, None}
+use Rattle.std.specs.Prelude.{◌≡◌, ℕ, ◌+◌, List, [], ◌∷◌, ◌++◌, length, Option, Some, None}
 use Rattle.std.specs.declared.ops.Range.{Range}
 use Rattle.std.specs.declared.net.socket_addr.SocketAddr.{SocketAddr}
 use Rattle.std.specs.declared.net.socket_addr.SocketAddr.TheVariants.{V4}
@@ -8,7 +8,7 @@ use Rattle.turn_stun.specs.declared.transport.TransportType.TheVariants.{Udp, Tc
 use Rattle.turn_auth.specs.Validation.{validation_of}
 use Rattle.turn_auth.specs.declared.validation.Validation.{Validation}
 use Rattle.turn_agent.specs.Agent.{first_sent}
-use Rattle.turn_client_api.specs.State.{State, auth_of, Grant, Permission, Channel, Connection, DataConnection, Active, Mode, Control, Waiting, Bound, Stream, ForBind, seconds}
+use Rattle.turn_client_api.specs.State.{State, auth_of, Grant, Permission, Channel, Connection, Active, Mode, Control, Waiting, Bound, Stream, ForBind, seconds}
 use Rattle.turn_client_api.specs.Requests.{listings}
 use Rattle.turn_client_api.specs.Effect.{new_allocation}
 use Rattle.turn_client_api.specs.Payloads.{Outcome, Payload, PeerIcmp}
@@ -78,20 +78,31 @@ abc = 0x61 ∷ 0x62 ∷ 0x63 ∷ []
 abbrev pub abc_frame : List ℕ
 abc_frame = (0x40 ∷ 0x00 ∷ 0x00 ∷ 0x03 ∷ []) ++ abc ++ 0x00 ∷ []
 
--- DATA indications of the peer: hello, and an ICMP report of type 3 and code 4
 abbrev pub hello : List ℕ
 hello = 0x68 ∷ 0x65 ∷ 0x6c ∷ 0x6c ∷ 0x6f ∷ []
 
-abbrev pub indication_with : List ℕ → List ℕ
-indication_with attribute =
-    (0x00 ∷ 0x17 ∷ 0x00 ∷ 0x18 ∷ 0x21 ∷ 0x12 ∷ 0xa4 ∷ 0x42 ∷ []) ++ (0 ∷ 0 ∷ 0 ∷ 0 ∷ 0 ∷ 0 ∷ 0 ∷ 0 ∷ 0 ∷ 0 ∷ 0 ∷ 1 ∷ [])
-    ++ (0x00 ∷ 0x12 ∷ 0x00 ∷ 0x08 ∷ 0x00 ∷ 0x01 ∷ 0x02 ∷ 0x3a ∷ 0x2b ∷ 0x12 ∷ 0xa4 ∷ 0x41 ∷ []) ++ attribute
+-- a DATA indication of the peer, with so many bytes behind the header and these attributes
+abbrev pub indication_with : ℕ → List ℕ → List ℕ
+indication_with len attributes =
+    (0x00 ∷ 0x17 ∷ 0x00 ∷ len ∷ 0x21 ∷ 0x12 ∷ 0xa4 ∷ 0x42 ∷ []) ++ (0 ∷ 0 ∷ 0 ∷ 0 ∷ 0 ∷ 0 ∷ 0 ∷ 0 ∷ 0 ∷ 0 ∷ 0 ∷ 1 ∷ [])
+    ++ (0x00 ∷ 0x12 ∷ 0x00 ∷ 0x08 ∷ 0x00 ∷ 0x01 ∷ 0x02 ∷ 0x3a ∷ 0x2b ∷ 0x12 ∷ 0xa4 ∷ 0x41 ∷ []) ++ attributes
+
+abbrev pub with_hello : List ℕ
+with_hello = (0x00 ∷ 0x13 ∷ 0x00 ∷ 0x05 ∷ []) ++ hello ++ 0 ∷ 0 ∷ 0 ∷ []
 
 abbrev pub hello_message : List ℕ
-hello_message = indication_with ((0x00 ∷ 0x13 ∷ 0x00 ∷ 0x05 ∷ []) ++ hello ++ 0 ∷ 0 ∷ 0 ∷ [])
+hello_message = indication_with 0x18 with_hello
 
+-- with an ICMP report of type 3 and code 4
 abbrev pub icmp_message : List ℕ
-icmp_message = indication_with (0x80 ∷ 0x04 ∷ 0x00 ∷ 0x08 ∷ 0x00 ∷ 0x00 ∷ 0x03 ∷ 0x04 ∷ 0x00 ∷ 0x00 ∷ 0x05 ∷ 0x00 ∷ [])
+icmp_message = indication_with 0x18 (0x80 ∷ 0x04 ∷ 0x00 ∷ 0x08 ∷ 0x00 ∷ 0x00 ∷ 0x03 ∷ 0x04 ∷ 0x00 ∷ 0x00 ∷ 0x05 ∷ 0x00 ∷ [])
+
+-- with a second peer of four bytes, and with an attribute of type 7000
+abbrev pub second_peer_message : List ℕ
+second_peer_message = indication_with 0x20 (with_hello ++ 0x00 ∷ 0x12 ∷ 0x00 ∷ 0x04 ∷ 0x00 ∷ 0x01 ∷ 0x02 ∷ 0x3a ∷ [])
+
+abbrev pub unknown_message : List ℕ
+unknown_message = indication_with 0x1c (with_hello ++ 0x70 ∷ 0x00 ∷ 0x00 ∷ 0x00 ∷ [])
 
 -- the success to CONNECTION_BIND, request 1
 abbrev pub bind_success : List ℕ

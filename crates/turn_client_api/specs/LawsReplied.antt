@@ -1,17 +1,15 @@
 -- Worked messages of the server, so that the check computes what the machine makes of them.
-use Rattle.std.specs.Prelude.{◌≡◌, ℕ, ◌*◌, false, List, [], ◌∷◌, ◌++◌, length, map, Some}
+use Rattle.std.specs.Prelude.{◌≡◌, ℕ, ◌*◌, false, List, [], ◌∷◌, ◌++◌, length, Some, None}
 use Rattle.std.specs.declared.net.socket_addr.SocketAddr.{SocketAddr}
-use Rattle.std.specs.declared.net.socket_addr.SocketAddr.TheVariants.{V4, V6}
-use Rattle.turn_stun.specs.XorAddress.{xor_v4, xor_v6}
-use Rattle.turn_stun.specs.declared.transport.TransportType.TheVariants.{Udp, Tcp}
 use Rattle.turn_types.specs.declared.family.AddressFamily.TheVariants.{IPV4, IPV6}
+use Rattle.turn_auth.specs.LongTerm.{Challenge}
 use Rattle.turn_auth.specs.Validation.{validation_of}
 use Rattle.turn_auth.specs.declared.integrity.IntegrityAlgorithm.TheVariants.{Sha1}
 use Rattle.turn_auth.specs.declared.validation.Validation.TheVariants.{Validated, Refused}
-use Rattle.turn_client_api.specs.State.{State, auth_of, Authenticating, Grant, Allocation, Permission, Channel, Connect, Offer, DataOffer, Origin, Active, Pending, Purpose, ForAllocation, ForRefresh, ForPermission, ForChannel, ForConnect, seconds}
+use Rattle.turn_client_api.specs.State.{State, auth_of, Authenticating, Grant, Permission, Channel, Connect, Offer, Origin, Active, Pending, Purpose, ForAllocation, ForRefresh, ForPermission, ForChannel, ForConnect, seconds}
 use Rattle.turn_client_api.specs.Effect.{new_allocation}
 use Rattle.turn_client_api.specs.Payloads.{Outcome, message_step}
-use Rattle.turn_client_api.specs.LawsRows.{awaiting, granted_at, peer, peer_ip, relayed_v4, relayed_v6}
+use Rattle.turn_client_api.specs.LawsRows.{awaiting, granted_at, peer, peer_ip, relayed_v4, requesting}
 
 -- ---- messages
 
@@ -51,6 +49,27 @@ with_connection_id = 0x00 ∷ 0x2a ∷ 0x00 ∷ 0x04 ∷ 0x00 ∷ 0x00 ∷ 0x00 
 abbrev pub with_peer : List ℕ
 with_peer = 0x00 ∷ 0x12 ∷ 0x00 ∷ 0x08 ∷ 0x00 ∷ 0x01 ∷ 0x02 ∷ 0x3a ∷ 0x2b ∷ 0x12 ∷ 0xa4 ∷ 0x41 ∷ []
 
+-- the realm "realm" and the nonce "nonce"
+abbrev pub realm : List ℕ
+realm = 0x72 ∷ 0x65 ∷ 0x61 ∷ 0x6c ∷ 0x6d ∷ []
+
+abbrev pub nonce : List ℕ
+nonce = 0x6e ∷ 0x6f ∷ 0x6e ∷ 0x63 ∷ 0x65 ∷ []
+
+abbrev pub with_realm_and_nonce : List ℕ
+with_realm_and_nonce =
+    (0x00 ∷ 0x14 ∷ 0x00 ∷ 0x05 ∷ []) ++ realm ++ (0 ∷ 0 ∷ 0 ∷ []) ++ (0x00 ∷ 0x15 ∷ 0x00 ∷ 0x05 ∷ []) ++ nonce ++ (0 ∷ 0 ∷ 0 ∷ [])
+
+-- a challenge to ALLOCATE, with code 401, and to CREATE_PERMISSION, with code 438; and that the request was bad
+abbrev pub unauthorized : List ℕ
+unauthorized = message_with 0x01 0x13 (with_error 1 ++ with_realm_and_nonce)
+
+abbrev pub stale : List ℕ
+stale = message_with 0x01 0x18 (with_error 38 ++ with_realm_and_nonce)
+
+abbrev pub bad_request : List ℕ
+bad_request = message_with 0x01 0x13 (with_error 0)
+
 -- ALLOCATE: 1000 s for both families, for IPv4 with more behind the integrity, and nothing but the address
 -- before it; and no address of one family
 abbrev pub both_allocated : List ℕ
@@ -88,10 +107,6 @@ connected = message_with 0x01 0x0a with_connection_id
 
 abbrev pub not_connected : List ℕ
 not_connected = message_with 0x01 0x1a (with_error 47 ++ with_connection_id)
-
--- a ConnectionAttempt indication of the server's connection 9
-abbrev pub attempted : List ℕ
-attempted = message_with 0x00 0x1c (with_connection_id ++ with_peer)
 
 -- ---- replies
 
@@ -140,3 +155,22 @@ refreshing lifetime to text s = asking (ForRefresh IPV4 lifetime ∷ []) [] to t
 -- an offer of the server's connection 9 to the peer
 abbrev pub offer_of : Origin → Grant
 offer_of origin = Offer (record { connection_id = 9; peer = peer; is_told = false; origin = origin })
+
+-- ---- clients that are challenged
+
+-- it asked for an IPv4 address by its first ALLOCATE
+abbrev pub asking_first : List ℕ → State → State
+asking_first text s = record (requesting text s) {
+  config = record s.config { supported_integrity = Sha1 ∷ [] };
+  families = IPV4 ∷ [];
+  held = None;
+  challenges = 0;
+}
+
+-- what it holds then
+abbrev pub held_by_it : Challenge
+held_by_it = record { realm = realm; nonce = nonce; algorithm = Sha1; password_algorithms = [] }
+
+-- it holds that, asked for a permission, and answered so many challenges since the server last took a request
+abbrev pub challenged : ℕ → SocketAddr → List ℕ → State → State
+challenged count to text s = record (asking_permission to text s) { held = Some held_by_it; challenges = count; families = [] }

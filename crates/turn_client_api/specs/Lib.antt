@@ -12,6 +12,7 @@ pub mod Grants
 pub mod Judgement
 pub mod LawsGranted
 pub mod LawsHoused
+pub mod LawsLapses
 pub mod LawsNumbers
 pub mod LawsOrder
 pub mod LawsPeers
@@ -19,6 +20,7 @@ pub mod LawsPieces
 pub mod LawsReplied
 pub mod LawsReplies
 pub mod LawsRows
+pub mod LawsSockets
 pub mod LawsSteps
 pub mod LawsStreams
 pub mod LawsTurns

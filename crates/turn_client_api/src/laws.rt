@@ -4,6 +4,7 @@ mod alarm;
 mod granted;
 mod housed;
 mod ids;
+mod lapses;
 mod numbers;
 mod order;
 mod peers;
@@ -11,6 +12,7 @@ mod pieces;
 mod replied;
 mod replies;
 mod rows;
+mod sockets;
 mod steps;
 mod streams;
 mod wakeup;
@@ -19,18 +21,21 @@ pub use alarm::sleeps_through_nothing;
 pub use granted::only_a_signed_success_grants;
 pub use housed::grants_stand_in_allocations;
 pub use ids::drawn_ids_are_free;
+pub use lapses::grants_lapse;
 pub use numbers::numbers_are_distinct;
 pub use order::clients_stay_in_order;
 pub use peers::only_let_in;
-pub use pieces::{connections_are_bound, pieces_are_cut};
+pub use pieces::{connections_are_bound, datagrams_are_judged, pieces_are_cut};
 pub use replied::{
-    allocations_are_answered, connects_are_answered, grants_are_answered, refreshes_are_answered,
+    allocations_are_answered, challenges_are_answered, connects_are_answered, grants_are_answered,
+    refreshes_are_answered,
 };
 pub use replies::{ids_are_drawn, replies_count_once};
 pub use rows::{
     channel_numbers_count_up, delete_is_one_request, failures_jump, first_allocate_is_spelled,
     moments_are_told, silence_is_timed,
 };
+pub use sockets::{peers_may_connect, sockets_are_taken};
 pub use steps::{challenges_are_counted, phases_go_on, realm_stays, stays_closed};
 pub use streams::{streams_are_drained, streams_stay_apart};
 pub use wakeup::wakeup_is_the_least_moment;

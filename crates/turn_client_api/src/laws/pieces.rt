@@ -3,11 +3,11 @@
 ghost use Rattle.std.specs.Prelude.{false, ◌≡◌, ◌∷◌, ◌++◌, List, [], ℕ, Some, None};
 ghost use Rattle.turn_auth.specs.declared.validation.Validation.TheVariants.{Validated, Refused};
 ghost use Rattle.turn_auth.specs.declared.integrity.IntegrityAlgorithm.TheVariants.{Sha1};
-ghost use Rattle.turn_client_api.specs.State.{State};
+ghost use Rattle.turn_client_api.specs.State.{State, seconds};
 ghost use Rattle.turn_client_api.specs.declared.event.TurnEvent.TheVariants.{TcpConnected, TcpConnectFailed};
-ghost use Rattle.turn_client_api.specs.Payloads.{Handled, Ignored, PeerData, PeerIcmp};
+ghost use Rattle.turn_client_api.specs.Payloads.{Handled, Ignored, PeerData, datagram_step};
 ghost use Rattle.turn_client_api.specs.LawsRows.{peer};
-ghost use Rattle.turn_client_api.specs.LawsPieces.{IsJudged, abc, abc_frame, bind_success, client, data_end, from_peer, hello, hello_message, icmp_message, piece_at, polled, relayed, reported, with_bound, with_channel, with_waiting};
+ghost use Rattle.turn_client_api.specs.LawsPieces.{IsJudged, abc, abc_frame, bind_success, client, data_end, from_peer, hello, hello_message, icmp_message, over_tcp, piece_at, polled, relayed, reported, second_peer_message, unknown_message, with_bound, with_channel, with_waiting};
 
 /// What comes of pieces of the control stream (RFC 8656, sections 11.6, 12.5 and 12.6), each at a client
 /// with a channel to the peer.
@@ -44,4 +44,20 @@ pub fn connections_are_bound()
     ensures unsigned { (text : List ℕ) (s : State) → IsJudged (Refused false) bind_success (with_waiting text s) → (piece_at data_end (bind_success ++ hello) (with_waiting text s)).1.closes ≡ data_end ∷ [] }
     ensures failed { (text : List ℕ) (s : State) → IsJudged (Refused false) bind_success (with_waiting text s) → (piece_at data_end (bind_success ++ hello) (with_waiting text s)).1.events ≡ TcpConnectFailed peer ∷ [] }
     ensures silent { (text : List ℕ) (s : State) → IsJudged (Refused false) bind_success (with_waiting text s) → (polled (piece_at data_end (bind_success ++ hello) (with_waiting text s)).1).0 ≡ None }
+{}
+
+/// What comes of datagrams (RFC 8656, sections 11.6 and 12.6), each at a client with a permission for the
+/// peer, and a channel to it.
+pub fn datagrams_are_judged()
+    ensures data { (s : State) → datagram_step hello_message (seconds 1) (with_channel s) ≡ (PeerData (relayed hello (Some 36)), with_channel s) }
+    // Padding behind a frame is not needed, but all of its data is.
+    ensures frame { (s : State) → datagram_step (0x40 ∷ 0x00 ∷ 0x00 ∷ 0x03 ∷ abc) (seconds 1) (with_channel s) ≡ (PeerData (relayed abc (Some 4)), with_channel s) }
+    ensures short { (s : State) → datagram_step (0x40 ∷ 0x00 ∷ 0x00 ∷ 0x05 ∷ abc) (seconds 1) (with_channel s) ≡ (Ignored, with_channel s) }
+    // No other number leads to the peer.
+    ensures unbound { (s : State) → datagram_step (0x50 ∷ 0x00 ∷ 0x00 ∷ 0x03 ∷ abc) (seconds 1) (with_channel s) ≡ (Ignored, with_channel s) }
+    // Without the permission, with a second peer that is malformed, and with a type that has to be
+    // understood, an indication is ignored.
+    ensures unpermitted { (s : State) → datagram_step hello_message (seconds 1) (over_tcp [] [] s) ≡ (Ignored, over_tcp [] [] s) }
+    ensures malformed { (s : State) → datagram_step second_peer_message (seconds 1) (with_channel s) ≡ (Ignored, with_channel s) }
+    ensures unknown { (s : State) → datagram_step unknown_message (seconds 1) (with_channel s) ≡ (Ignored, with_channel s) }
 {}

@@ -1,15 +1,15 @@
 //! Worked messages of the server.
 
-ghost use Rattle.std.specs.Prelude.{true, false, ◌≡◌, ◌∷◌, List, [], ℕ, map};
+ghost use Rattle.std.specs.Prelude.{true, false, ◌≡◌, ◌∷◌, List, [], ℕ, map, Some};
 ghost use Rattle.std.specs.declared.net.socket_addr.SocketAddr.{SocketAddr};
 ghost use Rattle.turn_stun.specs.declared.transport.TransportType.TheVariants.{Udp};
 ghost use Rattle.turn_types.specs.declared.family.AddressFamily.TheVariants.{IPV4, IPV6};
-ghost use Rattle.turn_client_api.specs.State.{State, Allocated, Allocation, Closed, Permission, Channel, Active, OwnConnect, seconds};
+ghost use Rattle.turn_client_api.specs.State.{State, Authenticating, Allocated, Allocation, Closed, Permission, Channel, Active, OwnConnect, seconds};
 ghost use Rattle.turn_client_api.specs.declared.event.TurnEvent.TheVariants.{AllocationCreated, AllocationCreateFailed, ChannelCreated, ChannelCreateFailed, PermissionCreated, PermissionCreateFailed, TcpConnectFailed};
 ghost use Rattle.turn_client_api.specs.Payloads.{Handled, Ignored};
 ghost use Rattle.turn_client_api.specs.Effect.{new_allocation};
 ghost use Rattle.turn_client_api.specs.LawsRows.{peer, peer_ip, relayed_v4, relayed_v6};
-ghost use Rattle.turn_client_api.specs.LawsReplied.{IfSigned, IfUnsigned, allocating, allocation, asking_channel, asking_connection, asking_permission, both_allocated, bound, connected, lifetime_behind, mismatched, ms, not_bound, not_connected, offer_of, one_allocated, one_family_alone, permitted, refreshed_for, refreshing, replied};
+ghost use Rattle.turn_client_api.specs.LawsReplied.{IfSigned, IfUnsigned, allocating, allocation, asking_channel, asking_connection, asking_first, asking_permission, bad_request, both_allocated, bound, challenged, connected, held_by_it, lifetime_behind, mismatched, ms, not_bound, not_connected, offer_of, one_allocated, one_family_alone, permitted, refreshed_for, refreshing, replied, stale, unauthorized};
 
 /// What comes of replies to a signed ALLOCATE for both families (RFC 8656, sections 7.3 and 7.4).
 pub fn allocations_are_answered()
@@ -63,4 +63,21 @@ pub fn connects_are_answered()
     // A refusal counts, whatever else it says.
     ensures refused { (to : SocketAddr) (text : List ℕ) (s : State) → IfSigned not_connected (asking_connection to text s) (λ r. r.1.grants ≡ allocation ∷ Permission peer_ip (Active (seconds 300)) ∷ []) }
     ensures told { (to : SocketAddr) (text : List ℕ) (s : State) → IfSigned not_connected (asking_connection to text s) (λ r. r.1.events ≡ TcpConnectFailed peer ∷ []) }
+{}
+
+/// What comes of challenges (RFC 8489, sections 9.2.3 to 9.2.5).
+pub fn challenges_are_answered()
+    // The first one brings realm, nonce and algorithm, and the request is made again.
+    ensures handled { (text : List ℕ) (s : State) → (replied unauthorized (asking_first text s)).0 ≡ Handled }
+    ensures phase { (text : List ℕ) (s : State) → (replied unauthorized (asking_first text s)).1.phase ≡ Authenticating }
+    ensures held { (text : List ℕ) (s : State) → (replied unauthorized (asking_first text s)).1.held ≡ Some held_by_it }
+    ensures queued { (text : List ℕ) (s : State) → map (λ q. q.is_request) (replied unauthorized (asking_first text s)).1.queue ≡ true ∷ [] }
+    // To no request that is outstanding it brings nothing, and before it any other reply ends the client.
+    ensures unasked { (text : List ℕ) (s : State) → replied unauthorized (record (asking_first text s) { transactions = [] }) ≡ (Ignored, record (asking_first text s) { transactions = [] }) }
+    ensures refused { (text : List ℕ) (s : State) → (replied bad_request (asking_first text s)).1.phase ≡ Closed }
+    ensures told { (text : List ℕ) (s : State) → (replied bad_request (asking_first text s)).1.events ≡ AllocationCreateFailed IPV4 ∷ [] }
+    // Nine in a row are answered, and the tenth ends the client.
+    ensures ninth { (to : SocketAddr) (text : List ℕ) (s : State) → (replied stale (challenged 8 to text s)).1.challenges ≡ 9 }
+    ensures still { (to : SocketAddr) (text : List ℕ) (s : State) → (replied stale (challenged 8 to text s)).1.phase ≡ Allocated }
+    ensures tenth { (to : SocketAddr) (text : List ℕ) (s : State) → (replied stale (challenged 9 to text s)).1.phase ≡ Closed }
 {}
