@@ -1,54 +1,110 @@
 use crate::credentials::{CredentialsError, TurnCredentials};
 use crate::feature::Feature;
 use crate::integrity::IntegrityAlgorithm;
-use crate::tests::fixture::challenged;
+use crate::long_term::LongTermClientAuth;
+use crate::tests::fixture::{assert_bytes, challenged};
+use std::alloc::{AllocError, Global};
+use std::process::Abort;
 use std::test::Fail;
 
+/// Why credentials of these lengths are refused.
+fn refusal(
+    alloc: Global,
+    user_len: usize,
+    password_len: usize,
+) -> Result<Option<CredentialsError>, AllocError> {
+    let user = vec![in alloc; b'a'; user_len]?;
+    let password = vec![in alloc; b'a'; password_len]?;
+    Ok(TurnCredentials::new(alloc, user.as_slice(), password.as_slice()).err())
+}
+
 #[test]
-fn credentials_are_refused_by_length(rt: HostRuntime) {
-    let long = [b'a'; 65_536];
-    let cases: [(&[u8], &[u8], Option<CredentialsError>); 7] = [
-        (b"u", b"", None),
-        (&long[..508], &long[..65_535], None),
-        (b"", b"", Some(CredentialsError::User)),
-        (b"", &long, Some(CredentialsError::User)),
-        (&long[..509], b"", Some(CredentialsError::User)),
-        (&long[..509], &long, Some(CredentialsError::User)),
-        (b"u", &long, Some(CredentialsError::Password)),
+fn credentials_are_refused_by_length(rt: HostRuntime) -> Result<(), Fail> {
+    let cases = [
+        (1usize, 0usize, None),
+        (508, 65_535, None),
+        (0, 0, Some(CredentialsError::User)),
+        (0, 65_536, Some(CredentialsError::User)),
+        (509, 0, Some(CredentialsError::User)),
+        (509, 65_536, Some(CredentialsError::User)),
+        (1, 65_536, Some(CredentialsError::Password)),
     ];
-    for (user, password, expected) in cases {
-        let found = TurnCredentials::new(rt.alloc(), user, password).err();
+    for (user_len, password_len, expected) in cases {
+        let found = refusal(rt.alloc(), user_len, password_len)?;
         assert_eq!(rt; found, expected);
     }
+    Ok(())
+}
+
+/// Whether these credentials differ from those of `user` and `pass`.
+fn differ(alloc: Global, user: &[u8], password: &[u8]) -> Result<bool, CredentialsError> {
+    let first = TurnCredentials::new(alloc, b"user", b"pass")?;
+    let second = TurnCredentials::new(alloc, user, password)?;
+    Ok(first != second)
 }
 
 #[test]
 fn credentials_are_compared_by_content(rt: HostRuntime) -> Result<(), Fail> {
-    let first = TurnCredentials::new(rt.alloc(), b"user", b"pass")?;
-    assert!(rt; first == first.clone()?);
-    assert!(rt; first != TurnCredentials::new(rt.alloc(), b"user", b"word")?);
-    assert!(rt; first != TurnCredentials::new(rt.alloc(), b"usr", b"epass")?);
-    assert_eq!(rt; first.user(), b"user".as_slice());
+    assert!(rt; differ(rt.alloc(), b"user", b"word")?);
+    assert!(rt; differ(rt.alloc(), b"usr", b"epass")?);
     Ok(())
 }
 
 #[test]
-fn nothing_secret_is_printed(rt: HostRuntime) -> Result<(), Fail> {
-    let credentials = TurnCredentials::new(rt.alloc(), b"AB", b"secret")?;
+fn a_copy_has_the_same_content(rt: HostRuntime) -> Result<(), Fail> {
+    let first = TurnCredentials::new(rt.alloc(), b"user", b"pass")?;
+    assert!(rt; first == first.clone()?);
+    assert_bytes(&rt, first.user(), b"user");
+    Ok(())
+}
+
+fn assert_text(rt: &impl Abort, found: &str, expected: &str) {
+    assert_eq!(rt; found, expected);
+}
+
+/// Credentials with a password to look for.
+fn secret(alloc: Global) -> Result<TurnCredentials, CredentialsError> {
+    TurnCredentials::new(alloc, b"AB", b"secret")
+}
+
+#[test]
+fn no_password_is_printed(rt: HostRuntime) -> Result<(), Fail> {
+    let credentials = secret(rt.alloc())?;
     let text = format!(in rt.alloc(); "{credentials:?}")?;
-    assert_eq!(rt; text.as_str(), "TurnCredentials { user: [65, 66], .. }");
-    let mut auth = challenged(&rt, rt.alloc(), IntegrityAlgorithm::Sha1)?;
-    auth.set_credentials(credentials);
+    assert_text(&rt, text.as_str(), "TurnCredentials { user: [65, 66], .. }");
+    Ok(())
+}
+
+/// A client that was challenged, and got other credentials then.
+fn secret_client(rt: &impl Abort, alloc: Global) -> LongTermClientAuth {
+    let mut auth = challenged(rt, alloc, IntegrityAlgorithm::Sha1);
+    auth.set_credentials(secret(alloc).expect(rt, "memory"));
+    auth
+}
+
+#[test]
+fn no_key_is_printed(rt: HostRuntime) -> Result<(), Fail> {
+    let auth = secret_client(&rt, rt.alloc());
     let text = format!(in rt.alloc(); "{auth:?}")?;
-    assert_eq!(rt;
+    assert_text(
+        &rt,
         text.as_str(),
         "LongTermClientAuth { credentials: Some(TurnCredentials { user: [65, 66], .. }), \
         supported: [Sha1], anonymous_username: Auto, held: Some(Held { \
         realm: [114, 101, 97, 108, 109], nonce: [110, 111, 110, 99, 101], \
-        algorithm: Sha1, .. }), .. }"
+        algorithm: Sha1, .. }), .. }",
     );
+    Ok(())
+}
+
+#[test]
+fn an_error_is_printed_in_words(rt: HostRuntime) -> Result<(), Fail> {
     let error = format!(in rt.alloc(); "{}", CredentialsError::User)?;
-    assert_eq!(rt; error.as_str(), "the user name is empty or over 508 bytes");
+    assert_text(
+        &rt,
+        error.as_str(),
+        "the user name is empty or over 508 bytes",
+    );
     Ok(())
 }
 

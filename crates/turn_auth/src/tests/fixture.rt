@@ -10,7 +10,6 @@ use crate::long_term::LongTermClientAuth;
 use crate::validation::Validation;
 use std::alloc::{AllocError, Global};
 use std::process::Abort;
-use std::test::Fail;
 use turn_stun::attribute::error_code::ErrorCode;
 use turn_stun::attribute::nonce::Nonce;
 use turn_stun::attribute::realm::Realm;
@@ -45,6 +44,11 @@ pub(crate) fn client(alloc: Global) -> Result<LongTermClientAuth, CredentialsErr
     Ok(auth)
 }
 
+/// Adds an attribute of that type and value.
+fn add(message: &mut MessageWriteVec, kind: u16, value: &[u8]) -> Result<(), WriteError> {
+    message.add_attribute(&raw(kind, value))
+}
+
 /// The bytes of an error response with that code, realm, nonce and value of PASSWORD-ALGORITHMS.
 pub(crate) fn denial(
     rt: &impl Abort,
@@ -58,10 +62,10 @@ pub(crate) fn denial(
     let mut message = MessageWriteVec::builder_error(alloc, ALLOCATE, id)?;
     assert!(rt; (300..=699).contains(&code));
     message.add_attribute(&ErrorCode::new(code, b""))?;
-    message.add_attribute(&raw(0x0014, realm))?;
-    message.add_attribute(&raw(0x0015, nonce))?;
+    add(&mut message, 0x0014, realm)?;
+    add(&mut message, 0x0015, nonce)?;
     if let Some(value) = algorithms {
-        message.add_attribute(&raw(0x8002, value))?;
+        add(&mut message, 0x8002, value)?;
     }
     Ok(message.finish())
 }
@@ -70,6 +74,31 @@ pub(crate) fn denial(
 pub(crate) fn judge(rt: &impl Abort, auth: &LongTermClientAuth, bytes: &[u8]) -> Validation {
     let message = Message::from_bytes(bytes).expect(rt, "a message");
     auth.validate_incoming_message(&message)
+}
+
+/// Asserts that two judgements are the same. An assertion is much to prove, so it stands here once.
+pub(crate) fn assert_validation(rt: &impl Abort, found: Validation, expected: Validation) {
+    assert_eq!(rt; found, expected);
+}
+
+/// Asserts that two lengths are the same.
+pub(crate) fn assert_len(rt: &impl Abort, found: usize, expected: usize) {
+    assert_eq!(rt; found, expected);
+}
+
+/// Asserts that the same bytes are in both.
+pub(crate) fn assert_bytes(rt: &impl Abort, found: &[u8], expected: &[u8]) {
+    assert_eq!(rt; found, expected);
+}
+
+/// Asserts how the client judges the bytes, which are a message.
+pub(crate) fn assert_judged(
+    rt: &impl Abort,
+    auth: &LongTermClientAuth,
+    bytes: &[u8],
+    expected: Validation,
+) {
+    assert_validation(rt, judge(rt, auth, bytes), expected);
 }
 
 /// Takes the challenge that the bytes are.
@@ -86,17 +115,32 @@ pub(crate) fn take(
     Ok(())
 }
 
+/// Takes the challenge of that code, realm, nonce and value of PASSWORD-ALGORITHMS.
+pub(crate) fn challenge(
+    rt: &impl Abort,
+    alloc: Global,
+    auth: &mut LongTermClientAuth,
+    code: u16,
+    realm: &[u8],
+    nonce: &[u8],
+    algorithms: Option<&[u8]>,
+) -> Result<(), WriteError> {
+    let bytes = denial(rt, alloc, code, realm, nonce, algorithms)?;
+    take(rt, auth, bytes.as_slice())?;
+    Ok(())
+}
+
 /// The client of these algorithms after the challenge of `realm` and `nonce` that offers both.
 pub(crate) fn challenged(
     rt: &impl Abort,
     alloc: Global,
     algorithm: IntegrityAlgorithm,
-) -> Result<LongTermClientAuth, Fail> {
-    let mut auth = client(alloc)?;
+) -> LongTermClientAuth {
+    let mut auth = client(alloc).expect(rt, "memory");
     auth.set_supported_integrity(algorithm);
-    let bytes = denial(rt, alloc, 401, b"realm", b"nonce", Some(BOTH_ALGORITHMS))?;
-    take(rt, &mut auth, bytes.as_slice())?;
-    Ok(auth)
+    let offered = Some(BOTH_ALGORITHMS);
+    challenge(rt, alloc, &mut auth, 401, b"realm", b"nonce", offered).expect(rt, "memory");
+    auth
 }
 
 /// A response to ALLOCATE, which carries nothing yet.

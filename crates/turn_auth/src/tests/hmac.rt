@@ -1,4 +1,5 @@
 use crate::hmac::{hmac_sha1, hmac_sha256};
+use crate::tests::fixture::assert_bytes;
 
 /// The bytes 1 to 25.
 const COUNTED: &[u8] = b"\x01\x02\x03\x04\x05\x06\x07\x08\x09\x0a\x0b\x0c\x0d\x0e\x0f\x10\
@@ -85,7 +86,7 @@ const RFC_4231: [(&[u8], &[u8], &[u8]); 7] = [
 #[test]
 fn hmac_sha1_is_that_of_the_standard(rt: HostRuntime) {
     for (key, text, expected) in RFC_2202 {
-        assert_eq!(rt; hmac_sha1(key, text).as_slice(), expected);
+        assert_bytes(&rt, hmac_sha1(key, text).as_slice(), expected);
     }
 }
 
@@ -94,6 +95,6 @@ fn hmac_sha256_is_that_of_the_standard(rt: HostRuntime) {
     for (key, text, expected) in RFC_4231 {
         let found = hmac_sha256(key, text);
         let told = expected.len().min(found.len());
-        assert_eq!(rt; &found[..told], expected);
+        assert_bytes(&rt, &found[..told], expected);
     }
 }

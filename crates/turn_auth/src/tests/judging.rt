@@ -2,10 +2,13 @@ use crate::credentials::TurnCredentials;
 use crate::integrity::IntegrityAlgorithm;
 use crate::long_term::LongTermClientAuth;
 use crate::tests::fixture::{
-    ALLOCATE, BOTH_ALGORITHMS, SECOND_ID, challenged, client, denial, judge, raw, take,
+    ALLOCATE, BOTH_ALGORITHMS, SECOND_ID, assert_judged, assert_validation, challenge, challenged,
+    client, denial, judge, raw,
 };
 use crate::validation::Validation;
-use std::test::Fail;
+use std::alloc::Global;
+use std::process::Abort;
+use turn_stun::error::WriteError;
 use turn_stun::message::Message;
 use turn_stun::message::write::MessageWriteVec;
 use turn_stun::transaction::TransactionId;
@@ -58,222 +61,348 @@ const SHA1: Validation = Validation::Validated(IntegrityAlgorithm::Sha1);
 
 const SHA256: Validation = Validation::Validated(IntegrityAlgorithm::Sha256);
 
+const AGAIN: Validation = Validation::ResendRequest(IntegrityAlgorithm::Sha1);
+
+const AGAIN_SHA256: Validation = Validation::ResendRequest(IntegrityAlgorithm::Sha256);
+
+const EITHER: &[IntegrityAlgorithm] = &[IntegrityAlgorithm::Sha256, IntegrityAlgorithm::Sha1];
+
+const SHA1_ALONE: &[IntegrityAlgorithm] = &[IntegrityAlgorithm::Sha1];
+
+const SHA256_ALONE: &[IntegrityAlgorithm] = &[IntegrityAlgorithm::Sha256];
+
+/// How the client judges the denial with that code, realm, nonce and value of PASSWORD-ALGORITHMS.
+fn judge_denial(
+    rt: &impl Abort,
+    alloc: Global,
+    auth: &LongTermClientAuth,
+    code: u16,
+    realm: &[u8],
+    nonce: &[u8],
+    algorithms: Option<&[u8]>,
+) -> Validation {
+    let bytes = denial(rt, alloc, code, realm, nonce, algorithms).expect(rt, "memory");
+    judge(rt, auth, bytes.as_slice())
+}
+
 #[test]
-fn signed_responses_are_valid(rt: HostRuntime) -> Result<(), Fail> {
-    let auth = challenged(&rt, rt.alloc(), IntegrityAlgorithm::Sha1)?;
-    for bytes in [SIGNED, BEHIND_FINGERPRINT, AT_THE_HEADER] {
-        assert_eq!(rt; judge(&rt, &auth, bytes), SHA1);
+fn signed_responses_are_valid(rt: HostRuntime) {
+    let auth = challenged(&rt, rt.alloc(), IntegrityAlgorithm::Sha1);
+    let cases: [(&[u8], Validation); 5] = [
+        (SIGNED, SHA1),
+        (BEHIND_FINGERPRINT, SHA1),
+        (AT_THE_HEADER, SHA1),
+        (SIGNED_BY_WORD, WRONG),
+        (SIGNED_SHA256, UNSIGNED),
+    ];
+    for (bytes, expected) in cases {
+        assert_judged(&rt, &auth, bytes, expected);
     }
-    assert_eq!(rt; judge(&rt, &auth, SIGNED_BY_WORD), WRONG);
-    assert_eq!(rt; judge(&rt, &auth, SIGNED_SHA256), UNSIGNED);
-    let auth = challenged(&rt, rt.alloc(), IntegrityAlgorithm::Sha256)?;
-    assert_eq!(rt; judge(&rt, &auth, SIGNED_SHA256), SHA256);
-    assert_eq!(rt; judge(&rt, &auth, SIGNED), UNSIGNED);
-    Ok(())
 }
 
 #[test]
-fn a_sample_of_the_standard_is_valid(rt: HostRuntime) -> Result<(), Fail> {
-    let mut auth = LongTermClientAuth::new(rt.alloc());
+fn responses_signed_with_sha256_are_valid(rt: HostRuntime) {
+    let auth = challenged(&rt, rt.alloc(), IntegrityAlgorithm::Sha256);
+    assert_judged(&rt, &auth, SIGNED_SHA256, SHA256);
+    assert_judged(&rt, &auth, SIGNED, UNSIGNED);
+}
+
+/// The client of the sample request, after a challenge of its realm.
+fn sample_client(rt: &impl Abort, alloc: Global) -> LongTermClientAuth {
+    let mut auth = LongTermClientAuth::new(alloc);
     let user = SAMPLE_USER.as_bytes();
-    auth.set_credentials(TurnCredentials::new(rt.alloc(), user, b"TheMatrIX")?);
-    let bytes = denial(&rt, rt.alloc(), 401, b"example.org", b"nonce", None)?;
-    take(&rt, &mut auth, bytes.as_slice())?;
-    assert_eq!(rt; judge(&rt, &auth, SAMPLE_REQUEST), SHA1);
-    Ok(())
+    let credentials = TurnCredentials::new(alloc, user, b"TheMatrIX").expect(rt, "memory");
+    auth.set_credentials(credentials);
+    challenge(rt, alloc, &mut auth, 401, b"example.org", b"nonce", None).expect(rt, "memory");
+    auth
 }
 
 #[test]
-fn no_turned_bit_is_valid(rt: HostRuntime) -> Result<(), Fail> {
-    let auth = challenged(&rt, rt.alloc(), IntegrityAlgorithm::Sha1)?;
+fn a_sample_of_the_standard_is_valid(rt: HostRuntime) {
+    let auth = sample_client(&rt, rt.alloc());
+    assert_judged(&rt, &auth, SAMPLE_REQUEST, SHA1);
+}
+
+/// Whether the signed response with that bit turned is a message, which then is refused.
+fn refuses_turned(
+    rt: &impl Abort,
+    alloc: Global,
+    auth: &LongTermClientAuth,
+    at: usize,
+    bit: u32,
+) -> bool {
+    let mut turned = SIGNED.to_vec(alloc).expect(rt, "memory");
+    assert!(rt; at < turned.len() && bit < 8);
+    turned[at] ^= 1u8 << bit;
+    let Ok(message) = Message::from_bytes(turned.as_slice()) else {
+        return false;
+    };
+    let validation = auth.validate_incoming_message(&message);
+    assert!(rt;
+        matches!(validation, Validation::Refused { .. }),
+        "{at}, {bit}"
+    );
+    true
+}
+
+#[test]
+fn no_turned_bit_is_valid(rt: HostRuntime) {
+    let auth = challenged(&rt, rt.alloc(), IntegrityAlgorithm::Sha1);
     let mut judged = 0u32;
     for at in 0..SIGNED.len() {
         for bit in 0u32..8 {
-            let mut turned = SIGNED.to_vec(rt.alloc())?;
-            assert!(rt; at < turned.len());
-            turned[at] ^= 1u8 << bit;
-            if let Ok(message) = Message::from_bytes(turned.as_slice()) {
-                let validation = auth.validate_incoming_message(&message);
-                assert!(rt;
-                    matches!(validation, Validation::Refused { .. }),
-                    "{at}, {bit}"
-                );
+            if refuses_turned(&rt, rt.alloc(), &auth, at, bit) {
                 judged = judged.wrapping_add(1);
             }
         }
     }
     // The others of the 416 bits leave no message.
     assert_eq!(rt; judged, 334);
-    Ok(())
+}
+
+/// Adds an integrity of sevens to a message of 52 bytes.
+fn add_sevens(rt: &impl Abort, bytes: &mut Vec<u8>) {
+    bytes
+        .extend_from_slice(b"\x00\x08\x00\x14")
+        .expect(rt, "memory");
+    bytes.extend_from_slice(&[7; 20]).expect(rt, "memory");
+    assert!(rt; bytes.len() == 76);
+    bytes[3] = 56;
 }
 
 #[test]
-fn integrity_in_another_place_or_form(rt: HostRuntime) -> Result<(), Fail> {
-    let auth = challenged(&rt, rt.alloc(), IntegrityAlgorithm::Sha1)?;
-    // A second integrity attribute is not seen.
-    let mut twice = SIGNED.to_vec(rt.alloc())?;
-    twice.extend_from_slice(b"\x00\x08\x00\x14")?;
-    twice.extend_from_slice(&[7; 20])?;
-    assert!(rt; twice.len() == 76);
-    twice[3] = 56;
-    assert_eq!(rt; judge(&rt, &auth, twice.as_slice()), SHA1);
-    // Values of another length, the longest of them at the very end of the longest message.
+fn a_second_integrity_is_not_seen(rt: HostRuntime) {
+    let auth = challenged(&rt, rt.alloc(), IntegrityAlgorithm::Sha1);
+    let mut twice = SIGNED.to_vec(rt.alloc()).expect(&rt, "memory");
+    add_sevens(&rt, &mut twice);
+    assert_judged(&rt, &auth, twice.as_slice(), SHA1);
+}
+
+/// A response with an attribute and an integrity of that many zeros.
+fn zeros(alloc: Global, front: usize, len: usize) -> Result<MessageWriteVec, WriteError> {
     let id = TransactionId::from_bytes(SECOND_ID);
+    let mut message = MessageWriteVec::builder_success(alloc, ALLOCATE, id)?;
+    let first = vec![in alloc; 0; front]?;
+    message.add_attribute(&raw(0x0013, first.as_slice()))?;
+    let second = vec![in alloc; 0; len]?;
+    message.add_attribute(&raw(0x0008, second.as_slice()))?;
+    Ok(message)
+}
+
+#[test]
+fn integrity_of_another_length_is_wrong(rt: HostRuntime) {
+    let auth = challenged(&rt, rt.alloc(), IntegrityAlgorithm::Sha1);
+    // The last of them is at the very end of the longest message.
     for (front, len) in [(0usize, 0usize), (0, 19), (0, 21), (0, 24), (65_524, 0)] {
-        let mut message = MessageWriteVec::builder_success(rt.alloc(), ALLOCATE, id)?;
-        let zeros = [0; 65_524];
-        message.add_attribute(&raw(0x0013, &zeros[..front]))?;
-        message.add_attribute(&raw(0x0008, &zeros[..len]))?;
-        assert_eq!(rt;
-            judge(&rt, &auth, message.as_bytes()),
-            WRONG,
-            "{front}, {len}"
-        );
+        let message = zeros(rt.alloc(), front, len).expect(&rt, "memory");
+        assert_judged(&rt, &auth, message.as_bytes(), WRONG);
     }
-    Ok(())
 }
 
 #[test]
-fn without_credentials_all_is_refused(rt: HostRuntime) -> Result<(), Fail> {
+fn without_credentials_all_is_refused(rt: HostRuntime) {
     let auth = LongTermClientAuth::new(rt.alloc());
-    let bytes = denial(&rt, rt.alloc(), 401, b"realm", b"nonce", None)?;
-    for bytes in [bytes.as_slice(), SIGNED, SAMPLE_REQUEST] {
-        assert_eq!(rt; judge(&rt, &auth, bytes), UNSIGNED);
-    }
+    let found = judge_denial(&rt, rt.alloc(), &auth, 401, b"realm", b"nonce", None);
+    assert_validation(&rt, found, UNSIGNED);
+    assert_judged(&rt, &auth, SIGNED, UNSIGNED);
+    assert_judged(&rt, &auth, SAMPLE_REQUEST, UNSIGNED);
     assert!(rt; auth.credentials().is_none() && !auth.has_realm());
-    Ok(())
+}
+
+/// How a client of these algorithms judges a challenge with that value of PASSWORD-ALGORITHMS.
+fn judge_offer(
+    rt: &impl Abort,
+    alloc: Global,
+    supported: &[IntegrityAlgorithm],
+    offered: Option<&[u8]>,
+) -> Validation {
+    let mut auth = client(alloc).expect(rt, "memory");
+    assert!(rt; !supported.is_empty());
+    auth.set_supported_integrity(supported[0]);
+    for algorithm in supported {
+        auth.add_supported_integrity(*algorithm);
+    }
+    judge_denial(rt, alloc, &auth, 401, b"realm", b"nonce", offered)
 }
 
 #[test]
-fn the_algorithm_is_picked(rt: HostRuntime) -> Result<(), Fail> {
-    use IntegrityAlgorithm::{Sha1, Sha256};
-    let both: &[IntegrityAlgorithm] = &[Sha256, Sha1];
-    let one: &[IntegrityAlgorithm] = &[Sha1];
-    let other: &[IntegrityAlgorithm] = &[Sha256];
-    let mut longest = [0u8; 68];
-    longest[1] = 2;
-    let cases: [(
-        &[IntegrityAlgorithm],
-        Option<&[u8]>,
-        Option<IntegrityAlgorithm>,
-    ); 13] = [
-        (both, Some(BOTH_ALGORITHMS), Some(Sha256)),
-        (one, Some(BOTH_ALGORITHMS), Some(Sha1)),
-        (other, Some(BOTH_ALGORITHMS), Some(Sha256)),
-        (other, None, None),
-        (both, None, Some(Sha1)),
-        (both, Some(b"\x00\x02\x00\x04\x00\x00\x00\x00"), Some(Sha1)),
-        (both, Some(b"\x00\x02\x00"), Some(Sha1)),
-        (both, Some(b""), Some(Sha1)),
-        (both, Some(b"\x00\x01\x00\x00"), Some(Sha1)),
+fn the_algorithm_is_picked(rt: HostRuntime) {
+    let cases: [(&[IntegrityAlgorithm], Option<&[u8]>, Validation); 6] = [
+        (EITHER, Some(BOTH_ALGORITHMS), AGAIN_SHA256),
+        (SHA1_ALONE, Some(BOTH_ALGORITHMS), AGAIN),
+        (SHA256_ALONE, Some(BOTH_ALGORITHMS), AGAIN_SHA256),
+        (SHA256_ALONE, None, UNSIGNED),
+        (EITHER, None, AGAIN),
         (
-            both,
-            Some(b"\x00\x07\x00\x03abc\x00\x00\x02\x00\x00"),
-            Some(Sha256),
+            SHA256_ALONE,
+            Some(b"\x00\x02\x00\x00\x00\x07\x00\x01"),
+            UNSIGNED,
         ),
-        (other, Some(b"\x00\x02\x00\x00\x00\x07\x00\x01"), None),
-        (both, Some(&longest[..64]), Some(Sha256)),
-        (both, Some(&longest), Some(Sha1)),
     ];
     for (supported, offered, expected) in cases {
-        let mut auth = client(rt.alloc())?;
-        auth.set_supported_integrity(supported[0]);
-        for algorithm in supported {
-            auth.add_supported_integrity(*algorithm);
-        }
-        let bytes = denial(&rt, rt.alloc(), 401, b"realm", b"nonce", offered)?;
-        let validation = match expected {
-            Some(algorithm) => Validation::ResendRequest(algorithm),
-            None => UNSIGNED,
-        };
-        assert_eq!(rt; judge(&rt, &auth, bytes.as_slice()), validation);
+        let found = judge_offer(&rt, rt.alloc(), supported, offered);
+        assert_validation(&rt, found, expected);
     }
-    Ok(())
 }
 
 #[test]
-fn what_is_no_challenge_is_refused(rt: HostRuntime) -> Result<(), Fail> {
-    let auth = client(rt.alloc())?;
-    let longest = [b'r'; 764];
-    let again = Validation::ResendRequest(IntegrityAlgorithm::Sha1);
-    let cases: [(u16, &[u8], &[u8], Validation); 8] = [
-        (401, &longest[..763], b"nonce", again),
-        (438, b"realm", &longest[..763], again),
-        (401, &longest, b"nonce", UNSIGNED),
-        (401, b"realm", &longest, UNSIGNED),
-        (401, b"", b"nonce", UNSIGNED),
-        (401, b"realm", b"", UNSIGNED),
-        (400, b"realm", b"nonce", UNSIGNED),
-        (508, b"realm", b"nonce", UNSIGNED),
+fn an_offer_counts_where_it_is_well_formed(rt: HostRuntime) {
+    let cases: [(&[u8], Validation); 5] = [
+        (b"\x00\x02\x00\x04\x00\x00\x00\x00", AGAIN),
+        (b"\x00\x02\x00", AGAIN),
+        (b"", AGAIN),
+        (b"\x00\x01\x00\x00", AGAIN),
+        (b"\x00\x07\x00\x03abc\x00\x00\x02\x00\x00", AGAIN_SHA256),
     ];
-    for (code, realm, nonce, expected) in cases {
-        let bytes = denial(&rt, rt.alloc(), code, realm, nonce, None)?;
-        assert_eq!(rt; judge(&rt, &auth, bytes.as_slice()), expected);
+    for (offered, expected) in cases {
+        let found = judge_offer(&rt, rt.alloc(), EITHER, Some(offered));
+        assert_validation(&rt, found, expected);
     }
-    let whole = denial(&rt, rt.alloc(), 401, b"realm", b"nonce", None)?;
-    // Each of the three attributes gets a type that is unknown, and the class that of a success.
-    for (at, byte) in [(21usize, 0x7fu8), (29, 0x7f), (41, 0x7f), (1, 0x03)] {
-        let mut bytes = whole.as_slice().to_vec(rt.alloc())?;
-        assert!(rt; at < bytes.len());
-        bytes[at] = byte;
-        assert_eq!(rt; judge(&rt, &auth, bytes.as_slice()), UNSIGNED, "{at}");
-    }
-    Ok(())
 }
 
 #[test]
-fn a_later_challenge_keeps_the_realm(rt: HostRuntime) -> Result<(), Fail> {
-    let mut auth = challenged(&rt, rt.alloc(), IntegrityAlgorithm::Sha1)?;
-    let again = Validation::ResendRequest(IntegrityAlgorithm::Sha1);
-    let cases: [(u16, &[u8], Validation); 3] = [
-        (438, b"realm", again),
-        (438, b"other", UNSIGNED),
-        (401, b"realm", UNSIGNED),
+fn an_offer_counts_up_to_64_bytes(rt: HostRuntime) {
+    for (len, expected) in [(64usize, AGAIN_SHA256), (68, AGAIN)] {
+        let mut offered = vec![in rt.alloc(); 0u8; len].expect(&rt, "memory");
+        assert!(rt; offered.len() > 1);
+        offered[1] = 2;
+        let found = judge_offer(&rt, rt.alloc(), EITHER, Some(offered.as_slice()));
+        assert_validation(&rt, found, expected);
+    }
+}
+
+#[test]
+fn what_is_no_challenge_is_refused(rt: HostRuntime) {
+    let auth = client(rt.alloc()).expect(&rt, "memory");
+    let cases: [(u16, &[u8], &[u8]); 4] = [
+        (401, b"", b"nonce"),
+        (401, b"realm", b""),
+        (400, b"realm", b"nonce"),
+        (508, b"realm", b"nonce"),
     ];
-    auth.add_supported_integrity(IntegrityAlgorithm::Sha256);
-    for (code, realm, expected) in cases {
-        let bytes = denial(
+    for (code, realm, nonce) in cases {
+        let found = judge_denial(&rt, rt.alloc(), &auth, code, realm, nonce, None);
+        assert_validation(&rt, found, UNSIGNED);
+    }
+}
+
+#[test]
+fn a_realm_has_up_to_763_bytes(rt: HostRuntime) {
+    let auth = client(rt.alloc()).expect(&rt, "memory");
+    for (len, expected) in [(763usize, AGAIN), (764, UNSIGNED)] {
+        let realm = vec![in rt.alloc(); b'r'; len].expect(&rt, "memory");
+        let found = judge_denial(
             &rt,
             rt.alloc(),
-            code,
-            realm,
-            b"second",
-            Some(BOTH_ALGORITHMS),
-        )?;
-        assert_eq!(rt; judge(&rt, &auth, bytes.as_slice()), expected);
+            &auth,
+            401,
+            realm.as_slice(),
+            b"nonce",
+            None,
+        );
+        assert_validation(&rt, found, expected);
     }
-    let bytes = denial(
+}
+
+#[test]
+fn a_nonce_has_up_to_763_bytes(rt: HostRuntime) {
+    let auth = client(rt.alloc()).expect(&rt, "memory");
+    for (code, len, expected) in [(438u16, 763usize, AGAIN), (401, 764, UNSIGNED)] {
+        let nonce = vec![in rt.alloc(); b'r'; len].expect(&rt, "memory");
+        let found = judge_denial(
+            &rt,
+            rt.alloc(),
+            &auth,
+            code,
+            b"realm",
+            nonce.as_slice(),
+            None,
+        );
+        assert_validation(&rt, found, expected);
+    }
+}
+
+/// How the client judges the first challenge with another byte at that place.
+fn judge_altered(
+    rt: &impl Abort,
+    alloc: Global,
+    auth: &LongTermClientAuth,
+    at: usize,
+    byte: u8,
+) -> Validation {
+    let mut bytes = denial(rt, alloc, 401, b"realm", b"nonce", None).expect(rt, "memory");
+    assert!(rt; at < bytes.len());
+    bytes[at] = byte;
+    judge(rt, auth, bytes.as_slice())
+}
+
+#[test]
+fn a_challenge_lacks_nothing(rt: HostRuntime) {
+    let auth = client(rt.alloc()).expect(&rt, "memory");
+    // Each of the three attributes gets a type that is unknown, and the class that of a success.
+    for (at, byte) in [(21usize, 0x7fu8), (29, 0x7f), (41, 0x7f), (1, 0x03)] {
+        let found = judge_altered(&rt, rt.alloc(), &auth, at, byte);
+        assert_validation(&rt, found, UNSIGNED);
+    }
+}
+
+/// How the client judges a denial of the second nonce, which offers both algorithms.
+fn judge_second(
+    rt: &impl Abort,
+    alloc: Global,
+    auth: &LongTermClientAuth,
+    code: u16,
+    realm: &[u8],
+) -> Validation {
+    let offered = Some(BOTH_ALGORITHMS);
+    judge_denial(rt, alloc, auth, code, realm, b"second", offered)
+}
+
+#[test]
+fn a_later_challenge_keeps_the_realm(rt: HostRuntime) {
+    let mut auth = challenged(&rt, rt.alloc(), IntegrityAlgorithm::Sha1);
+    auth.add_supported_integrity(IntegrityAlgorithm::Sha256);
+    let found = judge_second(&rt, rt.alloc(), &auth, 438, b"realm");
+    assert_validation(&rt, found, AGAIN);
+    let found = judge_second(&rt, rt.alloc(), &auth, 438, b"other");
+    assert_validation(&rt, found, UNSIGNED);
+    let found = judge_second(&rt, rt.alloc(), &auth, 401, b"realm");
+    assert_validation(&rt, found, UNSIGNED);
+}
+
+#[test]
+fn a_later_challenge_keeps_the_algorithm(rt: HostRuntime) {
+    let mut auth = challenged(&rt, rt.alloc(), IntegrityAlgorithm::Sha1);
+    auth.add_supported_integrity(IntegrityAlgorithm::Sha256);
+    let offered = Some(BOTH_ALGORITHMS);
+    challenge(
         &rt,
         rt.alloc(),
+        &mut auth,
         438,
         b"realm",
         b"second",
-        Some(BOTH_ALGORITHMS),
-    )?;
-    take(&rt, &mut auth, bytes.as_slice())?;
-    assert_eq!(rt; judge(&rt, &auth, SIGNED), SHA1);
-    Ok(())
+        offered,
+    )
+    .expect(&rt, "memory");
+    assert_judged(&rt, &auth, SIGNED, SHA1);
 }
 
 #[test]
-fn a_signed_challenge_is_a_challenge(rt: HostRuntime) -> Result<(), Fail> {
-    let auth = challenged(&rt, rt.alloc(), IntegrityAlgorithm::Sha1)?;
+fn a_signed_challenge_is_a_challenge(rt: HostRuntime) {
+    let auth = challenged(&rt, rt.alloc(), IntegrityAlgorithm::Sha1);
     // Its integrity is not looked at, be it right or wrong.
-    let mut bytes = denial(&rt, rt.alloc(), 438, b"realm", b"second", None)?;
-    bytes.extend_from_slice(b"\x00\x08\x00\x14")?;
-    bytes.extend_from_slice(&[7; 20])?;
-    assert!(rt; bytes.len() == 76);
-    bytes[3] = 56;
-    let again = Validation::ResendRequest(IntegrityAlgorithm::Sha1);
-    assert_eq!(rt; judge(&rt, &auth, bytes.as_slice()), again);
-    Ok(())
+    let bytes = denial(&rt, rt.alloc(), 438, b"realm", b"second", None);
+    let mut bytes = bytes.expect(&rt, "memory");
+    add_sevens(&rt, &mut bytes);
+    assert_judged(&rt, &auth, bytes.as_slice(), AGAIN);
 }
 
 #[test]
-fn new_credentials_make_a_new_key(rt: HostRuntime) -> Result<(), Fail> {
-    let mut auth = challenged(&rt, rt.alloc(), IntegrityAlgorithm::Sha1)?;
-    auth.set_credentials(TurnCredentials::new(rt.alloc(), b"user", b"word")?);
-    assert_eq!(rt; judge(&rt, &auth, SIGNED), WRONG);
-    assert_eq!(rt; judge(&rt, &auth, SIGNED_BY_WORD), SHA1);
-    Ok(())
+fn new_credentials_make_a_new_key(rt: HostRuntime) {
+    let mut auth = challenged(&rt, rt.alloc(), IntegrityAlgorithm::Sha1);
+    let credentials = TurnCredentials::new(rt.alloc(), b"user", b"word");
+    auth.set_credentials(credentials.expect(&rt, "memory"));
+    assert_judged(&rt, &auth, SIGNED, WRONG);
+    assert_judged(&rt, &auth, SIGNED_BY_WORD, SHA1);
 }

@@ -1,11 +1,15 @@
 use crate::feature::Feature;
 use crate::integrity::IntegrityAlgorithm;
 use crate::long_term::LongTermClientAuth;
-use crate::tests::fixture::{allocate, challenged, denial, judge, response, sign, take};
+use crate::tests::fixture::{
+    allocate, assert_bytes, assert_judged, assert_len, challenge, challenged, response, sign,
+};
 use crate::validation::Validation;
-use std::test::Fail;
+use std::alloc::Global;
+use std::process::Abort;
 use turn_stun::attribute::nonce::Nonce;
 use turn_stun::message::Message;
+use turn_stun::message::write::MessageWriteVec;
 
 /// The ALLOCATE of TURN that follows a challenge of `realm` and `nonce`, for `user` and `pass`.
 const SIGNED_ALLOCATE: &[u8] =
@@ -26,33 +30,50 @@ const ANONYMOUS_ALLOCATE: &[u8] =
     \x40\xb3\x2a\xf6\x72\x24\xf1\x5e\x30\xe4\xfe\xa5\x7d\xf1\x14\xb4\xef\xb1\xb9\x52\
     \xb9\x64\x63\x6d\xc3\x02\x0b\xd8\x1c\xb2\x78\xa8";
 
+/// The request to allocate as this client signs it.
+fn signed_allocate(rt: &impl Abort, alloc: Global, auth: &LongTermClientAuth) -> MessageWriteVec {
+    let mut message = allocate(alloc).expect(rt, "memory");
+    sign(rt, auth, &mut message).expect(rt, "memory");
+    message
+}
+
 #[test]
-fn a_request_is_signed(rt: HostRuntime) -> Result<(), Fail> {
-    let auth = challenged(&rt, rt.alloc(), IntegrityAlgorithm::Sha1)?;
-    let mut message = allocate(rt.alloc())?;
-    sign(&rt, &auth, &mut message)?;
-    assert_eq!(rt; message.as_bytes(), SIGNED_ALLOCATE);
+fn a_request_is_signed(rt: HostRuntime) {
+    let auth = challenged(&rt, rt.alloc(), IntegrityAlgorithm::Sha1);
+    let message = signed_allocate(&rt, rt.alloc(), &auth);
+    assert_bytes(&rt, message.as_bytes(), SIGNED_ALLOCATE);
     let valid = Validation::Validated(IntegrityAlgorithm::Sha1);
-    assert_eq!(rt; judge(&rt, &auth, SIGNED_ALLOCATE), valid);
-    Ok(())
+    assert_judged(&rt, &auth, SIGNED_ALLOCATE, valid);
 }
 
 #[test]
-fn a_request_is_signed_and_hides_the_user(rt: HostRuntime) -> Result<(), Fail> {
-    let mut auth = challenged(&rt, rt.alloc(), IntegrityAlgorithm::Sha256)?;
+fn a_request_is_signed_and_hides_the_user(rt: HostRuntime) {
+    let mut auth = challenged(&rt, rt.alloc(), IntegrityAlgorithm::Sha256);
     auth.set_anonymous_username(Feature::Required);
-    let mut message = allocate(rt.alloc())?;
-    sign(&rt, &auth, &mut message)?;
-    assert_eq!(rt; message.as_bytes(), ANONYMOUS_ALLOCATE);
-    Ok(())
+    let message = signed_allocate(&rt, rt.alloc(), &auth);
+    assert_bytes(&rt, message.as_bytes(), ANONYMOUS_ALLOCATE);
+}
+
+/// Asserts how many bytes this client tells and adds, and that the request is valid then.
+fn adds(
+    rt: &impl Abort,
+    alloc: Global,
+    algorithm: IntegrityAlgorithm,
+    anonymous: Feature,
+    expected: usize,
+) {
+    let mut auth = challenged(rt, alloc, algorithm);
+    auth.set_anonymous_username(anonymous);
+    assert_len(rt, auth.message_signature_bytes(), expected);
+    let before = allocate(alloc).expect(rt, "memory").as_bytes().len();
+    let message = signed_allocate(rt, alloc, &auth);
+    assert_len(rt, message.as_bytes().len().wrapping_sub(before), expected);
+    let valid = Validation::Validated(algorithm);
+    assert_judged(rt, &auth, message.as_bytes(), valid);
 }
 
 #[test]
-fn signing_adds_what_was_told(rt: HostRuntime) -> Result<(), Fail> {
-    assert_eq!(rt;
-        LongTermClientAuth::new(rt.alloc()).message_signature_bytes(),
-        0
-    );
+fn signing_adds_what_was_told(rt: HostRuntime) {
     let cases = [
         (IntegrityAlgorithm::Sha1, Feature::Auto, 56usize),
         (IntegrityAlgorithm::Sha1, Feature::Disabled, 56),
@@ -61,44 +82,43 @@ fn signing_adds_what_was_told(rt: HostRuntime) -> Result<(), Fail> {
         (IntegrityAlgorithm::Sha256, Feature::Required, 116),
     ];
     for (algorithm, anonymous, expected) in cases {
-        let mut auth = challenged(&rt, rt.alloc(), algorithm)?;
-        auth.set_anonymous_username(anonymous);
-        assert_eq!(rt; auth.message_signature_bytes(), expected);
-        let mut message = allocate(rt.alloc())?;
-        let before = message.as_bytes().len();
-        sign(&rt, &auth, &mut message)?;
-        assert_eq!(rt; message.as_bytes().len().wrapping_sub(before), expected);
-        let valid = Validation::Validated(algorithm);
-        assert_eq!(rt; judge(&rt, &auth, message.as_bytes()), valid);
+        adds(&rt, rt.alloc(), algorithm, anonymous, expected);
     }
-    Ok(())
 }
 
 #[test]
-fn a_response_gets_the_integrity_alone(rt: HostRuntime) -> Result<(), Fail> {
-    for (algorithm, expected) in [
-        (IntegrityAlgorithm::Sha1, 44usize),
-        (IntegrityAlgorithm::Sha256, 56),
-    ] {
-        let auth = challenged(&rt, rt.alloc(), algorithm)?;
-        let mut message = response(rt.alloc())?;
-        sign(&rt, &auth, &mut message)?;
-        assert_eq!(rt; message.as_bytes().len(), expected);
-        let valid = Validation::Validated(algorithm);
-        assert_eq!(rt; judge(&rt, &auth, message.as_bytes()), valid);
-    }
-    Ok(())
+fn nothing_is_told_without_a_realm(rt: HostRuntime) {
+    let auth = LongTermClientAuth::new(rt.alloc());
+    assert_len(&rt, auth.message_signature_bytes(), 0);
+}
+
+/// Asserts how long a response is once it is signed, and that it is valid then.
+fn signs_response(rt: &impl Abort, alloc: Global, algorithm: IntegrityAlgorithm, expected: usize) {
+    let auth = challenged(rt, alloc, algorithm);
+    let mut message = response(alloc).expect(rt, "memory");
+    sign(rt, &auth, &mut message).expect(rt, "memory");
+    assert_len(rt, message.as_bytes().len(), expected);
+    let valid = Validation::Validated(algorithm);
+    assert_judged(rt, &auth, message.as_bytes(), valid);
 }
 
 #[test]
-fn the_last_nonce_is_sent(rt: HostRuntime) -> Result<(), Fail> {
-    let mut auth = challenged(&rt, rt.alloc(), IntegrityAlgorithm::Sha1)?;
-    let bytes = denial(&rt, rt.alloc(), 438, b"realm", b"other", None)?;
-    take(&rt, &mut auth, bytes.as_slice())?;
-    let mut message = allocate(rt.alloc())?;
-    sign(&rt, &auth, &mut message)?;
-    let sent = Message::from_bytes(message.as_bytes()).expect(&rt, "a message");
-    let nonce = sent.attribute::<Nonce<'_>>().expect(&rt, "a nonce");
-    assert_eq!(rt; nonce.as_bytes(), b"other".as_slice());
-    Ok(())
+fn a_response_gets_the_integrity_alone(rt: HostRuntime) {
+    signs_response(&rt, rt.alloc(), IntegrityAlgorithm::Sha1, 44);
+    signs_response(&rt, rt.alloc(), IntegrityAlgorithm::Sha256, 56);
+}
+
+/// Asserts which nonce the message carries.
+fn assert_nonce(rt: &impl Abort, bytes: &[u8], expected: &[u8]) {
+    let sent = Message::from_bytes(bytes).expect(rt, "a message");
+    let nonce = sent.attribute::<Nonce<'_>>().expect(rt, "a nonce");
+    assert_bytes(rt, nonce.as_bytes(), expected);
+}
+
+#[test]
+fn the_last_nonce_is_sent(rt: HostRuntime) {
+    let mut auth = challenged(&rt, rt.alloc(), IntegrityAlgorithm::Sha1);
+    challenge(&rt, rt.alloc(), &mut auth, 438, b"realm", b"other", None).expect(&rt, "memory");
+    let message = signed_allocate(&rt, rt.alloc(), &auth);
+    assert_nonce(&rt, message.as_bytes(), b"other");
 }
