@@ -35,6 +35,7 @@ pub mod StreamApartLemmas
 pub mod StreamCallLemmas
 pub mod StreamDrainLemmas
 pub mod StreamFewerLemmas
+pub mod StreamMemoryLemmas
 pub mod StreamMessageLemmas
 pub mod StreamPeerLemmas
 pub mod StreamShortLemmas

@@ -22,10 +22,10 @@ use Rattle.turn_client_api.proofs.TurnLemmas.{IsBringing, IsFirst, IsReceived, f
 
 -- ---- before all streams have their turns
 
--- the stream at this local end had its first turn, or it is broken and nothing has changed
-abbrev IsBehind : SocketAddr → List ℕ → ℕ → State → State → Type 0
+-- the control stream at this local end had its first turn, or it is broken and nothing has changed
+abbrev pub IsBehind : SocketAddr → List ℕ → ℕ → State → State → Type 0
 IsBehind to piece now s u =
-    (stream : Stream) × (stream_at to s ≡ Some stream) × ((u ≡ (first_turn stream piece now s).1) ⊎ (u ≡ s))
+    (stream : Stream) × (stream_at to s ≡ Some stream) × (((stream.mode ≡ Control) × (u ≡ (first_turn stream piece now s).1)) ⊎ (u ≡ s))
 
 behind-same : (p : Outcome × State) (u : State) → behind p ≡ Some u → u ≡ p.1
 unfolding behind
@@ -34,14 +34,14 @@ behind-same (Ignored, t) u e = sym (same_Some t u e)
 behind-same (PeerData payload, t) u e = absurd (none-some u e)
 behind-same (PeerIcmp transport peer icmp, t) u e = absurd (none-some u e)
 
-before-IsBehind : (to : SocketAddr) (piece : List ℕ) (now : ℕ) (s u : State) → before_others to piece now s ≡ Some u → IsBehind to piece now s u
+pub before-IsBehind : (to : SocketAddr) (piece : List ℕ) (now : ℕ) (s u : State) → before_others to piece now s ≡ Some u → IsBehind to piece now s u
 unfolding behind
 before-IsBehind to piece now s u e = by (stream_at to s) refl
   where
     in_mode : (m : Mode) (stream : Stream) → stream_at to s ≡ Some (record stream { mode = m }) → IsBehind to piece now s u
     in_mode Control stream f =
         let first = record stream { mode = Control } in
-        (first, f, inl (behind-same (first_turn first piece now s) u (rw f at e)))
+        (first, f, inl (refl, behind-same (first_turn first piece now s) u (rw f at e)))
     in_mode Broken stream f = (record stream { mode = Broken }, f, inr (at (same_address stream.local s.local) (rw f at e)))
       where
         at : (b : Bool) → cond b (Some s) None ≡ Some u → u ≡ s
@@ -73,7 +73,7 @@ module _ (R : State → State → Type 0) (k : IsKept R) (ends : (s : State) →
       closed-kept s (next_broken u) t (k.trans s u (next_broken u) (turns-kept R k n now s) (next-kept u)) e
 
   before-kept : (to : SocketAddr) (piece : List ℕ) (now : ℕ) (s u : State) → IsBehind to piece now s u → R s u
-  before-kept to piece now s u (stream, f, inl e) = subst (λ (x : State). R s x) (sym e) (first_turn-kept R k stream piece now s)
+  before-kept to piece now s u (stream, f, inl (mode, e)) = subst (λ (x : State). R s x) (sym e) (first_turn-kept R k stream piece now s)
   before-kept to piece now s u (stream, f, inr e) = subst (λ (x : State). R s x) (sym e) (k.same s)
 
   recv_end-kept : (to : SocketAddr) (piece : List ℕ) (now : ℕ) (s t : State) → RecvEnds to piece now s t → R s t
@@ -127,7 +127,7 @@ module _ (P : State → Type 0) (Did : Deed) (k : IsBringing P Did) (ends : (s :
       turns-bring P Did k n now s (next-brings u (closed-brings (next_broken u) t e h))
 
   before-brings : (to : SocketAddr) (piece : List ℕ) (now : ℕ) (s u : State) → IsBehind to piece now s u → P u → IsFirst P Did k to piece now s
-  before-brings to piece now s u (stream, f, inl e) h = first_turn-brings P Did k to stream piece now s f (subst P e h)
+  before-brings to piece now s u (stream, f, inl (mode, e)) h = first_turn-brings P Did k to stream piece now s f (subst P e h)
   before-brings to piece now s u (stream, f, inr e) h = inl (subst P e h)
 
   others_end-brings : (to : SocketAddr) (piece : List ℕ) (now : ℕ) (s u t : State)

@@ -63,7 +63,7 @@ ready-whole Waiting stream e = λ f. cc
 ready-whole (Bound peer) stream e = λ f. cc
 ready-whole Broken stream e = cc
 
-turns-apart : (n now : ℕ) (s : State) → StayApart s (turns n now s).1
+pub turns-apart : (n now : ℕ) (s : State) → StayApart s (turns n now s).1
 unfolding turns
 turns-apart zero now s h = h
 turns-apart (suc n) now s h = by (find is_ready s.streams) refl (λ t. turns-apart n now t)
@@ -85,7 +85,7 @@ then_all-apart now (PeerIcmp transport peer icmp, t) h = h
 then_all-apart now (Handled, t) h = poll_recv-apart now t h
 then_all-apart now (Ignored, t) h = poll_recv-apart now t h
 
-first_turn-apart : (stream : Stream) (piece : List ℕ) (now : ℕ) (s : State) → NotBroken stream.local s.streams → StayApart s (first_turn stream piece now s).1
+pub first_turn-apart : (stream : Stream) (piece : List ℕ) (now : ℕ) (s : State) → NotBroken stream.local s.streams → StayApart s (first_turn stream piece now s).1
 unfolding bytes_by
 first_turn-apart stream piece now s whole h =
     let fed = record stream { bytes = stream.bytes ++ piece } in

@@ -7,7 +7,7 @@ ghost use Rattle.turn_client_api.specs.Config.{Config};
 ghost use Rattle.turn_client_api.specs.State.{State, Stream, Control, Broken, initial};
 ghost use Rattle.turn_client_api.specs.Streams.{most_turns, poll_recv_step, turns};
 ghost use Rattle.turn_client_api.specs.Receive.{piece_step};
-ghost use Rattle.turn_client_api.specs.Steps.{Call, state_after};
+ghost use Rattle.turn_client_api.specs.Steps.{Call, Leaves};
 ghost use Rattle.turn_client_api.specs.LawsPeers.{IsNobodys};
 ghost use Rattle.turn_client_api.specs.LawsStreams.{AreApart, IsDrained};
 
@@ -26,8 +26,9 @@ pub fn streams_are_drained()
 {}
 
 /// No two streams have one local end (RFC 6062, section 4.3: each data connection is a TCP connection of
-/// its own), and a broken stream holds nothing. So it is from the first, and stays so whatever is called.
+/// its own), and a broken stream holds nothing. So it is from the first, and stays so whatever is called,
+/// whether or not a call finds memory.
 pub fn streams_stay_apart()
     ensures initial { (transport : TransportType) (local remote : SocketAddr) (config : Config) (seed : List ℕ) → AreApart (initial transport local remote config seed) }
-    ensures kept { (call : Call) (s : State) → AreApart s → AreApart (state_after call s) }
+    ensures kept { (call : Call) (s t : State) → Leaves call s t → AreApart s → AreApart t }
 {}

@@ -1,0 +1,75 @@
+-- The streams stay apart, whether or not a call finds memory.
+use Rattle.std.proofs.Common.{◌≡◌, ◌≢◌, ℕ, List, Option, Some, None, refl, subst, sym, inl, inr}
+use Rattle.std.specs.Prelude.{IsSomeAnd, find}
+use Rattle.std.specs.Option.{option_map_or}
+use Rattle.std.specs.declared.net.socket_addr.SocketAddr.{SocketAddr}
+use Rattle.turn_agent.specs.Agent.{same_address}
+use Rattle.turn_client_api.specs.State.{State, Mode, Control, Waiting, Bound, Broken, Stream}
+use Rattle.turn_client_api.specs.Streams.{broken_at, is_ready, turns}
+use Rattle.turn_client_api.specs.Answers.{EndsAfterTurns, RecvEnds, before_others, next_broken}
+use Rattle.turn_client_api.specs.Steps.{Call, EndsWithoutMemory, Leaves, state_after}
+use Rattle.turn_client_api.specs.Steps.{Delete, CreatePermission, BindChannel, TcpConnect, AllocatedTcpSocket, TcpClosed, SendTo, Recv, PollRecv, Poll, PollTransmit, PollEvent, ProtocolError}
+use Rattle.turn_client_api.specs.LawsStreams.{AreApart}
+use Rattle.turn_client_api.proofs.MemoryLemmas.{IsBehind, before-IsBehind}
+use Rattle.turn_client_api.proofs.StreamApartLemmas.{broken-apart, found-NotBroken}
+use Rattle.turn_client_api.proofs.StreamCallLemmas.{call-apart}
+use Rattle.turn_client_api.proofs.StreamDrainLemmas.{broken_by}
+use Rattle.turn_client_api.proofs.StreamStepLemmas.{StayApart, first_turn-apart, turns-apart}
+
+-- what a state is equal to that keeps them apart
+equal-apart : (s t u : State) → u ≡ t → StayApart s t → StayApart s u
+equal-apart s t u e kept h = subst (λ (x : State). AreApart x) (sym e) (kept h)
+
+broken_at-apart : (local : SocketAddr) (s : State) → StayApart s (broken_at local s)
+unfolding broken_by
+broken_at-apart local s h = broken-apart local s.streams h
+
+next-apart : (s : State) → StayApart s (next_broken s)
+next-apart s h = by (find is_ready s.streams)
+  where
+    by : (o : Option Stream) → AreApart (option_map_or (λ stream. broken_at stream.local s) o s)
+    by None = h
+    by (Some stream) = broken_at-apart stream.local s h
+
+turns_end-apart : (now : ℕ) (s t : State) → EndsAfterTurns now s t → StayApart s t
+turns_end-apart now s t (n, none, e) =
+    equal-apart s _ t e (λ h. next-apart (turns n now s).1 (turns-apart n now s h))
+
+control-whole : (mode : Mode) → mode ≡ Control → mode ≢ Broken
+control-whole Control e = λ f. cc
+control-whole Waiting e = λ f. cc
+control-whole (Bound peer) e = λ f. cc
+control-whole Broken e = λ f. cc
+
+before-apart : (to : SocketAddr) (piece : List ℕ) (now : ℕ) (s u : State) → IsBehind to piece now s u → StayApart s u
+before-apart to piece now s u (stream, f, inl (mode, e)) h =
+    let whole = found-NotBroken (λ x. same_address x.local to) s.streams stream f (control-whole stream.mode mode) h.0 in
+    equal-apart s _ u e (first_turn-apart stream piece now s whole) h
+before-apart to piece now s u (stream, f, inr e) h = equal-apart s s u e (λ k. k) h
+
+recv_end-apart : (to : SocketAddr) (piece : List ℕ) (now : ℕ) (s t : State) → RecvEnds to piece now s t → StayApart s t
+recv_end-apart to piece now s t (inl e) h = equal-apart s _ t e (broken_at-apart to s) h
+recv_end-apart to piece now s t (inr (over, later)) h = by (before_others to piece now s) refl later
+  where
+    by : (o : Option State) → before_others to piece now s ≡ o → IsSomeAnd o (λ u. EndsAfterTurns now u t) → AreApart t
+    by None e none = absurd none
+    by (Some u) e end = turns_end-apart now u t end (before-apart to piece now s u (before-IsBehind to piece now s u e) h)
+
+memory-apart : (call : Call) (s t : State) → EndsWithoutMemory call s t → StayApart s t
+memory-apart (Delete now) s t e = equal-apart s s t e (λ h. h)
+memory-apart (CreatePermission transport peer now) s t e = equal-apart s s t e (λ h. h)
+memory-apart (BindChannel transport peer now) s t e = equal-apart s s t e (λ h. h)
+memory-apart (TcpConnect peer now) s t e = equal-apart s s t e (λ h. h)
+memory-apart (AllocatedTcpSocket id tuple peer local now) s t e = equal-apart s s t e (λ h. h)
+memory-apart (TcpClosed local remote) s t e = equal-apart s s t e (λ h. h)
+memory-apart (SendTo transport peer bytes now) s t none = absurd none
+memory-apart (Recv transport from to bytes now) s t h = recv_end-apart to bytes now s t h
+memory-apart (PollRecv now) s t h = turns_end-apart now s t h
+memory-apart (Poll now) s t e = equal-apart s _ t e (λ h. h)
+memory-apart (PollTransmit now) s t e = equal-apart s _ t e (λ h. h)
+memory-apart PollEvent s t none = absurd none
+memory-apart ProtocolError s t e = equal-apart s _ t e (λ h. h)
+
+pub leaves-apart : (call : Call) (s t : State) → Leaves call s t → StayApart s t
+leaves-apart call s t (inl e) = equal-apart s (state_after call s) t e (call-apart call s)
+leaves-apart call s t (inr h) = memory-apart call s t h
