@@ -2,12 +2,15 @@
 
 ghost use Rattle.std.specs.Prelude.{◌≡◌, IfOk};
 
+use crate::api::TurnClientApi;
 use crate::runs::{Call, Reply, replay};
+use crate::udp::TurnClientUdp;
 use std::alloc::{AllocError, Global};
 use std::net::{IpAddr, Ipv4Addr, SocketAddr};
 use std::process::Abort;
+use std::test::Fail;
 use turn_auth::credentials::{CredentialsError, TurnCredentials};
-use turn_client_api::{TurnConfig, TurnEvent, TurnPollRet};
+use turn_client_api::{TurnConfig, TurnEvent, TurnPollRet, TurnRecvRet};
 use turn_stun::data::Data;
 use turn_stun::instant::Instant;
 use turn_stun::transport::{Transmit, TransportType};
@@ -61,6 +64,53 @@ pub fn config_for(
     config.set_address_family(first);
     config.add_address_family(second);
     Ok(config)
+}
+
+/// A new client of the seed of zeros, for an IPv4 address.
+pub fn client(alloc: Global) -> Result<TurnClientUdp, CredentialsError> {
+    let config = config(alloc)?;
+    Ok(TurnClientUdp::allocate(alloc, local(), server(), config, [0; 32])?)
+}
+
+/// The same for addresses of these families.
+pub fn client_for(
+    alloc: Global,
+    first: AddressFamily,
+    second: AddressFamily,
+) -> Result<TurnClientUdp, CredentialsError> {
+    let config = config_for(alloc, first, second)?;
+    Ok(TurnClientUdp::allocate(alloc, local(), server(), config, [0; 32])?)
+}
+
+// A client comes as a type parameter: a proof then opens none of its parts, and ends far sooner.
+
+/// Compares a packet with the first request.
+pub fn is_first_request(rt: &impl Abort, packet: Option<Transmit<Data>>) {
+    match &packet {
+        Some(packet) => {
+            assert_eq!(rt; packet.payload.as_bytes(), FIRST_ALLOCATE.as_slice());
+            assert_eq!(rt; (packet.from, packet.to), (local(), server()));
+        }
+        None => assert!(rt; false, "nothing is sent"),
+    }
+}
+
+/// Hands in the refusal, which the client is to take.
+pub fn refuse<C: TurnClientApi>(rt: &impl Abort, client: &mut C, now: Instant) {
+    let packet = Transmit::new(BAD_REQUEST, TransportType::Udp, server(), local());
+    let answer = client.recv(packet, now);
+    assert!(rt; matches!(answer, Ok(TurnRecvRet::Handled)));
+}
+
+/// The client is to have ended, with no event that waits.
+pub fn is_closed<C: TurnClientApi>(
+    rt: &impl Abort,
+    client: &mut C,
+    now: Instant,
+) -> Result<(), AllocError> {
+    assert_eq!(rt; client.poll(now)?, TurnPollRet::Closed);
+    assert_eq!(rt; client.poll_event(), None);
+    Ok(())
 }
 
 /// A call of a run.
@@ -129,19 +179,22 @@ fn is_wanted(reply: &Reply, want: Want<'_>) -> bool {
     }
 }
 
-/// Makes the calls on a new client of the seed of zeros, and compares each answer.
-pub fn follow(
-    rt: &impl Abort,
-    alloc: Global,
-    config: TurnConfig,
-    rows: &[(Ask<'_>, Want<'_>)],
-) -> Result<(), AllocError>
-    requires { config.allocation_transport ≡ TransportType.Udp }
-{
+fn calls_of(alloc: Global, rows: &[(Ask<'_>, Want<'_>)]) -> Result<Vec<Call>, AllocError> {
     let mut calls = Vec::new(alloc);
     for (ask, _) in rows {
         calls.push(call(alloc, *ask)?)?;
     }
+    Ok(calls)
+}
+
+/// What a new client of the seed of zeros answers to these calls.
+pub fn replies_of(
+    alloc: Global,
+    config: TurnConfig,
+    calls: &[Call],
+) -> Result<Vec<Reply>, AllocError>
+    requires { config.allocation_transport ≡ TransportType.Udp }
+{
     let replayed = replay(
         alloc,
         TransportType::Udp,
@@ -149,14 +202,41 @@ pub fn follow(
         server(),
         config,
         [0; 32],
-        calls.as_slice(),
+        calls,
     )?;
-    assert_eq!(rt; replayed.replies.len(), rows.len());
-    for (row, (reply, (ask, want))) in replayed.replies.iter().zip(rows).enumerate() {
+    Ok(replayed.replies)
+}
+
+fn are_wanted(rt: &impl Abort, replies: &[Reply], rows: &[(Ask<'_>, Want<'_>)]) {
+    assert_eq!(rt; replies.len(), rows.len());
+    for (row, (reply, (ask, want))) in replies.iter().zip(rows).enumerate() {
         assert!(rt;
             is_wanted(reply, *want),
             "row {row}: {ask:?} gave {reply:?}"
         );
     }
+}
+
+/// Makes the calls on a new client of the seed of zeros, and compares each answer.
+pub fn follow(
+    rt: &impl Abort,
+    alloc: Global,
+    config: TurnConfig,
+    rows: &[(Ask<'_>, Want<'_>)],
+) -> Result<(), Fail>
+    requires { config.allocation_transport ≡ TransportType.Udp }
+{
+    let calls = calls_of(alloc, rows)?;
+    let replies = replies_of(alloc, config, calls.as_slice())?;
+    are_wanted(rt, replies.as_slice(), rows);
     Ok(())
+}
+
+/// The same of a client for an IPv4 address.
+pub fn follow_ipv4(
+    rt: &impl Abort,
+    alloc: Global,
+    rows: &[(Ask<'_>, Want<'_>)],
+) -> Result<(), Fail> {
+    follow(rt, alloc, config(alloc)?, rows)
 }

@@ -4,33 +4,20 @@
 //! fail.
 
 use crate::api::TurnClientApi;
-use crate::runs::{Call, Reply, replay};
+use crate::runs::{Call, Reply};
 use crate::tests::fixture::{
-    BAD_REQUEST, FIRST_ALLOCATE, MS, at, config, config_for, local, server,
+    MS, at, client, client_for, config, is_closed, is_first_request, refuse, replies_of,
 };
-use crate::udp::TurnClientUdp;
+use std::process::Abort;
 use std::test::Fail;
-use turn_client_api::{TurnEvent, TurnPollRet, TurnRecvRet};
-use turn_stun::transport::{Transmit, TransportType};
+use turn_client_api::{TurnEvent, TurnPollRet};
 use turn_types::AddressFamily;
 
-#[test]
-fn a_refused_first_request_ends_the_client(rt: HostRuntime) -> Result<(), Fail> {
-    let Ok(config) = config(rt.alloc()) else {
-        return Ok(());
-    };
-    let Ok(mut client) = TurnClientUdp::allocate(rt.alloc(), local(), server(), config, [0; 32])
-    else {
-        return Ok(());
-    };
+fn sends_or_ends<C: TurnClientApi>(rt: &impl Abort, mut client: C) -> Result<(), Fail> {
     match client.poll_transmit(at(0)) {
-        Ok(packet) => assert_eq!(rt;
-            packet.ok_or("nothing is sent")?.payload.as_bytes(),
-            FIRST_ALLOCATE.as_slice()
-        ),
+        Ok(packet) => is_first_request(rt, packet),
         Err(_) => {
-            assert_eq!(rt; client.poll(at(0))?, TurnPollRet::Closed);
-            assert_eq!(rt; client.poll_event(), None);
+            is_closed(rt, &mut client, at(0))?;
             assert!(rt; client.poll_transmit(at(0))?.is_none());
         }
     }
@@ -38,64 +25,72 @@ fn a_refused_first_request_ends_the_client(rt: HostRuntime) -> Result<(), Fail> 
 }
 
 #[test]
-fn a_refused_resend_ends_the_client_and_is_still_due(rt: HostRuntime) -> Result<(), Fail> {
-    let Ok(config) = config(rt.alloc()) else {
-        return Ok(());
-    };
-    let Ok(mut client) = TurnClientUdp::allocate(rt.alloc(), local(), server(), config, [0; 32])
-    else {
-        return Ok(());
-    };
-    if client.poll_transmit(at(0)).is_err() {
-        return Ok(());
+fn a_refused_first_request_ends_the_client(rt: HostRuntime) -> Result<(), Fail> {
+    match client(rt.alloc()) {
+        Ok(client) => sends_or_ends(&rt, client),
+        Err(_) => Ok(()),
     }
+}
+
+fn sends_again_or_ends<C: TurnClientApi>(rt: &impl Abort, client: &mut C) -> Result<(), Fail> {
     let due = at(500 * MS);
-    let packet = match client.poll_transmit(due) {
+    match client.poll_transmit(due) {
         Ok(packet) => {
             assert_eq!(rt; client.poll(due)?, TurnPollRet::WaitUntil(at(1_500 * MS)));
-            packet
+            is_first_request(rt, packet);
         }
         Err(_) => {
-            assert_eq!(rt; client.poll(due)?, TurnPollRet::Closed);
-            assert_eq!(rt; client.poll_event(), None);
-            client.poll_transmit(due)?
+            is_closed(rt, client, due)?;
+            is_first_request(rt, client.poll_transmit(due)?);
         }
-    };
-    assert_eq!(rt;
-        packet.ok_or("nothing is due")?.payload.as_bytes(),
-        FIRST_ALLOCATE.as_slice()
-    );
+    }
     Ok(())
+}
+
+/// Sends the first request, and then the same again when it is due.
+fn sends_twice<C: TurnClientApi>(rt: &impl Abort, mut client: C) -> Result<(), Fail> {
+    match client.poll_transmit(at(0)) {
+        Ok(_) => sends_again_or_ends(rt, &mut client),
+        Err(_) => Ok(()),
+    }
+}
+
+#[test]
+fn a_refused_resend_ends_the_client_and_is_still_due(rt: HostRuntime) -> Result<(), Fail> {
+    match client(rt.alloc()) {
+        Ok(client) => sends_twice(&rt, client),
+        Err(_) => Ok(()),
+    }
+}
+
+/// Fails both families of a client that has sent its request, by a refusal or by the caller.
+fn ends<C: TurnClientApi>(rt: &impl Abort, client: &mut C, refused: bool) {
+    if refused {
+        refuse(rt, client, at(0));
+    } else {
+        assert!(rt; client.protocol_error().is_ok());
+    }
+    for family in [AddressFamily::IPV6, AddressFamily::IPV4] {
+        let event = TurnEvent::AllocationCreateFailed(family);
+        assert_eq!(rt; client.poll_event(), Some(event));
+    }
+    assert!(rt; matches!(client.poll(at(0)), Ok(TurnPollRet::Closed)));
+}
+
+fn sends_and_ends<C: TurnClientApi>(rt: &impl Abort, mut client: C, refused: bool) {
+    if client.poll_transmit(at(0)).is_ok() {
+        ends(rt, &mut client, refused);
+    }
 }
 
 // The places of the failures are set aside when the client is made.
 #[test]
-fn ends_take_no_memory(rt: HostRuntime) -> Result<(), Fail> {
+fn ends_take_no_memory(rt: HostRuntime) {
     for refused in [false, true] {
-        let Ok(config) = config_for(rt.alloc(), AddressFamily::IPV6, AddressFamily::IPV4) else {
-            return Ok(());
-        };
-        let Ok(mut client) = TurnClientUdp::allocate(rt.alloc(), local(), server(), config, [0; 32])
-        else {
-            return Ok(());
-        };
-        if client.poll_transmit(at(0)).is_err() {
-            return Ok(());
+        if let Ok(client) = client_for(rt.alloc(), AddressFamily::IPV6, AddressFamily::IPV4) {
+            sends_and_ends(&rt, client, refused);
         }
-        if refused {
-            let packet = Transmit::new(BAD_REQUEST, TransportType::Udp, server(), local());
-            let answer = client.recv(packet, at(0));
-            assert!(rt; matches!(answer, Ok(TurnRecvRet::Handled)));
-        } else {
-            assert!(rt; client.protocol_error().is_ok());
-        }
-        for family in [AddressFamily::IPV6, AddressFamily::IPV4] {
-            let event = TurnEvent::AllocationCreateFailed(family);
-            assert_eq!(rt; client.poll_event(), Some(event));
-        }
-        assert!(rt; matches!(client.poll(at(0)), Ok(TurnPollRet::Closed)));
     }
-    Ok(())
 }
 
 #[test]
@@ -104,18 +99,10 @@ fn a_refused_run_gives_no_answers(rt: HostRuntime) {
         return;
     };
     let calls = [Call::PollTransmit { now: at(0) }, Call::PollEvent];
-    let Ok(replayed) = replay(
-        rt.alloc(),
-        TransportType::Udp,
-        local(),
-        server(),
-        config,
-        [0; 32],
-        &calls,
-    ) else {
+    let Ok(replies) = replies_of(rt.alloc(), config, &calls) else {
         return;
     };
-    assert_eq!(rt; replayed.replies.len(), 2);
-    assert!(rt; matches!(replayed.replies[0], Reply::Transmit(Some(_))));
-    assert!(rt; matches!(replayed.replies[1], Reply::Event(None)));
+    assert_eq!(rt; replies.len(), 2);
+    assert!(rt; matches!(replies[0], Reply::Transmit(Some(_))));
+    assert!(rt; matches!(replies[1], Reply::Event(None)));
 }

@@ -1,8 +1,10 @@
 //! Whole runs with outside values: the messages of the RFCs, and waits that were added up by hand.
 
 use crate::tests::fixture::{
-    Ask, BAD_REQUEST, FIRST_ALLOCATE, MS, Want, config, config_for, follow,
+    Ask, BAD_REQUEST, FIRST_ALLOCATE, MS, Want, config, config_for, follow, follow_ipv4,
 };
+use std::alloc::{AllocError, Global};
+use std::process::Abort;
 use std::test::Fail;
 use std::time::Duration;
 use turn_types::AddressFamily;
@@ -18,8 +20,16 @@ fn a_new_client_is_to_send_now(rt: HostRuntime) -> Result<(), Fail> {
         (Ask::Poll(0), Want::Wait(500 * MS)),
         (Ask::Event, Want::Nothing),
     ];
-    follow(&rt, rt.alloc(), config(rt.alloc())?, &rows)?;
-    Ok(())
+    follow_ipv4(&rt, rt.alloc(), &rows)
+}
+
+/// The first ALLOCATE with one more attribute, of 8 bytes.
+fn request_with(rt: &impl Abort, alloc: Global, attribute: [u8; 8]) -> Result<Vec<u8>, AllocError> {
+    let mut request = FIRST_ALLOCATE.to_vec(alloc)?;
+    request.extend_from_slice(&attribute)?;
+    assert_eq!(rt; request.len(), 48);
+    request[3] = 0x1c;
+    Ok(request)
 }
 
 // RFC 8656, sections 18.11 and 18.6: an IPv6 address beside the IPv4 one, and one alone.
@@ -30,10 +40,7 @@ fn the_first_request_names_the_families(rt: HostRuntime) -> Result<(), Fail> {
     let v4 = AddressFamily::IPV4;
     let v6 = AddressFamily::IPV6;
     for (first, second, attribute) in [(v4, v6, beside), (v6, v4, beside), (v6, v6, alone)] {
-        let mut request = FIRST_ALLOCATE.to_vec(rt.alloc())?;
-        request.extend_from_slice(&attribute)?;
-        assert_eq!(rt; request.len(), 48);
-        request[3] = 0x1c;
+        let request = request_with(&rt, rt.alloc(), attribute)?;
         let rows = [(Ask::Transmit(0), Want::Send(request.as_slice()))];
         follow(
             &rt,
@@ -71,8 +78,7 @@ fn a_silent_server_is_given_up(rt: HostRuntime) -> Result<(), Fail> {
         (Ask::Poll(4_600 * MS), Want::Closed),
         (Ask::Transmit(9_999_000 * MS), Want::Nothing),
     ];
-    follow(&rt, rt.alloc(), config, &rows)?;
-    Ok(())
+    follow(&rt, rt.alloc(), config, &rows)
 }
 
 #[test]
@@ -98,8 +104,7 @@ fn by_default_it_takes_39_seconds_and_a_half(rt: HostRuntime) -> Result<(), Fail
         (Ask::Event, Want::Failed(AddressFamily::IPV4)),
         (Ask::Poll(39_500 * MS), Want::Closed),
     ];
-    follow(&rt, rt.alloc(), config(rt.alloc())?, &rows)?;
-    Ok(())
+    follow_ipv4(&rt, rt.alloc(), &rows)
 }
 
 // A wait of 2^64 - 1 ns ends past the greatest moment, and a caller is let sleep 9999 s at most.
@@ -116,8 +121,7 @@ fn no_caller_sleeps_longer_than_9999_seconds(rt: HostRuntime) -> Result<(), Fail
             Want::Wait(4_611_696_017_427_387_904),
         ),
     ];
-    follow(&rt, rt.alloc(), config, &rows)?;
-    Ok(())
+    follow(&rt, rt.alloc(), config, &rows)
 }
 
 // The error 400, the challenge 401 with a realm and a nonce, and a success without attributes.
@@ -149,7 +153,7 @@ fn any_response_ends_the_client(rt: HostRuntime) -> Result<(), Fail> {
             (Ask::Transmit(500 * MS), Want::Nothing),
             (Ask::Poll(500 * MS), Want::Closed),
         ];
-        follow(&rt, rt.alloc(), config(rt.alloc())?, &rows)?;
+        follow_ipv4(&rt, rt.alloc(), &rows)?;
     }
     Ok(())
 }
@@ -179,8 +183,15 @@ fn what_is_no_response_is_ignored(rt: HostRuntime) -> Result<(), Fail> {
         (Ask::Poll(0), Want::Wait(500 * MS)),
         (Ask::Event, Want::Nothing),
     ];
-    follow(&rt, rt.alloc(), config(rt.alloc())?, &rows)?;
-    Ok(())
+    follow_ipv4(&rt, rt.alloc(), &rows)
+}
+
+/// Follows a client for two families that sends its request once, and waits 8 seconds.
+fn follow_both(rt: &impl Abort, alloc: Global, rows: &[(Ask<'_>, Want<'_>)]) -> Result<(), Fail> {
+    let mut config = config_for(alloc, AddressFamily::IPV6, AddressFamily::IPV4)?;
+    let wait = Duration::from_secs(8);
+    config.set_request_retransmits(wait, wait, 1, wait);
+    follow(rt, alloc, config, rows)
 }
 
 // Where the server refuses, the failures are told in the order of the families; where it stays
@@ -197,10 +208,7 @@ fn two_families_fail_in_their_order(rt: HostRuntime) -> Result<(), Fail> {
         (Ask::Poll(8_000 * MS), Want::Closed, turned),
     ];
     for (end, answer, [first, second]) in table {
-        let mut request = FIRST_ALLOCATE.to_vec(rt.alloc())?;
-        request.extend_from_slice(&[0x80, 0x00, 0x00, 0x04, 0x02, 0, 0, 0])?;
-        assert_eq!(rt; request.len(), 48);
-        request[3] = 0x1c;
+        let request = request_with(&rt, rt.alloc(), [0x80, 0x00, 0x00, 0x04, 0x02, 0, 0, 0])?;
         let rows = [
             (Ask::Transmit(0), Want::Send(request.as_slice())),
             (end, answer),
@@ -211,10 +219,7 @@ fn two_families_fail_in_their_order(rt: HostRuntime) -> Result<(), Fail> {
             (Ask::Error, Want::Done),
             (Ask::Event, Want::Nothing),
         ];
-        let mut config = config_for(rt.alloc(), v6, v4)?;
-        let wait = Duration::from_secs(8);
-        config.set_request_retransmits(wait, wait, 1, wait);
-        follow(&rt, rt.alloc(), config, &rows)?;
+        follow_both(&rt, rt.alloc(), &rows)?;
     }
     Ok(())
 }
