@@ -1,5 +1,5 @@
 -- Worked pieces of streams, so that the check computes what the machine makes of them.
-use Rattle.std.specs.Prelude.{◌≡◌, ℕ, ◌+◌, List, [], ◌∷◌, ◌++◌, length, Option, Some, None}
+use Rattle.std.specs.Prelude.{◌≡◌, ℕ, ◌+◌, List, [], ◌∷◌, ◌++◌, length, map, Option, Some, None}
 use Rattle.std.specs.declared.ops.Range.{Range}
 use Rattle.std.specs.declared.net.socket_addr.SocketAddr.{SocketAddr}
 use Rattle.std.specs.declared.net.socket_addr.SocketAddr.TheVariants.{V4}
@@ -104,9 +104,12 @@ second_peer_message = indication_with 0x20 (with_hello ++ 0x00 ∷ 0x12 ∷ 0x00
 abbrev pub unknown_message : List ℕ
 unknown_message = indication_with 0x1c (with_hello ++ 0x70 ∷ 0x00 ∷ 0x00 ∷ 0x00 ∷ [])
 
--- the success to CONNECTION_BIND, request 1
-abbrev pub bind_success : List ℕ
-bind_success = (0x01 ∷ 0x0b ∷ 0x00 ∷ 0x00 ∷ 0x21 ∷ 0x12 ∷ 0xa4 ∷ 0x42 ∷ []) ++ (0 ∷ 0 ∷ 0 ∷ 0 ∷ 0 ∷ 0 ∷ 0 ∷ 0 ∷ 0 ∷ 0 ∷ 0 ∷ 1 ∷ [])
+-- the success to CONNECTION_BIND, request 1, with MESSAGE-INTEGRITY of these twenty bytes
+abbrev pub bind_success : (ℕ → ℕ) → List ℕ
+bind_success byte =
+    (0x01 ∷ 0x0b ∷ 0x00 ∷ 0x18 ∷ 0x21 ∷ 0x12 ∷ 0xa4 ∷ 0x42 ∷ []) ++ (0 ∷ 0 ∷ 0 ∷ 0 ∷ 0 ∷ 0 ∷ 0 ∷ 0 ∷ 0 ∷ 0 ∷ 0 ∷ 1 ∷ [])
+    ++ (0x00 ∷ 0x08 ∷ 0x00 ∷ 0x14 ∷ [])
+    ++ map byte (0 ∷ 1 ∷ 2 ∷ 3 ∷ 4 ∷ 5 ∷ 6 ∷ 7 ∷ 8 ∷ 9 ∷ 10 ∷ 11 ∷ 12 ∷ 13 ∷ 14 ∷ 15 ∷ 16 ∷ 17 ∷ 18 ∷ 19 ∷ [])
 
 -- ---- what comes of them
 

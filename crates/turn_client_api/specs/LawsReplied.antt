@@ -1,5 +1,5 @@
 -- Worked messages of the server, so that the check computes what the machine makes of them.
-use Rattle.std.specs.Prelude.{◌≡◌, ℕ, ◌*◌, false, List, [], ◌∷◌, ◌++◌, length, Some, None}
+use Rattle.std.specs.Prelude.{◌≡◌, ℕ, ◌*◌, false, List, [], ◌∷◌, ◌++◌, length, map, Some, None}
 use Rattle.std.specs.declared.net.socket_addr.SocketAddr.{SocketAddr}
 use Rattle.turn_types.specs.declared.family.AddressFamily.TheVariants.{IPV4, IPV6}
 use Rattle.turn_auth.specs.LongTerm.{Challenge}
@@ -35,9 +35,11 @@ with_relayed_v6 =
     (0x00 ∷ 0x16 ∷ 0x00 ∷ 0x14 ∷ 0x00 ∷ 0x02 ∷ 0x32 ∷ 0x9a ∷ 0x01 ∷ 0x13 ∷ 0xa9 ∷ 0xfa ∷ [])
     ++ (0 ∷ 0 ∷ 0 ∷ 0 ∷ 0 ∷ 0 ∷ 0 ∷ 0 ∷ 0 ∷ 0 ∷ 0 ∷ 6 ∷ [])
 
-abbrev pub with_integrity : List ℕ
-with_integrity =
-    (0x00 ∷ 0x08 ∷ 0x00 ∷ 0x14 ∷ []) ++ (0 ∷ 0 ∷ 0 ∷ 0 ∷ 0 ∷ 0 ∷ 0 ∷ 0 ∷ 0 ∷ 0 ∷ 0 ∷ 0 ∷ 0 ∷ 0 ∷ 0 ∷ 0 ∷ 0 ∷ 0 ∷ 0 ∷ 0 ∷ [])
+-- MESSAGE-INTEGRITY with these twenty bytes
+abbrev pub with_integrity : (ℕ → ℕ) → List ℕ
+with_integrity byte =
+    (0x00 ∷ 0x08 ∷ 0x00 ∷ 0x14 ∷ [])
+    ++ map byte (0 ∷ 1 ∷ 2 ∷ 3 ∷ 4 ∷ 5 ∷ 6 ∷ 7 ∷ 8 ∷ 9 ∷ 10 ∷ 11 ∷ 12 ∷ 13 ∷ 14 ∷ 15 ∷ 16 ∷ 17 ∷ 18 ∷ 19 ∷ [])
 
 -- 400 and so many more
 abbrev pub with_error : ℕ → List ℕ
@@ -70,57 +72,62 @@ stale = message_with 0x01 0x18 (with_error 38 ++ with_realm_and_nonce)
 abbrev pub bad_request : List ℕ
 bad_request = message_with 0x01 0x13 (with_error 0)
 
--- ALLOCATE: 1000 s for both families, for IPv4 with more behind the integrity, and nothing but the address
--- before it; and no address of one family
-abbrev pub both_allocated : List ℕ
-both_allocated = message_with 0x01 0x03 (with_lifetime 0x03 0xe8 ++ with_relayed_v6 ++ with_relayed_v4)
+-- Replies, each with this signature or with none. ALLOCATE: 1000 s for both families; for IPv4, with more
+-- behind the signature; nothing but the address before it; and no address of one family
+abbrev pub both_allocated : List ℕ → List ℕ
+both_allocated signature = message_with 0x01 0x03 (with_lifetime 0x03 0xe8 ++ with_relayed_v6 ++ with_relayed_v4 ++ signature)
 
-abbrev pub one_allocated : List ℕ
-one_allocated = message_with 0x01 0x03 (with_lifetime 0x03 0xe8 ++ with_relayed_v4 ++ with_integrity ++ with_relayed_v6)
+abbrev pub one_allocated : List ℕ → List ℕ
+one_allocated signature = message_with 0x01 0x03 (with_lifetime 0x03 0xe8 ++ with_relayed_v4 ++ signature ++ with_relayed_v6)
 
-abbrev pub lifetime_behind : List ℕ
-lifetime_behind = message_with 0x01 0x03 (with_relayed_v4 ++ with_integrity ++ with_lifetime 0x03 0xe8)
+abbrev pub lifetime_behind : List ℕ → List ℕ
+lifetime_behind signature = message_with 0x01 0x03 (with_relayed_v4 ++ signature ++ with_lifetime 0x03 0xe8)
 
-abbrev pub one_family_alone : List ℕ
-one_family_alone = message_with 0x01 0x13 (with_error 40)
+abbrev pub one_family_alone : List ℕ → List ℕ
+one_family_alone signature = message_with 0x01 0x13 (with_error 40 ++ signature)
 
--- REFRESH: a lifetime of 599 s, of 600 s and of 0, and that there is no such allocation
-abbrev pub refreshed_for : ℕ → ℕ → List ℕ
-refreshed_for high low = message_with 0x01 0x04 (with_lifetime high low)
+-- REFRESH: a lifetime, and that there is no such allocation
+abbrev pub refreshed_for : ℕ → ℕ → List ℕ → List ℕ
+refreshed_for high low signature = message_with 0x01 0x04 (with_lifetime high low ++ signature)
 
-abbrev pub mismatched : List ℕ
-mismatched = message_with 0x01 0x14 (with_error 37)
+abbrev pub mismatched : List ℕ → List ℕ
+mismatched signature = message_with 0x01 0x14 (with_error 37 ++ signature)
 
 -- CREATE_PERMISSION and CHANNEL_BIND
-abbrev pub permitted : List ℕ
-permitted = message_with 0x01 0x08 []
+abbrev pub permitted : List ℕ → List ℕ
+permitted signature = message_with 0x01 0x08 signature
 
-abbrev pub bound : List ℕ
-bound = message_with 0x01 0x09 []
+abbrev pub bound : List ℕ → List ℕ
+bound signature = message_with 0x01 0x09 signature
 
-abbrev pub not_bound : List ℕ
-not_bound = message_with 0x01 0x19 (with_error 3)
+abbrev pub not_bound : List ℕ → List ℕ
+not_bound signature = message_with 0x01 0x19 (with_error 3 ++ signature)
 
 -- CONNECT: the server's connection 9, also in an error, which counts for nothing
-abbrev pub connected : List ℕ
-connected = message_with 0x01 0x0a with_connection_id
+abbrev pub connected : List ℕ → List ℕ
+connected signature = message_with 0x01 0x0a (with_connection_id ++ signature)
 
-abbrev pub not_connected : List ℕ
-not_connected = message_with 0x01 0x1a (with_error 47 ++ with_connection_id)
+abbrev pub not_connected : List ℕ → List ℕ
+not_connected signature = message_with 0x01 0x1a (with_error 47 ++ with_connection_id ++ signature)
 
--- ---- replies
+-- ---- what comes of them
+
+-- the message is signed under what the client holds
+abbrev pub IsSigned : List ℕ → State → Type 0
+IsSigned message s = validation_of (auth_of s) message ≡ Validated Sha1
 
 -- what the client makes of it at 100 ms
 abbrev pub replied : List ℕ → State → Outcome × State
 replied message s = message_step message (ms 100) s
 
--- where it is signed under what the client holds, this is so of what comes of it
-abbrev pub IfSigned : List ℕ → State → (Outcome × State → Type 0) → Type 0
-IfSigned message s Is = validation_of (auth_of s) message ≡ Validated Sha1 → Is (replied message s)
+-- with a signature, whatever its bytes, that is right, this is so of what comes of the reply
+abbrev pub IfSigned : (List ℕ → List ℕ) → State → (Outcome × State → Type 0) → Type 0
+IfSigned reply s Is =
+    (byte : ℕ → ℕ) → IsSigned (reply (with_integrity byte)) s → Is (replied (reply (with_integrity byte)) s)
 
--- where it is not signed at all
-abbrev pub IfUnsigned : List ℕ → State → (Outcome × State → Type 0) → Type 0
-IfUnsigned message s Is = validation_of (auth_of s) message ≡ Refused false → Is (replied message s)
+-- without one, which the client finds to be so
+abbrev pub IfUnsigned : (List ℕ → List ℕ) → State → (Outcome × State → Type 0) → Type 0
+IfUnsigned reply s Is = validation_of (auth_of s) (reply []) ≡ Refused false → Is (replied (reply []) s)
 
 -- ---- clients that await the response to request 7
 

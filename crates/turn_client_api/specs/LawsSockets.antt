@@ -28,11 +28,11 @@ offered s = relaying_tcp (permission ∷ offer_of ServerIndication ∷ []) s
 abbrev pub attempted : List ℕ
 attempted = message_with 0x00 0x1c (with_connection_id ++ with_peer)
 
-abbrev pub asked_to_connect : List ℕ
-asked_to_connect = message_with 0x00 0x0c (with_connection_id ++ with_peer)
+abbrev pub asked_to_connect : List ℕ → List ℕ
+asked_to_connect signature = message_with 0x00 0x0c (with_connection_id ++ with_peer ++ signature)
 
-abbrev pub asked_without_peer : List ℕ
-asked_without_peer = message_with 0x00 0x0c with_connection_id
+abbrev pub asked_without_peer : List ℕ → List ℕ
+asked_without_peer signature = message_with 0x00 0x0c (with_connection_id ++ signature)
 
 -- the control connection
 abbrev pub control : Socket5Tuple

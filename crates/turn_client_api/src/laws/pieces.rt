@@ -1,6 +1,6 @@
 //! Worked pieces of streams.
 
-ghost use Rattle.std.specs.Prelude.{false, ◌≡◌, ◌∷◌, ◌++◌, List, [], ℕ, Some, None};
+ghost use Rattle.std.specs.Prelude.{true, ◌≡◌, ◌∷◌, ◌++◌, List, [], ℕ, Some, None};
 ghost use Rattle.turn_auth.specs.declared.validation.Validation.TheVariants.{Validated, Refused};
 ghost use Rattle.turn_auth.specs.declared.integrity.IntegrityAlgorithm.TheVariants.{Sha1};
 ghost use Rattle.turn_client_api.specs.State.{State, seconds};
@@ -37,13 +37,13 @@ pub fn connections_are_bound()
     ensures bound { (s : State) → piece_at data_end (0xff ∷ 0x00 ∷ []) (with_bound s) ≡ (PeerData (from_peer (0xff ∷ 0x00 ∷ []) (Some 0)), with_bound s) }
     // A reply and data of the peer come in one piece: the reply is handled, and where it is a signed success the
     // connection is bound, and the data is polled.
-    ensures handled { (text : List ℕ) (s : State) → (piece_at data_end (bind_success ++ hello) (with_waiting text s)).0 ≡ Handled }
-    ensures behind { (text : List ℕ) (s : State) → IsJudged (Validated Sha1) bind_success (with_waiting text s) → (polled (piece_at data_end (bind_success ++ hello) (with_waiting text s)).1).0 ≡ Some (from_peer hello None) }
-    ensures told { (text : List ℕ) (s : State) → IsJudged (Validated Sha1) bind_success (with_waiting text s) → (piece_at data_end bind_success (with_waiting text s)).1.events ≡ TcpConnected peer ∷ [] }
-    // One that is not signed binds nothing: the connection is to be closed, and gives no data.
-    ensures unsigned { (text : List ℕ) (s : State) → IsJudged (Refused false) bind_success (with_waiting text s) → (piece_at data_end (bind_success ++ hello) (with_waiting text s)).1.closes ≡ data_end ∷ [] }
-    ensures failed { (text : List ℕ) (s : State) → IsJudged (Refused false) bind_success (with_waiting text s) → (piece_at data_end (bind_success ++ hello) (with_waiting text s)).1.events ≡ TcpConnectFailed peer ∷ [] }
-    ensures silent { (text : List ℕ) (s : State) → IsJudged (Refused false) bind_success (with_waiting text s) → (polled (piece_at data_end (bind_success ++ hello) (with_waiting text s)).1).0 ≡ None }
+    ensures handled { (byte : ℕ → ℕ) (text : List ℕ) (s : State) → (piece_at data_end (bind_success byte ++ hello) (with_waiting text s)).0 ≡ Handled }
+    ensures behind { (byte : ℕ → ℕ) (text : List ℕ) (s : State) → IsJudged (Validated Sha1) (bind_success byte) (with_waiting text s) → (polled (piece_at data_end (bind_success byte ++ hello) (with_waiting text s)).1).0 ≡ Some (from_peer hello None) }
+    ensures told { (byte : ℕ → ℕ) (text : List ℕ) (s : State) → IsJudged (Validated Sha1) (bind_success byte) (with_waiting text s) → (piece_at data_end (bind_success byte) (with_waiting text s)).1.events ≡ TcpConnected peer ∷ [] }
+    // One with a wrong signature binds nothing: the connection is to be closed, and gives no data.
+    ensures refused { (byte : ℕ → ℕ) (text : List ℕ) (s : State) → IsJudged (Refused true) (bind_success byte) (with_waiting text s) → (piece_at data_end (bind_success byte ++ hello) (with_waiting text s)).1.closes ≡ data_end ∷ [] }
+    ensures failed { (byte : ℕ → ℕ) (text : List ℕ) (s : State) → IsJudged (Refused true) (bind_success byte) (with_waiting text s) → (piece_at data_end (bind_success byte ++ hello) (with_waiting text s)).1.events ≡ TcpConnectFailed peer ∷ [] }
+    ensures silent { (byte : ℕ → ℕ) (text : List ℕ) (s : State) → IsJudged (Refused true) (bind_success byte) (with_waiting text s) → (polled (piece_at data_end (bind_success byte ++ hello) (with_waiting text s)).1).0 ≡ None }
 {}
 
 /// What comes of datagrams (RFC 8656, sections 11.6 and 12.6), each at a client with a permission for the

@@ -9,24 +9,24 @@ returns-clause-bound c = λ s. refl
 
 pub returns-clause-handled : goal.returns-clause-handled
 unfolding turns fault_of attributes_from seen_after
-returns-clause-handled c = λ text s. refl
+returns-clause-handled c = λ byte text s. refl
 
 pub returns-clause-behind : goal.returns-clause-behind
 unfolding turns fault_of attributes_from seen_after
-returns-clause-behind c = λ text s e. rw e refl
+returns-clause-behind c = λ byte text s e. rw e refl
 
 pub returns-clause-told : goal.returns-clause-told
 unfolding turns fault_of attributes_from seen_after
-returns-clause-told c = λ text s e. rw e refl
+returns-clause-told c = λ byte text s e. rw e refl
 
-pub returns-clause-unsigned : goal.returns-clause-unsigned
+pub returns-clause-refused : goal.returns-clause-refused
 unfolding turns fault_of attributes_from seen_after
-returns-clause-unsigned c = λ text s e. rw e refl
+returns-clause-refused c = λ byte text s e. rw e refl
 
 pub returns-clause-failed : goal.returns-clause-failed
 unfolding turns fault_of attributes_from seen_after
-returns-clause-failed c = λ text s e. rw e refl
+returns-clause-failed c = λ byte text s e. rw e refl
 
 pub returns-clause-silent : goal.returns-clause-silent
 unfolding turns fault_of attributes_from seen_after
-returns-clause-silent c = λ text s e. rw e refl
+returns-clause-silent c = λ byte text s e. rw e refl

@@ -5,12 +5,12 @@ use Rattle.turn_client_api.proofs.laws.replied.connects_are_answered.Goals as go
 
 pub returns-clause-offered : goal.returns-clause-offered
 unfolding fault_of attributes_from seen_after
-returns-clause-offered c = λ to text s e. rw e refl
+returns-clause-offered c = λ to text s byte e. rw e refl
 
 pub returns-clause-refused : goal.returns-clause-refused
 unfolding fault_of attributes_from seen_after
-returns-clause-refused c = λ to text s e. rw e refl
+returns-clause-refused c = λ to text s byte e. rw e refl
 
 pub returns-clause-told : goal.returns-clause-told
 unfolding fault_of attributes_from seen_after
-returns-clause-told c = λ to text s e. rw e refl
+returns-clause-told c = λ to text s byte e. rw e refl

@@ -5,20 +5,20 @@ use Rattle.turn_client_api.proofs.laws.replied.refreshes_are_answered.Goals as g
 
 pub returns-clause-longer : goal.returns-clause-longer
 unfolding fault_of attributes_from seen_after
-returns-clause-longer c = λ to text s e. rw e refl
+returns-clause-longer c = λ to text s byte e. rw e refl
 
 pub returns-clause-shorter : goal.returns-clause-shorter
 unfolding fault_of attributes_from seen_after
-returns-clause-shorter c = λ to text s e. (rw e refl, rw e refl)
+returns-clause-shorter c = λ to text s byte e. (rw e refl, rw e refl)
 
 pub returns-clause-deleted : goal.returns-clause-deleted
 unfolding fault_of attributes_from seen_after
-returns-clause-deleted c = λ to text s e. (rw e refl, rw e refl)
+returns-clause-deleted c = λ to text s byte e. (rw e refl, rw e refl)
 
 pub returns-clause-mismatch : goal.returns-clause-mismatch
 unfolding fault_of attributes_from seen_after
-returns-clause-mismatch c = λ to text s e. (rw e refl, rw e refl)
+returns-clause-mismatch c = λ to text s byte e. (rw e refl, rw e refl)
 
 pub returns-clause-kept : goal.returns-clause-kept
 unfolding fault_of attributes_from seen_after
-returns-clause-kept c = λ to text s e. (rw e refl, rw e refl)
+returns-clause-kept c = λ to text s byte e. (rw e refl, rw e refl)

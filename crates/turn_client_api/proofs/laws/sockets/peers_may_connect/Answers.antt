@@ -20,8 +20,8 @@ returns-clause-unpermitted c = λ s. refl
 
 pub returns-clause-asked : goal.returns-clause-asked
 unfolding attributes_from seen_after
-returns-clause-asked c = λ s e. rw e refl
+returns-clause-asked c = λ s byte e. rw e refl
 
 pub returns-clause-refused : goal.returns-clause-refused
 unfolding attributes_from seen_after
-returns-clause-refused c = λ s e. rw e refl
+returns-clause-refused c = λ s byte e. rw e refl
