@@ -14,6 +14,24 @@ use Rattle.turn_agent.specs.declared.transaction.Transaction.{Transaction}
 use Rattle.turn_client_api.specs.Config.{Config}
 use Rattle.turn_client_api.specs.declared.config.RequestRetransmits.{RequestRetransmits}
 use Rattle.turn_client_api.specs.declared.event.TurnEvent.{TurnEvent}
+pub use Rattle.turn_client_api.specs.declared.state.Phase.{Phase}
+pub use Rattle.turn_client_api.specs.declared.state.Phase.TheVariants.{New, Requesting, Authenticating, Allocated, Closed}
+pub use Rattle.turn_client_api.specs.declared.grant.Progress.{Progress}
+pub use Rattle.turn_client_api.specs.declared.grant.Progress.TheVariants.{Pending, Active, Reserved}
+pub use Rattle.turn_client_api.specs.declared.grant.Relay.{Relay}
+pub use Rattle.turn_client_api.specs.declared.grant.Origin.{Origin}
+pub use Rattle.turn_client_api.specs.declared.grant.Origin.TheVariants.{OwnConnect, ServerRequest, ServerIndication}
+pub use Rattle.turn_client_api.specs.declared.grant.DataOffer.{DataOffer}
+pub use Rattle.turn_client_api.specs.declared.grant.DataConnection.{DataConnection}
+pub use Rattle.turn_client_api.specs.declared.grant.Grant.{Grant}
+pub use Rattle.turn_client_api.specs.declared.grant.Grant.TheVariants.{Allocation, Permission, Channel, Connect, Offer, Connection}
+pub use Rattle.turn_client_api.specs.declared.grant.Purpose.{Purpose}
+pub use Rattle.turn_client_api.specs.declared.grant.Purpose.TheVariants.{ForAllocation, ForRefresh, ForPermission, ForChannel, ForConnect, ForBind}
+pub use Rattle.turn_client_api.specs.declared.grant.Listing.{Listing}
+pub use Rattle.turn_client_api.specs.declared.state.Queued.{Queued}
+pub use Rattle.turn_client_api.specs.declared.state.Mode.{Mode}
+pub use Rattle.turn_client_api.specs.declared.state.Mode.TheVariants.{Control, Waiting, Bound, Broken}
+pub use Rattle.turn_client_api.specs.declared.state.Stream.{Stream}
 
 -- ---- moments, in nanoseconds
 
@@ -26,116 +44,6 @@ greatest_moment = 2 ^ 63 - 1
 
 abbrev pub later_by : ℕ → ℕ → ℕ
 later_by duration moment = min (moment + duration) greatest_moment
-
--- ---- what the server granted, and what it is asked for
-
--- how far a client has come
-pub data Phase : Type 0 where
-  -- nothing was sent yet
-  New : Phase
-  -- the first ALLOCATE, which is not signed, awaits its response
-  Requesting : Phase
-  -- a signed ALLOCATE awaits its response
-  Authenticating : Phase
-  -- the server allocated an address, or one of each family
-  Allocated : Phase
-  -- the client has ended
-  Closed : Phase
-
--- how far a permission or a channel has come
-pub data Progress : Type 0 where
-  -- it is asked for
-  Pending : Progress
-  -- it was granted, and lapses at this moment
-  Active : ℕ → Progress
-  -- a channel that lapsed or was refused: neither its number nor its peer is bound again up to this
-  -- moment (RFC 8656, section 12)
-  Reserved : ℕ → Progress
-
--- an allocation: its relayed address, its first lifetime, when it ends, and whether a call found it
--- past its end or deleted it
-pub record Relay : Type 0 where
-  pub relayed : SocketAddr
-  pub first_lifetime : ℕ
-  pub expiry : ℕ
-  pub is_expired : Bool
-
--- why the client asks its caller for a data connection (RFC 6062, sections 4.3 and 4.4)
-pub data Origin : Type 0 where
-  -- the server made a connection that the client asked for
-  OwnConnect : Origin
-  -- the server asked in a request of this ID, which is to be answered
-  ServerRequest : ℕ → Origin
-  -- the server told of it in an indication
-  ServerIndication : Origin
-
--- a data connection that the caller is to open: the server's number of it, its peer, whether the
--- caller was told, and why
-pub record DataOffer : Type 0 where
-  pub connection_id : ℕ
-  pub peer : SocketAddr
-  pub is_told : Bool
-  pub origin : Origin
-
--- a data connection that the caller opened: its local end, its peer, and up to when the server may
--- bind it, or none where it is bound
-pub record DataConnection : Type 0 where
-  pub local : SocketAddr
-  pub peer : SocketAddr
-  pub deadline : Option ℕ
-
--- A grant, or what is asked for. A client has at most one allocation of a family, so a grant belongs
--- to the allocation of its address's family.
-pub data Grant : Type 0 where
-  Allocation : Relay → Grant
-  -- for an address, whatever the port (RFC 8656, section 9)
-  Permission : IpAddr → Progress → Grant
-  -- the number and the peer
-  Channel : ℕ → SocketAddr → Progress → Grant
-  -- a connection to this peer is asked for
-  Connect : SocketAddr → Grant
-  Offer : DataOffer → Grant
-  Connection : DataConnection → Grant
-
--- what a request is for
-pub data Purpose : Type 0 where
-  ForAllocation : Purpose
-  -- the allocation of this family for so many seconds more; 0 gives it back
-  ForRefresh : AddressFamily → ℕ → Purpose
-  ForPermission : IpAddr → Purpose
-  ForChannel : ℕ → SocketAddr → Purpose
-  ForConnect : SocketAddr → Purpose
-  -- the connection from this local end to this peer, by the server's number of it
-  ForBind : SocketAddr → SocketAddr → ℕ → Purpose
-
--- a transaction ID, and a purpose that its request was made for
-pub record Listing : Type 0 where
-  pub id : ℕ
-  pub purpose : Purpose
-
--- ---- what goes out and comes in
-
--- a packet that waits to be sent, and whether it is a request: those are sent apart in time
-pub record Queued : Type 0 where
-  pub packet : Transmit (List ℕ)
-  pub is_request : Bool
-
--- how the bytes of a stream are meant
-pub data Mode : Type 0 where
-  -- frames of the control connection
-  Control : Mode
-  -- frames of a data connection that waits to be bound
-  Waiting : Mode
-  -- what this peer sent
-  Bound : SocketAddr → Mode
-  -- nothing more comes of it
-  Broken : Mode
-
--- a stream that the server sends to a local end, and its bytes since the last whole frame
-pub record Stream : Type 0 where
-  pub local : SocketAddr
-  pub mode : Mode
-  pub bytes : List ℕ
 
 -- ---- the state
 

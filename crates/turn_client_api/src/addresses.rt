@@ -1,44 +1,28 @@
 //! The addresses that a server relays for a client, and the peers that it lets through.
 
-ghost use Rattle.std.specs.Prelude.{◌≡◌, map};
-ghost use Rattle.std.specs.List.{filter_map};
+ghost use Rattle.std.specs.Prelude.{◌≡◌};
 ghost use Rattle.std.specs.Iterator.{YieldsFirst, item_count};
-ghost use Rattle.turn_client_api.specs.Addresses.{relayed_address, relayed_left, permitted_address, permitted_left};
+ghost use Rattle.turn_client_api.specs.Addresses.{relayed_in_use, relayed_left, permitted_in_use, permitted_left};
 
+use crate::grant::{Grant, Progress};
 use std::net::{IpAddr, SocketAddr};
-use turn_types::TransportType;
-
-/// An address that the server allocated for the client.
-#[derive(Clone, Copy, Debug, PartialEq, Eq)]
-pub struct RelayedRecord {
-    /// What the server relays over between this address and the peers.
-    pub transport: TransportType,
-    /// The address from which peers see the client's data come.
-    pub address: SocketAddr,
-    /// The allocation was deleted, or its lifetime was found to be over: it is listed no more.
-    pub expired: bool,
-}
-
-/// A peer address that the server lets through to the client.
-#[derive(Clone, Copy, Debug, PartialEq, Eq)]
-pub struct PermissionRecord {
-    /// The address, which stands for every port of it (RFC 8656, section 9).
-    pub ip: IpAddr,
-}
+use turn_types::{AddressFamily, TransportType};
 
 /// The relayed addresses of a client with their transports, in the order in which the server granted
 /// them. Those of expired allocations are passed over. It takes no memory.
 #[derive(Debug, Drop)]
 pub struct RelayedAddressesIter<'a> {
-    records: &'a [RelayedRecord],
+    transport: TransportType,
+    grants: &'a [Grant],
 }
 
 impl<'a> RelayedAddressesIter<'a> {
-    /// The addresses of those records that are not expired.
-    pub fn new(records: &'a [RelayedRecord]) -> RelayedAddressesIter<'a>
-        ensures { relayed_left result ≡ filter_map relayed_address records.now }
+    /// The addresses of those allocations among these grants that are not expired. They relay over
+    /// this transport.
+    pub fn new(transport: TransportType, grants: &'a [Grant]) -> RelayedAddressesIter<'a>
+        ensures { relayed_left result ≡ relayed_in_use transport grants.now }
     {
-        RelayedAddressesIter { records }
+        RelayedAddressesIter { transport, grants }
     }
 }
 
@@ -50,10 +34,12 @@ impl<'a> Iterator for RelayedAddressesIter<'a> {
     ghost remaining = { item_count relayed_left };
 
     fn next(&mut self) -> Option<(TransportType, SocketAddr)> {
-        while let Some((record, others)) = self.records.split_first() {
-            self.records = others;
-            if !record.expired {
-                return Some((record.transport, record.address));
+        while let Some((grant, others)) = self.grants.split_first() {
+            self.grants = others;
+            if let Grant::Allocation(relay) = grant {
+                if !relay.is_expired {
+                    return Some((self.transport, relay.relayed));
+                }
             }
         }
         None
@@ -64,15 +50,17 @@ impl<'a> Iterator for RelayedAddressesIter<'a> {
 /// takes no memory.
 #[derive(Debug, Drop)]
 pub struct PermissionAddressesIter<'a> {
-    records: &'a [PermissionRecord],
+    family: AddressFamily,
+    grants: &'a [Grant],
 }
 
 impl<'a> PermissionAddressesIter<'a> {
-    /// The addresses of these records.
-    pub fn new(records: &'a [PermissionRecord]) -> PermissionAddressesIter<'a>
-        ensures { permitted_left result ≡ map permitted_address records.now }
+    /// The addresses of this family that have a permission among these grants. One that is only asked
+    /// for is passed over.
+    pub fn new(family: AddressFamily, grants: &'a [Grant]) -> PermissionAddressesIter<'a>
+        ensures { permitted_left result ≡ permitted_in_use family grants.now }
     {
-        PermissionAddressesIter { records }
+        PermissionAddressesIter { family, grants }
     }
 }
 
@@ -84,8 +72,18 @@ impl<'a> Iterator for PermissionAddressesIter<'a> {
     ghost remaining = { item_count permitted_left };
 
     fn next(&mut self) -> Option<IpAddr> {
-        let (record, others) = self.records.split_first()?;
-        self.records = others;
-        Some(record.ip)
+        while let Some((grant, others)) = self.grants.split_first() {
+            self.grants = others;
+            if let Grant::Permission(ip, Progress::Active(_)) = grant {
+                let family = match ip {
+                    IpAddr::V4(_) => AddressFamily::IPV4,
+                    IpAddr::V6(_) => AddressFamily::IPV6,
+                };
+                if family == self.family {
+                    return Some(*ip);
+                }
+            }
+        }
+        None
     }
 }

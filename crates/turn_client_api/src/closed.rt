@@ -20,6 +20,7 @@ use std::net::{IpAddr, SocketAddr};
 use turn_stun::data::Data;
 use turn_stun::instant::Instant;
 use turn_stun::transport::{Transmit, TransportType};
+use turn_types::AddressFamily;
 use turn_types::transmit::TransmitBuild;
 
 /// A client in the phase `Closed`, with nothing waiting, no grants and no streams.
@@ -47,7 +48,7 @@ impl TurnClientApi for ClosedClient {
     }
 
     fn relayed_addresses(&self) -> RelayedAddressesIter<'_> {
-        RelayedAddressesIter::new(&[])
+        RelayedAddressesIter::new(self.config.allocation_transport(), &[])
     }
 
     fn permissions(
@@ -55,7 +56,7 @@ impl TurnClientApi for ClosedClient {
         _transport: TransportType,
         _relayed: SocketAddr,
     ) -> PermissionAddressesIter<'_> {
-        PermissionAddressesIter::new(&[])
+        PermissionAddressesIter::new(AddressFamily::IPV4, &[])
     }
 
     fn delete(&mut self, _now: Instant) -> Result<(), DeleteError> {

@@ -12,14 +12,14 @@ mod closed;
 mod config;
 mod error;
 mod event;
+mod grant;
 pub mod laws;
 mod poll;
 mod receive;
 mod send;
+mod state;
 
-pub use addresses::{
-    PermissionAddressesIter, PermissionRecord, RelayedAddressesIter, RelayedRecord,
-};
+pub use addresses::{PermissionAddressesIter, RelayedAddressesIter};
 pub use client::TurnClientApi;
 pub use config::{RequestRetransmits, TurnConfig};
 pub use error::{
@@ -27,9 +27,11 @@ pub use error::{
     TcpConnectError,
 };
 pub use event::TurnEvent;
+pub use grant::{DataConnection, DataOffer, Grant, Listing, Origin, Progress, Purpose, Relay};
 pub use poll::{Socket5Tuple, TurnPollRet};
 pub use receive::{DataRange, DataRangeOrOwned, TurnPeerData, TurnRecvRet};
 pub use send::{DelayedMessageOrChannelSend, DelayedTransmit};
+pub use state::{Mode, Phase, Queued, Stream};
 pub use turn_stun::data::Data;
 pub use turn_stun::transport::Transmit;
 pub use turn_types::transmit::TransmitBuild;

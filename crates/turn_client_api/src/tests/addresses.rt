@@ -1,60 +1,75 @@
 //! The iterators over addresses.
 
-ghost use Rattle.std.specs.Prelude.{◌≡◌, map, IfOk};
-ghost use Rattle.std.specs.List.{filter_map};
-ghost use Rattle.turn_client_api.specs.Addresses.{relayed_address, permitted_address};
+ghost use Rattle.std.specs.Prelude.{◌≡◌, IfOk};
+ghost use Rattle.turn_client_api.specs.Addresses.{relayed_in_use, permitted_in_use};
 
 use crate::tests::{peer, relayed, relayed_ipv6};
-use crate::{PermissionAddressesIter, PermissionRecord, RelayedAddressesIter, RelayedRecord};
+use crate::{Grant, PermissionAddressesIter, Progress, Relay, RelayedAddressesIter};
 use std::alloc::{AllocError, Global};
 use std::net::{IpAddr, SocketAddr};
 use std::test::Fail;
-use turn_types::TransportType;
+use turn_stun::instant::Instant;
+use turn_types::{AddressFamily, TransportType};
 
 /// What a caller that knows only of iterators has of the relayed addresses.
 fn all_relayed(
     alloc: Global,
-    records: &[RelayedRecord],
+    transport: TransportType,
+    grants: &[Grant],
 ) -> Result<Vec<(TransportType, SocketAddr)>, AllocError>
-    ensures { IfOk result (λ all. all.items ≡ filter_map relayed_address records.now) }
+    ensures { IfOk result (λ all. all.items ≡ relayed_in_use transport grants.now) }
 {
-    RelayedAddressesIter::new(records).collect(alloc)
+    RelayedAddressesIter::new(transport, grants).collect(alloc)
 }
 
 /// The same of the addresses that have a permission.
-fn all_permitted(alloc: Global, records: &[PermissionRecord]) -> Result<Vec<IpAddr>, AllocError>
-    ensures { IfOk result (λ all. all.items ≡ map permitted_address records.now) }
+fn all_permitted(
+    alloc: Global,
+    family: AddressFamily,
+    grants: &[Grant],
+) -> Result<Vec<IpAddr>, AllocError>
+    ensures { IfOk result (λ all. all.items ≡ permitted_in_use family grants.now) }
 {
-    PermissionAddressesIter::new(records).collect(alloc)
+    PermissionAddressesIter::new(family, grants).collect(alloc)
+}
+
+/// An allocation of ten minutes with this relayed address.
+fn allocation(relayed: SocketAddr, is_expired: bool) -> Grant {
+    Grant::Allocation(Relay {
+        relayed,
+        first_lifetime: 600_000_000_000,
+        expiry: Instant::from_nanos(600_000_000_000),
+        is_expired,
+    })
+}
+
+/// A permission for this address that the server granted.
+fn permission(addr: SocketAddr) -> Grant {
+    Grant::Permission(
+        addr.ip(),
+        Progress::Active(Instant::from_nanos(300_000_000_000)),
+    )
 }
 
 #[test]
 fn expired_allocations_are_passed_over(rt: HostRuntime) -> Result<(), Fail> {
-    let standing = [relayed(), relayed_ipv6()].map(|address| RelayedRecord {
-        transport: TransportType::Udp,
-        address,
-        expired: false,
-    });
-    let expired = RelayedRecord {
-        transport: TransportType::Tcp,
-        address: peer(),
-        expired: true,
-    };
+    let [first, second] = [relayed(), relayed_ipv6()].map(|address| allocation(address, false));
+    let expired = allocation(peer(), true);
+    let asked = Grant::Permission(peer().ip(), Progress::Pending);
     let both = [
         (TransportType::Udp, relayed()),
         (TransportType::Udp, relayed_ipv6()),
     ];
-    let [first, second] = standing;
-    for records in [
+    for grants in [
         [first, second, expired, expired],
-        [expired, first, expired, second],
+        [expired, first, asked, second],
         [expired, expired, first, second],
-        [first, expired, expired, second],
+        [first, permission(peer()), expired, second],
     ] {
-        let all = all_relayed(rt.alloc(), &records)?;
+        let all = all_relayed(rt.alloc(), TransportType::Udp, &grants)?;
         assert_eq!(rt; all.as_slice(), both.as_slice());
     }
-    let mut none = RelayedAddressesIter::new(&[]);
+    let mut none = RelayedAddressesIter::new(TransportType::Tcp, &[]);
     assert_eq!(rt; none.next(), None);
     assert_eq!(rt; none.next(), None);
     Ok(())
@@ -62,14 +77,28 @@ fn expired_allocations_are_passed_over(rt: HostRuntime) -> Result<(), Fail> {
 
 #[test]
 fn permissions_are_listed_in_order(rt: HostRuntime) -> Result<(), Fail> {
-    let records = [peer(), relayed_ipv6(), relayed()].map(|addr| PermissionRecord {
-        ip: addr.ip(),
-    });
-    let all = all_permitted(rt.alloc(), &records)?;
-    let want = [peer().ip(), relayed_ipv6().ip(), relayed().ip()];
-    assert_eq!(rt; all.as_slice(), want.as_slice());
-    let mut none = PermissionAddressesIter::new(&[]);
+    let grants = [
+        permission(peer()),
+        permission(relayed_ipv6()),
+        allocation(peer(), false),
+        Grant::Channel(0x4000, peer(), Progress::Pending),
+        permission(relayed()),
+    ];
+    let ipv4 = all_permitted(rt.alloc(), AddressFamily::IPV4, &grants)?;
+    assert_eq!(rt; ipv4.as_slice(), &[peer().ip(), relayed().ip()]);
+    let ipv6 = all_permitted(rt.alloc(), AddressFamily::IPV6, &grants)?;
+    assert_eq!(rt; ipv6.as_slice(), &[relayed_ipv6().ip()]);
+    let mut none = PermissionAddressesIter::new(AddressFamily::IPV4, &[]);
     assert_eq!(rt; none.next(), None);
     assert_eq!(rt; none.next(), None);
+    Ok(())
+}
+
+#[test]
+fn pending_permissions_are_passed_over(rt: HostRuntime) -> Result<(), Fail> {
+    let asked = Grant::Permission(peer().ip(), Progress::Pending);
+    let grants = [asked, permission(relayed())];
+    let all = all_permitted(rt.alloc(), AddressFamily::IPV4, &grants)?;
+    assert_eq!(rt; all.as_slice(), &[relayed().ip()]);
     Ok(())
 }
