@@ -85,9 +85,9 @@ fn permissions_are_listed_in_order(rt: HostRuntime) -> Result<(), Fail> {
         permission(relayed()),
     ];
     let ipv4 = all_permitted(rt.alloc(), AddressFamily::IPV4, &grants)?;
-    assert_eq!(rt; ipv4.as_slice(), &[peer().ip(), relayed().ip()]);
+    assert_eq!(rt; ipv4.as_slice(), [peer().ip(), relayed().ip()].as_slice());
     let ipv6 = all_permitted(rt.alloc(), AddressFamily::IPV6, &grants)?;
-    assert_eq!(rt; ipv6.as_slice(), &[relayed_ipv6().ip()]);
+    assert_eq!(rt; ipv6.as_slice(), [relayed_ipv6().ip()].as_slice());
     let mut none = PermissionAddressesIter::new(AddressFamily::IPV4, &[]);
     assert_eq!(rt; none.next(), None);
     assert_eq!(rt; none.next(), None);
@@ -99,6 +99,6 @@ fn pending_permissions_are_passed_over(rt: HostRuntime) -> Result<(), Fail> {
     let asked = Grant::Permission(peer().ip(), Progress::Pending);
     let grants = [asked, permission(relayed())];
     let all = all_permitted(rt.alloc(), AddressFamily::IPV4, &grants)?;
-    assert_eq!(rt; all.as_slice(), &[relayed().ip()]);
+    assert_eq!(rt; all.as_slice(), [relayed().ip()].as_slice());
     Ok(())
 }
