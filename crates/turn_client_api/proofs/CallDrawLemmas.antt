@@ -12,7 +12,7 @@ use Rattle.turn_types.specs.declared.family.AddressFamily.{AddressFamily}
 use Rattle.turn_agent.specs.Agent.{due, given_up, is_outstanding, same_address}
 use Rattle.turn_agent.specs.declared.transaction.Transaction.{Transaction}
 use Rattle.turn_client_api.specs.State.{State, Phase, New, Requesting, Authenticating, Allocated, Closed, agent_of}
-use Rattle.turn_client_api.specs.State.{Grant, Allocation, Permission, Channel, Connect, Offer, Connection, DataConnection, Relay, Pending, Active, Reserved, Origin, OwnConnect, ServerRequest, ServerIndication}
+use Rattle.turn_client_api.specs.State.{Grant, Allocation, Permission, Channel, Connect, Offer, Connection, DataConnection, Relay, Purpose, Pending, Active, Reserved, Origin, OwnConnect, ServerRequest, ServerIndication}
 use Rattle.turn_client_api.specs.Grants.{allocation_for, allocations, connection_in, family_of, is_of, is_past, is_pending_channel, is_pending_permission, is_permitted, permission_for, same_transport}
 use Rattle.turn_client_api.specs.Requests.{fresh_id}
 use Rattle.turn_client_api.specs.Effect.{closed, ended}
@@ -21,7 +21,7 @@ use Rattle.turn_client_api.specs.Calls.{active_channel, allocated_tcp_socket_ste
 use Rattle.turn_client_api.specs.declared.poll.Socket5Tuple.{Socket5Tuple}
 use Rattle.turn_client_api.specs.declared.error.BindChannelError.TheVariants as Bind
 use Rattle.turn_client_api.specs.Due.{has_event, has_reply, is_paused}
-use Rattle.turn_client_api.specs.Poll.{answer_step, channel_lapsed, goes, in_vain, is_lapsed_channel, is_listed_for_allocation, lapsed, lapsed_allocation, lapsed_in, next_offer, offer_step, poll_step, timed_step}
+use Rattle.turn_client_api.specs.Poll.{answer_step, channel_lapsed, given_up_purposes, goes, in_vain, is_lapsed_channel, is_listed_for_allocation, lapsed, lapsed_allocation, lapsed_in, next_offer, offer_step, poll_step, timed_step}
 use Rattle.turn_client_api.specs.Poll as P
 use Rattle.turn_client_api.specs.Receive.{connection_gone, tcp_closed_step}
 use Rattle.turn_client_api.specs.Transmit.{idle_step, queue_step, refreshes_in, transmit_step}
@@ -47,16 +47,19 @@ channel_lapsed-asks (Some (Connect peer)) s = refl
 channel_lapsed-asks (Some (Offer offer)) s = refl
 channel_lapsed-asks (Some (Connection c)) s = refl
 
-lapsed_in-asks : (family : AddressFamily) (given : Option ℕ) (now : ℕ) (s : State) → AsksNothing s (lapsed_in family given now s)
-lapsed_in-asks family given now s =
-    let vain = in_vain family given is_pending_permission (in_vain family given is_pending_channel s) in
+lapsed_in-asks : (family : AddressFamily) (given : Option ℕ) (purposes : List Purpose) (now : ℕ) (s : State) → AsksNothing s (lapsed_in family given purposes now s)
+lapsed_in-asks family given purposes now s =
+    let vain = in_vain family purposes is_pending_permission (in_vain family purposes is_pending_channel s) in
     channel_lapsed-asks (find (λ g. is_of family g && is_lapsed_channel now g) (reverse vain.grants)) vain
 
 lapsed-asks : (given : Option ℕ) (now : ℕ) (s : State) → AsksNothing s (lapsed given now s)
-lapsed-asks given now s = asks-fold (lapsed_allocation given now) by (allocations s) s
+lapsed-asks given now s = asks-fold (lapsed_allocation given purposes now) by (allocations s) s
   where
-    by : (t : State) (a : Relay) → AsksNothing t (lapsed_allocation given now t a)
-    by t a = asks-cond (goes given now t a) t _ _ refl (lapsed_in-asks (family_of a.relayed) given now t)
+    purposes : List Purpose
+    purposes = given_up_purposes given s
+
+    by : (t : State) (a : Relay) → AsksNothing t (lapsed_allocation given purposes now t a)
+    by t a = asks-cond (goes purposes now t a) t _ _ refl (lapsed_in-asks (family_of a.relayed) given purposes now t)
 
 answer_by : (closes : List SocketAddr) (p : Phase) (given : Option ℕ) (now : ℕ) (s : State) → AsksNothing s (answer_step given now (record s { closes = closes; phase = p })).1
 answer_by (local ∷ others) p given now s = refl

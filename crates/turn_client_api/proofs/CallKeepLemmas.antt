@@ -12,7 +12,7 @@ use Rattle.turn_types.specs.declared.family.AddressFamily.{AddressFamily}
 use Rattle.turn_agent.specs.Agent.{due, given_up}
 use Rattle.turn_agent.specs.declared.transaction.Transaction.{Transaction}
 use Rattle.turn_client_api.specs.State.{State, Phase, New, Requesting, Authenticating, Allocated, Closed, agent_of}
-use Rattle.turn_client_api.specs.State.{Grant, Allocation, Permission, Channel, Connect, Offer, Connection, DataConnection, Relay, Pending, Active, Reserved, Origin, OwnConnect, ServerRequest, ServerIndication}
+use Rattle.turn_client_api.specs.State.{Grant, Allocation, Permission, Channel, Connect, Offer, Connection, DataConnection, Relay, Purpose, Pending, Active, Reserved, Origin, OwnConnect, ServerRequest, ServerIndication}
 use Rattle.turn_client_api.specs.Grants.{allocation_for, allocations, connection_in, family_of, is_of, is_past, is_pending_channel, is_pending_permission, is_permitted, permission_for, same_transport}
 use Rattle.turn_client_api.specs.Effect.{closed, ended}
 use Rattle.turn_client_api.specs.Connections.{connection_at, is_connected, is_connecting}
@@ -23,7 +23,7 @@ use Rattle.turn_client_api.specs.declared.event.TurnEvent.{TurnEvent}
 use Rattle.turn_client_api.specs.declared.error.BindChannelError.{BindChannelError}
 use Rattle.turn_client_api.specs.declared.error.BindChannelError.TheVariants as Bind
 use Rattle.turn_client_api.specs.Due.{has_event, has_reply, is_paused}
-use Rattle.turn_client_api.specs.Poll.{answer_step, channel_lapsed, given_up_step, goes, in_vain, is_lapsed_channel, is_listed_for_allocation, lapsed, lapsed_allocation, lapsed_in, next_offer, offer_step, poll_step, timed_step}
+use Rattle.turn_client_api.specs.Poll.{answer_step, channel_lapsed, given_up_step, given_up_purposes, goes, in_vain, is_lapsed_channel, is_listed_for_allocation, lapsed, lapsed_allocation, lapsed_in, next_offer, offer_step, poll_step, timed_step}
 use Rattle.turn_client_api.specs.Transmit.{idle_step, queue_step, refresh_step, refreshes_in, transmit_step}
 use Rattle.turn_client_api.specs.Transmit as T
 use Rattle.turn_client_api.specs.Steps.{Call, Leaves, state_after, Delete, CreatePermission, BindChannel, TcpConnect, AllocatedTcpSocket, TcpClosed, SendTo, Recv, PollRecv, Poll, PollTransmit, PollEvent, ProtocolError}
@@ -153,16 +153,19 @@ channel_lapsed-keeps (Some (Connect peer)) s = keeps-same s
 channel_lapsed-keeps (Some (Offer offer)) s = keeps-same s
 channel_lapsed-keeps (Some (Connection c)) s = keeps-same s
 
-lapsed_in-keeps : (family : AddressFamily) (given : Option ℕ) (now : ℕ) (s : State) → Keeps s (lapsed_in family given now s)
-lapsed_in-keeps family given now s =
-    let asked = in_vain family given is_pending_permission (in_vain family given is_pending_channel s) in
+lapsed_in-keeps : (family : AddressFamily) (given : Option ℕ) (purposes : List Purpose) (now : ℕ) (s : State) → Keeps s (lapsed_in family given purposes now s)
+lapsed_in-keeps family given purposes now s =
+    let asked = in_vain family purposes is_pending_permission (in_vain family purposes is_pending_channel s) in
     channel_lapsed-keeps (find (λ g. is_of family g && is_lapsed_channel now g) (reverse asked.grants)) asked
 
 lapsed-keeps : (given : Option ℕ) (now : ℕ) (s : State) → Keeps s (lapsed given now s)
-lapsed-keeps given now s = keeps-fold (lapsed_allocation given now) by (allocations s) s
+lapsed-keeps given now s = keeps-fold (lapsed_allocation given purposes now) by (allocations s) s
   where
-    by : (t : State) (a : Relay) → Keeps t (lapsed_allocation given now t a)
-    by t a = keeps-cond (goes given now t a) t _ _ (keeps-same t) (lapsed_in-keeps (family_of a.relayed) given now t)
+    purposes : List Purpose
+    purposes = given_up_purposes given s
+
+    by : (t : State) (a : Relay) → Keeps t (lapsed_allocation given purposes now t a)
+    by t a = keeps-cond (goes purposes now t a) t _ _ (keeps-same t) (lapsed_in-keeps (family_of a.relayed) given purposes now t)
 
 answer_by : (closes : List SocketAddr) (p : Phase) (given : Option ℕ) (now : ℕ) (s : State) → Keeps (record s { closes = closes; phase = p }) (answer_step given now (record s { closes = closes; phase = p })).1
 answer_by (local ∷ others) p given now s = keeps-same (record s { phase = p })

@@ -14,10 +14,10 @@ use Rattle.turn_agent.specs.Agent.{is_outstanding, resent}
 use Rattle.turn_agent.specs.Agent as A
 use Rattle.turn_agent.specs.declared.transaction.Transaction.{Transaction}
 use Rattle.turn_client_api.specs.State.{State, DataConnection, Progress, Pending, Active, Reserved, Purpose, ForAllocation, ForRefresh, ForPermission, ForChannel, ForConnect, ForBind, Phase, New, Requesting, Authenticating, Allocated, Closed}
-use Rattle.turn_client_api.specs.Grants.{allocation_for, channel_progress, first_in, permission_for, purposes_of}
+use Rattle.turn_client_api.specs.Grants.{allocation_for, channel_at, first_in, permission_for, purposes_of}
 use Rattle.turn_client_api.specs.Requests.{connection_attempt_method, connection_bind_method, fresh_id}
 use Rattle.turn_client_api.specs.Judgement.{Judgement, Nothing, Challenged, Wrong, Late, PeerSent, Attempt, Asked, Granted, Denied, bind_judgement, connection_id_in, is_bind_of, judgement_of, lifetime_in, method_in, peer_in}
-use Rattle.turn_client_api.specs.Effect.{allocate_denied, allocate_granted, allocation_mismatch, channel_answered, connect_answered, effect, ended, family_not_supported, has_code, least_lifetime, permission_answered, permissions_answered, prolonged, refreshed}
+use Rattle.turn_client_api.specs.Effect.{allocate_denied, allocate_granted, allocation_mismatch, channel_answered, connect_answered, effect, ended, family_not_supported, has_code, least_lifetime, permission_answered, permission_answered_for, permissions_answered, prolonged, refreshed}
 use Rattle.turn_client_api.specs.Retry.{most_challenges, retried, state_after_retry}
 use Rattle.turn_client_api.specs.Connections.{attempt_indicated, attempt_requested, bind_again, bind_answered, bind_step, connection_at, is_connected, is_heeded}
 use Rattle.turn_client_api.specs.Payloads.{Outcome, Handled, Ignored, answered_purposes, challenge_step, message_step, reply_step, signed_step, wrong_step}
@@ -80,33 +80,27 @@ permission-asks ip is_granted now s = by (permission_for ip s) refl is_granted
     by (Some (Active expiry)) e false = rw e refl
     by (Some (Reserved until)) e g = rw e refl
 
-permission_by : Bool → ℕ → State → Purpose → State
-permission_by is_granted now t (ForPermission ip) = permission_answered ip is_granted now t
-permission_by is_granted now t _ = t
-
-permission_by-asks : (is_granted : Bool) (now : ℕ) (t : State) (p : Purpose) → AsksNothing t (permission_by is_granted now t p)
-unfolding permission_by
-permission_by-asks is_granted now t (ForPermission ip) = permission-asks ip is_granted now t
-permission_by-asks is_granted now t ForAllocation = refl
-permission_by-asks is_granted now t (ForRefresh family lifetime) = refl
-permission_by-asks is_granted now t (ForChannel number peer) = refl
-permission_by-asks is_granted now t (ForConnect peer) = refl
-permission_by-asks is_granted now t (ForBind local peer id) = refl
+permission_for-asks : (is_granted : Bool) (now : ℕ) (t : State) (p : Purpose) → AsksNothing t (permission_answered_for is_granted now t p)
+permission_for-asks is_granted now t (ForPermission ip) = permission-asks ip is_granted now t
+permission_for-asks is_granted now t ForAllocation = refl
+permission_for-asks is_granted now t (ForRefresh family lifetime) = refl
+permission_for-asks is_granted now t (ForChannel number peer) = refl
+permission_for-asks is_granted now t (ForConnect peer) = refl
+permission_for-asks is_granted now t (ForBind local peer id) = refl
 
 permissions-asks : (id : ℕ) (is_granted : Bool) (now : ℕ) (s : State) → AsksNothing s (permissions_answered id is_granted now s)
-unfolding permission_by
-permissions-asks id is_granted now s = asks-fold (permission_by is_granted now) (permission_by-asks is_granted now) (purposes_of id s) s
+permissions-asks id is_granted now s = asks-fold (permission_answered_for is_granted now) (permission_for-asks is_granted now) (purposes_of id s) s
 
-channel-asks : (number : ℕ) (peer : SocketAddr) (id : ℕ) (is_granted : Bool) (now : ℕ) (s : State) → AsksNothing s (channel_answered number peer id is_granted now s)
-channel-asks number peer id is_granted now s = by (first_in (channel_progress number) s) refl is_granted
+channel-asks : (number id : ℕ) (is_granted : Bool) (now : ℕ) (s : State) → AsksNothing s (channel_answered number id is_granted now s)
+channel-asks number id is_granted now s = by (first_in (channel_at number) s) refl is_granted
   where
-    by : (o : Option Progress) → first_in (channel_progress number) s ≡ o → (g : Bool) → AsksNothing s (channel_answered number peer id g now s)
+    by : (o : Option (SocketAddr × Progress)) → first_in (channel_at number) s ≡ o → (g : Bool) → AsksNothing s (channel_answered number id g now s)
     by None e g = rw e refl
-    by (Some Pending) e true = rw e (permissions-asks id true now s)
-    by (Some Pending) e false = rw e refl
-    by (Some (Active expiry)) e true = rw e refl
-    by (Some (Active expiry)) e false = rw e refl
-    by (Some (Reserved until)) e g = rw e refl
+    by (Some (peer, Pending)) e true = rw e (permissions-asks id true now s)
+    by (Some (peer, Pending)) e false = rw e refl
+    by (Some (peer, Active expiry)) e true = rw e refl
+    by (Some (peer, Active expiry)) e false = rw e refl
+    by (Some (peer, Reserved until)) e g = rw e refl
 
 connect-asks : (peer : SocketAddr) (o : Option ℕ) (s : State) → AsksNothing s (connect_answered peer o s)
 connect-asks peer (Some id) s = refl
@@ -125,7 +119,7 @@ refreshed-asks family lifetime is_granted message now s =
 effect-asks : (id : ℕ) (is_granted : Bool) (message : List ℕ) (now : ℕ) (s : State) (p : Purpose) → AsksNothing s (effect id is_granted message now s p)
 effect-asks id is_granted message now s (ForRefresh family lifetime) = refreshed-asks family lifetime is_granted message now s
 effect-asks id is_granted message now s (ForPermission ip) = permission-asks ip is_granted now s
-effect-asks id is_granted message now s (ForChannel number peer) = channel-asks number peer id is_granted now s
+effect-asks id is_granted message now s (ForChannel number peer) = channel-asks number id is_granted now s
 effect-asks id is_granted message now s (ForConnect peer) = connect-asks peer (cond is_granted (connection_id_in message) None) s
 effect-asks id is_granted message now s ForAllocation = refl
 effect-asks id is_granted message now s (ForBind local peer other) = refl

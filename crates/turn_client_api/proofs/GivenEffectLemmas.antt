@@ -9,9 +9,9 @@ use Rattle.std.specs.declared.net.socket_addr.SocketAddr.{SocketAddr}
 use Rattle.std.proofs.lemmas.Bool.{eqb-true, leb-true}
 use Rattle.turn_types.specs.declared.family.AddressFamily.{AddressFamily}
 use Rattle.turn_client_api.specs.State.{State, Grant, Allocation, Permission, Channel, Connect, Offer, Connection, DataOffer, Relay, Progress, Pending, Active, Reserved, Purpose, ForAllocation, ForRefresh, ForPermission, ForChannel, ForConnect, ForBind, OwnConnect, later_by, seconds}
-use Rattle.turn_client_api.specs.Grants.{channel_progress, first_in, is_channel_of, is_connect_to, is_of_family, is_permission_of, permission_for, purposes_of, same_ip, wait, unlisted, with_grant, without, failures_of}
+use Rattle.turn_client_api.specs.Grants.{channel_at, first_in, is_channel_of, is_connect_to, is_of_family, is_permission_of, permission_for, purposes_of, same_ip, unlisted, with_grant, without}
 use Rattle.turn_client_api.specs.Judgement.{connection_id_in, lifetime_in}
-use Rattle.turn_client_api.specs.Effect.{all_gone, allocation_mismatch, channel_answered, channel_lifetime, connect_answered, effect, has_code, heeded, least_lifetime, permission_answered, permission_lifetime, permission_refused_too, permissions_answered, prolonged, refreshed, reserved_time}
+use Rattle.turn_client_api.specs.Effect.{all_gone, allocation_mismatch, channel_answered, channel_lifetime, connect_answered, effect, has_code, heeded, lasting, least_lifetime, permission_answered, permission_answered_for, permission_lifetime, permission_refused_too, permissions_answered, prolonged, refreshed, reserved_time}
 use Rattle.turn_client_api.specs.LawsGranted.{IsStanding, IsKeptAs}
 use Rattle.turn_client_api.proofs.HasLemmas.{Has}
 use Rattle.turn_client_api.proofs.StandLemmas.{kept-same, left-filter}
@@ -25,11 +25,6 @@ same_ip-same (V6 a) = nat_list_eq_equiv.refl (ipv6_segments a)
 abbrev pub changed_allocation : (Relay → Bool) → (Relay → Relay) → Grant → Grant
 changed_allocation which change (Allocation a) = cond (which a) (Allocation (change a)) (Allocation a)
 changed_allocation which change grant = grant
-
-abbrev lasting : ℕ → Grant → Grant
-lasting expiry (Permission ip progress) = Permission ip (Active expiry)
-lasting expiry (Channel number peer progress) = Channel number peer (Active expiry)
-lasting expiry grant = grant
 
 abbrev lasting_if : (Grant → Bool) → ℕ → Grant → Grant
 lasting_if which expiry grant = cond (which grant) (lasting expiry grant) grant
@@ -73,13 +68,20 @@ module _ (purposes : List Purpose) (message : List ℕ) (now : ℕ) where
   lasting-takes : (which : Grant → Bool) (f : Grant → Grant) (s : State) → ((g : Grant) → Is g (f g)) → Taken s (record (unlisted which s) { grants = map f s.grants })
   lasting-takes which f s keeps = (within-filter _ s.listed, gives-map purposes message now f keeps s.grants)
 
+  -- what is asked for or reserved is not renewed
+  untouched : (b : Bool) (g : Grant) → Is g (cond b g g)
+  untouched true g stands = inl (kept-same g stands)
+  untouched false g stands = inl (kept-same g stands)
+
   -- a permission of this IP address is given anew
   permission_lasts : (ip : IpAddr) → Has (ForPermission ip) purposes → (g : Grant) → Is g (lasting_if (is_permission_of ip) (later_by permission_lifetime now) g)
-  permission_lasts ip one (Permission other progress) = by (same_ip other ip) refl
+  permission_lasts ip one (Permission other (Active was)) = by (same_ip other ip) refl
     where
-      by : (b : Bool) → same_ip other ip ≡ b → Is (Permission other progress) (cond b (Permission other (Active (later_by permission_lifetime now))) (Permission other progress))
+      by : (b : Bool) → same_ip other ip ≡ b → Is (Permission other (Active was)) (cond b (Permission other (Active (later_by permission_lifetime now))) (Permission other (Active was)))
       by true e stands = inr (record { purpose = ForPermission ip; one = one; given = (e, refl) })
-      by false e stands = inl (kept-same (Permission other progress) stands)
+      by false e stands = inl (kept-same (Permission other (Active was)) stands)
+  permission_lasts ip one (Permission other Pending) = untouched (same_ip other ip) (Permission other Pending)
+  permission_lasts ip one (Permission other (Reserved until)) = untouched (same_ip other ip) (Permission other (Reserved until))
   permission_lasts ip one (Allocation a) = λ stands. inl (kept-same (Allocation a) stands)
   permission_lasts ip one (Channel number peer progress) = λ stands. inl (kept-same (Channel number peer progress) stands)
   permission_lasts ip one (Connect peer) = λ stands. absurd stands
@@ -88,11 +90,13 @@ module _ (purposes : List Purpose) (message : List ℕ) (now : ℕ) where
 
   -- a channel of this number is given anew
   channel_lasts : (number : ℕ) (peer : SocketAddr) → Has (ForChannel number peer) purposes → (g : Grant) → Is g (lasting_if (is_channel_of number) (later_by channel_lifetime now) g)
-  channel_lasts number peer one (Channel other to progress) = by (eqb other number) refl
+  channel_lasts number peer one (Channel other to (Active was)) = by (eqb other number) refl
     where
-      by : (b : Bool) → eqb other number ≡ b → Is (Channel other to progress) (cond b (Channel other to (Active (later_by channel_lifetime now))) (Channel other to progress))
+      by : (b : Bool) → eqb other number ≡ b → Is (Channel other to (Active was)) (cond b (Channel other to (Active (later_by channel_lifetime now))) (Channel other to (Active was)))
       by true e stands = inr (record { purpose = ForChannel number peer; one = one; given = (eqb-true other number e, refl) })
-      by false e stands = inl (kept-same (Channel other to progress) stands)
+      by false e stands = inl (kept-same (Channel other to (Active was)) stands)
+  channel_lasts number peer one (Channel other to Pending) = untouched (eqb other number) (Channel other to Pending)
+  channel_lasts number peer one (Channel other to (Reserved until)) = untouched (eqb other number) (Channel other to (Reserved until))
   channel_lasts number peer one (Allocation a) = λ stands. inl (kept-same (Allocation a) stands)
   channel_lasts number peer one (Permission ip progress) = λ stands. inl (kept-same (Permission ip progress) stands)
   channel_lasts number peer one (Connect to) = λ stands. absurd stands
@@ -113,44 +117,37 @@ module _ (purposes : List Purpose) (message : List ℕ) (now : ℕ) where
       by (Some (Active expiry)) e false one = rw e (without-takes (is_permission_of ip) s)
       by (Some (Reserved until)) e g one = rw e (same s)
 
-  abbrev permission_by : Bool → State → Purpose → State
-  permission_by is_granted t (ForPermission ip) = permission_answered ip is_granted now t
-  permission_by is_granted t _ = t
-
-  permission_by-takes : (is_granted : Bool) (t : State) (p : Purpose) → Names is_granted p → Taken t (permission_by is_granted t p)
-  permission_by-takes is_granted t (ForPermission ip) one = permission-takes ip is_granted t one
-  permission_by-takes is_granted t ForAllocation one = same t
-  permission_by-takes is_granted t (ForRefresh family lifetime) one = same t
-  permission_by-takes is_granted t (ForChannel number peer) one = same t
-  permission_by-takes is_granted t (ForConnect peer) one = same t
-  permission_by-takes is_granted t (ForBind local peer id) one = same t
+  permission_for-takes : (is_granted : Bool) (t : State) (p : Purpose) → Names is_granted p → Taken t (permission_answered_for is_granted now t p)
+  permission_for-takes is_granted t (ForPermission ip) one = permission-takes ip is_granted t one
+  permission_for-takes is_granted t ForAllocation one = same t
+  permission_for-takes is_granted t (ForRefresh family lifetime) one = same t
+  permission_for-takes is_granted t (ForChannel number peer) one = same t
+  permission_for-takes is_granted t (ForConnect peer) one = same t
+  permission_for-takes is_granted t (ForBind local peer id) one = same t
 
   permissions-takes : (id : ℕ) (is_granted : Bool) (s : State) → NamesAll is_granted id s → Taken s (permissions_answered id is_granted now s)
   permissions-takes id is_granted s all =
-      takes-fold purposes message now (permission_by is_granted) s (purposes_of id s)
-      (λ t p within there. permission_by-takes is_granted t p (λ granted. all granted p there))
+      takes-fold purposes message now (permission_answered_for is_granted now) s (purposes_of id s)
+      (λ t p within there. permission_for-takes is_granted t p (λ granted. all granted p there))
       (purposes_of id s) (λ p there. there) s (λ l there. there)
 
-  channel-takes : (number : ℕ) (peer : SocketAddr) (id : ℕ) (is_granted : Bool) (s : State) → Names is_granted (ForChannel number peer) → NamesAll is_granted id s → Taken s (channel_answered number peer id is_granted now s)
-  channel-takes number peer id is_granted s = by (first_in (channel_progress number) s) refl is_granted
+  channel-takes : (number : ℕ) (asked : SocketAddr) (id : ℕ) (is_granted : Bool) (s : State) → Names is_granted (ForChannel number asked) → NamesAll is_granted id s → Taken s (channel_answered number id is_granted now s)
+  channel-takes number asked id is_granted s = by (first_in (channel_at number) s) refl is_granted
     where
-      reserved_for : ℕ → Grant
-      reserved_for expiry = Channel number peer (Reserved (later_by reserved_time expiry))
-
-      by : (o : Option Progress) → first_in (channel_progress number) s ≡ o → (g : Bool) → Names g (ForChannel number peer) → NamesAll g id s → Taken s (channel_answered number peer id g now s)
+      by : (o : Option (SocketAddr × Progress)) → first_in (channel_at number) s ≡ o → (g : Bool) → Names g (ForChannel number asked) → NamesAll g id s → Taken s (channel_answered number id g now s)
       by None e g one all = rw e (same s)
-      by (Some Pending) e true one all =
+      by (Some (peer, Pending)) e true one all =
           let t = permissions_answered id true now s in
           let new = Channel number peer (Active (later_by channel_lifetime now)) in
           rw e (trans s t (with_grant new (without (is_channel_of number) t)) (permissions-takes id true s all)
-          (replaced-takes (is_channel_of number) new t (λ stands. record { purpose = ForChannel number peer; one = one refl; given = (refl, refl) })))
-      by (Some Pending) e false one all =
-          let t = wait (failures_of (is_channel_of number) s) (without (is_channel_of number) s) in
-          rw e (trans s t (permission_refused_too id t) (without-takes (is_channel_of number) s) (without-takes _ t))
-      by (Some (Active expiry)) e true one all =
-          rw e (lasting-takes (is_channel_of number) (lasting_if (is_channel_of number) (later_by channel_lifetime now)) s (channel_lasts number peer (one refl)))
-      by (Some (Active expiry)) e false one all = rw e (replaced-takes (is_channel_of number) (reserved_for expiry) s (λ stands. absurd stands))
-      by (Some (Reserved until)) e g one all = rw e (same s)
+          (replaced-takes (is_channel_of number) new t (λ stands. record { purpose = ForChannel number asked; one = one refl; given = (refl, refl) })))
+      by (Some (peer, Pending)) e false one all =
+          let t = without (is_channel_of number) s in
+          rw e (trans s t (permission_refused_too (purposes_of id s) t) (without-takes (is_channel_of number) s) (without-takes _ t))
+      by (Some (peer, Active expiry)) e true one all =
+          rw e (lasting-takes (is_channel_of number) (lasting_if (is_channel_of number) (later_by channel_lifetime now)) s (channel_lasts number asked (one refl)))
+      by (Some (peer, Active expiry)) e false one all = rw e (replaced-takes (is_channel_of number) (Channel number peer (Reserved (later_by reserved_time expiry))) s (λ stands. absurd stands))
+      by (Some (peer, Reserved until)) e g one all = rw e (same s)
 
   connect-takes : (peer : SocketAddr) (o : Option ℕ) (s : State) → Taken s (connect_answered peer o s)
   connect-takes peer (Some id) s =

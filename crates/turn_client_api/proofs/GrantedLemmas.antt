@@ -7,7 +7,7 @@ use Rattle.turn_agent.specs.Agent.{due, given_up}
 use Rattle.turn_agent.specs.declared.transaction.Transaction.{Transaction}
 use Rattle.turn_client_api.specs.State.{State, Phase, New, Requesting, Authenticating, Allocated, Closed, agent_of}
 use Rattle.std.specs.declared.net.socket_addr.SocketAddr.{SocketAddr}
-use Rattle.turn_client_api.specs.State.{Grant, Allocation, Permission, Channel, Connect, Offer, Connection, Relay, Pending, Active, Reserved, Stream, later_by}
+use Rattle.turn_client_api.specs.State.{Grant, Allocation, Permission, Channel, Connect, Offer, Connection, Relay, Purpose, Pending, Active, Reserved, Stream, later_by}
 use Rattle.turn_client_api.specs.Grants.{allocations, family_of, is_channel_of, is_connect, is_of, is_pending_channel, is_pending_permission, without}
 use Rattle.turn_client_api.specs.Effect.{closed, ended, reserved_time}
 use Rattle.turn_client_api.specs.declared.error.DeleteError.{DeleteError}
@@ -16,7 +16,7 @@ use Rattle.turn_client_api.specs.Connections.{bind_step}
 use Rattle.turn_client_api.specs.Receive.{connection_gone}
 use Rattle.turn_client_api.specs.Due.{has_event, has_reply, is_paused}
 use Rattle.turn_client_api.specs.Calls.{deleted, is_allocated, is_granted_in}
-use Rattle.turn_client_api.specs.Poll.{answer_step, channel_lapsed, connections_unbound, given_up_step, goes, in_vain, is_lapsed_channel, is_listed_for_allocation, lapsed, lapsed_allocation, lapsed_in, last_channel_lapsed, next_offer, offer_step, offers_in_vain, permissions_lapsed, poll_step, refreshes_in_vain, set_free, timed_step, told, told_first, untold_in}
+use Rattle.turn_client_api.specs.Poll.{answer_step, channel_lapsed, connections_unbound, given_up_step, given_up_purposes, goes, in_vain, is_lapsed_channel, is_listed_for_allocation, lapsed, lapsed_allocation, lapsed_in, last_channel_lapsed, next_offer, offer_step, offers_in_vain, permissions_lapsed, poll_step, refreshes_in_vain, set_free, timed_step, told, told_first, untold_in}
 use Rattle.turn_client_api.specs.Transmit.{idle_step, queue_step, refreshes_in, transmit_step}
 use Rattle.turn_client_api.specs.Transmit as T
 use Rattle.turn_client_api.specs.LawsTurns.{IsBroughtBy}
@@ -49,16 +49,16 @@ channel_lapsed-leaves (Some (Connect peer)) s = leaves-same s
 channel_lapsed-leaves (Some (Offer offer)) s = leaves-same s
 channel_lapsed-leaves (Some (Connection c)) s = leaves-same s
 
-lapsed_in-leaves : (family : AddressFamily) (given : Option ℕ) (now : ℕ) (s : State) → Leaves s (lapsed_in family given now s)
-lapsed_in-leaves family given now s =
-    let a = in_vain family given is_pending_channel s in
-    let b = in_vain family given is_pending_permission a in
+lapsed_in-leaves : (family : AddressFamily) (given : Option ℕ) (purposes : List Purpose) (now : ℕ) (s : State) → Leaves s (lapsed_in family given purposes now s)
+lapsed_in-leaves family given purposes now s =
+    let a = in_vain family purposes is_pending_channel s in
+    let b = in_vain family purposes is_pending_permission a in
     let c = last_channel_lapsed family now b in
     let d = permissions_lapsed family now c in
-    let e = in_vain family given is_connect d in
-    let f = connections_unbound family given now e in
+    let e = in_vain family purposes is_connect d in
+    let f = connections_unbound family purposes now e in
     let g = offers_in_vain family given f in
-    let h = refreshes_in_vain family given g in
+    let h = refreshes_in_vain family purposes g in
     leaves-trans s a (set_free family now h) (left-filter _ s.grants)
     (leaves-trans a b (set_free family now h) (left-filter _ a.grants)
     (leaves-trans b c (set_free family now h) (channel_lapsed-leaves (find (λ g. is_of family g && is_lapsed_channel now g) (reverse b.grants)) b)
@@ -69,10 +69,13 @@ lapsed_in-leaves family given now s =
     (left-filter _ h.grants)))))))
 
 lapsed-leaves : (given : Option ℕ) (now : ℕ) (s : State) → Leaves s (lapsed given now s)
-lapsed-leaves given now s = leaves-fold (lapsed_allocation given now) by (allocations s) s
+lapsed-leaves given now s = leaves-fold (lapsed_allocation given purposes now) by (allocations s) s
   where
-    by : (t : State) (a : Relay) → Leaves t (lapsed_allocation given now t a)
-    by t a = leaves-cond (goes given now t a) t _ _ (left-filter _ t.grants) (lapsed_in-leaves (family_of a.relayed) given now t)
+    purposes : List Purpose
+    purposes = given_up_purposes given s
+
+    by : (t : State) (a : Relay) → Leaves t (lapsed_allocation given purposes now t a)
+    by t a = leaves-cond (goes purposes now t a) t _ _ (left-filter _ t.grants) (lapsed_in-leaves (family_of a.relayed) given purposes now t)
 
 answer_by : (closes : List SocketAddr) (p : Phase) (given : Option ℕ) (now : ℕ) (s : State) → Leaves (record s { closes = closes; phase = p }) (answer_step given now (record s { closes = closes; phase = p })).1
 answer_by (local ∷ others) p given now s = leaves-same s
@@ -116,7 +119,7 @@ told-kept (Connection c) = kept-same (Connection c)
 
 told-left : (family : AddressFamily) (grants : List Grant) → Left grants (told_first family grants)
 told-left family [] = left-same []
-told-left family (g ∷ others) = by (is_of family g && is_some (untold_in g)) (told-left family others)
+told-left family (g ∷ others) = by (is_some (untold_in family g)) (told-left family others)
   where
     by : (b : Bool) → Left others (told_first family others) → Left (g ∷ others) (cond b (told g ∷ others) (g ∷ told_first family others))
     by true later = left-cons g (told g) others others (told-kept g) (left-same others)

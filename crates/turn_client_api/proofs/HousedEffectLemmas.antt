@@ -8,9 +8,9 @@ use Rattle.std.specs.declared.net.ip_addr.IpAddr.{IpAddr}
 use Rattle.std.specs.declared.net.socket_addr.SocketAddr.{SocketAddr}
 use Rattle.turn_types.specs.declared.family.AddressFamily.{AddressFamily}
 use Rattle.turn_client_api.specs.State.{State, Grant, Allocation, Permission, Channel, Connect, Offer, Connection, Relay, Progress, Pending, Active, Reserved, OwnConnect, Purpose, ForAllocation, ForRefresh, ForPermission, ForChannel, ForConnect, ForBind, later_by, seconds}
-use Rattle.turn_client_api.specs.Grants.{allocation_in, channel_progress, family_of, family_of_grant, family_of_ip, first_in, is_channel_of, is_connect_to, is_of, is_of_family, is_permission_of, failures_of, wait, permission_for, permission_progress, purposes_of, same_ip, unlisted, with_allocations, with_grant, without}
+use Rattle.turn_client_api.specs.Grants.{allocation_in, channel_at, family_of, family_of_grant, family_of_ip, first_in, is_channel_of, is_connect_to, is_of, is_of_family, is_permission_of, permission_for, permission_progress, purposes_of, same_ip, unlisted, with_allocations, with_grant, without}
 use Rattle.turn_client_api.specs.Judgement.{connection_id_in, lifetime_in}
-use Rattle.turn_client_api.specs.Effect.{all_gone, allocation_mismatch, channel_answered, channel_lifetime, connect_answered, effect, has_code, least_lifetime, permission_answered, permission_lifetime, permission_refused_too, permissions_answered, prolonged, refreshed, renewed, reserved_time}
+use Rattle.turn_client_api.specs.Effect.{all_gone, allocation_mismatch, channel_answered, channel_lifetime, connect_answered, effect, has_code, least_lifetime, permission_answered, permission_answered_for, permission_lifetime, permission_refused_too, permissions_answered, prolonged, refreshed, renewed, reserved_time}
 use Rattle.turn_client_api.specs.Payloads.{is_answered}
 use Rattle.turn_client_api.specs.Requests.{channel_bind_method, connect_method, refresh_method}
 use Rattle.turn_client_api.specs.Retry.{is_refresh}
@@ -103,8 +103,12 @@ renewed-shapes which expiry s (g ∷ gs) = by g (which g) refl (renewed-shapes w
     by : (x : Grant) (b : Bool) → which x ≡ b → Same gs → Same (x ∷ gs)
     by x false e later = rw e (ap (λ (l : List Grant). shape x ∷ l) later)
     by (Allocation a) true e later = rw e (ap (λ (l : List Grant). shape (Allocation a) ∷ l) later)
-    by (Permission ip progress) true e later = rw e (ap (λ (l : List Grant). Permission ip Pending ∷ l) later)
-    by (Channel number peer progress) true e later = rw e (ap (λ (l : List Grant). Channel number peer Pending ∷ l) later)
+    by (Permission ip Pending) true e later = rw e (ap (λ (l : List Grant). Permission ip Pending ∷ l) later)
+    by (Permission ip (Active was)) true e later = rw e (ap (λ (l : List Grant). Permission ip Pending ∷ l) later)
+    by (Permission ip (Reserved until)) true e later = rw e (ap (λ (l : List Grant). Permission ip Pending ∷ l) later)
+    by (Channel number peer Pending) true e later = rw e (ap (λ (l : List Grant). Channel number peer Pending ∷ l) later)
+    by (Channel number peer (Active was)) true e later = rw e (ap (λ (l : List Grant). Channel number peer Pending ∷ l) later)
+    by (Channel number peer (Reserved until)) true e later = rw e (ap (λ (l : List Grant). Channel number peer Pending ∷ l) later)
     by (Connect peer) true e later = rw e (ap (λ (l : List Grant). Connect peer ∷ l) later)
     by (Offer offer) true e later = rw e (ap (λ (l : List Grant). shape (Offer offer) ∷ l) later)
     by (Connection c) true e later = rw e (ap (λ (l : List Grant). shape (Connection c) ∷ l) later)
@@ -166,48 +170,57 @@ carries-fold : {X : Type 0} (f : State → X → State) → ((t : State) (x : X)
 carries-fold f step [] s = carries-same s
 carries-fold f step (x ∷ xs) s = carries-trans s (f s x) (fold f (f s x) xs) (step s x) (carries-fold f step xs (f s x))
 
-permission_by : Bool → ℕ → State → Purpose → State
-permission_by is_granted now t (ForPermission ip) = permission_answered ip is_granted now t
-permission_by is_granted now t _ = t
-
-permission_by-carries : (is_granted : Bool) (now : ℕ) (t : State) (p : Purpose) → Carries t (permission_by is_granted now t p)
-unfolding permission_by
-permission_by-carries is_granted now t (ForPermission ip) = permission-carries ip is_granted now t
-permission_by-carries is_granted now t ForAllocation = carries-same t
-permission_by-carries is_granted now t (ForRefresh family lifetime) = carries-same t
-permission_by-carries is_granted now t (ForChannel number peer) = carries-same t
-permission_by-carries is_granted now t (ForConnect peer) = carries-same t
-permission_by-carries is_granted now t (ForBind local peer id) = carries-same t
+permission_for-carries : (is_granted : Bool) (now : ℕ) (t : State) (p : Purpose) → Carries t (permission_answered_for is_granted now t p)
+permission_for-carries is_granted now t (ForPermission ip) = permission-carries ip is_granted now t
+permission_for-carries is_granted now t ForAllocation = carries-same t
+permission_for-carries is_granted now t (ForRefresh family lifetime) = carries-same t
+permission_for-carries is_granted now t (ForChannel number peer) = carries-same t
+permission_for-carries is_granted now t (ForConnect peer) = carries-same t
+permission_for-carries is_granted now t (ForBind local peer id) = carries-same t
 
 permissions-carry : (id : ℕ) (is_granted : Bool) (now : ℕ) (s : State) → Carries s (permissions_answered id is_granted now s)
-unfolding permission_by
-permissions-carry id is_granted now s = carries-fold (permission_by is_granted now) (permission_by-carries is_granted now) (purposes_of id s) s
+permissions-carry id is_granted now s = carries-fold (permission_answered_for is_granted now) (permission_for-carries is_granted now) (purposes_of id s) s
 
 -- ---- channels and connections
 
-refused_too-carries : (id : ℕ) (s : State) → Carries s (permission_refused_too id s)
-refused_too-carries id s = without-carries _ (λ a. refl) s
+refused_too-carries : (purposes : List Purpose) (s : State) → Carries s (permission_refused_too purposes s)
+refused_too-carries purposes s = without-carries _ (λ a. refl) s
 
-channel-carries : (number : ℕ) (peer : SocketAddr) (id : ℕ) (is_granted : Bool) (now : ℕ) (s : State) → Room s.grants (family_of peer) → Carries s (channel_answered number peer id is_granted now s)
-channel-carries number peer id is_granted now s room = by (first_in (channel_progress number) s) refl is_granted
+-- a channel that is there stands in an allocation
+channel-room : (number : ℕ) (peer : SocketAddr) (p : Progress) (s : State) → first_in (channel_at number) s ≡ Some (peer, p) → Housed s.grants s.listed → Room s.grants (family_of peer)
+channel-room number peer p s e h =
+    let (g, there, reads) = has-filter_map (channel_at number) (peer, p) s.grants (first-has (peer, p) (filter_map (channel_at number) s.grants) e) in
+    of g reads (h.stands g there)
   where
-    replaced : (p : Progress) (t : State) → Room t.grants (family_of peer) → Carries t (with_grant (Channel number peer p) (without (is_channel_of number) t))
-    replaced p t there = replaced-carries (is_channel_of number) (λ a. refl) (Channel number peer p) t there
+    of : (g : Grant) → channel_at number g ≡ Some (peer, p) → Room s.grants (family_of_grant g) → Room s.grants (family_of peer)
+    of (Channel other to progress) reads room =
+        let same = (cond_some (eqb other number) (to, progress) (peer, p) reads).1 in
+        subst (λ (x : SocketAddr × Progress). Room s.grants (family_of x.0)) same room
+    of (Allocation a) reads room = absurd (none-some (peer, p) reads)
+    of (Permission ip progress) reads room = absurd (none-some (peer, p) reads)
+    of (Connect to) reads room = absurd (none-some (peer, p) reads)
+    of (Offer offer) reads room = absurd (none-some (peer, p) reads)
+    of (Connection c) reads room = absurd (none-some (peer, p) reads)
 
-    granted : Carries s (with_grant (Channel number peer (Active (later_by channel_lifetime now))) (without (is_channel_of number) (permissions_answered id true now s)))
-    granted =
-        let t = permissions_answered id true now s in
-        let p = Active (later_by channel_lifetime now) in
-        let first = permissions-carry id true now s in
-        carries-trans s t (with_grant (Channel number peer p) (without (is_channel_of number) t)) first (replaced p t (first.1 (family_of peer) room))
+-- one of its number takes the place of a channel once these are answered
+replaced-channel : (number : ℕ) (peer : SocketAddr) (was p : Progress) (s t : State) → first_in (channel_at number) s ≡ Some (peer, was) → Carries s t → Carries s (with_grant (Channel number peer p) (without (is_channel_of number) t))
+replaced-channel number peer was p s t e first =
+    let less = without (is_channel_of number) t in
+    let gone = without-carries (is_channel_of number) (λ a. refl) t in (
+      λ h. with_grant-houses (Channel number peer p) less (gone.1 (family_of peer) (first.1 (family_of peer) (channel-room number peer was s e h))) (gone.0 (first.0 h)),
+      λ f room. with_grant-rooms (Channel number peer p) less f (gone.1 f (first.1 f room)),
+    )
 
+channel-carries : (number id : ℕ) (is_granted : Bool) (now : ℕ) (s : State) → Carries s (channel_answered number id is_granted now s)
+channel-carries number id is_granted now s = by (first_in (channel_at number) s) refl is_granted
+  where
     gone : Carries s (without (is_channel_of number) s)
     gone = without-carries (is_channel_of number) (λ a. refl) s
 
-    refused : Carries s (permission_refused_too id (wait (failures_of (is_channel_of number) s) (without (is_channel_of number) s)))
+    refused : Carries s (permission_refused_too (purposes_of id s) (without (is_channel_of number) s))
     refused =
-        let t = wait (failures_of (is_channel_of number) s) (without (is_channel_of number) s) in
-        carries-trans s t (permission_refused_too id t) gone (refused_too-carries id t)
+        let t = without (is_channel_of number) s in
+        carries-trans s t (permission_refused_too (purposes_of id s) t) gone (refused_too-carries (purposes_of id s) t)
 
     longer : Carries s (renewed (is_channel_of number) (later_by channel_lifetime now) (unlisted (is_channel_of number) s))
     longer =
@@ -215,13 +228,15 @@ channel-carries number peer id is_granted now s room = by (first_in (channel_pro
         carries-trans s t (renewed (is_channel_of number) (later_by channel_lifetime now) t) (unlisted-carries (is_channel_of number) s)
         (renewed-carries (is_channel_of number) (later_by channel_lifetime now) t)
 
-    by : (o : Option Progress) → first_in (channel_progress number) s ≡ o → (g : Bool) → Carries s (channel_answered number peer id g now s)
+    by : (o : Option (SocketAddr × Progress)) → first_in (channel_at number) s ≡ o → (g : Bool) → Carries s (channel_answered number id g now s)
     by None e g = rw e (carries-same s)
-    by (Some Pending) e true = rw e granted
-    by (Some Pending) e false = rw e refused
-    by (Some (Active expiry)) e true = rw e longer
-    by (Some (Active expiry)) e false = rw e (replaced (Reserved (later_by reserved_time expiry)) s room)
-    by (Some (Reserved until)) e g = rw e (carries-same s)
+    by (Some (peer, Pending)) e true =
+        rw e (replaced-channel number peer Pending (Active (later_by channel_lifetime now)) s (permissions_answered id true now s) e (permissions-carry id true now s))
+    by (Some (peer, Pending)) e false = rw e refused
+    by (Some (peer, Active expiry)) e true = rw e longer
+    by (Some (peer, Active expiry)) e false =
+        rw e (replaced-channel number peer (Active expiry) (Reserved (later_by reserved_time expiry)) s s e (carries-same s))
+    by (Some (peer, Reserved until)) e g = rw e (carries-same s)
 
 connect-carries : (peer : SocketAddr) (o : Option ℕ) (s : State) → Room s.grants (family_of peer) → Carries s (connect_answered peer o s)
 connect-carries peer (Some id) s room =
@@ -261,7 +276,7 @@ HasRoom gs p = (family : AddressFamily) → asked_family p ≡ Some family → R
 effect-carries : (id : ℕ) (is_granted : Bool) (message : List ℕ) (now : ℕ) (s : State) (p : Purpose) → HasRoom s.grants p → (is_refresh p ≡ true) ⊎ Carries s (effect id is_granted message now s p)
 effect-carries id is_granted message now s (ForRefresh family lifetime) room = inl refl
 effect-carries id is_granted message now s (ForPermission ip) room = inr (permission-carries ip is_granted now s)
-effect-carries id is_granted message now s (ForChannel number peer) room = inr (channel-carries number peer id is_granted now s (room (family_of peer) refl))
+effect-carries id is_granted message now s (ForChannel number peer) room = inr (channel-carries number id is_granted now s)
 effect-carries id is_granted message now s (ForConnect peer) room = inr (connect-carries peer (cond is_granted (connection_id_in message) None) s (room (family_of peer) refl))
 effect-carries id is_granted message now s ForAllocation room = inr (carries-same s)
 effect-carries id is_granted message now s (ForBind local peer other) room = inr (carries-same s)
@@ -269,7 +284,7 @@ effect-carries id is_granted message now s (ForBind local peer other) room = inr
 effect-houses : (id : ℕ) (is_granted : Bool) (message : List ℕ) (now : ℕ) (s : State) (p : Purpose) → HasRoom s.grants p → Houses s (effect id is_granted message now s p)
 effect-houses id is_granted message now s (ForRefresh family lifetime) room = refreshed-houses family lifetime is_granted message now s
 effect-houses id is_granted message now s (ForPermission ip) room = (permission-carries ip is_granted now s).0
-effect-houses id is_granted message now s (ForChannel number peer) room = (channel-carries number peer id is_granted now s (room (family_of peer) refl)).0
+effect-houses id is_granted message now s (ForChannel number peer) room = (channel-carries number id is_granted now s).0
 effect-houses id is_granted message now s (ForConnect peer) room = (connect-carries peer (cond is_granted (connection_id_in message) None) s (room (family_of peer) refl)).0
 effect-houses id is_granted message now s ForAllocation room = λ h. h
 effect-houses id is_granted message now s (ForBind local peer other) room = λ h. h

@@ -12,10 +12,10 @@ use Rattle.turn_client_api.specs.Config.{Config, same_family}
 use Rattle.turn_client_api.specs.Alarm.{StandsIn, AllStandIn}
 use Rattle.turn_client_api.specs.State.{State, Phase, New, Requesting, Authenticating, Allocated, Closed, agent_of, initial, later_by}
 use Rattle.turn_client_api.specs.State.{Grant, Allocation, Permission, Channel, Connect, Offer, Connection, DataOffer, Relay, Pending, Active, Reserved, Purpose, ForAllocation, ForRefresh, ForPermission, ForChannel, Listing}
-use Rattle.turn_client_api.specs.Grants.{allocations, family_of, family_of_grant, is_channel_of, is_connect, is_for, is_of, is_pending_channel, is_pending_permission, without}
+use Rattle.turn_client_api.specs.Grants.{allocations, family_of, family_of_grant, is_channel_of, is_connect, is_for, is_for_any, is_of, is_pending_channel, is_pending_permission, without}
 use Rattle.turn_client_api.specs.Effect.{closed, ended, reserved_time}
 use Rattle.turn_client_api.specs.Due.{has_event, has_reply, is_paused}
-use Rattle.turn_client_api.specs.Poll.{answer_step, channel_lapsed, connections_unbound, given_up_step, goes, in_vain, is_given_offer, is_given_up_for, is_lapsed_channel, is_lapsed_permission, is_listed_for_allocation, is_over, is_unbound, last_channel_lapsed, lapsed, lapsed_allocation, lapsed_in, next_offer, offer_step, offers_in_vain, permissions_lapsed, poll_step, refreshes_in_vain, timed_step, told, told_first, untold_in}
+use Rattle.turn_client_api.specs.Poll.{answer_step, channel_lapsed, connections_unbound, given_up_step, given_up_purposes, goes, in_vain, is_given_offer, is_lapsed_channel, is_lapsed_permission, is_listed_for_allocation, is_over, is_unbound, last_channel_lapsed, lapsed, lapsed_allocation, lapsed_in, next_offer, offer_step, offers_in_vain, permissions_lapsed, poll_step, refreshes_in_vain, timed_step, told, told_first, untold_in}
 use Rattle.turn_client_api.specs.Requests.{asked_lifetime, fresh_id}
 use Rattle.turn_client_api.specs.Transmit.{idle_step, is_ranked, is_refresh_due, queue_step, refresh_purpose, refreshes_in, transmit_step}
 use Rattle.turn_client_api.specs.Transmit as T
@@ -35,9 +35,9 @@ use Rattle.turn_client_api.proofs.HousedCallLemmas.{Houses-IsKept, bind_channel-
 kind-houses : (family : AddressFamily) (which : Grant → Bool) → SparesAll which → (s : State) → Houses s (without (λ g. is_of family g && which g) s)
 kind-houses family which spares s = (without-carries _ (λ a. and_right (is_of family (Allocation a)) (which (Allocation a)) (spares a)) s).0
 
-vain-houses : (family : AddressFamily) (given : Option ℕ) (which : Grant → Bool) → SparesAll which → (s : State) → Houses s (in_vain family given which s)
-vain-houses family given which spares s =
-    (without-carries (λ g. is_of family g && which g && is_given_up_for given s g)
+vain-houses : (family : AddressFamily) (purposes : List Purpose) (which : Grant → Bool) → SparesAll which → (s : State) → Houses s (in_vain family purposes which s)
+vain-houses family purposes which spares s =
+    (without-carries (λ g. is_of family g && which g && is_for_any purposes g)
     (λ a. and_left (is_of family (Allocation a) && which (Allocation a)) _ (and_right (is_of family (Allocation a)) (which (Allocation a)) (spares a))) s).0
 
 channel_lapsed-houses : (o : Option Grant) (s : State) → ((g : Grant) → o ≡ Some g → Has g s.grants) → Houses s (channel_lapsed o s)
@@ -61,34 +61,37 @@ no_offer : (given : Option ℕ) → SparesAll (is_given_offer given)
 no_offer None a = refl
 no_offer (Some id) a = refl
 
-lapsed_in-houses : (family : AddressFamily) (given : Option ℕ) (now : ℕ) (s : State) → Houses s (lapsed_in family given now s)
-lapsed_in-houses family given now s h =
-    let s1 = in_vain family given is_pending_channel s in
-    let s2 = in_vain family given is_pending_permission s1 in
+lapsed_in-houses : (family : AddressFamily) (given : Option ℕ) (purposes : List Purpose) (now : ℕ) (s : State) → Houses s (lapsed_in family given purposes now s)
+lapsed_in-houses family given purposes now s h =
+    let s1 = in_vain family purposes is_pending_channel s in
+    let s2 = in_vain family purposes is_pending_permission s1 in
     let s3 = last_channel_lapsed family now s2 in
     let s4 = permissions_lapsed family now s3 in
-    let s5 = in_vain family given is_connect s4 in
-    let s6 = connections_unbound family given now s5 in
+    let s5 = in_vain family purposes is_connect s4 in
+    let s6 = connections_unbound family purposes now s5 in
     let s7 = offers_in_vain family given s6 in
-    let s8 = refreshes_in_vain family given s7 in
+    let s8 = refreshes_in_vain family purposes s7 in
     kind-houses family (is_over now) (λ a. refl) s8
     ((unlisted-carries _ s7).0
     (kind-houses family (is_given_offer given) (no_offer given) s6
-    (kind-houses family (is_unbound given now s5) (λ a. refl) s5
-    (vain-houses family given is_connect (λ a. refl) s4
+    (kind-houses family (is_unbound purposes now) (λ a. refl) s5
+    (vain-houses family purposes is_connect (λ a. refl) s4
     (kind-houses family (is_lapsed_permission now) (λ a. refl) s3
     (last_channel-houses family now s2
-    (vain-houses family given is_pending_permission (λ a. refl) s1
-    (vain-houses family given is_pending_channel (λ a. refl) s h))))))))
+    (vain-houses family purposes is_pending_permission (λ a. refl) s1
+    (vain-houses family purposes is_pending_channel (λ a. refl) s h))))))))
 
 family-spares : (family : AddressFamily) → Spares (is_of family)
 family-spares family a g goes same = subst (λ (f : AddressFamily). same_family f family ≡ true) same goes
 
 lapsed-houses : (given : Option ℕ) (now : ℕ) (s : State) → Houses s (lapsed given now s)
-lapsed-houses given now s = houses-fold (lapsed_allocation given now) by (allocations s) s
+lapsed-houses given now s = houses-fold (lapsed_allocation given purposes now) by (allocations s) s
   where
-    by : (t : State) (a : Relay) → Houses t (lapsed_allocation given now t a)
-    by t a = houses-cond (goes given now t a) t _ _ (without-houses (is_of (family_of a.relayed)) (family-spares (family_of a.relayed)) t) (lapsed_in-houses (family_of a.relayed) given now t)
+    purposes : List Purpose
+    purposes = given_up_purposes given s
+
+    by : (t : State) (a : Relay) → Houses t (lapsed_allocation given purposes now t a)
+    by t a = houses-cond (goes purposes now t a) t _ _ (without-houses (is_of (family_of a.relayed)) (family-spares (family_of a.relayed)) t) (lapsed_in-houses (family_of a.relayed) given purposes now t)
 
 -- ---- poll
 
@@ -102,9 +105,9 @@ told-shape (Connection c) = refl
 
 told-shapes : (family : AddressFamily) (gs : List Grant) → map shape gs ≡ map shape (told_first family gs)
 told-shapes family [] = refl
-told-shapes family (g ∷ gs) = by (is_of family g && is_some (untold_in g)) refl (told-shapes family gs)
+told-shapes family (g ∷ gs) = by (is_some (untold_in family g)) refl (told-shapes family gs)
   where
-    by : (b : Bool) → (is_of family g && is_some (untold_in g)) ≡ b → map shape gs ≡ map shape (told_first family gs) → map shape (g ∷ gs) ≡ map shape (told_first family (g ∷ gs))
+    by : (b : Bool) → (is_some (untold_in family g)) ≡ b → map shape gs ≡ map shape (told_first family gs) → map shape (g ∷ gs) ≡ map shape (told_first family (g ∷ gs))
     by true e later = rw e (ap (λ (x : Grant). x ∷ map shape gs) (told-shape g))
     by false e later = rw e (ap (λ (l : List Grant). shape g ∷ l) later)
 

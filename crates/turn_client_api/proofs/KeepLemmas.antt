@@ -6,9 +6,9 @@ use Rattle.std.specs.declared.net.socket_addr.SocketAddr.{SocketAddr}
 use Rattle.turn_types.specs.declared.family.AddressFamily.{AddressFamily}
 use Rattle.turn_auth.specs.LongTerm.{Challenge}
 use Rattle.turn_client_api.specs.State.{State, Progress, Pending, Active, Reserved, Purpose, ForAllocation, ForRefresh, ForPermission, ForChannel, ForConnect, ForBind, Phase, New, Requesting, Authenticating, Allocated, Closed}
-use Rattle.turn_client_api.specs.Grants.{channel_progress, first_in, permission_for, purposes_of}
+use Rattle.turn_client_api.specs.Grants.{channel_at, first_in, permission_for, purposes_of}
 use Rattle.turn_client_api.specs.Judgement.{connection_id_in, lifetime_in}
-use Rattle.turn_client_api.specs.Effect.{allocation_mismatch, channel_answered, closed, connect_answered, effect, has_code, heeded, least_lifetime, permission_answered, permissions_answered, prolonged, refreshed}
+use Rattle.turn_client_api.specs.Effect.{allocation_mismatch, channel_answered, closed, connect_answered, effect, has_code, heeded, least_lifetime, permission_answered, permission_answered_for, permissions_answered, prolonged, refreshed}
 use Rattle.turn_client_api.specs.LawsSteps.{StaysClosed, StaysPatient, KeepsRealm, GoesOn, rank}
 
 abbrev pub Keeps : State → State → Type 0
@@ -61,33 +61,27 @@ permission-keeps ip is_granted now s = by (permission_for ip s) refl is_granted
     by (Some (Active expiry)) e false = rw e (keeps-same s)
     by (Some (Reserved until)) e g = rw e (keeps-same s)
 
-permission_by : Bool → ℕ → State → Purpose → State
-permission_by is_granted now t (ForPermission ip) = permission_answered ip is_granted now t
-permission_by is_granted now t _ = t
-
-permission_by-keeps : (is_granted : Bool) (now : ℕ) (t : State) (p : Purpose) → Keeps t (permission_by is_granted now t p)
-unfolding permission_by
-permission_by-keeps is_granted now t (ForPermission ip) = permission-keeps ip is_granted now t
-permission_by-keeps is_granted now t ForAllocation = keeps-same t
-permission_by-keeps is_granted now t (ForRefresh family lifetime) = keeps-same t
-permission_by-keeps is_granted now t (ForChannel number peer) = keeps-same t
-permission_by-keeps is_granted now t (ForConnect peer) = keeps-same t
-permission_by-keeps is_granted now t (ForBind local peer id) = keeps-same t
+permission_for-keeps : (is_granted : Bool) (now : ℕ) (t : State) (p : Purpose) → Keeps t (permission_answered_for is_granted now t p)
+permission_for-keeps is_granted now t (ForPermission ip) = permission-keeps ip is_granted now t
+permission_for-keeps is_granted now t ForAllocation = keeps-same t
+permission_for-keeps is_granted now t (ForRefresh family lifetime) = keeps-same t
+permission_for-keeps is_granted now t (ForChannel number peer) = keeps-same t
+permission_for-keeps is_granted now t (ForConnect peer) = keeps-same t
+permission_for-keeps is_granted now t (ForBind local peer id) = keeps-same t
 
 permissions-keeps : (id : ℕ) (is_granted : Bool) (now : ℕ) (s : State) → Keeps s (permissions_answered id is_granted now s)
-unfolding permission_by
-permissions-keeps id is_granted now s = keeps-fold (permission_by is_granted now) (permission_by-keeps is_granted now) (purposes_of id s) s
+permissions-keeps id is_granted now s = keeps-fold (permission_answered_for is_granted now) (permission_for-keeps is_granted now) (purposes_of id s) s
 
-channel-keeps : (number : ℕ) (peer : SocketAddr) (id : ℕ) (is_granted : Bool) (now : ℕ) (s : State) → Keeps s (channel_answered number peer id is_granted now s)
-channel-keeps number peer id is_granted now s = by (first_in (channel_progress number) s) refl is_granted
+channel-keeps : (number id : ℕ) (is_granted : Bool) (now : ℕ) (s : State) → Keeps s (channel_answered number id is_granted now s)
+channel-keeps number id is_granted now s = by (first_in (channel_at number) s) refl is_granted
   where
-    by : (o : Option Progress) → first_in (channel_progress number) s ≡ o → (g : Bool) → Keeps s (channel_answered number peer id g now s)
+    by : (o : Option (SocketAddr × Progress)) → first_in (channel_at number) s ≡ o → (g : Bool) → Keeps s (channel_answered number id g now s)
     by None e g = rw e (keeps-same s)
-    by (Some Pending) e true = rw e (permissions-keeps id true now s)
-    by (Some Pending) e false = rw e (keeps-same s)
-    by (Some (Active expiry)) e true = rw e (keeps-same s)
-    by (Some (Active expiry)) e false = rw e (keeps-same s)
-    by (Some (Reserved until)) e g = rw e (keeps-same s)
+    by (Some (peer, Pending)) e true = rw e (permissions-keeps id true now s)
+    by (Some (peer, Pending)) e false = rw e (keeps-same s)
+    by (Some (peer, Active expiry)) e true = rw e (keeps-same s)
+    by (Some (peer, Active expiry)) e false = rw e (keeps-same s)
+    by (Some (peer, Reserved until)) e g = rw e (keeps-same s)
 
 connect-keeps : (peer : SocketAddr) (o : Option ℕ) (s : State) → Keeps s (connect_answered peer o s)
 connect-keeps peer (Some id) s = keeps-same s
@@ -106,7 +100,7 @@ refreshed-keeps family lifetime is_granted message now s =
 pub effect-keeps : (id : ℕ) (is_granted : Bool) (message : List ℕ) (now : ℕ) (s : State) (p : Purpose) → Keeps s (effect id is_granted message now s p)
 effect-keeps id is_granted message now s (ForRefresh family lifetime) = refreshed-keeps family lifetime is_granted message now s
 effect-keeps id is_granted message now s (ForPermission ip) = keeps-heeded s (permission_answered ip is_granted now s) (permission-keeps ip is_granted now s)
-effect-keeps id is_granted message now s (ForChannel number peer) = keeps-heeded s (channel_answered number peer id is_granted now s) (channel-keeps number peer id is_granted now s)
+effect-keeps id is_granted message now s (ForChannel number peer) = keeps-heeded s (channel_answered number id is_granted now s) (channel-keeps number id is_granted now s)
 effect-keeps id is_granted message now s (ForConnect peer) = keeps-heeded s (connect_answered peer (cond is_granted (connection_id_in message) None) s) (connect-keeps peer (cond is_granted (connection_id_in message) None) s)
 effect-keeps id is_granted message now s ForAllocation = keeps-same s
 effect-keeps id is_granted message now s (ForBind local peer other) = keeps-same s

@@ -1,22 +1,22 @@
 -- What is left when time has passed.
-use Rattle.std.proofs.Common.{◌≡◌, ℕ, suc, ◌<◌, Bool, true, false, ◌&&◌, ◌||◌, not, List, [], ◌∷◌, ◌++◌, length, filter, flat_map, find, fold, reverse, Option, Some, None, ◌⊎◌, inl, inr, refl, sym, subst, ◌∙◌, arith}
+use Rattle.std.proofs.Common.{◌≡◌, ℕ, suc, ◌<◌, Bool, true, false, ◌&&◌, ◌||◌, not, List, [], ◌∷◌, ◌++◌, length, filter, filter_map, find, fold, reverse, Option, Some, None, ◌⊎◌, inl, inr, refl, sym, subst, ◌∙◌, arith}
 use Rattle.std.specs.Prelude.{All, IfSome, ⊤, slice_get}
 use Rattle.std.proofs.lemmas.List.{length-reverse, reverse-append}
-use Rattle.std.proofs.lemmas.Option.{none-some}
-use Rattle.std.proofs.lemmas.Bool.{not-true, leb-false, and_parts, eq-eqb}
+use Rattle.std.proofs.lemmas.Option.{none-some, same_Some}
+use Rattle.std.proofs.lemmas.Bool.{not-true, leb-false, and_parts}
 use Rattle.std.specs.declared.net.socket_addr.SocketAddr.{SocketAddr}
 use Rattle.turn_types.specs.declared.family.AddressFamily.{AddressFamily}
 use Rattle.turn_types.specs.declared.family.AddressFamily.TheVariants.{IPV4, IPV6}
 use Rattle.turn_client_api.specs.Config.{same_family}
 use Rattle.turn_client_api.specs.Alarm.{StandsIn}
-use Rattle.turn_client_api.specs.State.{State, DataOffer, Grant, Allocation, Permission, Channel, Connect, Offer, Connection, Relay, Pending, Active, Reserved, agent_of, later_by}
-use Rattle.turn_client_api.specs.Grants.{allocations, allocation_in, allocation_of, family_of_grant, has_request, is_past, failure_of, failures_of, family_of, is_channel_of, is_connect, is_of, is_pending_channel, is_pending_permission, jump, unlisted, without}
+use Rattle.turn_client_api.specs.State.{State, DataOffer, Grant, Allocation, Permission, Channel, Connect, Offer, Connection, Relay, Pending, Active, Reserved, Purpose, agent_of, later_by}
+use Rattle.turn_client_api.specs.Grants.{allocations, allocation_in, allocation_of, family_of_grant, has_request, is_past, failures_of, family_of, is_channel_of, is_for_any, is_connect, is_of, is_pending_channel, is_pending_permission, jump, unlisted, without}
 use Rattle.turn_client_api.specs.Effect.{reserved, reserved_time}
 use Rattle.turn_client_api.specs.Calls.{is_allocated}
-use Rattle.turn_client_api.specs.Poll.{next_offer, untold_in, untold_of, channel_lapsed, connections_unbound, in_vain, last_channel_lapsed, offers_in_vain, permissions_lapsed, refreshes_in_vain, set_free, failed, goes, is_given_up_for, is_lapsed_channel, is_lapsed_permission, is_unbound, lapsed, lapsed_allocation, lapsed_in, unbound}
+use Rattle.turn_client_api.specs.Poll.{first_untold, given_up_purposes, next_offer, untold_in, channel_lapsed, connections_unbound, in_vain, last_channel_lapsed, offers_in_vain, permissions_lapsed, refreshes_in_vain, set_free, failed, goes, is_lapsed_channel, is_lapsed_permission, is_unbound, lapsed, lapsed_allocation, lapsed_in, unbound}
 use Rattle.turn_client_api.specs.declared.event.TurnEvent.{TurnEvent}
 use Rattle.turn_client_api.specs.declared.event.TurnEvent.TheVariants.{ChannelCreateFailed}
-use Rattle.turn_client_api.proofs.HasLemmas.{Has, has-all, has-flat_map, flat_map-has, has-left, has-right, has-append, has-filter, filter-has, filter_map-has, has-filter_map, has-found}
+use Rattle.turn_client_api.proofs.HasLemmas.{Has, has-all, has-left, has-right, has-append, has-filter, filter_map-has, has-filter_map, has-found}
 use Rattle.turn_client_api.proofs.ReadyLemmas.{Alive}
 
 -- a channel that is reserved
@@ -115,7 +115,8 @@ channel-shrinks : (o : Option Grant) (s : State) → Shrinks s (channel_lapsed o
 channel-shrinks None s = shrinks-self s
 channel-shrinks (Some (Channel number peer (Active expiry))) s =
     let t = reserved number peer expiry s in
-    shrinks-then s t (jump (failures_of (is_channel_of number) s) t) (reserved-shrinks number peer expiry s) (jump-shrinks (failures_of (is_channel_of number) s) t)
+    let failure = ChannelCreateFailed s.config.allocation_transport peer ∷ [] in
+    shrinks-then s t (jump failure t) (reserved-shrinks number peer expiry s) (jump-shrinks failure t)
 channel-shrinks (Some (Channel number peer Pending)) s = shrinks-self s
 channel-shrinks (Some (Channel number peer (Reserved until))) s = shrinks-self s
 channel-shrinks (Some (Allocation a)) s = shrinks-self s
@@ -127,42 +128,42 @@ channel-shrinks (Some (Connection c)) s = shrinks-self s
 -- ---- one allocation
 
 -- from its unbound connections on
-tail6 : AddressFamily → Option ℕ → ℕ → State → State
-tail6 family given now s = set_free family now (refreshes_in_vain family given (offers_in_vain family given s))
+tail6 : AddressFamily → Option ℕ → List Purpose → ℕ → State → State
+tail6 family given purposes now s = set_free family now (refreshes_in_vain family purposes (offers_in_vain family given s))
 
-tail6-shrinks : (family : AddressFamily) (given : Option ℕ) (now : ℕ) (s : State) → Shrinks s (tail6 family given now s)
+tail6-shrinks : (family : AddressFamily) (given : Option ℕ) (purposes : List Purpose) (now : ℕ) (s : State) → Shrinks s (tail6 family given purposes now s)
 unfolding tail6
-tail6-shrinks family given now s6 =
+tail6-shrinks family given purposes now s6 =
     let s7 = offers_in_vain family given s6 in
-    let s8 = refreshes_in_vain family given s7 in
+    let s8 = refreshes_in_vain family purposes s7 in
     shrinks-then s6 s7 (set_free family now s8) (failed-shrinks _ s6)
     (shrinks-then s7 s8 (set_free family now s8) (unlisted-shrinks _ s7) (without-shrinks _ s8))
 
 -- from its lapsed permissions on
-tail4 : AddressFamily → Option ℕ → ℕ → State → State
+tail4 : AddressFamily → Option ℕ → List Purpose → ℕ → State → State
 unfolding tail6
-tail4 family given now s = tail6 family given now (connections_unbound family given now (in_vain family given is_connect s))
+tail4 family given purposes now s = tail6 family given purposes now (connections_unbound family purposes now (in_vain family purposes is_connect s))
 
-tail4-shrinks : (family : AddressFamily) (given : Option ℕ) (now : ℕ) (s : State) → Shrinks s (tail4 family given now s)
+tail4-shrinks : (family : AddressFamily) (given : Option ℕ) (purposes : List Purpose) (now : ℕ) (s : State) → Shrinks s (tail4 family given purposes now s)
 unfolding tail6 tail4
-tail4-shrinks family given now s4 =
-    let s5 = in_vain family given is_connect s4 in
-    let s6 = connections_unbound family given now s5 in
-    shrinks-then s4 s5 (tail6 family given now s6) (failed-shrinks _ s4)
-    (shrinks-then s5 s6 (tail6 family given now s6) (unbound-shrinks _ s5) (tail6-shrinks family given now s6))
+tail4-shrinks family given purposes now s4 =
+    let s5 = in_vain family purposes is_connect s4 in
+    let s6 = connections_unbound family purposes now s5 in
+    shrinks-then s4 s5 (tail6 family given purposes now s6) (failed-shrinks _ s4)
+    (shrinks-then s5 s6 (tail6 family given purposes now s6) (unbound-shrinks _ s5) (tail6-shrinks family given purposes now s6))
 
-lapsed_in-shrinks : (family : AddressFamily) (given : Option ℕ) (now : ℕ) (s : State) → Shrinks s (lapsed_in family given now s)
+lapsed_in-shrinks : (family : AddressFamily) (given : Option ℕ) (purposes : List Purpose) (now : ℕ) (s : State) → Shrinks s (lapsed_in family given purposes now s)
 unfolding tail6 tail4
-lapsed_in-shrinks family given now s =
-    let s1 = in_vain family given is_pending_channel s in
-    let s2 = in_vain family given is_pending_permission s1 in
+lapsed_in-shrinks family given purposes now s =
+    let s1 = in_vain family purposes is_pending_channel s in
+    let s2 = in_vain family purposes is_pending_permission s1 in
     let s3 = last_channel_lapsed family now s2 in
     let s4 = permissions_lapsed family now s3 in
-    let t = tail4 family given now s4 in
+    let t = tail4 family given purposes now s4 in
     shrinks-then s s1 t (failed-shrinks _ s)
     (shrinks-then s1 s2 t (failed-shrinks _ s1)
     (shrinks-then s2 s3 t (channel-shrinks _ s2)
-    (shrinks-then s3 s4 t (failed-shrinks _ s3) (tail4-shrinks family given now s4))))
+    (shrinks-then s3 s4 t (failed-shrinks _ s3) (tail4-shrinks family given purposes now s4))))
 
 -- what did not stay was not tested true
 not-passed : (p : Grant → Bool) (g : Grant) (gs : List Grant) → Has g (filter (λ x. not (p x)) gs) → p g ≡ false
@@ -193,11 +194,7 @@ no_channel_lapsed family now s none = by (find test (reverse s.grants)) refl
 
     lapsed_is : (g : Grant) → Has g s.grants → is_lapsed_channel now g ≡ true → (channel_lapsed (Some g) s).events ≡ [] → ⊥
     lapsed_is (Channel number peer (Active expiry)) h is e =
-        let g = Channel number peer (Active expiry) in
-        let t = reserved number peer expiry s in
-        let none = reverse-empty (failures_of (is_channel_of number) s) (append-empty (reverse (failures_of (is_channel_of number) s)) t.events e).0 in
-        let inside = filter-has (is_channel_of number) g s.grants h (eq-eqb number number refl) in
-        rw none at (filter_map-has (failure_of s.config.allocation_transport) g (ChannelCreateFailed s.config.allocation_transport peer) (filter (is_channel_of number) s.grants) inside refl)
+        let no : ChannelCreateFailed s.config.allocation_transport peer ∷ s.events ≡ [] = e in cc
     lapsed_is (Channel number peer Pending) h is e = cc
     lapsed_is (Channel number peer (Reserved until)) h is e = cc
     lapsed_is (Allocation a) h is e = cc
@@ -229,12 +226,12 @@ Outlives now (Allocation a) = ⊤
 Outlives now grant = Alive now grant
 
 -- what is left in an allocation without an event has not ended
-alive_in : (family : AddressFamily) (given : Option ℕ) (now : ℕ) (s : State) → (lapsed_in family given now s).events ≡ [] → (g : Grant) → Has g (lapsed_in family given now s).grants → is_of family g ≡ true → Outlives now g
+alive_in : (family : AddressFamily) (given : Option ℕ) (purposes : List Purpose) (now : ℕ) (s : State) → (lapsed_in family given purposes now s).events ≡ [] → (g : Grant) → Has g (lapsed_in family given purposes now s).grants → is_of family g ≡ true → Outlives now g
 unfolding tail6 tail4
-alive_in family given now s none g h here = by g h here
+alive_in family given purposes now s none g h here = by g h here
   where
     s2 : State
-    s2 = in_vain family given is_pending_permission (in_vain family given is_pending_channel s)
+    s2 = in_vain family purposes is_pending_permission (in_vain family purposes is_pending_channel s)
 
     s3 : State
     s3 = last_channel_lapsed family now s2
@@ -243,20 +240,20 @@ alive_in family given now s none g h here = by g h here
     s4 = permissions_lapsed family now s3
 
     s5 : State
-    s5 = in_vain family given is_connect s4
+    s5 = in_vain family purposes is_connect s4
 
     s6 : State
-    s6 = connections_unbound family given now s5
+    s6 = connections_unbound family purposes now s5
 
     t : State
-    t = lapsed_in family given now s
+    t = lapsed_in family given purposes now s
 
     from3 : Shrinks s3 t
-    from3 = shrinks-then s3 s4 t (failed-shrinks _ s3) (tail4-shrinks family given now s4)
+    from3 = shrinks-then s3 s4 t (failed-shrinks _ s3) (tail4-shrinks family given purposes now s4)
 
     by : (g : Grant) → Has g t.grants → is_of family g ≡ true → Outlives now g
     by (Permission ip (Active expiry)) h here =
-        let inside = back s4 t (tail4-shrinks family given now s4) (Permission ip (Active expiry)) (λ is. is) h in
+        let inside = back s4 t (tail4-shrinks family given purposes now s4) (Permission ip (Active expiry)) (λ is. is) h in
         leb-false expiry now (what-false _ _ here (not-passed (λ x. is_of family x && is_lapsed_permission now x) (Permission ip (Active expiry)) s3.grants inside))
     by (Channel number peer (Active expiry)) h here =
         let g = Channel number peer (Active expiry) in
@@ -266,11 +263,11 @@ alive_in family given now s none g h here = by g h here
         let inside2 : Has g s2.grants = subst (λ o. Has g (channel_lapsed o s2).grants) not_found inside3 in
         leb-false expiry now (what-false _ _ here (find-none-false (λ x. is_of family x && is_lapsed_channel now x) g (reverse s2.grants) not_found (has-reverse g s2.grants inside2)))
     by (Connection c) h here =
-        let inside = back s6 t (tail6-shrinks family given now s6) (Connection c) (λ is. is) h in
-        let bound = what-false _ _ here (not-passed (λ x. is_of family x && is_unbound given now s5 x) (Connection c) s5.grants inside) in
+        let inside = back s6 t (tail6-shrinks family given purposes now s6) (Connection c) (λ is. is) h in
+        let bound = what-false _ _ here (not-passed (λ x. is_of family x && is_unbound purposes now x) (Connection c) s5.grants inside) in
         of c.deadline refl bound
       where
-        of : (d : Option ℕ) → c.deadline ≡ d → is_unbound given now s5 (Connection c) ≡ false → IfSome c.deadline (λ deadline. now < deadline)
+        of : (d : Option ℕ) → c.deadline ≡ d → is_unbound purposes now (Connection c) ≡ false → IfSome c.deadline (λ deadline. now < deadline)
         of None e f = rw e tt
         of (Some deadline) e f = rw e (leb-false deadline now (or-left _ _ (rw e at f)))
     by (Allocation a) h here = tt
@@ -283,18 +280,21 @@ alive_in family given now s none g h here = by g h here
 
 -- ---- all allocations
 
-lapsed_allocation-shrinks : (given : Option ℕ) (now : ℕ) (s : State) (a : Relay) → Shrinks s (lapsed_allocation given now s a)
-lapsed_allocation-shrinks given now s a = by (goes given now s a) refl
+lapsed_allocation-shrinks : (given : Option ℕ) (purposes : List Purpose) (now : ℕ) (s : State) (a : Relay) → Shrinks s (lapsed_allocation given purposes now s a)
+lapsed_allocation-shrinks given purposes now s a = by (goes purposes now s a) refl
   where
-    by : (b : Bool) → goes given now s a ≡ b → Shrinks s (lapsed_allocation given now s a)
+    by : (b : Bool) → goes purposes now s a ≡ b → Shrinks s (lapsed_allocation given purposes now s a)
     by true e = rw e (without-shrinks (is_of (family_of a.relayed)) s)
-    by false e = rw e (lapsed_in-shrinks (family_of a.relayed) given now s)
+    by false e = rw e (lapsed_in-shrinks (family_of a.relayed) given purposes now s)
 
-pub each-shrinks : (given : Option ℕ) (now : ℕ) (relays : List Relay) (s : State) → Shrinks s (fold (lapsed_allocation given now) s relays)
-each-shrinks given now [] s = shrinks-self s
-each-shrinks given now (a ∷ relays) s =
-    let post = lapsed_allocation given now s a in
-    shrinks-then s post (fold (lapsed_allocation given now) post relays) (lapsed_allocation-shrinks given now s a) (each-shrinks given now relays post)
+each-shrinks : (given : Option ℕ) (purposes : List Purpose) (now : ℕ) (relays : List Relay) (s : State) → Shrinks s (fold (lapsed_allocation given purposes now) s relays)
+each-shrinks given purposes now [] s = shrinks-self s
+each-shrinks given purposes now (a ∷ relays) s =
+    let post = lapsed_allocation given purposes now s a in
+    shrinks-then s post (fold (lapsed_allocation given purposes now) post relays) (lapsed_allocation-shrinks given purposes now s a) (each-shrinks given purposes now relays post)
+
+pub lapsed-shrinks : (given : Option ℕ) (now : ℕ) (s : State) → Shrinks s (lapsed given now s)
+lapsed-shrinks given now s = each-shrinks given (given_up_purposes given s) now (allocations s) s
 
 reserved-outlives : (now : ℕ) (g : Grant) → IsReserved g → Outlives now g
 reserved-outlives now (Channel number peer (Reserved until)) is = tt
@@ -307,26 +307,26 @@ reserved-outlives now (Offer offer) is = absurd is
 reserved-outlives now (Connection c) is = absurd is
 
 -- what is left of one allocation when its turn is over
-after-turn : (given : Option ℕ) (now : ℕ) (s : State) (a : Relay) (g : Grant) → (lapsed_allocation given now s a).events ≡ [] → Has g (lapsed_allocation given now s a).grants → is_of (family_of a.relayed) g ≡ true → Outlives now g
-after-turn given now s a g none h here = by (goes given now s a) refl
+after-turn : (given : Option ℕ) (purposes : List Purpose) (now : ℕ) (s : State) (a : Relay) (g : Grant) → (lapsed_allocation given purposes now s a).events ≡ [] → Has g (lapsed_allocation given purposes now s a).grants → is_of (family_of a.relayed) g ≡ true → Outlives now g
+after-turn given purposes now s a g none h here = by (goes purposes now s a) refl
   where
-    by : (b : Bool) → goes given now s a ≡ b → Outlives now g
+    by : (b : Bool) → goes purposes now s a ≡ b → Outlives now g
     by true e =
         let stayed : Has g (without (is_of (family_of a.relayed)) s).grants = rw e at h in
         let no : false ≡ true = sym (not-passed (is_of (family_of a.relayed)) g s.grants stayed) ∙ here in
         cc
-    by false e = alive_in (family_of a.relayed) given now s (rw e at none) g (rw e at h) here
+    by false e = alive_in (family_of a.relayed) given purposes now s (rw e at none) g (rw e at h) here
 
-outlives : (given : Option ℕ) (now : ℕ) (relays : List Relay) (s : State) → (fold (lapsed_allocation given now) s relays).events ≡ [] → (a : Relay) → Has a relays → (g : Grant) → Has g (fold (lapsed_allocation given now) s relays).grants → is_of (family_of a.relayed) g ≡ true → Outlives now g
-outlives given now [] s none a inside g h here = absurd inside
-outlives given now (b ∷ bs) s none a (inr inside) g h here = outlives given now bs (lapsed_allocation given now s b) none a inside g h here
-outlives given now (b ∷ bs) s none a (inl e) g h here = by ((each-shrinks given now bs post).grants g h)
+outlives : (given : Option ℕ) (purposes : List Purpose) (now : ℕ) (relays : List Relay) (s : State) → (fold (lapsed_allocation given purposes now) s relays).events ≡ [] → (a : Relay) → Has a relays → (g : Grant) → Has g (fold (lapsed_allocation given purposes now) s relays).grants → is_of (family_of a.relayed) g ≡ true → Outlives now g
+outlives given purposes now [] s none a inside g h here = absurd inside
+outlives given purposes now (b ∷ bs) s none a (inr inside) g h here = outlives given purposes now bs (lapsed_allocation given purposes now s b) none a inside g h here
+outlives given purposes now (b ∷ bs) s none a (inl e) g h here = by ((each-shrinks given purposes now bs post).grants g h)
   where
     post : State
-    post = lapsed_allocation given now s b
+    post = lapsed_allocation given purposes now s b
 
     by : Has g post.grants ⊎ IsReserved g → Outlives now g
-    by (inl there) = after-turn given now s b g ((each-shrinks given now bs post).events none) there (rw e at here)
+    by (inl there) = after-turn given purposes now s b g ((each-shrinks given purposes now bs post).events none) there (rw e at here)
     by (inr is) = reserved-outlives now g is
 
 same_family-self : (a : AddressFamily) → same_family a a ≡ true
@@ -340,8 +340,8 @@ same_family-swap IPV4 IPV6 e = e
 same_family-swap IPV6 IPV4 e = e
 
 -- an allocation in use goes at its end
-stays-alive : (given : Option ℕ) (now : ℕ) (s : State) (a : Relay) → Has (Allocation a) (lapsed_allocation given now s a).grants → a.is_expired ≡ false → now < a.expiry
-stays-alive given now s a h used = by (goes given now s a) refl
+stays-alive : (given : Option ℕ) (purposes : List Purpose) (now : ℕ) (s : State) (a : Relay) → Has (Allocation a) (lapsed_allocation given purposes now s a).grants → a.is_expired ≡ false → now < a.expiry
+stays-alive given purposes now s a h used = by (goes purposes now s a) refl
   where
     past : (p x y n : Bool) → n ≡ true → (p && (x || y || n)) ≡ false → p ≡ false
     past false x y n e f = refl
@@ -349,25 +349,28 @@ stays-alive given now s a h used = by (goes given now s a) refl
     past true false true n e f = let no : true ≡ false = f in cc
     past true false false n e f = let no : true ≡ false = sym e ∙ f in cc
 
-    by : (b : Bool) → goes given now s a ≡ b → now < a.expiry
+    by : (b : Bool) → goes purposes now s a ≡ b → now < a.expiry
     by true e =
         let stayed : Has (Allocation a) (without (is_of (family_of a.relayed)) s).grants = rw e at h in
         let no : false ≡ true = sym (not-passed (is_of (family_of a.relayed)) (Allocation a) s.grants stayed) ∙ same_family-self (family_of a.relayed) in
         cc
-    by false e = leb-false a.expiry now (past (is_past now a) (is_given_up_for given s (Allocation a)) (not (has_request (Allocation a) s)) (not a.is_expired) (rw used refl) e)
+    by false e = leb-false a.expiry now (past (is_past now a) (is_for_any purposes (Allocation a)) (not (has_request (Allocation a) s)) (not a.is_expired) (rw used refl) e)
 
-allocation-alive : (given : Option ℕ) (now : ℕ) (relays : List Relay) (s : State) (a : Relay) → Has a relays → Has (Allocation a) (fold (lapsed_allocation given now) s relays).grants → a.is_expired ≡ false → now < a.expiry
-allocation-alive given now [] s a inside h used = absurd inside
-allocation-alive given now (b ∷ bs) s a (inr inside) h used = allocation-alive given now bs (lapsed_allocation given now s b) a inside h used
-allocation-alive given now (b ∷ bs) s a (inl e) h used =
-    let post = lapsed_allocation given now s b in
-    let there = back post (fold (lapsed_allocation given now) post bs) (each-shrinks given now bs post) (Allocation a) (λ is. is) h in
-    stays-alive given now s a (subst (λ x. Has (Allocation a) (lapsed_allocation given now s x).grants) (sym e) there) used
+allocation-alive : (given : Option ℕ) (purposes : List Purpose) (now : ℕ) (relays : List Relay) (s : State) (a : Relay) → Has a relays → Has (Allocation a) (fold (lapsed_allocation given purposes now) s relays).grants → a.is_expired ≡ false → now < a.expiry
+allocation-alive given purposes now [] s a inside h used = absurd inside
+allocation-alive given purposes now (b ∷ bs) s a (inr inside) h used = allocation-alive given purposes now bs (lapsed_allocation given purposes now s b) a inside h used
+allocation-alive given purposes now (b ∷ bs) s a (inl e) h used =
+    let post = lapsed_allocation given purposes now s b in
+    let there = back post (fold (lapsed_allocation given purposes now) post bs) (each-shrinks given purposes now bs post) (Allocation a) (λ is. is) h in
+    stays-alive given purposes now s a (subst (λ x. Has (Allocation a) (lapsed_allocation given purposes now s x).grants) (sym e) there) used
 
 -- all that is left when time has passed without an event has not ended
 pub lapsed-alive : (given : Option ℕ) (now : ℕ) (s : State) → All (StandsIn s) s.grants → (lapsed given now s).events ≡ [] → (g : Grant) → Has g (lapsed given now s).grants → Alive now g
-lapsed-alive given now s stand none g h = by g h ((each-shrinks given now (allocations s) s).grants g h)
+lapsed-alive given now s stand none g h = by g h ((each-shrinks given purposes now (allocations s) s).grants g h)
   where
+    purposes : List Purpose
+    purposes = given_up_purposes given s
+
     t : State
     t = lapsed given now s
 
@@ -379,7 +382,7 @@ lapsed-alive given now s stand none g h = by g h ((each-shrinks given now (alloc
         of None e = let no : false ≡ true = rw e at (has-all (StandsIn s) g s.grants stand there) in cc
         of (Some a) e =
             let found = has-found (λ a. same_family (family_of a.relayed) (family_of_grant g)) a (allocations s) e in
-            outlives given now (allocations s) s none a found.0 g h (same_family-swap _ _ found.1)
+            outlives given purposes now (allocations s) s none a found.0 g h (same_family-swap _ _ found.1)
 
     other : (g : Grant) → Has g t.grants → Has g s.grants ⊎ IsReserved g → Outlives now g
     other g h (inl there) = turn g h there
@@ -387,7 +390,7 @@ lapsed-alive given now s stand none g h = by g h ((each-shrinks given now (alloc
 
     by : (g : Grant) → Has g t.grants → Has g s.grants ⊎ IsReserved g → Alive now g
     by (Allocation a) h (inl there) =
-        allocation-alive given now (allocations s) s a (filter_map-has allocation_in (Allocation a) a s.grants there refl) h
+        allocation-alive given purposes now (allocations s) s a (filter_map-has allocation_in (Allocation a) a s.grants there refl) h
     by (Allocation a) h (inr is) = absurd is
     by (Permission ip progress) h o = other (Permission ip progress) h o
     by (Channel number peer progress) h o = other (Channel number peer progress) h o
@@ -399,26 +402,36 @@ lapsed-alive given now s stand none g h = by g h ((each-shrinks given now (alloc
 pub lapsed-no_offer : (s t : State) → Shrinks s t → next_offer s ≡ None → next_offer t ≡ None
 lapsed-no_offer s t shrinks none = by (is_allocated t.phase) refl
   where
+    -- the first untold offer of each allocation
     offers : State → List DataOffer
-    offers u = flat_map (untold_of u) (allocations u)
+    offers u = filter_map (λ a. first_untold (family_of a.relayed) u) (allocations u)
 
-    first : (xs : List DataOffer) (x : DataOffer) → Has x xs → slice_get xs 0 ≡ None → ⊥
+    first : {X : Type 0} (xs : List X) (x : X) → Has x xs → slice_get xs 0 ≡ None → ⊥
     first [] x h e = absurd h
     first (y ∷ ys) x h e = none-some y (sym e)
 
-    empty : (xs : List DataOffer) → ((x : DataOffer) → Has x xs → ⊥) → slice_get xs 0 ≡ None
+    empty : {X : Type 0} (xs : List X) → ((x : X) → Has x xs → ⊥) → slice_get xs 0 ≡ None
     empty [] nothing = refl
     empty (y ∷ ys) nothing = absurd (nothing y (inl refl))
 
-    is_offer : (g : Grant) (offer : DataOffer) → untold_in g ≡ Some offer → IsReserved g → ⊥
-    is_offer (Channel number peer (Reserved until)) offer e is = none-some offer e
-    is_offer (Channel number peer Pending) offer e is = is
-    is_offer (Channel number peer (Active expiry)) offer e is = is
-    is_offer (Allocation a) offer e is = is
-    is_offer (Permission ip progress) offer e is = is
-    is_offer (Connect peer) offer e is = is
-    is_offer (Offer o) offer e is = is
-    is_offer (Connection c) offer e is = is
+    first-has : {X : Type 0} (xs : List X) (x : X) → slice_get xs 0 ≡ Some x → Has x xs
+    first-has [] x e = absurd (none-some x e)
+    first-has (y ∷ ys) x e = inl (sym (same_Some y x e))
+
+    -- of a list that has one, there is a first
+    has-first : {X : Type 0} (xs : List X) (x : X) → Has x xs → (y : X) × (slice_get xs 0 ≡ Some y)
+    has-first [] x h = absurd h
+    has-first (y ∷ ys) x h = (y, refl)
+
+    is_offer : (family : AddressFamily) (g : Grant) (offer : DataOffer) → untold_in family g ≡ Some offer → IsReserved g → ⊥
+    is_offer family (Channel number peer (Reserved until)) offer e is = none-some offer e
+    is_offer family (Channel number peer Pending) offer e is = is
+    is_offer family (Channel number peer (Active expiry)) offer e is = is
+    is_offer family (Allocation a) offer e is = is
+    is_offer family (Permission ip progress) offer e is = is
+    is_offer family (Connect peer) offer e is = is
+    is_offer family (Offer o) offer e is = is
+    is_offer family (Connection c) offer e is = is
 
     is_allocation : (g : Grant) (a : Relay) → allocation_in g ≡ Some a → IsReserved g → ⊥
     is_allocation (Channel number peer (Reserved until)) a e is = none-some a e
@@ -430,18 +443,21 @@ lapsed-no_offer s t shrinks none = by (is_allocated t.phase) refl
     is_allocation (Offer o) a e is = is
     is_allocation (Connection c) a e is = is
 
-    -- an offer that waits did before
-    before : (x : DataOffer) → Has x (offers t) → Has x (offers s)
+    -- where an offer waits, one did before
+    before : (x : DataOffer) → Has x (offers t) → (y : DataOffer) × Has y (offers s)
     before x h =
-        let came = has-flat_map (untold_of t) x (allocations t) h in
-        let a = came.from in
-        let relay = has-filter_map allocation_in a t.grants came.there in
+        let (a, inside, gives) = has-filter_map (λ (a : Relay). first_untold (family_of a.relayed) t) x (allocations t) h in
+        let relay = has-filter_map allocation_in a t.grants inside in
         let relay_before = filter_map-has allocation_in relay.0 a s.grants (back s t shrinks relay.0 (is_allocation relay.0 a relay.2) relay.1) relay.2 in
-        let grant = has-filter_map untold_in x (filter (is_of (family_of a.relayed)) t.grants) came.gives in
-        let here = has-filter (is_of (family_of a.relayed)) grant.0 t.grants grant.1 in
-        let there = back s t shrinks grant.0 (is_offer grant.0 x grant.2) here.0 in
-        flat_map-has (untold_of s) a x (allocations s) relay_before (filter_map-has untold_in grant.0 x (filter (is_of (family_of a.relayed)) s.grants) (filter-has (is_of (family_of a.relayed)) grant.0 s.grants there here.1) grant.2)
+        let family = family_of a.relayed in
+        let grant = has-filter_map (untold_in family) x t.grants (first-has (filter_map (untold_in family) t.grants) x gives) in
+        let there = back s t shrinks grant.0 (is_offer family grant.0 x grant.2) grant.1 in
+        let (y, one) = has-first (filter_map (untold_in family) s.grants) x (filter_map-has (untold_in family) grant.0 x s.grants there grant.2) in
+        (y, filter_map-has (λ (a : Relay). first_untold (family_of a.relayed) s) a y (allocations s) relay_before one)
+
+    nothing : next_offer s ≡ None → is_allocated s.phase ≡ true → (x : DataOffer) → Has x (offers t) → ⊥
+    nothing none is x h = let (y, there) = before x h in first (offers s) y there (rw is at none)
 
     by : (b : Bool) → is_allocated t.phase ≡ b → next_offer t ≡ None
     by false e = rw e refl
-    by true e = rw e (empty (offers t) (λ x h. first (offers s) x (before x h) (rw (rw shrinks.phase at e) at none)))
+    by true e = rw e (empty (offers t) (nothing none (rw shrinks.phase at e)))

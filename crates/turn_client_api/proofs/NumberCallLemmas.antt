@@ -13,7 +13,7 @@ use Rattle.turn_types.specs.declared.family.AddressFamily.{AddressFamily}
 use Rattle.turn_agent.specs.Agent.{due, given_up}
 use Rattle.turn_agent.specs.declared.transaction.Transaction.{Transaction}
 use Rattle.turn_client_api.specs.State.{State, Phase, New, Requesting, Authenticating, Allocated, Closed, agent_of}
-use Rattle.turn_client_api.specs.State.{Grant, Allocation, Permission, Channel, Connect, Offer, Connection, DataConnection, DataOffer, Relay, Pending, Active, Reserved, Origin, OwnConnect}
+use Rattle.turn_client_api.specs.State.{Grant, Allocation, Permission, Channel, Connect, Offer, Connection, DataConnection, DataOffer, Relay, Purpose, Pending, Active, Reserved, Origin, OwnConnect}
 use Rattle.turn_client_api.specs.State.{ServerRequest, ServerIndication}
 use Rattle.turn_client_api.specs.Grants.{allocation_for, allocations, connection_in, family_of, family_of_ip, is_connection_from, is_of, is_of_family, is_past, is_connect, is_pending_channel}
 use Rattle.turn_client_api.specs.Grants.{is_pending_permission, is_permitted, permission_for, same_transport, without}
@@ -26,7 +26,7 @@ use Rattle.turn_client_api.specs.Calls.{send_over, send_to_step, socket_opened, 
 use Rattle.turn_client_api.specs.declared.poll.Socket5Tuple.{Socket5Tuple}
 use Rattle.turn_client_api.specs.declared.error.BindChannelError.TheVariants as Bind
 use Rattle.turn_client_api.specs.Due.{has_event, has_reply, is_paused}
-use Rattle.turn_client_api.specs.Poll.{answer_step, channel_lapsed, connections_unbound, given_up_step, goes, in_vain, is_lapsed_channel, is_listed_for_allocation, lapsed, lapsed_allocation}
+use Rattle.turn_client_api.specs.Poll.{answer_step, channel_lapsed, connections_unbound, given_up_step, given_up_purposes, goes, in_vain, is_lapsed_channel, is_listed_for_allocation, lapsed, lapsed_allocation}
 use Rattle.turn_client_api.specs.Poll.{lapsed_in, last_channel_lapsed, next_offer, offer_step, offers_in_vain, permissions_lapsed, poll_step, refreshes_in_vain, timed_step}
 use Rattle.turn_client_api.specs.Receive.{connection_gone}
 use Rattle.turn_client_api.specs.Transmit.{idle_step, queue_step, refreshes_in, transmit_step}
@@ -169,32 +169,35 @@ channel_lapsed-apart (Some (Connect peer)) s = apart-same s
 channel_lapsed-apart (Some (Offer offer)) s = apart-same s
 channel_lapsed-apart (Some (Connection c)) s = apart-same s
 
-in_vain-apart : (family : AddressFamily) (given : Option ℕ) (which : Grant → Bool) (s : State) → StayApart s (in_vain family given which s)
-in_vain-apart family given which s = without-apart _ s
+in_vain-apart : (family : AddressFamily) (purposes : List Purpose) (which : Grant → Bool) (s : State) → StayApart s (in_vain family purposes which s)
+in_vain-apart family purposes which s = without-apart _ s
 
 -- one after the other, in the order of `lapsed_in`
-lapsed_in-apart : (family : AddressFamily) (given : Option ℕ) (now : ℕ) (s : State) → StayApart s (lapsed_in family given now s)
-lapsed_in-apart family given now s h =
-    let a = in_vain family given is_pending_channel s in
-    let b = in_vain family given is_pending_permission a in
+lapsed_in-apart : (family : AddressFamily) (given : Option ℕ) (purposes : List Purpose) (now : ℕ) (s : State) → StayApart s (lapsed_in family given purposes now s)
+lapsed_in-apart family given purposes now s h =
+    let a = in_vain family purposes is_pending_channel s in
+    let b = in_vain family purposes is_pending_permission a in
     let c = last_channel_lapsed family now b in
     let d = permissions_lapsed family now c in
-    let e = in_vain family given is_connect d in
-    let f = connections_unbound family given now e in
-    let g = refreshes_in_vain family given (offers_in_vain family given f) in
-    let asked = in_vain-apart family given is_pending_permission a (in_vain-apart family given is_pending_channel s h) in
+    let e = in_vain family purposes is_connect d in
+    let f = connections_unbound family purposes now e in
+    let g = refreshes_in_vain family purposes (offers_in_vain family given f) in
+    let asked = in_vain-apart family purposes is_pending_permission a (in_vain-apart family purposes is_pending_channel s h) in
     let channels = channel_lapsed-apart (find (λ x. is_of family x && is_lapsed_channel now x) (reverse b.grants)) b asked in
     let permissions = without-apart _ c channels in
-    let connects = in_vain-apart family given is_connect d permissions in
+    let connects = in_vain-apart family purposes is_connect d permissions in
     let connections = without-apart _ e connects in
     let offers = without-apart _ f connections in
     without-apart _ g offers
 
 lapsed-apart : (given : Option ℕ) (now : ℕ) (s : State) → StayApart s (lapsed given now s)
-lapsed-apart given now s = apart-fold (lapsed_allocation given now) by (allocations s) s
+lapsed-apart given now s = apart-fold (lapsed_allocation given purposes now) by (allocations s) s
   where
-    by : (t : State) (a : Relay) → StayApart t (lapsed_allocation given now t a)
-    by t a = apart-cond (goes given now t a) t _ _ (without-apart (is_of (family_of a.relayed)) t) (lapsed_in-apart (family_of a.relayed) given now t)
+    purposes : List Purpose
+    purposes = given_up_purposes given s
+
+    by : (t : State) (a : Relay) → StayApart t (lapsed_allocation given purposes now t a)
+    by t a = apart-cond (goes purposes now t a) t _ _ (without-apart (is_of (family_of a.relayed)) t) (lapsed_in-apart (family_of a.relayed) given purposes now t)
 
 answer_by : (closes : List SocketAddr) (p : Phase) (given : Option ℕ) (now : ℕ) (s : State) → StayApart (record s { closes = closes; phase = p }) (answer_step given now (record s { closes = closes; phase = p })).1
 answer_by (local ∷ others) p given now s h = h

@@ -11,10 +11,10 @@ use Rattle.turn_agent.specs.Agent.{same_address}
 use Rattle.turn_client_api.specs.Config.{Config}
 use Rattle.turn_client_api.specs.State.{State, initial, Grant, Allocation, Permission, Channel, Connect, Offer, Connection, Relay, DataConnection, Origin, OwnConnect, Progress, Pending, Active}
 use Rattle.turn_client_api.specs.State.{Reserved, Purpose, ForAllocation, ForRefresh, ForPermission, ForChannel, ForConnect, ForBind}
-use Rattle.turn_client_api.specs.Grants.{allocation_in, channel_progress, first_in, is_channel_of, is_connect_to, is_of, is_permission_of, permission_for, purposes_of, with_allocations, with_grant}
+use Rattle.turn_client_api.specs.Grants.{allocation_in, channel_at, first_in, is_channel_of, is_connect_to, is_of, is_permission_of, permission_for, purposes_of, with_allocations, with_grant}
 use Rattle.turn_client_api.specs.Grants.{without, unlisted}
 use Rattle.turn_client_api.specs.Judgement.{connection_id_in, lifetime_in}
-use Rattle.turn_client_api.specs.Effect.{allocation_mismatch, channel_answered, connect_answered, effect, has_code, least_lifetime, new_allocation, permission_answered, permissions_answered}
+use Rattle.turn_client_api.specs.Effect.{allocation_mismatch, channel_answered, connect_answered, effect, has_code, lasting, least_lifetime, new_allocation, permission_answered, permission_answered_for, permissions_answered}
 use Rattle.turn_client_api.specs.Effect.{prolonged, refreshed, renewed, reserved, with_offer}
 use Rattle.turn_client_api.specs.Connections.{with_deadline}
 use Rattle.turn_client_api.specs.LawsNumbers.{HasDistinctNumbers, channel_number}
@@ -75,27 +75,26 @@ allocations-apart which change s = apart-map (allocation_by which change) by s.g
     by (Offer offer) = refl
     by (Connection c) = refl
 
-renewed_last : ℕ → Grant → Grant
-renewed_last expiry (Permission ip progress) = Permission ip (Active expiry)
-renewed_last expiry (Channel number peer progress) = Channel number peer (Active expiry)
-renewed_last expiry grant = grant
-
 renewed_by : (Grant → Bool) → ℕ → Grant → Grant
-renewed_by which expiry grant = cond (which grant) (renewed_last expiry grant) grant
+renewed_by which expiry grant = cond (which grant) (lasting expiry grant) grant
 
 renewed-apart : (which : Grant → Bool) (expiry : ℕ) (s : State) → StayApart s (renewed which expiry s)
-unfolding renewed_last renewed_by
+unfolding renewed_by
 renewed-apart which expiry s = apart-map (renewed_by which expiry) (λ g. either (which g) g) s.grants
   where
-    last : (g : Grant) → channel_number (renewed_last expiry g) ≡ channel_number g
+    last : (g : Grant) → channel_number (lasting expiry g) ≡ channel_number g
     last (Allocation a) = refl
-    last (Permission ip progress) = refl
-    last (Channel number peer progress) = refl
+    last (Permission ip Pending) = refl
+    last (Permission ip (Active was)) = refl
+    last (Permission ip (Reserved until)) = refl
+    last (Channel number peer Pending) = refl
+    last (Channel number peer (Active was)) = refl
+    last (Channel number peer (Reserved until)) = refl
     last (Connect peer) = refl
     last (Offer offer) = refl
     last (Connection c) = refl
 
-    either : (b : Bool) (g : Grant) → channel_number (cond b (renewed_last expiry g) g) ≡ channel_number g
+    either : (b : Bool) (g : Grant) → channel_number (cond b (lasting expiry g) g) ≡ channel_number g
     either true g = last g
     either false g = refl
 
@@ -136,36 +135,30 @@ permission-apart ip is_granted now s = by (permission_for ip s) refl is_granted
     by (Some (Active expiry)) e false = rw e (without-apart (is_permission_of ip) s)
     by (Some (Reserved until)) e g = rw e (apart-same s)
 
-permission_by : Bool → ℕ → State → Purpose → State
-permission_by is_granted now t (ForPermission ip) = permission_answered ip is_granted now t
-permission_by is_granted now t _ = t
-
-permission_by-apart : (is_granted : Bool) (now : ℕ) (t : State) (p : Purpose) → StayApart t (permission_by is_granted now t p)
-unfolding permission_by
-permission_by-apart is_granted now t (ForPermission ip) = permission-apart ip is_granted now t
-permission_by-apart is_granted now t ForAllocation = apart-same t
-permission_by-apart is_granted now t (ForRefresh family lifetime) = apart-same t
-permission_by-apart is_granted now t (ForChannel number peer) = apart-same t
-permission_by-apart is_granted now t (ForConnect peer) = apart-same t
-permission_by-apart is_granted now t (ForBind local peer id) = apart-same t
+permission_for-apart : (is_granted : Bool) (now : ℕ) (t : State) (p : Purpose) → StayApart t (permission_answered_for is_granted now t p)
+permission_for-apart is_granted now t (ForPermission ip) = permission-apart ip is_granted now t
+permission_for-apart is_granted now t ForAllocation = apart-same t
+permission_for-apart is_granted now t (ForRefresh family lifetime) = apart-same t
+permission_for-apart is_granted now t (ForChannel number peer) = apart-same t
+permission_for-apart is_granted now t (ForConnect peer) = apart-same t
+permission_for-apart is_granted now t (ForBind local peer id) = apart-same t
 
 permissions-apart : (id : ℕ) (is_granted : Bool) (now : ℕ) (s : State) → StayApart s (permissions_answered id is_granted now s)
-unfolding permission_by
-permissions-apart id is_granted now s = apart-fold (permission_by is_granted now) (permission_by-apart is_granted now) (purposes_of id s) s
+permissions-apart id is_granted now s = apart-fold (permission_answered_for is_granted now) (permission_for-apart is_granted now) (purposes_of id s) s
 
 pub reserved-apart : (number : ℕ) (peer : SocketAddr) (expiry : ℕ) (s : State) → StayApart s (reserved number peer expiry s)
 reserved-apart number peer expiry s = channel-apart number peer _ s
 
-channel_answered-apart : (number : ℕ) (peer : SocketAddr) (id : ℕ) (is_granted : Bool) (now : ℕ) (s : State) → StayApart s (channel_answered number peer id is_granted now s)
-channel_answered-apart number peer id is_granted now s = by (first_in (channel_progress number) s) refl is_granted
+channel_answered-apart : (number id : ℕ) (is_granted : Bool) (now : ℕ) (s : State) → StayApart s (channel_answered number id is_granted now s)
+channel_answered-apart number id is_granted now s = by (first_in (channel_at number) s) refl is_granted
   where
-    by : (o : Option Progress) → first_in (channel_progress number) s ≡ o → (g : Bool) → StayApart s (channel_answered number peer id g now s)
+    by : (o : Option (SocketAddr × Progress)) → first_in (channel_at number) s ≡ o → (g : Bool) → StayApart s (channel_answered number id g now s)
     by None e g = rw e (apart-same s)
-    by (Some Pending) e true = rw e (λ h. channel-apart number peer _ (permissions_answered id true now s) (permissions-apart id true now s h))
-    by (Some Pending) e false = rw e (λ h. without-apart _ (without (is_channel_of number) s) (without-apart (is_channel_of number) s h))
-    by (Some (Active expiry)) e true = rw e (renewed-apart (is_channel_of number) _ (unlisted (is_channel_of number) s))
-    by (Some (Active expiry)) e false = rw e (reserved-apart number peer expiry s)
-    by (Some (Reserved until)) e g = rw e (apart-same s)
+    by (Some (peer, Pending)) e true = rw e (λ h. channel-apart number peer _ (permissions_answered id true now s) (permissions-apart id true now s h))
+    by (Some (peer, Pending)) e false = rw e (λ h. without-apart _ (without (is_channel_of number) s) (without-apart (is_channel_of number) s h))
+    by (Some (peer, Active expiry)) e true = rw e (renewed-apart (is_channel_of number) _ (unlisted (is_channel_of number) s))
+    by (Some (peer, Active expiry)) e false = rw e (reserved-apart number peer expiry s)
+    by (Some (peer, Reserved until)) e g = rw e (apart-same s)
 
 pub offer-apart : (id : ℕ) (peer : SocketAddr) (origin : Origin) (s : State) → StayApart s (with_offer id peer origin s)
 offer-apart id peer origin s = other-apart _ s refl
@@ -191,7 +184,7 @@ refreshed-apart family lifetime is_granted message now s =
 pub effect-apart : (id : ℕ) (is_granted : Bool) (message : List ℕ) (now : ℕ) (s : State) (p : Purpose) → StayApart s (effect id is_granted message now s p)
 effect-apart id is_granted message now s (ForRefresh family lifetime) = refreshed-apart family lifetime is_granted message now s
 effect-apart id is_granted message now s (ForPermission ip) = permission-apart ip is_granted now s
-effect-apart id is_granted message now s (ForChannel number peer) = channel_answered-apart number peer id is_granted now s
+effect-apart id is_granted message now s (ForChannel number peer) = channel_answered-apart number id is_granted now s
 effect-apart id is_granted message now s (ForConnect peer) = connect-apart peer (cond is_granted (connection_id_in message) None) s
 effect-apart id is_granted message now s ForAllocation = apart-same s
 effect-apart id is_granted message now s (ForBind local peer other) = apart-same s

@@ -1,5 +1,5 @@
 -- Channels keep numbers of their own when grants come and go.
-use Rattle.std.proofs.Common.{◌≡◌, ℕ, Bool, true, false, not, cond, ◌&&◌, eqb, List, [], ◌∷◌, ◌++◌, map, filter, filter_map, Option, Some, None, refl}
+use Rattle.std.proofs.Common.{◌≡◌, ℕ, Bool, true, false, not, cond, eqb, List, [], ◌∷◌, ◌++◌, map, filter, filter_map, Option, Some, None, refl}
 use Rattle.std.specs.Prelude.{is_some}
 use Rattle.std.specs.List.{list_any, IsDistinct, AllByRecursion}
 use Rattle.std.proofs.lemmas.Bool.{or_parts}
@@ -9,7 +9,7 @@ use Rattle.std.specs.declared.net.ip_addr.IpAddr.{IpAddr}
 use Rattle.std.specs.declared.net.socket_addr.SocketAddr.{SocketAddr}
 use Rattle.turn_types.specs.declared.family.AddressFamily.{AddressFamily}
 use Rattle.turn_client_api.specs.State.{Grant, Allocation, Permission, Channel, Connect, Offer, Connection, Pending}
-use Rattle.turn_client_api.specs.Grants.{is_channel_of, is_of}
+use Rattle.turn_client_api.specs.Grants.{is_channel_of}
 use Rattle.turn_client_api.specs.Calls.{is_offer_of, without_first}
 use Rattle.turn_client_api.specs.Poll.{told, told_first, untold_in}
 use Rattle.turn_client_api.specs.LawsNumbers.{channel_number}
@@ -117,7 +117,7 @@ told-number (Connection c) = refl
 
 pub numbers-told_first : (family : AddressFamily) (gs : List Grant) → numbers (told_first family gs) ≡ numbers gs
 numbers-told_first family [] = refl
-numbers-told_first family (g ∷ gs) = by (is_of family g && is_some (untold_in g)) (numbers-told_first family gs)
+numbers-told_first family (g ∷ gs) = by (is_some (untold_in family g)) (numbers-told_first family gs)
   where
     by : (b : Bool) → numbers (told_first family gs) ≡ numbers gs → numbers (cond b (told g ∷ gs) (g ∷ told_first family gs)) ≡ numbers (g ∷ gs)
     by true later = rw (told-number g) refl

@@ -1,6 +1,6 @@
 -- When a client that waits for nothing is silent, and when it has something to send.
 use Rattle.std.proofs.Common.{◌≡◌, ◌≢◌, ℕ, suc, ◌+◌, ◌*◌, ◌-◌, ◌^◌, ◌<◌, ◌≤◌, min, max, Bool, true, false, ◌&&◌, not, ltb, leb, List, [], ◌∷◌, ◌++◌, length, map, filter, flat_map, filter_map, find, fold, Option, Some, None, ◌⊎◌, inl, inr, refl, sym, subst, ◌∙◌, arith}
-use Rattle.std.specs.Prelude.{if◌then◌else◌, is_some, IsSome, IfSome, ⊤, slice_get}
+use Rattle.std.specs.Prelude.{if◌then◌else◌, is_some, IsSome, IfSome, ⊤, slice_get, option_and_then}
 use Rattle.std.specs.List.{list_any}
 use Rattle.std.specs.Option.{option_map_or}
 use Rattle.std.proofs.Math.Nat.{max-le, le-min, le-max_left, le-max_right}
@@ -16,7 +16,7 @@ use Rattle.turn_client_api.specs.Config.{same_family}
 use Rattle.turn_client_api.specs.State.{State, Purpose, ForRefresh, ForPermission, ForChannel, Phase, New, Requesting, Authenticating, Allocated, Closed, Grant, Allocation, Permission, Channel, Connect, Offer, Connection, Relay, Pending, Active, Reserved, Queued, agent_of, greatest_moment}
 use Rattle.turn_client_api.specs.Grants.{allocations, allocation_in, allocation_of, family_of, family_of_grant, family_of_ip, has_request, is_of}
 use Rattle.turn_client_api.specs.Requests.{asked_lifetime}
-use Rattle.turn_client_api.specs.Due.{due_moments, end_of, is_in_use, has_queued_request, has_reply, is_paused, least_due, pause_end, refresh_of, refresh_time}
+use Rattle.turn_client_api.specs.Due.{due_moments, end_of, is_in_use, has_queued_request, has_reply, is_paused, least_due, pause_end, refresh_of, refresh_time, refresh_time_by_kind}
 use Rattle.turn_client_api.specs.Poll.{next_offer}
 use Rattle.turn_client_api.specs.Transmit.{idle_step, is_ranked, is_refresh_due, next_transmit, queue_step, refresh_purpose, refresh_step, refreshes_in, reply_in, reply_step, transmit_step}
 use Rattle.turn_client_api.specs.Alarm.{IsSilent, Lasts}
@@ -109,6 +109,7 @@ early m moment least pause before later over = by (leb moment m) refl
 
 -- no refresh falls due before the pause is over or its own time has come
 not_refreshed : (now m : ℕ) (t : State) → m < least_due now t → is_paused m t ≡ false → (g : Grant) → Has g t.grants → is_refresh_due m t g ≡ false
+unfolding is_refresh_due
 not_refreshed now m t before idle g h = by (refresh_time t g) refl
   where
     by : (r : Option ℕ) → refresh_time t g ≡ r → is_refresh_due m t g ≡ false
@@ -286,29 +287,26 @@ refreshed-once now t g a rank p h inside goes_on here ranked is due gives =
     let in_allocation : Has p (refreshes_in now t a) = rw (le-leb now a.expiry goes_on) (flat_map-has of_rank rank p (0 ∷ 1 ∷ 2 ∷ []) ranked in_rank) in
     refresh-sends now t _ refl p (flat_map-has (refreshes_in now t) a p (allocations t) inside in_allocation)
 
-if-none : (b : Bool) → ◌≡◌ {A = Option ℕ} (if b then None else None) None
-if-none true = refl
-if-none false = refl
-
-abbrev usable : State → Grant → Bool
-usable t g = is_in_use g t && not (has_request g t)
-
 untimed : (now : ℕ) (t : State) (g : Grant) → refresh_time t g ≡ None → is_refresh_due now t g ≡ true → ⊥
+unfolding is_refresh_due
 untimed now t g none due = let no : false ≡ true = rw none at due in cc
 
 used-due : (now : ℕ) (t : State) (g : Grant) → is_refresh_due now t g ≡ true → is_in_use g t ≡ true
+unfolding refresh_time
 used-due now t g due = by (is_in_use g t) refl
   where
-    none : (used request : Bool) (o : Option ℕ) → used ≡ false → (if used && request then o else None) ≡ None
-    none false request o e = refl
+    none : (used request : Bool) (o : Option ℕ) → used ≡ false → option_and_then (λ (moment : ℕ). if used && request then Some moment else None) o ≡ None
+    none false request None e = refl
+    none false request (Some moment) e = refl
     none true request o e = let no : true ≡ false = e in cc
 
     by : (b : Bool) → is_in_use g t ≡ b → is_in_use g t ≡ true
     by true e = e
-    by false e = absurd (untimed now t g (none (is_in_use g t) (not (has_request g t)) _ e) due)
+    by false e = absurd (untimed now t g (none (is_in_use g t) (not (has_request g t)) (refresh_time_by_kind g) e) due)
 
 -- in `Allocated`, with nothing queued and the pause over, a refresh whose time has come is sent
 refresh-busy : (now : ℕ) (t : State) → IsReady now t → (g : Grant) → Has g t.grants → is_refresh_due now t g ≡ true → IsSome (refresh_step now t).0
+unfolding refresh_time
 refresh-busy now t ready g h due = by g h due
   where
     Sends : Type 0
@@ -341,13 +339,13 @@ refresh-busy now t ready g h due = by g h due
         within (Permission ip (Active expiry)) h due 2 (inr (inr (inl refl))) refl (ForPermission ip) (rw (lt-ltb now expiry (ready.alive (Permission ip (Active expiry)) h)) refl) (allocation_of (family_of_ip ip) t) refl (used-due now t (Permission ip (Active expiry)) due)
     by (Channel number peer (Active expiry)) h due =
         within (Channel number peer (Active expiry)) h due 1 (inr (inl refl)) refl (ForChannel number peer) (rw (lt-ltb now expiry (ready.alive (Channel number peer (Active expiry)) h)) refl) (allocation_of (family_of peer) t) refl (used-due now t (Channel number peer (Active expiry)) due)
-    by (Permission ip Pending) h due = absurd (untimed now t (Permission ip Pending) (if-none (usable t (Permission ip Pending))) due)
-    by (Permission ip (Reserved until)) h due = absurd (untimed now t (Permission ip (Reserved until)) (if-none (usable t (Permission ip (Reserved until)))) due)
-    by (Channel number peer Pending) h due = absurd (untimed now t (Channel number peer Pending) (if-none (usable t (Channel number peer Pending))) due)
-    by (Channel number peer (Reserved until)) h due = absurd (untimed now t (Channel number peer (Reserved until)) (if-none (usable t (Channel number peer (Reserved until)))) due)
-    by (Connect peer) h due = absurd (untimed now t (Connect peer) (if-none (usable t (Connect peer))) due)
-    by (Offer offer) h due = absurd (untimed now t (Offer offer) (if-none (usable t (Offer offer))) due)
-    by (Connection c) h due = absurd (untimed now t (Connection c) (if-none (usable t (Connection c))) due)
+    by (Permission ip Pending) h due = absurd (untimed now t (Permission ip Pending) refl due)
+    by (Permission ip (Reserved until)) h due = absurd (untimed now t (Permission ip (Reserved until)) refl due)
+    by (Channel number peer Pending) h due = absurd (untimed now t (Channel number peer Pending) refl due)
+    by (Channel number peer (Reserved until)) h due = absurd (untimed now t (Channel number peer (Reserved until)) refl due)
+    by (Connect peer) h due = absurd (untimed now t (Connect peer) refl due)
+    by (Offer offer) h due = absurd (untimed now t (Offer offer) refl due)
+    by (Connection c) h due = absurd (untimed now t (Connection c) refl due)
 
 -- the end of a grant that is alive
 end-later : (now m : ℕ) (g : Grant) → Alive now g → Has m (end_of now g) → now < m
@@ -382,6 +380,7 @@ end-later now m (Connection c) alive h = by c.deadline refl
 
 -- the time to refresh it, behind the pause
 refresh-later : (now m : ℕ) (t : State) (g : Grant) → (is_refresh_due now t g ≡ true → now < pause_end t) → Has m (refresh_of t g) → now < m
+unfolding is_refresh_due
 refresh-later now m t g pause h = by (refresh_time t g) refl
   where
     by : (o : Option ℕ) → refresh_time t g ≡ o → now < m

@@ -14,7 +14,7 @@ use Rattle.turn_agent.specs.Agent.{due, given_up}
 use Rattle.turn_agent.specs.declared.transaction.Transaction.{Transaction}
 use Rattle.turn_client_api.specs.Config.{Config}
 use Rattle.turn_client_api.specs.State.{State, initial, Control, Phase, New, Requesting, Authenticating, Allocated, Closed, agent_of}
-use Rattle.turn_client_api.specs.State.{Grant, Allocation, Permission, Channel, Connect, Offer, Connection, DataConnection, Relay, Pending, Active, Reserved, Origin, OwnConnect}
+use Rattle.turn_client_api.specs.State.{Grant, Allocation, Permission, Channel, Connect, Offer, Connection, DataConnection, Relay, Purpose, Pending, Active, Reserved, Origin, OwnConnect}
 use Rattle.turn_client_api.specs.State.{ServerRequest, ServerIndication}
 use Rattle.turn_client_api.specs.Grants.{allocation_for, allocations, connection_in, family_of, is_of, is_past, is_pending_channel, is_pending_permission, is_permitted, permission_for, same_transport}
 use Rattle.turn_client_api.specs.Effect.{closed, ended}
@@ -27,7 +27,7 @@ use Rattle.turn_client_api.specs.declared.poll.Socket5Tuple.{Socket5Tuple}
 use Rattle.turn_client_api.specs.declared.error.BindChannelError.TheVariants as Bind
 use Rattle.turn_client_api.specs.declared.error.TcpAllocateError.TheVariants as Socket
 use Rattle.turn_client_api.specs.Due.{has_event, has_reply, is_paused}
-use Rattle.turn_client_api.specs.Poll.{answer_step, channel_lapsed, given_up_step, goes, in_vain, is_lapsed_channel, is_listed_for_allocation, lapsed, lapsed_allocation}
+use Rattle.turn_client_api.specs.Poll.{answer_step, channel_lapsed, given_up_step, given_up_purposes, goes, in_vain, is_lapsed_channel, is_listed_for_allocation, lapsed, lapsed_allocation}
 use Rattle.turn_client_api.specs.Poll.{lapsed_in, next_offer, offer_step, poll_step, timed_step}
 use Rattle.turn_client_api.specs.Transmit.{idle_step, queue_step, refreshes_in, transmit_step}
 use Rattle.turn_client_api.specs.Transmit as T
@@ -153,16 +153,19 @@ channel_lapsed-same (Some (Connect peer)) s = refl
 channel_lapsed-same (Some (Offer offer)) s = refl
 channel_lapsed-same (Some (Connection c)) s = refl
 
-lapsed_in-same : (family : AddressFamily) (given : Option ℕ) (now : ℕ) (s : State) → Same s (lapsed_in family given now s)
-lapsed_in-same family given now s =
-    let asked = in_vain family given is_pending_permission (in_vain family given is_pending_channel s) in
+lapsed_in-same : (family : AddressFamily) (given : Option ℕ) (purposes : List Purpose) (now : ℕ) (s : State) → Same s (lapsed_in family given purposes now s)
+lapsed_in-same family given purposes now s =
+    let asked = in_vain family purposes is_pending_permission (in_vain family purposes is_pending_channel s) in
     channel_lapsed-same (find (λ g. is_of family g && is_lapsed_channel now g) (reverse asked.grants)) asked
 
 lapsed-same : (given : Option ℕ) (now : ℕ) (s : State) → Same s (lapsed given now s)
-lapsed-same given now s = same-fold (lapsed_allocation given now) by (allocations s) s
+lapsed-same given now s = same-fold (lapsed_allocation given purposes now) by (allocations s) s
   where
-    by : (t : State) (a : Relay) → Same t (lapsed_allocation given now t a)
-    by t a = same-cond (goes given now t a) t _ _ refl (lapsed_in-same (family_of a.relayed) given now t)
+    purposes : List Purpose
+    purposes = given_up_purposes given s
+
+    by : (t : State) (a : Relay) → Same t (lapsed_allocation given purposes now t a)
+    by t a = same-cond (goes purposes now t a) t _ _ refl (lapsed_in-same (family_of a.relayed) given purposes now t)
 
 answer_by : (closes : List SocketAddr) (p : Phase) (given : Option ℕ) (now : ℕ) (s : State) → Same (record s { closes = closes; phase = p }) (answer_step given now (record s { closes = closes; phase = p })).1
 answer_by (local ∷ others) p given now s = refl

@@ -12,12 +12,12 @@ use Rattle.turn_types.specs.declared.family.AddressFamily.{AddressFamily}
 use Rattle.turn_auth.specs.LongTerm.{Challenge}
 use Rattle.turn_client_api.specs.State.{State, Mode, Control, Waiting, Bound, Broken, Stream, DataConnection, Progress, Pending, Active, Reserved, Phase, New, Requesting, Authenticating, Allocated, Closed}
 use Rattle.turn_client_api.specs.State.{Purpose, ForAllocation, ForRefresh, ForPermission, ForChannel, ForConnect, ForBind}
-use Rattle.turn_client_api.specs.Grants.{allocation_for, channel_progress, first_in, permission_for, purposes_of}
+use Rattle.turn_client_api.specs.Grants.{allocation_for, channel_at, first_in, permission_for, purposes_of}
 use Rattle.turn_client_api.specs.Requests.{connection_attempt_method, connection_bind_method}
 use Rattle.turn_client_api.specs.Judgement.{Judgement, Nothing, Challenged, Wrong, Late, PeerSent, Attempt, Asked, Granted, Denied, judgement_of, bind_judgement, is_bind_of, connection_id_in}
 use Rattle.turn_client_api.specs.Judgement.{lifetime_in, method_in, peer_in}
 use Rattle.turn_client_api.specs.Effect.{allocate_denied, allocate_granted, allocation_mismatch, channel_answered, connect_answered, effect, ended, family_not_supported, has_code, least_lifetime}
-use Rattle.turn_client_api.specs.Effect.{permission_answered, permissions_answered, prolonged, refreshed}
+use Rattle.turn_client_api.specs.Effect.{permission_answered, permission_answered_for, permissions_answered, prolonged, refreshed}
 use Rattle.turn_client_api.specs.Retry.{most_challenges, retried}
 use Rattle.turn_client_api.specs.Connections.{attempt_indicated, attempt_requested, bind_again, bind_answered, bind_step, connection_at, is_connected, is_heeded, with_mode}
 use Rattle.turn_client_api.specs.Payloads.{Outcome, Handled, Ignored, answered_purposes, challenge_step, channel_sent, is_message, message_step, reply_step, signed_step, wrong_step}
@@ -48,33 +48,27 @@ permission-same ip is_granted now s = by (permission_for ip s) refl is_granted
     by (Some (Active expiry)) e false = rw e refl
     by (Some (Reserved until)) e g = rw e refl
 
-permission_by : Bool → ℕ → State → Purpose → State
-permission_by is_granted now t (ForPermission ip) = permission_answered ip is_granted now t
-permission_by is_granted now t _ = t
-
-permission_by-same : (is_granted : Bool) (now : ℕ) (t : State) (p : Purpose) → Same t (permission_by is_granted now t p)
-unfolding permission_by
-permission_by-same is_granted now t (ForPermission ip) = permission-same ip is_granted now t
-permission_by-same is_granted now t ForAllocation = refl
-permission_by-same is_granted now t (ForRefresh family lifetime) = refl
-permission_by-same is_granted now t (ForChannel number peer) = refl
-permission_by-same is_granted now t (ForConnect peer) = refl
-permission_by-same is_granted now t (ForBind local peer id) = refl
+permission_for-same : (is_granted : Bool) (now : ℕ) (t : State) (p : Purpose) → Same t (permission_answered_for is_granted now t p)
+permission_for-same is_granted now t (ForPermission ip) = permission-same ip is_granted now t
+permission_for-same is_granted now t ForAllocation = refl
+permission_for-same is_granted now t (ForRefresh family lifetime) = refl
+permission_for-same is_granted now t (ForChannel number peer) = refl
+permission_for-same is_granted now t (ForConnect peer) = refl
+permission_for-same is_granted now t (ForBind local peer id) = refl
 
 permissions-same : (id : ℕ) (is_granted : Bool) (now : ℕ) (s : State) → Same s (permissions_answered id is_granted now s)
-unfolding permission_by
-permissions-same id is_granted now s = same-fold (permission_by is_granted now) (permission_by-same is_granted now) (purposes_of id s) s
+permissions-same id is_granted now s = same-fold (permission_answered_for is_granted now) (permission_for-same is_granted now) (purposes_of id s) s
 
-channel-same : (number : ℕ) (peer : SocketAddr) (id : ℕ) (is_granted : Bool) (now : ℕ) (s : State) → Same s (channel_answered number peer id is_granted now s)
-channel-same number peer id is_granted now s = by (first_in (channel_progress number) s) refl is_granted
+channel-same : (number id : ℕ) (is_granted : Bool) (now : ℕ) (s : State) → Same s (channel_answered number id is_granted now s)
+channel-same number id is_granted now s = by (first_in (channel_at number) s) refl is_granted
   where
-    by : (o : Option Progress) → first_in (channel_progress number) s ≡ o → (g : Bool) → Same s (channel_answered number peer id g now s)
+    by : (o : Option (SocketAddr × Progress)) → first_in (channel_at number) s ≡ o → (g : Bool) → Same s (channel_answered number id g now s)
     by None e g = rw e refl
-    by (Some Pending) e true = rw e (permissions-same id true now s)
-    by (Some Pending) e false = rw e refl
-    by (Some (Active expiry)) e true = rw e refl
-    by (Some (Active expiry)) e false = rw e refl
-    by (Some (Reserved until)) e g = rw e refl
+    by (Some (peer, Pending)) e true = rw e (permissions-same id true now s)
+    by (Some (peer, Pending)) e false = rw e refl
+    by (Some (peer, Active expiry)) e true = rw e refl
+    by (Some (peer, Active expiry)) e false = rw e refl
+    by (Some (peer, Reserved until)) e g = rw e refl
 
 connect-same : (peer : SocketAddr) (o : Option ℕ) (s : State) → Same s (connect_answered peer o s)
 connect-same peer (Some id) s = refl
@@ -93,7 +87,7 @@ refreshed-same family lifetime is_granted message now s =
 effect-same : (id : ℕ) (is_granted : Bool) (message : List ℕ) (now : ℕ) (s : State) (p : Purpose) → Same s (effect id is_granted message now s p)
 effect-same id is_granted message now s (ForRefresh family lifetime) = refreshed-same family lifetime is_granted message now s
 effect-same id is_granted message now s (ForPermission ip) = permission-same ip is_granted now s
-effect-same id is_granted message now s (ForChannel number peer) = channel-same number peer id is_granted now s
+effect-same id is_granted message now s (ForChannel number peer) = channel-same number id is_granted now s
 effect-same id is_granted message now s (ForConnect peer) = connect-same peer (cond is_granted (connection_id_in message) None) s
 effect-same id is_granted message now s ForAllocation = refl
 effect-same id is_granted message now s (ForBind local peer other) = refl

@@ -20,7 +20,7 @@ use Rattle.turn_client_api.specs.declared.poll.TurnPollRet.{TurnPollRet}
 use Rattle.turn_client_api.specs.declared.poll.TurnPollRet.TheVariants as Do
 use Rattle.turn_client_api.proofs.HasLemmas.{Has, has-found}
 use Rattle.turn_client_api.proofs.ReadyLemmas.{Alive, IsReady, new-busy, ready-busy, ready-silent, reply-busy}
-use Rattle.turn_client_api.proofs.LapseLemmas.{each-shrinks, lapsed-alive, lapsed-no_offer}
+use Rattle.turn_client_api.proofs.LapseLemmas.{lapsed-alive, lapsed-no_offer, lapsed-shrinks}
 
 abbrev Timely : ℕ → State → TurnPollRet × State → Type 0
 Timely now was answer = IsTimely answer.0 now was answer.1
@@ -200,7 +200,7 @@ given-timely now s orderly range no_reply no_offer x given p e = by p e
     by Authenticating e = over (is_listed_for_allocation x.id u) e
     by Allocated e =
         let t = lapsed (Some x.id) now u in
-        let shrinks = each-shrinks (Some x.id) now (allocations u) u in
+        let shrinks = lapsed-shrinks (Some x.id) now u in
         let gave_later : GaveUp s t = (x, outstanding, rw shrinks.transactions (without-ended x.id s.transactions)) in
         answer-timely now s (Some x.id) t (settled-given now s t range (old-phase Allocated t.phase (shrinks.phase ∙ e) (λ new. allocated_new new)) (replies-same s t shrinks.queue no_reply) (lapsed-no_offer u t shrinks no_offer) gave_later)
       where
@@ -238,7 +238,7 @@ none-timely now s orderly stand range no_reply no_offer none p e = by p e
         authenticating_new f = cc
     by Allocated e =
         let t = lapsed None now s in
-        let shrinks = each-shrinks None now (allocations s) s in
+        let shrinks = lapsed-shrinks None now s in
         let live : t.phase ≡ Allocated = shrinks.phase ∙ e in
         answer-timely now s None t (record {
           in_range = range;

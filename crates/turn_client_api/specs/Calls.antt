@@ -15,7 +15,7 @@ use Rattle.turn_types.specs.declared.family.AddressFamily.{AddressFamily}
 use Rattle.turn_agent.specs.Agent.{same_address}
 use Rattle.turn_client_api.specs.Config.{same_family}
 use Rattle.turn_client_api.specs.State.{State, Phase, Allocated, Closed, Grant, Permission, Channel, Connect, Connection, DataConnection, Relay, Progress, Pending, Active, Reserved, Origin, ServerRequest, ForRefresh, ForPermission, ForChannel, ForConnect, ForBind, Waiting, later_by}
-use Rattle.turn_client_api.specs.Grants.{allocations, allocation_for, connection_in, family_of, family_of_ip, is_channel_of, is_past, is_permitted, offer_in, permission_for, same_transport, with_allocations, with_expired, with_grant, without}
+use Rattle.turn_client_api.specs.Grants.{allocations, allocation_for, connection_in, family_of, family_of_ip, in_turn, is_channel_of, is_past, is_permitted, offer_in, permission_for, same_transport, with_allocations, with_expired, with_grant, with_grants, without}
 use Rattle.turn_client_api.specs.Requests.{asked, drawn, fresh_id, lifetime_attribute, message_of, queued, refresh_method, request_for, requested, signed, to_server, accepted_reply, refused_reply, replied}
 use Rattle.turn_client_api.specs.Effect.{closed, fail_all}
 use Rattle.turn_client_api.specs.Retry.{bind_time}
@@ -116,7 +116,7 @@ abbrev pub is_number_taken : ℕ → State → Bool
 is_number_taken number s = list_any (is_channel_of number) s.grants
 
 -- the numbers that a client may bind (RFC 8656, section 12)
-abbrev pub channel_numbers : List ℕ
+unfoldable pub channel_numbers : List ℕ
 channel_numbers = range_with_len 0x4000 0x1000
 
 -- the least number that no channel has, also none that is pending or reserved, in any allocation
@@ -131,9 +131,12 @@ abbrev pub bind_channel : ℕ → SocketAddr → ℕ → State → State
 bind_channel number peer now s =
     let text = request_for s (ForChannel number peer) (fresh_id s) in
     let ips = missing_permission peer s in
-    queued true s.local text
-    (asked (fresh_id s) text (ForChannel number peer ∷ map ForPermission ips) now
-    (record s { grants = s.grants ++ Channel number peer Pending ∷ map (λ ip. Permission ip Pending) ips }))
+    in_turn (
+    with_grants (Channel number peer Pending ∷ map (λ ip. Permission ip Pending) ips)
+    ∷ asked (fresh_id s) text (ForChannel number peer ∷ map ForPermission ips) now
+    ∷ queued true s.local text
+    ∷ []
+    ) s
 
 abbrev pub channel_step : SocketAddr → ℕ → State → Result Unit BindChannelError × State
 channel_step peer now s =
@@ -193,11 +196,14 @@ with_stream local s = record s {
 
 -- the caller opened the connection: the server is to bind it
 abbrev pub socket_opened : ℕ → SocketAddr → SocketAddr → Origin → ℕ → State → State
-socket_opened id peer local origin now s =
-    with_stream local
-    (requested (fresh_id s) (ForBind local peer id) now
-    (with_grant (Connection (record { local = local; peer = peer; deadline = Some (later_by bind_time now) }))
-    (answered_with (accepted_reply s) origin (offer_taken id peer s))))
+socket_opened id peer local origin now s = in_turn (
+    offer_taken id peer
+    ∷ answered_with (accepted_reply s) origin
+    ∷ with_grant (Connection (record { local = local; peer = peer; deadline = Some (later_by bind_time now) }))
+    ∷ requested (fresh_id s) (ForBind local peer id) now
+    ∷ with_stream local
+    ∷ []
+    ) s
 
 -- it could not
 abbrev pub socket_refused : ℕ → SocketAddr → Origin → State → State
@@ -239,10 +245,13 @@ delete_text s = signed s (message_of refresh_method Request (lifetime_attribute 
 
 -- one REFRESH gives all allocations back; what is pending stays, and may still be granted
 abbrev pub deleted : ℕ → State → State
-deleted now s =
-    queued true s.local (delete_text s)
-    (asked (fresh_id s) (delete_text s) (map (λ a. ForRefresh (family_of a.relayed) 0) (allocations s)) now
-    (all_expired now (without is_granted_in s)))
+deleted now s = in_turn (
+    without is_granted_in
+    ∷ all_expired now
+    ∷ asked (fresh_id s) (delete_text s) (map (λ a. ForRefresh (family_of a.relayed) 0) (allocations s)) now
+    ∷ queued true s.local (delete_text s)
+    ∷ []
+    ) s
 
 abbrev pub delete_step : ℕ → State → Result Unit DeleteError × State
 delete_step now s = if is_allocated s.phase then (Ok tt, deleted now s) else (Err Delete.NoAllocation, s)

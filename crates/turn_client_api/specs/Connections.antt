@@ -9,12 +9,12 @@ use Rattle.turn_auth.specs.LongTerm.{Challenge}
 use Rattle.turn_agent.specs.Agent.{same_address}
 use Rattle.turn_client_api.specs.State.{State, Phase, Allocated, Grant, Offer, Connection, DataConnection, Origin, ServerRequest, ServerIndication, Mode, Bound, Stream, Purpose, later_by}
 use Rattle.std.specs.Option.{option_map_or}
-use Rattle.turn_client_api.specs.Grants.{allocation_for, connection_in, is_connect_to, is_connection_from, is_permitted, offer_in, purposes_of, unlisted, without, wait, failures_of}
+use Rattle.turn_client_api.specs.Grants.{allocation_for, connection_in, is_connect_to, is_connection_from, is_permitted, offer_in, purposes_of, unlisted, without, wait}
 use Rattle.turn_client_api.specs.Requests.{fresh_id, requested, refused_reply, replied, connection_bind_method}
 use Rattle.turn_client_api.specs.Judgement.{Judgement, Challenged, Granted, Denied, bind_judgement, is_bind_of, connection_id_in, peer_in, method_in}
 use Rattle.turn_client_api.specs.Effect.{ended, with_offer}
 use Rattle.turn_client_api.specs.Retry.{bind_time, with_held}
-use Rattle.turn_client_api.specs.declared.event.TurnEvent.TheVariants.{TcpConnected}
+use Rattle.turn_client_api.specs.declared.event.TurnEvent.TheVariants.{TcpConnected, TcpConnectFailed}
 
 -- ---- which connections there are
 
@@ -107,7 +107,7 @@ bound c s =
 -- the caller is to close it
 abbrev pub not_bound : DataConnection → State → State
 not_bound c s =
-    wait (failures_of (is_connection_from c.local) s)
+    wait (TcpConnectFailed c.peer ∷ [])
     (with_close c.local (without (is_connection_from c.local) s))
 
 -- The nonce is taken, and another CONNECTION_BIND takes the place of the one with this ID, which stays

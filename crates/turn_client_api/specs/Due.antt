@@ -1,5 +1,5 @@
 -- When something falls due (RFC 8656, sections 7 to 12).
-use Rattle.std.specs.Prelude.{ℕ, ◌-◌, ◌/◌, min, max, nat_le, nat_lt, Bool, true, false, not, ◌&&◌, ◌||◌, if◌then◌else◌, List, [], ◌∷◌, ◌++◌, map, flat_map, fold, length, Option, Some, None, option_to_list}
+use Rattle.std.specs.Prelude.{ℕ, ◌-◌, ◌/◌, min, max, nat_le, nat_lt, Bool, true, false, not, ◌&&◌, ◌||◌, if◌then◌else◌, List, [], ◌∷◌, ◌++◌, map, flat_map, fold, length, Option, Some, None, option_and_then, option_to_list}
 use Rattle.std.specs.Option.{option_map_or}
 use Rattle.std.specs.List.{list_any}
 use Rattle.turn_agent.specs.Agent.{next_moment}
@@ -52,15 +52,17 @@ abbrev pub is_in_use : Grant → State → Bool
 is_in_use (Allocation a) s = not a.is_expired
 is_in_use grant s = option_map_or (λ a. not a.is_expired) (allocation_of (family_of_grant grant) s) false
 
+-- when a grant of its kind is refreshed, if ever
+abbrev pub refresh_time_by_kind : Grant → Option ℕ
+refresh_time_by_kind (Allocation a) = Some (refresh_time_of a)
+refresh_time_by_kind (Permission ip (Active expiry)) = Some (expiry - refresh_ahead)
+refresh_time_by_kind (Channel number peer (Active expiry)) = Some (expiry - refresh_ahead)
+refresh_time_by_kind _ = None
+
 -- when the grant is to be refreshed, unless that is asked for already
-abbrev pub refresh_time : State → Grant → Option ℕ
-refresh_time s grant = if is_in_use grant s && not (has_request grant s) then by grant else None
-  where
-    by : Grant → Option ℕ
-    by (Allocation a) = Some (refresh_time_of a)
-    by (Permission ip (Active expiry)) = Some (expiry - refresh_ahead)
-    by (Channel number peer (Active expiry)) = Some (expiry - refresh_ahead)
-    by _ = None
+unfoldable pub refresh_time : State → Grant → Option ℕ
+refresh_time s grant =
+    option_and_then (λ moment. if is_in_use grant s && not (has_request grant s) then Some moment else None) (refresh_time_by_kind grant)
 
 -- ---- when a client has to be polled again
 

@@ -1,22 +1,22 @@
 -- What the server's reply to a request changes (RFC 8656, sections 7.3 to 12.3, and RFC 6062, section
 -- 4.3).
-use Rattle.std.specs.Prelude.{ℕ, ◌==◌, nat_le, Bool, true, false, not, ◌&&◌, ◌||◌, if◌then◌else◌, List, [], ◌∷◌, ◌++◌, map, filter, filter_map, fold, length, Option, Some, None, take_while, is_some}
+use Rattle.std.specs.Prelude.{ℕ, ◌==◌, nat_le, Bool, true, false, not, ◌&&◌, ◌||◌, if◌then◌else◌, List, [], ◌∷◌, map, filter, fold, length, Option, Some, None, is_some}
 use Rattle.std.specs.List.{list_any}
 use Rattle.std.specs.Option.{option_map_or}
 use Rattle.std.specs.declared.net.ip_addr.IpAddr.{IpAddr}
 use Rattle.std.specs.declared.net.socket_addr.SocketAddr.{SocketAddr}
 use Rattle.turn_stun.specs.Attributes.{seen_of}
-use Rattle.turn_stun.specs.Message.{id_of}
+use Rattle.turn_stun.specs.Message.{Attribute, id_of}
 use Rattle.turn_stun.specs.XorAddress.{xor_addr}
 use Rattle.turn_types.specs.declared.family.AddressFamily.{AddressFamily}
 use Rattle.turn_types.specs.declared.family.AddressFamily.TheVariants.{IPV4, IPV6}
 use Rattle.turn_auth.specs.Challenge.{code_in}
 use Rattle.turn_agent.specs.Agent as A
 use Rattle.turn_client_api.specs.State.{State, Phase, Allocated, Closed, Grant, Allocation, Permission, Channel, Offer, Origin, OwnConnect, Progress, Pending, Active, Reserved, Purpose, ForAllocation, ForRefresh, ForPermission, ForChannel, ForConnect, later_by, seconds}
-use Rattle.turn_client_api.specs.Grants.{allocation_in, channel_progress, first_in, is_channel_of, is_connect_to, is_of, is_of_family, is_listed_for, is_pending_permission, is_permission_of, permission_for, purposes_of, is_for_allocation, unlisted, without, with_allocations, with_grant, jump, wait, failures_of}
+use Rattle.turn_client_api.specs.Grants.{allocation_in, channel_at, first_in, in_turn, is_channel_of, is_connect_to, is_for_any, is_of, is_of_family, is_pending_permission, is_permission_of, permission_for, purposes_of, is_for_allocation, unlisted, without, with_allocations, with_grant, with_grants, jump, wait, failures_of}
 use Rattle.turn_client_api.specs.Requests.{relayed_kind, requested}
 use Rattle.turn_client_api.specs.Judgement.{lifetime_in, connection_id_in}
-use Rattle.turn_client_api.specs.declared.event.TurnEvent.TheVariants.{AllocationCreated, AllocationCreateFailed, PermissionCreated, ChannelCreated}
+use Rattle.turn_client_api.specs.declared.event.TurnEvent.TheVariants.{AllocationCreated, AllocationCreateFailed, PermissionCreated, PermissionCreateFailed, ChannelCreated, ChannelCreateFailed, TcpConnectFailed}
 
 -- ---- numbers of the standards
 
@@ -48,9 +48,13 @@ has_code code message = option_map_or (λ other. other == code) (code_in message
 
 -- ---- the end of a client
 
+-- no address is asked for any more
+abbrev pub without_families : State → State
+without_families s = record s { families = [] }
+
 -- each family that is still asked for fails
 abbrev pub fail_all : State → State
-fail_all s = wait (map AllocationCreateFailed s.families) (record s { families = [] })
+fail_all s = wait (map AllocationCreateFailed s.families) (without_families s)
 
 -- no reply to an ALLOCATE is awaited any more
 abbrev pub in_phase : Phase → State → State
@@ -69,9 +73,20 @@ heeded s = record s { challenges = 0 }
 
 -- ---- ALLOCATE
 
+-- the address is before the others, and none follows one that is malformed
+abbrev pub before_malformed : Option SocketAddr → List SocketAddr → List SocketAddr
+before_malformed (Some address) others = address ∷ others
+before_malformed None others = []
+
+abbrev pub relayed_among : ℕ → List Attribute → List SocketAddr
+relayed_among id [] = []
+relayed_among id (a ∷ later) =
+    if a.kind == relayed_kind then before_malformed (xor_addr a.value id) (relayed_among id later)
+    else relayed_among id later
+
 -- the relayed addresses, up to the first that is malformed
 abbrev pub relayed_in : List ℕ → List SocketAddr
-relayed_in message = filter_map (λ a. a) (take_while is_some (map (λ a. xor_addr a.value (id_of message)) (filter (λ a. a.kind == relayed_kind) (seen_of message))))
+relayed_in message = relayed_among (id_of message) (seen_of message)
 
 -- the first address of each family that is asked for
 abbrev pub taken_addresses : List AddressFamily → List SocketAddr → List SocketAddr
@@ -90,14 +105,20 @@ abbrev pub phase_with : List SocketAddr → Phase
 phase_with [] = Closed
 phase_with (a ∷ others) = Allocated
 
+-- the families that are asked for, but of which no address is among these
+abbrev pub missing_families : List SocketAddr → State → List AddressFamily
+missing_families addresses s = filter (λ family. not (list_any (is_of_family family) addresses)) s.families
+
 -- the server allocated these addresses for so many seconds
 abbrev pub allocated : ℕ → List SocketAddr → ℕ → State → State
-allocated lifetime addresses now s =
-    wait (map (AllocationCreated s.config.allocation_transport) addresses ++ map AllocationCreateFailed (filter (λ family. not (list_any (is_of_family family) addresses)) s.families))
-    (record (in_phase (phase_with addresses) s) {
-      families = [];
-      grants = s.grants ++ map (new_allocation lifetime now) addresses;
-    })
+allocated lifetime addresses now s = in_turn (
+    in_phase (phase_with addresses)
+    ∷ without_families
+    ∷ with_grants (map (new_allocation lifetime now) addresses)
+    ∷ wait (map (AllocationCreated s.config.allocation_transport) addresses)
+    ∷ wait (map AllocationCreateFailed (missing_families addresses s))
+    ∷ []
+    ) s
 
 abbrev pub allocate_granted : List ℕ → ℕ → State → State
 allocate_granted message now s =
@@ -139,38 +160,50 @@ refreshed family lifetime is_granted message now s =
 
 -- ---- permissions (RFC 8656, section 10.3)
 
--- what was active lasts up to another moment; it keeps its place
+-- what is active lasts up to another moment, and only that
+abbrev pub lasting : ℕ → Grant → Grant
+lasting expiry (Permission ip (Active was)) = Permission ip (Active expiry)
+lasting expiry (Channel number peer (Active was)) = Channel number peer (Active expiry)
+lasting expiry grant = grant
+
+-- it keeps its place
 abbrev pub renewed : (Grant → Bool) → ℕ → State → State
 renewed which expiry s = record s { grants = map by s.grants }
   where
-    last : Grant → Grant
-    last (Permission ip progress) = Permission ip (Active expiry)
-    last (Channel number peer progress) = Channel number peer (Active expiry)
-    last grant = grant
-
     by : Grant → Grant
-    by grant = if which grant then last grant else grant
+    by grant = if which grant then lasting expiry grant else grant
+
+-- one that was asked for stands from now on behind all others, or is asked for no more
+abbrev pub pending_permission_answered : IpAddr → Bool → ℕ → State → State
+pending_permission_answered ip true now s =
+    wait (PermissionCreated s.config.allocation_transport ip ∷ [])
+    (with_grant (Permission ip (Active (later_by permission_lifetime now))) (without (is_permission_of ip) s))
+pending_permission_answered ip false now s =
+    wait (PermissionCreateFailed s.config.allocation_transport ip ∷ []) (without (is_permission_of ip) s)
+
+-- one that was to be refreshed
+abbrev pub active_permission_answered : IpAddr → Bool → ℕ → State → State
+active_permission_answered ip true now s =
+    renewed (is_permission_of ip) (later_by permission_lifetime now) (unlisted (is_permission_of ip) s)
+active_permission_answered ip false now s =
+    jump (PermissionCreateFailed s.config.allocation_transport ip ∷ []) (without (is_permission_of ip) s)
 
 abbrev pub permission_answered : IpAddr → Bool → ℕ → State → State
-permission_answered ip is_granted now s = by (permission_for ip s) is_granted
+permission_answered ip is_granted now s = by (permission_for ip s)
   where
-    by : Option Progress → Bool → State
-    by (Some Pending) true =
-        wait (PermissionCreated s.config.allocation_transport ip ∷ [])
-        (with_grant (Permission ip (Active (later_by permission_lifetime now))) (without (is_permission_of ip) s))
-    by (Some Pending) false = wait (failures_of (is_permission_of ip) s) (without (is_permission_of ip) s)
-    by (Some (Active expiry)) true =
-        renewed (is_permission_of ip) (later_by permission_lifetime now) (unlisted (is_permission_of ip) s)
-    by (Some (Active expiry)) false = jump (failures_of (is_permission_of ip) s) (without (is_permission_of ip) s)
-    by _ _ = s
+    by : Option Progress → State
+    by (Some Pending) = pending_permission_answered ip is_granted now s
+    by (Some (Active expiry)) = active_permission_answered ip is_granted now s
+    by _ = s
+
+-- the permission that a purpose names
+abbrev pub permission_answered_for : Bool → ℕ → State → Purpose → State
+permission_answered_for is_granted now s (ForPermission ip) = permission_answered ip is_granted now s
+permission_answered_for is_granted now s _ = s
 
 -- the permissions that the request of this ID was made for
 abbrev pub permissions_answered : ℕ → Bool → ℕ → State → State
-permissions_answered id is_granted now s = fold by s (purposes_of id s)
-  where
-    by : State → Purpose → State
-    by t (ForPermission ip) = permission_answered ip is_granted now t
-    by t _ = t
+permissions_answered id is_granted now s = fold (permission_answered_for is_granted now) s (purposes_of id s)
 
 -- ---- channels (RFC 8656, section 12.3)
 
@@ -180,29 +213,45 @@ abbrev pub reserved : ℕ → SocketAddr → ℕ → State → State
 reserved number peer expiry s =
     with_grant (Channel number peer (Reserved (later_by reserved_time expiry))) (without (is_channel_of number) s)
 
--- the pending permission that the request of this ID was to bring
-abbrev pub permission_refused_too : ℕ → State → State
-permission_refused_too id s = wait (failures_of which s) (without which s)
-  where
-    which : Grant → Bool
-    which g = is_pending_permission g && is_listed_for id g s
+-- the pending permission that a request for these was to bring
+abbrev pub is_asked_permission : List Purpose → Grant → Bool
+is_asked_permission purposes grant = is_pending_permission grant && is_for_any purposes grant
 
--- The binding brings a permission with it, where one was asked for with it (RFC 8656, section 12.2). A
--- refusal takes it too.
-abbrev pub channel_answered : ℕ → SocketAddr → ℕ → Bool → ℕ → State → State
-channel_answered number peer id is_granted now s = by (first_in (channel_progress number) s) is_granted
+abbrev pub permission_refused_too : List Purpose → State → State
+permission_refused_too purposes s =
+    wait (failures_of (is_asked_permission purposes) s) (without (is_asked_permission purposes) s)
+
+-- One that was asked for. The binding brings a permission with it, where one was asked for with it
+-- (RFC 8656, section 12.2), and a refusal takes it too.
+abbrev pub pending_channel_answered : ℕ → SocketAddr → ℕ → Bool → ℕ → State → State
+pending_channel_answered number peer id true now s = in_turn (
+    permissions_answered id true now
+    ∷ without (is_channel_of number)
+    ∷ with_grant (Channel number peer (Active (later_by channel_lifetime now)))
+    ∷ wait (ChannelCreated s.config.allocation_transport peer ∷ [])
+    ∷ []
+    ) s
+pending_channel_answered number peer id false now s = in_turn (
+    without (is_channel_of number)
+    ∷ wait (ChannelCreateFailed s.config.allocation_transport peer ∷ [])
+    ∷ permission_refused_too (purposes_of id s)
+    ∷ []
+    ) s
+
+-- one that was to be refreshed
+abbrev pub active_channel_answered : ℕ → SocketAddr → ℕ → Bool → ℕ → State → State
+active_channel_answered number peer expiry true now s =
+    renewed (is_channel_of number) (later_by channel_lifetime now) (unlisted (is_channel_of number) s)
+active_channel_answered number peer expiry false now s =
+    wait (ChannelCreateFailed s.config.allocation_transport peer ∷ []) (reserved number peer expiry s)
+
+abbrev pub channel_answered : ℕ → ℕ → Bool → ℕ → State → State
+channel_answered number id is_granted now s = by (first_in (channel_at number) s)
   where
-    by : Option Progress → Bool → State
-    by (Some Pending) true =
-        wait (ChannelCreated s.config.allocation_transport peer ∷ [])
-        (with_grant (Channel number peer (Active (later_by channel_lifetime now)))
-        (without (is_channel_of number) (permissions_answered id true now s)))
-    by (Some Pending) false =
-        permission_refused_too id (wait (failures_of (is_channel_of number) s) (without (is_channel_of number) s))
-    by (Some (Active expiry)) true =
-        renewed (is_channel_of number) (later_by channel_lifetime now) (unlisted (is_channel_of number) s)
-    by (Some (Active expiry)) false = wait (failures_of (is_channel_of number) s) (reserved number peer expiry s)
-    by _ _ = s
+    by : Option (SocketAddr × Progress) → State
+    by (Some (peer, Pending)) = pending_channel_answered number peer id is_granted now s
+    by (Some (peer, Active expiry)) = active_channel_answered number peer expiry is_granted now s
+    by _ = s
 
 -- ---- CONNECT (RFC 6062, section 4.3)
 
@@ -213,7 +262,7 @@ with_offer connection_id peer origin s =
 
 abbrev pub connect_answered : SocketAddr → Option ℕ → State → State
 connect_answered peer (Some connection_id) s = with_offer connection_id peer OwnConnect (without (is_connect_to peer) s)
-connect_answered peer None s = wait (failures_of (is_connect_to peer) s) (without (is_connect_to peer) s)
+connect_answered peer None s = wait (TcpConnectFailed peer ∷ []) (without (is_connect_to peer) s)
 
 -- ---- a signed reply, whose request is outstanding no longer
 
@@ -221,7 +270,7 @@ connect_answered peer None s = wait (failures_of (is_connect_to peer) s) (withou
 abbrev pub effect : ℕ → Bool → List ℕ → ℕ → State → Purpose → State
 effect id is_granted message now s (ForRefresh family lifetime) = refreshed family lifetime is_granted message now s
 effect id is_granted message now s (ForPermission ip) = heeded (permission_answered ip is_granted now s)
-effect id is_granted message now s (ForChannel number peer) = heeded (channel_answered number peer id is_granted now s)
+effect id is_granted message now s (ForChannel number peer) = heeded (channel_answered number id is_granted now s)
 effect id is_granted message now s (ForConnect peer) =
     heeded (connect_answered peer (if is_granted then connection_id_in message else None) s)
 effect id is_granted message now s _ = s

@@ -1,5 +1,5 @@
 -- What a client reads off its grants, and how they change.
-use Rattle.std.specs.Prelude.{ℕ, ◌==◌, nat_le, Bool, true, false, not, ◌&&◌, ◌||◌, if◌then◌else◌, List, [], ◌∷◌, ◌++◌, map, filter, find, filter_map, slice_get, reverse, Option, Some, None}
+use Rattle.std.specs.Prelude.{ℕ, ◌==◌, nat_le, Bool, true, false, not, ◌&&◌, ◌||◌, if◌then◌else◌, List, [], ◌∷◌, ◌++◌, map, filter, find, filter_map, fold, slice_get, reverse, Option, Some, None}
 use Rattle.std.specs.Option.{option_map_or}
 use Rattle.std.specs.List.{list_any}
 use Rattle.std.specs.Cmp.Lexicographic.{pointwise}
@@ -96,10 +96,10 @@ is_active _ = false
 abbrev pub is_permitted : IpAddr → State → Bool
 is_permitted ip s = is_active (permission_for ip s)
 
--- how far the channel of this number has come
-abbrev pub channel_progress : ℕ → Grant → Option Progress
-channel_progress number (Channel other peer progress) = if other == number then Some progress else None
-channel_progress number _ = None
+-- the peer of the channel of this number, and how far it has come
+abbrev pub channel_at : ℕ → Grant → Option (SocketAddr × Progress)
+channel_at number (Channel other peer progress) = if other == number then Some (peer, progress) else None
+channel_at number _ = None
 
 -- the peer of the active channel of this number
 abbrev pub channel_peer : ℕ → Grant → Option SocketAddr
@@ -154,9 +154,9 @@ is_for (ForConnect peer) grant = is_connect_to peer grant
 is_for (ForBind local peer id) grant = is_connection_from local grant
 is_for _ _ = false
 
--- a request of this ID was made for the grant
-abbrev pub is_listed_for : ℕ → Grant → State → Bool
-is_listed_for id grant s = list_any (λ l. (l.id == id) && is_for l.purpose grant) s.listed
+-- one of these is for the grant
+abbrev pub is_for_any : List Purpose → Grant → Bool
+is_for_any purposes grant = list_any (λ p. is_for p grant) purposes
 
 -- some request was made for it
 abbrev pub has_request : Grant → State → Bool
@@ -184,6 +184,10 @@ is_listed id s = list_any (λ l. l.id == id) s.listed || list_any (is_of_request
 
 -- ---- grants come and go
 
+-- what happens, the first step first
+abbrev pub in_turn : List (State → State) → State → State
+in_turn steps s = fold (λ t step. step t) s steps
+
 -- no request is listed any more for grants of this kind
 abbrev pub unlisted : (Grant → Bool) → State → State
 unlisted which s = record s {
@@ -194,9 +198,13 @@ unlisted which s = record s {
 abbrev pub without : (Grant → Bool) → State → State
 without which s = record (unlisted which s) { grants = filter (λ g. not (which g)) s.grants }
 
+-- these grants are behind all others
+abbrev pub with_grants : List Grant → State → State
+with_grants grants s = record s { grants = s.grants ++ grants }
+
 -- one grant more, behind all others
 abbrev pub with_grant : Grant → State → State
-with_grant grant s = record s { grants = s.grants ++ grant ∷ [] }
+with_grant grant s = with_grants (grant ∷ []) s
 
 abbrev pub family_of_grant : Grant → AddressFamily
 family_of_grant (Allocation a) = family_of a.relayed

@@ -1,8 +1,8 @@
 -- What a message is to a client (RFC 8489, sections 6.3 and 9.2.5; RFC 8656, section 11).
-use Rattle.std.specs.Prelude.{ℕ, ◌==◌, nat_lt, Bool, false, not, ◌&&◌, ◌||◌, if◌then◌else◌, List, reverse, Option, Some, None, option_and_then}
+use Rattle.std.specs.Prelude.{ℕ, ◌==◌, nat_lt, Bool, false, not, ◌&&◌, ◌||◌, if◌then◌else◌, List, fold, Option, Some, None, option_and_then}
 use Rattle.std.specs.List.{list_any}
 use Rattle.std.specs.declared.net.socket_addr.SocketAddr.{SocketAddr}
-use Rattle.turn_stun.specs.Attributes.{seen_of, first_of}
+use Rattle.turn_stun.specs.Attributes.{seen_of}
 use Rattle.turn_stun.specs.Message.{Attribute, type_of, id_of}
 use Rattle.turn_stun.specs.MessageType.{class_of, method_of}
 use Rattle.turn_stun.specs.XorAddress.{xor_addr}
@@ -43,8 +43,12 @@ peer_in message = option_and_then (λ value. xor_addr value (id_of message)) (va
 
 -- ---- DATA indications: of several attributes of one type the last one counts (our choice)
 
+-- an attribute of this type takes the place of the one before
+abbrev pub later_of : ℕ → Option Attribute → Attribute → Option Attribute
+later_of kind before a = if a.kind == kind then Some a else before
+
 abbrev pub last_in : ℕ → List ℕ → Option Attribute
-last_in kind message = first_of kind (reverse (seen_of message))
+last_in kind message = fold (later_of kind) None (seen_of message)
 
 abbrev pub last_peer_in : List ℕ → Option SocketAddr
 last_peer_in message = option_and_then (λ a. xor_addr a.value (id_of message)) (last_in peer_kind message)

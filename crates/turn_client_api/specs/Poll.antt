@@ -1,30 +1,31 @@
 -- What a client does as time passes (RFC 8656, sections 8 to 12; RFC 6062, section 4.3).
-use Rattle.std.specs.Prelude.{ℕ, nat_le, nat_lt, Bool, true, false, not, ◌&&◌, ◌||◌, if◌then◌else◌, List, [], ◌∷◌, ◌++◌, map, filter, find, filter_map, flat_map, fold, reverse, slice_get, option_and_then, Option, Some, None, is_some}
+use Rattle.std.specs.Prelude.{ℕ, nat_le, nat_lt, Bool, true, false, not, ◌&&◌, ◌||◌, if◌then◌else◌, List, [], ◌∷◌, ◌++◌, map, filter, find, filter_map, fold, reverse, slice_get, Option, Some, None, is_some}
 use Rattle.std.specs.List.{list_any}
 use Rattle.std.specs.Option.{option_map_or}
 use Rattle.std.specs.declared.net.socket_addr.SocketAddr.{SocketAddr}
 use Rattle.turn_types.specs.declared.family.AddressFamily.{AddressFamily}
 use Rattle.turn_agent.specs.Agent.{given_up}
-use Rattle.turn_client_api.specs.State.{State, Phase, New, Requesting, Authenticating, Allocated, Closed, Grant, Allocation, Permission, Channel, Offer, Connection, Relay, DataOffer, Active, Reserved, agent_of}
-use Rattle.turn_client_api.specs.Grants.{allocations, family_of, failures_of, connection_in, has_request, is_channel_of, is_connect, is_for_allocation, is_listed_for, offer_in, is_of, is_of_request, is_past, is_pending_channel, is_pending_permission, jump, purposes_of, unlisted, without}
-use Rattle.turn_client_api.specs.Effect.{closed, ended, reserved}
+use Rattle.turn_client_api.specs.State.{State, Phase, New, Requesting, Authenticating, Allocated, Closed, Grant, Allocation, Permission, Channel, Offer, Connection, Relay, DataOffer, Active, Reserved, Purpose, agent_of}
+use Rattle.turn_client_api.specs.Grants.{allocations, family_of, failures_of, first_in, connection_in, has_request, in_turn, is_connect, is_for_allocation, is_for_any, is_of, is_of_family, is_of_request, is_past, is_pending_channel, is_pending_permission, jump, purposes_of, unlisted, without}
+use Rattle.turn_client_api.specs.Effect.{closed, ended, reserved, without_families}
 use Rattle.turn_client_api.specs.Calls.{is_allocated}
 use Rattle.turn_client_api.specs.Due.{has_event, has_reply, next_wakeup}
-use Rattle.turn_client_api.specs.declared.event.TurnEvent.TheVariants.{AllocationCreateFailed}
+use Rattle.turn_client_api.specs.declared.event.TurnEvent.TheVariants.{AllocationCreateFailed, ChannelCreateFailed}
 use Rattle.turn_client_api.specs.declared.poll.TurnPollRet.{TurnPollRet}
 use Rattle.turn_client_api.specs.declared.poll.TurnPollRet.TheVariants as Do
 
 -- ---- what lapses in one allocation
 
--- the request that was just given up, if there is one, was made for the grant
-abbrev pub is_given_up_for : Option ℕ → State → Grant → Bool
-is_given_up_for given s grant = option_map_or (λ id. is_listed_for id grant s) given false
+-- what the request that was just given up was made for, if there is one
+abbrev pub given_up_purposes : Option ℕ → State → List Purpose
+given_up_purposes given s = option_map_or (λ id. purposes_of id s) given []
 
--- An allocation goes at its end, unless it is expired and a request for it still awaits its response.
-abbrev pub goes : Option ℕ → ℕ → State → Relay → Bool
-goes given now s a =
+-- An allocation goes at its end, unless it is expired and a request for it still awaits its response: all
+-- but one that was made for these was not given up.
+abbrev pub goes : List Purpose → ℕ → State → Relay → Bool
+goes purposes now s a =
     is_past now a
-    && (is_given_up_for given s (Allocation a) || not (has_request (Allocation a) s) || not a.is_expired)
+    && (is_for_any purposes (Allocation a) || not (has_request (Allocation a) s) || not a.is_expired)
 
 -- these grants are no longer there, and their failures jump
 abbrev pub failed : (Grant → Bool) → State → State
@@ -44,15 +45,15 @@ is_over now (Channel number peer (Reserved until)) = nat_lt until now
 is_over now _ = false
 
 -- the server did not bind the connection in time
-abbrev pub is_unbound : Option ℕ → ℕ → State → Grant → Bool
-is_unbound given now s (Connection c) =
-    option_map_or (λ deadline. nat_le deadline now || is_given_up_for given s (Connection c)) c.deadline false
-is_unbound given now s _ = false
+abbrev pub is_unbound : List Purpose → ℕ → Grant → Bool
+is_unbound purposes now (Connection c) =
+    option_map_or (λ deadline. nat_le deadline now || is_for_any purposes (Connection c)) c.deadline false
+is_unbound purposes now _ = false
 
 -- one channel an allocation and a call: its failure jumps, and its number and peer are reserved
 abbrev pub channel_lapsed : Option Grant → State → State
 channel_lapsed (Some (Channel number peer (Active expiry))) s =
-    jump (failures_of (is_channel_of number) s) (reserved number peer expiry s)
+    jump (ChannelCreateFailed s.config.allocation_transport peer ∷ []) (reserved number peer expiry s)
 channel_lapsed _ s = s
 
 -- connections that are not bound are to be closed, behind all others
@@ -64,9 +65,9 @@ unbound which s = record (failed which s) {
 abbrev pub is_given_offer : Option ℕ → Grant → Bool
 is_given_offer given grant = option_map_or (λ id. is_of_request id grant) given false
 
--- what was asked for by the request that was given up
-abbrev pub in_vain : AddressFamily → Option ℕ → (Grant → Bool) → State → State
-in_vain family given which s = failed (λ g. is_of family g && which g && is_given_up_for given s g) s
+-- what was asked for by the request that was given up, which was made for these
+abbrev pub in_vain : AddressFamily → List Purpose → (Grant → Bool) → State → State
+in_vain family purposes which s = failed (λ g. is_of family g && which g && is_for_any purposes g) s
 
 abbrev pub last_channel_lapsed : AddressFamily → ℕ → State → State
 last_channel_lapsed family now s =
@@ -75,63 +76,71 @@ last_channel_lapsed family now s =
 abbrev pub permissions_lapsed : AddressFamily → ℕ → State → State
 permissions_lapsed family now s = failed (λ g. is_of family g && is_lapsed_permission now g) s
 
-abbrev pub connections_unbound : AddressFamily → Option ℕ → ℕ → State → State
-connections_unbound family given now s = unbound (λ g. is_of family g && is_unbound given now s g) s
+abbrev pub connections_unbound : AddressFamily → List Purpose → ℕ → State → State
+connections_unbound family purposes now s = unbound (λ g. is_of family g && is_unbound purposes now g) s
 
 abbrev pub offers_in_vain : AddressFamily → Option ℕ → State → State
 offers_in_vain family given s = failed (λ g. is_of family g && is_given_offer given g) s
 
 -- what was to be refreshed in vain may be asked for again
-abbrev pub refreshes_in_vain : AddressFamily → Option ℕ → State → State
-refreshes_in_vain family given s = unlisted (λ g. is_of family g && is_given_up_for given s g) s
+abbrev pub refreshes_in_vain : AddressFamily → List Purpose → State → State
+refreshes_in_vain family purposes s = unlisted (λ g. is_of family g && is_for_any purposes g) s
 
 -- what was reserved long enough is free
 abbrev pub set_free : AddressFamily → ℕ → State → State
 set_free family now s = without (λ g. is_of family g && is_over now g) s
 
--- all of this in an allocation that stays, from the inside out
-abbrev pub lapsed_in : AddressFamily → Option ℕ → ℕ → State → State
-lapsed_in family given now s =
-    set_free family now
-    (refreshes_in_vain family given
-    (offers_in_vain family given
-    (connections_unbound family given now
-    (in_vain family given is_connect
-    (permissions_lapsed family now
-    (last_channel_lapsed family now
-    (in_vain family given is_pending_permission
-    (in_vain family given is_pending_channel s))))))))
+-- all of this in an allocation that stays
+abbrev pub lapsed_in : AddressFamily → Option ℕ → List Purpose → ℕ → State → State
+lapsed_in family given purposes now s = in_turn (
+    in_vain family purposes is_pending_channel
+    ∷ in_vain family purposes is_pending_permission
+    ∷ last_channel_lapsed family now
+    ∷ permissions_lapsed family now
+    ∷ in_vain family purposes is_connect
+    ∷ connections_unbound family purposes now
+    ∷ offers_in_vain family given
+    ∷ refreshes_in_vain family purposes
+    ∷ set_free family now
+    ∷ []
+    ) s
 
 -- an allocation that goes takes all that is in it, and nobody is told
-abbrev pub lapsed_allocation : Option ℕ → ℕ → State → Relay → State
-lapsed_allocation given now s a =
-    if goes given now s a then without (is_of (family_of a.relayed)) s else lapsed_in (family_of a.relayed) given now s
+abbrev pub lapsed_allocation : Option ℕ → List Purpose → ℕ → State → Relay → State
+lapsed_allocation given purposes now s a =
+    if goes purposes now s a then without (is_of (family_of a.relayed)) s
+    else lapsed_in (family_of a.relayed) given purposes now s
 
 -- all allocations, in the order in which the server granted them
 abbrev pub lapsed : Option ℕ → ℕ → State → State
-lapsed given now s = fold (lapsed_allocation given now) s (allocations s)
+lapsed given now s = fold (lapsed_allocation given (given_up_purposes given s) now) s (allocations s)
 
 -- ---- the caller is to open a data connection
 
-abbrev pub untold_in : Grant → Option DataOffer
-untold_in grant = option_and_then (λ offer. if offer.is_told then None else Some offer) (offer_in grant)
+-- an offer of a family that the caller was not told of
+abbrev pub untold_in : AddressFamily → Grant → Option DataOffer
+untold_in family (Offer offer) = if is_of_family family offer.peer && not offer.is_told then Some offer else None
+untold_in family _ = None
 
-abbrev pub untold_of : State → Relay → List DataOffer
-untold_of s a = filter_map untold_in (filter (is_of (family_of a.relayed)) s.grants)
+-- the first of them
+abbrev pub first_untold : AddressFamily → State → Option DataOffer
+first_untold family s = first_in (untold_in family) s
 
--- the first one that the caller was not told of, allocation by allocation
+-- the one that the caller is told of next, allocation by allocation
 abbrev pub next_offer : State → Option DataOffer
-next_offer s = if is_allocated s.phase then slice_get (flat_map (untold_of s) (allocations s)) 0 else None
+next_offer s =
+    if is_allocated s.phase then slice_get (filter_map (λ a. first_untold (family_of a.relayed) s) (allocations s)) 0
+    else None
 
 abbrev pub told : Grant → Grant
 told (Offer offer) = Offer (record offer { is_told = true })
 told grant = grant
 
--- the first offer of a family that the caller was not told of is told
+-- the caller is told of the first of a family
 abbrev pub told_first : AddressFamily → List Grant → List Grant
 told_first family [] = []
 told_first family (g ∷ others) =
-    if is_of family g && is_some (untold_in g) then told g ∷ others else g ∷ told_first family others
+    if is_some (untold_in family g) then told g ∷ others else g ∷ told_first family others
 
 abbrev pub offer_step : DataOffer → State → TurnPollRet × State
 offer_step offer s = (
@@ -155,7 +164,7 @@ answer_step given now s = answer_by s.closes s.phase (allocations s) given now s
 
 -- no response came to the first ALLOCATE: the families that are asked for fail
 abbrev pub silent_step : State → TurnPollRet × State
-silent_step s = (Do.Closed, closed (jump (map AllocationCreateFailed s.families) (record s { families = [] })))
+silent_step s = (Do.Closed, closed (jump (map AllocationCreateFailed s.families) (without_families s)))
 
 -- at most one transaction was given up
 abbrev pub timed_step : Phase → Option ℕ → ℕ → State → TurnPollRet × State

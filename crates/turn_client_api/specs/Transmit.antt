@@ -22,7 +22,7 @@ refresh_purpose now (Channel number peer (Active expiry)) = if nat_lt now expiry
 refresh_purpose now _ = None
 
 -- the time to refresh the grant has come
-abbrev pub is_refresh_due : ℕ → State → Grant → Bool
+unfoldable pub is_refresh_due : ℕ → State → Grant → Bool
 is_refresh_due now s grant = option_map_or (λ moment. nat_le moment now) (refresh_time s grant) false
 
 -- in an allocation itself comes first, then its channels, then its permissions

@@ -1,4 +1,5 @@
 use Rattle.std.proofs.Common.{refl}
+use Rattle.turn_client_api.specs.Due.{refresh_time}
 use Rattle.turn_client_api.proofs.laws.rows.delete_is_one_request.Goals as goal
 
 pub returns-clause-one : goal.returns-clause-one
@@ -11,6 +12,7 @@ pub returns-clause-unused : goal.returns-clause-unused
 returns-clause-unused c = λ s. refl
 
 pub returns-clause-waits : goal.returns-clause-waits
+unfolding refresh_time
 returns-clause-waits c = λ to text s. refl
 
 pub returns-clause-ends : goal.returns-clause-ends

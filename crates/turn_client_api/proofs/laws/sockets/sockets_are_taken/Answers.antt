@@ -1,5 +1,6 @@
 use Rattle.std.proofs.Common.{refl}
 use Rattle.turn_agent.specs.Schedule.{schedule}
+use Rattle.turn_client_api.specs.Due.{refresh_time}
 use Rattle.turn_client_api.proofs.laws.sockets.sockets_are_taken.Goals as goal
 
 pub returns-clause-taken : goal.returns-clause-taken
@@ -15,7 +16,7 @@ pub returns-clause-streams : goal.returns-clause-streams
 returns-clause-streams c = λ s. refl
 
 pub returns-clause-deadline : goal.returns-clause-deadline
-unfolding schedule
+unfolding schedule refresh_time
 returns-clause-deadline c = λ s. refl
 
 pub returns-clause-none : goal.returns-clause-none
