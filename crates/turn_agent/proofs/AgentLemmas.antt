@@ -1,9 +1,9 @@
 -- The calls of an agent, by the place of the transaction that each is about.
-use Rattle.std.proofs.Common.{◌≡◌, ℕ, suc, add-one, drop-cons, ◌+◌, ◌-◌, ◌<◌, ◌≤◌, ◌^◌, Bool, true, false, eqb, leb, ltb, ◌&&◌, List, [], ◌∷◌, ◌++◌, length, take, drop, get_or, set, map, find, fold, min, Option, Some, None, refl, sym, ◌∙◌, arith}
+use Rattle.std.proofs.Common.{◌≡◌, ℕ, suc, add-one, drop-cons, ◌+◌, ◌-◌, ◌<◌, ◌≤◌, ◌^◌, Bool, true, false, eqb, leb, ltb, ◌&&◌, List, [], ◌∷◌, length, drop, get_or, set, map, find, fold, min, Option, Some, None, refl, sym, ◌∙◌, arith}
 use Rattle.std.specs.Prelude.{slice_get, IsSome}
 use Rattle.std.specs.List.{list_any, position, position_or_len}
-use Rattle.std.proofs.Math.Nat.{min-le_left, min-le_right, le-min}
-use Rattle.std.proofs.lemmas.Bool.{ltb-true, ltb-false, eqb-true, and_parts, and_right, lt-leb, leb-false}
+use Rattle.std.proofs.Math.Nat.{min-le_left, min-le_right, min-eq_left, le-min}
+use Rattle.std.proofs.lemmas.Bool.{ltb-true, ltb-false, eqb-true, ne_eqb, and_parts, and_right, lt-leb, leb-false}
 use Rattle.std.proofs.lemmas.List.Folds.{find_at}
 use Rattle.std.proofs.lemmas.Option.{cond_some, slice_get-get_or, slice_get_past, none-some, same_Some}
 use Rattle.std.specs.declared.net.socket_addr.SocketAddr.{SocketAddr}
@@ -14,11 +14,11 @@ use Rattle.turn_stun.specs.declared.transport.Transmit.{Transmit}
 use Rattle.turn_stun.specs.Message.{type_of, id_of}
 use Rattle.turn_stun.specs.MessageType.{class_of, IsResponse}
 use Rattle.turn_agent.specs.Schedule.{Timers, resends_of}
-use Rattle.turn_agent.specs.Agent.{Agent, AreDistinct, without, sent_again, answers, same_address, is_response, handle_step, poll_step, transmit_step, given_up, is_due, is_given_up, next_moment, IsSilentAt}
+use Rattle.turn_agent.specs.Agent.{Agent, AreDistinct, sent_again, answers, same_address, is_outstanding, is_response, handle_step, poll_step, transmit_step, due, given_up, is_due, is_given_up, next_moment, earliest, ended, IsSilentAt, IsSoonest, IsQuietUntil}
 use Rattle.turn_agent.specs.declared.agent.StunAgentPollRet.{StunAgentPollRet}
-use Rattle.turn_agent.specs.declared.agent.StunAgentPollRet.TheVariants.{TransactionTimedOut}
+use Rattle.turn_agent.specs.declared.agent.StunAgentPollRet.TheVariants.{TransactionTimedOut, WaitUntil}
 use Rattle.turn_agent.specs.declared.transaction.Transaction.{Transaction}
-use Rattle.turn_agent.proofs.TransactionLemmas.{remove-without, set-resent}
+use Rattle.turn_agent.proofs.TransactionLemmas.{set-resent}
 
 -- the first one that passes, and where it stands
 pub record IsFirst {X : Type 0} (p : X → Bool) (xs : List X) (i : ℕ) : Type 0 where
@@ -33,6 +33,11 @@ position-IsFirst p xs i at =
       within = omega (arith, within, parts.1);
       found = λ d. rw (find_at p xs, parts.1) (slice_get-get_or xs i d (omega (arith, within, parts.1)));
     }
+
+pub position-found : {X : Type 0} (p : X → Bool) (xs : List X) (i : ℕ) (x : X) → position p xs ≡ Some i → slice_get xs i ≡ Some x → find p xs ≡ Some x
+position-found p xs i x at taken =
+    let first = position-IsFirst p xs i at in
+    first.found x ∙ (sym (slice_get-get_or xs i x first.within) ∙ taken)
 
 pub position-none : {X : Type 0} (p : X → Bool) (xs : List X) → position p xs ≡ None → find p xs ≡ None
 position-none p xs none = by (ltb (position_or_len p xs) (length xs)) refl
@@ -87,21 +92,29 @@ handle_step-stray a message from is none =
     let unanswered = list_any-none _ a.transactions (position-none _ a.transactions none) in
     rw (IsResponse-true (class_of (type_of message)) is, unanswered) refl
 
--- to take out the transaction that a response answers is to leave out its ID
-pub remove-answered : (id : ℕ) (from : SocketAddr) (ts : List Transaction) (i : ℕ) (d : Transaction) → AreDistinct ts → position (answers id from) ts ≡ Some i → take i ts ++ drop (suc i) ts ≡ without id ts
-remove-answered id from ts i d distinct at =
-    let first = position-IsFirst (answers id from) ts i at in
-    let t = get_or ts i d in
-    let passes = find-passes (answers id from) ts t (first.found d) in
-    let same : t.id ≡ id = eqb-true t.id id (and_parts (eqb t.id id) (same_address t.to from) passes).0 in
-    rw (remove-without ts i d distinct first.within, same) refl
+-- the transaction at this place has this ID, and was outstanding
+pub record IsOf (id : ℕ) (ts : List Transaction) (t : Transaction) : Type 0 where
+  pub same : t.id ≡ id
+  pub was : is_outstanding id ts ≡ true
+
+pub position-IsOf : (id : ℕ) (ts : List Transaction) (i : ℕ) (t : Transaction) → position (λ u. eqb u.id id) ts ≡ Some i → slice_get ts i ≡ Some t → IsOf id ts t
+position-IsOf id ts i t at taken =
+    let found = position-found (λ u. eqb u.id id) ts i t at taken in
+    record { same = eqb-true t.id id (find-passes (λ u. eqb u.id id) ts t found); was = list_any-some (λ u. eqb u.id id) ts t found }
+
+-- a transaction that a response answers has its ID
+pub answers-id : (id : ℕ) (from : SocketAddr) (ts : List Transaction) (i : ℕ) (t : Transaction) → position (answers id from) ts ≡ Some i → slice_get ts i ≡ Some t → t.id ≡ id
+answers-id id from ts i t at taken =
+    let passes = find-passes (answers id from) ts t (position-found (answers id from) ts i t at taken) in
+    eqb-true t.id id (and_parts (eqb t.id id) (same_address t.to from) passes).0
 
 -- a response that answers the transaction at this place
-pub handle_step-ended : (a : Agent) (message : List ℕ) (from : SocketAddr) (i : ℕ) (d : Transaction) → AreDistinct a.transactions → IsResponse (class_of (type_of message)) → position (answers (id_of message) from) a.transactions ≡ Some i → ◌≡◌ {A = Bool × Agent} (true, record a { transactions = take i a.transactions ++ drop (suc i) a.transactions }) (handle_step a message from)
-handle_step-ended a message from i d distinct is at =
-    let first = position-IsFirst (answers (id_of message) from) a.transactions i at in
-    let answered = list_any-some (answers (id_of message) from) a.transactions (get_or a.transactions i d) (first.found d) in
-    rw (IsResponse-true (class_of (type_of message)) is, answered, remove-answered (id_of message) from a.transactions i d distinct at) refl
+pub handle_step-ended : (a : Agent) (message : List ℕ) (from : SocketAddr) (i : ℕ) (t : Transaction) → IsResponse (class_of (type_of message)) → position (answers (id_of message) from) a.transactions ≡ Some i → slice_get a.transactions i ≡ Some t → ◌≡◌ {A = Bool × Agent} (true, ended t.id a) (handle_step a message from)
+handle_step-ended a message from i t is at taken =
+    let found = position-found (answers (id_of message) from) a.transactions i t at taken in
+    let answered = list_any-some (answers (id_of message) from) a.transactions t found in
+    let same = answers-id (id_of message) from a.transactions i t at taken in
+    rw (IsResponse-true (class_of (type_of message)) is, answered, same) refl
 
 -- ---- one pass over the transactions
 
@@ -120,11 +133,8 @@ IsScanned-found timers transport now ts i least d is within over =
 -- ---- poll
 
 -- the transaction at this place is given up
-pub poll_step-over : (a : Agent) (now i : ℕ) (d : Transaction) → AreDistinct a.transactions → i < length a.transactions → given_up a now ≡ slice_get a.transactions i → ◌≡◌ {A = StunAgentPollRet × Agent} (TransactionTimedOut (get_or a.transactions i d).id, record a { transactions = take i a.transactions ++ drop (suc i) a.transactions }) (poll_step a now)
-poll_step-over a now i d distinct within first =
-    let removed = remove-without a.transactions i d distinct within in
-    let found = slice_get-get_or a.transactions i d within in
-    rw (removed, first, found) refl
+pub poll_step-over : (a : Agent) (now i : ℕ) (t : Transaction) → given_up a now ≡ slice_get a.transactions i → slice_get a.transactions i ≡ Some t → ◌≡◌ {A = StunAgentPollRet × Agent} (TransactionTimedOut t.id, ended t.id a) (poll_step a now)
+poll_step-over a now i t first taken = rw (first ∙ taken) refl
 
 -- the least of all is not above where it began
 fold_min-le : (start : ℕ) (moments : List ℕ) → fold min start moments ≤ start
@@ -189,3 +199,33 @@ is_due-counted timers transport now ts i d at =
     let first = position-IsFirst (is_due timers transport now) ts i at in
     let passes = find-passes (is_due timers transport now) ts (get_or ts i d) (first.found d) in
     ltb-true (get_or ts i d).resends (resends_of timers transport) (and_parts (ltb (get_or ts i d).resends (resends_of timers transport)) (leb (next_moment timers transport (get_or ts i d)) now) passes).0
+
+-- ---- the moment that is kept
+
+-- before it nothing happens
+pub IsSilentAt-quiet : (a : Agent) (now soonest moment : ℕ) → IsQuietUntil a now soonest → moment < soonest → IsSilentAt a moment
+IsSilentAt-quiet a now soonest moment quiet before = IsSilentAt-before a moment (rw (← quiet.1.1) before)
+
+pub poll_step-quiet : (a : Agent) (now soonest : ℕ) → IsQuietUntil a now soonest → ◌≡◌ {A = StunAgentPollRet × Agent} (WaitUntil soonest, a) (poll_step a now)
+poll_step-quiet a now soonest quiet =
+    let silent = IsSilentAt-quiet a now soonest now quiet quiet.0 in
+    let some : eqb (length a.transactions) 0 ≡ false = ne_eqb (length a.transactions) 0 (λ none. omega (arith, none, quiet.1.0)) in
+    rw (silent.gives_nothing_up, some, ← quiet.1.1) refl
+
+pub due-quiet : (a : Agent) (now soonest : ℕ) → IsQuietUntil a now soonest → due a now ≡ None
+due-quiet a now soonest quiet =
+    let next = next_moment a.timers a.transport in
+    find-before next (is_due a.timers a.transport now) now (λ t later. and_right _ _ (lt-leb (next t) now later)) (2 ^ 63 - 1) a.transactions (rw (← quiet.1.1) quiet.0)
+
+min_assoc : (a b c : ℕ) → min (min a b) c ≡ min a (min b c)
+min_assoc a b c = omega arith
+
+fold_min-min : (a b : ℕ) (moments : List ℕ) → fold min (min a b) moments ≡ min a (fold min b moments)
+fold_min-min a b [] = refl
+fold_min-min a b (m ∷ moments) = rw (min_assoc a b m) (fold_min-min a (min b m) moments)
+
+-- the least of all and of a moment that is not past the greatest
+pub earliest-known : (a : Agent) (moment soonest : ℕ) → IsSoonest a.timers a.transport a.transactions (Some soonest) → moment < 2 ^ 63 → min moment soonest ≡ earliest a moment
+earliest-known a moment soonest known range =
+    let start : min moment (2 ^ 63 - 1) ≡ moment = min-eq_left (omega (arith, range)) in
+    rw known.1 (sym (fold_min-min moment (2 ^ 63 - 1) (map (next_moment a.timers a.transport) a.transactions)) ∙ rw start refl)

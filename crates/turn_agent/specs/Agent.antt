@@ -98,6 +98,14 @@ next_wakeup a now =
     if length a.transactions == 0 then min (now + 9_999_000_000_000) (2 ^ 63 - 1)
     else fold min (2 ^ 63 - 1) (map (next_moment a.timers a.transport) a.transactions)
 
+-- the least of this moment and of those at which a wait is over
+abbrev pub earliest : Agent → ℕ → ℕ
+earliest a moment = fold min moment (map (next_moment a.timers a.transport) a.transactions)
+
+-- the agent without the transaction of this ID
+abbrev pub ended : ℕ → Agent → Agent
+ended id a = record a { transactions = without id a.transactions }
+
 -- what `poll` answers, and the agent after it
 abbrev pub poll_step : Agent → ℕ → StunAgentPollRet × Agent
 poll_step a now = by (given_up a now)
@@ -175,3 +183,15 @@ IsProgress timers transport now ts (Waiting moment) =
     (find (is_given_up timers transport now) ts ≡ None) × (0 < length ts)
     × (moment ≡ fold min (2 ^ 63 - 1) (map (next_moment timers transport) ts))
 IsProgress timers transport now ts Idle = ts ≡ []
+
+-- ---- the moment that is kept
+
+-- it is the least at which a wait is over, if it is known
+abbrev pub IsSoonest : Timers → TransportType → List Transaction → Option ℕ → Type 0
+IsSoonest timers transport ts None = Unit {0}
+IsSoonest timers transport ts (Some moment) =
+    (0 < length ts) × (moment ≡ fold min (2 ^ 63 - 1) (map (next_moment timers transport) ts))
+
+-- it is that, and still to come
+abbrev pub IsQuietUntil : Agent → ℕ → ℕ → Type 0
+IsQuietUntil a now moment = (now < moment) × IsSoonest a.timers a.transport a.transactions (Some moment)

@@ -1,10 +1,10 @@
 //! Requests from first send to response.
 
-ghost use Rattle.std.specs.Prelude.{◌≡◌, ◌<◌, ◌^◌, false, ℕ, [], None, Some, IsTrue, OnOk, IfOk, OnErr, IsOk, option_copied};
+ghost use Rattle.std.specs.Prelude.{◌≡◌, ◌<◌, ◌^◌, ◌==◌, false, ℕ, [], None, Some, IsTrue, OnOk, IfOk, IfSome, OnErr, IsOk, length, map, fold, min, slice_get, option_copied};
 ghost use Rattle.turn_stun.specs.Message.{type_of, id_of};
 ghost use Rattle.turn_stun.specs.MessageType.{class_of, IsResponse};
 ghost use Rattle.turn_agent.specs.Schedule.{wait_of, default_timers, resends_of};
-ghost use Rattle.turn_agent.specs.Agent.{Agent, is_outstanding, asked, due, is_due, answers, poll_step, transmit_step, handle_step, IsEnded, IsSilentUntil, IsBusy, IsProgress};
+ghost use Rattle.turn_agent.specs.Agent.{Agent, is_outstanding, asked, due, is_due, answers, poll_step, transmit_step, handle_step, IsEnded, IsSilentUntil, IsBusy, IsProgress, IsSoonest, IsQuietUntil, earliest, ended, next_moment};
 ghost use Rattle.std.specs.List.{position};
 
 use crate::schedule::{RequestTimers, Schedule};
@@ -18,7 +18,8 @@ use turn_stun::data::Data;
 use turn_stun::instant::Instant;
 use turn_stun::message::Message;
 use turn_stun::transaction::TransactionId;
-use turn_stun::transport::{Transmit, TransportType};
+pub use turn_stun::transport::Transmit;
+use turn_stun::transport::TransportType;
 
 /// How long an agent with nothing outstanding lets its caller sleep, in seconds (our choice).
 const IDLE_SECONDS: u64 = 9_999;
@@ -107,6 +108,7 @@ impl StunAgentBuilder {
             remote_addr: self.remote_addr,
             schedule: Schedule::new(self.transport, self.timers),
             transactions: Vec::new(self.alloc),
+            soonest: None,
         }
     }
 }
@@ -121,10 +123,13 @@ pub struct StunAgent {
     remote_addr: Option<SocketAddr>,
     schedule: Schedule,
     transactions: Vec<Transaction>,
+    // The least moment at which a wait is over, where it is known: kept, since to look for it goes
+    // over all transactions. Each change of a transaction forgets it.
+    soonest: Option<Instant>,
 }
 
 impl Model for StunAgent {
-    ghost use Rattle.turn_agent.specs.Agent.{Agent, AreDistinct};
+    ghost use Rattle.turn_agent.specs.Agent.{Agent, AreDistinct, IsSoonest};
 
     ghost Value = { Agent };
 
@@ -136,7 +141,7 @@ impl Model for StunAgent {
       transactions = a.transactions.items;
     } };
 
-    ghost invariant = { λ a. AreDistinct a.transactions.items };
+    ghost invariant = { λ a. AreDistinct a.transactions.items × IsSoonest a.schedule.timers a.schedule.transport a.transactions.items a.soonest };
 }
 
 impl StunAgent {
@@ -194,6 +199,24 @@ impl StunAgent {
             .any(|transaction| transaction.id == id)
     }
 
+    /// How many requests await their responses.
+    pub fn outstanding(&self) -> usize
+        ensures { result ≡ length self.now.transactions }
+    {
+        self.transactions.len()
+    }
+
+    /// The least of this moment and of those at which a wait is over: when to ask again, for a caller
+    /// that itself has something to do at `moment`.
+    pub fn earliest(&self, moment: Instant) -> Instant
+        ensures { result ≡ earliest self.now moment }
+    {
+        match self.soonest {
+            Some(soonest) => moment.min(soonest),
+            None => least_with(moment, &self.transactions, &self.schedule),
+        }
+    }
+
     /// Counts the first send of a request at `now`, and hands its bytes back as the packet.
     ///
     /// One copy of the bytes is kept, to be sent again. The caller sees to it that they are a
@@ -228,6 +251,7 @@ impl StunAgent {
             last_send: now,
             request: Data::from(kept),
         });
+        self.soonest = None;
         Ok(Transmit::new(bytes, self.schedule.transport, self.local_addr, to))
     }
 
@@ -247,7 +271,22 @@ impl StunAgent {
         let id = message.transaction_id();
         match answered(&self.transactions, id, from) {
             Some(place) => {
-                let _ended = self.transactions.remove(place);
+                let _answered = self.take_out(place);
+                true
+            }
+            None => false,
+        }
+    }
+
+    /// Ends the transaction of this ID, wherever its response came from, and says whether there was
+    /// one. The request is not sent again, and nothing is accepted as its response.
+    pub fn end(&mut self, id: TransactionId) -> bool
+        ensures was { result ≡ is_outstanding id self.old.transactions }
+        ensures after { self.new ≡ ended id self.old }
+    {
+        match place_of(&self.transactions, id) {
+            Some(place) => {
+                let _ended = self.take_out(place);
                 true
             }
             None => false,
@@ -266,12 +305,18 @@ impl StunAgent {
         ensures alarm { IsSilentUntil result self.new }
         ensures busy { IsBusy result self.new now }
     {
+        if let Some(moment) = self.quiet_until(now) {
+            return StunAgentPollRet::WaitUntil(moment);
+        }
         match progress_of(&self.transactions, &self.schedule, now) {
             Progress::Over(place) => {
-                let given_up = self.transactions.remove(place);
+                let given_up = self.take_out(place);
                 StunAgentPollRet::TransactionTimedOut(given_up.id)
             }
-            Progress::Waiting(moment) => StunAgentPollRet::WaitUntil(moment),
+            Progress::Waiting(moment) => {
+                self.soonest = Some(moment);
+                StunAgentPollRet::WaitUntil(moment)
+            }
             Progress::Idle => {
                 StunAgentPollRet::WaitUntil(now.plus(Duration::from_secs(IDLE_SECONDS)))
             }
@@ -289,13 +334,48 @@ impl StunAgent {
         // Where nothing is due, no memory is taken.
         ensures none { due self.old now ≡ None → IsOk result }
     {
+        if self.is_quiet(now) {
+            return Ok(None);
+        }
         let Some(place) = first_due(&self.transactions, &self.schedule, now) else {
+            self.soonest = soonest_of(&self.transactions, &self.schedule);
             return Ok(None);
         };
         let transaction = &mut self.transactions[place];
         let payload = transaction.send_again(self.alloc, now)?;
         let to = transaction.to;
+        self.soonest = None;
         Ok(Some(Transmit::new(payload, self.schedule.transport, self.local_addr, to)))
+    }
+
+    /// The moment before which nothing is due, where it is known and not yet come.
+    fn quiet_until(&self, now: Instant) -> Option<Instant>
+        ensures { IfSome result (IsQuietUntil self.now now) }
+    {
+        match self.soonest {
+            Some(soonest) if now < soonest => Some(soonest),
+            _ => None,
+        }
+    }
+
+    /// Whether it is known that nothing is due now.
+    fn is_quiet(&self, now: Instant) -> bool
+        ensures { IsTrue result → due self.now now ≡ None }
+    {
+        match self.quiet_until(now) {
+            Some(_moment) => true,
+            None => false,
+        }
+    }
+
+    /// Takes out the transaction at this place.
+    fn take_out(&mut self, place: usize) -> Transaction
+        requires { place < length self.old.transactions }
+        ensures taken { slice_get self.old.transactions place ≡ Some result }
+        ensures after { self.new ≡ ended result.id self.old }
+    {
+        self.soonest = None;
+        self.transactions.remove(place)
     }
 }
 
@@ -307,6 +387,15 @@ enum Progress {
     Waiting(Instant),
     /// Nothing is outstanding.
     Idle,
+}
+
+/// The place of the transaction of this ID.
+fn place_of(transactions: &[Transaction], id: TransactionId) -> Option<usize>
+    ensures { result ≡ position (λ t. t.id == id) transactions.now }
+{
+    transactions
+        .iter()
+        .position(|transaction| transaction.id == id)
 }
 
 /// The place of the transaction that a response of this ID from this address answers.
@@ -344,4 +433,25 @@ fn progress_of(transactions: &[Transaction], schedule: &Schedule, now: Instant) 
         least = least.min(next);
     }
     Progress::Waiting(least)
+}
+
+/// The least of this moment and of those at which a wait is over.
+fn least_with(moment: Instant, transactions: &[Transaction], schedule: &Schedule) -> Instant
+    ensures { result ≡ fold min moment (map (next_moment schedule.now.timers schedule.now.transport) transactions.now) }
+{
+    let mut least = moment;
+    for transaction in transactions {
+        least = least.min(transaction.next_moment(schedule));
+    }
+    least
+}
+
+/// The least moment at which a wait is over.
+fn soonest_of(transactions: &[Transaction], schedule: &Schedule) -> Option<Instant>
+    ensures { IsSoonest schedule.now.timers schedule.now.transport transactions.now result }
+{
+    if transactions.is_empty() {
+        return None;
+    }
+    Some(least_with(Instant::from_nanos(u64::MAX), transactions, schedule))
 }

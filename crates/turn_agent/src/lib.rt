@@ -13,3 +13,7 @@ pub mod schedule;
 #[cfg(test)]
 mod tests;
 pub mod transaction;
+
+pub use agent::{StunAgent, StunAgentBuilder, StunAgentPollRet, Transmit};
+pub use number_source::NumberSource;
+pub use schedule::RequestTimers;

@@ -157,7 +157,7 @@ impl Schedule {
             TransportType::Udp => self.timers.udp_wait(place),
             TransportType::Tcp => self.whole_wait,
         };
-        send.plus(Duration::from_nanos(wait))
+        Instant::from_nanos(send.as_nanos().saturating_add(wait))
     }
 }
 

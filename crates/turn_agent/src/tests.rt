@@ -257,6 +257,50 @@ fn two_due_at_one_moment_go_in_their_order(rt: HostRuntime) -> Result<(), Fail> 
     Ok(())
 }
 
+#[test]
+fn outstanding_requests_are_counted(rt: HostRuntime) -> Result<(), Fail> {
+    let mut agent = agent_with(rt.alloc(), TransportType::Udp, 2_000_000, u64::MAX, 2, 5);
+    assert_eq!(rt; agent.outstanding(), 0);
+    let _first = agent.send_request(id(1), [1u8].as_slice(), server(), at(0))?;
+    let _second = agent.send_request(id(2), [2u8].as_slice(), server(), at(0))?;
+    assert_eq!(rt; agent.outstanding(), 2);
+    Ok(())
+}
+
+// Before `poll` the moments are gone through, after it the least of them is kept.
+#[test]
+fn earliest_moment_counts_the_callers_own(rt: HostRuntime) -> Result<(), Fail> {
+    let mut agent = agent_with(rt.alloc(), TransportType::Udp, 2_000_000, u64::MAX, 2, 5);
+    let _later = agent.send_request(id(1), [1u8].as_slice(), server(), at(7))?;
+    let _sooner = agent.send_request(id(2), [2u8].as_slice(), server(), at(0))?;
+    for _ in 0..2 {
+        assert_eq!(rt; agent.earliest(at(u64::MAX)), at(2_000_000));
+        assert_eq!(rt; agent.earliest(at(3)), at(3));
+        assert_eq!(rt;
+            agent.poll(at(1)),
+            StunAgentPollRet::WaitUntil(at(2_000_000))
+        );
+    }
+    Ok(())
+}
+
+#[test]
+fn ended_request_is_not_sent_again(rt: HostRuntime) -> Result<(), Fail> {
+    let mut agent = agent_with(rt.alloc(), TransportType::Udp, 2_000_000, u64::MAX, 2, 5);
+    let _first = agent.send_request(id(1), [1u8].as_slice(), server(), at(0))?;
+    let _second = agent.send_request(id(2), [2u8].as_slice(), server(), at(7))?;
+    assert_eq!(rt;
+        agent.poll(at(1)),
+        StunAgentPollRet::WaitUntil(at(2_000_000))
+    );
+    assert_eq!(rt; (agent.end(id(1)), agent.end(id(1))), (true, false));
+    assert_eq!(rt;
+        agent.poll(at(1)),
+        StunAgentPollRet::WaitUntil(at(2_000_007))
+    );
+    Ok(())
+}
+
 // A wait runs from the moment of its send, also where that lies before an earlier one.
 #[test]
 fn moments_may_go_back(rt: HostRuntime) -> Result<(), Fail> {

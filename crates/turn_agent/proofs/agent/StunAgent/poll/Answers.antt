@@ -1,37 +1,35 @@
 use Rattle.std.proofs.Common.{◌-◌, ◌^◌}
 use Rattle.turn_agent.specs.contracts.agent.StunAgent.{the_view}
-use Rattle.turn_agent.proofs.AgentLemmas.{poll_step-over, IsSilentAt-before, some_due}
-use Rattle.turn_agent.proofs.TransactionLemmas.{AreDistinct-without, remove-without, is_outstanding-without}
+use Rattle.turn_agent.proofs.AgentLemmas.{poll_step-over, poll_step-quiet, IsSilentAt-before, IsSilentAt-quiet, some_due}
+use Rattle.turn_agent.proofs.TransactionLemmas.{is_outstanding-without}
 use Rattle.turn_agent.proofs.agent.StunAgent.poll.Goals as goal
 
-pub invariant_of-self : goal.invariant_of-self
-invariant_of-self c =
-    let ts = c.self.inside.transactions.items in
-    let over = rw c.deref.ensures.value at c.in-Over.ensures in
-    rw (c.remove-given_up.ensures.items, remove-without ts c.in-Over.place c.remove-given_up.result c.self.invariant over.0)
-    (AreDistinct-without _ ts c.self.invariant)
+pub returns-in-Some-clause-step : goal.returns-in-Some-clause-step
+returns-in-Some-clause-step c = poll_step-quiet c.args.self.now c.args.now c.in-Some.moment c.in-Some.ensures
+
+pub returns-in-Some-clause-alarm : goal.returns-in-Some-clause-alarm
+returns-in-Some-clause-alarm c = λ moment before.
+    IsSilentAt-quiet c.args.self.now c.args.now c.in-Some.moment moment c.in-Some.ensures before
 
 pub returns-in-Over-clause-step : goal.returns-in-Over-clause-step
 returns-in-Over-clause-step c =
+    let a = the_view c.self.inside in
     let over = rw c.deref.ensures.value at c.in-Over.ensures in
-    rw (c.remove-given_up.ensures.items, ← c.self.view_is, c.remove-given_up.ensures.value)
-    (poll_step-over (the_view c.self.inside) c.args.now c.in-Over.place c.remove-given_up.result c.self.invariant over.0 over.1)
+    let taken = rw (← c.self.view_is) at c.take_out-given_up.ensures.taken in
+    rw (c.take_out-given_up.ensures.after, ← c.self.view_is)
+    (poll_step-over a c.args.now c.in-Over.place c.take_out-given_up.result over.1 taken)
 
 pub returns-in-Over-clause-ended : goal.returns-in-Over-clause-ended
 returns-in-Over-clause-ended c =
-    let ts = c.self.inside.transactions.items in
-    let t = c.remove-given_up.result in
-    let over = rw c.deref.ensures.value at c.in-Over.ensures in
-    let left = remove-without ts c.in-Over.place t c.self.invariant over.0 in
-    rw (c.remove-given_up.ensures.items, left, ← c.remove-given_up.ensures.value) (is_outstanding-without t.id ts)
+    rw c.take_out-given_up.ensures.after (is_outstanding-without c.take_out-given_up.result.id c.args.self.now.transactions)
 
 pub returns-in-Waiting-clause-busy : goal.returns-in-Waiting-clause-busy
 returns-in-Waiting-clause-busy c = λ past before.
     let a = the_view c.self.inside in
     let waits = rw c.deref.ensures.value at c.in-Waiting.ensures in
-    rw (← c.self.view_is) (some_due a.timers a.transport c.args.now (2 ^ 63 - 1) a.transactions waits.0 before (rw (← waits.2) past))
+    some_due a.timers a.transport c.args.now (2 ^ 63 - 1) a.transactions waits.0 before (rw (← waits.2) past)
 
 pub returns-in-Waiting-clause-alarm : goal.returns-in-Waiting-clause-alarm
 returns-in-Waiting-clause-alarm c = λ moment before.
     let waits = rw c.deref.ensures.value at c.in-Waiting.ensures in
-    rw (← c.self.view_is) (IsSilentAt-before (the_view c.self.inside) moment (rw (← waits.2) before))
+    IsSilentAt-before (the_view c.self.inside) moment (rw (← waits.2) before)

@@ -36,16 +36,16 @@ invariant_of-self-2 c =
     let t = c.index_mut-transaction.result.now in
     let place : position (is_due a.timers a.transport c.args.now) a.transactions ≡ Some c.in-Some.place = sym (rw c.deref.ensures.value at c.in-Some.ensures.place) in
     let first = position-IsFirst (is_due a.timers a.transport c.args.now) a.transactions c.in-Some.place place in
-    let changed = set-resent c.args.now a.transactions c.in-Some.place t c.self.invariant first.within in
+    let changed = set-resent c.args.now a.transactions c.in-Some.place t c.self.invariant.0 first.within in
     rw (c.in_ok-payload.ensures.ok.1, c.index_mut-transaction.ensures.value, changed)
-    (AreDistinct-resent _ c.args.now a.transactions c.self.invariant)
+    (AreDistinct-resent _ c.args.now a.transactions c.self.invariant.0, tt)
 
 pub returns-clause-step : goal.returns-clause-step
 returns-clause-step c =
     let a = the_view c.self.inside in
     let t = c.index_mut-transaction.result.now in
     let place : position (is_due a.timers a.transport c.args.now) a.transactions ≡ Some c.in-Some.place = sym (rw c.deref.ensures.value at c.in-Some.ensures.place) in
-    let sent = transmit_step-sent a c.args.now c.in-Some.place t c.self.invariant place in
+    let sent = transmit_step-sent a c.args.now c.in-Some.place t c.self.invariant.0 place in
     let kept = c.in_ok-payload.ensures.ok in
     let packet = same_transmit c.new.result t.request a.transport a.local t.to (c.new.ensures.payload ∙ kept.0) c.new.ensures.transport c.new.ensures.from (c.new.ensures.to ∙ ap (λ u. u.to) kept.1) in
     rw (packet, kept.1, c.index_mut-transaction.ensures.value, ← c.self.view_is) sent
