@@ -2,7 +2,7 @@
 //! and the next moment to call again.
 //!
 //! Begin with [`udp::TurnClientUdp`], and with [`api::TurnClientApi`] for the calls of a client.
-//! [`runs::replay`] makes a list of calls on a new client. So far a client asks for an allocation,
+//! [`replay`] makes a list of calls on a new client. So far a client asks for an allocation,
 //! sends the request again, and ends when the server answers or stays silent.
 #![tactic(auto)]
 
@@ -19,3 +19,6 @@ pub mod stun;
 mod tests;
 pub mod types;
 pub mod udp;
+
+pub use runs::{Call, Replayed, Reply, replay};
+pub use turn_client_api::{PermissionAddressesIter, RelayedAddressesIter};

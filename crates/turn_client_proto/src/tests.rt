@@ -3,4 +3,5 @@
 mod calls;
 mod fixture;
 mod memory;
+mod paths;
 mod worked_runs;

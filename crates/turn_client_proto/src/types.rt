@@ -1,5 +1,6 @@
 //! What TURN adds to STUN: attributes, channel frames, and packets that are built when they are sent.
 
+pub use turn_auth::credentials::TurnCredentials;
 pub use turn_types::{
-    AddressFamily, TransportType, attribute, channel, error, message, tcp, transmit,
+    AddressFamily, TransportType, attribute, channel, error, message, prelude, stun, tcp, transmit,
 };
