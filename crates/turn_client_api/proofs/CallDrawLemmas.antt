@@ -28,7 +28,7 @@ use Rattle.turn_client_api.specs.Transmit.{idle_step, queue_step, refreshes_in, 
 use Rattle.turn_client_api.specs.Transmit as T
 use Rattle.turn_client_api.specs.LawsReplies.{IsDrawn}
 use Rattle.turn_client_api.specs.LawsTurns.{IsBroughtBy}
-use Rattle.turn_client_api.specs.Steps.{Call, Leaves, state_after, Delete, CreatePermission, BindChannel, TcpConnect, AllocatedTcpSocket, TcpClosed, SendTo, Recv, PollRecv, Poll, PollTransmit, PollEvent, ProtocolError}
+use Rattle.turn_client_api.specs.Steps.{Call, Leaves, state_after, Delete, CreatePermission, BindChannel, TcpConnect, AllocatedTcpSocket, TcpClosed, SendTo, Recv, PollRecv, Poll, PollTransmit, PollEvent, RelayedAddresses, Permissions, HavePermission, ProtocolError}
 use Rattle.turn_client_api.proofs.CallKeepLemmas.{bound_by}
 use Rattle.turn_client_api.proofs.DrawLemmas.{AsksNothing, Draws, IsOneOf, asks-cond, asks-fold, bind-draws, draws-more, draws-nothing, draws-same, message-draws, outstanding-resent, outstanding-without}
 use Rattle.turn_client_api.proofs.MemoryLemmas.{memory-brings}
@@ -238,13 +238,16 @@ module _ (id : ℕ) where
   call-draws (BindChannel transport peer now) s = at_once (BindChannel transport peer now) s (bind_channel-draws transport peer now s)
   call-draws (TcpConnect peer now) s = at_once (TcpConnect peer now) s (connect-draws peer now s)
   call-draws (AllocatedTcpSocket offer tuple peer local now) s = at_once (AllocatedTcpSocket offer tuple peer local now) s (tcp_socket-draws offer tuple peer local now s)
-  call-draws (TcpClosed local remote) s = at_once (TcpClosed local remote) s (draws-nothing id s (tcp_closed_step local remote s) (tcp_closed-asks local remote s))
+  call-draws (TcpClosed local remote now) s = at_once (TcpClosed local remote now) s (draws-nothing id s (tcp_closed_step local remote s) (tcp_closed-asks local remote s))
   call-draws (SendTo transport peer bytes now) s = at_once (SendTo transport peer bytes now) s (send-draws transport peer bytes now s)
-  call-draws (Recv transport from to bytes now) s = λ h. brought (Recv transport from to bytes now) s (recv-brings _ _ draws-IsBringing transport from to bytes now s h)
+  call-draws (Recv packet now) s = λ h. brought (Recv packet now) s (recv-brings _ _ draws-IsBringing packet.transport packet.from packet.to packet.payload now s h)
   call-draws (PollRecv now) s = λ h. brought (PollRecv now) s (poll_recv-brings _ _ draws-IsBringing now s h)
   call-draws (Poll now) s = at_once (Poll now) s (poll-draws now s)
   call-draws (PollTransmit now) s = at_once (PollTransmit now) s (transmit-draws now s)
   call-draws PollEvent s = at_once PollEvent s (draws-same id s)
+  call-draws RelayedAddresses s = at_once RelayedAddresses s (draws-same id s)
+  call-draws (Permissions transport relayed) s = at_once (Permissions transport relayed) s (draws-same id s)
+  call-draws (HavePermission transport to) s = at_once (HavePermission transport to) s (draws-same id s)
   call-draws ProtocolError s = at_once ProtocolError s (draws-nothing id s (protocol_error_step s) (asks-cond (is_closed s.phase) s s _ refl refl))
 
   -- whether or not the call finds memory

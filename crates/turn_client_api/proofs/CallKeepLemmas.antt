@@ -26,7 +26,7 @@ use Rattle.turn_client_api.specs.Due.{has_event, has_reply, is_paused}
 use Rattle.turn_client_api.specs.Poll.{answer_step, channel_lapsed, given_up_step, given_up_purposes, goes, in_vain, is_lapsed_channel, is_listed_for_allocation, lapsed, lapsed_allocation, lapsed_in, next_offer, offer_step, poll_step, timed_step}
 use Rattle.turn_client_api.specs.Transmit.{idle_step, queue_step, refresh_step, refreshes_in, transmit_step}
 use Rattle.turn_client_api.specs.Transmit as T
-use Rattle.turn_client_api.specs.Steps.{Call, Leaves, state_after, Delete, CreatePermission, BindChannel, TcpConnect, AllocatedTcpSocket, TcpClosed, SendTo, Recv, PollRecv, Poll, PollTransmit, PollEvent, ProtocolError}
+use Rattle.turn_client_api.specs.Steps.{Call, Leaves, state_after, Delete, CreatePermission, BindChannel, TcpConnect, AllocatedTcpSocket, TcpClosed, SendTo, Recv, PollRecv, Poll, PollTransmit, PollEvent, RelayedAddresses, Permissions, HavePermission, ProtocolError}
 use Rattle.turn_client_api.proofs.MemoryLemmas.{leaves-kept}
 use Rattle.turn_client_api.proofs.RunKeepLemmas.{poll_recv-kept, recv-kept, tcp_closed-kept}
 use Rattle.turn_client_api.specs.Receive.{connection_gone}
@@ -233,13 +233,16 @@ call-keeps (CreatePermission transport peer now) s = permission-keeps transport 
 call-keeps (BindChannel transport peer now) s = bind-keeps transport peer now s
 call-keeps (TcpConnect peer now) s = connect-keeps peer now s
 call-keeps (AllocatedTcpSocket id tuple peer local now) s = tcp_socket-keeps id tuple peer local now s
-call-keeps (TcpClosed local remote) s = tcp_closed-kept Keeps Keeps-IsKept local remote s
+call-keeps (TcpClosed local remote now) s = tcp_closed-kept Keeps Keeps-IsKept local remote s
 call-keeps (SendTo transport peer bytes now) s = send-keeps transport peer bytes now s
-call-keeps (Recv transport from to bytes now) s = recv-kept Keeps Keeps-IsKept transport from to bytes now s
+call-keeps (Recv packet now) s = recv-kept Keeps Keeps-IsKept packet.transport packet.from packet.to packet.payload now s
 call-keeps (PollRecv now) s = poll_recv-kept Keeps Keeps-IsKept now s
 call-keeps (Poll now) s = poll-keeps now s
 call-keeps (PollTransmit now) s = transmit-keeps now s
 call-keeps PollEvent s = keeps-same s
+call-keeps RelayedAddresses s = keeps-same s
+call-keeps (Permissions transport relayed) s = keeps-same s
+call-keeps (HavePermission transport to) s = keeps-same s
 call-keeps ProtocolError s = error-keeps s
 
 -- whether or not the call finds memory

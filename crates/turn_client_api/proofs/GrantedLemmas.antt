@@ -21,7 +21,7 @@ use Rattle.turn_client_api.specs.Transmit.{idle_step, queue_step, refreshes_in, 
 use Rattle.turn_client_api.specs.Transmit as T
 use Rattle.turn_client_api.specs.LawsTurns.{IsBroughtBy}
 use Rattle.turn_client_api.specs.LawsGranted.{IsEndedNow, IsGrant, IsKeptAs, IsStanding, Stood}
-use Rattle.turn_client_api.specs.Steps.{Call, state_after, Delete, CreatePermission, BindChannel, TcpConnect, AllocatedTcpSocket, TcpClosed, SendTo, Recv, PollRecv, Poll, PollTransmit, PollEvent, ProtocolError}
+use Rattle.turn_client_api.specs.Steps.{Call, state_after, Delete, CreatePermission, BindChannel, TcpConnect, AllocatedTcpSocket, TcpClosed, SendTo, Recv, PollRecv, Poll, PollTransmit, PollEvent, RelayedAddresses, Permissions, HavePermission, ProtocolError}
 use Rattle.turn_client_api.specs.Steps as S
 use Rattle.turn_client_api.proofs.HasLemmas.{Has, has-filter}
 use Rattle.turn_client_api.proofs.StandLemmas.{Covers, Leaves, Left, contains-has, covers-has, covers-left, covers-stood, has-contains, kept-same, leaves-cond, leaves-fold, leaves-same, leaves-trans, left-cons, left-filter, left-one, left-same, left-trans}
@@ -218,15 +218,18 @@ module _ (s : State) (g : Grant) (stands : IsStanding g) where
   has-grants (BindChannel transport peer now) there = left (BindChannel transport peer now) _ (bind_channel-leaves transport peer now s) there
   has-grants (TcpConnect peer now) there = left (TcpConnect peer now) _ (connect-leaves peer now s) there
   has-grants (AllocatedTcpSocket id tuple peer local now) there = left (AllocatedTcpSocket id tuple peer local now) _ (tcp_socket-leaves id tuple peer local now s) there
-  has-grants (TcpClosed local remote) there = left (TcpClosed local remote) _ (tcp_closed-leaves local remote s) there
+  has-grants (TcpClosed local remote now) there = left (TcpClosed local remote now) _ (tcp_closed-leaves local remote s) there
   has-grants (SendTo transport peer bytes now) there = left (SendTo transport peer bytes now) _ (send-leaves transport peer bytes now s) there
-  has-grants (Recv transport from to bytes now) there =
-      came _ _ (recv-brings (λ s. Covers s.grants g) (IsGrant g) (bringing g) transport from to bytes now s (covers-has _ g there stands))
+  has-grants (Recv packet now) there =
+      came _ _ (recv-brings (λ s. Covers s.grants g) (IsGrant g) (bringing g) packet.transport packet.from packet.to packet.payload now s (covers-has _ g there stands))
   has-grants (PollRecv now) there =
       came _ _ (poll_recv-brings (λ s. Covers s.grants g) (IsGrant g) (bringing g) now s (covers-has _ g there stands))
   has-grants (Poll now) there = left (Poll now) _ (poll-leaves now s) there
   has-grants (PollTransmit now) there = left (PollTransmit now) _ (transmit-leaves now s) there
   has-grants PollEvent there = left PollEvent _ (leaves-same s) there
+  has-grants RelayedAddresses there = left RelayedAddresses _ (leaves-same s) there
+  has-grants (Permissions transport relayed) there = left (Permissions transport relayed) _ (leaves-same s) there
+  has-grants (HavePermission transport to) there = left (HavePermission transport to) _ (leaves-same s) there
   has-grants ProtocolError there = left ProtocolError _ (error-leaves s) there
 
   -- whether or not the call finds memory

@@ -19,7 +19,7 @@ use Rattle.turn_client_api.specs.Poll.{answer_step, channel_lapsed, connections_
 use Rattle.turn_client_api.specs.Requests.{asked_lifetime, fresh_id}
 use Rattle.turn_client_api.specs.Transmit.{idle_step, is_ranked, is_refresh_due, queue_step, refresh_purpose, refreshes_in, transmit_step}
 use Rattle.turn_client_api.specs.Transmit as T
-use Rattle.turn_client_api.specs.Steps.{Call, Leaves, state_after, Delete, CreatePermission, BindChannel, TcpConnect, AllocatedTcpSocket, TcpClosed, SendTo, Recv, PollRecv, Poll, PollTransmit, PollEvent, ProtocolError}
+use Rattle.turn_client_api.specs.Steps.{Call, Leaves, state_after, Delete, CreatePermission, BindChannel, TcpConnect, AllocatedTcpSocket, TcpClosed, SendTo, Recv, PollRecv, Poll, PollTransmit, PollEvent, RelayedAddresses, Permissions, HavePermission, ProtocolError}
 use Rattle.turn_client_api.specs.LawsHoused.{asked_family, IsAskedIn, IsBacked, IsHoused}
 use Rattle.turn_client_api.proofs.RunKeepLemmas.{poll_recv-kept, recv-kept, tcp_closed-kept}
 use Rattle.turn_client_api.proofs.LapseLemmas.{has-unreversed}
@@ -221,13 +221,16 @@ call-houses (CreatePermission transport peer now) s = permission-houses transpor
 call-houses (BindChannel transport peer now) s = bind_channel-houses transport peer now s
 call-houses (TcpConnect peer now) s = connect-houses peer now s
 call-houses (AllocatedTcpSocket id tuple peer local now) s = tcp_socket-houses id tuple peer local now s
-call-houses (TcpClosed local remote) s = tcp_closed-kept Houses Houses-IsKept local remote s
+call-houses (TcpClosed local remote now) s = tcp_closed-kept Houses Houses-IsKept local remote s
 call-houses (SendTo transport peer bytes now) s = send-houses transport peer bytes now s
-call-houses (Recv transport from to bytes now) s = recv-kept Houses Houses-IsKept transport from to bytes now s
+call-houses (Recv packet now) s = recv-kept Houses Houses-IsKept packet.transport packet.from packet.to packet.payload now s
 call-houses (PollRecv now) s = poll_recv-kept Houses Houses-IsKept now s
 call-houses (Poll now) s = poll-houses now s
 call-houses (PollTransmit now) s = transmit-houses now s
 call-houses PollEvent s = λ h. h
+call-houses RelayedAddresses s = λ h. h
+call-houses (Permissions transport relayed) s = λ h. h
+call-houses (HavePermission transport to) s = λ h. h
 call-houses ProtocolError s = error-houses s
 
 -- whether or not the call finds memory

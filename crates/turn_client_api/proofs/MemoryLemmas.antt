@@ -14,7 +14,7 @@ use Rattle.turn_client_api.specs.Streams.{broken_at, is_ready, stream_at, turns}
 use Rattle.turn_client_api.specs.Receive.{first_turn}
 use Rattle.turn_client_api.specs.Answers.{EndsAfterTurns, RecvEnds, before_others, next_broken}
 use Rattle.turn_client_api.specs.Steps.{Call, EndsWithoutMemory, Leaves, state_after}
-use Rattle.turn_client_api.specs.Steps.{Delete, CreatePermission, BindChannel, TcpConnect, AllocatedTcpSocket, TcpClosed, SendTo, Recv, PollRecv, Poll, PollTransmit, PollEvent, ProtocolError}
+use Rattle.turn_client_api.specs.Steps.{Delete, CreatePermission, BindChannel, TcpConnect, AllocatedTcpSocket, TcpClosed, SendTo, Recv, PollRecv, Poll, PollTransmit, PollEvent, RelayedAddresses, Permissions, HavePermission, ProtocolError}
 use Rattle.turn_client_api.specs.LawsTurns.{Deed, IsBroughtBy, IsBroughtIn, IsBroughtInTurn}
 use Rattle.turn_client_api.proofs.RunKeepLemmas.{IsKept, first_turn-kept, turns-kept}
 use Rattle.turn_client_api.proofs.StreamPeerLemmas.{behind}
@@ -94,13 +94,16 @@ module _ (R : State → State → Type 0) (k : IsKept R) (ends : (s : State) →
   memory-kept (BindChannel transport peer now) s t e = same-kept s t e
   memory-kept (TcpConnect peer now) s t e = same-kept s t e
   memory-kept (AllocatedTcpSocket id tuple peer local now) s t e = same-kept s t e
-  memory-kept (TcpClosed local remote) s t e = same-kept s t e
+  memory-kept (TcpClosed local remote now) s t e = same-kept s t e
   memory-kept (SendTo transport peer bytes now) s t none = absurd none
-  memory-kept (Recv transport from to bytes now) s t h = recv_end-kept to bytes now s t h
+  memory-kept (Recv packet now) s t h = recv_end-kept packet.to packet.payload now s t h
   memory-kept (PollRecv now) s t h = turns_end-kept now s t h
   memory-kept (Poll now) s t e = closed-kept s s t (k.same s) e
   memory-kept (PollTransmit now) s t e = closed-kept s s t (k.same s) e
   memory-kept PollEvent s t none = absurd none
+  memory-kept RelayedAddresses s t none = absurd none
+  memory-kept (Permissions transport relayed) s t none = absurd none
+  memory-kept (HavePermission transport to) s t none = absurd none
   memory-kept ProtocolError s t e = closed-kept s s t (k.same s) e
 
   -- what each call keeps that finds memory, each call keeps
@@ -156,11 +159,14 @@ module _ (P : State → Type 0) (Did : Deed) (k : IsBringing P Did) (ends : (s :
   memory-brings (BindChannel transport peer now) s t e h = inl (subst P e h)
   memory-brings (TcpConnect peer now) s t e h = inl (subst P e h)
   memory-brings (AllocatedTcpSocket id tuple peer local now) s t e h = inl (subst P e h)
-  memory-brings (TcpClosed local remote) s t e h = inl (subst P e h)
+  memory-brings (TcpClosed local remote now) s t e h = inl (subst P e h)
   memory-brings (SendTo transport peer bytes now) s t none h = absurd none
-  memory-brings (Recv transport from to bytes now) s t end h = recv_end-brings to bytes now s t end h
+  memory-brings (Recv packet now) s t end h = recv_end-brings packet.to packet.payload now s t end h
   memory-brings (PollRecv now) s t end h = turns_end-brings now s t end h
   memory-brings (Poll now) s t e h = inl (closed-brings s t e h)
   memory-brings (PollTransmit now) s t e h = inl (closed-brings s t e h)
   memory-brings PollEvent s t none h = absurd none
+  memory-brings RelayedAddresses s t none h = absurd none
+  memory-brings (Permissions transport relayed) s t none h = absurd none
+  memory-brings (HavePermission transport to) s t none h = absurd none
   memory-brings ProtocolError s t e h = inl (closed-brings s t e h)

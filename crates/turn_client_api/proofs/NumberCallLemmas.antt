@@ -31,7 +31,7 @@ use Rattle.turn_client_api.specs.Poll.{lapsed_in, last_channel_lapsed, next_offe
 use Rattle.turn_client_api.specs.Receive.{connection_gone}
 use Rattle.turn_client_api.specs.Transmit.{idle_step, queue_step, refreshes_in, transmit_step}
 use Rattle.turn_client_api.specs.Transmit as T
-use Rattle.turn_client_api.specs.Steps.{Call, Leaves, state_after, Delete, CreatePermission, BindChannel, TcpConnect, AllocatedTcpSocket, TcpClosed, SendTo, Recv, PollRecv, Poll, PollTransmit, PollEvent}
+use Rattle.turn_client_api.specs.Steps.{Call, Leaves, state_after, Delete, CreatePermission, BindChannel, TcpConnect, AllocatedTcpSocket, TcpClosed, SendTo, Recv, PollRecv, Poll, PollTransmit, PollEvent, RelayedAddresses, Permissions, HavePermission}
 use Rattle.turn_client_api.specs.Steps.{ProtocolError}
 use Rattle.turn_client_api.proofs.HasLemmas.{has-found}
 use Rattle.turn_client_api.proofs.RunKeepLemmas.{IsKept, poll_recv-kept, recv-kept, tcp_closed-kept}
@@ -265,13 +265,16 @@ call-apart (CreatePermission transport peer now) s = permission-apart transport 
 call-apart (BindChannel transport peer now) s = bind-apart transport peer now s
 call-apart (TcpConnect peer now) s = connect-apart peer now s
 call-apart (AllocatedTcpSocket id tuple peer local now) s = tcp_socket-apart id tuple peer local now s
-call-apart (TcpClosed local remote) s = tcp_closed-kept StayApart StayApart-IsKept local remote s
+call-apart (TcpClosed local remote now) s = tcp_closed-kept StayApart StayApart-IsKept local remote s
 call-apart (SendTo transport peer bytes now) s = send-apart transport peer bytes now s
-call-apart (Recv transport from to bytes now) s = recv-kept StayApart StayApart-IsKept transport from to bytes now s
+call-apart (Recv packet now) s = recv-kept StayApart StayApart-IsKept packet.transport packet.from packet.to packet.payload now s
 call-apart (PollRecv now) s = poll_recv-kept StayApart StayApart-IsKept now s
 call-apart (Poll now) s = poll-apart now s
 call-apart (PollTransmit now) s = transmit-apart now s
 call-apart PollEvent s = apart-same s
+call-apart RelayedAddresses s = apart-same s
+call-apart (Permissions transport relayed) s = apart-same s
+call-apart (HavePermission transport to) s = apart-same s
 call-apart ProtocolError s = error-apart s
 
 -- whether or not the call finds memory

@@ -31,7 +31,7 @@ use Rattle.turn_client_api.specs.Calls.{active_channel, bound_to, channel_step, 
 use Rattle.turn_client_api.specs.Due.{has_event, has_reply, is_paused}
 use Rattle.turn_client_api.specs.Poll.{answer_step, given_up_step, is_listed_for_allocation, offer_step, poll_step, timed_step}
 use Rattle.turn_client_api.specs.Transmit.{idle_step, queue_step, reply_step, transmit_step, without_first_reply}
-use Rattle.turn_client_api.specs.Steps.{Delete, CreatePermission, BindChannel, TcpConnect, AllocatedTcpSocket, TcpClosed, SendTo, Recv, PollRecv, Poll, PollTransmit, PollEvent, ProtocolError}
+use Rattle.turn_client_api.specs.Steps.{Delete, CreatePermission, BindChannel, TcpConnect, AllocatedTcpSocket, TcpClosed, SendTo, Recv, PollRecv, Poll, PollTransmit, PollEvent, RelayedAddresses, Permissions, HavePermission, ProtocolError}
 use Rattle.turn_client_api.specs.declared.error.BindChannelError.TheVariants as Bind
 use Rattle.turn_client_api.proofs.MemoryLemmas.{leaves-kept}
 use Rattle.turn_client_api.proofs.SteadyLemmas.{Steadies, Steadies-IsKept, from_allocated}
@@ -106,14 +106,17 @@ quiet_steady (TcpConnect peer now) s none steady poll transmit =
 quiet_steady (AllocatedTcpSocket id tuple peer local now) s none steady poll transmit =
     unless IsSteady (same_transport s.config.allocation_transport Tcp && is_control tuple s && is_allocated s.phase) _ _
     (last_false (same_transport s.config.allocation_transport Tcp) (is_control tuple s) (is_allocated s.phase) none) steady
-quiet_steady (TcpClosed local remote) s none steady poll transmit = tcp_closed-kept Steadies Steadies-IsKept local remote s steady
+quiet_steady (TcpClosed local remote now) s none steady poll transmit = tcp_closed-kept Steadies Steadies-IsKept local remote s steady
 quiet_steady (SendTo transport peer bytes now) s none steady poll transmit =
     or_else IsSteady (has_permission transport (socket_ip peer) s) (send_over transport peer bytes now s) _ (over_steady transport peer bytes now s steady) steady
-quiet_steady (Recv transport from to bytes now) s none steady poll transmit = recv-kept Steadies Steadies-IsKept transport from to bytes now s steady
+quiet_steady (Recv packet now) s none steady poll transmit = recv-kept Steadies Steadies-IsKept packet.transport packet.from packet.to packet.payload now s steady
 quiet_steady (PollRecv now) s none steady poll transmit = poll_recv-kept Steadies Steadies-IsKept now s steady
 quiet_steady (Poll now) s none steady poll transmit = poll now
 quiet_steady (PollTransmit now) s none steady poll transmit = transmit now
 quiet_steady PollEvent s none steady poll transmit = steady
+quiet_steady RelayedAddresses s none steady poll transmit = steady
+quiet_steady (Permissions transport relayed) s none steady poll transmit = steady
+quiet_steady (HavePermission transport to) s none steady poll transmit = steady
 quiet_steady ProtocolError s none steady poll transmit = by (is_closed s.phase)
   where
     by : (b : Bool) → IsSteady (cond b s (closed (fail_all s)))

@@ -31,7 +31,7 @@ use Rattle.turn_client_api.specs.Poll.{answer_step, channel_lapsed, given_up_ste
 use Rattle.turn_client_api.specs.Poll.{lapsed_in, next_offer, offer_step, poll_step, timed_step}
 use Rattle.turn_client_api.specs.Transmit.{idle_step, queue_step, refreshes_in, transmit_step}
 use Rattle.turn_client_api.specs.Transmit as T
-use Rattle.turn_client_api.specs.Steps.{Call, state_after, Delete, CreatePermission, BindChannel, TcpConnect, AllocatedTcpSocket, TcpClosed, SendTo, Recv, PollRecv, Poll, PollTransmit, PollEvent}
+use Rattle.turn_client_api.specs.Steps.{Call, state_after, Delete, CreatePermission, BindChannel, TcpConnect, AllocatedTcpSocket, TcpClosed, SendTo, Recv, PollRecv, Poll, PollTransmit, PollEvent, RelayedAddresses, Permissions, HavePermission}
 use Rattle.turn_client_api.specs.Steps.{ProtocolError}
 use Rattle.turn_client_api.specs.LawsStreams.{AreApart, IsEmptyIfBroken}
 use Rattle.turn_client_api.proofs.CallKeepLemmas.{bound_by}
@@ -229,11 +229,14 @@ call-apart (CreatePermission transport peer now) s = same-apart s (state_after (
 call-apart (BindChannel transport peer now) s = same-apart s (state_after (BindChannel transport peer now) s) (bind-same transport peer now s)
 call-apart (TcpConnect peer now) s = same-apart s (state_after (TcpConnect peer now) s) (connect-same peer now s)
 call-apart (AllocatedTcpSocket id tuple peer local now) s = tcp_socket-apart id tuple peer local now s
-call-apart (TcpClosed local remote) s = same-apart s (state_after (TcpClosed local remote) s) (tcp_closed-same local remote s)
+call-apart (TcpClosed local remote now) s = same-apart s (state_after (TcpClosed local remote now) s) (tcp_closed-same local remote s)
 call-apart (SendTo transport peer bytes now) s = same-apart s (state_after (SendTo transport peer bytes now) s) (send-same transport peer bytes now s)
-call-apart (Recv transport from to bytes now) s = recv-apart transport from to bytes now s
+call-apart (Recv packet now) s = recv-apart packet.transport packet.from packet.to packet.payload now s
 call-apart (PollRecv now) s = poll_recv-apart now s
 call-apart (Poll now) s = same-apart s (state_after (Poll now) s) (poll-same now s)
 call-apart (PollTransmit now) s = same-apart s (state_after (PollTransmit now) s) (transmit-same now s)
 call-apart PollEvent s = same-apart s (state_after PollEvent s) refl
+call-apart RelayedAddresses s = same-apart s (state_after RelayedAddresses s) refl
+call-apart (Permissions transport relayed) s = same-apart s (state_after (Permissions transport relayed) s) refl
+call-apart (HavePermission transport to) s = same-apart s (state_after (HavePermission transport to) s) refl
 call-apart ProtocolError s = same-apart s (state_after ProtocolError s) (error-same s)

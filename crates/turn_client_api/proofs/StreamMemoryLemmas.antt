@@ -8,7 +8,7 @@ use Rattle.turn_client_api.specs.State.{State, Mode, Control, Waiting, Bound, Br
 use Rattle.turn_client_api.specs.Streams.{broken_at, is_ready, turns}
 use Rattle.turn_client_api.specs.Answers.{EndsAfterTurns, RecvEnds, before_others, next_broken}
 use Rattle.turn_client_api.specs.Steps.{Call, EndsWithoutMemory, Leaves, state_after}
-use Rattle.turn_client_api.specs.Steps.{Delete, CreatePermission, BindChannel, TcpConnect, AllocatedTcpSocket, TcpClosed, SendTo, Recv, PollRecv, Poll, PollTransmit, PollEvent, ProtocolError}
+use Rattle.turn_client_api.specs.Steps.{Delete, CreatePermission, BindChannel, TcpConnect, AllocatedTcpSocket, TcpClosed, SendTo, Recv, PollRecv, Poll, PollTransmit, PollEvent, RelayedAddresses, Permissions, HavePermission, ProtocolError}
 use Rattle.turn_client_api.specs.LawsStreams.{AreApart}
 use Rattle.turn_client_api.proofs.MemoryLemmas.{IsBehind, before-IsBehind}
 use Rattle.turn_client_api.proofs.StreamApartLemmas.{broken-apart, found-NotBroken}
@@ -61,13 +61,16 @@ memory-apart (CreatePermission transport peer now) s t e = equal-apart s s t e (
 memory-apart (BindChannel transport peer now) s t e = equal-apart s s t e (λ h. h)
 memory-apart (TcpConnect peer now) s t e = equal-apart s s t e (λ h. h)
 memory-apart (AllocatedTcpSocket id tuple peer local now) s t e = equal-apart s s t e (λ h. h)
-memory-apart (TcpClosed local remote) s t e = equal-apart s s t e (λ h. h)
+memory-apart (TcpClosed local remote now) s t e = equal-apart s s t e (λ h. h)
 memory-apart (SendTo transport peer bytes now) s t none = absurd none
-memory-apart (Recv transport from to bytes now) s t h = recv_end-apart to bytes now s t h
+memory-apart (Recv packet now) s t h = recv_end-apart packet.to packet.payload now s t h
 memory-apart (PollRecv now) s t h = turns_end-apart now s t h
 memory-apart (Poll now) s t e = equal-apart s _ t e (λ h. h)
 memory-apart (PollTransmit now) s t e = equal-apart s _ t e (λ h. h)
 memory-apart PollEvent s t none = absurd none
+memory-apart RelayedAddresses s t none = absurd none
+memory-apart (Permissions transport relayed) s t none = absurd none
+memory-apart (HavePermission transport to) s t none = absurd none
 memory-apart ProtocolError s t e = equal-apart s _ t e (λ h. h)
 
 pub leaves-apart : (call : Call) (s t : State) → Leaves call s t → StayApart s t

@@ -12,8 +12,7 @@ use Rattle.turn_client_api.specs.Connections.{bind_step}
 use Rattle.turn_client_api.specs.Payloads.{Payload, Outcome, Handled, Ignored, PeerData, PeerIcmp, channel_sent, datagram_step, is_channel_frame, is_message, message_step}
 use Rattle.turn_client_api.specs.Streams.{broken_at, control_frame_step, frame_step, go_on, is_bound, is_ready, most_turns, payload_in, poll_recv_step, ready_len, stream_at, turn, turns, turn_of_first, waiting_frame_step, with_bytes, without_stream}
 use Rattle.turn_client_api.specs.Receive.{connection_gone, first_turn, is_from_server, piece_step, recv_step, stream_step, then_all}
-use Rattle.turn_client_api.specs.Steps.{Recv}
-use Rattle.turn_client_api.specs.LawsTurns.{Deed, IsBroughtBy, IsBroughtByPiece, IsBroughtIn, IsBroughtInTurn}
+use Rattle.turn_client_api.specs.LawsTurns.{Deed, IsBroughtByPiece, IsBroughtIn, IsBroughtInTurn}
 use Rattle.turn_client_api.proofs.StreamPeerLemmas.{behind, find-Contains, turns-suc}
 
 -- Of a claim on states and what a message does: streams do not count, and where the claim holds behind a
@@ -198,5 +197,5 @@ module _ (P : State → Type 0) (Did : Deed) (k : IsBringing P Did) where
       by true e None f h = inl (rw (e, f) at h)
       by true e (Some stream) f h = stream-brings to stream bytes now u f (rw (e, f) at h)
 
-  pub recv-brings : (transport : TransportType) (from to : SocketAddr) (bytes : List ℕ) (now : ℕ) (s : State) → P (recv_step transport from to bytes now s).1 → P s ⊎ IsBroughtBy Did (Recv transport from to bytes now) s
+  pub recv-brings : (transport : TransportType) (from to : SocketAddr) (bytes : List ℕ) (now : ℕ) (s : State) → P (recv_step transport from to bytes now s).1 → P s ⊎ IsBroughtIn s.transport Did to bytes now s
   recv-brings transport from to bytes now s h = recv_over s.transport transport from to bytes now s h

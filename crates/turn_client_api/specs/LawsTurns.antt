@@ -33,6 +33,6 @@ IsBroughtIn Tcp Did to bytes now s = IsBroughtByPiece Did to bytes now s
 
 -- a message did it whose turn came in this call
 abbrev pub IsBroughtBy : Deed → Call → State → Type 0
-IsBroughtBy Did (Recv transport from to bytes now) s = IsBroughtIn s.transport Did to bytes now s
+IsBroughtBy Did (Recv packet now) s = IsBroughtIn s.transport Did packet.to packet.payload now s
 IsBroughtBy Did (PollRecv now) s = IsBroughtInTurn Did now s
 IsBroughtBy Did _ s = ⊥

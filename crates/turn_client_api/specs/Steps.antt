@@ -1,9 +1,5 @@
--- Each call that may change a client, and the state after it.
-use Rattle.std.specs.Prelude.{◌≡◌, ◌⊎◌, ℕ, List, Option}
-use Rattle.std.specs.declared.net.ip_addr.IpAddr.{IpAddr}
-use Rattle.std.specs.declared.net.socket_addr.SocketAddr.{SocketAddr}
-use Rattle.turn_stun.specs.declared.transport.TransportType.{TransportType}
-use Rattle.turn_client_api.specs.declared.poll.Socket5Tuple.{Socket5Tuple}
+-- Each call of a client, and the state after it.
+use Rattle.std.specs.Prelude.{◌≡◌, ◌⊎◌}
 use Rattle.turn_client_api.specs.State.{State}
 use Rattle.turn_client_api.specs.Effect.{closed}
 use Rattle.turn_client_api.specs.Streams.{poll_recv_step}
@@ -12,24 +8,8 @@ use Rattle.turn_client_api.specs.Calls.{allocated_tcp_socket_step, bind_channel_
 use Rattle.turn_client_api.specs.Poll.{poll_step}
 use Rattle.turn_client_api.specs.Transmit.{transmit_step}
 use Rattle.turn_client_api.specs.Answers.{EndsAfterTurns, RecvEnds, event_step}
-
--- a call, and the moment at which it comes
-pub data Call : Type 0 where
-  Delete : ℕ → Call
-  CreatePermission : TransportType → IpAddr → ℕ → Call
-  BindChannel : TransportType → SocketAddr → ℕ → Call
-  TcpConnect : SocketAddr → ℕ → Call
-  -- the number, the control connection, the peer, and the local end, or none
-  AllocatedTcpSocket : ℕ → Socket5Tuple → SocketAddr → Option SocketAddr → ℕ → Call
-  TcpClosed : SocketAddr → SocketAddr → Call
-  SendTo : TransportType → SocketAddr → List ℕ → ℕ → Call
-  -- from, to, and the bytes
-  Recv : TransportType → SocketAddr → SocketAddr → List ℕ → ℕ → Call
-  PollRecv : ℕ → Call
-  Poll : ℕ → Call
-  PollTransmit : ℕ → Call
-  PollEvent : Call
-  ProtocolError : Call
+pub use Rattle.turn_client_api.specs.declared.call.Call.{Call}
+pub use Rattle.turn_client_api.specs.declared.call.Call.TheVariants.{Delete, CreatePermission, BindChannel, TcpConnect, AllocatedTcpSocket, TcpClosed, SendTo, Recv, PollRecv, Poll, PollTransmit, PollEvent, ProtocolError, RelayedAddresses, Permissions, HavePermission}
 
 -- the state after the call, which found memory
 abbrev pub state_after : Call → State → State
@@ -38,25 +18,31 @@ state_after (CreatePermission transport peer now) s = (create_permission_step tr
 state_after (BindChannel transport peer now) s = (bind_channel_step transport peer now s).1
 state_after (TcpConnect peer now) s = (tcp_connect_step peer now s).1
 state_after (AllocatedTcpSocket id tuple peer local now) s = (allocated_tcp_socket_step id tuple peer local now s).1
-state_after (TcpClosed local remote) s = tcp_closed_step local remote s
+state_after (TcpClosed local remote now) s = tcp_closed_step local remote s
 state_after (SendTo transport peer bytes now) s = (send_to_step transport peer bytes now s).1
-state_after (Recv transport from to bytes now) s = (recv_step transport from to bytes now s).1
+state_after (Recv packet now) s = (recv_step packet.transport packet.from packet.to packet.payload now s).1
 state_after (PollRecv now) s = (poll_recv_step now s).1
 state_after (Poll now) s = (poll_step now s).1
 state_after (PollTransmit now) s = (transmit_step now s).1
 state_after PollEvent s = (event_step s).1
 state_after ProtocolError s = protocol_error_step s
+state_after RelayedAddresses s = s
+state_after (Permissions transport relayed) s = s
+state_after (HavePermission transport to) s = s
 
--- the states that the call may leave where it finds no memory; most calls change nothing then, and two
--- always find it
+-- the states that the call may leave where it finds no memory; most calls change nothing then, and those
+-- that take none always find it
 abbrev pub EndsWithoutMemory : Call → State → State → Type 0
-EndsWithoutMemory (Recv transport from to bytes now) s t = RecvEnds to bytes now s t
+EndsWithoutMemory (Recv packet now) s t = RecvEnds packet.to packet.payload now s t
 EndsWithoutMemory (PollRecv now) s t = EndsAfterTurns now s t
 EndsWithoutMemory (Poll now) s t = t ≡ closed s
 EndsWithoutMemory (PollTransmit now) s t = t ≡ closed s
 EndsWithoutMemory ProtocolError s t = t ≡ closed s
 EndsWithoutMemory (SendTo transport peer bytes now) s t = ⊥
 EndsWithoutMemory PollEvent s t = ⊥
+EndsWithoutMemory RelayedAddresses s t = ⊥
+EndsWithoutMemory (Permissions transport relayed) s t = ⊥
+EndsWithoutMemory (HavePermission transport to) s t = ⊥
 EndsWithoutMemory _ s t = t ≡ s
 
 -- a state that the call may leave

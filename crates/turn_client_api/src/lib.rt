@@ -7,6 +7,7 @@
 #![tactic(auto)]
 
 mod addresses;
+mod call;
 mod client;
 mod closed;
 mod config;
@@ -20,6 +21,7 @@ mod send;
 mod state;
 
 pub use addresses::{PermissionAddressesIter, RelayedAddressesIter};
+pub use call::Call;
 pub use client::TurnClientApi;
 pub use config::{RequestRetransmits, TurnConfig};
 pub use error::{

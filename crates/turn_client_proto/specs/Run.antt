@@ -3,11 +3,21 @@ use Rattle.std.specs.Prelude.{ℕ, Bool, true, false, List, [], ◌∷◌}
 use Rattle.std.specs.declared.net.socket_addr.SocketAddr.{SocketAddr}
 use Rattle.turn_stun.specs.declared.transport.TransportType.{TransportType}
 use Rattle.turn_client_api.specs.Config.{Config}
+use Rattle.turn_client_api.specs.declared.call.Call.{Call as WholeCall}
+use Rattle.turn_client_api.specs.declared.call.Call.TheVariants as Whole
 use Rattle.turn_client_proto.specs.First.{State, new_client, poll_step, transmit_step, event_step, recv_step, error_step, IsSilentUntil}
 use Rattle.turn_client_proto.specs.declared.runs.call.Call.{Call}
 use Rattle.turn_client_proto.specs.declared.runs.call.Call.TheVariants.{Poll, PollTransmit, PollEvent, Recv, ProtocolError}
 use Rattle.turn_client_proto.specs.declared.runs.reply.Reply.{Reply}
 use Rattle.turn_client_proto.specs.declared.runs.reply.Reply.TheVariants as Replies
+
+-- the same call in the machine that has all calls
+abbrev pub whole_call : Call → WholeCall
+whole_call (Poll now) = Whole.Poll now
+whole_call (PollTransmit now) = Whole.PollTransmit now
+whole_call PollEvent = Whole.PollEvent
+whole_call (Recv transmit now) = Whole.Recv transmit now
+whole_call ProtocolError = Whole.ProtocolError
 
 -- the answer of `recv`, by whether the packet was taken
 abbrev pub recv_reply : Bool → Reply
