@@ -1,18 +1,17 @@
 -- What a call leaves that finds no memory: what messages and the end of a client keep is kept, and what
 -- there is then, there was, or a message brought it whose turn came.
-use Rattle.std.proofs.Common.{◌≡◌, ◌⊎◌, ℕ, Bool, true, false, cond, List, Option, Some, None, refl, subst, sym, inl, inr}
+use Rattle.std.proofs.Common.{◌≡◌, ◌⊎◌, ℕ, Bool, true, false, cond, List, [], ◌∷◌, Option, Some, None, refl, subst, sym, inl, inr}
 use Rattle.std.specs.Prelude.{IsSomeAnd, find}
-use Rattle.std.specs.Option.{option_map_or}
 use Rattle.std.proofs.lemmas.Option.{none-some, same_Some}
 use Rattle.std.specs.declared.net.socket_addr.SocketAddr.{SocketAddr}
 use Rattle.turn_stun.specs.declared.transport.TransportType.{TransportType}
 use Rattle.turn_agent.specs.Agent.{same_address}
 use Rattle.turn_client_api.specs.State.{State, Mode, Control, Waiting, Bound, Broken, Stream}
 use Rattle.turn_client_api.specs.Effect.{closed}
-use Rattle.turn_client_api.specs.Payloads.{Outcome, Handled, Ignored, PeerData, PeerIcmp}
-use Rattle.turn_client_api.specs.Streams.{broken_at, is_ready, stream_at, turns}
+use Rattle.turn_client_api.specs.Payloads.{Payload, Outcome, Handled, Ignored, PeerData, PeerIcmp}
+use Rattle.turn_client_api.specs.Streams.{broken_at, is_ready, stream_at}
 use Rattle.turn_client_api.specs.Receive.{first_turn}
-use Rattle.turn_client_api.specs.Answers.{EndsAfterTurns, RecvEnds, before_others, next_broken}
+use Rattle.turn_client_api.specs.Answers.{EndsAfterTurns, RecvEnds, before_others}
 use Rattle.turn_client_api.specs.Steps.{Call, EndsWithoutMemory, Leaves, state_after}
 use Rattle.turn_client_api.specs.Steps.{Delete, CreatePermission, BindChannel, TcpConnect, AllocatedTcpSocket, TcpClosed, SendTo, Recv, PollRecv, Poll, PollTransmit, PollEvent, RelayedAddresses, Permissions, HavePermission, ProtocolError}
 use Rattle.turn_client_api.specs.LawsTurns.{Deed, IsBroughtBy, IsBroughtIn, IsBroughtInTurn}
@@ -60,29 +59,30 @@ module _ (R : State → State → Type 0) (k : IsKept R) (ends : (s : State) →
   closed-kept : (s t u : State) → R s t → u ≡ closed t → R s u
   closed-kept s t u kept e = subst (λ (x : State). R s x) (sym e) (k.trans s t (closed t) kept (ends t))
 
-  next-kept : (s : State) → R s (next_broken s)
-  next-kept s = by (find is_ready s.streams)
+  turns_end-kept : (now : ℕ) (s u : State) → EndsAfterTurns now s u → R s u
+  turns_end-kept now s u (t, (n, led), broken) = by (find is_ready t.streams) broken
     where
-      by : (o : Option Stream) → R s (option_map_or (λ stream. broken_at stream.local s) o s)
-      by None = k.same s
-      by (Some stream) = k.streams s (broken_at stream.local s).streams
+      there : R s t
+      there = subst (λ (p : Option Payload × State). R s p.1) led (turns-kept R k n now s)
 
-  turns_end-kept : (now : ℕ) (s t : State) → EndsAfterTurns now s t → R s t
-  turns_end-kept now s t (n, none, e) =
-      let u = (turns n now s).1 in
-      closed-kept s (next_broken u) t (k.trans s u (next_broken u) (turns-kept R k n now s) (next-kept u)) e
+      by : (o : Option Stream) → IsSomeAnd o (λ stream. u ≡ closed (broken_at stream.local t)) → R s u
+      by None none = absurd none
+      by (Some stream) e =
+          let last = broken_at stream.local t in
+          closed-kept s last u (k.trans s t last there (k.streams t last.streams)) e
 
   before-kept : (to : SocketAddr) (piece : List ℕ) (now : ℕ) (s u : State) → IsBehind to piece now s u → R s u
   before-kept to piece now s u (stream, f, inl (mode, e)) = subst (λ (x : State). R s x) (sym e) (first_turn-kept R k stream piece now s)
   before-kept to piece now s u (stream, f, inr e) = subst (λ (x : State). R s x) (sym e) (k.same s)
 
   recv_end-kept : (to : SocketAddr) (piece : List ℕ) (now : ℕ) (s t : State) → RecvEnds to piece now s t → R s t
-  recv_end-kept to piece now s t (inl e) = closed-kept s (broken_at to s) t (k.streams s (broken_at to s).streams) e
-  recv_end-kept to piece now s t (inr (over, later)) = by (before_others to piece now s) refl later
+  recv_end-kept to [] now s t e = closed-kept s (broken_at to s) t (k.streams s (broken_at to s).streams) e
+  recv_end-kept to (b ∷ bs) now s t (inl e) = closed-kept s (broken_at to s) t (k.streams s (broken_at to s).streams) e
+  recv_end-kept to (b ∷ bs) now s t (inr (over, later)) = by (before_others to (b ∷ bs) now s) refl later
     where
-      by : (o : Option State) → before_others to piece now s ≡ o → IsSomeAnd o (λ u. EndsAfterTurns now u t) → R s t
+      by : (o : Option State) → before_others to (b ∷ bs) now s ≡ o → IsSomeAnd o (λ u. EndsAfterTurns now u t) → R s t
       by None e none = absurd none
-      by (Some u) e h = k.trans s u t (before-kept to piece now s u (before-IsBehind to piece now s u e)) (turns_end-kept now u t h)
+      by (Some u) e h = k.trans s u t (before-kept to (b ∷ bs) now s u (before-IsBehind to (b ∷ bs) now s u e)) (turns_end-kept now u t h)
 
   -- nothing changes
   same-kept : (s t : State) → t ≡ s → R s t
@@ -117,17 +117,15 @@ module _ (P : State → Type 0) (Did : Deed) (k : IsBringing P Did) (ends : (s :
   closed-brings : (s t : State) → t ≡ closed s → P t → P s
   closed-brings s t e h = ends s (subst P e h)
 
-  next-brings : (s : State) → P (next_broken s) → P s
-  next-brings s = by (find is_ready s.streams)
+  turns_end-brings : (now : ℕ) (s u : State) → EndsAfterTurns now s u → P u → P s ⊎ IsBroughtInTurn Did now s
+  turns_end-brings now s u (t, (n, led), broken) h = by (find is_ready t.streams) broken
     where
-      by : (o : Option Stream) → P (option_map_or (λ stream. broken_at stream.local s) o s) → P s
-      by None h = h
-      by (Some stream) h = k.streams s (broken_at stream.local s).streams h
+      there : P t → P s ⊎ IsBroughtInTurn Did now s
+      there here = turns-bring P Did k n now s (subst (λ (p : Option Payload × State). P p.1) (sym led) here)
 
-  turns_end-brings : (now : ℕ) (s t : State) → EndsAfterTurns now s t → P t → P s ⊎ IsBroughtInTurn Did now s
-  turns_end-brings now s t (n, none, e) h =
-      let u = (turns n now s).1 in
-      turns-bring P Did k n now s (next-brings u (closed-brings (next_broken u) t e h))
+      by : (o : Option Stream) → IsSomeAnd o (λ stream. u ≡ closed (broken_at stream.local t)) → P s ⊎ IsBroughtInTurn Did now s
+      by None none = absurd none
+      by (Some stream) e = there (k.streams t (broken_at stream.local t).streams (closed-brings (broken_at stream.local t) u e h))
 
   before-brings : (to : SocketAddr) (piece : List ℕ) (now : ℕ) (s u : State) → IsBehind to piece now s u → P u → IsFirst P Did k to piece now s
   before-brings to piece now s u (stream, f, inl (mode, e)) h = first_turn-brings P Did k to stream piece now s f (subst P e h)
@@ -142,16 +140,17 @@ module _ (P : State → Type 0) (Did : Deed) (k : IsBringing P Did) (ends : (s :
       by (inr d) = inr (inr (u, e, d))
 
   recv_end-brings : (to : SocketAddr) (piece : List ℕ) (now : ℕ) (s t : State) → RecvEnds to piece now s t → P t → P s ⊎ IsBroughtIn s.transport Did to piece now s
-  recv_end-brings to piece now s t (inl e) h = inl (k.streams s (broken_at to s).streams (closed-brings (broken_at to s) t e h))
-  recv_end-brings to piece now s t (inr (over, later)) h = by (before_others to piece now s) refl later
+  recv_end-brings to [] now s t e h = inl (k.streams s (broken_at to s).streams (closed-brings (broken_at to s) t e h))
+  recv_end-brings to (b ∷ bs) now s t (inl e) h = inl (k.streams s (broken_at to s).streams (closed-brings (broken_at to s) t e h))
+  recv_end-brings to (b ∷ bs) now s t (inr (over, later)) h = by (before_others to (b ∷ bs) now s) refl later
     where
-      at : IsReceived P Did k to piece now s → P s ⊎ IsBroughtIn s.transport Did to piece now s
+      at : IsReceived P Did k to (b ∷ bs) now s → P s ⊎ IsBroughtIn s.transport Did to (b ∷ bs) now s
       at (inl here) = inl here
-      at (inr d) = inr (subst (λ (carrier : TransportType). IsBroughtIn carrier Did to piece now s) (sym over) d)
+      at (inr d) = inr (subst (λ (carrier : TransportType). IsBroughtIn carrier Did to (b ∷ bs) now s) (sym over) d)
 
-      by : (o : Option State) → before_others to piece now s ≡ o → IsSomeAnd o (λ u. EndsAfterTurns now u t) → P s ⊎ IsBroughtIn s.transport Did to piece now s
+      by : (o : Option State) → before_others to (b ∷ bs) now s ≡ o → IsSomeAnd o (λ u. EndsAfterTurns now u t) → P s ⊎ IsBroughtIn s.transport Did to (b ∷ bs) now s
       by None e none = absurd none
-      by (Some u) e end = at (others_end-brings to piece now s u t e end h)
+      by (Some u) e end = at (others_end-brings to (b ∷ bs) now s u t e end h)
 
   pub memory-brings : (call : Call) (s t : State) → EndsWithoutMemory call s t → P t → P s ⊎ IsBroughtBy Did call s
   memory-brings (Delete now) s t e h = inl (subst P e h)

@@ -4,13 +4,13 @@ use Rattle.std.specs.Prelude.{find}
 use Rattle.std.specs.declared.net.socket_addr.SocketAddr.{SocketAddr}
 use Rattle.turn_stun.specs.declared.transport.TransportType.{TransportType}
 use Rattle.turn_stun.specs.declared.transport.TransportType.TheVariants.{Udp, Tcp}
-use Rattle.turn_types.specs.Frames.{begins_message, begins_no_frame}
+use Rattle.turn_types.specs.Frames.{begins_message, begins_no_frame, frame_len}
 use Rattle.turn_agent.specs.Agent.{same_address}
 use Rattle.turn_client_api.specs.State.{State, Mode, Control, Waiting, Bound, Broken, Stream}
 use Rattle.turn_client_api.specs.Grants.{same_transport}
 use Rattle.turn_client_api.specs.Connections.{bind_step}
 use Rattle.turn_client_api.specs.Payloads.{Payload, Outcome, Handled, Ignored, PeerData, PeerIcmp, channel_sent, datagram_step, is_channel_frame, is_message, message_step}
-use Rattle.turn_client_api.specs.Streams.{broken_at, control_frame_step, frame_step, go_on, is_bound, is_ready, most_turns, poll_recv_step, ready_len, stream_at, turn, turns, turn_of_first, waiting_frame_step, with_bytes, without_stream}
+use Rattle.turn_client_api.specs.Streams.{broken_at, control_frame_step, frame_step, framed_by, framed_turn, go_on, is_ready, most_turns, poll_recv_step, stream_at, turn, turned, turns, turn_of_first, waiting_frame_step, with_bytes, without_stream}
 use Rattle.turn_client_api.specs.Receive.{connection_gone, first_turn, is_from_server, piece_step, recv_step, stream_step, tcp_closed_step, then_all}
 
 -- Of a relation between a state and a later one: each state is as itself, later is later again, streams
@@ -47,16 +47,28 @@ module _ (R : State → State → Type 0) (k : IsKept R) where
   pub frame-kept : (stream : Stream) (frame : List ℕ) (now : ℕ) (s : State) → R s (frame_step stream frame now s).1
   frame-kept stream frame now s = frame_in_mode stream.mode stream frame now s
 
+  framed_by-kept : (stream : Stream) (now : ℕ) (t : State) (o : Option ℕ) → R t (framed_by stream now t o).1
+  framed_by-kept stream now t None = k.streams t (with_bytes stream.local stream.bytes t).streams
+  framed_by-kept stream now t (Some len) =
+      let u = (frame_step stream (take len stream.bytes) now t).1 in
+      let left = with_bytes stream.local (drop len stream.bytes) u in
+      k.trans t u left (frame-kept stream (take len stream.bytes) now t) (k.streams u left.streams)
+
+  framed_turn-kept : (stream : Stream) (now : ℕ) (t : State) → R t (framed_turn stream now t).1
+  framed_turn-kept stream now t =
+      kept-cond (begins_no_frame stream.bytes) t (Handled, broken_at stream.local t) (framed_by stream now t (frame_len stream.bytes))
+      (k.streams t (broken_at stream.local t).streams) (framed_by-kept stream now t (frame_len stream.bytes))
+
+  turned_in_mode : (m : Mode) (stream : Stream) (now : ℕ) (t : State) → R t (turned (record stream { mode = m }) now t).1
+  turned_in_mode Control stream now t = framed_turn-kept (record stream { mode = Control }) now t
+  turned_in_mode Waiting stream now t = framed_turn-kept (record stream { mode = Waiting }) now t
+  turned_in_mode (Bound peer) stream now t = k.same t
+  turned_in_mode Broken stream now t = k.same t
+
   turn-kept : (stream : Stream) (now : ℕ) (s : State) → R s (turn stream now s).1
-  turn-kept stream now s = by (ready_len stream) refl
-    where
-      by : (o : Option ℕ) → ready_len stream ≡ o → R s (turn stream now s).1
-      by None e = rw e (k.same s)
-      by (Some len) e =
-          let fed = with_bytes stream.local (drop len stream.bytes) s in
-          rw e (kept-cond (not (is_bound stream.mode) && begins_no_frame stream.bytes) s (Handled, broken_at stream.local s) (frame_step stream (take len stream.bytes) now fed)
-          (k.streams s (broken_at stream.local s).streams)
-          (k.trans s fed (frame_step stream (take len stream.bytes) now fed).1 (k.streams s fed.streams) (frame-kept stream (take len stream.bytes) now fed)))
+  turn-kept stream now s =
+      let out = with_bytes stream.local [] s in
+      k.trans s out (turn stream now s).1 (k.streams s out.streams) (turned_in_mode stream.mode stream now out)
 
   go_on-kept : (next : State → Option Payload × State) (s : State) (p : Outcome × State) → R s p.1 → ((t : State) → R t (next t).1) → R s (go_on next p).1
   go_on-kept next s (PeerData payload, t) first more = first
@@ -83,10 +95,7 @@ module _ (R : State → State → Type 0) (k : IsKept R) where
   then_all-kept now s (Ignored, t) first = k.trans s t (poll_recv_step now t).1 first (poll_recv-kept now t)
 
   pub first_turn-kept : (stream : Stream) (piece : List ℕ) (now : ℕ) (s : State) → R s (first_turn stream piece now s).1
-  first_turn-kept stream piece now s =
-      let fed = record stream { bytes = stream.bytes ++ piece } in
-      let t = with_bytes stream.local fed.bytes s in
-      k.trans s t (turn fed now t).1 (k.streams s t.streams) (turn-kept fed now t)
+  first_turn-kept stream piece now s = turn-kept (record stream { bytes = stream.bytes ++ piece }) now s
 
   piece_in_mode : (m : Mode) (stream : Stream) (piece : List ℕ) (now : ℕ) (s : State) → R s (piece_step (record stream { mode = m }) piece now s).1
   piece_in_mode Control stream piece now s = then_all-kept now s (first_turn (record stream { mode = Control }) piece now s) (first_turn-kept (record stream { mode = Control }) piece now s)

@@ -121,6 +121,14 @@ bytes-NotBroken local bytes xs whole = all-map (IsWholeAt local) (IsWholeAt loca
     by x true unbroken = unbroken
     by x false unbroken = unbroken
 
+pub bound-NotBroken : (at local peer : SocketAddr) (xs : List Stream) → NotBroken at xs → NotBroken at (map (mode_by local (Bound peer)) xs)
+unfolding mode_by
+bound-NotBroken at local peer xs whole = all-map (IsWholeAt at) (IsWholeAt at) (mode_by local (Bound peer)) (λ x. by x (same_address x.local local)) xs whole
+  where
+    by : (x : Stream) (b : Bool) → IsWholeAt at x → IsWholeAt at (cond b (record x { mode = Bound peer }) x)
+    by x true unbroken = λ e f. cc
+    by x false unbroken = unbroken
+
 -- what is left without bytes may be broken
 pub emptied-apart : (local : SocketAddr) (xs : List Stream) → Apart xs → Apart (map (bytes_by local []) xs)
 unfolding IsDistinct bytes_by

@@ -1,5 +1,5 @@
 -- The turns that `poll_recv` takes are enough: what they leave in the streams waits for more bytes.
-use Rattle.std.proofs.Common.{◌≡◌, ℕ, zero, suc, ◌<◌, ◌≤◌, Bool, true, false, not, cond, ◌&&◌, List, [], ◌∷◌, ◌++◌, length, take, drop, Option, Some, None, refl, sym, ap, ◌∙◌, inl, inr, arith}
+use Rattle.std.proofs.Common.{◌≡◌, ℕ, zero, suc, ◌<◌, ◌≤◌, Bool, true, false, cond, List, [], ◌∷◌, ◌++◌, length, map, take, drop, Option, Some, None, refl, sym, ap, ◌∙◌, inl, inr, arith}
 use Rattle.std.specs.Prelude.{All, find, is_some}
 use Rattle.std.proofs.lemmas.List.{length-drop}
 use Rattle.std.proofs.lemmas.List.Elements.{All-nil, All-cons}
@@ -12,38 +12,25 @@ use Rattle.turn_types.proofs.SplitLemmas.{IsFrame-frame_len}
 use Rattle.turn_agent.specs.Agent.{same_address}
 use Rattle.turn_client_api.specs.State.{State, Mode, Control, Waiting, Bound, Broken, Stream}
 use Rattle.turn_client_api.specs.Payloads.{Payload, Outcome, Handled, Ignored, PeerData, PeerIcmp}
-use Rattle.turn_client_api.specs.Streams.{broken_at, frame_step, go_on, is_bound, is_ready, most_turns, poll_recv_step, ready_len, turn, turn_of_first, turns, with_bytes}
+use Rattle.turn_client_api.specs.Streams.{broken_at, frame_step, framed_by, framed_turn, go_on, is_ready, most_turns, poll_recv_step, ready_len, turn, turn_of_first, turns, with_bytes}
 use Rattle.turn_client_api.specs.Receive.{first_turn, piece_step, then_all}
 use Rattle.turn_client_api.specs.LawsPeers.{IsNobodys}
 use Rattle.turn_client_api.specs.LawsStreams.{HasNoFrame, IsDrained}
 use Rattle.turn_client_api.proofs.StreamMessageLemmas.{Rebound, frame-rebound}
-use Rattle.turn_client_api.proofs.StreamWeightLemmas.{KeepsHeld, Sets, weight, weight-kept, weight-le, weight-less}
+use Rattle.turn_client_api.proofs.StreamWeightLemmas.{KeepsHeld, Sets, kept-Sets, later-Sets, weight, weight-le, weight-less}
 
--- ---- how many bytes a turn takes
+-- ---- what waits in a stream
 
 framed : List ℕ → Option ℕ
 framed bytes = cond (begins_no_frame bytes) (Some (length bytes)) (frame_len bytes)
 
-framed-takes : (bytes : List ℕ) (len : ℕ) → framed bytes ≡ Some len → length (drop len bytes) < length bytes
-unfolding framed
-framed-takes [] len e = cc
-framed-takes (b ∷ bytes) len e = by (begins_no_frame (b ∷ bytes)) e
-  where
-    by : (t : Bool) → cond t (Some (length (b ∷ bytes))) (frame_len (b ∷ bytes)) ≡ Some len → length (drop len (b ∷ bytes)) < length (b ∷ bytes)
-    by true f = let all : length (b ∷ bytes) ≡ len = same_Some _ _ f in rw length-drop (omega (arith, all))
-    by false f = let is = frame_len-IsWhole (b ∷ bytes) len f in rw length-drop (omega (arith, is.least))
-
--- it takes one byte at least
-takes : (mode : Mode) (stream : Stream) (len : ℕ) → ready_len (record stream { mode = mode }) ≡ Some len → length (drop len stream.bytes) < length stream.bytes
-unfolding framed
-takes Control stream len e = framed-takes stream.bytes len e
-takes Waiting stream len e = framed-takes stream.bytes len e
-takes Broken stream len e = cc
-takes (Bound peer) stream len e = by stream.bytes e
-  where
-    by : (bytes : List ℕ) → ready_len (record stream { mode = Bound peer; bytes = bytes }) ≡ Some len → length (drop len bytes) < length bytes
-    by [] f = cc
-    by (b ∷ bytes) f = let all : length (b ∷ bytes) ≡ len = same_Some _ _ f in rw length-drop (omega (arith, all))
+-- bytes wait in a stream that is ready
+ready-waits : (mode : Mode) (stream : Stream) (bytes : List ℕ) → is_ready (record stream { mode = mode; bytes = bytes }) ≡ true → 0 < length bytes
+ready-waits mode stream (b ∷ bytes) e = omega arith
+ready-waits Control stream [] e = cc
+ready-waits Waiting stream [] e = cc
+ready-waits (Bound peer) stream [] e = cc
+ready-waits Broken stream [] e = cc
 
 -- ---- a turn makes what the streams hold less
 
@@ -95,32 +82,9 @@ mode_by-KeepsHeld local mode = record {
     held true x = refl
     held false x = refl
 
-rebound-weight : (s t : State) → Rebound s t → weight t.streams ≡ weight s.streams
-unfolding mode_by
-rebound-weight s t (inl same) = ap weight same
-rebound-weight s t (inr (local, peer, is)) = ap weight is ∙ weight-kept (mode_by local (Bound peer)) (mode_by-KeepsHeld local (Bound peer)) s.streams
-
-turn-less : (stream : Stream) (now : ℕ) (s : State) → find is_ready s.streams ≡ Some stream → (len : ℕ) → ready_len stream ≡ Some len → weight (turn stream now s).1.streams < weight s.streams
-unfolding bytes_by broken_by
-turn-less stream now s found len e = rw e (by (not (is_bound stream.mode) && begins_no_frame stream.bytes))
-  where
-    fewer : length (drop len stream.bytes) < length stream.bytes
-    fewer = takes stream.mode stream len e
-
-    fed : State
-    fed = with_bytes stream.local (drop len stream.bytes) s
-
-    by : (b : Bool) → weight (cond {A = Outcome × State} b (Handled, broken_at stream.local s) (frame_step stream (take len stream.bytes) now fed)).1.streams < weight s.streams
-    by true = weight-less is_ready s.streams stream [] (broken_by stream.local) found (broken_by-Sets stream.local) (omega (arith, fewer))
-    by false =
-        let less = weight-less is_ready s.streams stream (drop len stream.bytes) (bytes_by stream.local (drop len stream.bytes)) found (bytes_by-Sets stream.local (drop len stream.bytes)) fewer in
-        rw (rebound-weight fed (frame_step stream (take len stream.bytes) now fed).1 (frame-rebound stream (take len stream.bytes) now fed)) less
-
--- ---- as many turns as there are bytes
-
-some-absurd : {X : Type 0} (o : Option X) → is_some o ≡ true → o ≡ None → ⊥
-some-absurd None is none = cc
-some-absurd (Some x) is none = cc
+map-map : (f g : Stream → Stream) (xs : List Stream) → map (λ x. g (f x)) xs ≡ map g (map f xs)
+map-map f g [] = refl
+map-map f g (x ∷ xs) = ap (λ ys. g (f x) ∷ ys) (map-map f g xs)
 
 -- the first stream that is ready has bytes for a turn
 pub found-ready : (xs : List Stream) (stream : Stream) → find is_ready xs ≡ Some stream → is_ready stream ≡ true
@@ -131,12 +95,78 @@ found-ready (x ∷ xs) stream e = by (is_ready x) refl (found-ready xs stream) e
     by true f later g = let same : x ≡ stream = same_Some _ _ g in rw (← same) f
     by false f later g = later g
 
-pub turn-lighter : (stream : Stream) (now : ℕ) (s : State) → find is_ready s.streams ≡ Some stream → weight (turn stream now s).1.streams < weight s.streams
-turn-lighter stream now s found = by (ready_len stream) refl
+-- Of the first stream that is ready: it is taken out, and holds less once its turn is over.
+module _ (stream : Stream) (s : State) (found : find is_ready s.streams ≡ Some stream) where
+  waits : 0 < length stream.bytes
+  waits = ready-waits stream.mode stream stream.bytes (found-ready s.streams stream found)
+
+  abbrev out : State
+  out = with_bytes stream.local [] s
+
+  -- these bytes and no others are there in the end
+  lighter-by : (bytes : List ℕ) (f g : Stream → Stream) → Sets stream.local bytes (λ x. g (f x)) → length bytes < length stream.bytes → weight (map g (map f s.streams)) < weight s.streams
+  lighter-by bytes f g is fewer = rw (← map-map f g s.streams) (weight-less is_ready s.streams stream bytes (λ x. g (f x)) found is fewer)
+
+  emptied-lighter : weight out.streams < weight s.streams
+  unfolding bytes_by
+  emptied-lighter = weight-less is_ready s.streams stream [] (bytes_by stream.local []) found (bytes_by-Sets stream.local []) waits
+
+  broken-lighter : weight (broken_at stream.local out).streams < weight s.streams
+  unfolding bytes_by broken_by
+  broken-lighter =
+      let empty = bytes_by stream.local [] in
+      lighter-by [] empty (broken_by stream.local)
+      (later-Sets stream.local [] [] empty (broken_by stream.local) (bytes_by-Sets stream.local []) (broken_by-Sets stream.local)) waits
+
+  -- fewer bytes are put back
+  put_back-lighter : (rest : List ℕ) (t : State) → length rest < length stream.bytes → Rebound out t → weight (with_bytes stream.local rest t).streams < weight s.streams
+  unfolding bytes_by mode_by
+  put_back-lighter rest t fewer (inl same) =
+      let empty = bytes_by stream.local [] in
+      let fill = bytes_by stream.local rest in
+      rw same
+      (lighter-by rest empty fill
+      (later-Sets stream.local [] rest empty fill (bytes_by-Sets stream.local []) (bytes_by-Sets stream.local rest)) fewer)
+  put_back-lighter rest t fewer (inr (local, peer, is)) =
+      let empty = bytes_by stream.local [] in
+      let bind = mode_by local (Bound peer) in
+      let fill = bytes_by stream.local rest in
+      let bound = kept-Sets stream.local [] empty bind (bytes_by-Sets stream.local []) (mode_by-KeepsHeld local (Bound peer)) in
+      rw (is, ← map-map empty bind s.streams)
+      (lighter-by rest (λ x. bind (empty x)) fill (later-Sets stream.local [] rest (λ x. bind (empty x)) fill bound (bytes_by-Sets stream.local rest)) fewer)
+
+framed-lighter : (stream : Stream) (now : ℕ) (s : State) → find is_ready s.streams ≡ Some stream → is_some (framed stream.bytes) ≡ true → weight (framed_turn stream now (with_bytes stream.local [] s)).1.streams < weight s.streams
+unfolding framed
+framed-lighter stream now s found = by (begins_no_frame stream.bytes) (frame_len stream.bytes) refl
   where
-    by : (o : Option ℕ) → ready_len stream ≡ o → weight (turn stream now s).1.streams < weight s.streams
-    by None e = absurd (some-absurd (ready_len stream) (found-ready s.streams stream found) e)
-    by (Some len) e = turn-less stream now s found len e
+    t : State
+    t = with_bytes stream.local [] s
+
+    by : (b : Bool) (o : Option ℕ) → frame_len stream.bytes ≡ o → is_some (cond b (Some (length stream.bytes)) o) ≡ true → weight (cond {A = Outcome × State} b (Handled, broken_at stream.local t) (framed_by stream now t o)).1.streams < weight s.streams
+    by true o e ready = broken-lighter stream s found
+    by false None e ready = cc
+    by false (Some len) e ready =
+        let is = frame_len-IsWhole stream.bytes len e in
+        let some = waits stream s found in
+        let u = (frame_step stream (take len stream.bytes) now t).1 in
+        put_back-lighter stream s found (drop len stream.bytes) u (rw length-drop (omega (arith, is.least, some)))
+        (frame-rebound stream (take len stream.bytes) now t)
+
+turned-lighter : (m : Mode) (stream : Stream) (now : ℕ) (s : State) → find is_ready s.streams ≡ Some (record stream { mode = m }) → weight (turn (record stream { mode = m }) now s).1.streams < weight s.streams
+unfolding framed
+turned-lighter Control stream now s found =
+    let u = record stream { mode = Control } in
+    framed-lighter u now s found (found-ready s.streams u found)
+turned-lighter Waiting stream now s found =
+    let u = record stream { mode = Waiting } in
+    framed-lighter u now s found (found-ready s.streams u found)
+turned-lighter (Bound peer) stream now s found = emptied-lighter (record stream { mode = Bound peer }) s found
+turned-lighter Broken stream now s found = emptied-lighter (record stream { mode = Broken }) s found
+
+pub turn-lighter : (stream : Stream) (now : ℕ) (s : State) → find is_ready s.streams ≡ Some stream → weight (turn stream now s).1.streams < weight s.streams
+turn-lighter stream now s found = turned-lighter stream.mode stream now s found
+
+-- ---- as many turns as there are bytes
 
 -- two ways to go on that agree on all that is lighter
 go_on-same : (next other : State → Option Payload × State) (p : Outcome × State) → next p.1 ≡ other p.1 → go_on next p ≡ go_on other p

@@ -1,12 +1,13 @@
 -- The streams stay apart, whether or not a call finds memory.
-use Rattle.std.proofs.Common.{◌≡◌, ◌≢◌, ℕ, List, Option, Some, None, refl, subst, sym, inl, inr}
+use Rattle.std.proofs.Common.{◌≡◌, ◌≢◌, ℕ, List, [], ◌∷◌, Option, Some, None, refl, subst, sym, inl, inr}
 use Rattle.std.specs.Prelude.{IsSomeAnd, find}
-use Rattle.std.specs.Option.{option_map_or}
 use Rattle.std.specs.declared.net.socket_addr.SocketAddr.{SocketAddr}
 use Rattle.turn_agent.specs.Agent.{same_address}
 use Rattle.turn_client_api.specs.State.{State, Mode, Control, Waiting, Bound, Broken, Stream}
-use Rattle.turn_client_api.specs.Streams.{broken_at, is_ready, turns}
-use Rattle.turn_client_api.specs.Answers.{EndsAfterTurns, RecvEnds, before_others, next_broken}
+use Rattle.turn_client_api.specs.Effect.{closed}
+use Rattle.turn_client_api.specs.Payloads.{Payload}
+use Rattle.turn_client_api.specs.Streams.{broken_at, is_ready}
+use Rattle.turn_client_api.specs.Answers.{EndsAfterTurns, RecvEnds, before_others}
 use Rattle.turn_client_api.specs.Steps.{Call, EndsWithoutMemory, Leaves, state_after}
 use Rattle.turn_client_api.specs.Steps.{Delete, CreatePermission, BindChannel, TcpConnect, AllocatedTcpSocket, TcpClosed, SendTo, Recv, PollRecv, Poll, PollTransmit, PollEvent, RelayedAddresses, Permissions, HavePermission, ProtocolError}
 use Rattle.turn_client_api.specs.LawsStreams.{AreApart}
@@ -24,16 +25,14 @@ broken_at-apart : (local : SocketAddr) (s : State) → StayApart s (broken_at lo
 unfolding broken_by
 broken_at-apart local s h = broken-apart local s.streams h
 
-next-apart : (s : State) → StayApart s (next_broken s)
-next-apart s h = by (find is_ready s.streams)
+turns_end-apart : (now : ℕ) (s u : State) → EndsAfterTurns now s u → StayApart s u
+turns_end-apart now s u (t, (n, led), broken) h = by (find is_ready t.streams) broken
   where
-    by : (o : Option Stream) → AreApart (option_map_or (λ stream. broken_at stream.local s) o s)
-    by None = h
-    by (Some stream) = broken_at-apart stream.local s h
-
-turns_end-apart : (now : ℕ) (s t : State) → EndsAfterTurns now s t → StayApart s t
-turns_end-apart now s t (n, none, e) =
-    equal-apart s _ t e (λ h. next-apart (turns n now s).1 (turns-apart n now s h))
+    by : (o : Option Stream) → IsSomeAnd o (λ stream. u ≡ closed (broken_at stream.local t)) → AreApart u
+    by None none = absurd none
+    by (Some stream) e =
+        equal-apart t (closed (broken_at stream.local t)) u e (broken_at-apart stream.local t)
+        (subst (λ (p : Option Payload × State). AreApart p.1) led (turns-apart n now s h))
 
 control-whole : (mode : Mode) → mode ≡ Control → mode ≢ Broken
 control-whole Control e = λ f. cc
@@ -48,12 +47,13 @@ before-apart to piece now s u (stream, f, inl (mode, e)) h =
 before-apart to piece now s u (stream, f, inr e) h = equal-apart s s u e (λ k. k) h
 
 recv_end-apart : (to : SocketAddr) (piece : List ℕ) (now : ℕ) (s t : State) → RecvEnds to piece now s t → StayApart s t
-recv_end-apart to piece now s t (inl e) h = equal-apart s _ t e (broken_at-apart to s) h
-recv_end-apart to piece now s t (inr (over, later)) h = by (before_others to piece now s) refl later
+recv_end-apart to [] now s t e h = equal-apart s _ t e (broken_at-apart to s) h
+recv_end-apart to (b ∷ bs) now s t (inl e) h = equal-apart s _ t e (broken_at-apart to s) h
+recv_end-apart to (b ∷ bs) now s t (inr (over, later)) h = by (before_others to (b ∷ bs) now s) refl later
   where
-    by : (o : Option State) → before_others to piece now s ≡ o → IsSomeAnd o (λ u. EndsAfterTurns now u t) → AreApart t
+    by : (o : Option State) → before_others to (b ∷ bs) now s ≡ o → IsSomeAnd o (λ u. EndsAfterTurns now u t) → AreApart t
     by None e none = absurd none
-    by (Some u) e end = turns_end-apart now u t end (before-apart to piece now s u (before-IsBehind to piece now s u e) h)
+    by (Some u) e end = turns_end-apart now u t end (before-apart to (b ∷ bs) now s u (before-IsBehind to (b ∷ bs) now s u e) h)
 
 memory-apart : (call : Call) (s t : State) → EndsWithoutMemory call s t → StayApart s t
 memory-apart (Delete now) s t e = equal-apart s s t e (λ h. h)

@@ -1,16 +1,16 @@
 -- From which peers something comes over streams.
-use Rattle.std.proofs.Common.{◌≡◌, ◌⊎◌, ℕ, zero, suc, length, ◌++◌, Bool, true, false, not, cond, ◌&&◌, List, [], ◌∷◌, Option, Some, None, refl, sym, inl, inr, ◌∙◌}
-use Rattle.std.specs.Prelude.{find, take, drop, IfSome}
+use Rattle.std.proofs.Common.{◌≡◌, ◌⊎◌, ℕ, zero, suc, length, ◌++◌, Bool, true, false, cond, List, [], ◌∷◌, Option, Some, None, refl, sym, inl, inr, ◌∙◌}
+use Rattle.std.specs.Prelude.{find, take, IfSome}
 use Rattle.std.specs.declared.ops.Range.{Range}
 use Rattle.std.specs.List.{Contains}
 use Rattle.std.specs.declared.net.socket_addr.SocketAddr.{SocketAddr}
-use Rattle.turn_types.specs.Frames.{begins_no_frame}
+use Rattle.turn_types.specs.Frames.{begins_no_frame, frame_len}
 use Rattle.turn_client_api.specs.State.{State, Mode, Control, Waiting, Bound, Broken, Stream}
 use Rattle.turn_client_api.specs.Answers.{before_others}
 use Rattle.std.specs.Option.{option_map_or}
 use Rattle.turn_client_api.specs.Payloads.{Handled, Ignored, PeerData, PeerIcmp}
 use Rattle.turn_client_api.specs.Payloads.{Payload, Outcome, datagram_step}
-use Rattle.turn_client_api.specs.Streams.{turn, turns, go_on, most_turns, stream_at, ready_len, is_ready, is_bound, broken_at, with_bytes, poll_recv_step, payload_in, frame_step}
+use Rattle.turn_client_api.specs.Streams.{broken_at, framed_by, framed_turn, go_on, is_ready, most_turns, payload_in, poll_recv_step, stream_at, turn, turned, turns, with_bytes}
 use Rattle.turn_client_api.specs.LawsPeers.{IsLetThrough, IsLetIn, IsNobodys, IsNextOf, IsNextAt, IsPolled, IsReceived, IsTaken}
 use Rattle.turn_client_api.specs.Receive.{first_turn, place_kept, is_from_server, piece_step, recv_step, stream_step, then_all}
 use Rattle.std.proofs.Math.Seq.{take-length}
@@ -55,16 +55,29 @@ let_in-owned Broken frame s place p h = h
 abbrev IsTurned : Stream → State → Outcome → Type 0
 IsTurned stream s outcome = (outcome ≡ Handled) ⊎ IsNextOf stream s outcome
 
-turn-IsTurned : (stream : Stream) (now : ℕ) (s : State) → IsTurned stream s (turn stream now s).0
-turn-IsTurned stream now s = by (ready_len stream) refl
+framed_turn-IsTurned : (stream : Stream) (now : ℕ) (t : State) → IsTurned stream t (framed_turn stream now t).0
+framed_turn-IsTurned stream now t = by (begins_no_frame stream.bytes) (frame_len stream.bytes)
   where
-    by_len : (len : ℕ) (b : Bool) → IsTurned stream s (cond {A = Outcome × State} b (Handled, broken_at stream.local s) (frame_step stream (take len stream.bytes) now (with_bytes stream.local (drop len stream.bytes) s))).0
-    by_len len true = inl refl
-    by_len len false = inr (len, let_in-same stream.mode (take len stream.bytes) s _ _ (frame-IsLetIn stream (take len stream.bytes) now (with_bytes stream.local (drop len stream.bytes) s)))
+    by : (b : Bool) (o : Option ℕ) → IsTurned stream t (cond {A = Outcome × State} b (Handled, broken_at stream.local t) (framed_by stream now t o)).0
+    by true o = inl refl
+    by false None = inl refl
+    by false (Some len) = inr (len, frame-IsLetIn stream (take len stream.bytes) now t)
 
-    by : (o : Option ℕ) → ready_len stream ≡ o → IsTurned stream s (turn stream now s).0
-    by None e = rw e (inl refl)
-    by (Some len) e = rw e (by_len len (not (is_bound stream.mode) && begins_no_frame stream.bytes))
+turned_in_mode : (m : Mode) (stream : Stream) (now : ℕ) (t : State) → IsTurned (record stream { mode = m }) t (turned (record stream { mode = m }) now t).0
+turned_in_mode Control stream now t = framed_turn-IsTurned (record stream { mode = Control }) now t
+turned_in_mode Waiting stream now t = framed_turn-IsTurned (record stream { mode = Waiting }) now t
+turned_in_mode (Bound peer) stream now t = inr (length stream.bytes, (refl, sym (take-length stream.bytes)))
+turned_in_mode Broken stream now t = inl refl
+
+-- in the state in which the stream is taken out the grants are the same
+turned-same : (stream : Stream) (s : State) (streams : List Stream) (o : Outcome) → IsTurned stream (record s { streams = streams }) o → IsTurned stream s o
+turned-same stream s streams o (inl e) = inl e
+turned-same stream s streams o (inr (len, is)) = inr (len, let_in-same stream.mode (take len stream.bytes) s streams o is)
+
+turn-IsTurned : (stream : Stream) (now : ℕ) (s : State) → IsTurned stream s (turn stream now s).0
+turn-IsTurned stream now s =
+    let out = with_bytes stream.local [] s in
+    turned-same stream s out.streams _ (turned_in_mode stream.mode stream now out)
 
 -- without a payload the next turn comes
 go_on-none : (next : State → Option Payload × State) (p : Outcome × State) → payload_in p.0 ≡ None → go_on next p ≡ next p.1
@@ -139,17 +152,13 @@ kept-IsTurned (b ∷ bs) stream s (PeerData q) (inl e) = cc
 kept-IsTurned (b ∷ bs) stream s (PeerData q) (inr (len, is)) =
     inr (len, let_in-owned stream.mode (take len stream.bytes) s None q is)
 
-turned-same : (stream : Stream) (s : State) (streams : List Stream) (o : Outcome) → IsTurned stream (record s { streams = streams }) o → IsTurned stream s o
-turned-same stream s streams o (inl e) = inl e
-turned-same stream s streams o (inr (len, is)) = inr (len, let_in-same stream.mode (take len stream.bytes) s streams o is)
-
 -- the first turn of a stream
 abbrev IsFirst : SocketAddr → List ℕ → State → Outcome → Type 0
 IsFirst to piece s o = (o ≡ Handled) ⊎ IsNextAt to piece s o
 
 first_turn-IsFirst : (to : SocketAddr) (stream : Stream) (piece : List ℕ) (now : ℕ) (s : State) → stream_at to s ≡ Some stream → IsFirst to piece s (first_turn stream piece now s).0
 first_turn-IsFirst to stream piece now s e =
-    by _ (kept-IsTurned stream.bytes fed s _ (turned-same fed s _ _ (turn-IsTurned fed now (with_bytes stream.local fed.bytes s))))
+    by _ (kept-IsTurned stream.bytes fed s _ (turn-IsTurned fed now s))
   where
     fed : Stream
     fed = record stream { bytes = stream.bytes ++ piece }

@@ -4,16 +4,16 @@ use Rattle.std.specs.Prelude.{find, is_some}
 use Rattle.std.specs.declared.net.socket_addr.SocketAddr.{SocketAddr}
 use Rattle.turn_stun.specs.declared.transport.TransportType.{TransportType}
 use Rattle.turn_stun.specs.declared.transport.TransportType.TheVariants.{Udp, Tcp}
-use Rattle.turn_types.specs.Frames.{begins_no_frame}
+use Rattle.turn_types.specs.Frames.{begins_no_frame, frame_len}
 use Rattle.turn_agent.specs.Agent.{same_address}
 use Rattle.turn_client_api.specs.State.{State, Mode, Control, Waiting, Bound, Broken, Stream}
 use Rattle.turn_client_api.specs.Grants.{same_transport}
 use Rattle.turn_client_api.specs.Connections.{connection_at}
 use Rattle.turn_client_api.specs.Payloads.{Payload, Outcome, Handled, Ignored, PeerData, PeerIcmp, channel_sent, datagram_step, is_channel_frame, is_message, message_step}
-use Rattle.turn_client_api.specs.Streams.{broken_at, frame_step, go_on, is_bound, is_ready, most_turns, poll_recv_step, ready_len, stream_at, turn, turn_of_first, turns, with_bytes}
+use Rattle.turn_client_api.specs.Streams.{broken_at, frame_step, framed_by, framed_turn, go_on, is_ready, most_turns, poll_recv_step, stream_at, turn, turned, turn_of_first, turns, with_bytes}
 use Rattle.turn_client_api.specs.Receive.{connection_gone, first_turn, is_from_server, piece_step, recv_step, stream_step, tcp_closed_step, then_all}
 use Rattle.turn_client_api.specs.LawsStreams.{AreApart}
-use Rattle.turn_client_api.proofs.StreamApartLemmas.{Apart, NotBroken, bound-apart, broken-apart, bytes-apart, bytes-NotBroken, emptied-apart, filter-apart, found-NotBroken}
+use Rattle.turn_client_api.proofs.StreamApartLemmas.{Apart, NotBroken, bound-NotBroken, bound-apart, broken-apart, bytes-apart, bytes-NotBroken, emptied-apart, filter-apart, found-NotBroken}
 use Rattle.turn_client_api.proofs.StreamDrainLemmas.{broken_by, bytes_by, found-ready, mode_by}
 use Rattle.turn_client_api.proofs.StreamMessageLemmas.{Same, Rebound, frame-rebound, message-same, same-cond}
 
@@ -35,20 +35,35 @@ apart-cond false s x y p q = q
 
 -- ---- turns
 
-turn-apart : (stream : Stream) (now : ℕ) (s : State) → NotBroken stream.local s.streams → StayApart s (turn stream now s).1
-unfolding bytes_by broken_by
-turn-apart stream now s whole h = by (ready_len stream) refl
-  where
-    by_len : (len : ℕ) (b : Bool) → AreApart (cond {A = Outcome × State} b (Handled, broken_at stream.local s) (frame_step stream (take len stream.bytes) now (with_bytes stream.local (drop len stream.bytes) s))).1
-    by_len len true = broken-apart stream.local s.streams h
-    by_len len false =
-        let fed = with_bytes stream.local (drop len stream.bytes) s in
-        rebound-apart fed (frame_step stream (take len stream.bytes) now fed).1 (frame-rebound stream (take len stream.bytes) now fed)
-        (bytes-apart stream.local (drop len stream.bytes) s.streams whole h)
+-- none at the local end is broken, nor is any behind a frame
+rebound-NotBroken : (local : SocketAddr) (s t : State) → Rebound s t → NotBroken local s.streams → NotBroken local t.streams
+unfolding mode_by
+rebound-NotBroken local s t (inl same) whole = subst (NotBroken local) (sym same) whole
+rebound-NotBroken local s t (inr (other, peer, is)) whole = subst (NotBroken local) (sym is) (bound-NotBroken local other peer s.streams whole)
 
-    by : (o : Option ℕ) → ready_len stream ≡ o → AreApart (turn stream now s).1
-    by None e = rw e h
-    by (Some len) e = rw e (by_len len (not (is_bound stream.mode) && begins_no_frame stream.bytes))
+framed_turn-apart : (stream : Stream) (now : ℕ) (t : State) → NotBroken stream.local t.streams → StayApart t (framed_turn stream now t).1
+unfolding bytes_by broken_by
+framed_turn-apart stream now t whole h = by (begins_no_frame stream.bytes) (frame_len stream.bytes)
+  where
+    by : (b : Bool) (o : Option ℕ) → AreApart (cond {A = Outcome × State} b (Handled, broken_at stream.local t) (framed_by stream now t o)).1
+    by true o = broken-apart stream.local t.streams h
+    by false None = bytes-apart stream.local stream.bytes t.streams whole h
+    by false (Some len) =
+        let u = (frame_step stream (take len stream.bytes) now t).1 in
+        let rebound = frame-rebound stream (take len stream.bytes) now t in
+        bytes-apart stream.local (drop len stream.bytes) u.streams (rebound-NotBroken stream.local t u rebound whole) (rebound-apart t u rebound h)
+
+turned_in_mode : (m : Mode) (stream : Stream) (now : ℕ) (t : State) → NotBroken stream.local t.streams → StayApart t (turned (record stream { mode = m }) now t).1
+turned_in_mode Control stream now t whole h = framed_turn-apart (record stream { mode = Control }) now t whole h
+turned_in_mode Waiting stream now t whole h = framed_turn-apart (record stream { mode = Waiting }) now t whole h
+turned_in_mode (Bound peer) stream now t whole h = h
+turned_in_mode Broken stream now t whole h = h
+
+turn-apart : (stream : Stream) (now : ℕ) (s : State) → NotBroken stream.local s.streams → StayApart s (turn stream now s).1
+unfolding bytes_by
+turn-apart stream now s whole h =
+    let out = with_bytes stream.local [] s in
+    turned_in_mode stream.mode stream now out (bytes-NotBroken stream.local [] s.streams whole) (emptied-apart stream.local s.streams h)
 
 go_on-apart : (next : State → Option Payload × State) (s : State) (p : Outcome × State) → AreApart p.1 → ((t : State) → StayApart t (next t).1) → AreApart (go_on next p).1
 go_on-apart next s (PeerData payload, t) first more = first
@@ -86,11 +101,7 @@ then_all-apart now (Handled, t) h = poll_recv-apart now t h
 then_all-apart now (Ignored, t) h = poll_recv-apart now t h
 
 pub first_turn-apart : (stream : Stream) (piece : List ℕ) (now : ℕ) (s : State) → NotBroken stream.local s.streams → StayApart s (first_turn stream piece now s).1
-unfolding bytes_by
-first_turn-apart stream piece now s whole h =
-    let fed = record stream { bytes = stream.bytes ++ piece } in
-    let t = with_bytes stream.local fed.bytes s in
-    turn-apart fed now t (bytes-NotBroken stream.local fed.bytes s.streams whole) (bytes-apart stream.local fed.bytes s.streams whole h)
+first_turn-apart stream piece now s whole h = turn-apart (record stream { bytes = stream.bytes ++ piece }) now s whole h
 
 piece_in_mode : (to : SocketAddr) (m : Mode) (stream : Stream) (piece : List ℕ) (now : ℕ) (s : State) → stream_at to s ≡ Some (record stream { mode = m }) → StayApart s (piece_step (record stream { mode = m }) piece now s).1
 unfolding bytes_by

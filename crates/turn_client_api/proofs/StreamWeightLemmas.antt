@@ -1,5 +1,5 @@
 -- How many bytes the streams hold, where those of one local end count once: a turn makes them fewer.
-use Rattle.std.proofs.Common.{◌≡◌, ℕ, ◌+◌, ◌-◌, ◌<◌, ◌≤◌, max, Bool, true, false, cond, List, [], ◌∷◌, length, map, Some, refl, sym, ◌∙◌, arith}
+use Rattle.std.proofs.Common.{◌≡◌, ℕ, ◌+◌, ◌-◌, ◌<◌, ◌≤◌, max, Bool, true, false, cond, List, [], ◌∷◌, length, map, Some, refl, sym, ap, ◌∙◌, arith}
 use Rattle.std.specs.Prelude.{find, sum_by}
 use Rattle.std.proofs.lemmas.Bool.{false_from_ne_true}
 use Rattle.std.proofs.lemmas.List.Sums.{sum_by-cons}
@@ -58,6 +58,22 @@ pub record Sets (local : SocketAddr) (bytes : List ℕ) (f : Stream → Stream) 
   pub keeps : (x : Stream) → (f x).local ≡ x.local
   pub at : (x : Stream) → same_address x.local local ≡ true → (f x).bytes ≡ bytes
   pub others : (x : Stream) → same_address x.local local ≡ false → (f x).bytes ≡ x.bytes
+
+-- a change that leaves local ends and bytes, after one that sets these bytes
+pub kept-Sets : (local : SocketAddr) (bytes : List ℕ) (f g : Stream → Stream) → Sets local bytes f → KeepsHeld g → Sets local bytes (λ x. g (f x))
+kept-Sets local bytes f g is k = record {
+  keeps = λ x. k.local (f x) ∙ is.keeps x;
+  at = λ x e. k.bytes (f x) ∙ is.at x e;
+  others = λ x e. k.bytes (f x) ∙ is.others x e;
+}
+
+-- of two that set bytes the later one counts
+pub later-Sets : (local : SocketAddr) (first later : List ℕ) (f g : Stream → Stream) → Sets local first f → Sets local later g → Sets local later (λ x. g (f x))
+later-Sets local first later f g is then = record {
+  keeps = λ x. then.keeps (f x) ∙ is.keeps x;
+  at = λ x e. then.at (f x) (ap (λ a. same_address a local) (is.keeps x) ∙ e);
+  others = λ x e. then.others (f x) (ap (λ a. same_address a local) (is.keeps x) ∙ e) ∙ is.others x e;
+}
 
 top-set : (local : SocketAddr) (bytes : List ℕ) (f : Stream → Stream) → Sets local bytes f → (xs : List Stream) → top local (map f xs) ≤ length bytes
 unfolding top

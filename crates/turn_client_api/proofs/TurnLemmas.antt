@@ -1,16 +1,16 @@
 -- What messages bring about, the streams bring about, however many turns they take.
-use Rattle.std.proofs.Common.{◌≡◌, ◌⊎◌, ℕ, zero, suc, ◌++◌, Bool, true, false, not, cond, ◌&&◌, List, [], ◌∷◌, Option, Some, None, refl, inl, inr}
+use Rattle.std.proofs.Common.{◌≡◌, ◌⊎◌, ℕ, zero, suc, ◌++◌, Bool, true, false, not, cond, List, [], ◌∷◌, Option, Some, None, refl, inl, inr}
 use Rattle.std.specs.Prelude.{find, take, drop}
 use Rattle.std.specs.declared.net.socket_addr.SocketAddr.{SocketAddr}
 use Rattle.turn_stun.specs.declared.transport.TransportType.{TransportType}
 use Rattle.turn_stun.specs.declared.transport.TransportType.TheVariants.{Udp, Tcp}
-use Rattle.turn_types.specs.Frames.{begins_message, begins_no_frame}
+use Rattle.turn_types.specs.Frames.{begins_message, begins_no_frame, frame_len}
 use Rattle.turn_agent.specs.Agent.{same_address}
 use Rattle.turn_client_api.specs.State.{State, Mode, Control, Waiting, Bound, Broken, Stream}
 use Rattle.turn_client_api.specs.Answers.{before_others}
 use Rattle.turn_client_api.specs.Connections.{bind_step}
 use Rattle.turn_client_api.specs.Payloads.{Payload, Outcome, Handled, Ignored, PeerData, PeerIcmp, channel_sent, datagram_step, is_channel_frame, is_message, message_step}
-use Rattle.turn_client_api.specs.Streams.{broken_at, control_frame_step, frame_step, go_on, is_bound, is_ready, most_turns, payload_in, poll_recv_step, ready_len, stream_at, turn, turns, turn_of_first, waiting_frame_step, with_bytes, without_stream}
+use Rattle.turn_client_api.specs.Streams.{broken_at, control_frame_step, frame_step, framed_by, framed_turn, go_on, is_ready, most_turns, payload_in, poll_recv_step, stream_at, turn, turned, turns, turn_of_first, waiting_frame_step, with_bytes, without_stream}
 use Rattle.turn_client_api.specs.Receive.{connection_gone, first_turn, is_from_server, piece_step, recv_step, stream_step, then_all}
 use Rattle.turn_client_api.specs.LawsTurns.{Deed, IsBroughtByPiece, IsBroughtIn, IsBroughtInTurn}
 use Rattle.turn_client_api.proofs.StreamPeerLemmas.{behind, find-Contains, turns-suc}
@@ -55,21 +55,40 @@ module _ (P : State → Type 0) (Did : Deed) (k : IsBringing P Did) where
   abbrev IsByNext : Stream → ℕ → State → Type 0
   IsByNext stream now s = (len : ℕ) × Did (take len stream.bytes) now s
 
-  turn-brings : (stream : Stream) (now : ℕ) (s : State) → P (turn stream now s).1 → P s ⊎ IsByNext stream now s
-  turn-brings stream now s = by (ready_len stream) refl
+  framed_by-brings : (stream : Stream) (now : ℕ) (t : State) (o : Option ℕ) → P (framed_by stream now t o).1 → P t ⊎ IsByNext stream now t
+  framed_by-brings stream now t None h = inl (k.streams t (with_bytes stream.local stream.bytes t).streams h)
+  framed_by-brings stream now t (Some len) h =
+      by (frame_in_mode stream.mode stream (take len stream.bytes) now t (k.streams u (with_bytes stream.local (drop len stream.bytes) u).streams h))
     where
-      fed_by : (len : ℕ) → Brings (take len stream.bytes) now (with_bytes stream.local (drop len stream.bytes) s) → P s ⊎ IsByNext stream now s
-      fed_by len (inl h) = inl (k.streams s (with_bytes stream.local (drop len stream.bytes) s).streams h)
-      fed_by len (inr d) = inr (len, k.did (take len stream.bytes) now s (with_bytes stream.local (drop len stream.bytes) s).streams d)
+      u : State
+      u = (frame_step stream (take len stream.bytes) now t).1
 
-      by_len : (len : ℕ) (b : Bool) → P (cond {A = Outcome × State} b (Handled, broken_at stream.local s) (frame_step stream (take len stream.bytes) now (with_bytes stream.local (drop len stream.bytes) s))).1 → P s ⊎ IsByNext stream now s
-      by_len len true h = inl (k.streams s (broken_at stream.local s).streams h)
-      by_len len false h =
-          fed_by len (frame_in_mode stream.mode stream (take len stream.bytes) now (with_bytes stream.local (drop len stream.bytes) s) h)
+      by : Brings (take len stream.bytes) now t → P t ⊎ IsByNext stream now t
+      by (inl here) = inl here
+      by (inr d) = inr (len, d)
 
-      by : (o : Option ℕ) → ready_len stream ≡ o → P (turn stream now s).1 → P s ⊎ IsByNext stream now s
-      by None e h = inl (rw e at h)
-      by (Some len) e h = by_len len (not (is_bound stream.mode) && begins_no_frame stream.bytes) (rw e at h)
+  framed_turn-brings : (stream : Stream) (now : ℕ) (t : State) → P (framed_turn stream now t).1 → P t ⊎ IsByNext stream now t
+  framed_turn-brings stream now t = by (begins_no_frame stream.bytes)
+    where
+      by : (b : Bool) → P (cond {A = Outcome × State} b (Handled, broken_at stream.local t) (framed_by stream now t (frame_len stream.bytes))).1 → P t ⊎ IsByNext stream now t
+      by true h = inl (k.streams t (broken_at stream.local t).streams h)
+      by false h = framed_by-brings stream now t (frame_len stream.bytes) h
+
+  turned_in_mode : (m : Mode) (stream : Stream) (now : ℕ) (t : State) → P (turned (record stream { mode = m }) now t).1 → P t ⊎ IsByNext stream now t
+  turned_in_mode Control stream now t h = framed_turn-brings (record stream { mode = Control }) now t h
+  turned_in_mode Waiting stream now t h = framed_turn-brings (record stream { mode = Waiting }) now t h
+  turned_in_mode (Bound peer) stream now t h = inl h
+  turned_in_mode Broken stream now t h = inl h
+
+  turn-brings : (stream : Stream) (now : ℕ) (s : State) → P (turn stream now s).1 → P s ⊎ IsByNext stream now s
+  turn-brings stream now s h = by (turned_in_mode stream.mode stream now out h)
+    where
+      out : State
+      out = with_bytes stream.local [] s
+
+      by : P out ⊎ IsByNext stream now out → P s ⊎ IsByNext stream now s
+      by (inl here) = inl (k.streams s out.streams here)
+      by (inr (len, d)) = inr (len, k.did (take len stream.bytes) now s out.streams d)
 
   -- in the first turn, or in a later one
   abbrev pub IsTurned : ℕ → State → Type 0
@@ -115,17 +134,14 @@ module _ (P : State → Type 0) (Did : Deed) (k : IsBringing P Did) where
   IsFirst to piece now s = P s ⊎ ((stream : Stream) × (len : ℕ) × (stream_at to s ≡ Some stream) × Did (take len (stream.bytes ++ piece)) now s)
 
   pub first_turn-brings : (to : SocketAddr) (stream : Stream) (piece : List ℕ) (now : ℕ) (s : State) → stream_at to s ≡ Some stream → P (first_turn stream piece now s).1 → IsFirst to piece now s
-  first_turn-brings to stream piece now s e h = by (turn-brings fed now t h)
+  first_turn-brings to stream piece now s e h = by (turn-brings fed now s h)
     where
       fed : Stream
       fed = record stream { bytes = stream.bytes ++ piece }
 
-      t : State
-      t = with_bytes stream.local fed.bytes s
-
-      by : P t ⊎ IsByNext fed now t → IsFirst to piece now s
-      by (inl here) = inl (k.streams s t.streams here)
-      by (inr (len, d)) = inr (stream, len, e, k.did (take len fed.bytes) now s t.streams d)
+      by : P s ⊎ IsByNext fed now s → IsFirst to piece now s
+      by (inl here) = inl here
+      by (inr (len, d)) = inr (stream, len, e, d)
 
   abbrev pub IsReceived : SocketAddr → List ℕ → ℕ → State → Type 0
   IsReceived to piece now s = P s ⊎ IsBroughtByPiece Did to piece now s

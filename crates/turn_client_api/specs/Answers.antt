@@ -1,5 +1,5 @@
 -- What the answers of a client say of a step of the machine.
-use Rattle.std.specs.Prelude.{◌≡◌, ◌⊎◌, ℕ, ◌==◌, Bool, true, false, not, ◌&&◌, ◌||◌, List, find, nat_lt, length, drop, slice_get, option_and_then, Option, Some, None, Result, Ok, Err, IsSomeAnd, if◌then◌else◌, ⊤}
+use Rattle.std.specs.Prelude.{◌≡◌, ◌⊎◌, ℕ, ◌==◌, Bool, true, false, not, ◌&&◌, ◌||◌, List, [], find, nat_lt, length, drop, slice_get, option_and_then, Option, Some, None, Result, Ok, Err, IsSomeAnd, if◌then◌else◌, ⊤}
 use Rattle.std.specs.declared.convert.AsSlice.{Ghosts}
 use Rattle.std.specs.declared.ops.Range.{Range}
 use Rattle.std.specs.declared.net.socket_addr.SocketAddr.{SocketAddr}
@@ -109,15 +109,15 @@ HandsBack transmit (Recv.PeerIcmp transport peer icmp_type icmp_code icmp_data) 
 
 -- ---- want of memory
 
--- the stream whose turn it is gives nothing any more
-abbrev pub next_broken : State → State
-next_broken s = option_map_or (λ stream. broken_at stream.local s) (find is_ready s.streams) s
+-- so many turns without a payload lead from one state to the other
+abbrev pub LeadsTo : ℕ → State → State → Type 0
+LeadsTo now before s = (n : ℕ) × (turns n now before ≡ (None, s))
 
--- After some number of turns without a payload there was no memory for the next one: its stream is
--- broken, and the client has ended, with what these turns left.
+-- After some turns without a payload there was no memory for the next one: its stream is broken, and the
+-- client has ended, with what these turns left. Where no stream is ready, nothing asks for memory.
 abbrev pub EndsAfterTurns : ℕ → State → State → Type 0
 EndsAfterTurns now before s =
-    (n : ℕ) × ((turns n now before).0 ≡ None) × (s ≡ closed (next_broken (turns n now before).1))
+    (t : State) × LeadsTo now before t × IsSomeAnd (find is_ready t.streams) (λ stream. s ≡ closed (broken_at stream.local t))
 
 -- the state in which all streams have their turns, where a piece of the control stream sets them going
 abbrev pub before_others : SocketAddr → List ℕ → ℕ → State → Option State
@@ -133,14 +133,16 @@ before_others to piece now s = option_and_then (λ stream. by stream stream.mode
     by stream Broken = if same_address stream.local s.local then Some s else None
     by stream _ = None
 
--- there was none for what came or for its first frame, or over TCP for what came behind that
+-- There was none for what came or for its first frame, or over TCP for what other streams hold. An empty
+-- piece sets no stream going: there was none for the close that it notes.
 abbrev pub RecvEnds : SocketAddr → List ℕ → ℕ → State → State → Type 0
+RecvEnds to [] now was s = s ≡ closed (broken_at to was)
 RecvEnds to piece now was s =
     (s ≡ closed (broken_at to was))
     ⊎ ((was.transport ≡ Tcp) × IsSomeAnd (before_others to piece now was) (λ t. EndsAfterTurns now t s))
 
 -- DATA indications and channel frames take no memory over UDP, nor bytes of a bound connection where
--- nothing waits in its stream
+-- nothing waits in its stream; that such a connection has ended is noted, which may take some
 abbrev pub is_data_indication : List ℕ → Bool
 is_data_indication bytes = by (class_in bytes)
   where
@@ -151,10 +153,13 @@ is_data_indication bytes = by (class_in bytes)
 abbrev pub datagram_takes_none : List ℕ → Bool
 datagram_takes_none bytes = if is_message bytes then is_data_indication bytes else is_channel_frame bytes
 
+abbrev pub is_free_piece : List ℕ → Stream → Bool
+is_free_piece piece stream = is_bound stream.mode && nat_lt 0 (length piece) && not (nat_lt 0 (length stream.bytes))
+
 -- nor does what is not for the client
 abbrev pub takes_no_memory : TransportType → SocketAddr → SocketAddr → List ℕ → State → Bool
 takes_no_memory transport from to bytes s = not (is_from_server transport from s) || by s.transport
   where
     by : TransportType → Bool
     by Udp = not (same_address to s.local) || datagram_takes_none bytes
-    by Tcp = option_map_or (λ stream. is_bound stream.mode && not (nat_lt 0 (length stream.bytes))) (stream_at to s) true
+    by Tcp = option_map_or (is_free_piece bytes) (stream_at to s) true

@@ -37,11 +37,10 @@ abbrev pub place_kept : List ℕ → Outcome → Outcome
 place_kept [] outcome = outcome
 place_kept waited outcome = owned outcome
 
--- the piece is behind what waits, and then comes the turn of this stream
+-- the piece comes after what waits, and then it is the turn of this stream
 abbrev pub first_turn : Stream → List ℕ → ℕ → State → Outcome × State
 first_turn stream piece now s =
-    let fed = record stream { bytes = stream.bytes ++ piece } in
-    let step = turn fed now (with_bytes stream.local fed.bytes s) in
+    let step = turn (record stream { bytes = stream.bytes ++ piece }) now s in
     (place_kept stream.bytes step.0, step.1)
 
 -- where no payload came yet, all streams have their turns as in `poll_recv`, and a payload replaces the

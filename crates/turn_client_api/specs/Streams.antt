@@ -1,5 +1,5 @@
 -- The streams of a client over TCP, cut into frames (RFC 8656, section 12.5, and RFC 6062).
-use Rattle.std.specs.Prelude.{ℕ, zero, suc, Bool, true, false, not, ◌&&◌, if◌then◌else◌, List, [], ◌∷◌, ◌++◌, map, filter, find, sum_by, length, take, drop, Option, Some, None, is_some, option_to_list}
+use Rattle.std.specs.Prelude.{ℕ, zero, suc, Bool, true, false, not, if◌then◌else◌, List, [], map, filter, find, sum_by, length, take, drop, Option, Some, None, is_some}
 use Rattle.std.specs.declared.ops.Range.{Range}
 use Rattle.std.specs.declared.net.socket_addr.SocketAddr.{SocketAddr}
 use Rattle.turn_stun.specs.declared.transport.TransportType.TheVariants.{Tcp}
@@ -88,19 +88,36 @@ abbrev pub is_bound : Mode → Bool
 is_bound (Bound peer) = true
 is_bound _ = false
 
--- Of frames, what no frame begins with breaks the stream when its turn comes (our choice: where the
--- next frame begins can't be known). Of a bound stream all bytes are handled at once.
-abbrev pub turn_of_len : Stream → ℕ → ℕ → State → Outcome × State
-turn_of_len stream len now s =
-    if not (is_bound stream.mode) && begins_no_frame stream.bytes then (Handled, broken_at stream.local s)
-    else frame_step stream (take len stream.bytes) now (with_bytes stream.local (drop len stream.bytes) s)
+-- what is left goes back into the stream
+abbrev pub put_back : SocketAddr → List ℕ → Outcome × State → Outcome × State
+put_back local bytes p = (p.0, with_bytes local bytes p.1)
 
-abbrev pub turn : Stream → ℕ → State → Outcome × State
-turn stream now s = by (ready_len stream)
+-- the frame in front has so many bytes, or the stream waits for more
+abbrev pub framed_by : Stream → ℕ → State → Option ℕ → Outcome × State
+framed_by stream now t None = (Handled, with_bytes stream.local stream.bytes t)
+framed_by stream now t (Some len) =
+    put_back stream.local (drop len stream.bytes) (frame_step stream (take len stream.bytes) now t)
+
+-- what no frame begins with breaks the stream when its turn comes (our choice: where the next frame
+-- begins can't be known)
+abbrev pub framed_turn : Stream → ℕ → State → Outcome × State
+framed_turn stream now t =
+    if begins_no_frame stream.bytes then (Handled, broken_at stream.local t)
+    else framed_by stream now t (frame_len stream.bytes)
+
+-- the turn of a stream that is taken out: in this state it holds nothing
+abbrev pub turned : Stream → ℕ → State → Outcome × State
+turned stream now t = by stream.mode
   where
-    by : Option ℕ → Outcome × State
-    by (Some len) = turn_of_len stream len now s
-    by None = (Handled, s)
+    by : Mode → Outcome × State
+    by Control = framed_turn stream now t
+    by Waiting = framed_turn stream now t
+    by (Bound peer) = (PeerData (sent_by peer stream.bytes None), t)
+    by Broken = (Handled, t)
+
+-- one frame of a stream, or all bytes of a bound one: they are taken out of the stream first
+abbrev pub turn : Stream → ℕ → State → Outcome × State
+turn stream now s = turned stream now (with_bytes stream.local [] s)
 
 -- ---- all streams, in the order of their opening
 
@@ -129,20 +146,6 @@ most_turns s = sum_by (λ stream. length stream.bytes) s.streams
 abbrev pub poll_recv_step : ℕ → State → Option Payload × State
 poll_recv_step now s = turns (most_turns s) now s
 
--- ---- payloads
-
--- a whole frame, and the stream that it came in
-pub record Framed : Type 0 where
-  pub stream : Stream
-  pub frame : List ℕ
-
 abbrev pub payload_in : Outcome → Option Payload
 payload_in (PeerData payload) = Some payload
 payload_in _ = None
-
--- the payloads of whole frames, each handled in the state that the one before left
-abbrev pub payloads : List Framed → ℕ → State → List Payload
-payloads [] now s = []
-payloads (f ∷ later) now s =
-    let step = frame_step f.stream f.frame now s in
-    option_to_list (payload_in step.0) ++ payloads later now step.1

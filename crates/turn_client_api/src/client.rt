@@ -207,7 +207,8 @@ pub trait TurnClientApi: Debug + Drop {
     ///
     /// There is no memory. The client has ended then, and the stream gives nothing more; whole frames
     /// that were handled before keep their effect. A channel frame or DATA indication over UDP takes
-    /// no memory, nor do bytes of a bound connection whose stream holds none.
+    /// no memory, nor do bytes of a bound connection whose stream holds none. An empty piece may want
+    /// some for the close that `poll` is to tell, and handles no frame before.
     fn recv<T: AsSlice<u8> + Debug + Drop>(
         &mut self,
         transmit: Transmit<T>,
@@ -225,8 +226,9 @@ pub trait TurnClientApi: Debug + Drop {
     ///
     /// # Errors
     ///
-    /// There is no memory. The client has ended then, and the stream that was read gives nothing more;
-    /// whole frames that were handled before keep their effect.
+    /// There is no memory for what a stream holds. The client has ended then, and the stream that was
+    /// read gives nothing more; whole frames that were handled before keep their effect. Where no
+    /// stream holds a whole frame or data of its peer, the call takes no memory.
     fn poll_recv(&mut self, now: Instant) -> Result<Option<TurnPeerData<Vec<u8>>>, AllocError>
         requires moment { now ≤ 2 ^ 62 }
         ensures answer { IfOk result (λ given. option_map given_payload given ≡ (poll_recv_step now (state self.old)).0) }
