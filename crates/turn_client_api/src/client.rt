@@ -239,7 +239,9 @@ pub trait TurnClientApi: Debug + Drop {
     /// close a connection, or nothing any more.
     ///
     /// Up to a moment that is later than now nothing is to be done: no packet is due, nothing waits to
-    /// be polled and no grant ends. Where the moment is not later, something is to be polled.
+    /// be polled, no request is given up and no grant ends. Where the moment is not later, an event
+    /// waits, a packet is due, or this call gave a request up: poll events and packets, and then ask
+    /// again.
     ///
     /// # Errors
     ///

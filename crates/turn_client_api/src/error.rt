@@ -43,7 +43,8 @@ pub enum CreatePermissionError {
 /// Why the allocations are not given back.
 #[derive(Clone, Copy, Debug, PartialEq, Eq, Error)]
 pub enum DeleteError {
-    /// There is no allocation yet, or none any more.
+    /// The server has not granted an allocation yet, or the client has ended. A client whose
+    /// allocations have all lapsed is not refused: it asks the server all the same.
     #[error("There is no connection to the TURN server")]
     NoAllocation,
     /// There is no memory for the request.

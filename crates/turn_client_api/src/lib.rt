@@ -1,9 +1,17 @@
-//! What a caller of a TURN client hands in and gets back: its configuration, the answers and events
-//! of a client, why a call is refused, payloads as parts of the caller's own bytes, and packets that
-//! are built when they are sent. No IO.
+//! What every TURN client does (RFC 8656, 6062 and 6156), and what its caller hands in and gets back.
+//! No IO.
 //!
-//! Begin with `TurnConfig`, then with `TurnPollRet`, `TurnRecvRet` and `TurnEvent`, which are what a
-//! client answers. What a client does is left to the crates above.
+//! Begin with [`TurnClientApi`], the trait of all clients: its contracts say of each call what it
+//! answers and what the client is after it, step by step of the machine that `docs/MACHINE.md`
+//! describes. A caller makes a [`TurnConfig`] for a client, asks it by the calls of the trait, and is
+//! answered by [`TurnPollRet`], [`TurnRecvRet`], [`TurnEvent`], an error enum for each call that can be
+//! refused, [`RelayedAddressesIter`] and [`PermissionAddressesIter`]. What a peer sent is a part of the
+//! caller's own bytes ([`TurnPeerData`]), and what goes to a peer is built when it is sent
+//! ([`TransmitBuild`]).
+//!
+//! The functions of [`laws`] do nothing: their contracts say what holds of every client that meets the
+//! trait, such as that a caller that sleeps until the moment that `poll` tells misses nothing. The
+//! clients themselves are in the crates above.
 #![tactic(auto)]
 
 mod addresses;

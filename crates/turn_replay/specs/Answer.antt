@@ -92,9 +92,14 @@ Runs input left old new OutOfMemory = Appends old new (codes "no memory\n")
 Runs input left old new ReadFailed = Appends old new (codes "read failed\n")
 Runs input left old new WriteFailed = ⊤
 
+-- the exit status
 abbrev pub code_of : Status → ℕ
 code_of Answered = 0
 code_of Malformed = 2
 code_of OutOfMemory = 3
 code_of ReadFailed = 4
 code_of WriteFailed = 4
+
+-- a run that ends with this exit status, and does what goes with it
+abbrev pub Exits : Option (List ℕ) → Option (List ℕ) → Option (List ℕ) → Option (List ℕ) → ℕ → Type 0
+Exits input left old new code = (status : Status) × (code ≡ code_of status) × Runs input left old new status

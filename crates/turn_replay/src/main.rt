@@ -1,7 +1,7 @@
 //! Runs a client by the calls of a trace, and prints what each of them answered.
 //!
 //! The trace comes on standard input, and the answers go to standard output. A trace is a line that
-//! names a client and its server, and then a line for each call. Begin with `program::run`.
+//! names a client and its server, and then a line for each call. Begin with [`run`].
 #![tactic(auto)]
 
 mod address;
@@ -20,12 +20,11 @@ mod program;
 mod status;
 mod trace;
 
-use std::io;
+pub use program::{exit_code, run};
 use std::process::ExitCode;
 
 fn main(rt: HostRuntime) -> ExitCode {
-    let status = program::run(rt.alloc(), &mut rt.stdin(), &mut rt.stdout());
-    ExitCode::from(status.code())
+    exit_code(rt.alloc(), &mut rt.stdin(), &mut rt.stdout())
 }
 
 #[cfg(test)]

@@ -2,13 +2,24 @@
 
 ghost use Rattle.std.specs.Prelude.{◌≡◌, ◌⊎◌};
 ghost use Rattle.std.specs.Io.KnownBytes.{Appends};
-ghost use Rattle.turn_replay.specs.Answer.{Told, Runs};
+ghost use Rattle.std.specs.Process.{exit_status};
+ghost use Rattle.turn_replay.specs.Answer.{Told, Runs, Exits};
 
 use crate::answer::answer;
 use crate::input::{InputError, read_input};
 use crate::status::Status;
 use std::alloc::Global;
 use std::io::{Read, Write};
+use std::process::ExitCode;
+
+/// Reads a trace, and writes its answers, as [`run`] does. The exit status tells what was written:
+/// 0 the answers to the calls, 2 which line of the trace is bad, 3 that there was no memory, and 4
+/// that the trace could not be read, or not all that there was to write.
+pub fn exit_code<R: Read, W: Write>(alloc: Global, reader: &mut R, writer: &mut W) -> ExitCode
+    ensures { Exits (R.remaining reader.old) (R.remaining reader.new) (W.contents writer.old) (W.contents writer.new) (exit_status result) }
+{
+    ExitCode::from(run(alloc, reader, writer).code())
+}
 
 /// Reads a trace, and writes its answers: a line for each call, or the one line that says which line
 /// of the trace is bad. Without memory that is the one line `no memory`, and where the trace could

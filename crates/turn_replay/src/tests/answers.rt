@@ -54,6 +54,20 @@ fn the_first_request_names_the_families(rt: HostRuntime) -> Result<(), Fail> {
     Ok(())
 }
 
+// RFC 8489, section 5: an ID has twelve bytes, whatever they are. These are the first of ChaCha20's key
+// stream under the seed, with a counter and a nonce of zeros (RFC 8439, section 2.4).
+#[test]
+fn an_id_is_printed_with_its_leading_zeros(rt: HostRuntime) -> Result<(), Fail> {
+    let seed = "000000000000000000000000000000000000000000000000000000000000abab";
+    let trace = format!(in rt.alloc(); "{CLIENT} {seed}\n0 transmit")?;
+    let (_, written) = run_text(rt.alloc(), trace.as_str())?;
+    assert_eq!(rt;
+        written.as_str(),
+        "send udp 192.168.0.1:1000 10.0.0.2:2000 000300142112a4420000b9e043294c202fa14e11000d0004000007080019000411000000001a0000\n"
+    );
+    Ok(())
+}
+
 // RFC 8489, section 6.2.1, with waits of 0.6, 1 and 3 seconds.
 #[test]
 fn a_silent_server_is_given_up(rt: HostRuntime) -> Result<(), Fail> {

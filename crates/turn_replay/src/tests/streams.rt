@@ -1,10 +1,11 @@
 //! Readers and writers that fail at each place, and such as do little at a time.
 
-use crate::program::run;
+use crate::program::{exit_code, run};
 use crate::status::Status;
 use crate::tests::fixture::{CLIENT, SEED, SEND_ALLOCATE};
 use std::io;
 use std::io::{ErrorKind, Read, Write};
+use std::process::ExitCode;
 use std::test::Fail;
 
 /// A reader that gives a few bytes at a time, each time after an interruption, and fails once it has
@@ -124,4 +125,12 @@ fn a_failing_writer_is_told_by_the_status_alone(rt: HostRuntime) -> Result<(), F
         assert_eq!(rt; Some(held.as_slice()), want.as_bytes().get(..left));
     }
     Ok(())
+}
+
+#[test]
+fn the_exit_status_tells_what_was_written(rt: HostRuntime) {
+    let mut written = Vec::new(rt.alloc());
+    let code = exit_code(rt.alloc(), &mut b"tcp".as_slice(), &mut written);
+    assert_eq!(rt; code, ExitCode::from(2));
+    assert_eq!(rt; written.as_slice(), b"line 1: bad head\n".as_slice());
 }

@@ -41,6 +41,14 @@ fn moments_and_ids_are_printed(rt: HostRuntime) -> Result<(), AllocError> {
 }
 
 #[test]
+fn an_id_is_printed_with_its_leading_zeros(rt: HostRuntime) -> Result<(), AllocError> {
+    let id = TransactionId::from_bytes(*b"\x00\x00\x00\x0c\x00\x00\x00\x00\x00\x00\x0a\xbc");
+    let text = format!(in rt.alloc(); "{id:?}")?;
+    assert_eq!(rt; text.as_str(), "0000000c0000000000000abc");
+    Ok(())
+}
+
+#[test]
 fn the_successor_carries(rt: HostRuntime) {
     let mut next = FIRST_ID;
     next[11] = 0xe6;
