@@ -1,5 +1,5 @@
 -- What a client is configured with.
-use Rattle.std.specs.Prelude.{◌≡◌, Bool, true, false, List, [], ◌∷◌, ◌++◌, Option, if◌then◌else◌}
+use Rattle.std.specs.Prelude.{◌≡◌, Bool, true, false, List, [], ◌∷◌, ◌++◌, if◌then◌else◌}
 use Rattle.std.specs.List.{list_any}
 use Rattle.smallvec.specs.SmallVec.{SmallVec}
 use Rattle.turn_stun.specs.declared.transport.TransportType.{TransportType}
@@ -9,16 +9,16 @@ use Rattle.turn_auth.specs.Credentials.{Credentials}
 use Rattle.turn_auth.specs.declared.feature.Feature.{Feature}
 use Rattle.turn_auth.specs.declared.integrity.IntegrityAlgorithm.{IntegrityAlgorithm}
 use Rattle.turn_auth.specs.declared.integrity.IntegrityAlgorithm.TheVariants.{Sha1, Sha256}
-use Rattle.turn_client_api.specs.declared.config.RequestRetransmits.{RequestRetransmits}
+use Rattle.turn_agent.specs.Schedule.{Timers}
 
--- the settings; the times of requests are there only where they were set
+-- the settings
 pub record Config : Type 0 where
   pub allocation_transport : TransportType
   pub address_families : List AddressFamily
   pub credentials : Credentials
   pub supported_integrity : List IntegrityAlgorithm
   pub anonymous_username : Feature
-  pub request_retransmits : Option RequestRetransmits
+  pub request_timers : Timers
 
 -- whether two families are the same
 abbrev pub same_family : AddressFamily → AddressFamily → Bool

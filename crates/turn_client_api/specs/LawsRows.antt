@@ -1,6 +1,5 @@
 -- Worked states, so that the check computes what the machine answers in them.
-use Rattle.std.specs.Prelude.{ℕ, zero, suc, ◌*◌, List, [], ◌∷◌, ◌++◌, map, Option, Some, None}
-use Rattle.std.specs.declared.time.Duration.{Duration}
+use Rattle.std.specs.Prelude.{ℕ, zero, suc, ◌*◌, List, [], ◌∷◌, ◌++◌, map, Some}
 use Rattle.std.specs.declared.net.ip_addr.IpAddr.{IpAddr}
 use Rattle.std.specs.declared.net.ip_addr.IpAddr.TheVariants as Ip
 use Rattle.std.specs.declared.net.socket_addr.SocketAddr.{SocketAddr}
@@ -18,7 +17,7 @@ use Rattle.turn_client_api.specs.Effect.{new_allocation}
 use Rattle.turn_client_api.specs.Calls.{all_expired}
 use Rattle.turn_client_api.specs.Poll.{poll_step}
 use Rattle.turn_client_api.specs.Transmit.{transmit_step}
-use Rattle.turn_client_api.specs.declared.config.RequestRetransmits.{RequestRetransmits}
+use Rattle.turn_agent.specs.Schedule.{Timers, default_timers}
 use Rattle.turn_client_api.specs.declared.poll.TurnPollRet.{TurnPollRet}
 use Rattle.turn_client_api.specs.declared.poll.TurnPollRet.TheVariants.{WaitUntil, Closed as Ended}
 
@@ -43,7 +42,7 @@ peer = V4 (xor_v4 (10 ∷ 0 ∷ 0 ∷ 3 ∷ []) 9000)
 -- a client over UDP with these grants, that sent its last request at this moment and awaits nothing
 abbrev pub granted_at : ℕ → List Grant → State → State
 granted_at moment grants s = record s {
-  config = record s.config { allocation_transport = Udp; request_retransmits = None };
+  config = record s.config { allocation_transport = Udp; request_timers = default_timers };
   transport = Udp;
   phase = Allocated;
   grants = grants;
@@ -65,22 +64,14 @@ requesting text s = record (granted_at 0 [] s) {
 
 -- ---- a server that keeps silent
 
-abbrev pub so_long : ℕ → ℕ → Duration
-so_long secs nanos = record { secs = secs; nanos = nanos }
+-- 600 ms after the first send, 1 s at most after others, three sends, and 3 s after the last
+abbrev pub short_timers : Timers
+short_timers = record { initial = 600_000_000; max = 1_000_000_000; transmissions = 3; last = 3_000_000_000 }
 
--- 600 ms behind the first send, 1 s at most behind others, three sends, and 3 s behind the last
-abbrev pub short_times : RequestRetransmits
-short_times = record {
-  initial = so_long 0 600_000_000;
-  max = so_long 1 0;
-  retransmits = 3;
-  final_retransmit_timeout = so_long 3 0;
-}
-
--- the client has sent its first ALLOCATE at moment 0 over this transport, and waits by these times
-abbrev pub requesting_by : Option RequestRetransmits → TransportType → List ℕ → State → State
-requesting_by times transport text s = record (requesting text s) {
-  config = record s.config { request_retransmits = times };
+-- the client has sent its first ALLOCATE at moment 0 over this transport, and waits by these timers
+abbrev pub requesting_by : Timers → TransportType → List ℕ → State → State
+requesting_by timers transport text s = record (requesting text s) {
+  config = record s.config { request_timers = timers };
   transport = transport;
 }
 

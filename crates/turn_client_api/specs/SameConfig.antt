@@ -1,14 +1,13 @@
 -- When two configurations have the same settings.
-use Rattle.std.specs.Prelude.{Bool, true, false, ◌==◌, ◌&&◌, Option, Some, None}
+use Rattle.std.specs.Prelude.{Bool, true, false, ◌==◌, ◌&&◌}
 use Rattle.std.specs.Cmp.Lexicographic.{pointwise}
-use Rattle.std.specs.declared.time.Duration.{Duration}
 use Rattle.turn_stun.specs.declared.transport.TransportType.{TransportType}
 use Rattle.turn_stun.specs.declared.transport.TransportType.TheVariants.{Udp, Tcp}
 use Rattle.turn_auth.specs.Credentials.{Credentials}
 use Rattle.turn_auth.specs.LongTerm.{same_algorithm}
 use Rattle.turn_auth.specs.declared.feature.Feature.{Feature}
 use Rattle.turn_auth.specs.declared.feature.Feature.TheVariants.{Auto, Disabled, Required}
-use Rattle.turn_client_api.specs.declared.config.RequestRetransmits.{RequestRetransmits}
+use Rattle.turn_agent.specs.Schedule.{Timers}
 use Rattle.turn_client_api.specs.Config.{Config, same_family}
 
 abbrev pub same_transport : TransportType → TransportType → Bool
@@ -26,22 +25,9 @@ same_feature _ _ = false
 abbrev pub same_credentials : Credentials → Credentials → Bool
 same_credentials a b = pointwise ◌==◌ a.user b.user && pointwise ◌==◌ a.password b.password
 
-abbrev pub same_duration : Duration → Duration → Bool
-same_duration a b = (a.secs == b.secs) && (a.nanos == b.nanos)
-
-abbrev pub same_times : RequestRetransmits → RequestRetransmits → Bool
-same_times a b =
-    same_duration a.initial b.initial
-    && same_duration a.max b.max
-    && (a.retransmits == b.retransmits)
-    && same_duration a.final_retransmit_timeout b.final_retransmit_timeout
-
--- times that were never set are not the same as any that were
-abbrev pub same_set_times : Option RequestRetransmits → Option RequestRetransmits → Bool
-same_set_times None None = true
-same_set_times None (Some b) = false
-same_set_times (Some a) None = false
-same_set_times (Some a) (Some b) = same_times a b
+abbrev pub same_timers : Timers → Timers → Bool
+same_timers a b =
+    (a.initial == b.initial) && (a.max == b.max) && (a.transmissions == b.transmissions) && (a.last == b.last)
 
 -- both ask for the same allocations
 abbrev pub same_request : Config → Config → Bool
@@ -57,4 +43,4 @@ same_user a b =
     && same_feature a.anonymous_username b.anonymous_username
 
 abbrev pub same_config : Config → Config → Bool
-same_config a b = same_request a b && same_user a b && same_set_times a.request_retransmits b.request_retransmits
+same_config a b = same_request a b && same_user a b && same_timers a.request_timers b.request_timers

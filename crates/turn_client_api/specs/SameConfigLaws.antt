@@ -1,10 +1,9 @@
 -- The test of equality of two configurations decides it, and so is an equivalence.
-use Rattle.std.specs.Prelude.{◌≡◌, Bool, true, false, IsTrue, ◌↔◌, ◌&&◌, Option, Some, None, refl}
+use Rattle.std.specs.Prelude.{◌≡◌, Bool, true, false, IsTrue, ◌↔◌, ◌&&◌, refl}
 use Rattle.std.proofs.Common.{ap}
 use Rattle.std.specs.Bool.{Decides}
 use Rattle.std.specs.Cmp.{IsEquivalence, decided, unsigned_Decides}
 use Rattle.std.specs.Cmp.Lexicographic.{pointwise_decides}
-use Rattle.std.specs.declared.time.Duration.{Duration}
 use Rattle.turn_stun.specs.declared.transport.TransportType.{TransportType}
 use Rattle.turn_stun.specs.declared.transport.TransportType.TheVariants.{Udp, Tcp}
 use Rattle.turn_types.specs.declared.family.AddressFamily.{AddressFamily}
@@ -15,9 +14,9 @@ use Rattle.turn_auth.specs.declared.feature.Feature.{Feature}
 use Rattle.turn_auth.specs.declared.feature.Feature.TheVariants.{Auto, Disabled, Required}
 use Rattle.turn_auth.specs.declared.integrity.IntegrityAlgorithm.{IntegrityAlgorithm}
 use Rattle.turn_auth.specs.declared.integrity.IntegrityAlgorithm.TheVariants.{Sha1, Sha256}
-use Rattle.turn_client_api.specs.declared.config.RequestRetransmits.{RequestRetransmits}
+use Rattle.turn_agent.specs.Schedule.{Timers}
 use Rattle.turn_client_api.specs.Config.{Config, same_family}
-use Rattle.turn_client_api.specs.SameConfig.{same_config, same_credentials, same_duration, same_feature, same_set_times, same_times, same_transport}
+use Rattle.turn_client_api.specs.SameConfig.{same_config, same_credentials, same_feature, same_timers, same_transport}
 
 -- two tests decide whether two parts are the same
 both : {r s : Bool} {P Q : Type 0} → Decides r P → Decides s Q → Decides (r && s) (P × Q)
@@ -63,23 +62,11 @@ same_credentials-Decides a b =
     (λ (user, password) i. record { user = user i; password = password i })
     (λ e. (ap (λ c. c.user) e, ap (λ c. c.password) e))
 
-same_duration-Decides : (a b : Duration) → Decides (same_duration a b) (a ≡ b)
-same_duration-Decides a b =
-    told (both (unsigned_Decides a.secs b.secs) (unsigned_Decides a.nanos b.nanos))
-    (λ (secs, nanos) i. record { secs = secs i; nanos = nanos i })
-    (λ e. (ap (λ d. d.secs) e, ap (λ d. d.nanos) e))
-
-same_times-Decides : (a b : RequestRetransmits) → Decides (same_times a b) (a ≡ b)
-same_times-Decides a b =
-    told (both (both (both (same_duration-Decides a.initial b.initial) (same_duration-Decides a.max b.max)) (unsigned_Decides a.retransmits b.retransmits)) (same_duration-Decides a.final_retransmit_timeout b.final_retransmit_timeout))
-    (λ (((first, longest), count), last) i. record { initial = first i; max = longest i; retransmits = count i; final_retransmit_timeout = last i })
-    (λ e. (((ap (λ t. t.initial) e, ap (λ t. t.max) e), ap (λ t. t.retransmits) e), ap (λ t. t.final_retransmit_timeout) e))
-
-same_set_times-Decides : (a b : Option RequestRetransmits) → Decides (same_set_times a b) (a ≡ b)
-same_set_times-Decides None None = (λ _. refl, λ _. refl)
-same_set_times-Decides None (Some b) = (λ e. cc, λ e. cc)
-same_set_times-Decides (Some a) None = (λ e. cc, λ e. cc)
-same_set_times-Decides (Some a) (Some b) = told (same_times-Decides a b) (λ e. ap Some e) (λ e. cc)
+same_timers-Decides : (a b : Timers) → Decides (same_timers a b) (a ≡ b)
+same_timers-Decides a b =
+    told (both (both (both (unsigned_Decides a.initial b.initial) (unsigned_Decides a.max b.max)) (unsigned_Decides a.transmissions b.transmissions)) (unsigned_Decides a.last b.last))
+    (λ (((first, longest), count), last) i. record { initial = first i; max = longest i; transmissions = count i; last = last i })
+    (λ e. (((ap (λ t. t.initial) e, ap (λ t. t.max) e), ap (λ t. t.transmissions) e), ap (λ t. t.last) e))
 
 same_config-Decides : (a b : Config) → Decides (same_config a b) (a ≡ b)
 same_config-Decides a b =
@@ -90,16 +77,16 @@ same_config-Decides a b =
     (both (both (same_credentials-Decides a.credentials b.credentials)
     (pointwise_decides same_algorithm-Decides a.supported_integrity b.supported_integrity))
     (same_feature-Decides a.anonymous_username b.anonymous_username)))
-    (same_set_times-Decides a.request_retransmits b.request_retransmits))
-    (λ (((transport, families), ((credentials, algorithms), anonymous)), times) i. record {
+    (same_timers-Decides a.request_timers b.request_timers))
+    (λ (((transport, families), ((credentials, algorithms), anonymous)), timers) i. record {
       allocation_transport = transport i;
       address_families = families i;
       credentials = credentials i;
       supported_integrity = algorithms i;
       anonymous_username = anonymous i;
-      request_retransmits = times i;
+      request_timers = timers i;
     })
-    (λ e. (((ap (λ c. c.allocation_transport) e, ap (λ c. c.address_families) e), ((ap (λ c. c.credentials) e, ap (λ c. c.supported_integrity) e), ap (λ c. c.anonymous_username) e)), ap (λ c. c.request_retransmits) e))
+    (λ e. (((ap (λ c. c.allocation_transport) e, ap (λ c. c.address_families) e), ((ap (λ c. c.credentials) e, ap (λ c. c.supported_integrity) e), ap (λ c. c.anonymous_username) e)), ap (λ c. c.request_timers) e))
 
 pub same_config-equivalence : IsEquivalence same_config
 same_config-equivalence = decided same_config same_config-Decides

@@ -1,18 +1,14 @@
 -- The state of a client (RFC 8656; data connections by RFC 6062, integrity by RFC 8489).
-use Rattle.std.specs.Prelude.{ℕ, ◌*◌, ◌+◌, ◌-◌, ◌^◌, min, Bool, List, [], ◌∷◌, Option, Some, None}
-use Rattle.std.specs.declared.net.ip_addr.IpAddr.{IpAddr}
+use Rattle.std.specs.Prelude.{ℕ, ◌*◌, ◌+◌, ◌-◌, ◌^◌, min, List, [], ◌∷◌, Option, Some, None}
 use Rattle.std.specs.declared.net.socket_addr.SocketAddr.{SocketAddr}
 use Rattle.turn_stun.specs.declared.transport.TransportType.{TransportType}
 use Rattle.turn_stun.specs.declared.transport.TransportType.TheVariants.{Udp, Tcp}
-use Rattle.turn_stun.specs.declared.transport.Transmit.{Transmit}
 use Rattle.turn_types.specs.declared.family.AddressFamily.{AddressFamily}
 use Rattle.turn_auth.specs.LongTerm.{Challenge, ClientAuth}
 use Rattle.turn_agent.specs.Agent.{Agent}
-use Rattle.turn_agent.specs.Schedule.{Timers, default_timers, wait_of}
 use Rattle.turn_agent.specs.TransactionIds.{Source}
 use Rattle.turn_agent.specs.declared.transaction.Transaction.{Transaction}
 use Rattle.turn_client_api.specs.Config.{Config}
-use Rattle.turn_client_api.specs.declared.config.RequestRetransmits.{RequestRetransmits}
 use Rattle.turn_client_api.specs.declared.event.TurnEvent.{TurnEvent}
 pub use Rattle.turn_client_api.specs.declared.state.Phase.{Phase}
 pub use Rattle.turn_client_api.specs.declared.state.Phase.TheVariants.{New, Requesting, Authenticating, Allocated, Closed}
@@ -105,22 +101,12 @@ initial transport local remote config seed = record {
 
 -- ---- the parts that lower layers speak of
 
--- the times of requests: those of RFC 8489, section 6.2.1, unless others were set
-abbrev pub timers_of : Option RequestRetransmits → Timers
-timers_of None = default_timers
-timers_of (Some set) = record {
-  initial = wait_of set.initial;
-  max = wait_of set.max;
-  transmissions = set.retransmits;
-  last = wait_of set.final_retransmit_timeout;
-}
-
 abbrev pub agent_of : State → Agent
 agent_of s = record {
   transport = s.transport;
   local = s.local;
   remote = Some s.remote;
-  timers = timers_of s.config.request_retransmits;
+  timers = s.config.request_timers;
   transactions = s.transactions;
 }
 

@@ -1,6 +1,7 @@
 //! What a client is to ask of its server, and as whom.
 
-ghost use Rattle.std.specs.Prelude.{◌≡◌, ◌<◌, ◌≤◌, ◌≢◌, [], ◌∷◌, Some, None, length, IfOk, AllPairs, Contains};
+ghost use Rattle.std.specs.Prelude.{◌≡◌, ◌<◌, ◌≤◌, ◌≢◌, [], ◌∷◌, length, IfOk, AllPairs, Contains};
+ghost use Rattle.turn_agent.specs.Schedule.{default_timers, wait_of};
 ghost use Rattle.turn_auth.specs.LongTerm.{with_algorithm};
 ghost use Rattle.turn_client_api.specs.Config.{Config, with_family};
 ghost use Rattle.turn_client_api.specs.SameConfig.{same_request, same_user};
@@ -9,24 +10,11 @@ use smallvec::SmallVec;
 use std::alloc::{AllocError, Global};
 use std::marker::Model;
 use std::time::Duration;
+use turn_agent::schedule::RequestTimers;
 use turn_auth::credentials::TurnCredentials;
 use turn_auth::feature::Feature;
 use turn_auth::integrity::IntegrityAlgorithm;
 use turn_types::{AddressFamily, TransportType};
-
-/// When a request is sent again and when it is given up, as the caller set it (RFC 8489, section
-/// 6.2).
-#[derive(Clone, Copy, Debug, PartialEq, Eq)]
-pub struct RequestRetransmits {
-    /// The wait behind the first send. It doubles from send to send.
-    pub initial: Duration,
-    /// The longest wait between two sends.
-    pub max: Duration,
-    /// How often the request is sent in all.
-    pub retransmits: u32,
-    /// The wait behind the last send.
-    pub final_retransmit_timeout: Duration,
-}
 
 /// How a client is to be set up: who it is, and what it asks its server for.
 ///
@@ -40,7 +28,7 @@ pub struct TurnConfig {
     credentials: TurnCredentials,
     supported_integrity: SmallVec<IntegrityAlgorithm, 2>,
     anonymous_username: Feature,
-    request_retransmits: Option<RequestRetransmits>,
+    request_timers: RequestTimers,
 }
 
 impl Model for TurnConfig {
@@ -54,7 +42,7 @@ impl Model for TurnConfig {
       credentials = c.credentials;
       supported_integrity = c.supported_integrity.items;
       anonymous_username = c.anonymous_username;
-      request_retransmits = c.request_retransmits;
+      request_timers = c.request_timers;
     } };
 
     ghost invariant = { λ c. IsKeptConfig c.address_families c.supported_integrity };
@@ -71,7 +59,7 @@ impl TurnConfig {
           credentials = credentials;
           supported_integrity = IntegrityAlgorithm.Sha1 ∷ [];
           anonymous_username = Feature.Auto;
-          request_retransmits = None;
+          request_timers = default_timers;
         } }
     {
         TurnConfig {
@@ -80,7 +68,7 @@ impl TurnConfig {
             credentials,
             supported_integrity: SmallVec::from_slice(alloc, &[IntegrityAlgorithm::Sha1]).unwrap(),
             anonymous_username: Feature::Auto,
-            request_retransmits: None,
+            request_timers: RequestTimers::default(),
         }
     }
 
@@ -185,15 +173,16 @@ impl TurnConfig {
 
     /// Sets when each request is sent again and when it is given up (RFC 8489, section 6.2):
     ///
-    /// - `initial` is the wait behind the first send, which doubles from send to send. It is to be at
+    /// - `initial` is the wait after the first send, which doubles from send to send. It is to be at
     ///   least 500 ms unless more is known of the way to the server. Where it is at most 1 ms, a
-    ///   request is sent but once (our choice).
+    ///   request is sent only once (our choice).
     /// - `max` is the longest wait between two sends.
     /// - `retransmits` is how often a request is sent in all. 0 stands for 1.
-    /// - `final_retransmit_timeout` is the wait behind the last send.
+    /// - `final_retransmit_timeout` is the wait after the last send.
     ///
     /// By default these are 500 ms, no longest wait, 7, and 8 s, which is 16 times the first wait. Over
-    /// TCP a request is sent once, and is given up when all these waits together are over.
+    /// TCP a request is sent once, and is given up when all these waits together are over. A wait of
+    /// 2^64 ns or more is kept as 2^64 - 1 ns, which no moment tells from it.
     pub fn set_request_retransmits(
         &mut self,
         initial: Duration,
@@ -202,28 +191,28 @@ impl TurnConfig {
         final_retransmit_timeout: Duration,
     )
         ensures { self.new ≡ record self.old {
-          request_retransmits = Some (record {
-            initial = initial;
-            max = max;
-            retransmits = retransmits;
-            final_retransmit_timeout = final_retransmit_timeout;
-          });
+          request_timers = record {
+            initial = wait_of initial;
+            max = wait_of max;
+            transmissions = retransmits;
+            last = wait_of final_retransmit_timeout;
+          };
         } }
     {
-        self.request_retransmits = Some(RequestRetransmits {
+        self.request_timers = RequestTimers::new(
             initial,
             max,
             retransmits,
             final_retransmit_timeout,
-        });
+        );
     }
 
-    /// What `set_request_retransmits` set last, or `None` where it was never called and the default
-    /// holds.
-    pub fn request_retransmits(&self) -> Option<RequestRetransmits>
-        ensures { result ≡ self.now.request_retransmits }
+    /// When each request is sent again and when it is given up, as `set_request_retransmits` set it
+    /// last, or else by default.
+    pub fn request_timers(&self) -> RequestTimers
+        ensures { result ≡ self.now.request_timers }
     {
-        self.request_retransmits
+        self.request_timers
     }
 
     /// A configuration with the same settings.
@@ -242,7 +231,7 @@ impl TurnConfig {
             credentials: self.credentials.clone()?,
             supported_integrity: SmallVec::from_slice(alloc, self.supported_integrity.as_slice())?,
             anonymous_username: self.anonymous_username,
-            request_retransmits: self.request_retransmits,
+            request_timers: self.request_timers,
         })
     }
 
@@ -264,7 +253,7 @@ impl TurnConfig {
     }
 }
 
-/// By content. Times that were never set differ from the same times that were set.
+/// By content. The default times are equal to the same times that were set.
 impl PartialEq for TurnConfig {
     ghost use Rattle.std.specs.Prelude.{◌≡◌, ◌↔◌, IsTrue};
     ghost use Rattle.std.specs.Cmp.{partial_equiv_from_equiv};
@@ -281,7 +270,7 @@ impl PartialEq for TurnConfig {
     {
         self.is_same_request(other)
             && self.is_same_user(other)
-            && self.request_retransmits == other.request_retransmits
+            && self.request_timers == other.request_timers
     }
 }
 

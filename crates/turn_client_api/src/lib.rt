@@ -31,7 +31,7 @@ mod state;
 pub use addresses::{PermissionAddressesIter, RelayedAddressesIter};
 pub use call::Call;
 pub use client::TurnClientApi;
-pub use config::{RequestRetransmits, TurnConfig};
+pub use config::TurnConfig;
 pub use error::{
     BindChannelError, CreatePermissionError, DeleteError, SendError, TcpAllocateError,
     TcpConnectError,
@@ -42,6 +42,7 @@ pub use poll::{Socket5Tuple, TurnPollRet};
 pub use receive::{DataRange, DataRangeOrOwned, TurnPeerData, TurnRecvRet};
 pub use send::{DelayedMessageOrChannelSend, DelayedTransmit};
 pub use state::{Mode, Phase, Queued, Stream};
+pub use turn_agent::schedule::RequestTimers;
 pub use turn_stun::data::Data;
 pub use turn_stun::transport::Transmit;
 pub use turn_types::transmit::TransmitBuild;

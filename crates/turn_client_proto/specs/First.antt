@@ -13,13 +13,11 @@ use Rattle.turn_stun.specs.Writer.{header_of, with_attribute}
 use Rattle.turn_types.specs.declared.family.AddressFamily.{AddressFamily}
 use Rattle.turn_types.specs.declared.family.AddressFamily.TheVariants.{IPV4, IPV6}
 use Rattle.turn_types.specs.Values.{number_value, transport_value, family_value}
-use Rattle.turn_agent.specs.Schedule.{Timers, default_timers, wait_of}
 use Rattle.turn_agent.specs.TransactionIds.{Source, next_id, behind_id}
 use Rattle.turn_agent.specs.Agent.{Agent, asked, ends_one, given_up, same_address, poll_step as agent_poll, transmit_step as agent_transmit, handle_step as agent_handle}
 use Rattle.turn_agent.specs.declared.agent.StunAgentPollRet.{StunAgentPollRet}
 use Rattle.turn_agent.specs.declared.agent.StunAgentPollRet.TheVariants as Agents
 use Rattle.turn_client_api.specs.Config.{Config, same_family}
-use Rattle.turn_client_api.specs.declared.config.RequestRetransmits.{RequestRetransmits}
 use Rattle.turn_client_api.specs.declared.event.TurnEvent.{TurnEvent}
 use Rattle.turn_client_api.specs.declared.event.TurnEvent.TheVariants.{AllocationCreateFailed}
 use Rattle.turn_client_api.specs.declared.poll.TurnPollRet.{TurnPollRet}
@@ -39,17 +37,6 @@ pub record State : Type 0 where
   pub agent : Agent
   pub events : List TurnEvent
 
--- when its requests are sent again and given up: as it was configured, or else as RFC 8489,
--- section 6.2.1, has it
-abbrev pub timers_of : Option RequestRetransmits → Timers
-timers_of None = default_timers
-timers_of (Some times) = record {
-  initial = wait_of times.initial;
-  max = wait_of times.max;
-  transmissions = times.retransmits;
-  last = wait_of times.final_retransmit_timeout;
-}
-
 -- a client that has asked for nothing yet
 abbrev pub new_client : TransportType → SocketAddr → SocketAddr → Config → List ℕ → State
 new_client transport local remote config seed = record {
@@ -62,7 +49,7 @@ new_client transport local remote config seed = record {
     transport = transport;
     local = local;
     remote = Some remote;
-    timers = timers_of config.request_retransmits;
+    timers = config.request_timers;
     transactions = [];
   };
   events = [];

@@ -10,7 +10,7 @@ pub use calls::TurnClientApi;
 pub use turn_client_api::{
     BindChannelError, CreatePermissionError, Data, DataRange, DataRangeOrOwned,
     DelayedMessageOrChannelSend, DelayedTransmit, DeleteError, PermissionAddressesIter,
-    RelayedAddressesIter, RequestRetransmits, SendError, Socket5Tuple, TcpAllocateError,
+    RelayedAddressesIter, RequestTimers, SendError, Socket5Tuple, TcpAllocateError,
     TcpConnectError, Transmit, TransmitBuild, TurnConfig, TurnEvent, TurnPeerData, TurnPollRet,
     TurnRecvRet,
 };

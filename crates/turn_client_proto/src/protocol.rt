@@ -1,7 +1,7 @@
 //! What a client does, over any transport.
 
 ghost use Rattle.std.specs.Prelude.{◌≡◌, ℕ, List, Bool, if◌then◌else◌, IfOk, OnErr};
-ghost use Rattle.turn_client_proto.specs.First.{State, new_client, timers_of, poll_step, waiting_step, ended_at_once, ended_behind, closed, transmit_step, first_packet, after_first, event_step, recv_step, error_step, is_from_server, is_awaited, with_agent};
+ghost use Rattle.turn_client_proto.specs.First.{State, new_client, poll_step, waiting_step, ended_at_once, ended_behind, closed, transmit_step, first_packet, after_first, event_step, recv_step, error_step, is_from_server, is_awaited, with_agent};
 ghost use Rattle.turn_client_proto.specs.Received.{packet_of, AnswersRecv};
 ghost use Rattle.turn_agent.specs.Agent.{handle_step};
 
@@ -18,7 +18,6 @@ use std::net::SocketAddr;
 use std::time::Duration;
 use turn_agent::agent::{StunAgent, StunAgentPollRet};
 use turn_agent::number_source::NumberSource;
-use turn_agent::schedule::RequestTimers;
 use turn_client_api::{TurnConfig, TurnEvent, TurnPollRet, TurnRecvRet};
 use turn_stun::data::Data;
 use turn_stun::instant::Instant;
@@ -84,7 +83,7 @@ impl Protocol {
         let events = VecDeque::with_capacity(alloc, families.len())?;
         let agent = StunAgent::builder(alloc, transport, local)
             .remote_addr(remote)
-            .request_timers(timers_of(&config))
+            .request_timers(config.request_timers())
             .build();
         Ok(Protocol {
             alloc,
@@ -266,20 +265,5 @@ impl Protocol {
             Phase::New | Phase::Requesting => self.end_behind(),
             Phase::Closed => {}
         }
-    }
-}
-
-/// When the client's requests are sent again and given up.
-fn timers_of(config: &TurnConfig) -> RequestTimers
-    ensures { result ≡ timers_of config.now.request_retransmits }
-{
-    match config.request_retransmits() {
-        Some(times) => RequestTimers::new(
-            times.initial,
-            times.max,
-            times.retransmits,
-            times.final_retransmit_timeout,
-        ),
-        None => RequestTimers::default(),
     }
 }

@@ -4,5 +4,4 @@ pub mod InputLemmas
 pub mod LawLemmas
 pub mod NumberLemmas
 pub mod PartsLemmas
-pub mod RunLemmas
 pub mod TraceLemmas

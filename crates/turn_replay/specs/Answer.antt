@@ -1,10 +1,7 @@
 -- What a run of the program reads and writes.
-use Rattle.std.specs.Prelude.{◌≡◌, ℕ, ◌/◌, ◌%◌, ◌≤◌, ◌⊎◌, Bool, false, List, ◌++◌, length, take, codes, Option, Some, None, IfSome, Result, Ok, Err, ⊤}
-use Rattle.std.specs.Duration.{as_nanos}
-use Rattle.std.specs.declared.time.Duration.{Duration}
+use Rattle.std.specs.Prelude.{◌≡◌, ℕ, ◌≤◌, ◌⊎◌, Bool, false, List, ◌++◌, length, take, codes, Option, IfSome, Result, Ok, Err, ⊤}
 use Rattle.std.specs.Io.KnownBytes.{Appends, Consumes, IsAtEnd}
 use Rattle.turn_stun.specs.declared.transport.TransportType.TheVariants.{Udp}
-use Rattle.turn_client_api.specs.declared.config.RequestRetransmits.{RequestRetransmits}
 use Rattle.turn_client_proto.specs.Run.{run}
 use Rattle.turn_client_proto.specs.declared.runs.call.Call.{Call}
 use Rattle.turn_replay.specs.Configuration.{config_with}
@@ -12,7 +9,6 @@ use Rattle.turn_replay.specs.Text.{answers_text, bad_text}
 use Rattle.turn_replay.specs.Trace.{trace_of}
 use Rattle.turn_replay.specs.declared.fault.BadLine.{BadLine}
 use Rattle.turn_replay.specs.declared.head.Head.{Head}
-use Rattle.turn_replay.specs.declared.head.waits.Waits.{Waits}
 use Rattle.turn_replay.specs.declared.status.Status.{Status}
 use Rattle.turn_replay.specs.declared.status.Status.TheVariants.{Answered, Malformed, OutOfMemory, ReadFailed, WriteFailed}
 
@@ -33,36 +29,12 @@ pub record ReadsMore (old new : Option (List ℕ)) (before after : List ℕ) (go
   pub few : length after ≤ 1048577
   pub end : goes_on ≡ false → IsAtEnd new
 
--- ---- when the client sends again
-
--- durations of these nanoseconds
-abbrev pub Tells : Option Waits → Option RequestRetransmits → Type 0
-Tells None None = ⊤
-Tells None (Some times) = ⊥
-Tells (Some waits) None = ⊥
-Tells (Some waits) (Some times) =
-    (as_nanos times.initial ≡ waits.initial) × (as_nanos times.max ≡ waits.max) × (times.retransmits ≡ waits.count)
-    × (as_nanos times.final_retransmit_timeout ≡ waits.last)
-
--- a duration of so many nanoseconds
-abbrev pub duration_of : ℕ → Duration
-duration_of nanos = record { secs = nanos / 1_000_000_000; nanos = nanos % 1_000_000_000 }
-
-abbrev pub times_of : Option Waits → Option RequestRetransmits
-times_of None = None
-times_of (Some waits) = Some (record {
-  initial = duration_of waits.initial;
-  max = duration_of waits.max;
-  retransmits = waits.count;
-  final_retransmit_timeout = duration_of waits.last;
-})
-
 -- ---- what is written
 
 -- a line for each answer of the client to the calls
 abbrev pub answered_text : Head → List Call → List ℕ
 answered_text head calls =
-    answers_text (run Udp head.ends.local head.ends.remote (config_with head.request head.credentials (times_of head.waits)) head.seed calls).0
+    answers_text (run Udp head.ends.local head.ends.remote (config_with head.request head.credentials head.waits) head.seed calls).0
 
 -- the status and the text for a trace: a line for each call, or the one line for its first bad line
 abbrev pub answer_of : Result (Head × List Call) BadLine → Status × List ℕ

@@ -6,8 +6,9 @@ use Rattle.turn_auth.specs.Credentials.{Credentials}
 use Rattle.turn_auth.specs.LongTerm.{with_algorithm}
 use Rattle.turn_auth.specs.declared.integrity.IntegrityAlgorithm.{IntegrityAlgorithm}
 use Rattle.turn_client_api.specs.Config.{Config, with_family}
-use Rattle.turn_client_api.specs.declared.config.RequestRetransmits.{RequestRetransmits}
+use Rattle.turn_agent.specs.Schedule.{Timers, default_timers}
 use Rattle.turn_replay.specs.declared.head.Request.{Request}
+use Rattle.turn_replay.specs.declared.head.waits.Waits.{Waits}
 
 -- the first family, and the other if there is another
 abbrev pub families_with : AddressFamily × Option AddressFamily → List AddressFamily
@@ -19,12 +20,22 @@ abbrev pub algorithms_with : IntegrityAlgorithm × Option IntegrityAlgorithm →
 algorithms_with (first, None) = first ∷ []
 algorithms_with (first, Some second) = with_algorithm (first ∷ []) second
 
-abbrev pub config_with : Request → Credentials → Option RequestRetransmits → Config
-config_with request credentials times = record {
+-- when requests are sent again: as the head says, or else as RFC 8489, section 6.2.1, has it
+abbrev pub timers_with : Option Waits → Timers
+timers_with None = default_timers
+timers_with (Some waits) = record {
+  initial = waits.initial;
+  max = waits.max;
+  transmissions = waits.count;
+  last = waits.last;
+}
+
+abbrev pub config_with : Request → Credentials → Option Waits → Config
+config_with request credentials waits = record {
   allocation_transport = Udp;
   address_families = families_with request.families;
   credentials = credentials;
   supported_integrity = algorithms_with request.algorithms;
   anonymous_username = request.anonymous;
-  request_retransmits = times;
+  request_timers = timers_with waits;
 }

@@ -1,17 +1,15 @@
 //! What a trace is answered.
 
 ghost use Rattle.std.specs.Prelude.{◌≡◌, IfOk, string_bytes};
-ghost use Rattle.turn_replay.specs.Answer.{Tells, answer_to, answered_text};
+ghost use Rattle.turn_replay.specs.Answer.{answer_to, answered_text};
 
 use crate::configuration::configuration;
 use crate::fault::ReadError;
-use crate::head::{Head, Waits};
+use crate::head::Head;
 use crate::print::{answers_text, bad_text};
 use crate::status::Status;
 use crate::trace::{Trace, parse_trace};
 use std::alloc::{AllocError, Global};
-use std::time::Duration;
-use turn_client_api::RequestRetransmits;
 use turn_client_proto::runs::replay;
 use turn_types::TransportType;
 
@@ -38,7 +36,6 @@ pub fn answer(alloc: Global, text: &[u8]) -> Result<(Status, String), AllocError
 }
 
 /// The lines of a client's answers.
-#[tactic(auto, using(crate::proofs::RunLemmas::run_same))]
 fn replayed_text(alloc: Global, trace: Trace) -> Result<String, AllocError>
     ensures { IfOk result (λ text. string_bytes text ≡ answered_text trace.head trace.calls.items) }
 {
@@ -50,8 +47,7 @@ fn replayed_text(alloc: Global, trace: Trace) -> Result<String, AllocError>
         seed,
         waits,
     } = head;
-    let times = request_times(waits);
-    let config = configuration(alloc, request, credentials, times);
+    let config = configuration(alloc, request, credentials, waits);
     let replayed = replay(
         alloc,
         TransportType::Udp,
@@ -62,17 +58,4 @@ fn replayed_text(alloc: Global, trace: Trace) -> Result<String, AllocError>
         calls.as_slice(),
     )?;
     answers_text(alloc, replayed.replies.as_slice())
-}
-
-/// When requests are sent again, as a client is told it.
-fn request_times(waits: Option<Waits>) -> Option<RequestRetransmits>
-    ensures { Tells waits result }
-{
-    let waits = waits?;
-    Some(RequestRetransmits {
-        initial: Duration::from_nanos(waits.initial),
-        max: Duration::from_nanos(waits.max),
-        retransmits: waits.count,
-        final_retransmit_timeout: Duration::from_nanos(waits.last),
-    })
 }

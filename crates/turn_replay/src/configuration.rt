@@ -3,38 +3,37 @@
 ghost use Rattle.std.specs.Prelude.{◌≡◌, Some};
 ghost use Rattle.turn_replay.specs.Configuration.{algorithms_with, config_with, families_with};
 
-use crate::head::Request;
+use crate::head::{Request, Waits};
 use std::alloc::Global;
+use std::time::Duration;
 use turn_auth::credentials::TurnCredentials;
 use turn_auth::integrity::IntegrityAlgorithm;
-use turn_client_api::{RequestRetransmits, TurnConfig};
+use turn_client_api::TurnConfig;
 use turn_types::AddressFamily;
 
-/// The configuration of a client that makes this request as this user.
+/// The configuration of a client that makes this request as this user, and sends it again by these
+/// waits, or by default.
 pub fn configuration(
     alloc: Global,
     request: Request,
     credentials: TurnCredentials,
-    times: Option<RequestRetransmits>,
+    waits: Option<Waits>,
 ) -> TurnConfig
-    ensures { result ≡ config_with request credentials times }
+    ensures { result ≡ config_with request credentials waits }
 {
     let mut config = TurnConfig::new(alloc, credentials);
     set_families(&mut config, request.families);
     set_algorithms(&mut config, request.algorithms);
     config.set_anonymous_username(request.anonymous);
-    match times {
-        None => config,
-        Some(times) => {
-            config.set_request_retransmits(
-                times.initial,
-                times.max,
-                times.retransmits,
-                times.final_retransmit_timeout,
-            );
-            config
-        }
+    if let Some(waits) = waits {
+        config.set_request_retransmits(
+            Duration::from_nanos(waits.initial),
+            Duration::from_nanos(waits.max),
+            waits.count,
+            Duration::from_nanos(waits.last),
+        );
     }
+    config
 }
 
 /// Asks for an address of the first family, and for one of the other if there is another.

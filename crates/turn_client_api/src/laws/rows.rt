@@ -7,11 +7,12 @@ ghost use Rattle.turn_client_api.specs.State.{State, Channel, ForAllocation, For
 ghost use Rattle.turn_client_api.specs.Requests.{first_allocate};
 ghost use Rattle.turn_client_api.specs.Effect.{new_allocation};
 ghost use Rattle.turn_auth.specs.LongTerm.{Challenge};
+ghost use Rattle.turn_agent.specs.Schedule.{default_timers};
 ghost use Rattle.turn_client_api.specs.Retry.{state_after_retry};
 ghost use Rattle.turn_client_api.specs.Calls.{create_permission_step, delete_step, free_number, relayed_addresses_of};
 ghost use Rattle.turn_client_api.specs.Poll.{poll_step};
 ghost use Rattle.turn_client_api.specs.Transmit.{next_transmit};
-ghost use Rattle.turn_client_api.specs.LawsRows.{allocate_bytes, binding_in_silence, both_allocations, deleted_in_silence, granted_at, peer, peer_ip, relayed_v4, relayed_v6, requesting, requesting_by, short_times, told_in_turn, waits_and_ends};
+ghost use Rattle.turn_client_api.specs.LawsRows.{allocate_bytes, binding_in_silence, both_allocations, deleted_in_silence, granted_at, peer, peer_ip, relayed_v4, relayed_v6, requesting, requesting_by, short_timers, told_in_turn, waits_and_ends};
 ghost use Rattle.std.specs.declared.net.socket_addr.SocketAddr.{SocketAddr};
 ghost use Rattle.turn_client_api.specs.declared.event.TurnEvent.TheVariants.{ChannelCreateFailed, PermissionCreateFailed};
 ghost use Rattle.turn_client_api.specs.declared.poll.TurnPollRet.TheVariants as Do;
@@ -50,12 +51,12 @@ pub fn moments_are_told()
 /// caller is told that comes back at each told moment, and sends what is due.
 pub fn silence_is_timed()
     // By default it is sent at 0, 0.5, 1.5, 3.5, 7.5, 15.5 and 31.5 s, and given up at 39.5 s.
-    ensures default { (text : List ℕ) (s : State) → told_in_turn 8 0 (requesting_by None Udp text s) ≡ waits_and_ends (500 ∷ 1_500 ∷ 3_500 ∷ 7_500 ∷ 15_500 ∷ 31_500 ∷ 39_500 ∷ []) }
-    // With 600 ms behind the first send, at most 1 s behind others, three sends, and 3 s behind the last.
-    ensures set { (text : List ℕ) (s : State) → told_in_turn 4 0 (requesting_by (Some short_times) Udp text s) ≡ waits_and_ends (600 ∷ 1_600 ∷ 4_600 ∷ []) }
+    ensures default { (text : List ℕ) (s : State) → told_in_turn 8 0 (requesting_by default_timers Udp text s) ≡ waits_and_ends (500 ∷ 1_500 ∷ 3_500 ∷ 7_500 ∷ 15_500 ∷ 31_500 ∷ 39_500 ∷ []) }
+    // With 600 ms after the first send, at most 1 s after others, three sends, and 3 s after the last.
+    ensures set { (text : List ℕ) (s : State) → told_in_turn 4 0 (requesting_by short_timers Udp text s) ≡ waits_and_ends (600 ∷ 1_600 ∷ 4_600 ∷ []) }
     // Over TCP it is sent once.
-    ensures tcp { (text : List ℕ) (s : State) → told_in_turn 2 0 (requesting_by None Tcp text s) ≡ waits_and_ends (39_500 ∷ []) }
-    ensures tcp_set { (text : List ℕ) (s : State) → told_in_turn 2 0 (requesting_by (Some short_times) Tcp text s) ≡ waits_and_ends (4_600 ∷ []) }
+    ensures tcp { (text : List ℕ) (s : State) → told_in_turn 2 0 (requesting_by default_timers Tcp text s) ≡ waits_and_ends (39_500 ∷ []) }
+    ensures tcp_set { (text : List ℕ) (s : State) → told_in_turn 2 0 (requesting_by short_timers Tcp text s) ≡ waits_and_ends (4_600 ∷ []) }
 {}
 
 /// `delete` with two allocations (RFC 8656, section 8.1): one REFRESH gives both back, and neither is

@@ -1,9 +1,10 @@
 //! Configurations.
 
+use crate::TurnConfig;
 use crate::tests::config;
-use crate::{RequestRetransmits, TurnConfig};
 use std::test::Fail;
 use std::time::Duration;
+use turn_agent::schedule::RequestTimers;
 use turn_auth::credentials::TurnCredentials;
 use turn_auth::feature::Feature;
 use turn_auth::integrity::IntegrityAlgorithm;
@@ -20,7 +21,7 @@ fn a_new_configuration_asks_for_ipv4_over_udp(rt: HostRuntime) -> Result<(), Fai
         [IntegrityAlgorithm::Sha1].as_slice()
     );
     assert_eq!(rt; config.anonymous_username(), Feature::Auto);
-    assert_eq!(rt; config.request_retransmits(), None);
+    assert_eq!(rt; config.request_timers(), RequestTimers::default());
     Ok(())
 }
 
@@ -39,13 +40,13 @@ fn each_setting_is_set(rt: HostRuntime) -> Result<(), Fail> {
         [IntegrityAlgorithm::Sha256].as_slice()
     );
     assert_eq!(rt; config.anonymous_username(), Feature::Required);
-    let times = RequestRetransmits {
-        initial: Duration::from_millis(600),
-        max: Duration::from_secs(1),
-        retransmits: 3,
-        final_retransmit_timeout: Duration::from_secs(3),
-    };
-    assert_eq!(rt; config.request_retransmits(), Some(times));
+    let timers = RequestTimers::new(
+        Duration::from_millis(600),
+        Duration::from_secs(1),
+        3,
+        Duration::from_secs(3),
+    );
+    assert_eq!(rt; config.request_timers(), timers);
     Ok(())
 }
 
@@ -87,7 +88,7 @@ fn configurations_are_equal_by_their_settings(rt: HostRuntime) -> Result<(), Fai
 }
 
 #[test]
-fn times_that_were_never_set_differ_from_the_same_times(rt: HostRuntime) -> Result<(), Fail> {
+fn the_default_times_may_be_set_too(rt: HostRuntime) -> Result<(), Fail> {
     let first = config(rt.alloc())?;
     let mut set = first.clone()?;
     set.set_request_retransmits(
@@ -96,11 +97,11 @@ fn times_that_were_never_set_differ_from_the_same_times(rt: HostRuntime) -> Resu
         7,
         Duration::from_secs(8),
     );
+    assert!(rt; set == first);
+    set_times(&mut set);
     assert!(rt; set != first);
     let mut again = first.clone()?;
     set_times(&mut again);
-    assert!(rt; set != again);
-    set_times(&mut set);
     assert!(rt; set == again);
     Ok(())
 }
