@@ -8,6 +8,7 @@ pub mod GivenEffectLemmas
 pub mod GivenLemmas
 pub mod GivenMessageLemmas
 pub mod GrantedLemmas
+pub mod HandledLemmas
 pub mod HasLemmas
 pub mod HousedCallLemmas
 pub mod HousedEffectLemmas

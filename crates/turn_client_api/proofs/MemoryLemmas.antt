@@ -1,6 +1,6 @@
 -- What a call leaves that finds no memory: what messages and the end of a client keep is kept, and what
 -- there is then, there was, or a message brought it whose turn came.
-use Rattle.std.proofs.Common.{◌≡◌, ◌⊎◌, ℕ, Bool, true, false, cond, List, [], ◌∷◌, Option, Some, None, refl, subst, sym, inl, inr}
+use Rattle.std.proofs.Common.{◌≡◌, ◌⊎◌, ℕ, Bool, true, false, cond, List, Option, Some, None, refl, subst, sym, inl, inr}
 use Rattle.std.specs.Prelude.{IsSomeAnd, find}
 use Rattle.std.proofs.lemmas.Option.{none-some, same_Some}
 use Rattle.std.specs.declared.net.socket_addr.SocketAddr.{SocketAddr}
@@ -76,13 +76,12 @@ module _ (R : State → State → Type 0) (k : IsKept R) (ends : (s : State) →
   before-kept to piece now s u (stream, f, inr e) = subst (λ (x : State). R s x) (sym e) (k.same s)
 
   recv_end-kept : (to : SocketAddr) (piece : List ℕ) (now : ℕ) (s t : State) → RecvEnds to piece now s t → R s t
-  recv_end-kept to [] now s t e = closed-kept s (broken_at to s) t (k.streams s (broken_at to s).streams) e
-  recv_end-kept to (b ∷ bs) now s t (inl e) = closed-kept s (broken_at to s) t (k.streams s (broken_at to s).streams) e
-  recv_end-kept to (b ∷ bs) now s t (inr (over, later)) = by (before_others to (b ∷ bs) now s) refl later
+  recv_end-kept to piece now s t (inl e) = closed-kept s (broken_at to s) t (k.streams s (broken_at to s).streams) e
+  recv_end-kept to piece now s t (inr (over, some, later)) = by (before_others to piece now s) refl later
     where
-      by : (o : Option State) → before_others to (b ∷ bs) now s ≡ o → IsSomeAnd o (λ u. EndsAfterTurns now u t) → R s t
+      by : (o : Option State) → before_others to piece now s ≡ o → IsSomeAnd o (λ u. EndsAfterTurns now u t) → R s t
       by None e none = absurd none
-      by (Some u) e h = k.trans s u t (before-kept to (b ∷ bs) now s u (before-IsBehind to (b ∷ bs) now s u e)) (turns_end-kept now u t h)
+      by (Some u) e h = k.trans s u t (before-kept to piece now s u (before-IsBehind to piece now s u e)) (turns_end-kept now u t h)
 
   -- nothing changes
   same-kept : (s t : State) → t ≡ s → R s t
@@ -140,17 +139,16 @@ module _ (P : State → Type 0) (Did : Deed) (k : IsBringing P Did) (ends : (s :
       by (inr d) = inr (inr (u, e, d))
 
   recv_end-brings : (to : SocketAddr) (piece : List ℕ) (now : ℕ) (s t : State) → RecvEnds to piece now s t → P t → P s ⊎ IsBroughtIn s.transport Did to piece now s
-  recv_end-brings to [] now s t e h = inl (k.streams s (broken_at to s).streams (closed-brings (broken_at to s) t e h))
-  recv_end-brings to (b ∷ bs) now s t (inl e) h = inl (k.streams s (broken_at to s).streams (closed-brings (broken_at to s) t e h))
-  recv_end-brings to (b ∷ bs) now s t (inr (over, later)) h = by (before_others to (b ∷ bs) now s) refl later
+  recv_end-brings to piece now s t (inl e) h = inl (k.streams s (broken_at to s).streams (closed-brings (broken_at to s) t e h))
+  recv_end-brings to piece now s t (inr (over, some, later)) h = by (before_others to piece now s) refl later
     where
-      at : IsReceived P Did k to (b ∷ bs) now s → P s ⊎ IsBroughtIn s.transport Did to (b ∷ bs) now s
+      at : IsReceived P Did k to piece now s → P s ⊎ IsBroughtIn s.transport Did to piece now s
       at (inl here) = inl here
-      at (inr d) = inr (subst (λ (carrier : TransportType). IsBroughtIn carrier Did to (b ∷ bs) now s) (sym over) d)
+      at (inr d) = inr (subst (λ (carrier : TransportType). IsBroughtIn carrier Did to piece now s) (sym over) d)
 
-      by : (o : Option State) → before_others to (b ∷ bs) now s ≡ o → IsSomeAnd o (λ u. EndsAfterTurns now u t) → P s ⊎ IsBroughtIn s.transport Did to (b ∷ bs) now s
+      by : (o : Option State) → before_others to piece now s ≡ o → IsSomeAnd o (λ u. EndsAfterTurns now u t) → P s ⊎ IsBroughtIn s.transport Did to piece now s
       by None e none = absurd none
-      by (Some u) e end = at (others_end-brings to (b ∷ bs) now s u t e end h)
+      by (Some u) e end = at (others_end-brings to piece now s u t e end h)
 
   pub memory-brings : (call : Call) (s t : State) → EndsWithoutMemory call s t → P t → P s ⊎ IsBroughtBy Did call s
   memory-brings (Delete now) s t e h = inl (subst P e h)

@@ -1,5 +1,5 @@
 -- The streams stay apart, whether or not a call finds memory.
-use Rattle.std.proofs.Common.{◌≡◌, ◌≢◌, ℕ, List, [], ◌∷◌, Option, Some, None, refl, subst, sym, inl, inr}
+use Rattle.std.proofs.Common.{◌≡◌, ◌≢◌, ℕ, List, Option, Some, None, refl, subst, sym, inl, inr}
 use Rattle.std.specs.Prelude.{IsSomeAnd, find}
 use Rattle.std.specs.declared.net.socket_addr.SocketAddr.{SocketAddr}
 use Rattle.turn_agent.specs.Agent.{same_address}
@@ -47,13 +47,12 @@ before-apart to piece now s u (stream, f, inl (mode, e)) h =
 before-apart to piece now s u (stream, f, inr e) h = equal-apart s s u e (λ k. k) h
 
 recv_end-apart : (to : SocketAddr) (piece : List ℕ) (now : ℕ) (s t : State) → RecvEnds to piece now s t → StayApart s t
-recv_end-apart to [] now s t e h = equal-apart s _ t e (broken_at-apart to s) h
-recv_end-apart to (b ∷ bs) now s t (inl e) h = equal-apart s _ t e (broken_at-apart to s) h
-recv_end-apart to (b ∷ bs) now s t (inr (over, later)) h = by (before_others to (b ∷ bs) now s) refl later
+recv_end-apart to piece now s t (inl e) h = equal-apart s _ t e (broken_at-apart to s) h
+recv_end-apart to piece now s t (inr (over, some, later)) h = by (before_others to piece now s) refl later
   where
-    by : (o : Option State) → before_others to (b ∷ bs) now s ≡ o → IsSomeAnd o (λ u. EndsAfterTurns now u t) → AreApart t
+    by : (o : Option State) → before_others to piece now s ≡ o → IsSomeAnd o (λ u. EndsAfterTurns now u t) → AreApart t
     by None e none = absurd none
-    by (Some u) e end = turns_end-apart now u t end (before-apart to (b ∷ bs) now s u (before-IsBehind to (b ∷ bs) now s u e) h)
+    by (Some u) e end = turns_end-apart now u t end (before-apart to piece now s u (before-IsBehind to piece now s u e) h)
 
 memory-apart : (call : Call) (s t : State) → EndsWithoutMemory call s t → StayApart s t
 memory-apart (Delete now) s t e = equal-apart s s t e (λ h. h)

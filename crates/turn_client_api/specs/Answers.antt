@@ -1,5 +1,5 @@
 -- What the answers of a client say of a step of the machine.
-use Rattle.std.specs.Prelude.{◌≡◌, ◌⊎◌, ℕ, ◌==◌, Bool, true, false, not, ◌&&◌, ◌||◌, List, [], find, nat_lt, length, drop, slice_get, option_and_then, Option, Some, None, Result, Ok, Err, IsSomeAnd, if◌then◌else◌, ⊤}
+use Rattle.std.specs.Prelude.{◌≡◌, ◌≢◌, ◌⊎◌, ℕ, ◌==◌, Bool, true, false, not, ◌&&◌, ◌||◌, List, [], find, nat_lt, length, drop, slice_get, option_and_then, Option, Some, None, Result, Ok, Err, IsSomeAnd, if◌then◌else◌, ⊤}
 use Rattle.std.specs.declared.convert.AsSlice.{Ghosts}
 use Rattle.std.specs.declared.ops.Range.{Range}
 use Rattle.std.specs.declared.net.socket_addr.SocketAddr.{SocketAddr}
@@ -136,10 +136,9 @@ before_others to piece now s = option_and_then (λ stream. by stream stream.mode
 -- There was none for what came or for its first frame, or over TCP for what other streams hold. An empty
 -- piece sets no stream going: there was none for the close that it notes.
 abbrev pub RecvEnds : SocketAddr → List ℕ → ℕ → State → State → Type 0
-RecvEnds to [] now was s = s ≡ closed (broken_at to was)
 RecvEnds to piece now was s =
     (s ≡ closed (broken_at to was))
-    ⊎ ((was.transport ≡ Tcp) × IsSomeAnd (before_others to piece now was) (λ t. EndsAfterTurns now t s))
+    ⊎ ((was.transport ≡ Tcp) × (piece ≢ []) × IsSomeAnd (before_others to piece now was) (λ t. EndsAfterTurns now t s))
 
 -- DATA indications and channel frames take no memory over UDP, nor bytes of a bound connection where
 -- nothing waits in its stream; that such a connection has ended is noted, which may take some

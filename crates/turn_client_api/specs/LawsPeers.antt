@@ -1,5 +1,5 @@
 -- From which peers something comes (RFC 8656, sections 11.6 and 12.6; RFC 6062, section 4.3).
-use Rattle.std.specs.Prelude.{◌≡◌, ◌⊎◌, ℕ, true, List, ◌++◌, take, Some, None, ⊤}
+use Rattle.std.specs.Prelude.{◌≡◌, ◌⊎◌, ℕ, true, List, ◌++◌, take, Option, Some, None, ⊤}
 use Rattle.std.specs.List.{Contains}
 use Rattle.std.specs.Net.Socket.{socket_ip}
 use Rattle.std.specs.declared.net.ip_addr.IpAddr.{IpAddr}
@@ -12,6 +12,7 @@ use Rattle.turn_client_api.specs.Judgement.{last_peer_in}
 use Rattle.turn_client_api.specs.Answers.{before_others, is_data_indication}
 use Rattle.turn_client_api.specs.Payloads.{Payload, Outcome, Handled, Ignored, PeerData, PeerIcmp}
 use Rattle.turn_client_api.specs.Streams.{stream_at, turns}
+use Rattle.turn_client_api.specs.Handled.{Turn, made_of}
 
 -- the IP address has an active permission
 abbrev pub HasPermission : IpAddr → State → Type 0
@@ -84,3 +85,11 @@ IsReceived to piece now s Ignored = ⊤
 abbrev pub IsTaken : TransportType → SocketAddr → List ℕ → ℕ → State → Outcome → Type 0
 IsTaken Udp to bytes now s outcome = IsLetThrough bytes s outcome
 IsTaken Tcp to bytes now s outcome = IsReceived to bytes now s outcome
+
+-- what a call handles gives only what the state lets in that stands when its turn comes
+abbrev pub IsLetInTurn : Turn → Type 0
+IsLetInTurn t = by t.stream
+  where
+    by : Option Stream → Type 0
+    by None = IsLetThrough t.bytes t.before (made_of t).0
+    by (Some stream) = IsLetIn stream.mode t.bytes t.before (made_of t).0

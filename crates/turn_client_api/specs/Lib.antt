@@ -9,6 +9,7 @@ pub mod Delayed
 pub mod Due
 pub mod Effect
 pub mod Grants
+pub mod Handled
 pub mod Judgement
 pub mod LawsGranted
 pub mod LawsHoused

@@ -1,5 +1,5 @@
 -- What a client makes of what comes in (RFC 8656, section 11.6; over TCP RFC 6062).
-use Rattle.std.specs.Prelude.{ℕ, Bool, ◌&&◌, if◌then◌else◌, List, [], ◌∷◌, ◌++◌, length, Option, Some, None, is_some}
+use Rattle.std.specs.Prelude.{ℕ, Bool, ◌&&◌, if◌then◌else◌, List, [], ◌∷◌, ◌++◌, Option, Some, None, is_some}
 use Rattle.std.specs.declared.ops.Range.{Range}
 use Rattle.std.specs.declared.net.socket_addr.SocketAddr.{SocketAddr}
 use Rattle.turn_stun.specs.declared.transport.TransportType.{TransportType}
@@ -10,7 +10,7 @@ use Rattle.turn_client_api.specs.State.{State, Mode, Control, Waiting, Bound, Br
 use Rattle.turn_client_api.specs.Grants.{is_connection_from, same_transport, without}
 use Rattle.turn_client_api.specs.Connections.{connection_at}
 use Rattle.turn_client_api.specs.Payloads.{Outcome, Handled, Ignored, PeerData, PeerIcmp, datagram_step}
-use Rattle.turn_client_api.specs.Streams.{owned, poll_recv_step, sent_by, stream_at, turn, with_bytes, without_stream}
+use Rattle.turn_client_api.specs.Streams.{all_of, owned, poll_recv_step, sent_by, stream_at, turn, with_bytes, without_stream}
 
 -- ---- a data connection ends
 
@@ -29,7 +29,7 @@ tcp_closed_step local remote s =
 
 -- all of the piece, where nothing waited in the stream
 abbrev pub whole_piece : List ℕ → List ℕ → Option (Range ℕ)
-whole_piece [] piece = Some (record { start = 0; end = length piece })
+whole_piece [] piece = all_of piece
 whole_piece waited piece = None
 
 -- a frame that stood in the piece alone is a part of it, and one that waited is owned

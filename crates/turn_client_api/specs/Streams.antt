@@ -55,14 +55,19 @@ waiting_frame_step local frame now s =
 abbrev pub sent_by : SocketAddr → List ℕ → Option (Range ℕ) → Payload
 sent_by peer bytes place = record { transport = Tcp; peer = peer; bytes = bytes; place = place }
 
--- what is made of one whole frame of a stream, or of the bytes of a bound one
+-- all of these bytes
+abbrev pub all_of : List ℕ → Option (Range ℕ)
+all_of bytes = Some (record { start = 0; end = length bytes })
+
+-- what is made of one whole frame of a stream, or of the bytes of a bound one; a payload has its place in
+-- these bytes
 abbrev pub frame_step : Stream → List ℕ → ℕ → State → Outcome × State
 frame_step stream frame now s = by stream.mode
   where
     by : Mode → Outcome × State
     by Control = control_frame_step frame now s
     by Waiting = waiting_frame_step stream.local frame now s
-    by (Bound peer) = (PeerData (sent_by peer frame None), s)
+    by (Bound peer) = (PeerData (sent_by peer frame (all_of frame)), s)
     by Broken = (Handled, s)
 
 -- ---- the turn of a stream

@@ -7,6 +7,7 @@ mod ids;
 mod lapses;
 mod numbers;
 mod order;
+mod payloads;
 mod peers;
 mod pieces;
 mod replied;
@@ -24,6 +25,7 @@ pub use ids::drawn_ids_are_free;
 pub use lapses::grants_lapse;
 pub use numbers::numbers_are_distinct;
 pub use order::clients_stay_in_order;
+pub use payloads::payloads_are_answered;
 pub use peers::only_let_in;
 pub use pieces::{connections_are_bound, datagrams_are_judged, pieces_are_cut};
 pub use replied::{

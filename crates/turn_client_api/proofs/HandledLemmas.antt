@@ -1,0 +1,178 @@
+-- What a call answers of peers are the payloads of what it handles.
+use Rattle.std.proofs.Common.{◌≡◌, ℕ, zero, suc, Bool, true, false, cond, List, [], ◌∷◌, ◌++◌, take, Option, Some, None, refl, sym, ap, ◌∙◌}
+use Rattle.std.specs.Prelude.{find, option_to_list}
+use Rattle.std.specs.List.{cons_option}
+use Rattle.std.specs.Option.{option_map_or}
+use Rattle.std.proofs.lemmas.List.Elements.{filter_map-append}
+use Rattle.std.specs.declared.net.socket_addr.SocketAddr.{SocketAddr}
+use Rattle.turn_stun.specs.declared.transport.TransportType.{TransportType}
+use Rattle.turn_stun.specs.declared.transport.TransportType.TheVariants.{Udp, Tcp}
+use Rattle.turn_types.specs.Frames.{begins_no_frame, frame_len}
+use Rattle.turn_agent.specs.Agent.{same_address}
+use Rattle.turn_client_api.specs.State.{State, Mode, Control, Waiting, Bound, Broken, Stream}
+use Rattle.turn_client_api.specs.Payloads.{Payload, Outcome, Handled, Ignored, PeerData, PeerIcmp, datagram_step}
+use Rattle.turn_client_api.specs.Streams.{broken_at, framed_by, framed_turn, go_on, is_ready, most_turns, owned, payload_in, poll_recv_step, stream_at, turn, turn_of_first, turned, turns, with_bytes}
+use Rattle.turn_client_api.specs.Receive.{first_turn, is_from_server, piece_step, place_kept, recv_step, stream_step, then_all}
+use Rattle.turn_client_api.specs.Steps.{Recv}
+use Rattle.turn_client_api.specs.Handled.{Turn, fed, fed_taken, frame_taken, framed_taken, handled, is_front, payload_at, payloads, piece_turns, poll_recv_turns, recv_turns, stream_turns, taken, taken_first, taken_in, then_taken, turn_of, turns_taken, unless_given}
+use Rattle.turn_client_api.specs.LawsPeers.{IsLetInTurn}
+use Rattle.turn_client_api.proofs.PeerLemmas.{datagram-IsLetThrough, frame-IsLetIn}
+
+-- these turns give what the outcome has, and no more
+abbrev AreOf : List Turn → Outcome → Type 0
+AreOf turns o = payloads turns ≡ option_to_list (payload_in o)
+
+one-AreOf : (t : Turn) → payloads (t ∷ []) ≡ option_to_list (payload_at t)
+one-AreOf t = by (payload_at t)
+  where
+    by : (o : Option Payload) → cons_option o [] ≡ option_to_list o
+    by None = refl
+    by (Some payload) = refl
+
+payloads-append : (front later : List Turn) → payloads (front ++ later) ≡ payloads front ++ payloads later
+payloads-append front later = filter_map-append payload_at front later
+
+-- ---- the turn of a stream
+
+abbrev given : Bool → Outcome → Outcome
+given is_lent o = cond is_lent o (owned o)
+
+handled-AreOf : (is_lent : Bool) → AreOf [] (given is_lent Handled)
+handled-AreOf true = refl
+handled-AreOf false = refl
+
+frame-AreOf : (is_lent : Bool) (stream : Stream) (now : ℕ) (t : State) (o : Option ℕ) → AreOf (frame_taken is_lent stream now t o) (given is_lent (framed_by stream now t o).0)
+frame-AreOf is_lent stream now t None = handled-AreOf is_lent
+frame-AreOf is_lent stream now t (Some len) = one-AreOf (turn_of is_lent stream (take len stream.bytes) now t)
+
+framed-AreOf : (is_lent : Bool) (stream : Stream) (now : ℕ) (t : State) → AreOf (framed_taken is_lent stream now t) (given is_lent (framed_turn stream now t).0)
+framed-AreOf is_lent stream now t = by (begins_no_frame stream.bytes) (frame_len stream.bytes)
+  where
+    by : (b : Bool) (o : Option ℕ) → AreOf (cond b [] (frame_taken is_lent stream now t o)) (given is_lent (cond {A = Outcome × State} b (Handled, broken_at stream.local t) (framed_by stream now t o)).0)
+    by true o = handled-AreOf is_lent
+    by false o = frame-AreOf is_lent stream now t o
+
+turned_in_mode : (m : Mode) (stream : Stream) (now : ℕ) (t : State) → AreOf (taken_in false (record stream { mode = m }) now t) (owned (turned (record stream { mode = m }) now t).0)
+turned_in_mode Control stream now t = framed-AreOf false (record stream { mode = Control }) now t
+turned_in_mode Waiting stream now t = framed-AreOf false (record stream { mode = Waiting }) now t
+turned_in_mode (Bound peer) stream now t = refl
+turned_in_mode Broken stream now t = refl
+
+turn-AreOf : (stream : Stream) (now : ℕ) (s : State) → AreOf (taken false stream now s) (owned (turn stream now s).0)
+turn-AreOf stream now s = turned_in_mode stream.mode stream now (with_bytes stream.local [] s)
+
+-- ---- all streams
+
+-- what turns give, up to a payload
+abbrev Gives : List Turn → Option Payload × State → Type 0
+Gives turns p = payloads turns ≡ option_to_list p.0
+
+go_on-Gives : (next : State → Option Payload × State) (later : State → List Turn) (front : List Turn) (p : Outcome × State) → AreOf front (owned p.0) → ((t : State) → Gives (later t) (next t)) → Gives (front ++ unless_given (payload_in p.0) (later p.1)) (go_on next p)
+go_on-Gives next later front (PeerData payload, t) first more = payloads-append front [] ∙ ap (λ ps. ps ++ []) first
+go_on-Gives next later front (Handled, t) first more = payloads-append front (later t) ∙ (ap (λ ps. ps ++ payloads (later t)) first ∙ more t)
+go_on-Gives next later front (Ignored, t) first more = payloads-append front (later t) ∙ (ap (λ ps. ps ++ payloads (later t)) first ∙ more t)
+go_on-Gives next later front (PeerIcmp transport peer icmp, t) first more = payloads-append front (later t) ∙ (ap (λ ps. ps ++ payloads (later t)) first ∙ more t)
+
+turns-Gives : (n now : ℕ) (s : State) → Gives (turns_taken n now s) (turns n now s)
+unfolding turns turns_taken
+turns-Gives zero now s = refl
+turns-Gives (suc n) now s = by (find is_ready s.streams) (λ t. turns-Gives n now t)
+  where
+    by : (o : Option Stream) → ((t : State) → Gives (turns_taken n now t) (turns n now t)) → Gives (taken_first (turns_taken n now) now s o) (turn_of_first (turns n now) now s o)
+    by None more = refl
+    by (Some stream) more = go_on-Gives (turns n now) (turns_taken n now) (taken false stream now s) (turn stream now s) (turn-AreOf stream now s) more
+
+pub poll_recv-Gives : (now : ℕ) (s : State) → payloads (poll_recv_turns now s) ≡ option_to_list (poll_recv_step now s).0
+poll_recv-Gives now s = turns-Gives (most_turns s) now s
+
+-- ---- a piece of a stream
+
+-- a payload replaces the answer
+others-AreOf : (now : ℕ) (t : State) (o : Outcome) → payload_in o ≡ None → AreOf (poll_recv_turns now t) (option_map_or PeerData (poll_recv_step now t).0 o)
+others-AreOf now t o none = poll_recv-Gives now t ∙ by (poll_recv_step now t).0
+  where
+    by : (p : Option Payload) → option_to_list p ≡ option_to_list (payload_in (option_map_or PeerData p o))
+    by None = ap option_to_list (sym none)
+    by (Some payload) = refl
+
+then_all-AreOf : (now : ℕ) (front : List Turn) (p : Outcome × State) → AreOf front p.0 → AreOf (front ++ then_taken now p) (then_all now p).0
+then_all-AreOf now front (PeerData payload, t) first = payloads-append front [] ∙ ap (λ ps. ps ++ []) first
+then_all-AreOf now front (PeerIcmp transport peer icmp, t) first = payloads-append front [] ∙ ap (λ ps. ps ++ []) first
+then_all-AreOf now front (Handled, t) first =
+    payloads-append front (poll_recv_turns now t) ∙ (ap (λ ps. ps ++ payloads (poll_recv_turns now t)) first ∙ others-AreOf now t Handled refl)
+then_all-AreOf now front (Ignored, t) first =
+    payloads-append front (poll_recv_turns now t) ∙ (ap (λ ps. ps ++ payloads (poll_recv_turns now t)) first ∙ others-AreOf now t Ignored refl)
+
+kept-given : (waited : List ℕ) (o : Outcome) → given (is_front waited) o ≡ place_kept waited o
+kept-given [] o = refl
+kept-given (b ∷ bs) o = refl
+
+framed-fed : (stream : Stream) (piece : List ℕ) (now : ℕ) (t : State) → AreOf (framed_taken (is_front stream.bytes) (fed stream piece) now t) (place_kept stream.bytes (framed_turn (fed stream piece) now t).0)
+framed-fed stream piece now t =
+    framed-AreOf (is_front stream.bytes) (fed stream piece) now t
+    ∙ ap (λ o. option_to_list (payload_in o)) (kept-given stream.bytes (framed_turn (fed stream piece) now t).0)
+
+bound-AreOf : (peer : SocketAddr) (waited piece : List ℕ) (stream : Stream) (now : ℕ) (s : State) → AreOf (piece_turns (record stream { mode = Bound peer; bytes = waited }) piece now s) (piece_step (record stream { mode = Bound peer; bytes = waited }) piece now s).0
+bound-AreOf peer [] piece stream now s = refl
+bound-AreOf peer (b ∷ bs) piece stream now s = refl
+
+piece_in_mode : (m : Mode) (stream : Stream) (piece : List ℕ) (now : ℕ) (s : State) → AreOf (piece_turns (record stream { mode = m }) piece now s) (piece_step (record stream { mode = m }) piece now s).0
+piece_in_mode Control stream piece now s =
+    let u = record stream { mode = Control } in
+    then_all-AreOf now (fed_taken u piece now s) (first_turn u piece now s) (framed-fed u piece now (with_bytes stream.local [] s))
+piece_in_mode Waiting stream piece now s = framed-fed (record stream { mode = Waiting }) piece now (with_bytes stream.local [] s)
+piece_in_mode (Bound peer) stream piece now s = bound-AreOf peer stream.bytes piece stream now s
+piece_in_mode Broken stream piece now s = by (same_address stream.local s.local)
+  where
+    by : (b : Bool) → AreOf (cond b (poll_recv_turns now s) []) (cond {A = Outcome × State} b (then_all now (Handled, s)) (Handled, s)).0
+    by true = others-AreOf now s Handled refl
+    by false = refl
+
+stream-AreOf : (stream : Stream) (piece : List ℕ) (now : ℕ) (s : State) → AreOf (stream_turns stream piece now s) (stream_step stream piece now s).0
+stream-AreOf stream [] now s = refl
+stream-AreOf stream (b ∷ bs) now s = piece_in_mode stream.mode stream (b ∷ bs) now s
+
+-- ---- what comes in
+
+recv_over : (carrier : TransportType) (transport : TransportType) (from to : SocketAddr) (bytes : List ℕ) (now : ℕ) (s : State) → AreOf (recv_turns transport from to bytes now (record s { transport = carrier })) (recv_step transport from to bytes now (record s { transport = carrier })).0
+recv_over Udp transport from to bytes now s = by (is_from_server transport from u) (same_address to s.local)
+  where
+    u : State
+    u = record s { transport = Udp }
+
+    one : Turn
+    one = record { stream = None; bytes = bytes; is_lent = true; moment = now; before = u }
+
+    by : (b c : Bool) → AreOf (cond b (cond c (one ∷ []) []) []) (cond {A = Outcome × State} b (cond {A = Outcome × State} c (datagram_step bytes now u) (Ignored, u)) (Ignored, u)).0
+    by true true = one-AreOf one
+    by true false = refl
+    by false c = refl
+recv_over Tcp transport from to bytes now s = by (is_from_server transport from u) (stream_at to s)
+  where
+    u : State
+    u = record s { transport = Tcp }
+
+    by_stream : Option Stream → Outcome × State
+    by_stream None = (Ignored, u)
+    by_stream (Some stream) = stream_step stream bytes now u
+
+    turns_by : Option Stream → List Turn
+    turns_by None = []
+    turns_by (Some stream) = stream_turns stream bytes now u
+
+    by : (b : Bool) (o : Option Stream) → AreOf (cond b (turns_by o) []) (cond {A = Outcome × State} b (by_stream o) (Ignored, u)).0
+    by true (Some stream) = stream-AreOf stream bytes now u
+    by true None = refl
+    by false o = refl
+
+pub recv-AreOf : (transport : TransportType) (from to : SocketAddr) (bytes : List ℕ) (now : ℕ) (s : State) → payloads (handled (Recv transport from to bytes now) s) ≡ option_to_list (payload_in (recv_step transport from to bytes now s).0)
+recv-AreOf transport from to bytes now s = recv_over s.transport transport from to bytes now s
+
+-- ---- from whom it comes
+
+pub turn-IsLetIn : (t : Turn) → IsLetInTurn t
+turn-IsLetIn t = by t.stream t
+  where
+    by : (o : Option Stream) (t : Turn) → IsLetInTurn (record t { stream = o })
+    by None t = datagram-IsLetThrough t.bytes t.moment t.before
+    by (Some stream) t = frame-IsLetIn stream t.bytes t.moment t.before

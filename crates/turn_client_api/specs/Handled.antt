@@ -1,0 +1,141 @@
+-- What a call handles: whole datagrams, and whole frames of streams, each in the state that stands when
+-- its turn comes; and the payloads of peers among them (RFC 8656, sections 11.6 and 12.6; RFC 6062,
+-- section 4.3).
+use Rattle.std.specs.Prelude.{ℕ, zero, suc, Bool, true, false, if◌then◌else◌, List, [], ◌∷◌, ◌++◌, filter_map, find, take, Option, Some, None}
+use Rattle.std.specs.declared.net.socket_addr.SocketAddr.{SocketAddr}
+use Rattle.turn_stun.specs.declared.transport.TransportType.{TransportType}
+use Rattle.turn_stun.specs.declared.transport.TransportType.TheVariants.{Udp, Tcp}
+use Rattle.turn_types.specs.Frames.{begins_no_frame, frame_len}
+use Rattle.turn_agent.specs.Agent.{same_address}
+use Rattle.turn_client_api.specs.State.{State, Mode, Control, Waiting, Bound, Broken, Stream}
+use Rattle.turn_client_api.specs.Payloads.{Payload, Outcome, PeerData, PeerIcmp, datagram_step}
+use Rattle.turn_client_api.specs.Streams.{frame_step, is_ready, most_turns, owned, payload_in, stream_at, turn, with_bytes}
+use Rattle.turn_client_api.specs.Receive.{first_turn, is_from_server}
+use Rattle.turn_client_api.specs.Steps.{Call, Recv, PollRecv}
+
+-- a datagram, or a frame of a stream that is taken out
+pub record Turn : Type 0 where
+  -- the stream with its mode as it is now, or none where this is a datagram
+  pub stream : Option Stream
+  pub bytes : List ℕ
+  -- what the caller handed in begins with these bytes
+  pub is_lent : Bool
+  pub moment : ℕ
+  -- the state just before
+  pub before : State
+
+-- what is made of it, and the state just after
+abbrev pub made_of : Turn → Outcome × State
+made_of t = by t.stream
+  where
+    by : Option Stream → Outcome × State
+    by None = datagram_step t.bytes t.moment t.before
+    by (Some stream) = frame_step stream t.bytes t.moment t.before
+
+-- what it gives to the caller: a part of what the caller handed in, or owned
+abbrev pub payload_at : Turn → Option Payload
+payload_at t = payload_in (if t.is_lent then (made_of t).0 else owned (made_of t).0)
+
+-- what peers sent, in order
+abbrev pub payloads : List Turn → List Payload
+payloads turns = filter_map payload_at turns
+
+-- ---- the turn of a stream
+
+abbrev pub turn_of : Bool → Stream → List ℕ → ℕ → State → Turn
+turn_of is_lent stream bytes now t =
+    record { stream = Some stream; bytes = bytes; is_lent = is_lent; moment = now; before = t }
+
+-- the frame in front has so many bytes, or the stream waits for more
+abbrev pub frame_taken : Bool → Stream → ℕ → State → Option ℕ → List Turn
+frame_taken is_lent stream now t None = []
+frame_taken is_lent stream now t (Some len) = turn_of is_lent stream (take len stream.bytes) now t ∷ []
+
+abbrev pub framed_taken : Bool → Stream → ℕ → State → List Turn
+framed_taken is_lent stream now t =
+    if begins_no_frame stream.bytes then [] else frame_taken is_lent stream now t (frame_len stream.bytes)
+
+-- a frame, or all bytes of a bound stream; the stream is taken out: in this state it holds nothing
+abbrev pub taken_in : Bool → Stream → ℕ → State → List Turn
+taken_in is_lent stream now t = by stream.mode
+  where
+    by : Mode → List Turn
+    by Control = framed_taken is_lent stream now t
+    by Waiting = framed_taken is_lent stream now t
+    by (Bound peer) = turn_of is_lent stream stream.bytes now t ∷ []
+    by Broken = []
+
+abbrev pub taken : Bool → Stream → ℕ → State → List Turn
+taken is_lent stream now s = taken_in is_lent stream now (with_bytes stream.local [] s)
+
+-- ---- all streams
+
+-- up to a payload
+abbrev pub unless_given : Option Payload → List Turn → List Turn
+unless_given (Some payload) later = []
+unless_given None later = later
+
+abbrev pub taken_first : (State → List Turn) → ℕ → State → Option Stream → List Turn
+taken_first next now s None = []
+taken_first next now s (Some stream) =
+    taken false stream now s ++ unless_given (payload_in (turn stream now s).0) (next (turn stream now s).1)
+
+unfoldable pub turns_taken : ℕ → ℕ → State → List Turn
+turns_taken zero now s = []
+turns_taken (suc n) now s = taken_first (turns_taken n now) now s (find is_ready s.streams)
+
+abbrev pub poll_recv_turns : ℕ → State → List Turn
+poll_recv_turns now s = turns_taken (most_turns s) now s
+
+-- ---- a piece of a stream
+
+-- without a payload or an ICMP report, all streams have their turns
+abbrev pub then_taken : ℕ → Outcome × State → List Turn
+then_taken now (PeerData payload, s) = []
+then_taken now (PeerIcmp transport peer icmp, s) = []
+then_taken now (_, s) = poll_recv_turns now s
+
+-- where nothing waits in a stream, what comes is in front
+abbrev pub is_front : List ℕ → Bool
+is_front [] = true
+is_front waited = false
+
+-- the piece comes after what waits
+abbrev pub fed : Stream → List ℕ → Stream
+fed stream piece = record stream { bytes = stream.bytes ++ piece }
+
+abbrev pub fed_taken : Stream → List ℕ → ℕ → State → List Turn
+fed_taken stream piece now s = taken (is_front stream.bytes) (fed stream piece) now s
+
+abbrev pub piece_turns : Stream → List ℕ → ℕ → State → List Turn
+piece_turns stream piece now s = by stream.mode
+  where
+    by : Mode → List Turn
+    by Control = fed_taken stream piece now s ++ then_taken now (first_turn stream piece now s)
+    by Waiting = fed_taken stream piece now s
+    by (Bound peer) = fed_taken stream piece now s
+    by Broken = if same_address stream.local s.local then poll_recv_turns now s else []
+
+-- an empty piece handles nothing
+abbrev pub stream_turns : Stream → List ℕ → ℕ → State → List Turn
+stream_turns stream [] now s = []
+stream_turns stream piece now s = piece_turns stream piece now s
+
+-- ---- a call
+
+abbrev pub datagram_turn : List ℕ → ℕ → State → Turn
+datagram_turn bytes now s = record { stream = None; bytes = bytes; is_lent = true; moment = now; before = s }
+
+abbrev pub recv_turns : TransportType → SocketAddr → SocketAddr → List ℕ → ℕ → State → List Turn
+recv_turns transport from to bytes now s = if is_from_server transport from s then by s.transport (stream_at to s) else []
+  where
+    by : TransportType → Option Stream → List Turn
+    by Udp _ = if same_address to s.local then datagram_turn bytes now s ∷ [] else []
+    by Tcp (Some stream) = stream_turns stream bytes now s
+    by Tcp None = []
+
+-- all that a call handles, in order
+abbrev pub handled : Call → State → List Turn
+handled (Recv transport from to bytes now) s = recv_turns transport from to bytes now s
+handled (PollRecv now) s = poll_recv_turns now s
+handled _ s = []
