@@ -17,7 +17,7 @@ use Rattle.turn_client_api.specs.Grants.{allocation_for, allocations, connection
 use Rattle.turn_client_api.specs.Requests.{fresh_id}
 use Rattle.turn_client_api.specs.Effect.{closed, ended}
 use Rattle.turn_client_api.specs.Connections.{connection_at, is_connected, is_connecting}
-use Rattle.turn_client_api.specs.Calls.{active_channel, allocated_tcp_socket_step, bind_channel_step, bound_to, channel_step, channels_to, connect_step, create_permission_step, delete_step, free_number, has_permission, in_allocation, is_allocated, is_closed, is_control, is_in_progress, is_local_taken, offer_origin, on_channel, on_connection, permission_step, protocol_error_step, reserved_from, send_over, send_to_step, socket_opened, socket_refused, socket_step, tcp_connect_step}
+use Rattle.turn_client_api.specs.Calls.{bound_by, active_channel, allocated_tcp_socket_step, bind_channel_step, bound_to, channel_step, channels_to, connect_step, create_permission_step, delete_step, free_number, has_permission, in_allocation, is_allocated, is_closed, is_control, is_in_progress, is_local_taken, offer_origin, on_channel, on_connection, permission_step, protocol_error_step, reserved_from, send_over, send_to_step, socket_opened, socket_refused, socket_step, tcp_connect_step}
 use Rattle.turn_client_api.specs.declared.poll.Socket5Tuple.{Socket5Tuple}
 use Rattle.turn_client_api.specs.declared.error.BindChannelError.TheVariants as Bind
 use Rattle.turn_client_api.specs.Due.{has_event, has_reply, is_paused}
@@ -29,7 +29,6 @@ use Rattle.turn_client_api.specs.Transmit as T
 use Rattle.turn_client_api.specs.LawsReplies.{IsDrawn}
 use Rattle.turn_client_api.specs.LawsTurns.{IsBroughtBy}
 use Rattle.turn_client_api.specs.Steps.{Call, Leaves, state_after, Delete, CreatePermission, BindChannel, TcpConnect, AllocatedTcpSocket, TcpClosed, SendTo, Recv, PollRecv, Poll, PollTransmit, PollEvent, RelayedAddresses, Permissions, HavePermission, ProtocolError}
-use Rattle.turn_client_api.proofs.CallKeepLemmas.{bound_by}
 use Rattle.turn_client_api.proofs.DrawLemmas.{AsksNothing, Draws, IsOneOf, asks-cond, asks-fold, bind-draws, draws-more, draws-nothing, draws-same, message-draws, outstanding-resent, outstanding-without}
 use Rattle.turn_client_api.proofs.MemoryLemmas.{memory-brings}
 use Rattle.turn_client_api.proofs.TurnLemmas.{IsBringing, poll_recv-brings, recv-brings}
@@ -99,7 +98,6 @@ tcp_closed-asks local remote s = asks-cond (same_transport s.transport Tcp && sa
 -- ---- what the caller asks for
 
 bound_by-draws : (id : ℕ) (peer : SocketAddr) (now : ℕ) (s : State) (l : List ℕ) (b : Bool) (o : Option ℕ) → Draws id s (bound_by peer now s l b o).1
-unfolding bound_by
 bound_by-draws id peer now s (until ∷ others) b o = draws-same id s
 bound_by-draws id peer now s [] false o = draws-same id s
 bound_by-draws id peer now s [] true None = draws-same id s
@@ -129,7 +127,6 @@ module _ (id : ℕ) where
       (either (is_some (permission_for ip s)) s _ _ (draws-same id s) (either (not (is_allocated s.phase)) s _ _ (draws-same id s) (draws-more id s _ refl)))
 
   channel-draws : (peer : SocketAddr) (now : ℕ) (s : State) → Draws id s (channel_step peer now s).1
-  unfolding bound_by
   channel-draws peer now s =
       either (list_any is_in_progress (channels_to peer s)) s (Err Bind.AlreadyExists, s)
       (bound_by peer now s (filter_map (reserved_from now) (channels_to peer s)) (is_allocated s.phase) (free_number s)) (draws-same id s)

@@ -1,5 +1,5 @@
 -- What the calls keep: that the client has ended, how many challenges were answered, realm and algorithm.
-use Rattle.std.proofs.Common.{◌≡◌, ℕ, Bool, true, false, not, cond, leb, ◌&&◌, ◌||◌, List, [], ◌∷◌, Option, Some, None, Result, Ok, Err, refl, arith}
+use Rattle.std.proofs.Common.{◌≡◌, ℕ, Bool, true, false, not, cond, leb, ◌&&◌, ◌||◌, List, [], ◌∷◌, Option, Some, None, Result, Err, refl, arith}
 use Rattle.std.specs.Prelude.{is_some, find, reverse, filter_map, flat_map, slice_get}
 use Rattle.std.specs.List.{list_any}
 use Rattle.std.specs.Option.{option_map_or}
@@ -16,11 +16,10 @@ use Rattle.turn_client_api.specs.State.{Grant, Allocation, Permission, Channel, 
 use Rattle.turn_client_api.specs.Grants.{allocation_for, allocations, connection_in, family_of, is_of, is_past, is_pending_channel, is_pending_permission, is_permitted, permission_for, same_transport}
 use Rattle.turn_client_api.specs.Effect.{closed, ended}
 use Rattle.turn_client_api.specs.Connections.{connection_at, is_connected, is_connecting}
-use Rattle.turn_client_api.specs.Calls.{active_channel, allocated_tcp_socket_step, bind_channel, bind_channel_step, bound_to, channel_step, channels_to, connect_step, create_permission_step, delete_step, free_number, has_permission, in_allocation, is_allocated, is_closed, is_control, is_in_progress, is_local_taken, offer_origin, on_channel, on_connection, permission_step, protocol_error_step, reserved_from, send_over, send_to_step, socket_opened, socket_refused, socket_step, tcp_connect_step}
+use Rattle.turn_client_api.specs.Calls.{bound_by, active_channel, allocated_tcp_socket_step, bind_channel_step, bound_to, channel_step, channels_to, connect_step, create_permission_step, delete_step, free_number, has_permission, in_allocation, is_allocated, is_closed, is_control, is_in_progress, is_local_taken, offer_origin, on_channel, on_connection, permission_step, protocol_error_step, reserved_from, send_over, send_to_step, socket_opened, socket_refused, socket_step, tcp_connect_step}
 use Rattle.turn_client_api.specs.declared.poll.Socket5Tuple.{Socket5Tuple}
 use Rattle.turn_client_api.specs.declared.poll.TurnPollRet.TheVariants as Do
 use Rattle.turn_client_api.specs.declared.event.TurnEvent.{TurnEvent}
-use Rattle.turn_client_api.specs.declared.error.BindChannelError.{BindChannelError}
 use Rattle.turn_client_api.specs.declared.error.BindChannelError.TheVariants as Bind
 use Rattle.turn_client_api.specs.Due.{has_event, has_reply, is_paused}
 use Rattle.turn_client_api.specs.Poll.{answer_step, channel_lapsed, given_up_step, given_up_purposes, goes, in_vain, is_lapsed_channel, is_listed_for_allocation, lapsed, lapsed_allocation, lapsed_in, next_offer, offer_step, poll_step, timed_step}
@@ -71,21 +70,13 @@ permission-keeps transport ip now s =
     allocation-keeps (allocation_for transport ip s) ip now _ s (permission_step ip now s)
     (either (is_some (permission_for ip s)) s _ _ (keeps-same s) (either (not (is_allocated s.phase)) s _ _ (keeps-same s) (keeps-same s)))
 
-unfoldable pub bound_by : SocketAddr → ℕ → State → List ℕ → Bool → Option ℕ → Result Unit BindChannelError × State
-bound_by peer now s (until ∷ others) _ _ = (Err (Bind.ExpiredChannelExists until), s)
-bound_by peer now s [] false _ = (Err Bind.NoAllocation, s)
-bound_by peer now s [] true None = (Err Bind.AlreadyExists, s)
-bound_by peer now s [] true (Some number) = (Ok tt, bind_channel number peer now s)
-
 bound_by-keeps : (peer : SocketAddr) (now : ℕ) (s : State) (l : List ℕ) (b : Bool) (o : Option ℕ) → Keeps s (bound_by peer now s l b o).1
-unfolding bound_by
 bound_by-keeps peer now s (until ∷ others) b o = keeps-same s
 bound_by-keeps peer now s [] false o = keeps-same s
 bound_by-keeps peer now s [] true None = keeps-same s
 bound_by-keeps peer now s [] true (Some number) = keeps-same s
 
 channel-keeps : (peer : SocketAddr) (now : ℕ) (s : State) → Keeps s (channel_step peer now s).1
-unfolding bound_by
 channel-keeps peer now s =
     either (list_any is_in_progress (channels_to peer s)) s (Err Bind.AlreadyExists, s)
     (bound_by peer now s (filter_map (reserved_from now) (channels_to peer s)) (is_allocated s.phase) (free_number s)) (keeps-same s)

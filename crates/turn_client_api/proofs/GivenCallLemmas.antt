@@ -1,5 +1,5 @@
 -- What the calls leave standing: without a message of the server nothing is granted.
-use Rattle.std.proofs.Common.{◌≡◌, ℕ, Bool, true, false, not, cond, leb, eqb, ◌&&◌, ◌||◌, List, [], ◌∷◌, ◌++◌, map, Option, Some, None, Result, Ok, Err, refl, inl, inr, arith}
+use Rattle.std.proofs.Common.{◌≡◌, ℕ, Bool, true, false, not, cond, leb, eqb, ◌&&◌, ◌||◌, List, [], ◌∷◌, ◌++◌, map, Option, Some, None, Result, Err, refl, inl, inr, arith}
 use Rattle.std.specs.Prelude.{is_some, find, filter_map}
 use Rattle.std.specs.List.{list_any}
 use Rattle.std.specs.Option.{option_map_or}
@@ -14,19 +14,17 @@ use Rattle.turn_auth.specs.LongTerm.{Challenge}
 use Rattle.turn_agent.specs.Agent.{same_address}
 use Rattle.turn_client_api.specs.State.{State, Phase, New, Requesting, Authenticating, Allocated, Closed}
 use Rattle.turn_client_api.specs.State.{Grant, Allocation, Permission, Channel, Connect, Offer, Connection, DataConnection, Relay, Pending, Origin, OwnConnect, ServerRequest, ServerIndication, Purpose, later_by}
-use Rattle.turn_client_api.specs.Grants.{allocation_for, connection_in, family_of_ip, is_of_family, is_past, is_permitted, permission_for, purposes_of, same_transport, with_expired, without}
+use Rattle.turn_client_api.specs.Grants.{changed_allocation, allocation_for, connection_in, family_of_ip, is_of_family, is_past, is_permitted, permission_for, purposes_of, same_transport, with_expired, without}
 use Rattle.turn_client_api.specs.Requests.{connection_bind_method}
 use Rattle.turn_client_api.specs.Judgement.{Judgement, Nothing, Challenged, Wrong, Late, PeerSent, Attempt, Asked, Granted, Denied, bind_judgement, is_bind_of, method_in}
-use Rattle.turn_client_api.specs.Connections.{bind_again, bind_answered, bind_step, connection_at, is_connected, is_connecting}
-use Rattle.turn_client_api.specs.Calls.{active_channel, allocated_tcp_socket_step, bind_channel, bind_channel_step, bound_to, channel_step, channels_to, connect_step, create_permission_step, free_number, has_permission, in_allocation, is_allocated, is_closed, is_control, is_in_progress, is_local_taken, is_offer_of, missing_permission, offer_origin, offer_taken, on_channel, on_connection, permission_step, protocol_error_step, reserved_from, send_over, send_to_step, socket_opened, socket_refused, socket_step, tcp_connect_step, without_first}
+use Rattle.turn_client_api.specs.Connections.{deadline_set, bind_again, bind_answered, bind_step, connection_at, is_connected, is_connecting}
+use Rattle.turn_client_api.specs.Calls.{bound_by, active_channel, allocated_tcp_socket_step, bind_channel_step, bound_to, channel_step, channels_to, connect_step, create_permission_step, free_number, has_permission, in_allocation, is_allocated, is_closed, is_control, is_in_progress, is_local_taken, is_offer_of, missing_permission, offer_origin, offer_taken, on_channel, on_connection, permission_step, protocol_error_step, reserved_from, send_over, send_to_step, socket_opened, socket_refused, socket_step, tcp_connect_step, without_first}
 use Rattle.turn_client_api.specs.Retry.{bind_time}
 use Rattle.turn_client_api.specs.declared.poll.Socket5Tuple.{Socket5Tuple}
-use Rattle.turn_client_api.specs.declared.error.BindChannelError.{BindChannelError}
 use Rattle.turn_client_api.specs.declared.error.BindChannelError.TheVariants as Bind
 use Rattle.turn_client_api.specs.Receive.{connection_gone, tcp_closed_step}
 use Rattle.turn_client_api.specs.LawsGranted.{IsStanding, IsKeptAs}
 use Rattle.turn_client_api.proofs.StandLemmas.{IsIdle, Leaves, Left, kept-same, leaves-cond, leaves-same, left-append, left-cons, left-filter, left-map, left-skip, left-trans, left-one, left-same}
-use Rattle.turn_client_api.proofs.GivenEffectLemmas.{changed_allocation}
 
 -- a pair by a test
 pub either : {A : Type 0} (b : Bool) (s : State) (x y : A × State) → Leaves s x.1 → Leaves s y.1 → Leaves s (cond b x y).1
@@ -42,10 +40,6 @@ pub without-leaves : (which : Grant → Bool) (s : State) → Leaves s (without 
 without-leaves which s = left-filter _ s.grants
 
 -- ---- data connections
-
-abbrev deadline_set : SocketAddr → Option ℕ → Grant → Grant
-deadline_set local deadline (Connection c) = cond (same_address c.local local) (Connection (record c { deadline = deadline })) (Connection c)
-deadline_set local deadline grant = grant
 
 deadline-kept : (local : SocketAddr) (deadline : Option ℕ) (g : Grant) → IsStanding (deadline_set local deadline g) → IsKeptAs g (deadline_set local deadline g)
 deadline-kept local deadline (Connection c) = by (same_address c.local local)
@@ -150,12 +144,6 @@ pending-left number peer ips grants = left-append grants (Channel number peer Pe
     by : IsIdle (Channel number peer Pending ∷ map (λ ip. Permission ip Pending) ips)
     by g (inl e) stands = absurd (rw e at stands)
     by g (inr there) stands = pending ips g there stands
-
-abbrev bound_by : SocketAddr → ℕ → State → List ℕ → Bool → Option ℕ → Result Unit BindChannelError × State
-bound_by peer now s (until ∷ others) _ _ = (Err (Bind.ExpiredChannelExists until), s)
-bound_by peer now s [] false _ = (Err Bind.NoAllocation, s)
-bound_by peer now s [] true None = (Err Bind.AlreadyExists, s)
-bound_by peer now s [] true (Some number) = (Ok tt, bind_channel number peer now s)
 
 bound_by-leaves : (peer : SocketAddr) (now : ℕ) (s : State) (l : List ℕ) (b : Bool) (o : Option ℕ) → Leaves s (bound_by peer now s l b o).1
 bound_by-leaves peer now s (until ∷ others) b o = leaves-same s

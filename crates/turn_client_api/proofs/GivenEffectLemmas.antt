@@ -8,10 +8,10 @@ use Rattle.std.specs.declared.net.ip_addr.IpAddr.TheVariants.{V4, V6}
 use Rattle.std.specs.declared.net.socket_addr.SocketAddr.{SocketAddr}
 use Rattle.std.proofs.lemmas.Bool.{eqb-true, leb-true}
 use Rattle.turn_types.specs.declared.family.AddressFamily.{AddressFamily}
-use Rattle.turn_client_api.specs.State.{State, Grant, Allocation, Permission, Channel, Connect, Offer, Connection, DataOffer, Relay, Progress, Pending, Active, Reserved, Purpose, ForAllocation, ForRefresh, ForPermission, ForChannel, ForConnect, ForBind, OwnConnect, later_by, seconds}
-use Rattle.turn_client_api.specs.Grants.{channel_at, first_in, is_channel_of, is_connect_to, is_of_family, is_permission_of, permission_for, purposes_of, same_ip, unlisted, with_grant, without}
+use Rattle.turn_client_api.specs.State.{State, Grant, Allocation, Permission, Channel, Connect, Offer, Connection, DataOffer, Progress, Pending, Active, Reserved, Purpose, ForAllocation, ForRefresh, ForPermission, ForChannel, ForConnect, ForBind, OwnConnect, later_by, seconds}
+use Rattle.turn_client_api.specs.Grants.{changed_allocation, channel_at, first_in, is_channel_of, is_connect_to, is_of_family, is_permission_of, permission_for, purposes_of, same_ip, unlisted, with_grant, without}
 use Rattle.turn_client_api.specs.Judgement.{connection_id_in, lifetime_in}
-use Rattle.turn_client_api.specs.Effect.{all_gone, allocation_mismatch, channel_answered, channel_lifetime, connect_answered, effect, has_code, heeded, lasting, least_lifetime, permission_answered, permission_answered_for, permission_lifetime, permission_refused_too, permissions_answered, prolonged, refreshed, reserved_time}
+use Rattle.turn_client_api.specs.Effect.{lasting_if, all_gone, allocation_mismatch, channel_answered, channel_lifetime, connect_answered, effect, has_code, heeded, least_lifetime, permission_answered, permission_answered_for, permission_lifetime, permission_refused_too, permissions_answered, prolonged, refreshed, reserved_time}
 use Rattle.turn_client_api.specs.LawsGranted.{IsStanding, IsKeptAs}
 use Rattle.turn_client_api.proofs.HasLemmas.{Has}
 use Rattle.turn_client_api.proofs.StandLemmas.{kept-same, left-filter}
@@ -20,14 +20,6 @@ use Rattle.turn_client_api.proofs.GivenLemmas.{IsGivenOf, Takes, gives-left, giv
 same_ip-same : (ip : IpAddr) → same_ip ip ip ≡ true
 same_ip-same (V4 a) = nat_list_eq_equiv.refl (ipv4_octets a)
 same_ip-same (V6 a) = nat_list_eq_equiv.refl (ipv6_segments a)
-
--- what a test lets pass is changed
-abbrev pub changed_allocation : (Relay → Bool) → (Relay → Relay) → Grant → Grant
-changed_allocation which change (Allocation a) = cond (which a) (Allocation (change a)) (Allocation a)
-changed_allocation which change grant = grant
-
-abbrev lasting_if : (Grant → Bool) → ℕ → Grant → Grant
-lasting_if which expiry grant = cond (which grant) (lasting expiry grant) grant
 
 -- a lifetime that is not 0
 eqb-positive : (n : ℕ) → eqb n 0 ≡ false → 1 ≤ n

@@ -8,7 +8,7 @@ use Rattle.turn_agent.specs.declared.transaction.Transaction.{Transaction}
 use Rattle.turn_client_api.specs.State.{State, Phase, New, Requesting, Authenticating, Allocated, Closed, agent_of}
 use Rattle.std.specs.declared.net.socket_addr.SocketAddr.{SocketAddr}
 use Rattle.turn_client_api.specs.State.{Grant, Allocation, Permission, Channel, Connect, Offer, Connection, Relay, Purpose, Pending, Active, Reserved, Stream, later_by}
-use Rattle.turn_client_api.specs.Grants.{allocations, family_of, is_channel_of, is_connect, is_of, is_pending_channel, is_pending_permission, without}
+use Rattle.turn_client_api.specs.Grants.{changed_allocation, allocations, family_of, is_channel_of, is_connect, is_of, is_pending_channel, is_pending_permission, without}
 use Rattle.turn_client_api.specs.Effect.{closed, ended, reserved_time}
 use Rattle.turn_client_api.specs.declared.error.DeleteError.{DeleteError}
 use Rattle.turn_client_api.specs.declared.error.DeleteError.TheVariants as No
@@ -26,7 +26,6 @@ use Rattle.turn_client_api.specs.Steps as S
 use Rattle.turn_client_api.proofs.HasLemmas.{Has, has-filter}
 use Rattle.turn_client_api.proofs.StandLemmas.{Covers, Leaves, Left, contains-has, covers-has, covers-left, covers-stood, has-contains, kept-same, leaves-cond, leaves-fold, leaves-same, leaves-trans, left-cons, left-filter, left-one, left-same, left-trans}
 use Rattle.turn_client_api.proofs.GivenLemmas.{has-mapped}
-use Rattle.turn_client_api.proofs.GivenEffectLemmas.{changed_allocation}
 use Rattle.turn_client_api.proofs.GivenMessageLemmas.{message-brings}
 use Rattle.turn_client_api.proofs.GivenCallLemmas.{bind-leaves, bind_channel-leaves, connect-leaves, either, error-leaves, found, gone-leaves, permission-leaves, send-leaves, tcp_closed-leaves, tcp_socket-leaves, without-leaves}
 use Rattle.turn_client_api.proofs.MemoryLemmas.{memory-brings}

@@ -13,7 +13,7 @@ use Rattle.turn_agent.specs.Agent.{same_address}
 use Rattle.turn_client_api.specs.State.{State}
 use Rattle.turn_client_api.specs.State.{Grant, Allocation, Permission, Channel, Connect, Offer, Connection, DataConnection, DataOffer, Relay, Pending, Origin, OwnConnect, ServerRequest, ServerIndication, Purpose, ForAllocation, ForRefresh, ForPermission, ForChannel, ForConnect, ForBind}
 use Rattle.turn_client_api.specs.Grants.{allocation_for, allocations, connection_in, family_of, family_of_grant, family_of_ip, is_for, is_past, is_permitted, permission_for, same_transport, with_grant, without}
-use Rattle.turn_client_api.specs.Calls.{active_channel, all_expired, allocated_tcp_socket_step, bind_channel, bind_channel_step, bound_to, channel_step, channels_to, connect_step, create_permission_step, delete_step, deleted, free_number, has_permission, in_allocation, is_allocated, is_closed, is_control, is_granted_in, is_in_progress, is_local_taken, is_offer_of, missing_permission, offer_origin, offer_taken, on_channel, on_connection, permission_step, protocol_error_step, reserved_from, send_over, send_to_step, socket_opened, socket_refused, socket_step, tcp_connect_step, without_first}
+use Rattle.turn_client_api.specs.Calls.{bound_by, active_channel, all_expired, allocated_tcp_socket_step, bind_channel, bind_channel_step, bound_to, channel_step, channels_to, connect_step, create_permission_step, delete_step, deleted, free_number, has_permission, in_allocation, is_allocated, is_closed, is_control, is_granted_in, is_in_progress, is_local_taken, is_offer_of, missing_permission, offer_origin, offer_taken, on_channel, on_connection, permission_step, protocol_error_step, reserved_from, send_over, send_to_step, socket_opened, socket_refused, socket_step, tcp_connect_step, without_first}
 use Rattle.turn_client_api.specs.Connections.{is_connected, is_connecting}
 use Rattle.turn_client_api.specs.declared.poll.Socket5Tuple.{Socket5Tuple}
 use Rattle.turn_client_api.specs.declared.error.BindChannelError.TheVariants as Bind
@@ -29,7 +29,6 @@ use Rattle.turn_client_api.specs.Requests.{accepted_reply, fresh_id, requested}
 use Rattle.turn_client_api.specs.Calls.{answered_with}
 use Rattle.turn_client_api.specs.Retry.{bind_time}
 use Rattle.turn_client_api.specs.State.{later_by}
-use Rattle.turn_client_api.proofs.CallKeepLemmas.{bound_by}
 use Rattle.turn_client_api.proofs.RunKeepLemmas.{IsKept}
 use Rattle.turn_client_api.proofs.HasLemmas.{Has, has-left, has-right, has-filter, has-filter_map}
 use Rattle.turn_client_api.proofs.HousedLemmas.{Backed, Housed, asked-more, room-more, Houses, Room, housed-filter, housed-grants, housed-listings}
@@ -150,14 +149,12 @@ bound-houses number peer now s room h =
         subst (λ (x : Purpose). Backed all x) is (unbacked all (ForPermission ip) refl)
 
 bound_by-houses : (peer : SocketAddr) (now : ℕ) (s : State) → Room s.grants (family_of peer) → (l : List ℕ) (b : Bool) (o : Option ℕ) → Houses s (bound_by peer now s l b o).1
-unfolding bound_by
 bound_by-houses peer now s room (until ∷ others) b o = λ h. h
 bound_by-houses peer now s room [] false o = λ h. h
 bound_by-houses peer now s room [] true None = λ h. h
 bound_by-houses peer now s room [] true (Some number) = bound-houses number peer now s room
 
 channel-houses : (peer : SocketAddr) (now : ℕ) (s : State) → Room s.grants (family_of peer) → Houses s (channel_step peer now s).1
-unfolding bound_by
 channel-houses peer now s room =
     either (list_any is_in_progress (channels_to peer s)) s (Err Bind.AlreadyExists, s)
     (bound_by peer now s (filter_map (reserved_from now) (channels_to peer s)) (is_allocated s.phase) (free_number s)) (λ h. h)

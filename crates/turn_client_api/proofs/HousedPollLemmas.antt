@@ -1,6 +1,6 @@
 -- As time passes, grants go with their allocations.
 use Rattle.std.proofs.Common.{◌≡◌, ℕ, Bool, true, false, cond, ◌&&◌, ◌||◌, leb, ltb, List, [], ◌∷◌, map, filter, find, Option, Some, None, refl, subst, ap}
-use Rattle.std.specs.Prelude.{is_some, reverse, filter_map, flat_map, slice_get, IfSome}
+use Rattle.std.specs.Prelude.{is_some, reverse, flat_map, slice_get, IfSome}
 use Rattle.std.proofs.lemmas.Bool.{and_left, and_parts, and_from, and_right, eq-eqb}
 use Rattle.std.proofs.lemmas.Option.{cond_some, none-some, same_Some}
 use Rattle.std.specs.declared.net.socket_addr.SocketAddr.{SocketAddr}
@@ -17,7 +17,7 @@ use Rattle.turn_client_api.specs.Effect.{closed, ended, reserved_time}
 use Rattle.turn_client_api.specs.Due.{has_event, has_reply, is_paused}
 use Rattle.turn_client_api.specs.Poll.{answer_step, channel_lapsed, connections_unbound, given_up_step, given_up_purposes, goes, in_vain, is_given_offer, is_lapsed_channel, is_lapsed_permission, is_listed_for_allocation, is_over, is_unbound, last_channel_lapsed, lapsed, lapsed_allocation, lapsed_in, next_offer, offer_step, offers_in_vain, permissions_lapsed, poll_step, refreshes_in_vain, timed_step, told, told_first, untold_in}
 use Rattle.turn_client_api.specs.Requests.{asked_lifetime, fresh_id}
-use Rattle.turn_client_api.specs.Transmit.{idle_step, is_ranked, is_refresh_due, queue_step, refresh_purpose, refreshes_in, transmit_step}
+use Rattle.turn_client_api.specs.Transmit.{idle_step, is_due_in, queue_step, refresh_purpose, refreshes_in, refreshes_of_rank, transmit_step}
 use Rattle.turn_client_api.specs.Transmit as T
 use Rattle.turn_client_api.specs.Steps.{Call, Leaves, state_after, Delete, CreatePermission, BindChannel, TcpConnect, AllocatedTcpSocket, TcpClosed, SendTo, Recv, PollRecv, Poll, PollTransmit, PollEvent, RelayedAddresses, Permissions, HavePermission, ProtocolError}
 use Rattle.turn_client_api.specs.LawsHoused.{asked_family, IsAskedIn, IsBacked, IsHoused}
@@ -185,15 +185,12 @@ refreshes-backed now s p there =
   where
     of_one : (a : Relay) → Has p (refreshes_in now s a) → Backed s.grants p
     of_one a asked =
-        let came = has-flat_map ranked p (0 ∷ 1 ∷ 2 ∷ []) (has-if (leb now a.expiry) p (flat_map ranked (0 ∷ 1 ∷ 2 ∷ [])) asked) in
-        let (g, here, asks) = has-filter_map (refresh_purpose now) p (filter (is_asked came.from) s.grants) came.gives in
-        refresh-backed now s p g (has-filter (is_asked came.from) g s.grants here).0 asks
+        let came = has-flat_map of_rank p (0 ∷ 1 ∷ 2 ∷ []) (has-if (leb now a.expiry) p (flat_map of_rank (0 ∷ 1 ∷ 2 ∷ [])) asked) in
+        let (g, here, asks) = has-filter_map (refresh_purpose now) p (filter (is_due_in came.from (family_of a.relayed) now s) s.grants) came.gives in
+        refresh-backed now s p g (has-filter (is_due_in came.from (family_of a.relayed) now s) g s.grants here).0 asks
       where
-        is_asked : ℕ → Grant → Bool
-        is_asked rank g = is_ranked rank g && is_of (family_of a.relayed) g && is_refresh_due now s g
-
-        ranked : ℕ → List Purpose
-        ranked rank = filter_map (refresh_purpose now) (filter (is_asked rank) s.grants)
+        of_rank : ℕ → List Purpose
+        of_rank = refreshes_of_rank now s (family_of a.relayed)
 
 idle-houses : (p : Phase) (now : ℕ) (s : State) → Houses (record s { phase = p }) (idle_step p now (record s { phase = p })).1
 idle-houses New now s =

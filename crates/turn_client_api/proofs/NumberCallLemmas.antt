@@ -19,7 +19,7 @@ use Rattle.turn_client_api.specs.Grants.{allocation_for, allocations, connection
 use Rattle.turn_client_api.specs.Grants.{is_pending_permission, is_permitted, permission_for, same_transport, without}
 use Rattle.turn_client_api.specs.Effect.{closed, ended}
 use Rattle.turn_client_api.specs.Connections.{connection_at, is_connected, is_connecting}
-use Rattle.turn_client_api.specs.Calls.{active_channel, allocated_tcp_socket_step, bind_channel, bind_channel_step, bound_to, channel_numbers, channel_step, channels_to, connect_step}
+use Rattle.turn_client_api.specs.Calls.{bound_by, active_channel, allocated_tcp_socket_step, bind_channel, bind_channel_step, bound_to, channel_numbers, channel_step, channels_to, connect_step}
 use Rattle.turn_client_api.specs.Calls.{create_permission_step, delete_step, free_number, has_permission, in_allocation, is_allocated, is_closed, is_control, is_granted_in, is_in_progress}
 use Rattle.turn_client_api.specs.Calls.{is_local_taken, is_number_taken, missing_permission, offer_origin, offer_taken, on_channel, on_connection, permission_step, protocol_error_step, reserved_from}
 use Rattle.turn_client_api.specs.Calls.{send_over, send_to_step, socket_opened, socket_refused, socket_step, tcp_connect_step}
@@ -35,7 +35,6 @@ use Rattle.turn_client_api.specs.Steps.{Call, Leaves, state_after, Delete, Creat
 use Rattle.turn_client_api.specs.Steps.{ProtocolError}
 use Rattle.turn_client_api.proofs.HasLemmas.{has-found}
 use Rattle.turn_client_api.proofs.RunKeepLemmas.{IsKept, poll_recv-kept, recv-kept, tcp_closed-kept}
-use Rattle.turn_client_api.proofs.CallKeepLemmas.{bound_by}
 use Rattle.turn_client_api.proofs.MemoryLemmas.{leaves-kept}
 use Rattle.turn_client_api.proofs.NumberLemmas.{apart-channel, numbers-permissions, numbers-told_first, numbers-without_first}
 use Rattle.turn_client_api.proofs.NumberKeepLemmas.{StayApart, allocations-apart, apart-same, apart-trans, apart-cond, apart-fold, other-apart, reserved-apart, without-apart}
@@ -90,14 +89,12 @@ free-apart number peer now s free h =
     apart-channel number s.grants (Channel number peer Pending ∷ map (λ ip. Permission ip Pending) ips) (not-true (is_number_taken number s) is) (rw (numbers-permissions ips) refl) h
 
 bound_by-apart : (peer : SocketAddr) (now : ℕ) (s : State) (l : List ℕ) (b : Bool) (o : Option ℕ) → free_number s ≡ o → StayApart s (bound_by peer now s l b o).1
-unfolding bound_by
 bound_by-apart peer now s (until ∷ others) b o free = apart-same s
 bound_by-apart peer now s [] false o free = apart-same s
 bound_by-apart peer now s [] true None free = apart-same s
 bound_by-apart peer now s [] true (Some number) free = free-apart number peer now s free
 
 channel-apart : (peer : SocketAddr) (now : ℕ) (s : State) → StayApart s (channel_step peer now s).1
-unfolding bound_by
 channel-apart peer now s =
     either (list_any is_in_progress (channels_to peer s)) s (Err Bind.AlreadyExists, s)
     (bound_by peer now s (filter_map (reserved_from now) (channels_to peer s)) (is_allocated s.phase) (free_number s)) (apart-same s)

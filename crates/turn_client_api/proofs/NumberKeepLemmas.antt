@@ -11,12 +11,12 @@ use Rattle.turn_agent.specs.Agent.{same_address}
 use Rattle.turn_client_api.specs.Config.{Config}
 use Rattle.turn_client_api.specs.State.{State, initial, Grant, Allocation, Permission, Channel, Connect, Offer, Connection, Relay, DataConnection, Origin, OwnConnect, Progress, Pending, Active}
 use Rattle.turn_client_api.specs.State.{Reserved, Purpose, ForAllocation, ForRefresh, ForPermission, ForChannel, ForConnect, ForBind}
-use Rattle.turn_client_api.specs.Grants.{allocation_in, channel_at, first_in, is_channel_of, is_connect_to, is_of, is_permission_of, permission_for, purposes_of, with_allocations, with_grant}
+use Rattle.turn_client_api.specs.Grants.{changed_allocation, allocation_in, channel_at, first_in, is_channel_of, is_connect_to, is_of, is_permission_of, permission_for, purposes_of, with_allocations, with_grant}
 use Rattle.turn_client_api.specs.Grants.{without, unlisted}
 use Rattle.turn_client_api.specs.Judgement.{connection_id_in, lifetime_in}
-use Rattle.turn_client_api.specs.Effect.{allocation_mismatch, channel_answered, connect_answered, effect, has_code, lasting, least_lifetime, new_allocation, permission_answered, permission_answered_for, permissions_answered}
+use Rattle.turn_client_api.specs.Effect.{lasting_if, allocation_mismatch, channel_answered, connect_answered, effect, has_code, lasting, least_lifetime, new_allocation, permission_answered, permission_answered_for, permissions_answered}
 use Rattle.turn_client_api.specs.Effect.{prolonged, refreshed, renewed, reserved, with_offer}
-use Rattle.turn_client_api.specs.Connections.{with_deadline}
+use Rattle.turn_client_api.specs.Connections.{deadline_set, with_deadline}
 use Rattle.turn_client_api.specs.LawsNumbers.{HasDistinctNumbers, channel_number}
 use Rattle.turn_client_api.proofs.NumberLemmas.{numbers, apart-filter, apart-map, apart-others, apart-channel, none-filter}
 
@@ -55,19 +55,14 @@ pub channel-apart : (number : ℕ) (peer : SocketAddr) (progress : Progress) (s 
 channel-apart number peer progress s h =
     apart-channel number (filter (λ g. not (is_channel_of number g)) s.grants) (Channel number peer progress ∷ []) (none-filter (is_channel_of number) s.grants) refl (without-apart (is_channel_of number) s h)
 
-allocation_by : (Relay → Bool) → (Relay → Relay) → Grant → Grant
-allocation_by which change (Allocation a) = cond (which a) (Allocation (change a)) (Allocation a)
-allocation_by which change grant = grant
-
 pub allocations-apart : (which : Relay → Bool) (change : Relay → Relay) (s : State) → StayApart s (with_allocations which change s)
-unfolding allocation_by
-allocations-apart which change s = apart-map (allocation_by which change) by s.grants
+allocations-apart which change s = apart-map (changed_allocation which change) by s.grants
   where
     either : (b : Bool) (a : Relay) → channel_number (cond b (Allocation (change a)) (Allocation a)) ≡ None
     either true a = refl
     either false a = refl
 
-    by : (g : Grant) → channel_number (allocation_by which change g) ≡ channel_number g
+    by : (g : Grant) → channel_number (changed_allocation which change g) ≡ channel_number g
     by (Allocation a) = either (which a) a
     by (Permission ip progress) = refl
     by (Channel number peer progress) = refl
@@ -75,12 +70,8 @@ allocations-apart which change s = apart-map (allocation_by which change) by s.g
     by (Offer offer) = refl
     by (Connection c) = refl
 
-renewed_by : (Grant → Bool) → ℕ → Grant → Grant
-renewed_by which expiry grant = cond (which grant) (lasting expiry grant) grant
-
 renewed-apart : (which : Grant → Bool) (expiry : ℕ) (s : State) → StayApart s (renewed which expiry s)
-unfolding renewed_by
-renewed-apart which expiry s = apart-map (renewed_by which expiry) (λ g. either (which g) g) s.grants
+renewed-apart which expiry s = apart-map (lasting_if which expiry) (λ g. either (which g) g) s.grants
   where
     last : (g : Grant) → channel_number (lasting expiry g) ≡ channel_number g
     last (Allocation a) = refl
@@ -98,19 +89,14 @@ renewed-apart which expiry s = apart-map (renewed_by which expiry) (λ g. either
     either true g = last g
     either false g = refl
 
-deadline_by : SocketAddr → Option ℕ → Grant → Grant
-deadline_by local deadline (Connection c) = cond (same_address c.local local) (Connection (record c { deadline = deadline })) (Connection c)
-deadline_by local deadline grant = grant
-
 pub deadline-apart : (local : SocketAddr) (deadline : Option ℕ) (s : State) → StayApart s (with_deadline local deadline s)
-unfolding deadline_by
-deadline-apart local deadline s = apart-map (deadline_by local deadline) by s.grants
+deadline-apart local deadline s = apart-map (deadline_set local deadline) by s.grants
   where
     either : (b : Bool) (c : DataConnection) → channel_number (cond b (Connection (record c { deadline = deadline })) (Connection c)) ≡ None
     either true c = refl
     either false c = refl
 
-    by : (g : Grant) → channel_number (deadline_by local deadline g) ≡ channel_number g
+    by : (g : Grant) → channel_number (deadline_set local deadline g) ≡ channel_number g
     by (Connection c) = either (same_address c.local local) c
     by (Allocation a) = refl
     by (Permission ip progress) = refl

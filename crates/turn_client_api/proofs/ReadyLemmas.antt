@@ -18,7 +18,7 @@ use Rattle.turn_client_api.specs.Grants.{allocations, allocation_in, allocation_
 use Rattle.turn_client_api.specs.Requests.{asked_lifetime}
 use Rattle.turn_client_api.specs.Due.{due_moments, end_of, is_in_use, has_queued_request, has_reply, is_paused, least_due, pause_end, refresh_of, refresh_time, refresh_time_by_kind}
 use Rattle.turn_client_api.specs.Poll.{next_offer}
-use Rattle.turn_client_api.specs.Transmit.{idle_step, is_ranked, is_refresh_due, next_transmit, queue_step, refresh_purpose, refresh_step, refreshes_in, reply_in, reply_step, transmit_step}
+use Rattle.turn_client_api.specs.Transmit.{idle_step, is_due_in, is_ranked, is_refresh_due, next_transmit, queue_step, refresh_purpose, refresh_step, refreshes_in, refreshes_of_rank, reply_in, reply_step, transmit_step}
 use Rattle.turn_client_api.specs.Alarm.{IsSilent, Lasts}
 use Rattle.turn_client_api.proofs.HasLemmas.{Has, has-append, has-left, has-right, map-has, flat_map-has, has-flat_map, has-found, filter-has, filter_map-has, has-filter_map, find-none, filter-none, least-le, all-has}
 
@@ -123,7 +123,7 @@ not_refreshed now m t before idle g h = by (refresh_time t g) refl
 no_refreshes : (now m : ℕ) (t : State) → m < least_due now t → is_paused m t ≡ false → (a : Relay) → refreshes_in m t a ≡ []
 no_refreshes now m t before idle a = by (leb m a.expiry) refl
   where
-    none : (rank : ℕ) → filter (λ g. is_ranked rank g && is_of (family_of a.relayed) g && is_refresh_due m t g) t.grants ≡ []
+    none : (rank : ℕ) → filter (is_due_in rank (family_of a.relayed) m t) t.grants ≡ []
     none rank = filter-none _ t.grants (λ g h. and_right _ _ (not_refreshed now m t before idle g h))
 
     by : (b : Bool) → leb m a.expiry ≡ b → refreshes_in m t a ≡ []
@@ -280,10 +280,10 @@ same_family-self IPV6 = refl
 -- a grant in use whose allocation goes on, and which may be refreshed, is refreshed when its time has come
 refreshed-once : (now : ℕ) (t : State) (g : Grant) (a : Relay) (rank : ℕ) (p : Purpose) → Has g t.grants → Has a (allocations t) → now ≤ a.expiry → is_of (family_of a.relayed) g ≡ true → Has rank (0 ∷ 1 ∷ 2 ∷ []) → is_ranked rank g ≡ true → is_refresh_due now t g ≡ true → refresh_purpose now g ≡ Some p → IsSome (refresh_step now t).0
 refreshed-once now t g a rank p h inside goes_on here ranked is due gives =
-    let test : ℕ → Grant → Bool = λ rank g. is_ranked rank g && is_of (family_of a.relayed) g && is_refresh_due now t g in
-    let of_rank : ℕ → List Purpose = λ rank. filter_map (refresh_purpose now) (filter (test rank) t.grants) in
-    let passes : (is_ranked rank g && is_of (family_of a.relayed) g && is_refresh_due now t g) ≡ true = rw (is, here, due) refl in
-    let in_rank : Has p (of_rank rank) = filter_map-has (refresh_purpose now) g p (filter (test rank) t.grants) (filter-has (test rank) g t.grants h passes) gives in
+    let test = is_due_in rank (family_of a.relayed) now t in
+    let of_rank = refreshes_of_rank now t (family_of a.relayed) in
+    let passes : is_due_in rank (family_of a.relayed) now t g ≡ true = rw (is, here, due) refl in
+    let in_rank : Has p (of_rank rank) = filter_map-has (refresh_purpose now) g p (filter test t.grants) (filter-has test g t.grants h passes) gives in
     let in_allocation : Has p (refreshes_in now t a) = rw (le-leb now a.expiry goes_on) (flat_map-has of_rank rank p (0 ∷ 1 ∷ 2 ∷ []) ranked in_rank) in
     refresh-sends now t _ refl p (flat_map-has (refreshes_in now t) a p (allocations t) inside in_allocation)
 

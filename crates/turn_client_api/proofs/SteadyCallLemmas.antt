@@ -13,11 +13,11 @@ use Rattle.turn_client_api.specs.State.{Queued, Relay}
 use Rattle.turn_client_api.specs.Grants.{allocation_for, same_transport}
 use Rattle.turn_client_api.specs.Steps.{Call, Leaves, state_after}
 use Rattle.turn_client_api.specs.LawsOrder.{IsSteady}
-use Rattle.turn_client_api.proofs.CallKeepLemmas.{bound_by, call-keeps}
+use Rattle.turn_client_api.proofs.CallKeepLemmas.{call-keeps}
 use Rattle.std.proofs.Common.{Result}
 use Rattle.turn_types.specs.declared.family.AddressFamily.{AddressFamily}
 use Rattle.turn_client_api.specs.Grants.{family_of_ip, is_past, with_expired}
-use Rattle.turn_client_api.specs.Calls.{in_allocation, is_allocated}
+use Rattle.turn_client_api.specs.Calls.{bound_by, in_allocation, is_allocated}
 use Rattle.turn_client_api.proofs.RunKeepLemmas.{recv-kept, poll_recv-kept, tcp_closed-kept}
 use Rattle.std.proofs.Common.{Err}
 use Rattle.std.specs.Prelude.{find, filter_map, slice_get}
@@ -59,7 +59,6 @@ in_allocation_split P None ip now refusal s otherwise same expired q = same
 in_allocation_split P (Some a) ip now refusal s otherwise same expired q = or_else P (is_past now a) _ otherwise expired q
 
 bound_by_split : (P : State → Type 0) (peer : SocketAddr) (now : ℕ) (s : State) (l : List ℕ) (b : Bool) (o : Option ℕ) → b ≡ false → P s → P (bound_by peer now s l b o).1
-unfolding bound_by
 bound_by_split P peer now s (until ∷ others) b o e same = same
 bound_by_split P peer now s [] false o e same = same
 bound_by_split P peer now s [] true o e same = cc
@@ -91,7 +90,6 @@ over_steady Udp peer bytes now s steady = by (filter_map (active_channel peer) s
 
 -- the calls of a client that has no allocations, but for those as time passes
 quiet_steady : (call : Call) (s : State) → is_allocated s.phase ≡ false → IsSteady s → ((now : ℕ) → IsSteady (poll_step now s).1) → ((now : ℕ) → IsSteady (transmit_step now s).1) → IsSteady (state_after call s)
-unfolding bound_by
 quiet_steady (Delete now) s none steady poll transmit = unless IsSteady (is_allocated s.phase) _ _ none steady
 quiet_steady (CreatePermission transport ip now) s none steady poll transmit =
     in_allocation_split IsSteady (allocation_for transport ip s) ip now _ s (permission_step ip now s) steady (expired-steady (family_of_ip ip) s steady)

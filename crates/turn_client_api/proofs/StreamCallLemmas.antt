@@ -19,7 +19,7 @@ use Rattle.turn_client_api.specs.State.{ServerRequest, ServerIndication}
 use Rattle.turn_client_api.specs.Grants.{allocation_for, allocations, connection_in, family_of, is_of, is_past, is_pending_channel, is_pending_permission, is_permitted, permission_for, same_transport}
 use Rattle.turn_client_api.specs.Effect.{closed, ended}
 use Rattle.turn_client_api.specs.Connections.{is_connected, is_connecting}
-use Rattle.turn_client_api.specs.Calls.{active_channel, allocated_tcp_socket_step, bind_channel_step, bound_to, channel_step, channels_to, connect_step}
+use Rattle.turn_client_api.specs.Calls.{bound_by, active_channel, allocated_tcp_socket_step, bind_channel_step, bound_to, channel_step, channels_to, connect_step}
 use Rattle.turn_client_api.specs.Calls.{create_permission_step, delete_step, free_number, has_permission, in_allocation, is_allocated, is_closed, is_control, is_in_progress}
 use Rattle.turn_client_api.specs.Calls.{is_local_taken, offer_origin, on_channel, on_connection, permission_step, protocol_error_step, reserved_from}
 use Rattle.turn_client_api.specs.Calls.{send_over, send_to_step, socket_opened, socket_refused, socket_step, tcp_connect_step}
@@ -34,7 +34,6 @@ use Rattle.turn_client_api.specs.Transmit as T
 use Rattle.turn_client_api.specs.Steps.{Call, state_after, Delete, CreatePermission, BindChannel, TcpConnect, AllocatedTcpSocket, TcpClosed, SendTo, Recv, PollRecv, Poll, PollTransmit, PollEvent, RelayedAddresses, Permissions, HavePermission}
 use Rattle.turn_client_api.specs.Steps.{ProtocolError}
 use Rattle.turn_client_api.specs.LawsStreams.{AreApart, IsEmptyIfBroken}
-use Rattle.turn_client_api.proofs.CallKeepLemmas.{bound_by}
 use Rattle.turn_client_api.proofs.StreamApartLemmas.{new-apart}
 use Rattle.turn_client_api.proofs.StreamMessageLemmas.{Same, same-cond, same-fold}
 use Rattle.turn_client_api.proofs.StreamStepLemmas.{StayApart, poll_recv-apart, recv-apart, same-apart, tcp_closed-same}
@@ -69,14 +68,12 @@ permission-same transport ip now s =
     (either (is_some (permission_for ip s)) s _ _ refl (either (not (is_allocated s.phase)) s _ _ refl refl))
 
 bound_by-same : (peer : SocketAddr) (now : ℕ) (s : State) (l : List ℕ) (b : Bool) (o : Option ℕ) → Same s (bound_by peer now s l b o).1
-unfolding bound_by
 bound_by-same peer now s (until ∷ others) b o = refl
 bound_by-same peer now s [] false o = refl
 bound_by-same peer now s [] true None = refl
 bound_by-same peer now s [] true (Some number) = refl
 
 channel-same : (peer : SocketAddr) (now : ℕ) (s : State) → Same s (channel_step peer now s).1
-unfolding bound_by
 channel-same peer now s =
     either (list_any is_in_progress (channels_to peer s)) s (Err Bind.AlreadyExists, s)
     (bound_by peer now s (filter_map (reserved_from now) (channels_to peer s)) (is_allocated s.phase) (free_number s)) refl

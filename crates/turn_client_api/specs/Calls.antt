@@ -16,7 +16,7 @@ use Rattle.turn_agent.specs.Agent.{same_address}
 use Rattle.turn_client_api.specs.Config.{same_family}
 use Rattle.turn_client_api.specs.State.{State, Phase, Allocated, Closed, Grant, Permission, Channel, Connect, Connection, DataConnection, Relay, Progress, Pending, Active, Reserved, Origin, ServerRequest, ForRefresh, ForPermission, ForChannel, ForConnect, ForBind, Waiting, later_by}
 use Rattle.turn_client_api.specs.Grants.{allocations, allocation_for, connection_in, family_of, family_of_ip, in_turn, is_channel_of, is_past, is_permitted, offer_in, permission_for, same_transport, with_allocations, with_expired, with_grant, with_grants, without}
-use Rattle.turn_client_api.specs.Requests.{asked, drawn, fresh_id, lifetime_attribute, message_of, queued, refresh_method, request_for, requested, signed, to_server, accepted_reply, refused_reply, replied}
+use Rattle.turn_client_api.specs.Requests.{asked, connection_timed_out, drawn, fresh_id, lifetime_attribute, message_of, queued, refresh_method, request_for, requested, signed, to_server, accepted_reply, refused_reply, replied}
 use Rattle.turn_client_api.specs.Effect.{closed, fail_all}
 use Rattle.turn_client_api.specs.Retry.{bind_time}
 use Rattle.turn_client_api.specs.Connections.{connection_at, is_connected, is_connecting}
@@ -138,16 +138,18 @@ bind_channel number peer now s =
     ∷ []
     ) s
 
+-- by the moments up to which the peer is reserved, by whether the server allocated an address, and by the
+-- number that is free
+abbrev pub bound_by : SocketAddr → ℕ → State → List ℕ → Bool → Option ℕ → Result Unit BindChannelError × State
+bound_by peer now s (until ∷ others) _ _ = (Err (Bind.ExpiredChannelExists until), s)
+bound_by peer now s [] false _ = (Err Bind.NoAllocation, s)
+bound_by peer now s [] true None = (Err Bind.AlreadyExists, s)
+bound_by peer now s [] true (Some number) = (Ok tt, bind_channel number peer now s)
+
 abbrev pub channel_step : SocketAddr → ℕ → State → Result Unit BindChannelError × State
 channel_step peer now s =
     if list_any is_in_progress (channels_to peer s) then (Err Bind.AlreadyExists, s)
-    else by (filter_map (reserved_from now) (channels_to peer s)) (is_allocated s.phase) (free_number s)
-  where
-    by : List ℕ → Bool → Option ℕ → Result Unit BindChannelError × State
-    by (until ∷ others) _ _ = (Err (Bind.ExpiredChannelExists until), s)
-    by [] false _ = (Err Bind.NoAllocation, s)
-    by [] true None = (Err Bind.AlreadyExists, s)
-    by [] true (Some number) = (Ok tt, bind_channel number peer now s)
+    else bound_by peer now s (filter_map (reserved_from now) (channels_to peer s)) (is_allocated s.phase) (free_number s)
 
 abbrev pub bind_channel_step : TransportType → SocketAddr → ℕ → State → Result Unit BindChannelError × State
 bind_channel_step transport peer now s =
@@ -208,7 +210,7 @@ socket_opened id peer local origin now s = in_turn (
 -- it could not
 abbrev pub socket_refused : ℕ → SocketAddr → Origin → State → State
 socket_refused id peer origin s =
-    answered_with (refused_reply 447 (codes "Connection Timeout or Failure") s) origin (offer_taken id peer s)
+    answered_with (refused_reply connection_timed_out (codes "Connection Timeout or Failure") s) origin (offer_taken id peer s)
 
 abbrev pub is_control : Socket5Tuple → State → Bool
 is_control tuple s =

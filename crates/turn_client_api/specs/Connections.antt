@@ -10,7 +10,7 @@ use Rattle.turn_agent.specs.Agent.{same_address}
 use Rattle.turn_client_api.specs.State.{State, Phase, Allocated, Grant, Offer, Connection, DataConnection, Origin, ServerRequest, ServerIndication, Mode, Bound, Stream, Purpose, later_by}
 use Rattle.std.specs.Option.{option_map_or}
 use Rattle.turn_client_api.specs.Grants.{allocation_for, connection_in, is_connect_to, is_connection_from, is_permitted, offer_in, purposes_of, unlisted, without, wait}
-use Rattle.turn_client_api.specs.Requests.{fresh_id, requested, refused_reply, replied, connection_bind_method}
+use Rattle.turn_client_api.specs.Requests.{bad_request, connection_already_exists, fresh_id, requested, refused_reply, replied, connection_bind_method}
 use Rattle.turn_client_api.specs.Judgement.{Judgement, Challenged, Granted, Denied, bind_judgement, is_bind_of, connection_id_in, peer_in, method_in}
 use Rattle.turn_client_api.specs.Effect.{ended, with_offer}
 use Rattle.turn_client_api.specs.Retry.{bind_time, with_held}
@@ -46,10 +46,10 @@ attempt_requested message s = by (connection_id_in message) (peer_in message)
 
     by : Option ℕ → Option SocketAddr → State
     by (Some connection_id) (Some peer) =
-        if not (is_some (allocation_for Tcp (socket_ip peer) s)) then refused 400 (codes "Bad Request")
-        else (if is_connected peer s then refused 446 (codes "Connection Already Exists")
+        if not (is_some (allocation_for Tcp (socket_ip peer) s)) then refused bad_request (codes "Bad Request")
+        else (if is_connected peer s then refused connection_already_exists (codes "Connection Already Exists")
         else with_offer connection_id peer (ServerRequest (id_of message)) s)
-    by _ _ = refused 400 (codes "Bad Request")
+    by _ _ = refused bad_request (codes "Bad Request")
 
 -- so many offers by indications stand at most, since these are not signed (our choice)
 abbrev pub most_indicated : ℕ
@@ -87,13 +87,14 @@ with_mode local mode s = record s { streams = map by s.streams }
     by : Stream → Stream
     by stream = if same_address stream.local local then record stream { mode = mode } else stream
 
+abbrev pub deadline_set : SocketAddr → Option ℕ → Grant → Grant
+deadline_set local deadline (Connection c) =
+    if same_address c.local local then Connection (record c { deadline = deadline }) else Connection c
+deadline_set local deadline grant = grant
+
 -- the server may bind the connection up to this moment; none says that it did
 abbrev pub with_deadline : SocketAddr → Option ℕ → State → State
-with_deadline local deadline s = record s { grants = map by s.grants }
-  where
-    by : Grant → Grant
-    by (Connection c) = if same_address c.local local then Connection (record c { deadline = deadline }) else Connection c
-    by grant = grant
+with_deadline local deadline s = record s { grants = map (deadline_set local deadline) s.grants }
 
 abbrev pub with_close : SocketAddr → State → State
 with_close local s = record s { closes = s.closes ++ local ∷ [] }

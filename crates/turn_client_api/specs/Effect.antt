@@ -166,12 +166,12 @@ lasting expiry (Permission ip (Active was)) = Permission ip (Active expiry)
 lasting expiry (Channel number peer (Active was)) = Channel number peer (Active expiry)
 lasting expiry grant = grant
 
+abbrev pub lasting_if : (Grant → Bool) → ℕ → Grant → Grant
+lasting_if which expiry grant = if which grant then lasting expiry grant else grant
+
 -- it keeps its place
 abbrev pub renewed : (Grant → Bool) → ℕ → State → State
-renewed which expiry s = record s { grants = map by s.grants }
-  where
-    by : Grant → Grant
-    by grant = if which grant then lasting expiry grant else grant
+renewed which expiry s = record s { grants = map (lasting_if which expiry) s.grants }
 
 -- one that was asked for stands from now on behind all others, or is asked for no more
 abbrev pub pending_permission_answered : IpAddr → Bool → ℕ → State → State

@@ -59,13 +59,13 @@ allocation_for transport ip s =
 abbrev pub is_past : ℕ → Relay → Bool
 is_past now a = nat_le a.expiry now
 
--- the allocations of this kind are changed
+-- an allocation of this kind is changed
+abbrev pub changed_allocation : (Relay → Bool) → (Relay → Relay) → Grant → Grant
+changed_allocation which change (Allocation a) = if which a then Allocation (change a) else Allocation a
+changed_allocation which change grant = grant
+
 abbrev pub with_allocations : (Relay → Bool) → (Relay → Relay) → State → State
-with_allocations which change s = record s { grants = map by s.grants }
-  where
-    by : Grant → Grant
-    by (Allocation a) = if which a then Allocation (change a) else Allocation a
-    by grant = grant
+with_allocations which change s = record s { grants = map (changed_allocation which change) s.grants }
 
 abbrev pub is_of_family : AddressFamily → SocketAddr → Bool
 is_of_family family address = same_family (family_of address) family

@@ -81,6 +81,17 @@ additional_family_kind = 0x8000
 abbrev pub icmp_kind : ℕ
 icmp_kind = 0x8004
 
+-- error codes (RFC 8489, section 14.8, and RFC 6062, section 6.3): Bad Request, Connection Already Exists,
+-- and Connection Timeout or Failure
+abbrev pub bad_request : ℕ
+bad_request = 400
+
+abbrev pub connection_already_exists : ℕ
+connection_already_exists = 446
+
+abbrev pub connection_timed_out : ℕ
+connection_timed_out = 447
+
 -- the lifetime that is asked for, in seconds (our choice: RFC 8656, section 7.2, allows up to 3600)
 abbrev pub asked_lifetime : ℕ
 asked_lifetime = 1800

@@ -2,6 +2,7 @@
 use Rattle.std.specs.Prelude.{ℕ, ◌==◌, slice_get, drop, nat_le, nat_lt, Bool, false, ◌&&◌, if◌then◌else◌, List, [], ◌∷◌, filter, filter_map, flat_map, Option, Some, None}
 use Rattle.turn_stun.specs.declared.transport.Transmit.{Transmit}
 use Rattle.std.specs.Option.{option_map_or}
+use Rattle.turn_types.specs.declared.family.AddressFamily.{AddressFamily}
 use Rattle.turn_agent.specs.Agent.{due, resent}
 use Rattle.turn_client_api.specs.State.{State, Phase, New, Requesting, Allocated, Grant, Allocation, Permission, Channel, Relay, Active, Purpose, ForAllocation, ForRefresh, ForPermission, ForChannel, Queued, agent_of}
 use Rattle.turn_client_api.specs.Grants.{allocations, family_of, is_of}
@@ -32,12 +33,17 @@ is_ranked rank (Channel number peer progress) = rank == 1
 is_ranked rank (Permission ip progress) = rank == 2
 is_ranked rank _ = false
 
+-- the grants of a family and rank whose time has come
+abbrev pub is_due_in : ℕ → AddressFamily → ℕ → State → Grant → Bool
+is_due_in rank family now s g = is_ranked rank g && is_of family g && is_refresh_due now s g
+
+abbrev pub refreshes_of_rank : ℕ → State → AddressFamily → ℕ → List Purpose
+refreshes_of_rank now s family rank = filter_map (refresh_purpose now) (filter (is_due_in rank family now s) s.grants)
+
 -- what is to be refreshed in one allocation, unless that is past its end
 abbrev pub refreshes_in : ℕ → State → Relay → List Purpose
-refreshes_in now s a = if nat_le now a.expiry then flat_map ranked (0 ∷ 1 ∷ 2 ∷ []) else []
-  where
-    ranked : ℕ → List Purpose
-    ranked rank = filter_map (refresh_purpose now) (filter (λ g. is_ranked rank g && is_of (family_of a.relayed) g && is_refresh_due now s g) s.grants)
+refreshes_in now s a =
+    if nat_le now a.expiry then flat_map (refreshes_of_rank now s (family_of a.relayed)) (0 ∷ 1 ∷ 2 ∷ []) else []
 
 -- a request is made and goes out at once
 abbrev pub sent_at_once : List ℕ → Purpose → ℕ → State → Option (Transmit (List ℕ)) × State

@@ -1,4 +1,4 @@
-//! Laws of the machine. Their functions do nothing: what they ensure is the law.
+//! Laws of the machine. Their functions do nothing, or give a constant: what they ensure is the law.
 
 mod alarm;
 mod granted;
@@ -14,6 +14,7 @@ mod replied;
 mod replies;
 mod rows;
 mod sockets;
+mod standards;
 mod steps;
 mod streams;
 mod wakeup;
@@ -38,6 +39,7 @@ pub use rows::{
     moments_are_told, silence_is_timed,
 };
 pub use sockets::{peers_may_connect, sockets_are_taken};
+pub use standards::{first_moment, last_moment, methods, numbers_are_the_standards};
 pub use steps::{challenges_are_counted, phases_go_on, realm_stays, stays_closed};
 pub use streams::{streams_are_drained, streams_stay_apart};
 pub use wakeup::wakeup_is_the_least_moment;

@@ -1,0 +1,87 @@
+//! The numbers of the standards.
+
+ghost use Rattle.std.specs.Prelude.{◌≡◌};
+ghost use Rattle.turn_types.specs.Send.{peer_kind, data_kind};
+ghost use Rattle.turn_client_api.specs.State.{greatest_moment};
+ghost use Rattle.turn_client_api.specs.Requests.{allocate_method, channel_bind_method, connect_method, connection_attempt_method, connection_bind_method, create_permission_method, data_method, refresh_method};
+ghost use Rattle.turn_client_api.specs.Requests.{additional_family_kind, bad_request, channel_number_kind, connection_id_kind, dont_fragment_kind, error_kind, icmp_kind, lifetime_kind};
+ghost use Rattle.turn_client_api.specs.Requests.{relayed_kind, requested_family_kind, requested_transport_kind};
+
+use turn_stun::attribute::AttributeType;
+use turn_stun::attribute::error_code::ErrorCode;
+use turn_stun::instant::Instant;
+use turn_stun::message::method::Method;
+use turn_types::attribute::{
+    AdditionalAddressFamily, ChannelNumber, ConnectionId, Data, DontFragment, Icmp, Lifetime,
+    RequestedAddressFamily, RequestedTransport, XorPeerAddress, XorRelayedAddress,
+};
+use turn_types::message::{
+    ALLOCATE, CHANNEL_BIND, CONNECT, CONNECTION_ATTEMPT, CONNECTION_BIND, CREATE_PERMISSION, DATA,
+    REFRESH,
+};
+
+/// The machine's types of attributes and error codes are those that the crates below write and read
+/// (RFC 8656, section 18, RFC 6062, section 6.2, and RFC 8489, section 14.8).
+pub fn numbers_are_the_standards()
+    // types of attributes
+    ensures error { error_kind ≡ AttributeType.ERROR_CODE.value }
+    ensures channel_number { channel_number_kind ≡ ChannelNumber.TYPE.value }
+    ensures lifetime { lifetime_kind ≡ Lifetime.TYPE.value }
+    ensures peer { peer_kind ≡ XorPeerAddress.TYPE.value }
+    ensures peer_data { data_kind ≡ Data.TYPE.value }
+    ensures relayed { relayed_kind ≡ XorRelayedAddress.TYPE.value }
+    ensures requested_family { requested_family_kind ≡ RequestedAddressFamily.TYPE.value }
+    ensures requested_transport { requested_transport_kind ≡ RequestedTransport.TYPE.value }
+    ensures dont_fragment { dont_fragment_kind ≡ DontFragment.TYPE.value }
+    ensures connection_id { connection_id_kind ≡ ConnectionId.TYPE.value }
+    ensures additional_family { additional_family_kind ≡ AdditionalAddressFamily.TYPE.value }
+    ensures icmp { icmp_kind ≡ Icmp.TYPE.value }
+    // error codes
+    ensures bad_request { bad_request ≡ ErrorCode.BAD_REQUEST }
+{}
+
+/// Its methods are theirs too (RFC 8656, section 17, and RFC 6062, section 6.1).
+pub fn methods() -> (
+    Method,
+    Method,
+    Method,
+    Method,
+    Method,
+    Method,
+    Method,
+    Method,
+)
+    ensures allocate { result.0.value ≡ allocate_method }
+    ensures refresh { result.1.value ≡ refresh_method }
+    ensures data { result.2.value ≡ data_method }
+    ensures create_permission { result.3.value ≡ create_permission_method }
+    ensures channel_bind { result.4.value ≡ channel_bind_method }
+    ensures connect { result.5.value ≡ connect_method }
+    ensures connection_bind { result.6.value ≡ connection_bind_method }
+    ensures connection_attempt { result.7.value ≡ connection_attempt_method }
+{
+    (
+        ALLOCATE,
+        REFRESH,
+        DATA,
+        CREATE_PERMISSION,
+        CHANNEL_BIND,
+        CONNECT,
+        CONNECTION_BIND,
+        CONNECTION_ATTEMPT,
+    )
+}
+
+/// The first moment of a clock: the pause of a client that has sent nothing ends there.
+pub fn first_moment() -> Instant
+    ensures { result ≡ 0 }
+{
+    Instant::ZERO
+}
+
+/// The greatest moment that an `Instant` holds is the one at which the machine's sums stop.
+pub fn last_moment() -> Instant
+    ensures { result ≡ greatest_moment }
+{
+    Instant::from_nanos(u64::MAX)
+}
