@@ -3,7 +3,7 @@ use Rattle.std.proofs.Common.{◌≡◌, ℕ, ◌≤◌, Bool, true, false, if�
 use Rattle.std.proofs.lemmas.List.{append-nil, take-append-le, drop-append-le}
 use Rattle.turn_types.specs.Frames.{Frames, begins_no_frame, frame_len, frames_of}
 use Rattle.turn_types.specs.Streams.{Stream, Turn, Call, Run, GivesFrames, broken_stream, framed, turn, turn_by, given_first, run_of, bytes_in}
-use Rattle.turn_types.specs.Streams.Call.{Piece, Poll}
+use Rattle.turn_types.specs.Streams.Call.{Piece, Feed, Poll}
 use Rattle.turn_types.proofs.FrameLemmas.{begins_no_frame-append, begins_no_frame-frame_len, frame_len-IsWhole, frame_len-append}
 use Rattle.turn_types.proofs.SplitLemmas.{frames_of-none, frames_of-some}
 
@@ -11,6 +11,7 @@ use Rattle.turn_types.proofs.SplitLemmas.{frames_of-none, frames_of-some}
 pub run_of-broken_stream : (calls : List Call) → run_of broken_stream calls ≡ record { given = []; after = broken_stream }
 run_of-broken_stream [] = refl
 run_of-broken_stream (Piece piece ∷ calls) = ap (given_first None) (run_of-broken_stream calls)
+run_of-broken_stream (Feed piece ∷ calls) = ap (given_first None) (run_of-broken_stream calls)
 run_of-broken_stream (Poll ∷ calls) = ap (given_first None) (run_of-broken_stream calls)
 
 -- what the first two bits and the length decide
@@ -72,4 +73,7 @@ run_of-GivesFrames [] bytes = record {
 run_of-GivesFrames (Piece piece ∷ calls) bytes =
     subst (λ (all : List ℕ). GivesFrames all (run_of (framed bytes) (Piece piece ∷ calls))) (append_assoc bytes piece (bytes_in calls))
     (first_turn (bytes ++ piece) calls (run_of-GivesFrames calls))
+run_of-GivesFrames (Feed piece ∷ calls) bytes =
+    subst (λ (all : List ℕ). GivesFrames all (run_of (framed bytes) (Feed piece ∷ calls))) (append_assoc bytes piece (bytes_in calls))
+    (run_of-GivesFrames calls (bytes ++ piece))
 run_of-GivesFrames (Poll ∷ calls) bytes = first_turn bytes calls (run_of-GivesFrames calls)

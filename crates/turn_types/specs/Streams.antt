@@ -57,14 +57,16 @@ turn s =
     if begins_no_frame s.bytes then record { frame = None; after = broken_stream }
     else turn_by s (frame_len s.bytes)
 
--- what is done to a stream: a piece comes in, or it is asked for a frame
+-- what is done to a stream: a piece comes in and it is asked for a frame, or one of the two
 pub data Call : Type 0 where
   Piece : List ℕ → Call
+  Feed : List ℕ → Call
   Poll : Call
 
--- each of the two ends with one turn
+-- it has its turn where it is asked for a frame
 abbrev pub turn_at : Stream → Call → Turn
 turn_at s (Piece piece) = turn (with_piece s piece)
+turn_at s (Feed piece) = record { frame = None; after = with_piece s piece }
 turn_at s Poll = turn s
 
 -- what calls give, one after the other, and the stream behind them
@@ -83,6 +85,7 @@ run_of s (call ∷ calls) = given_first (turn_at s call).frame (run_of (turn_at 
 abbrev pub bytes_in : List Call → List ℕ
 bytes_in [] = []
 bytes_in (Piece piece ∷ calls) = piece ++ bytes_in calls
+bytes_in (Feed piece ∷ calls) = piece ++ bytes_in calls
 bytes_in (Poll ∷ calls) = bytes_in calls
 
 -- What was given of these bytes is their frames, in order, but for those that still wait, and the rest

@@ -9,6 +9,7 @@ ghost use Rattle.turn_types.specs.Streams.{turn_at, broken_stream, framed, with_
 ghost use Rattle.turn_types.specs.Streams.Call.{Piece, Poll};
 
 mod held;
+mod lent;
 
 use crate::tcp::counts::TcpCounts;
 use crate::tcp::head::{Head, head_of};
@@ -24,6 +25,9 @@ use turn_stun::transport::Transmit;
 /// gives out the others, until it has none: what is left is fewer than 65,556 bytes, the front of the
 /// next frame. A stream whose next frame begins with the bits 10 or 11 is broken, since no frame does;
 /// and so is one whose bytes found no memory. It drops what it holds, and gives nothing from then on.
+///
+/// Or a piece goes in by `feed`, and each frame is read where it is held: `front` lends it, and `pass`
+/// lets it go. So no frame is copied.
 ///
 /// Taking a frame moves no byte. At the end of a call the rest moves to the front where it is shorter
 /// than what was taken before it: so at most twice the bytes that wait are held, and over any calls no

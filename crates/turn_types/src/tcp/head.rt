@@ -50,7 +50,7 @@ pub(super) fn head_of(bytes: &[u8]) -> Head
 }
 
 /// Whether the first two bits are 10 or 11, with which no frame begins. The first byte tells.
-fn begins_no_frame(bytes: &[u8]) -> bool
+pub(super) fn begins_no_frame(bytes: &[u8]) -> bool
     ensures { result ≡ begins_no_frame bytes.now }
 {
     bytes.first().is_some_and(|first| *first >= 0x80)

@@ -20,7 +20,8 @@ pub fn same_for_any_cut<S, O>()
 {}
 
 /// How `TurnTcpBuffer` stands to the law of cuts: while the bytes are meant as frames, one turn of the
-/// stream is the next step, and else each byte is a step of its own.
+/// stream (`poll_recv`, or `front` and `pass`) is the next step, and else each byte is a step of its
+/// own.
 pub fn turns_are_steps<S, O>()
     // A frame that is given out is handled, and then the rest.
     ensures frame { (mode : S → Mode) (handle : S → List ℕ → S × List O) (state : S) (bytes frame : List ℕ) → mode state ≡ Framed → (turn (framed bytes)).frame ≡ Some frame → drained (λ s. size_in (mode s)) handle state bytes ≡ behind (handle state frame).1 (drained (λ s. size_in (mode s)) handle (handle state frame).0 (turn (framed bytes)).after.bytes) }
@@ -49,9 +50,12 @@ pub fn frames_are_found()
     ensures channel { (id : ℕ) (payload : List ℕ) → 0x4000 ≤ id → id < 0x8000 → length payload < 2 ^ 16 → IsChannelFrame (channel_frame id payload) }
 {}
 
-/// Over any calls of `TurnTcpBuffer`, which end with one turn each, the frames that it gives are the
-/// frames of all the bytes that came, in order, but for those that still wait, and it keeps the rest.
-/// Once it is broken it has given all the frames there are.
+/// Over any calls of `TurnTcpBuffer`, the frames that it gives are the frames of all the bytes that came,
+/// in order, but for those that still wait, and it keeps the rest. Once it is broken it has given all
+/// the frames there are.
+///
+/// The calls are `incoming_tcp` (`Piece`), `feed` (`Feed`) and `poll_recv` (`Poll`). `pass` is a `Poll`
+/// too, whose frame is the one that `front` lent before it.
 pub fn calls_give_frames()
     ensures all { (bytes : List ℕ) (calls : List Call) → GivesFrames (bytes ++ bytes_in calls) (run_of (framed bytes) calls) }
     ensures broken { (calls : List Call) → run_of broken_stream calls ≡ record { given = []; after = broken_stream } }

@@ -150,6 +150,22 @@ fn a_stream_breaks_when_the_turn_of_its_rest_comes(rt: HostRuntime) -> Result<()
 }
 
 #[test]
+fn a_lent_stream_breaks_when_its_rest_is_passed(rt: HostRuntime) -> Result<(), Fail> {
+    let mut buffer = TurnTcpBuffer::new(rt.alloc());
+    let mut bytes = CHANNEL_FRAME.to_vec(rt.alloc())?;
+    bytes.extend_from_slice(&[0x80])?;
+    buffer.feed(bytes.as_slice())?;
+    assert!(rt; !buffer.is_stuck());
+    buffer.pass();
+    assert!(rt; buffer.is_stuck() && buffer.front().is_none());
+    buffer.pass();
+    assert_eq!(rt; buffer.counts(), TcpCounts { taken: 9, moved: 1 });
+    buffer.feed(&CHANNEL_FRAME)?;
+    assert!(rt; buffer.is_empty() && !buffer.is_stuck());
+    Ok(())
+}
+
+#[test]
 fn the_longest_frames_are_whole_with_their_last_byte(rt: HostRuntime) -> Result<(), Fail> {
     for (number, size) in [(0x00, 65_555), (0x40, 65_540)] {
         let mut bytes = vec![in rt.alloc(); 0u8; size]?;

@@ -54,7 +54,7 @@ impl TurnTcpBuffer {
 
     /// Goes on behind a frame of so many bytes. What is behind it moves to the front where it is
     /// shorter than all that was taken before it, so that moving is paid for by taking (our choice).
-    fn advance(&mut self, len: usize)
+    pub(super) fn advance(&mut self, len: usize)
         requires { len ≤ length self.old.stream.bytes }
         ensures after { self.new ≡ cut_off len self.old }
         ensures kept { IsKept self.new }

@@ -54,6 +54,23 @@ fn feed(
     Ok(())
 }
 
+/// Gives a piece to the buffer, and notes each frame that it lends.
+fn feed_lent(
+    alloc: Global,
+    buffer: &mut TurnTcpBuffer,
+    bytes: &[u8],
+    frames: &mut Vec<Vec<u8>>,
+) -> Result<(), Fail> {
+    buffer.feed(bytes)?;
+    for _ in 0..4 {
+        if let Some(frame) = buffer.front() {
+            note(frames, alloc, frame)?;
+        }
+        buffer.pass();
+    }
+    Ok(())
+}
+
 /// The three frames came, and half a header waits.
 fn check(rt: &impl std::process::Abort, buffer: TurnTcpBuffer, frames: &[Vec<u8>], place: usize) {
     assert_eq!(rt; frames.len(), 3, "at {place}");
@@ -98,6 +115,36 @@ fn a_stream_cut_at_two_places_gives_its_frames(rt: HostRuntime) -> Result<(), Fa
             let mut frames = Vec::new(rt.alloc());
             for part in [front, middle, back] {
                 feed(rt.alloc(), &mut buffer, part, &mut frames)?;
+            }
+            check(&rt, buffer, frames.as_slice(), first);
+        }
+    }
+    Ok(())
+}
+
+#[test]
+fn a_stream_by_bytes_lends_its_frames(rt: HostRuntime) -> Result<(), Fail> {
+    let bytes = stream(rt.alloc())?;
+    let mut buffer = TurnTcpBuffer::new(rt.alloc());
+    let mut frames = Vec::new(rt.alloc());
+    for byte in bytes.as_slice() {
+        feed_lent(rt.alloc(), &mut buffer, &[*byte], &mut frames)?;
+    }
+    check(&rt, buffer, frames.as_slice(), 0);
+    Ok(())
+}
+
+#[test]
+fn a_stream_cut_at_two_places_lends_its_frames(rt: HostRuntime) -> Result<(), Fail> {
+    let bytes = stream(rt.alloc())?;
+    for first in 0..=bytes.len() {
+        let (front, behind) = bytes.split_at(first);
+        for second in 0..=behind.len() {
+            let (middle, back) = behind.split_at(second);
+            let mut buffer = TurnTcpBuffer::new(rt.alloc());
+            let mut frames = Vec::new(rt.alloc());
+            for part in [front, middle, back] {
+                feed_lent(rt.alloc(), &mut buffer, part, &mut frames)?;
             }
             check(&rt, buffer, frames.as_slice(), first);
         }

@@ -30,6 +30,19 @@ fn a_stream_without_memory_is_broken(rt: HostRuntime) {
 }
 
 #[test]
+fn a_piece_without_memory_breaks_the_stream(rt: HostRuntime) {
+    let mut buffer = TurnTcpBuffer::new(rt.alloc());
+    if buffer.feed(&DATA_INDICATION).is_err() {
+        assert!(rt; is_broken(&mut buffer));
+        assert_eq!(rt; buffer.counts().taken, 44);
+        return;
+    }
+    assert!(rt; buffer.front().is_some());
+    buffer.pass();
+    assert!(rt; buffer.is_empty());
+}
+
+#[test]
 fn a_frame_without_memory_breaks_the_stream(rt: HostRuntime) {
     let Ok(mut bytes) = DATA_INDICATION.to_vec(rt.alloc()) else {
         return;
