@@ -5,6 +5,7 @@ use Rattle.std.specs.List.{cons_option}
 use Rattle.std.specs.Option.{option_map_or}
 use Rattle.std.proofs.lemmas.List.Elements.{filter_map-append}
 use Rattle.std.specs.declared.net.socket_addr.SocketAddr.{SocketAddr}
+use Rattle.turn_stun.specs.declared.transport.Transmit.{Transmit}
 use Rattle.turn_stun.specs.declared.transport.TransportType.{TransportType}
 use Rattle.turn_stun.specs.declared.transport.TransportType.TheVariants.{Udp, Tcp}
 use Rattle.turn_types.specs.Frames.{begins_no_frame, frame_len}
@@ -13,7 +14,7 @@ use Rattle.turn_client_api.specs.State.{State, Mode, Control, Waiting, Bound, Br
 use Rattle.turn_client_api.specs.Payloads.{Payload, Outcome, Handled, Ignored, PeerData, PeerIcmp, datagram_step}
 use Rattle.turn_client_api.specs.Streams.{broken_at, framed_by, framed_turn, go_on, is_ready, most_turns, owned, payload_in, poll_recv_step, stream_at, turn, turn_of_first, turned, turns, with_bytes}
 use Rattle.turn_client_api.specs.Receive.{first_turn, is_from_server, piece_step, place_kept, recv_step, stream_step, then_all}
-use Rattle.turn_client_api.specs.Steps.{Recv}
+use Rattle.turn_client_api.specs.Steps.{Recv, packet_step}
 use Rattle.turn_client_api.specs.Handled.{Turn, fed, fed_taken, frame_taken, framed_taken, handled, is_front, payload_at, payloads, piece_turns, poll_recv_turns, recv_turns, stream_turns, taken, taken_first, taken_in, then_taken, turn_of, turns_taken, unless_given}
 use Rattle.turn_client_api.specs.LawsPeers.{IsLetInTurn}
 use Rattle.turn_client_api.proofs.PeerLemmas.{datagram-IsLetThrough, frame-IsLetIn}
@@ -165,8 +166,8 @@ recv_over Tcp transport from to bytes now s = by (is_from_server transport from 
     by true None = refl
     by false o = refl
 
-pub recv-AreOf : (transport : TransportType) (from to : SocketAddr) (bytes : List ℕ) (now : ℕ) (s : State) → payloads (handled (Recv transport from to bytes now) s) ≡ option_to_list (payload_in (recv_step transport from to bytes now s).0)
-recv-AreOf transport from to bytes now s = recv_over s.transport transport from to bytes now s
+pub recv-AreOf : (packet : Transmit (List ℕ)) (now : ℕ) (s : State) → payloads (handled (Recv packet now) s) ≡ option_to_list (payload_in (packet_step packet now s).0)
+recv-AreOf packet now s = recv_over s.transport packet.transport packet.from packet.to packet.payload now s
 
 -- ---- from whom it comes
 

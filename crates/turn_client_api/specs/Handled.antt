@@ -136,6 +136,6 @@ recv_turns transport from to bytes now s = if is_from_server transport from s th
 
 -- all that a call handles, in order
 abbrev pub handled : Call → State → List Turn
-handled (Recv transport from to bytes now) s = recv_turns transport from to bytes now s
+handled (Recv packet now) s = recv_turns packet.transport packet.from packet.to packet.payload now s
 handled (PollRecv now) s = poll_recv_turns now s
 handled _ s = []

@@ -1,5 +1,7 @@
 -- Each call of a client, and the state after it.
-use Rattle.std.specs.Prelude.{◌≡◌, ◌⊎◌}
+use Rattle.std.specs.Prelude.{◌≡◌, ◌⊎◌, ℕ, List}
+use Rattle.turn_stun.specs.declared.transport.Transmit.{Transmit}
+use Rattle.turn_client_api.specs.Payloads.{Outcome}
 use Rattle.turn_client_api.specs.State.{State}
 use Rattle.turn_client_api.specs.Effect.{closed}
 use Rattle.turn_client_api.specs.Streams.{poll_recv_step}
@@ -11,6 +13,10 @@ use Rattle.turn_client_api.specs.Answers.{EndsAfterTurns, RecvEnds, event_step}
 pub use Rattle.turn_client_api.specs.declared.call.Call.{Call}
 pub use Rattle.turn_client_api.specs.declared.call.Call.TheVariants.{Delete, CreatePermission, BindChannel, TcpConnect, AllocatedTcpSocket, TcpClosed, SendTo, Recv, PollRecv, Poll, PollTransmit, PollEvent, ProtocolError, RelayedAddresses, Permissions, HavePermission}
 
+-- what is made of a packet, or of a piece of a stream
+abbrev pub packet_step : Transmit (List ℕ) → ℕ → State → Outcome × State
+packet_step packet now s = recv_step packet.transport packet.from packet.to packet.payload now s
+
 -- the state after the call, which found memory
 abbrev pub state_after : Call → State → State
 state_after (Delete now) s = (delete_step now s).1
@@ -20,7 +26,7 @@ state_after (TcpConnect peer now) s = (tcp_connect_step peer now s).1
 state_after (AllocatedTcpSocket id tuple peer local now) s = (allocated_tcp_socket_step id tuple peer local now s).1
 state_after (TcpClosed local remote now) s = tcp_closed_step local remote s
 state_after (SendTo transport peer bytes now) s = (send_to_step transport peer bytes now s).1
-state_after (Recv packet now) s = (recv_step packet.transport packet.from packet.to packet.payload now s).1
+state_after (Recv packet now) s = (packet_step packet now s).1
 state_after (PollRecv now) s = (poll_recv_step now s).1
 state_after (Poll now) s = (poll_step now s).1
 state_after (PollTransmit now) s = (transmit_step now s).1

@@ -1,12 +1,10 @@
 //! What a call gives of what peers sent.
 
 ghost use Rattle.std.specs.Prelude.{◌≡◌, ℕ, List, option_to_list};
-ghost use Rattle.std.specs.declared.net.socket_addr.SocketAddr.{SocketAddr};
-ghost use Rattle.turn_stun.specs.declared.transport.TransportType.{TransportType};
+ghost use Rattle.turn_stun.specs.declared.transport.Transmit.{Transmit};
 ghost use Rattle.turn_client_api.specs.State.{State};
 ghost use Rattle.turn_client_api.specs.Streams.{payload_in, poll_recv_step};
-ghost use Rattle.turn_client_api.specs.Receive.{recv_step};
-ghost use Rattle.turn_client_api.specs.Steps.{Recv, PollRecv};
+ghost use Rattle.turn_client_api.specs.Steps.{Recv, PollRecv, packet_step};
 ghost use Rattle.turn_client_api.specs.Handled.{Turn, handled, payloads};
 ghost use Rattle.turn_client_api.specs.LawsPeers.{IsLetInTurn};
 
@@ -15,7 +13,7 @@ ghost use Rattle.turn_client_api.specs.LawsPeers.{IsLetInTurn};
 /// 11.6 and 12.6; RFC 6062, section 4.3). Each has the place at which it stands in what the caller handed
 /// in, or is owned, and was let in by the state that stood when its turn came.
 pub fn payloads_are_answered()
-    ensures recv { (transport : TransportType) (from to : SocketAddr) (bytes : List ℕ) (now : ℕ) (s : State) → payloads (handled (Recv transport from to bytes now) s) ≡ option_to_list (payload_in (recv_step transport from to bytes now s).0) }
+    ensures recv { (packet : Transmit (List ℕ)) (now : ℕ) (s : State) → payloads (handled (Recv packet now) s) ≡ option_to_list (payload_in (packet_step packet now s).0) }
     ensures poll_recv { (now : ℕ) (s : State) → payloads (handled (PollRecv now) s) ≡ option_to_list (poll_recv_step now s).0 }
     ensures let_in { (t : Turn) → IsLetInTurn t }
 {}
