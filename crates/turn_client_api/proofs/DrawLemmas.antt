@@ -16,11 +16,11 @@ use Rattle.turn_agent.specs.declared.transaction.Transaction.{Transaction}
 use Rattle.turn_client_api.specs.State.{State, DataConnection, Progress, Pending, Active, Reserved, Purpose, ForAllocation, ForRefresh, ForPermission, ForChannel, ForConnect, ForBind, Phase, New, Requesting, Authenticating, Allocated, Closed}
 use Rattle.turn_client_api.specs.Grants.{allocation_for, channel_at, first_in, permission_for, purposes_of}
 use Rattle.turn_client_api.specs.Requests.{connection_attempt_method, connection_bind_method, fresh_id}
-use Rattle.turn_client_api.specs.Judgement.{Judgement, Nothing, Challenged, Wrong, Late, PeerSent, Attempt, Asked, Granted, Denied, bind_judgement, connection_id_in, is_bind_of, judgement_of, lifetime_in, method_in, peer_in}
-use Rattle.turn_client_api.specs.Effect.{allocate_denied, allocate_granted, allocation_mismatch, channel_answered, connect_answered, effect, ended, family_not_supported, has_code, least_lifetime, permission_answered, permission_answered_for, permissions_answered, prolonged, refreshed}
+use Rattle.turn_client_api.specs.Judgement.{Judgement, Unrelated, Challenged, Fatal, LateResponse, DataIndication, ConnectionAttempt, SignedRequest, SignedSuccess, SignedError, bind_judgement, connection_id_in, is_bind_of, judgement_of, lifetime_in, method_in, peer_in}
+use Rattle.turn_client_api.specs.Effect.{allocate_denied, allocate_granted, allocation_mismatch, channel_answered, connect_answered, effect, ended, family_not_supported, has_code, least_lifetime, permission_answered, permission_answered_for, listed_permissions_answered, prolonged, refreshed}
 use Rattle.turn_client_api.specs.Retry.{most_challenges, retried, state_after_retry}
 use Rattle.turn_client_api.specs.Connections.{attempt_indicated, attempt_requested, bind_again, bind_answered, bind_step, connection_at, is_connected, is_heeded}
-use Rattle.turn_client_api.specs.Payloads.{Outcome, Handled, Ignored, answered_purposes, challenge_step, message_step, reply_step, signed_step, wrong_step}
+use Rattle.turn_client_api.specs.Payloads.{Outcome, Handled, Ignored, answered_purposes, challenge_step, message_step, response_step, signed_step, wrong_step}
 
 -- ---- lists of transactions
 
@@ -88,7 +88,7 @@ permission_for-asks is_granted now t (ForChannel number peer) = refl
 permission_for-asks is_granted now t (ForConnect peer) = refl
 permission_for-asks is_granted now t (ForBind local peer id) = refl
 
-permissions-asks : (id : ℕ) (is_granted : Bool) (now : ℕ) (s : State) → AsksNothing s (permissions_answered id is_granted now s)
+permissions-asks : (id : ℕ) (is_granted : Bool) (now : ℕ) (s : State) → AsksNothing s (listed_permissions_answered id is_granted now s)
 permissions-asks id is_granted now s = asks-fold (permission_answered_for is_granted now) (permission_for-asks is_granted now) (purposes_of id s) s
 
 channel-asks : (number id : ℕ) (is_granted : Bool) (now : ℕ) (s : State) → AsksNothing s (channel_answered number id is_granted now s)
@@ -125,7 +125,7 @@ effect-asks id is_granted message now s ForAllocation = refl
 effect-asks id is_granted message now s (ForBind local peer other) = refl
 
 -- a signed reply ends its request, and asks for nothing
-pub reply-asks : (is_granted : Bool) (message : List ℕ) (now : ℕ) (s : State) → AsksNothing (ended (id_of message) s) (reply_step is_granted message now s).1
+pub reply-asks : (is_granted : Bool) (message : List ℕ) (now : ℕ) (s : State) → AsksNothing (ended (id_of message) s) (response_step is_granted message now s).1
 reply-asks is_granted message now s =
     asks-fold (effect (id_of message) is_granted message now) (effect-asks (id_of message) is_granted message now) (answered_purposes message s) (ended (id_of message) s)
 
@@ -242,15 +242,15 @@ message-draws id message now s = by (judgement_of s message) refl
     asked false = draws-same id s
 
     by : (j : Judgement) → judgement_of s message ≡ j → Draws id s (message_step message now s).1
-    by Nothing e = rw e (draws-same id s)
+    by Unrelated e = rw e (draws-same id s)
     by (Challenged d) e = rw e (challenge-draws id message d now s)
-    by Wrong e = rw e (wrong-draws id s.phase message s)
-    by Late e = rw e (draws-same id s)
-    by PeerSent e = rw e (draws-same id s)
-    by Attempt e = rw e (indicated (attempt_indicated message s) (indicated-asks message s))
-    by Asked e = rw e (asked (eqb (method_in message) connection_attempt_method))
-    by Granted e = rw e (signed-draws id true message now s)
-    by Denied e = rw e (signed-draws id false message now s)
+    by Fatal e = rw e (wrong-draws id s.phase message s)
+    by LateResponse e = rw e (draws-same id s)
+    by DataIndication e = rw e (draws-same id s)
+    by ConnectionAttempt e = rw e (indicated (attempt_indicated message s) (indicated-asks message s))
+    by SignedRequest e = rw e (asked (eqb (method_in message) connection_attempt_method))
+    by SignedSuccess e = rw e (signed-draws id true message now s)
+    by SignedError e = rw e (signed-draws id false message now s)
 
 -- ---- connections that wait to be bound
 
@@ -266,14 +266,14 @@ answered-draws id c message now s = by (bind_judgement s c.local message) refl
   where
     by : (j : Judgement) → bind_judgement s c.local message ≡ j → Draws id s (bind_answered c message now s)
     by (Challenged d) e = rw e (again-draws id c message d now s)
-    by Granted e = rw e (λ h. inl (outstanding-without id (id_of message) s.transactions h))
-    by Denied e = rw e (λ h. inl (outstanding-without id (id_of message) s.transactions h))
-    by Nothing e = rw e (draws-same id s)
-    by Wrong e = rw e (draws-same id s)
-    by Late e = rw e (draws-same id s)
-    by PeerSent e = rw e (draws-same id s)
-    by Attempt e = rw e (draws-same id s)
-    by Asked e = rw e (draws-same id s)
+    by SignedSuccess e = rw e (λ h. inl (outstanding-without id (id_of message) s.transactions h))
+    by SignedError e = rw e (λ h. inl (outstanding-without id (id_of message) s.transactions h))
+    by Unrelated e = rw e (draws-same id s)
+    by Fatal e = rw e (draws-same id s)
+    by LateResponse e = rw e (draws-same id s)
+    by DataIndication e = rw e (draws-same id s)
+    by ConnectionAttempt e = rw e (draws-same id s)
+    by SignedRequest e = rw e (draws-same id s)
 
 bind_in_phase : (id : ℕ) (p : Phase) (local : SocketAddr) (message : List ℕ) (now : ℕ) (s : State) → Draws id (record s { phase = p }) (bind_step local message now (record s { phase = p }))
 bind_in_phase id New local message now s = draws-same id (record s { phase = New })

@@ -16,7 +16,7 @@ use Rattle.turn_client_api.specs.State.{State, Phase, New, Requesting, Authentic
 use Rattle.turn_client_api.specs.State.{Grant, Allocation, Permission, Channel, Connect, Offer, Connection, DataConnection, Relay, Pending, Origin, OwnConnect, ServerRequest, ServerIndication, Purpose, later_by}
 use Rattle.turn_client_api.specs.Grants.{changed_allocation, allocation_for, connection_in, family_of_ip, is_of_family, is_past, is_permitted, permission_for, purposes_of, same_transport, with_expired, without}
 use Rattle.turn_client_api.specs.Requests.{connection_bind_method}
-use Rattle.turn_client_api.specs.Judgement.{Judgement, Nothing, Challenged, Wrong, Late, PeerSent, Attempt, Asked, Granted, Denied, bind_judgement, is_bind_of, method_in}
+use Rattle.turn_client_api.specs.Judgement.{Judgement, Unrelated, Challenged, Fatal, LateResponse, DataIndication, ConnectionAttempt, SignedRequest, SignedSuccess, SignedError, bind_judgement, is_bind_of, method_in}
 use Rattle.turn_client_api.specs.Connections.{deadline_set, bind_again, bind_answered, bind_step, connection_at, is_connected, is_connecting}
 use Rattle.turn_client_api.specs.Calls.{bound_by, active_channel, allocated_tcp_socket_step, bind_channel_step, bound_to, channel_step, channels_to, connect_step, create_permission_step, free_number, has_permission, in_allocation, is_allocated, is_closed, is_control, is_in_progress, is_local_taken, is_offer_of, missing_permission, offer_origin, offer_taken, on_channel, on_connection, permission_step, protocol_error_step, reserved_from, send_over, send_to_step, socket_opened, socket_refused, socket_step, tcp_connect_step, without_first}
 use Rattle.turn_client_api.specs.Retry.{bind_time}
@@ -68,14 +68,14 @@ answered-leaves c message now s = by (bind_judgement s c.local message) refl
   where
     by : (j : Judgement) → bind_judgement s c.local message ≡ j → Leaves s (bind_answered c message now s)
     by (Challenged d) e = rw e (again-leaves c (id_of message) d now s)
-    by Granted e = rw e (deadline-left c.local None s.grants)
-    by Denied e = rw e (left-filter _ s.grants)
-    by Nothing e = rw e (left-filter _ s.grants)
-    by Wrong e = rw e (left-filter _ s.grants)
-    by Late e = rw e (left-filter _ s.grants)
-    by PeerSent e = rw e (left-filter _ s.grants)
-    by Attempt e = rw e (left-filter _ s.grants)
-    by Asked e = rw e (left-filter _ s.grants)
+    by SignedSuccess e = rw e (deadline-left c.local None s.grants)
+    by SignedError e = rw e (left-filter _ s.grants)
+    by Unrelated e = rw e (left-filter _ s.grants)
+    by Fatal e = rw e (left-filter _ s.grants)
+    by LateResponse e = rw e (left-filter _ s.grants)
+    by DataIndication e = rw e (left-filter _ s.grants)
+    by ConnectionAttempt e = rw e (left-filter _ s.grants)
+    by SignedRequest e = rw e (left-filter _ s.grants)
 
 bind_in_phase : (p : Phase) (local : SocketAddr) (message : List ℕ) (now : ℕ) (s : State) → Leaves (record s { phase = p }) (bind_step local message now (record s { phase = p }))
 bind_in_phase New local message now s = leaves-same s

@@ -11,7 +11,7 @@ use Rattle.turn_types.specs.declared.family.AddressFamily.{AddressFamily}
 use Rattle.turn_client_api.specs.State.{State, Grant, Allocation, Permission, Channel, Connect, Offer, Connection, DataOffer, Progress, Pending, Active, Reserved, Purpose, ForAllocation, ForRefresh, ForPermission, ForChannel, ForConnect, ForBind, OwnConnect, later_by, seconds}
 use Rattle.turn_client_api.specs.Grants.{changed_allocation, channel_at, first_in, is_channel_of, is_connect_to, is_of_family, is_permission_of, permission_for, purposes_of, same_ip, unlisted, with_grant, without}
 use Rattle.turn_client_api.specs.Judgement.{connection_id_in, lifetime_in}
-use Rattle.turn_client_api.specs.Effect.{lasting_if, all_gone, allocation_mismatch, channel_answered, channel_lifetime, connect_answered, effect, has_code, heeded, least_lifetime, permission_answered, permission_answered_for, permission_lifetime, permission_refused_too, permissions_answered, prolonged, refreshed, reserved_time}
+use Rattle.turn_client_api.specs.Effect.{lasting_if, all_gone, allocation_mismatch, channel_answered, channel_lifetime, connect_answered, effect, has_code, challenges_reset, least_lifetime, permission_answered, permission_answered_for, permission_lifetime, permission_refused_too, listed_permissions_answered, prolonged, refreshed, reserved_time}
 use Rattle.turn_client_api.specs.LawsGranted.{IsStanding, IsKeptAs}
 use Rattle.turn_client_api.proofs.HasLemmas.{Has}
 use Rattle.turn_client_api.proofs.StandLemmas.{kept-same, left-filter}
@@ -117,7 +117,7 @@ module _ (purposes : List Purpose) (message : List ℕ) (now : ℕ) where
   permission_for-takes is_granted t (ForConnect peer) one = same t
   permission_for-takes is_granted t (ForBind local peer id) one = same t
 
-  permissions-takes : (id : ℕ) (is_granted : Bool) (s : State) → NamesAll is_granted id s → Taken s (permissions_answered id is_granted now s)
+  permissions-takes : (id : ℕ) (is_granted : Bool) (s : State) → NamesAll is_granted id s → Taken s (listed_permissions_answered id is_granted now s)
   permissions-takes id is_granted s all =
       takes-fold purposes message now (permission_answered_for is_granted now) s (purposes_of id s)
       (λ t p within there. permission_for-takes is_granted t p (λ granted. all granted p there))
@@ -129,7 +129,7 @@ module _ (purposes : List Purpose) (message : List ℕ) (now : ℕ) where
       by : (o : Option (SocketAddr × Progress)) → first_in (channel_at number) s ≡ o → (g : Bool) → Names g (ForChannel number asked) → NamesAll g id s → Taken s (channel_answered number id g now s)
       by None e g one all = rw e (same s)
       by (Some (peer, Pending)) e true one all =
-          let t = permissions_answered id true now s in
+          let t = listed_permissions_answered id true now s in
           let new = Channel number peer (Active (later_by channel_lifetime now)) in
           rw e (trans s t (with_grant new (without (is_channel_of number) t)) (permissions-takes id true s all)
           (replaced-takes (is_channel_of number) new t (λ stands. record { purpose = ForChannel number asked; one = one refl; given = (refl, refl) })))
@@ -170,10 +170,10 @@ module _ (purposes : List Purpose) (message : List ℕ) (now : ℕ) where
   refreshed-takes : (family : AddressFamily) (lifetime : ℕ) (is_granted : Bool) (s : State) → Names is_granted (ForRefresh family lifetime) → Taken s (refreshed family lifetime is_granted message now s)
   refreshed-takes family lifetime is_granted s = by (eqb lifetime 0) refl is_granted
     where
-      gone : Taken s (heeded (all_gone s))
+      gone : Taken s (challenges_reset (all_gone s))
       gone =
           let t = without (λ g. true) s in
-          trans s t (heeded (all_gone s)) (without-takes (λ g. true) s) (within-filter _ t.listed, (same t).1)
+          trans s t (challenges_reset (all_gone s)) (without-takes (λ g. true) s) (within-filter _ t.listed, (same t).1)
 
       longer : Has (ForRefresh family lifetime) purposes → 1 ≤ lifetime → (o : Option ℕ) → lifetime_in message ≡ o → Taken s (option_map_or (λ granted. prolonged family granted now s) o s)
       longer one asked None said = same s

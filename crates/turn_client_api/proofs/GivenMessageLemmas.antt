@@ -18,11 +18,11 @@ use Rattle.turn_agent.specs.Agent.{is_outstanding, is_response}
 use Rattle.turn_client_api.specs.State.{State, Phase, New, Requesting, Authenticating, Allocated, Closed, Grant, Offer, Origin, ServerRequest, ServerIndication, Purpose, ForAllocation, ForRefresh, ForPermission, ForChannel, ForConnect, ForBind, auth_of}
 use Rattle.turn_client_api.specs.Grants.{allocation_for, is_for_allocation, is_of_family, purposes_of}
 use Rattle.turn_client_api.specs.Requests.{connection_attempt_method, data_method}
-use Rattle.turn_client_api.specs.Judgement.{Judgement, Nothing, Challenged, Wrong, Late, PeerSent, Attempt, Asked, Granted, Denied, judgement_of, by_class, challenged_or, challenge_in, answers_one, answers_allocate, authenticating_judgement, allocated_judgement, requesting_judgement, indication_judgement, class_in, connection_id_in, lifetime_in, method_in, peer_in}
+use Rattle.turn_client_api.specs.Judgement.{Judgement, Unrelated, Challenged, Fatal, LateResponse, DataIndication, ConnectionAttempt, SignedRequest, SignedSuccess, SignedError, judgement_of, by_class, challenged_or, challenge_in, answers_one, answers_allocate, authenticating_judgement, allocated_judgement, requesting_judgement, indication_judgement, class_in, connection_id_in, lifetime_in, method_in, peer_in}
 use Rattle.turn_client_api.specs.Effect.{allocate_granted, effect, ended, family_not_supported, has_code, new_allocation, relayed_in, taken_addresses, with_offer}
 use Rattle.turn_client_api.specs.Retry.{most_challenges, retried}
 use Rattle.turn_client_api.specs.Connections.{attempt_indicated, attempt_requested, is_connected, is_heeded}
-use Rattle.turn_client_api.specs.Payloads.{Outcome, Handled, Ignored, answered_purposes, challenge_step, is_answered, message_step, reply_step, signed_step, wrong_step}
+use Rattle.turn_client_api.specs.Payloads.{Outcome, Handled, Ignored, answered_purposes, challenge_step, is_answered, message_step, response_step, signed_step, wrong_step}
 use Rattle.turn_client_api.specs.LawsGranted.{IsGrant, IsStanding}
 use Rattle.turn_client_api.proofs.HasLemmas.{Has, has-filter}
 use Rattle.turn_client_api.proofs.StandLemmas.{Covers, Leaves, Left, covers-left, has-contains, leaves-cond, leaves-same, left-one, left-same}
@@ -37,26 +37,26 @@ pub record IsSignedSuccess (message : List ℕ) (s : State) : Type 0 where
   pub signed : IsValidated (validation_of (auth_of s) message)
   pub outstanding : is_outstanding (id_of message) s.transactions ≡ true
 
-by_class-granted : (class : MessageClass) → by_class class ≡ Granted → class ≡ Success
+by_class-granted : (class : MessageClass) → by_class class ≡ SignedSuccess → class ≡ Success
 by_class-granted Request e = cc
 by_class-granted Indication e = cc
 by_class-granted Success e = refl
 by_class-granted Error e = cc
 
-challenged_or-granted : (j : Judgement) (o : Option Challenge) → challenged_or j o ≡ Granted → j ≡ Granted
+challenged_or-granted : (j : Judgement) (o : Option Challenge) → challenged_or j o ≡ SignedSuccess → j ≡ SignedSuccess
 challenged_or-granted j None e = e
 challenged_or-granted j (Some challenge) e = cc
 
-cond-granted : (b : Bool) (j k : Judgement) → (k ≡ Granted → ⊥) → cond b j k ≡ Granted → (b ≡ true) × (j ≡ Granted)
+cond-granted : (b : Bool) (j k : Judgement) → (k ≡ SignedSuccess → ⊥) → cond b j k ≡ SignedSuccess → (b ≡ true) × (j ≡ SignedSuccess)
 cond-granted true j k not_k e = (refl, e)
 cond-granted false j k not_k e = absurd (not_k e)
 
-cond-ungranted : (b : Bool) (j k : Judgement) → (j ≡ Granted → ⊥) → (k ≡ Granted → ⊥) → cond b j k ≡ Granted → ⊥
+cond-ungranted : (b : Bool) (j k : Judgement) → (j ≡ SignedSuccess → ⊥) → (k ≡ SignedSuccess → ⊥) → cond b j k ≡ SignedSuccess → ⊥
 cond-ungranted true j k not_j not_k e = not_j e
 cond-ungranted false j k not_j not_k e = not_k e
 
 -- a signed message that is granted is a success, and what it answers is outstanding
-stray-granted : (class : MessageClass) (outstanding : Bool) → cond (is_response class && not outstanding) Nothing (by_class class) ≡ Granted → (class ≡ Success) × (outstanding ≡ true)
+stray-granted : (class : MessageClass) (outstanding : Bool) → cond (is_response class && not outstanding) Unrelated (by_class class) ≡ SignedSuccess → (class ≡ Success) × (outstanding ≡ true)
 stray-granted Request b e = cc
 stray-granted Indication b e = cc
 stray-granted Success true e = (refl, refl)
@@ -68,7 +68,7 @@ stray-granted Error false e = cc
 validated : (v w : Validation) → v ≡ w → IsValidated w → IsValidated v
 validated v w e is = rw e is
 
-authenticating-granted : (s : State) (message : List ℕ) → authenticating_judgement s message ≡ Granted → (answers_allocate s message ≡ true) × IsSignedSuccess message s
+authenticating-granted : (s : State) (message : List ℕ) → authenticating_judgement s message ≡ SignedSuccess → (answers_allocate s message ≡ true) × IsSignedSuccess message s
 authenticating-granted s message = by (validation_of (auth_of s) message) refl
   where
     Goal : Type 0
@@ -76,41 +76,41 @@ authenticating-granted s message = by (validation_of (auth_of s) message) refl
 
     -- the judgement where it answers an ALLOCATE, unless it is a challenge
     judged : Judgement → Judgement
-    judged j = cond (answers_allocate s message) (challenged_or j (challenge_in s message)) Nothing
+    judged j = cond (answers_allocate s message) (challenged_or j (challenge_in s message)) Unrelated
 
-    once : (j : Judgement) → judged j ≡ Granted → (answers_allocate s message ≡ true) × (j ≡ Granted)
+    once : (j : Judgement) → judged j ≡ SignedSuccess → (answers_allocate s message ≡ true) × (j ≡ SignedSuccess)
     once j h =
-        let (answers, e) = cond-granted (answers_allocate s message) (challenged_or j (challenge_in s message)) Nothing (λ e. cc) h in
+        let (answers, e) = cond-granted (answers_allocate s message) (challenged_or j (challenge_in s message)) Unrelated (λ e. cc) h in
         (answers, challenged_or-granted j (challenge_in s message) e)
 
-    by : (v : Validation) → validation_of (auth_of s) message ≡ v → authenticating_judgement s message ≡ Granted → Goal
+    by : (v : Validation) → validation_of (auth_of s) message ≡ v → authenticating_judgement s message ≡ SignedSuccess → Goal
     by (Validated algorithm) e = rw e at
       where
-        at : judged (cond (is_outstanding (id_of message) s.transactions) (by_class (class_in message)) Late) ≡ Granted → Goal
+        at : judged (cond (is_outstanding (id_of message) s.transactions) (by_class (class_in message)) LateResponse) ≡ SignedSuccess → Goal
         at h =
             let (answers, g) = once _ h in
-            let (outstanding, k) = cond-granted (is_outstanding (id_of message) s.transactions) (by_class (class_in message)) Late (λ e. cc) g in
+            let (outstanding, k) = cond-granted (is_outstanding (id_of message) s.transactions) (by_class (class_in message)) LateResponse (λ e. cc) g in
             (answers, record { success = by_class-granted (class_in message) k; signed = validated _ (Validated algorithm) e tt; outstanding = outstanding })
-    by (Refused integrity) e = rw e (λ h. absurd (cond-ungranted integrity Wrong Nothing (λ e. cc) (λ e. cc) (once _ h).1))
-    by (ResendRequest algorithm) e = rw e (λ h. let n : Nothing ≡ Granted = (once Nothing h).1 in cc)
+    by (Refused integrity) e = rw e (λ h. absurd (cond-ungranted integrity Fatal Unrelated (λ e. cc) (λ e. cc) (once _ h).1))
+    by (ResendRequest algorithm) e = rw e (λ h. let n : Unrelated ≡ SignedSuccess = (once Unrelated h).1 in cc)
 
-indication-ungranted : (message : List ℕ) → indication_judgement message ≡ Granted → ⊥
+indication-ungranted : (message : List ℕ) → indication_judgement message ≡ SignedSuccess → ⊥
 indication-ungranted message =
-    cond-ungranted (eqb (method_in message) data_method) PeerSent _ (λ e. cc)
-    (cond-ungranted (eqb (method_in message) connection_attempt_method) Attempt Nothing (λ e. cc) (λ e. cc))
+    cond-ungranted (eqb (method_in message) data_method) DataIndication _ (λ e. cc)
+    (cond-ungranted (eqb (method_in message) connection_attempt_method) ConnectionAttempt Unrelated (λ e. cc) (λ e. cc))
 
-allocated-granted : (s : State) (message : List ℕ) → allocated_judgement s message ≡ Granted → IsSignedSuccess message s
+allocated-granted : (s : State) (message : List ℕ) → allocated_judgement s message ≡ SignedSuccess → IsSignedSuccess message s
 allocated-granted s message = by (class_in message) refl (validation_of (auth_of s) message) refl
   where
     Valid : Type 0
-    Valid = cond (is_response (class_in message) && not (is_outstanding (id_of message) s.transactions)) Nothing (by_class (class_in message)) ≡ Granted
+    Valid = cond (is_response (class_in message) && not (is_outstanding (id_of message) s.transactions)) Unrelated (by_class (class_in message)) ≡ SignedSuccess
 
     valid : (v : Validation) → validation_of (auth_of s) message ≡ v → IsValidated v → Valid → IsSignedSuccess message s
     valid v f is h =
         let (success, outstanding) = stray-granted (class_in message) (is_outstanding (id_of message) s.transactions) h in
         record { success = success; signed = validated _ v f is; outstanding = outstanding }
 
-    by : (k : MessageClass) → class_in message ≡ k → (v : Validation) → validation_of (auth_of s) message ≡ v → allocated_judgement s message ≡ Granted → IsSignedSuccess message s
+    by : (k : MessageClass) → class_in message ≡ k → (v : Validation) → validation_of (auth_of s) message ≡ v → allocated_judgement s message ≡ SignedSuccess → IsSignedSuccess message s
     by Indication e v f = rw e (λ h. absurd (indication-ungranted message h))
     by Request e (Validated algorithm) f = rw (e, f) (valid (Validated algorithm) f tt)
     by Request e (Refused integrity) f = rw (e, f) (λ h. cc)
@@ -119,11 +119,11 @@ allocated-granted s message = by (class_in message) refl (validation_of (auth_of
     by Success e (Refused integrity) f = rw (e, f) (λ h. cc)
     by Success e (ResendRequest algorithm) f = rw (e, f) (λ h. cc)
     by Error e (Validated algorithm) f = rw (e, f) (λ h. valid (Validated algorithm) f tt (challenged_or-granted _ (challenge_in s message) h))
-    by Error e (Refused integrity) f = rw (e, f) (λ h. let n : Nothing ≡ Granted = challenged_or-granted Nothing (challenge_in s message) h in cc)
-    by Error e (ResendRequest algorithm) f = rw (e, f) (λ h. let n : Nothing ≡ Granted = challenged_or-granted Nothing (challenge_in s message) h in cc)
+    by Error e (Refused integrity) f = rw (e, f) (λ h. let n : Unrelated ≡ SignedSuccess = challenged_or-granted Unrelated (challenge_in s message) h in cc)
+    by Error e (ResendRequest algorithm) f = rw (e, f) (λ h. let n : Unrelated ≡ SignedSuccess = challenged_or-granted Unrelated (challenge_in s message) h in cc)
 
-requesting-ungranted : (s : State) (message : List ℕ) → requesting_judgement s message ≡ Granted → ⊥
-requesting-ungranted s message h = let n : Wrong ≡ Granted = challenged_or-granted Wrong (challenge_in s message) (cond-granted (answers_one s message) _ Nothing (λ e. cc) h).1 in cc
+requesting-ungranted : (s : State) (message : List ℕ) → requesting_judgement s message ≡ SignedSuccess → ⊥
+requesting-ungranted s message h = let n : Fatal ≡ SignedSuccess = challenged_or-granted Fatal (challenge_in s message) (cond-granted (answers_one s message) _ Unrelated (λ e. cc) h).1 in cc
 
 for-allocation : (purposes : List Purpose) → list_any is_for_allocation purposes ≡ true → Has ForAllocation purposes
 for-allocation [] e = cc
@@ -146,7 +146,7 @@ asked_for message s = purposes_of (id_of message) s
 abbrev pub IsForAllocation : Phase → List ℕ → State → Type 0
 IsForAllocation phase message s = phase ≡ Authenticating → Has ForAllocation (asked_for message s)
 
-granted_in_phase : (p : Phase) (s : State) (message : List ℕ) → judgement_of (record s { phase = p }) message ≡ Granted → IsSignedSuccess message (record s { phase = p }) × IsForAllocation p message s
+granted_in_phase : (p : Phase) (s : State) (message : List ℕ) → judgement_of (record s { phase = p }) message ≡ SignedSuccess → IsSignedSuccess message (record s { phase = p }) × IsForAllocation p message s
 granted_in_phase New s message h = cc
 granted_in_phase Requesting s message h = absurd (requesting-ungranted (record s { phase = Requesting }) message h)
 granted_in_phase Authenticating s message h =
@@ -156,8 +156,8 @@ granted_in_phase Allocated s message h = (allocated-granted (record s { phase = 
 granted_in_phase Closed s message h = cc
 
 -- before anything is allocated, a request for an allocation is answered
-pub Granted-is : (s : State) (message : List ℕ) → judgement_of s message ≡ Granted → IsSignedSuccess message s × IsForAllocation s.phase message s
-Granted-is s message = granted_in_phase s.phase s message
+pub SignedSuccess-is : (s : State) (message : List ℕ) → judgement_of s message ≡ SignedSuccess → IsSignedSuccess message s × IsForAllocation s.phase message s
+SignedSuccess-is s message = granted_in_phase s.phase s message
 
 -- ---- signed replies
 
@@ -172,7 +172,7 @@ takes-left message now grants later gives g there stands = by (gives g there sta
 abbrev AllAsked : List Purpose → Bool → List ℕ → State → Type 0
 AllAsked purposes is_granted message s = is_granted ≡ true → (p : Purpose) → Has p (asked_for message s) → Has p purposes
 
-reply-takes : (purposes : List Purpose) (is_granted : Bool) (message : List ℕ) (now : ℕ) (s : State) → AllAsked purposes is_granted message s → Takes purposes message now s (reply_step is_granted message now s).1
+reply-takes : (purposes : List Purpose) (is_granted : Bool) (message : List ℕ) (now : ℕ) (s : State) → AllAsked purposes is_granted message s → Takes purposes message now s (response_step is_granted message now s).1
 reply-takes purposes is_granted message now s all =
     takes-fold purposes message now (effect (id_of message) is_granted message now) s (answered_purposes message s)
     (λ t p within there.
@@ -217,7 +217,7 @@ granted-gives Requesting message now s one = (reply-takes (asked_for message s) 
 granted-gives Allocated message now s one = (reply-takes (asked_for message s) true message now (record s { phase = Allocated }) (λ e p there. there)).1
 granted-gives Closed message now s one = (reply-takes (asked_for message s) true message now (record s { phase = Closed }) (λ e p there. there)).1
 
-refused-leaves : (message : List ℕ) (now : ℕ) (s : State) → Leaves s (reply_step false message now s).1
+refused-leaves : (message : List ℕ) (now : ℕ) (s : State) → Leaves s (response_step false message now s).1
 refused-leaves message now s = takes-left message now s.grants _ (reply-takes [] false message now s (λ e. cc)).1
 
 denied-leaves : (p : Phase) (message : List ℕ) (now : ℕ) (s : State) → Leaves s (signed_step false message now (record s { phase = p })).1
@@ -289,10 +289,10 @@ message-brings g message now s = by (judgement_of s message) refl
     asked true = requested-leaves message s
     asked false = leaves-same s
 
-    granted : judgement_of s message ≡ Granted → Covers s.grants g ⊎ IsGiven (asked_for message s) message now g → Covers s.grants g ⊎ IsGrant g message now s
+    granted : judgement_of s message ≡ SignedSuccess → Covers s.grants g ⊎ IsGiven (asked_for message s) message now g → Covers s.grants g ⊎ IsGrant g message now s
     granted e (inl covers) = inl covers
     granted e (inr (was, given, kept)) =
-        let is = (Granted-is s message e).0 in
+        let is = (SignedSuccess-is s message e).0 in
         inr (
           was,
           record {
@@ -312,16 +312,16 @@ message-brings g message now s = by (judgement_of s message) refl
     request : Outcome × State
     request = cond {A = Outcome × State} (eqb (method_in message) connection_attempt_method) (Handled, attempt_requested message s) (Ignored, s)
 
-    gives : judgement_of s message ≡ Granted → Gives (asked_for message s) message now s.grants (signed_step true message now s).1.grants
-    gives e = granted-gives s.phase message now s (Granted-is s message e).1
+    gives : judgement_of s message ≡ SignedSuccess → Gives (asked_for message s) message now s.grants (signed_step true message now s).1.grants
+    gives e = granted-gives s.phase message now s (SignedSuccess-is s message e).1
 
     by : (j : Judgement) → judgement_of s message ≡ j → Brings
-    by Nothing e = rw e (left s (leaves-same s))
+    by Unrelated e = rw e (left s (leaves-same s))
     by (Challenged d) e = rw e (left (challenge_step message d now s).1 (challenge-leaves message d now s))
-    by Wrong e = rw e (left (wrong_step message s).1 (wrong-leaves s.phase message s))
-    by Late e = rw e (left s (leaves-same s))
-    by PeerSent e = rw e (left s (leaves-same s))
-    by Attempt e = rw e (left attempt.1 (indicated (attempt_indicated message s) (indicated-leaves message s)))
-    by Asked e = rw e (left request.1 (asked (eqb (method_in message) connection_attempt_method)))
-    by Granted e = rw e (λ covers. granted e (gives-covers (asked_for message s) message now s.grants (signed_step true message now s).1.grants g (gives e) covers))
-    by Denied e = rw e (left (signed_step false message now s).1 (denied-leaves s.phase message now s))
+    by Fatal e = rw e (left (wrong_step message s).1 (wrong-leaves s.phase message s))
+    by LateResponse e = rw e (left s (leaves-same s))
+    by DataIndication e = rw e (left s (leaves-same s))
+    by ConnectionAttempt e = rw e (left attempt.1 (indicated (attempt_indicated message s) (indicated-leaves message s)))
+    by SignedRequest e = rw e (left request.1 (asked (eqb (method_in message) connection_attempt_method)))
+    by SignedSuccess e = rw e (λ covers. granted e (gives-covers (asked_for message s) message now s.grants (signed_step true message now s).1.grants g (gives e) covers))
+    by SignedError e = rw e (left (signed_step false message now s).1 (denied-leaves s.phase message now s))

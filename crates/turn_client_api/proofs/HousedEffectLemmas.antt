@@ -10,7 +10,7 @@ use Rattle.turn_types.specs.declared.family.AddressFamily.{AddressFamily}
 use Rattle.turn_client_api.specs.State.{State, Grant, Allocation, Permission, Channel, Connect, Offer, Connection, Relay, Progress, Pending, Active, Reserved, OwnConnect, Purpose, ForAllocation, ForRefresh, ForPermission, ForChannel, ForConnect, ForBind, later_by, seconds}
 use Rattle.turn_client_api.specs.Grants.{allocation_in, channel_at, family_of, family_of_grant, family_of_ip, first_in, is_channel_of, is_connect_to, is_of, is_of_family, is_permission_of, permission_for, permission_progress, purposes_of, same_ip, unlisted, with_allocations, with_grant, without}
 use Rattle.turn_client_api.specs.Judgement.{connection_id_in, lifetime_in}
-use Rattle.turn_client_api.specs.Effect.{all_gone, allocation_mismatch, channel_answered, channel_lifetime, connect_answered, effect, has_code, least_lifetime, permission_answered, permission_answered_for, permission_lifetime, permission_refused_too, permissions_answered, prolonged, refreshed, renewed, reserved_time}
+use Rattle.turn_client_api.specs.Effect.{all_gone, allocation_mismatch, channel_answered, channel_lifetime, connect_answered, effect, has_code, least_lifetime, permission_answered, permission_answered_for, permission_lifetime, permission_refused_too, listed_permissions_answered, prolonged, refreshed, renewed, reserved_time}
 use Rattle.turn_client_api.specs.Payloads.{is_answered}
 use Rattle.turn_client_api.specs.Requests.{channel_bind_method, connect_method, refresh_method}
 use Rattle.turn_client_api.specs.Retry.{is_refresh}
@@ -178,7 +178,7 @@ permission_for-carries is_granted now t (ForChannel number peer) = carries-same 
 permission_for-carries is_granted now t (ForConnect peer) = carries-same t
 permission_for-carries is_granted now t (ForBind local peer id) = carries-same t
 
-permissions-carry : (id : ℕ) (is_granted : Bool) (now : ℕ) (s : State) → Carries s (permissions_answered id is_granted now s)
+permissions-carry : (id : ℕ) (is_granted : Bool) (now : ℕ) (s : State) → Carries s (listed_permissions_answered id is_granted now s)
 permissions-carry id is_granted now s = carries-fold (permission_answered_for is_granted now) (permission_for-carries is_granted now) (purposes_of id s) s
 
 -- ---- channels and connections
@@ -231,7 +231,7 @@ channel-carries number id is_granted now s = by (first_in (channel_at number) s)
     by : (o : Option (SocketAddr × Progress)) → first_in (channel_at number) s ≡ o → (g : Bool) → Carries s (channel_answered number id g now s)
     by None e g = rw e (carries-same s)
     by (Some (peer, Pending)) e true =
-        rw e (replaced-channel number peer Pending (Active (later_by channel_lifetime now)) s (permissions_answered id true now s) e (permissions-carry id true now s))
+        rw e (replaced-channel number peer Pending (Active (later_by channel_lifetime now)) s (listed_permissions_answered id true now s) e (permissions-carry id true now s))
     by (Some (peer, Pending)) e false = rw e refused
     by (Some (peer, Active expiry)) e true = rw e longer
     by (Some (peer, Active expiry)) e false =

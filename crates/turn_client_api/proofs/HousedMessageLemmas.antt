@@ -15,11 +15,11 @@ use Rattle.turn_auth.specs.LongTerm.{Challenge}
 use Rattle.turn_client_api.specs.State.{State, Phase, New, Requesting, Authenticating, Allocated, Closed, Grant, Allocation, Permission, Channel, Connect, Offer, Connection, DataConnection, Relay, Origin, ServerRequest, ServerIndication, Pending, Purpose, ForAllocation, Listing}
 use Rattle.turn_client_api.specs.Grants.{allocation_for, allocation_of, family_of_grant, family_of_ip, is_connection_from, purposes_of, same_transport, unlisted, without}
 use Rattle.turn_client_api.specs.Requests.{connection_attempt_method, connection_bind_method, fresh_id, requested}
-use Rattle.turn_client_api.specs.Judgement.{Judgement, Nothing, Challenged, Wrong, Late, PeerSent, Attempt, Asked, Granted, Denied, bind_judgement, connection_id_in, is_bind_of, judgement_of, lifetime_in, method_in, peer_in}
+use Rattle.turn_client_api.specs.Judgement.{Judgement, Unrelated, Challenged, Fatal, LateResponse, DataIndication, ConnectionAttempt, SignedRequest, SignedSuccess, SignedError, bind_judgement, connection_id_in, is_bind_of, judgement_of, lifetime_in, method_in, peer_in}
 use Rattle.turn_client_api.specs.Effect.{allocate_denied, allocate_granted, ended, family_not_supported, has_code, new_allocation, relayed_in, taken_addresses, with_offer}
 use Rattle.turn_client_api.specs.Retry.{most_challenges, retried, state_after_retry, with_held}
 use Rattle.turn_client_api.specs.Connections.{attempt_indicated, attempt_requested, bind_again, bind_answered, bind_step, connection_at, is_connected, is_heeded, with_deadline}
-use Rattle.turn_client_api.specs.Payloads.{Outcome, Handled, Ignored, answered_purposes, challenge_step, is_answered, message_step, reply_step, signed_step, wrong_step}
+use Rattle.turn_client_api.specs.Payloads.{Outcome, Handled, Ignored, answered_purposes, challenge_step, is_answered, message_step, response_step, signed_step, wrong_step}
 use Rattle.turn_client_api.specs.Receive.{connection_gone}
 use Rattle.turn_client_api.specs.LawsHoused.{asked_family}
 use Rattle.turn_client_api.proofs.HasLemmas.{Has, has-right, has-filter, has-found}
@@ -76,7 +76,7 @@ wrong-houses Authenticating message s = housed-filter s.grants _ s.listed
 wrong-houses Allocated message s = housed-filter s.grants _ s.listed
 wrong-houses Closed message s = housed-filter s.grants _ s.listed
 
-reply-houses : (is_granted : Bool) (message : List ℕ) (now : ℕ) (s : State) → Houses s (reply_step is_granted message now s).1
+reply-houses : (is_granted : Bool) (message : List ℕ) (now : ℕ) (s : State) → Houses s (response_step is_granted message now s).1
 reply-houses is_granted message now s h = effects-house (id_of message) is_granted message now (method_in message) (answered_purposes message s) (ended (id_of message) s) each h
   where
     each : (p : Purpose) → Has p (answered_purposes message s) → (is_answered (method_in message) p ≡ true) × HasRoom s.grants p
@@ -157,7 +157,7 @@ indicated-houses message s = by (connection_id_in message) refl (peer_in message
     first_of false b c d e = e
 
     by : (i : Option ℕ) → connection_id_in message ≡ i → (p : Option SocketAddr) → peer_in message ≡ p → IfSome (attempt_indicated message s) (Houses s)
-    by (Some id) e (Some peer) f = rw (e, f) (heeded_if (is_heeded peer s) _ (λ heeded. offered-houses id peer ServerIndication s (first_of _ _ _ _ heeded)))
+    by (Some id) e (Some peer) f = rw (e, f) (heeded_if (is_heeded peer s) _ (λ challenges_reset. offered-houses id peer ServerIndication s (first_of _ _ _ _ challenges_reset)))
     by (Some id) e None f = rw (e, f) tt
     by None e p f = rw e tt
 
@@ -173,15 +173,15 @@ message-houses message now s = by (judgement_of s message) refl
     asked false = λ h. h
 
     by : (j : Judgement) → judgement_of s message ≡ j → Houses s (message_step message now s).1
-    by Nothing e = rw e (λ h. h)
+    by Unrelated e = rw e (λ h. h)
     by (Challenged d) e = rw e (challenge-houses message d now s)
-    by Wrong e = rw e (wrong-houses s.phase message s)
-    by Late e = rw e (λ h. h)
-    by PeerSent e = rw e (λ h. h)
-    by Attempt e = rw e (indicated (attempt_indicated message s) (indicated-houses message s))
-    by Asked e = rw e (asked (eqb (method_in message) connection_attempt_method))
-    by Granted e = rw e (signed-houses s.phase true message now s)
-    by Denied e = rw e (signed-houses s.phase false message now s)
+    by Fatal e = rw e (wrong-houses s.phase message s)
+    by LateResponse e = rw e (λ h. h)
+    by DataIndication e = rw e (λ h. h)
+    by ConnectionAttempt e = rw e (indicated (attempt_indicated message s) (indicated-houses message s))
+    by SignedRequest e = rw e (asked (eqb (method_in message) connection_attempt_method))
+    by SignedSuccess e = rw e (signed-houses s.phase true message now s)
+    by SignedError e = rw e (signed-houses s.phase false message now s)
 
 -- ---- data connections
 
@@ -234,14 +234,14 @@ answered-houses c message now s = by (bind_judgement s c.local message) refl
 
     by : (j : Judgement) → bind_judgement s c.local message ≡ j → Houses s (bind_answered c message now s)
     by (Challenged d) e = rw e (again-houses c (id_of message) d now s)
-    by Granted e = rw e bound
-    by Denied e = rw e gone
-    by Nothing e = rw e gone
-    by Wrong e = rw e gone
-    by Late e = rw e gone
-    by PeerSent e = rw e gone
-    by Attempt e = rw e gone
-    by Asked e = rw e gone
+    by SignedSuccess e = rw e bound
+    by SignedError e = rw e gone
+    by Unrelated e = rw e gone
+    by Fatal e = rw e gone
+    by LateResponse e = rw e gone
+    by DataIndication e = rw e gone
+    by ConnectionAttempt e = rw e gone
+    by SignedRequest e = rw e gone
 
 bind_in_phase : (p : Phase) (local : SocketAddr) (message : List ℕ) (now : ℕ) (s : State) → Houses (record s { phase = p }) (bind_step local message now (record s { phase = p }))
 bind_in_phase New local message now s = λ h. h

@@ -8,7 +8,7 @@ use Rattle.turn_auth.specs.LongTerm.{Challenge}
 use Rattle.turn_client_api.specs.State.{State, Progress, Pending, Active, Reserved, Purpose, ForAllocation, ForRefresh, ForPermission, ForChannel, ForConnect, ForBind, Phase, New, Requesting, Authenticating, Allocated, Closed}
 use Rattle.turn_client_api.specs.Grants.{channel_at, first_in, permission_for, purposes_of}
 use Rattle.turn_client_api.specs.Judgement.{connection_id_in, lifetime_in}
-use Rattle.turn_client_api.specs.Effect.{allocation_mismatch, channel_answered, closed, connect_answered, effect, has_code, heeded, least_lifetime, permission_answered, permission_answered_for, permissions_answered, prolonged, refreshed}
+use Rattle.turn_client_api.specs.Effect.{allocation_mismatch, channel_answered, closed, connect_answered, effect, has_code, challenges_reset, least_lifetime, permission_answered, permission_answered_for, listed_permissions_answered, prolonged, refreshed}
 use Rattle.turn_client_api.specs.LawsSteps.{StaysClosed, StaysPatient, KeepsRealm, GoesOn, rank}
 
 abbrev pub Keeps : State → State → Type 0
@@ -37,8 +37,8 @@ keeps-trans s t u first second = (λ h. second.0 (first.0 h), λ h. second.1 (fi
 pub keeps-closed : (s t : State) → Keeps s t → Keeps s (closed t)
 keeps-closed s t k = (λ h. refl, k.1, k.2, (rank-le s.phase, k.3.1))
 
-pub keeps-heeded : (s t : State) → Keeps s t → Keeps s (heeded t)
-keeps-heeded s t k = (k.0, λ h. omega arith, k.2, k.3)
+pub keeps-challenges_reset : (s t : State) → Keeps s t → Keeps s (challenges_reset t)
+keeps-challenges_reset s t k = (k.0, λ h. omega arith, k.2, k.3)
 
 pub keeps-cond : (b : Bool) (s t u : State) → Keeps s t → Keeps s u → Keeps s (cond b t u)
 keeps-cond true s t u k l = k
@@ -69,7 +69,7 @@ permission_for-keeps is_granted now t (ForChannel number peer) = keeps-same t
 permission_for-keeps is_granted now t (ForConnect peer) = keeps-same t
 permission_for-keeps is_granted now t (ForBind local peer id) = keeps-same t
 
-permissions-keeps : (id : ℕ) (is_granted : Bool) (now : ℕ) (s : State) → Keeps s (permissions_answered id is_granted now s)
+permissions-keeps : (id : ℕ) (is_granted : Bool) (now : ℕ) (s : State) → Keeps s (listed_permissions_answered id is_granted now s)
 permissions-keeps id is_granted now s = keeps-fold (permission_answered_for is_granted now) (permission_for-keeps is_granted now) (purposes_of id s) s
 
 channel-keeps : (number id : ℕ) (is_granted : Bool) (now : ℕ) (s : State) → Keeps s (channel_answered number id is_granted now s)
@@ -99,8 +99,8 @@ refreshed-keeps family lifetime is_granted message now s =
 
 pub effect-keeps : (id : ℕ) (is_granted : Bool) (message : List ℕ) (now : ℕ) (s : State) (p : Purpose) → Keeps s (effect id is_granted message now s p)
 effect-keeps id is_granted message now s (ForRefresh family lifetime) = refreshed-keeps family lifetime is_granted message now s
-effect-keeps id is_granted message now s (ForPermission ip) = keeps-heeded s (permission_answered ip is_granted now s) (permission-keeps ip is_granted now s)
-effect-keeps id is_granted message now s (ForChannel number peer) = keeps-heeded s (channel_answered number id is_granted now s) (channel-keeps number id is_granted now s)
-effect-keeps id is_granted message now s (ForConnect peer) = keeps-heeded s (connect_answered peer (cond is_granted (connection_id_in message) None) s) (connect-keeps peer (cond is_granted (connection_id_in message) None) s)
+effect-keeps id is_granted message now s (ForPermission ip) = keeps-challenges_reset s (permission_answered ip is_granted now s) (permission-keeps ip is_granted now s)
+effect-keeps id is_granted message now s (ForChannel number peer) = keeps-challenges_reset s (channel_answered number id is_granted now s) (channel-keeps number id is_granted now s)
+effect-keeps id is_granted message now s (ForConnect peer) = keeps-challenges_reset s (connect_answered peer (cond is_granted (connection_id_in message) None) s) (connect-keeps peer (cond is_granted (connection_id_in message) None) s)
 effect-keeps id is_granted message now s ForAllocation = keeps-same s
 effect-keeps id is_granted message now s (ForBind local peer other) = keeps-same s

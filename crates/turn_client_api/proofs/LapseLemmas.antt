@@ -10,7 +10,7 @@ use Rattle.turn_types.specs.declared.family.AddressFamily.TheVariants.{IPV4, IPV
 use Rattle.turn_client_api.specs.Config.{same_family}
 use Rattle.turn_client_api.specs.Alarm.{StandsIn}
 use Rattle.turn_client_api.specs.State.{State, DataOffer, Grant, Allocation, Permission, Channel, Connect, Offer, Connection, Relay, Pending, Active, Reserved, Purpose, agent_of, later_by}
-use Rattle.turn_client_api.specs.Grants.{allocations, allocation_in, allocation_of, family_of_grant, has_request, is_past, failures_of, family_of, is_channel_of, is_for_any, is_connect, is_of, is_pending_channel, is_pending_permission, jump, unlisted, without}
+use Rattle.turn_client_api.specs.Grants.{allocations, allocation_in, allocation_of, family_of_grant, has_request, is_past, failures_among, family_of, is_channel_of, is_for_any, is_connect, is_of, is_pending_channel, is_pending_permission, jump, unlisted, without}
 use Rattle.turn_client_api.specs.Effect.{reserved, reserved_time}
 use Rattle.turn_client_api.specs.Calls.{is_allocated}
 use Rattle.turn_client_api.specs.Poll.{first_untold, given_up_purposes, next_offer, untold_in, channel_lapsed, connections_unbound, in_vain, last_channel_lapsed, offers_in_vain, permissions_lapsed, refreshes_in_vain, set_free, failed, goes, is_lapsed_channel, is_lapsed_permission, is_unbound, lapsed, lapsed_allocation, lapsed_in, unbound}
@@ -87,7 +87,7 @@ jump-shrinks : (events : List TurnEvent) (s : State) → Shrinks s (jump events 
 jump-shrinks events s = record { agent = refl; transactions = refl; queue = refl; phase = refl; grants = λ g h. inl h; events = λ e. (append-empty (reverse events) s.events e).1 }
 
 failed-shrinks : (which : Grant → Bool) (s : State) → Shrinks s (failed which s)
-failed-shrinks which s = shrinks-then s (without which s) (failed which s) (without-shrinks which s) (jump-shrinks (failures_of which s) (without which s))
+failed-shrinks which s = shrinks-then s (without which s) (failed which s) (without-shrinks which s) (jump-shrinks (failures_among which s) (without which s))
 
 unbound-shrinks : (which : Grant → Bool) (s : State) → Shrinks s (unbound which s)
 unbound-shrinks which s =

@@ -20,11 +20,11 @@ use Rattle.turn_agent.specs.Agent.{is_outstanding, is_response}
 use Rattle.turn_client_api.specs.State.{State, Phase, New, Requesting, Authenticating, Allocated, Closed, DataConnection, Purpose, auth_of}
 use Rattle.turn_client_api.specs.Grants.{allocation_for, purposes_of}
 use Rattle.turn_client_api.specs.Requests.{connection_attempt_method, connection_bind_method, data_method}
-use Rattle.turn_client_api.specs.Judgement.{Judgement, Nothing, Challenged, Wrong, Late, PeerSent, Attempt, Asked, Granted, Denied, judgement_of, bind_judgement, is_bind_of, by_class, challenged_or, challenge_in, answers_one, answers_allocate, authenticating_judgement, allocated_judgement, indication_judgement, class_in, method_in, connection_id_in, lifetime_in, peer_in}
+use Rattle.turn_client_api.specs.Judgement.{Judgement, Unrelated, Challenged, Fatal, LateResponse, DataIndication, ConnectionAttempt, SignedRequest, SignedSuccess, SignedError, judgement_of, bind_judgement, is_bind_of, by_class, challenged_or, challenge_in, answers_one, answers_allocate, authenticating_judgement, allocated_judgement, indication_judgement, class_in, method_in, connection_id_in, lifetime_in, peer_in}
 use Rattle.turn_client_api.specs.Effect.{allocate_denied, allocate_granted, effect, ended, family_not_supported, has_code, phase_with, taken_addresses, relayed_in}
 use Rattle.turn_client_api.specs.Retry.{most_challenges, retried, phase_after, state_after_retry}
 use Rattle.turn_client_api.specs.Connections.{attempt_indicated, attempt_requested, bind_again, bind_answered, bind_step, connection_at, is_connected, is_heeded}
-use Rattle.turn_client_api.specs.Payloads.{Outcome, Handled, Ignored, answered_purposes, challenge_step, message_step, reply_step, signed_step, wrong_step}
+use Rattle.turn_client_api.specs.Payloads.{Outcome, Handled, Ignored, answered_purposes, challenge_step, message_step, response_step, signed_step, wrong_step}
 use Rattle.turn_client_api.specs.LawsSteps.{IsCounted, rank}
 use Rattle.turn_client_api.proofs.KeepLemmas.{Keeps, keeps-same, keeps-cond, keeps-fold, effect-keeps, rank-le}
 
@@ -54,20 +54,20 @@ authenticating-is : (s : State) (message : List ℕ) (c : Challenge) → authent
 authenticating-is s message c = by (validation_of (auth_of s) message) refl
   where
     by : (v : Validation) → validation_of (auth_of s) message ≡ v → authenticating_judgement s message ≡ Challenged c → challenge_in s message ≡ Some c
-    by (Validated algorithm) e = rw e (if-is (answers_allocate s message) (cond (is_outstanding (id_of message) s.transactions) (by_class (class_in message)) Late) Nothing (challenge_in s message) c (cond-plain (is_outstanding (id_of message) s.transactions) (by_class (class_in message)) Late c (by_class-plain (class_in message) c) (λ e. cc)) (λ e. cc))
-    by (Refused integrity) e = rw e (if-is (answers_allocate s message) (cond integrity Wrong Nothing) Nothing (challenge_in s message) c (cond-plain integrity Wrong Nothing c (λ e. cc) (λ e. cc)) (λ e. cc))
-    by (ResendRequest algorithm) e = rw e (if-is (answers_allocate s message) Nothing Nothing (challenge_in s message) c (λ e. cc) (λ e. cc))
+    by (Validated algorithm) e = rw e (if-is (answers_allocate s message) (cond (is_outstanding (id_of message) s.transactions) (by_class (class_in message)) LateResponse) Unrelated (challenge_in s message) c (cond-plain (is_outstanding (id_of message) s.transactions) (by_class (class_in message)) LateResponse c (by_class-plain (class_in message) c) (λ e. cc)) (λ e. cc))
+    by (Refused integrity) e = rw e (if-is (answers_allocate s message) (cond integrity Fatal Unrelated) Unrelated (challenge_in s message) c (cond-plain integrity Fatal Unrelated c (λ e. cc) (λ e. cc)) (λ e. cc))
+    by (ResendRequest algorithm) e = rw e (if-is (answers_allocate s message) Unrelated Unrelated (challenge_in s message) c (λ e. cc) (λ e. cc))
 
 indication-plain : (message : List ℕ) (c : Challenge) → indication_judgement message ≡ Challenged c → ⊥
 indication-plain message c =
-    cond-plain (eqb (method_in message) data_method) PeerSent (cond (eqb (method_in message) connection_attempt_method) Attempt Nothing) c (λ e. cc)
-    (cond-plain (eqb (method_in message) connection_attempt_method) Attempt Nothing c (λ e. cc) (λ e. cc))
+    cond-plain (eqb (method_in message) data_method) DataIndication (cond (eqb (method_in message) connection_attempt_method) ConnectionAttempt Unrelated) c (λ e. cc)
+    (cond-plain (eqb (method_in message) connection_attempt_method) ConnectionAttempt Unrelated c (λ e. cc) (λ e. cc))
 
 allocated-is : (s : State) (message : List ℕ) (c : Challenge) → allocated_judgement s message ≡ Challenged c → challenge_in s message ≡ Some c
 allocated-is s message c = by (challenge_in s message) refl (class_in message) refl (validation_of (auth_of s) message) refl
   where
-    valid : cond (is_response (class_in message) && not (is_outstanding (id_of message) s.transactions)) Nothing (by_class (class_in message)) ≡ Challenged c → ⊥
-    valid = cond-plain (is_response (class_in message) && not (is_outstanding (id_of message) s.transactions)) Nothing (by_class (class_in message)) c (λ e. cc) (by_class-plain (class_in message) c)
+    valid : cond (is_response (class_in message) && not (is_outstanding (id_of message) s.transactions)) Unrelated (by_class (class_in message)) ≡ Challenged c → ⊥
+    valid = cond-plain (is_response (class_in message) && not (is_outstanding (id_of message) s.transactions)) Unrelated (by_class (class_in message)) c (λ e. cc) (by_class-plain (class_in message) c)
 
     by : (o : Option Challenge) → challenge_in s message ≡ o → (k : MessageClass) → class_in message ≡ k → (v : Validation) → validation_of (auth_of s) message ≡ v → allocated_judgement s message ≡ Challenged c → challenge_in s message ≡ Some c
     by o g Indication e v f = rw e (λ h. absurd (indication-plain message c h))
@@ -78,15 +78,15 @@ allocated-is s message c = by (challenge_in s message) refl (class_in message) r
     by o g Success e (Refused integrity) f = rw (e, f) (λ h. cc)
     by o g Success e (ResendRequest algorithm) f = rw (e, f) (λ h. cc)
     by o g Error e (Validated algorithm) f = rw (g, e, f, g) (challenged_or-is _ o c valid)
-    by o g Error e (Refused integrity) f = rw (g, e, f, g) (challenged_or-is Nothing o c (λ e. cc))
-    by o g Error e (ResendRequest algorithm) f = rw (g, e, f, g) (challenged_or-is Nothing o c (λ e. cc))
+    by o g Error e (Refused integrity) f = rw (g, e, f, g) (challenged_or-is Unrelated o c (λ e. cc))
+    by o g Error e (ResendRequest algorithm) f = rw (g, e, f, g) (challenged_or-is Unrelated o c (λ e. cc))
 
 pub Challenged-is : (s : State) (message : List ℕ) (c : Challenge) → judgement_of s message ≡ Challenged c → challenge_in s message ≡ Some c
 Challenged-is s message c = by s.phase refl
   where
     by : (p : Phase) → s.phase ≡ p → judgement_of s message ≡ Challenged c → challenge_in s message ≡ Some c
     by New e = rw e (λ h. cc)
-    by Requesting e = rw e (if-is (answers_one s message) Wrong Nothing (challenge_in s message) c (λ e. cc) (λ e. cc))
+    by Requesting e = rw e (if-is (answers_one s message) Fatal Unrelated (challenge_in s message) c (λ e. cc) (λ e. cc))
     by Authenticating e = rw e (authenticating-is s message c)
     by Allocated e = rw e (allocated-is s message c)
     by Closed e = rw e (λ h. cc)
@@ -95,9 +95,9 @@ bind-is : (s : State) (local : SocketAddr) (message : List ℕ) (c : Challenge) 
 bind-is s local message c = by (validation_of (auth_of s) message) refl
   where
     by : (v : Validation) → validation_of (auth_of s) message ≡ v → bind_judgement s local message ≡ Challenged c → challenge_in s message ≡ Some c
-    by (Validated algorithm) e = rw e (if-is _ (cond (is_outstanding (id_of message) s.transactions) (by_class (class_in message)) Wrong) Wrong (challenge_in s message) c (cond-plain (is_outstanding (id_of message) s.transactions) (by_class (class_in message)) Wrong c (by_class-plain (class_in message) c) (λ e. cc)) (λ e. cc))
-    by (Refused integrity) e = rw e (if-is _ Wrong Wrong (challenge_in s message) c (λ e. cc) (λ e. cc))
-    by (ResendRequest algorithm) e = rw e (if-is _ Wrong Wrong (challenge_in s message) c (λ e. cc) (λ e. cc))
+    by (Validated algorithm) e = rw e (if-is _ (cond (is_outstanding (id_of message) s.transactions) (by_class (class_in message)) Fatal) Fatal (challenge_in s message) c (cond-plain (is_outstanding (id_of message) s.transactions) (by_class (class_in message)) Fatal c (by_class-plain (class_in message) c) (λ e. cc)) (λ e. cc))
+    by (Refused integrity) e = rw e (if-is _ Fatal Fatal (challenge_in s message) c (λ e. cc) (λ e. cc))
+    by (ResendRequest algorithm) e = rw e (if-is _ Fatal Fatal (challenge_in s message) c (λ e. cc) (λ e. cc))
 
 -- with something held, a challenge keeps realm and algorithm
 challenge-realm : (held : Option Challenge) (s : State) (message : List ℕ) (d c : Challenge) → challenge_of (record (auth_of s) { held = held }) message ≡ Some d → held ≡ Some c → (d.realm ≡ c.realm) × (d.algorithm ≡ c.algorithm)
@@ -149,7 +149,7 @@ wrong-keeps Authenticating message s = (λ h. refl, λ h. h, (keeps-same s).2, (
 wrong-keeps Allocated message s = (λ h. refl, λ h. h, (keeps-same s).2, (omega (arith, rank-le s.phase), λ h. h))
 wrong-keeps Closed message s = (λ h. refl, λ h. h, (keeps-same s).2, (omega (arith, rank-le s.phase), λ h. h))
 
-reply-keeps : (is_granted : Bool) (message : List ℕ) (now : ℕ) (s : State) → Keeps s (reply_step is_granted message now s).1
+reply-keeps : (is_granted : Bool) (message : List ℕ) (now : ℕ) (s : State) → Keeps s (response_step is_granted message now s).1
 reply-keeps is_granted message now s = keeps-fold (effect (id_of message) is_granted message now) (effect-keeps (id_of message) is_granted message now) (answered_purposes message s) (ended (id_of message) s)
 
 pub rank-with : (addresses : List SocketAddr) → 3 ≤ rank (phase_with addresses)
@@ -210,15 +210,15 @@ message-keeps message now s = by (judgement_of s message) refl
     asked false = keeps-same s
 
     by : (j : Judgement) → judgement_of s message ≡ j → Keeps s (message_step message now s).1
-    by Nothing e = rw e (keeps-same s)
+    by Unrelated e = rw e (keeps-same s)
     by (Challenged d) e = rw e (challenge-keeps message d now s (Challenged-is s message d e))
-    by Wrong e = rw e (wrong-keeps s.phase message s)
-    by Late e = rw e (keeps-same s)
-    by PeerSent e = rw e (keeps-same s)
-    by Attempt e = rw e (indicated (attempt_indicated message s) (indicated-keeps message s))
-    by Asked e = rw e (asked (eqb (method_in message) connection_attempt_method))
-    by Granted e = rw e (signed-keeps s.phase true message now s)
-    by Denied e = rw e (signed-keeps s.phase false message now s)
+    by Fatal e = rw e (wrong-keeps s.phase message s)
+    by LateResponse e = rw e (keeps-same s)
+    by DataIndication e = rw e (keeps-same s)
+    by ConnectionAttempt e = rw e (indicated (attempt_indicated message s) (indicated-keeps message s))
+    by SignedRequest e = rw e (asked (eqb (method_in message) connection_attempt_method))
+    by SignedSuccess e = rw e (signed-keeps s.phase true message now s)
+    by SignedError e = rw e (signed-keeps s.phase false message now s)
 
 -- ---- connections that wait to be bound
 
@@ -234,14 +234,14 @@ answered-keeps c message now s = by (bind_judgement s c.local message) refl
   where
     by : (j : Judgement) → bind_judgement s c.local message ≡ j → Keeps s (bind_answered c message now s)
     by (Challenged d) e = rw e (again-keeps c message d now s (bind-is s c.local message d e))
-    by Granted e = rw e (keeps-same s)
-    by Denied e = rw e (keeps-same s)
-    by Nothing e = rw e (keeps-same s)
-    by Wrong e = rw e (keeps-same s)
-    by Late e = rw e (keeps-same s)
-    by PeerSent e = rw e (keeps-same s)
-    by Attempt e = rw e (keeps-same s)
-    by Asked e = rw e (keeps-same s)
+    by SignedSuccess e = rw e (keeps-same s)
+    by SignedError e = rw e (keeps-same s)
+    by Unrelated e = rw e (keeps-same s)
+    by Fatal e = rw e (keeps-same s)
+    by LateResponse e = rw e (keeps-same s)
+    by DataIndication e = rw e (keeps-same s)
+    by ConnectionAttempt e = rw e (keeps-same s)
+    by SignedRequest e = rw e (keeps-same s)
 
 bind_in_phase : (p : Phase) (local : SocketAddr) (message : List ℕ) (now : ℕ) (s : State) → Keeps (record s { phase = p }) (bind_step local message now (record s { phase = p }))
 bind_in_phase New local message now s = keeps-same (record s { phase = New })

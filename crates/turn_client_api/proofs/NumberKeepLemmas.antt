@@ -14,10 +14,10 @@ use Rattle.turn_client_api.specs.State.{Reserved, Purpose, ForAllocation, ForRef
 use Rattle.turn_client_api.specs.Grants.{changed_allocation, allocation_in, channel_at, first_in, is_channel_of, is_connect_to, is_of, is_permission_of, permission_for, purposes_of, with_allocations, with_grant}
 use Rattle.turn_client_api.specs.Grants.{without, unlisted}
 use Rattle.turn_client_api.specs.Judgement.{connection_id_in, lifetime_in}
-use Rattle.turn_client_api.specs.Effect.{lasting_if, allocation_mismatch, channel_answered, connect_answered, effect, has_code, lasting, least_lifetime, new_allocation, permission_answered, permission_answered_for, permissions_answered}
+use Rattle.turn_client_api.specs.Effect.{lasting_if, allocation_mismatch, channel_answered, connect_answered, effect, has_code, lasting, least_lifetime, new_allocation, permission_answered, permission_answered_for, listed_permissions_answered}
 use Rattle.turn_client_api.specs.Effect.{prolonged, refreshed, renewed, reserved, with_offer}
 use Rattle.turn_client_api.specs.Connections.{deadline_set, with_deadline}
-use Rattle.turn_client_api.specs.LawsNumbers.{HasDistinctNumbers, channel_number}
+use Rattle.turn_client_api.specs.LawsNumbers.{HasDistinctNumbers, number_of_channel}
 use Rattle.turn_client_api.proofs.NumberLemmas.{numbers, apart-filter, apart-map, apart-others, apart-channel, none-filter}
 
 -- where the numbers were distinct, they are
@@ -47,7 +47,7 @@ apart-fold f step (x ∷ xs) s = apart-trans s (f s x) (fold f (f s x) xs) (step
 pub without-apart : (which : Grant → Bool) (s : State) → StayApart s (without which s)
 without-apart which s h = apart-filter (λ g. not (which g)) s.grants h
 
-pub other-apart : (g : Grant) (s : State) → channel_number g ≡ None → StayApart s (with_grant g s)
+pub other-apart : (g : Grant) (s : State) → number_of_channel g ≡ None → StayApart s (with_grant g s)
 other-apart g s none h = apart-others s.grants (g ∷ []) (rw none refl) h
 
 -- a channel takes the place of the one of its number
@@ -58,11 +58,11 @@ channel-apart number peer progress s h =
 pub allocations-apart : (which : Relay → Bool) (change : Relay → Relay) (s : State) → StayApart s (with_allocations which change s)
 allocations-apart which change s = apart-map (changed_allocation which change) by s.grants
   where
-    either : (b : Bool) (a : Relay) → channel_number (cond b (Allocation (change a)) (Allocation a)) ≡ None
+    either : (b : Bool) (a : Relay) → number_of_channel (cond b (Allocation (change a)) (Allocation a)) ≡ None
     either true a = refl
     either false a = refl
 
-    by : (g : Grant) → channel_number (changed_allocation which change g) ≡ channel_number g
+    by : (g : Grant) → number_of_channel (changed_allocation which change g) ≡ number_of_channel g
     by (Allocation a) = either (which a) a
     by (Permission ip progress) = refl
     by (Channel number peer progress) = refl
@@ -73,7 +73,7 @@ allocations-apart which change s = apart-map (changed_allocation which change) b
 renewed-apart : (which : Grant → Bool) (expiry : ℕ) (s : State) → StayApart s (renewed which expiry s)
 renewed-apart which expiry s = apart-map (lasting_if which expiry) (λ g. either (which g) g) s.grants
   where
-    last : (g : Grant) → channel_number (lasting expiry g) ≡ channel_number g
+    last : (g : Grant) → number_of_channel (lasting expiry g) ≡ number_of_channel g
     last (Allocation a) = refl
     last (Permission ip Pending) = refl
     last (Permission ip (Active was)) = refl
@@ -85,18 +85,18 @@ renewed-apart which expiry s = apart-map (lasting_if which expiry) (λ g. either
     last (Offer offer) = refl
     last (Connection c) = refl
 
-    either : (b : Bool) (g : Grant) → channel_number (cond b (lasting expiry g) g) ≡ channel_number g
+    either : (b : Bool) (g : Grant) → number_of_channel (cond b (lasting expiry g) g) ≡ number_of_channel g
     either true g = last g
     either false g = refl
 
 pub deadline-apart : (local : SocketAddr) (deadline : Option ℕ) (s : State) → StayApart s (with_deadline local deadline s)
 deadline-apart local deadline s = apart-map (deadline_set local deadline) by s.grants
   where
-    either : (b : Bool) (c : DataConnection) → channel_number (cond b (Connection (record c { deadline = deadline })) (Connection c)) ≡ None
+    either : (b : Bool) (c : DataConnection) → number_of_channel (cond b (Connection (record c { deadline = deadline })) (Connection c)) ≡ None
     either true c = refl
     either false c = refl
 
-    by : (g : Grant) → channel_number (deadline_set local deadline g) ≡ channel_number g
+    by : (g : Grant) → number_of_channel (deadline_set local deadline g) ≡ number_of_channel g
     by (Connection c) = either (same_address c.local local) c
     by (Allocation a) = refl
     by (Permission ip progress) = refl
@@ -129,7 +129,7 @@ permission_for-apart is_granted now t (ForChannel number peer) = apart-same t
 permission_for-apart is_granted now t (ForConnect peer) = apart-same t
 permission_for-apart is_granted now t (ForBind local peer id) = apart-same t
 
-permissions-apart : (id : ℕ) (is_granted : Bool) (now : ℕ) (s : State) → StayApart s (permissions_answered id is_granted now s)
+permissions-apart : (id : ℕ) (is_granted : Bool) (now : ℕ) (s : State) → StayApart s (listed_permissions_answered id is_granted now s)
 permissions-apart id is_granted now s = apart-fold (permission_answered_for is_granted now) (permission_for-apart is_granted now) (purposes_of id s) s
 
 pub reserved-apart : (number : ℕ) (peer : SocketAddr) (expiry : ℕ) (s : State) → StayApart s (reserved number peer expiry s)
@@ -140,7 +140,7 @@ channel_answered-apart number id is_granted now s = by (first_in (channel_at num
   where
     by : (o : Option (SocketAddr × Progress)) → first_in (channel_at number) s ≡ o → (g : Bool) → StayApart s (channel_answered number id g now s)
     by None e g = rw e (apart-same s)
-    by (Some (peer, Pending)) e true = rw e (λ h. channel-apart number peer _ (permissions_answered id true now s) (permissions-apart id true now s h))
+    by (Some (peer, Pending)) e true = rw e (λ h. channel-apart number peer _ (listed_permissions_answered id true now s) (permissions-apart id true now s h))
     by (Some (peer, Pending)) e false = rw e (λ h. without-apart _ (without (is_channel_of number) s) (without-apart (is_channel_of number) s h))
     by (Some (peer, Active expiry)) e true = rw e (renewed-apart (is_channel_of number) _ (unlisted (is_channel_of number) s))
     by (Some (peer, Active expiry)) e false = rw e (reserved-apart number peer expiry s)

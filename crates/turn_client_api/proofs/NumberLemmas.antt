@@ -12,11 +12,11 @@ use Rattle.turn_client_api.specs.State.{Grant, Allocation, Permission, Channel, 
 use Rattle.turn_client_api.specs.Grants.{is_channel_of}
 use Rattle.turn_client_api.specs.Calls.{is_offer_of, without_first}
 use Rattle.turn_client_api.specs.Poll.{told, told_first, untold_in}
-use Rattle.turn_client_api.specs.LawsNumbers.{channel_number}
+use Rattle.turn_client_api.specs.LawsNumbers.{number_of_channel}
 
 -- the numbers of the channels among these grants
 abbrev pub numbers : List Grant → List ℕ
-numbers grants = filter_map channel_number grants
+numbers grants = filter_map number_of_channel grants
 
 -- no two of them have one number
 abbrev pub AreApart : List Grant → Type 0
@@ -25,9 +25,9 @@ AreApart grants = IsDistinct eqb (numbers grants)
 -- what holds of all numbers holds of those that stay
 all-filter : (P : ℕ → Type 0) (p : Grant → Bool) (gs : List Grant) → AllByRecursion P (numbers gs) → AllByRecursion P (numbers (filter p gs))
 all-filter P p [] h = h
-all-filter P p (g ∷ gs) h = by (channel_number g) refl (p g) refl (all-filter P p gs)
+all-filter P p (g ∷ gs) h = by (number_of_channel g) refl (p g) refl (all-filter P p gs)
   where
-    by : (o : Option ℕ) → channel_number g ≡ o → (b : Bool) → p g ≡ b → (AllByRecursion P (numbers gs) → AllByRecursion P (numbers (filter p gs))) → AllByRecursion P (numbers (filter p (g ∷ gs)))
+    by : (o : Option ℕ) → number_of_channel g ≡ o → (b : Bool) → p g ≡ b → (AllByRecursion P (numbers gs) → AllByRecursion P (numbers (filter p gs))) → AllByRecursion P (numbers (filter p (g ∷ gs)))
     by None e true f later = rw (f, e) (later (rw e at h))
     by None e false f later = rw f (later (rw e at h))
     by (Some n) e true f later = rw (f, e) ((rw e at h).0, later (rw e at h).1)
@@ -36,25 +36,25 @@ all-filter P p (g ∷ gs) h = by (channel_number g) refl (p g) refl (all-filter 
 pub apart-filter : (p : Grant → Bool) (gs : List Grant) → AreApart gs → AreApart (filter p gs)
 unfolding IsDistinct
 apart-filter p [] h = h
-apart-filter p (g ∷ gs) h = by (channel_number g) refl (p g) refl (apart-filter p gs)
+apart-filter p (g ∷ gs) h = by (number_of_channel g) refl (p g) refl (apart-filter p gs)
   where
-    by : (o : Option ℕ) → channel_number g ≡ o → (b : Bool) → p g ≡ b → (AreApart gs → AreApart (filter p gs)) → AreApart (filter p (g ∷ gs))
+    by : (o : Option ℕ) → number_of_channel g ≡ o → (b : Bool) → p g ≡ b → (AreApart gs → AreApart (filter p gs)) → AreApart (filter p (g ∷ gs))
     by None e true f later = rw (f, e) (later (rw e at h))
     by None e false f later = rw f (later (rw e at h))
     by (Some n) e true f later = rw (f, e) (all-filter (λ m. eqb n m ≡ false) p gs (rw e at h).0, later (rw e at h).1)
     by (Some n) e false f later = rw f (later (rw e at h).1)
 
 -- a change of each grant that leaves its number
-pub numbers-map : (f : Grant → Grant) → ((g : Grant) → channel_number (f g) ≡ channel_number g) → (gs : List Grant) → numbers (map f gs) ≡ numbers gs
+pub numbers-map : (f : Grant → Grant) → ((g : Grant) → number_of_channel (f g) ≡ number_of_channel g) → (gs : List Grant) → numbers (map f gs) ≡ numbers gs
 numbers-map f same [] = refl
 numbers-map f same (g ∷ gs) = rw (same g, numbers-map f same gs) refl
 
-pub apart-map : (f : Grant → Grant) → ((g : Grant) → channel_number (f g) ≡ channel_number g) → (gs : List Grant) → AreApart gs → AreApart (map f gs)
+pub apart-map : (f : Grant → Grant) → ((g : Grant) → number_of_channel (f g) ≡ number_of_channel g) → (gs : List Grant) → AreApart gs → AreApart (map f gs)
 apart-map f same gs h = rw (numbers-map f same gs) h
 
 -- grants that are no channels
 pub apart-others : (gs hs : List Grant) → numbers hs ≡ [] → AreApart gs → AreApart (gs ++ hs)
-apart-others gs hs none h = rw (filter_map-append channel_number gs hs, none, append-nil (numbers gs)) h
+apart-others gs hs none h = rw (filter_map-append number_of_channel gs hs, none, append-nil (numbers gs)) h
 
 all-last : (P : ℕ → Type 0) (n : ℕ) (ns : List ℕ) → P n → AllByRecursion P ns → AllByRecursion P (ns ++ n ∷ [])
 all-last P n [] last h = (last, tt)
@@ -78,7 +78,7 @@ all-free n (Connection c ∷ gs) free = all-free n gs free
 -- a channel of a number that none has
 pub apart-channel : (n : ℕ) (gs hs : List Grant) → list_any (is_channel_of n) gs ≡ false → numbers hs ≡ n ∷ [] → AreApart gs → AreApart (gs ++ hs)
 apart-channel n gs hs free one h =
-    rw (filter_map-append channel_number gs hs, one) (distinct-last n (numbers gs) (all-free n gs free) h)
+    rw (filter_map-append number_of_channel gs hs, one) (distinct-last n (numbers gs) (all-free n gs free) h)
 
 -- what was taken out is not there
 pub none-filter : {X : Type 0} (p : X → Bool) (xs : List X) → list_any p (filter (λ x. not (p x)) xs) ≡ false
@@ -107,7 +107,7 @@ numbers-without_first id peer (Offer offer ∷ gs) = by (is_offer_of id peer (Of
     by true later = refl
     by false later = later
 
-told-number : (g : Grant) → channel_number (told g) ≡ channel_number g
+told-number : (g : Grant) → number_of_channel (told g) ≡ number_of_channel g
 told-number (Offer offer) = refl
 told-number (Allocation a) = refl
 told-number (Permission ip progress) = refl

@@ -10,12 +10,12 @@ use Rattle.turn_auth.specs.LongTerm.{Challenge}
 use Rattle.turn_client_api.specs.State.{State, DataConnection, ServerIndication, ServerRequest, Purpose, Phase, New, Requesting, Authenticating, Allocated, Closed, later_by}
 use Rattle.turn_client_api.specs.Grants.{allocation_for, is_connection_from, purposes_of, unlisted}
 use Rattle.turn_client_api.specs.Requests.{connection_attempt_method, connection_bind_method, fresh_id, requested}
-use Rattle.turn_client_api.specs.Judgement.{Judgement, Nothing, Challenged, Wrong, Late, PeerSent, Attempt, Asked, Granted, Denied, judgement_of, bind_judgement, is_bind_of, connection_id_in}
+use Rattle.turn_client_api.specs.Judgement.{Judgement, Unrelated, Challenged, Fatal, LateResponse, DataIndication, ConnectionAttempt, SignedRequest, SignedSuccess, SignedError, judgement_of, bind_judgement, is_bind_of, connection_id_in}
 use Rattle.turn_client_api.specs.Judgement.{lifetime_in, method_in, peer_in}
 use Rattle.turn_client_api.specs.Effect.{allocate_denied, allocate_granted, effect, ended, family_not_supported, has_code, new_allocation, relayed_in, taken_addresses}
 use Rattle.turn_client_api.specs.Retry.{bind_time, most_challenges, retried, with_held}
 use Rattle.turn_client_api.specs.Connections.{attempt_indicated, attempt_requested, bind_again, bind_answered, bind_step, connection_at, is_connected, is_heeded}
-use Rattle.turn_client_api.specs.Payloads.{Outcome, Handled, Ignored, answered_purposes, challenge_step, message_step, reply_step, signed_step, wrong_step}
+use Rattle.turn_client_api.specs.Payloads.{Outcome, Handled, Ignored, answered_purposes, challenge_step, message_step, response_step, signed_step, wrong_step}
 use Rattle.turn_client_api.proofs.NumberLemmas.{apart-others}
 use Rattle.turn_client_api.proofs.NumberKeepLemmas.{StayApart, apart-same, apart-cond, apart-fold, deadline-apart, effect-apart, numbers-allocations, offer-apart, without-apart}
 
@@ -36,7 +36,7 @@ wrong-apart Authenticating message s h = h
 wrong-apart Allocated message s h = h
 wrong-apart Closed message s h = h
 
-reply-apart : (is_granted : Bool) (message : List ℕ) (now : ℕ) (s : State) → StayApart s (reply_step is_granted message now s).1
+reply-apart : (is_granted : Bool) (message : List ℕ) (now : ℕ) (s : State) → StayApart s (response_step is_granted message now s).1
 reply-apart is_granted message now s = apart-fold (effect (id_of message) is_granted message now) (effect-apart (id_of message) is_granted message now) (answered_purposes message s) (ended (id_of message) s)
 
 granted-apart : (message : List ℕ) (now : ℕ) (s : State) → StayApart s (allocate_granted message now s)
@@ -94,15 +94,15 @@ message-apart message now s = by (judgement_of s message) refl
     asked false = apart-same s
 
     by : (j : Judgement) → judgement_of s message ≡ j → StayApart s (message_step message now s).1
-    by Nothing e = rw e (apart-same s)
+    by Unrelated e = rw e (apart-same s)
     by (Challenged d) e = rw e (challenge-apart message d now s)
-    by Wrong e = rw e (wrong-apart s.phase message s)
-    by Late e = rw e (apart-same s)
-    by PeerSent e = rw e (apart-same s)
-    by Attempt e = rw e (indicated (attempt_indicated message s) (indicated-apart message s))
-    by Asked e = rw e (asked (eqb (method_in message) connection_attempt_method))
-    by Granted e = rw e (signed-apart s.phase true message now s)
-    by Denied e = rw e (signed-apart s.phase false message now s)
+    by Fatal e = rw e (wrong-apart s.phase message s)
+    by LateResponse e = rw e (apart-same s)
+    by DataIndication e = rw e (apart-same s)
+    by ConnectionAttempt e = rw e (indicated (attempt_indicated message s) (indicated-apart message s))
+    by SignedRequest e = rw e (asked (eqb (method_in message) connection_attempt_method))
+    by SignedSuccess e = rw e (signed-apart s.phase true message now s)
+    by SignedError e = rw e (signed-apart s.phase false message now s)
 
 -- ---- connections that wait to be bound
 
@@ -118,14 +118,14 @@ answered-apart c message now s = by (bind_judgement s c.local message) refl
   where
     by : (j : Judgement) → bind_judgement s c.local message ≡ j → StayApart s (bind_answered c message now s)
     by (Challenged d) e = rw e (again-apart c (id_of message) d now s)
-    by Granted e = rw e (deadline-apart c.local None (unlisted (is_connection_from c.local) (ended (id_of message) s)))
-    by Denied e = rw e (without-apart (is_connection_from c.local) (ended (id_of message) s))
-    by Nothing e = rw e (without-apart (is_connection_from c.local) s)
-    by Wrong e = rw e (without-apart (is_connection_from c.local) s)
-    by Late e = rw e (without-apart (is_connection_from c.local) s)
-    by PeerSent e = rw e (without-apart (is_connection_from c.local) s)
-    by Attempt e = rw e (without-apart (is_connection_from c.local) s)
-    by Asked e = rw e (without-apart (is_connection_from c.local) s)
+    by SignedSuccess e = rw e (deadline-apart c.local None (unlisted (is_connection_from c.local) (ended (id_of message) s)))
+    by SignedError e = rw e (without-apart (is_connection_from c.local) (ended (id_of message) s))
+    by Unrelated e = rw e (without-apart (is_connection_from c.local) s)
+    by Fatal e = rw e (without-apart (is_connection_from c.local) s)
+    by LateResponse e = rw e (without-apart (is_connection_from c.local) s)
+    by DataIndication e = rw e (without-apart (is_connection_from c.local) s)
+    by ConnectionAttempt e = rw e (without-apart (is_connection_from c.local) s)
+    by SignedRequest e = rw e (without-apart (is_connection_from c.local) s)
 
 bind_in_phase : (p : Phase) (local : SocketAddr) (message : List ℕ) (now : ℕ) (s : State) → StayApart (record s { phase = p }) (bind_step local message now (record s { phase = p }))
 bind_in_phase New local message now s h = h

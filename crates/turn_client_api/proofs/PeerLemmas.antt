@@ -19,7 +19,7 @@ use Rattle.turn_auth.specs.declared.validation.Validation.TheVariants.{Validated
 use Rattle.turn_auth.specs.LongTerm.{Challenge}
 use Rattle.turn_client_api.specs.State.{State, Phase, New, Requesting, Authenticating, Allocated, Closed, Grant, Allocation, Permission, Channel, Connect, Offer, Connection, Progress, Pending, Active, Reserved, Mode, Control, Waiting, Bound, Broken, Stream, Purpose}
 use Rattle.turn_client_api.specs.Grants.{channel_peer, first_in, is_permitted, permission_progress, is_active, same_ip, purposes_of}
-use Rattle.turn_client_api.specs.Judgement.{Judgement, Nothing, Challenged, Wrong, Late, PeerSent, Attempt, Asked, Granted, Denied, judgement_of, has_unknown, last_in, last_peer_in, last_icmp_in}
+use Rattle.turn_client_api.specs.Judgement.{Judgement, Unrelated, Challenged, Fatal, LateResponse, DataIndication, ConnectionAttempt, SignedRequest, SignedSuccess, SignedError, judgement_of, has_unknown, last_in, last_peer_in, last_icmp_in}
 use Rattle.turn_client_api.specs.Answers.{is_data_indication}
 use Rattle.turn_client_api.specs.Connections.{attempt_indicated}
 use Rattle.std.specs.Option.{option_map_or}
@@ -134,45 +134,45 @@ attempt-nobodys (Some t) s = tt
 
 -- ---- messages
 
-by_class-unlike : (class : MessageClass) → by_class class ≡ PeerSent → ⊥
+by_class-unlike : (class : MessageClass) → by_class class ≡ DataIndication → ⊥
 by_class-unlike Request e = cc
 by_class-unlike Indication e = cc
 by_class-unlike Success e = cc
 by_class-unlike Error e = cc
 
-challenged_or-unlike : (j : Judgement) (o : Option Challenge) → (j ≡ PeerSent → ⊥) → challenged_or j o ≡ PeerSent → ⊥
+challenged_or-unlike : (j : Judgement) (o : Option Challenge) → (j ≡ DataIndication → ⊥) → challenged_or j o ≡ DataIndication → ⊥
 challenged_or-unlike j None not_j e = not_j e
 challenged_or-unlike j (Some challenge) not_j e = cc
 
-cond-unlike : (b : Bool) (j k : Judgement) → (j ≡ PeerSent → ⊥) → (k ≡ PeerSent → ⊥) → cond b j k ≡ PeerSent → ⊥
+cond-unlike : (b : Bool) (j k : Judgement) → (j ≡ DataIndication → ⊥) → (k ≡ DataIndication → ⊥) → cond b j k ≡ DataIndication → ⊥
 cond-unlike true j k not_j not_k e = not_j e
 cond-unlike false j k not_j not_k e = not_k e
 
-requesting-unlike : (s : State) (message : List ℕ) → requesting_judgement s message ≡ PeerSent → ⊥
+requesting-unlike : (s : State) (message : List ℕ) → requesting_judgement s message ≡ DataIndication → ⊥
 requesting-unlike s message =
-    cond-unlike (answers_one s message) (challenged_or Wrong (challenge_in s message)) Nothing
-    (challenged_or-unlike Wrong (challenge_in s message) (λ e. cc)) (λ e. cc)
+    cond-unlike (answers_one s message) (challenged_or Fatal (challenge_in s message)) Unrelated
+    (challenged_or-unlike Fatal (challenge_in s message) (λ e. cc)) (λ e. cc)
 
-authenticating-unlike : (s : State) (message : List ℕ) → authenticating_judgement s message ≡ PeerSent → ⊥
+authenticating-unlike : (s : State) (message : List ℕ) → authenticating_judgement s message ≡ DataIndication → ⊥
 authenticating-unlike s message = by (validation_of (auth_of s) message) refl
   where
-    by : (v : Validation) → validation_of (auth_of s) message ≡ v → authenticating_judgement s message ≡ PeerSent → ⊥
-    by (Validated algorithm) e = rw e (cond-unlike (answers_allocate s message) (challenged_or (cond (is_outstanding (id_of message) s.transactions) (by_class (class_in message)) Late) (challenge_in s message)) Nothing (challenged_or-unlike _ (challenge_in s message) (cond-unlike (is_outstanding (id_of message) s.transactions) (by_class (class_in message)) Late (by_class-unlike (class_in message)) (λ e. cc))) (λ e. cc))
-    by (Refused integrity) e = rw e (cond-unlike (answers_allocate s message) (challenged_or (cond integrity Wrong Nothing) (challenge_in s message)) Nothing (challenged_or-unlike _ (challenge_in s message) (cond-unlike integrity Wrong Nothing (λ e. cc) (λ e. cc))) (λ e. cc))
-    by (ResendRequest algorithm) e = rw e (cond-unlike (answers_allocate s message) (challenged_or Nothing (challenge_in s message)) Nothing (challenged_or-unlike Nothing (challenge_in s message) (λ e. cc)) (λ e. cc))
+    by : (v : Validation) → validation_of (auth_of s) message ≡ v → authenticating_judgement s message ≡ DataIndication → ⊥
+    by (Validated algorithm) e = rw e (cond-unlike (answers_allocate s message) (challenged_or (cond (is_outstanding (id_of message) s.transactions) (by_class (class_in message)) LateResponse) (challenge_in s message)) Unrelated (challenged_or-unlike _ (challenge_in s message) (cond-unlike (is_outstanding (id_of message) s.transactions) (by_class (class_in message)) LateResponse (by_class-unlike (class_in message)) (λ e. cc))) (λ e. cc))
+    by (Refused integrity) e = rw e (cond-unlike (answers_allocate s message) (challenged_or (cond integrity Fatal Unrelated) (challenge_in s message)) Unrelated (challenged_or-unlike _ (challenge_in s message) (cond-unlike integrity Fatal Unrelated (λ e. cc) (λ e. cc))) (λ e. cc))
+    by (ResendRequest algorithm) e = rw e (cond-unlike (answers_allocate s message) (challenged_or Unrelated (challenge_in s message)) Unrelated (challenged_or-unlike Unrelated (challenge_in s message) (λ e. cc)) (λ e. cc))
 
-allocated-indication : (s : State) (message : List ℕ) → allocated_judgement s message ≡ PeerSent → is_data_indication message ≡ true
+allocated-indication : (s : State) (message : List ℕ) → allocated_judgement s message ≡ DataIndication → is_data_indication message ≡ true
 allocated-indication s message = by (class_in message) refl (validation_of (auth_of s) message) refl
   where
-    stray : (c : MessageClass) → cond (is_response c && not (is_outstanding (id_of message) s.transactions)) Nothing (by_class c) ≡ PeerSent → ⊥
-    stray c = cond-unlike (is_response c && not (is_outstanding (id_of message) s.transactions)) Nothing (by_class c) (λ e. cc) (by_class-unlike c)
+    stray : (c : MessageClass) → cond (is_response c && not (is_outstanding (id_of message) s.transactions)) Unrelated (by_class c) ≡ DataIndication → ⊥
+    stray c = cond-unlike (is_response c && not (is_outstanding (id_of message) s.transactions)) Unrelated (by_class c) (λ e. cc) (by_class-unlike c)
 
-    data_or : (b c : Bool) → cond b PeerSent (cond c Attempt Nothing) ≡ PeerSent → b ≡ true
+    data_or : (b c : Bool) → cond b DataIndication (cond c ConnectionAttempt Unrelated) ≡ DataIndication → b ≡ true
     data_or true c e = refl
     data_or false true e = cc
     data_or false false e = cc
 
-    by : (c : MessageClass) → class_in message ≡ c → (v : Validation) → validation_of (auth_of s) message ≡ v → allocated_judgement s message ≡ PeerSent → is_data_indication message ≡ true
+    by : (c : MessageClass) → class_in message ≡ c → (v : Validation) → validation_of (auth_of s) message ≡ v → allocated_judgement s message ≡ DataIndication → is_data_indication message ≡ true
     by Indication e v f = rw e (data_or (eqb (method_in message) data_method) (eqb (method_in message) connection_attempt_method))
     by Request e (Validated algorithm) f = rw (e, f) (λ h. absurd (stray (class_in message) h))
     by Request e (Refused integrity) f = rw (e, f) (λ h. cc)
@@ -181,14 +181,14 @@ allocated-indication s message = by (class_in message) refl (validation_of (auth
     by Success e (Refused integrity) f = rw (e, f) (λ h. cc)
     by Success e (ResendRequest algorithm) f = rw (e, f) (λ h. cc)
     by Error e (Validated algorithm) f = rw (e, f) (λ h. absurd (challenged_or-unlike _ (challenge_in s message) (stray (class_in message)) h))
-    by Error e (Refused integrity) f = rw (e, f) (λ h. absurd (challenged_or-unlike Nothing (challenge_in s message) (λ e. cc) h))
-    by Error e (ResendRequest algorithm) f = rw (e, f) (λ h. absurd (challenged_or-unlike Nothing (challenge_in s message) (λ e. cc) h))
+    by Error e (Refused integrity) f = rw (e, f) (λ h. absurd (challenged_or-unlike Unrelated (challenge_in s message) (λ e. cc) h))
+    by Error e (ResendRequest algorithm) f = rw (e, f) (λ h. absurd (challenged_or-unlike Unrelated (challenge_in s message) (λ e. cc) h))
 
 -- only a DATA indication is judged to be of a peer
-PeerSent-indication : (s : State) (message : List ℕ) → judgement_of s message ≡ PeerSent → is_data_indication message ≡ true
-PeerSent-indication s message = by s.phase refl
+DataIndication-indication : (s : State) (message : List ℕ) → judgement_of s message ≡ DataIndication → is_data_indication message ≡ true
+DataIndication-indication s message = by s.phase refl
   where
-    by : (p : Phase) → s.phase ≡ p → judgement_of s message ≡ PeerSent → is_data_indication message ≡ true
+    by : (p : Phase) → s.phase ≡ p → judgement_of s message ≡ DataIndication → is_data_indication message ≡ true
     by New e = rw e (λ h. cc)
     by Requesting e = rw e (λ h. absurd (requesting-unlike s message h))
     by Authenticating e = rw e (λ h. absurd (authenticating-unlike s message h))
@@ -215,15 +215,15 @@ message-IsLetThrough : (message : List ℕ) (now : ℕ) (s : State) → IsLetThr
 message-IsLetThrough message now s = by (judgement_of s message) refl
   where
     by : (j : Judgement) → judgement_of s message ≡ j → IsLetThrough message s (message_step message now s).0
-    by Nothing e = rw e tt
+    by Unrelated e = rw e tt
     by (Challenged challenge) e = rw e (nobodys message s _ (challenge_step-nobodys message challenge now s))
-    by Wrong e = rw e tt
-    by Late e = rw e tt
-    by PeerSent e = rw e (indicated-IsLetThrough message s (PeerSent-indication s message e))
-    by Attempt e = rw e (nobodys message s _ (attempt-nobodys (attempt_indicated message s) s))
-    by Asked e = rw e (nobodys message s _ (handled-if (eqb (method_in message) connection_attempt_method) (attempt_requested message s) s))
-    by Granted e = rw e (nobodys message s _ (signed_step-nobodys true message now s))
-    by Denied e = rw e (nobodys message s _ (signed_step-nobodys false message now s))
+    by Fatal e = rw e tt
+    by LateResponse e = rw e tt
+    by DataIndication e = rw e (indicated-IsLetThrough message s (DataIndication-indication s message e))
+    by ConnectionAttempt e = rw e (nobodys message s _ (attempt-nobodys (attempt_indicated message s) s))
+    by SignedRequest e = rw e (nobodys message s _ (handled-if (eqb (method_in message) connection_attempt_method) (attempt_requested message s) s))
+    by SignedSuccess e = rw e (nobodys message s _ (signed_step-nobodys true message now s))
+    by SignedError e = rw e (nobodys message s _ (signed_step-nobodys false message now s))
 
 channel_sent-IsLetThrough : (frame : List ℕ) (s : State) → IsLetThrough frame s (channel_sent s frame)
 channel_sent-IsLetThrough frame s = by (first_in (channel_peer (channel_at frame).id) s) refl

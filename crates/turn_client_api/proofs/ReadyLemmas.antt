@@ -16,7 +16,7 @@ use Rattle.turn_client_api.specs.Config.{same_family}
 use Rattle.turn_client_api.specs.State.{State, Purpose, ForRefresh, ForPermission, ForChannel, Phase, New, Requesting, Authenticating, Allocated, Closed, Grant, Allocation, Permission, Channel, Connect, Offer, Connection, Relay, Pending, Active, Reserved, Queued, agent_of, greatest_moment}
 use Rattle.turn_client_api.specs.Grants.{allocations, allocation_in, allocation_of, family_of, family_of_grant, family_of_ip, has_request, is_of}
 use Rattle.turn_client_api.specs.Requests.{asked_lifetime}
-use Rattle.turn_client_api.specs.Due.{due_moments, end_of, is_in_use, has_queued_request, has_reply, is_paused, least_due, pause_end, refresh_of, refresh_time, refresh_time_by_kind}
+use Rattle.turn_client_api.specs.Due.{due_moments, end_of, is_refreshable, has_queued_request, has_reply, is_paused, least_due, pause_end, refresh_of, refresh_time, refresh_time_by_kind}
 use Rattle.turn_client_api.specs.Poll.{next_offer}
 use Rattle.turn_client_api.specs.Transmit.{idle_step, is_due_in, is_ranked, is_refresh_due, next_transmit, queue_step, refresh_purpose, refresh_step, refreshes_in, refreshes_of_rank, reply_in, reply_step, transmit_step}
 use Rattle.turn_client_api.specs.Alarm.{IsSilent, Lasts}
@@ -291,18 +291,18 @@ untimed : (now : ℕ) (t : State) (g : Grant) → refresh_time t g ≡ None → 
 unfolding is_refresh_due
 untimed now t g none due = let no : false ≡ true = rw none at due in cc
 
-used-due : (now : ℕ) (t : State) (g : Grant) → is_refresh_due now t g ≡ true → is_in_use g t ≡ true
+used-due : (now : ℕ) (t : State) (g : Grant) → is_refresh_due now t g ≡ true → is_refreshable g t ≡ true
 unfolding refresh_time
-used-due now t g due = by (is_in_use g t) refl
+used-due now t g due = by (is_refreshable g t) refl
   where
     none : (used request : Bool) (o : Option ℕ) → used ≡ false → option_and_then (λ (moment : ℕ). if used && request then Some moment else None) o ≡ None
     none false request None e = refl
     none false request (Some moment) e = refl
     none true request o e = let no : true ≡ false = e in cc
 
-    by : (b : Bool) → is_in_use g t ≡ b → is_in_use g t ≡ true
+    by : (b : Bool) → is_refreshable g t ≡ b → is_refreshable g t ≡ true
     by true e = e
-    by false e = absurd (untimed now t g (none (is_in_use g t) (not (has_request g t)) (refresh_time_by_kind g) e) due)
+    by false e = absurd (untimed now t g (none (is_refreshable g t) (not (has_request g t)) (refresh_time_by_kind g) e) due)
 
 -- in `Allocated`, with nothing queued and the pause over, a refresh whose time has come is sent
 refresh-busy : (now : ℕ) (t : State) → IsReady now t → (g : Grant) → Has g t.grants → is_refresh_due now t g ≡ true → IsSome (refresh_step now t).0

@@ -15,7 +15,7 @@ use Rattle.turn_agent.proofs.TransactionLemmas.{is_outstanding-without}
 use Rattle.turn_client_api.specs.State.{State, DataConnection, Phase, New, Requesting, Authenticating, Allocated, Closed, auth_of}
 use Rattle.turn_client_api.specs.Grants.{purposes_of}
 use Rattle.turn_client_api.specs.Requests.{connection_attempt_method, data_method, fresh_id, is_taken, most_taken}
-use Rattle.turn_client_api.specs.Judgement.{Judgement, Nothing, Challenged, Wrong, Late, PeerSent, Attempt, Asked, Granted, Denied, allocated_judgement, answers_allocate, answers_one, authenticating_judgement, bind_judgement, by_class, challenge_in, challenged_or, class_in, indication_judgement, is_bind_of, judgement_of, method_in}
+use Rattle.turn_client_api.specs.Judgement.{Judgement, Unrelated, Challenged, Fatal, LateResponse, DataIndication, ConnectionAttempt, SignedRequest, SignedSuccess, SignedError, allocated_judgement, answers_allocate, answers_one, authenticating_judgement, bind_judgement, by_class, challenge_in, challenged_or, class_in, indication_judgement, is_bind_of, judgement_of, method_in}
 use Rattle.turn_client_api.specs.Connections.{bind_answered}
 use Rattle.turn_client_api.specs.Payloads.{message_step}
 use Rattle.turn_client_api.specs.LawsReplies.{IsAccepted}
@@ -44,25 +44,25 @@ never-accepted b j k o not_j not_k h = not_j (challenged_or-accepted j o (cond-a
 authenticating-accepted : (s : State) (message : List ℕ) → IsAccepted (authenticating_judgement s message) → is_outstanding (id_of message) s.transactions ≡ true
 authenticating-accepted s message = by (validation_of (auth_of s) message) refl
   where
-    wrong : (integrity : Bool) → IsAccepted (cond integrity Wrong Nothing) → ⊥
+    wrong : (integrity : Bool) → IsAccepted (cond integrity Fatal Unrelated) → ⊥
     wrong true h = h
     wrong false h = h
 
     by : (v : Validation) → validation_of (auth_of s) message ≡ v → IsAccepted (authenticating_judgement s message) → is_outstanding (id_of message) s.transactions ≡ true
-    by (Validated algorithm) e = rw e (if-accepted (answers_allocate s message) (is_outstanding (id_of message) s.transactions) (by_class (class_in message)) Late Nothing (challenge_in s message) (λ h. h) (λ h. h))
-    by (Refused integrity) e = rw e (λ h. absurd (never-accepted (answers_allocate s message) (cond integrity Wrong Nothing) Nothing (challenge_in s message) (wrong integrity) (λ x. x) h))
-    by (ResendRequest algorithm) e = rw e (λ h. absurd (never-accepted (answers_allocate s message) Nothing Nothing (challenge_in s message) (λ x. x) (λ x. x) h))
+    by (Validated algorithm) e = rw e (if-accepted (answers_allocate s message) (is_outstanding (id_of message) s.transactions) (by_class (class_in message)) LateResponse Unrelated (challenge_in s message) (λ h. h) (λ h. h))
+    by (Refused integrity) e = rw e (λ h. absurd (never-accepted (answers_allocate s message) (cond integrity Fatal Unrelated) Unrelated (challenge_in s message) (wrong integrity) (λ x. x) h))
+    by (ResendRequest algorithm) e = rw e (λ h. absurd (never-accepted (answers_allocate s message) Unrelated Unrelated (challenge_in s message) (λ x. x) (λ x. x) h))
 
 indication-accepted : (message : List ℕ) → IsAccepted (indication_judgement message) → ⊥
 indication-accepted message = by (eqb (method_in message) data_method) (eqb (method_in message) connection_attempt_method)
   where
-    by : (b d : Bool) → IsAccepted (cond b PeerSent (cond d Attempt Nothing)) → ⊥
+    by : (b d : Bool) → IsAccepted (cond b DataIndication (cond d ConnectionAttempt Unrelated)) → ⊥
     by true d h = h
     by false true h = h
     by false false h = h
 
 -- a signed response is dropped where its request is not outstanding
-standing : (b : Bool) (j : Judgement) → IsAccepted (cond (not b) Nothing j) → b ≡ true
+standing : (b : Bool) (j : Judgement) → IsAccepted (cond (not b) Unrelated j) → b ≡ true
 standing true j h = refl
 standing false j h = absurd h
 
@@ -74,19 +74,19 @@ allocated-accepted s message = by (class_in message) refl (validation_of (auth_o
     by Request e (Validated algorithm) f = rw (e, f, e) (λ h. absurd h)
     by Request e (Refused integrity) f = rw (e, f) (λ h. absurd h)
     by Request e (ResendRequest algorithm) f = rw (e, f) (λ h. absurd h)
-    by Success e (Validated algorithm) f = rw (e, f, e) (standing (is_outstanding (id_of message) s.transactions) Granted)
+    by Success e (Validated algorithm) f = rw (e, f, e) (standing (is_outstanding (id_of message) s.transactions) SignedSuccess)
     by Success e (Refused integrity) f = rw (e, f) (λ h. absurd h)
     by Success e (ResendRequest algorithm) f = rw (e, f) (λ h. absurd h)
-    by Error e (Validated algorithm) f = rw (e, f, e) (λ h. standing (is_outstanding (id_of message) s.transactions) Denied (challenged_or-accepted _ _ h))
-    by Error e (Refused integrity) f = rw (e, f) (λ h. absurd (challenged_or-accepted Nothing _ h))
-    by Error e (ResendRequest algorithm) f = rw (e, f) (λ h. absurd (challenged_or-accepted Nothing _ h))
+    by Error e (Validated algorithm) f = rw (e, f, e) (λ h. standing (is_outstanding (id_of message) s.transactions) SignedError (challenged_or-accepted _ _ h))
+    by Error e (Refused integrity) f = rw (e, f) (λ h. absurd (challenged_or-accepted Unrelated _ h))
+    by Error e (ResendRequest algorithm) f = rw (e, f) (λ h. absurd (challenged_or-accepted Unrelated _ h))
 
 pub accepted-outstanding : (message : List ℕ) (s : State) → IsAccepted (judgement_of s message) → is_outstanding (id_of message) s.transactions ≡ true
 accepted-outstanding message s = by s.phase refl
   where
     by : (p : Phase) → s.phase ≡ p → IsAccepted (judgement_of s message) → is_outstanding (id_of message) s.transactions ≡ true
     by New e = rw e (λ h. absurd h)
-    by Requesting e = rw e (λ h. absurd (never-accepted (answers_one s message) Wrong Nothing (challenge_in s message) (λ x. x) (λ x. x) h))
+    by Requesting e = rw e (λ h. absurd (never-accepted (answers_one s message) Fatal Unrelated (challenge_in s message) (λ x. x) (λ x. x) h))
     by Authenticating e = rw e (authenticating-accepted s message)
     by Allocated e = rw e (allocated-accepted s message)
     by Closed e = rw e (λ h. absurd h)
@@ -98,9 +98,9 @@ bind-outstanding local message s = by (validation_of (auth_of s) message) refl
     is_answer = is_response (class_in message) && list_any (is_bind_of local) (purposes_of (id_of message) s)
 
     by : (v : Validation) → validation_of (auth_of s) message ≡ v → IsAccepted (bind_judgement s local message) → is_outstanding (id_of message) s.transactions ≡ true
-    by (Validated algorithm) e = rw e (if-accepted is_answer (is_outstanding (id_of message) s.transactions) (by_class (class_in message)) Wrong Wrong (challenge_in s message) (λ h. h) (λ h. h))
-    by (Refused integrity) e = rw e (λ h. absurd (never-accepted is_answer Wrong Wrong (challenge_in s message) (λ x. x) (λ x. x) h))
-    by (ResendRequest algorithm) e = rw e (λ h. absurd (never-accepted is_answer Wrong Wrong (challenge_in s message) (λ x. x) (λ x. x) h))
+    by (Validated algorithm) e = rw e (if-accepted is_answer (is_outstanding (id_of message) s.transactions) (by_class (class_in message)) Fatal Fatal (challenge_in s message) (λ h. h) (λ h. h))
+    by (Refused integrity) e = rw e (λ h. absurd (never-accepted is_answer Fatal Fatal (challenge_in s message) (λ x. x) (λ x. x) h))
+    by (ResendRequest algorithm) e = rw e (λ h. absurd (never-accepted is_answer Fatal Fatal (challenge_in s message) (λ x. x) (λ x. x) h))
 
 -- ---- an accepted reply ends its request
 
@@ -115,29 +115,29 @@ accepted-ended message now s = by (judgement_of s message) refl
     drawn (inr e) = e
 
     by : (j : Judgement) → judgement_of s message ≡ j → IsAccepted (judgement_of s message) → is_outstanding id (message_step message now s).1.transactions ≡ true → id ≡ fresh_id s
-    by Granted e = rw e (λ h is. drawn (signed-one id s.phase true message now s is))
-    by Denied e = rw e (λ h is. drawn (signed-one id s.phase false message now s is))
-    by Nothing e = rw e (λ h is. absurd h)
+    by SignedSuccess e = rw e (λ h is. drawn (signed-one id s.phase true message now s is))
+    by SignedError e = rw e (λ h is. drawn (signed-one id s.phase false message now s is))
+    by Unrelated e = rw e (λ h is. absurd h)
     by (Challenged d) e = rw e (λ h is. absurd h)
-    by Wrong e = rw e (λ h is. absurd h)
-    by Late e = rw e (λ h is. absurd h)
-    by PeerSent e = rw e (λ h is. absurd h)
-    by Attempt e = rw e (λ h is. absurd h)
-    by Asked e = rw e (λ h is. absurd h)
+    by Fatal e = rw e (λ h is. absurd h)
+    by LateResponse e = rw e (λ h is. absurd h)
+    by DataIndication e = rw e (λ h is. absurd h)
+    by ConnectionAttempt e = rw e (λ h is. absurd h)
+    by SignedRequest e = rw e (λ h is. absurd h)
 
 pub bind-ended : (c : DataConnection) (message : List ℕ) (now : ℕ) (s : State) → IsAccepted (bind_judgement s c.local message) → is_outstanding (id_of message) (bind_answered c message now s).transactions ≡ false
 bind-ended c message now s = by (bind_judgement s c.local message) refl
   where
     by : (j : Judgement) → bind_judgement s c.local message ≡ j → IsAccepted (bind_judgement s c.local message) → is_outstanding (id_of message) (bind_answered c message now s).transactions ≡ false
-    by Granted e = rw e (λ h. is_outstanding-without (id_of message) s.transactions)
-    by Denied e = rw e (λ h. is_outstanding-without (id_of message) s.transactions)
-    by Nothing e = rw e (λ h. absurd h)
+    by SignedSuccess e = rw e (λ h. is_outstanding-without (id_of message) s.transactions)
+    by SignedError e = rw e (λ h. is_outstanding-without (id_of message) s.transactions)
+    by Unrelated e = rw e (λ h. absurd h)
     by (Challenged d) e = rw e (λ h. absurd h)
-    by Wrong e = rw e (λ h. absurd h)
-    by Late e = rw e (λ h. absurd h)
-    by PeerSent e = rw e (λ h. absurd h)
-    by Attempt e = rw e (λ h. absurd h)
-    by Asked e = rw e (λ h. absurd h)
+    by Fatal e = rw e (λ h. absurd h)
+    by LateResponse e = rw e (λ h. absurd h)
+    by DataIndication e = rw e (λ h. absurd h)
+    by ConnectionAttempt e = rw e (λ h. absurd h)
+    by SignedRequest e = rw e (λ h. absurd h)
 
 unlike : true ≡ false → ⊥
 unlike e = cc

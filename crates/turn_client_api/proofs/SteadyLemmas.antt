@@ -12,7 +12,7 @@ use Rattle.turn_client_api.specs.Config.{Config}
 use Rattle.turn_client_api.specs.State.{State, Phase, New, Requesting, Authenticating, Allocated, Closed, Purpose, initial}
 use Rattle.turn_client_api.specs.Grants.{is_connection_from, purposes_of, without}
 use Rattle.turn_client_api.specs.Effect.{closed, ended, fail_all, phase_with, relayed_in, taken_addresses, allocate_granted, family_not_supported, has_code}
-use Rattle.turn_client_api.specs.Judgement.{Judgement, Nothing, Challenged, Wrong, Late, PeerSent, Attempt, Asked, Granted, Denied, answers_one, challenge_in, challenged_or, judgement_of, lifetime_in}
+use Rattle.turn_client_api.specs.Judgement.{Judgement, Unrelated, Challenged, Fatal, LateResponse, DataIndication, ConnectionAttempt, SignedRequest, SignedSuccess, SignedError, answers_one, challenge_in, challenged_or, judgement_of, lifetime_in}
 use Rattle.turn_client_api.specs.Retry.{most_challenges, retried}
 use Rattle.turn_client_api.specs.Connections.{bind_step, connection_at}
 use Rattle.turn_client_api.specs.Payloads.{Outcome, Handled, Ignored, challenge_step, message_step, wrong_step}
@@ -74,46 +74,46 @@ challenge_split P message d now u same ends again = by (ltb u.challenges most_ch
     by true e (Some purpose) f = rw (e, f) (again purpose)
 
 -- a message that is judged so
-message_as : (P : State → Type 0) (message : List ℕ) (now : ℕ) (u : State) (j : Judgement) → judgement_of u message ≡ j → (j ≡ Attempt → ⊥) → P u → P (wrong_step message u).1 → ((d : Challenge) → P (challenge_step message d now u).1) → P (attempt_requested message u) → ((g : Bool) → P (signed_step g message now u).1) → P (message_step message now u).1
+message_as : (P : State → Type 0) (message : List ℕ) (now : ℕ) (u : State) (j : Judgement) → judgement_of u message ≡ j → (j ≡ ConnectionAttempt → ⊥) → P u → P (wrong_step message u).1 → ((d : Challenge) → P (challenge_step message d now u).1) → P (attempt_requested message u) → ((g : Bool) → P (signed_step g message now u).1) → P (message_step message now u).1
 message_as P message now u j e not_attempt same wrong challenged asked signed = by j e not_attempt
   where
     if_asked : (b : Bool) → P (cond {A = Outcome × State} b (Handled, attempt_requested message u) (Ignored, u)).1
     if_asked true = asked
     if_asked false = same
 
-    by : (j : Judgement) → judgement_of u message ≡ j → (j ≡ Attempt → ⊥) → P (message_step message now u).1
-    by Nothing e n = rw e same
+    by : (j : Judgement) → judgement_of u message ≡ j → (j ≡ ConnectionAttempt → ⊥) → P (message_step message now u).1
+    by Unrelated e n = rw e same
     by (Challenged d) e n = rw e (challenged d)
-    by Wrong e n = rw e wrong
-    by Late e n = rw e same
-    by PeerSent e n = rw e same
-    by Attempt e n = absurd (n refl)
-    by Asked e n = rw e (if_asked (eqb (method_in message) connection_attempt_method))
-    by Granted e n = rw e (signed true)
-    by Denied e n = rw e (signed false)
+    by Fatal e n = rw e wrong
+    by LateResponse e n = rw e same
+    by DataIndication e n = rw e same
+    by ConnectionAttempt e n = absurd (n refl)
+    by SignedRequest e n = rw e (if_asked (eqb (method_in message) connection_attempt_method))
+    by SignedSuccess e n = rw e (signed true)
+    by SignedError e n = rw e (signed false)
 
 -- no server's attempt is heard before the server allocated
-plain_class : (class : MessageClass) → by_class class ≡ Attempt → ⊥
+plain_class : (class : MessageClass) → by_class class ≡ ConnectionAttempt → ⊥
 plain_class Request e = cc
 plain_class Indication e = cc
 plain_class Success e = cc
 plain_class Error e = cc
 
-plain_cond : (b : Bool) (j k : Judgement) → (j ≡ Attempt → ⊥) → (k ≡ Attempt → ⊥) → cond b j k ≡ Attempt → ⊥
+plain_cond : (b : Bool) (j k : Judgement) → (j ≡ ConnectionAttempt → ⊥) → (k ≡ ConnectionAttempt → ⊥) → cond b j k ≡ ConnectionAttempt → ⊥
 plain_cond true j k p q e = p e
 plain_cond false j k p q e = q e
 
-plain_or : (j : Judgement) (o : Option Challenge) → (j ≡ Attempt → ⊥) → challenged_or j o ≡ Attempt → ⊥
+plain_or : (j : Judgement) (o : Option Challenge) → (j ≡ ConnectionAttempt → ⊥) → challenged_or j o ≡ ConnectionAttempt → ⊥
 plain_or j None p e = p e
 plain_or j (Some d) p e = cc
 
-plain_authenticating : (s : State) (message : List ℕ) → authenticating_judgement s message ≡ Attempt → ⊥
+plain_authenticating : (s : State) (message : List ℕ) → authenticating_judgement s message ≡ ConnectionAttempt → ⊥
 plain_authenticating s message = by (validation_of (auth_of s) message) refl
   where
-    by : (v : Validation) → validation_of (auth_of s) message ≡ v → authenticating_judgement s message ≡ Attempt → ⊥
-    by (Validated algorithm) e = rw e (plain_cond (answers_allocate s message) (challenged_or (cond (is_outstanding (id_of message) s.transactions) (by_class (class_in message)) Late) (challenge_in s message)) Nothing (plain_or _ (challenge_in s message) (plain_cond (is_outstanding (id_of message) s.transactions) (by_class (class_in message)) Late (plain_class (class_in message)) (λ e. cc))) (λ e. cc))
-    by (Refused integrity) e = rw e (plain_cond (answers_allocate s message) (challenged_or (cond integrity Wrong Nothing) (challenge_in s message)) Nothing (plain_or _ (challenge_in s message) (plain_cond integrity Wrong Nothing (λ e. cc) (λ e. cc))) (λ e. cc))
-    by (ResendRequest algorithm) e = rw e (plain_cond (answers_allocate s message) (challenged_or Nothing (challenge_in s message)) Nothing (plain_or Nothing (challenge_in s message) (λ e. cc)) (λ e. cc))
+    by : (v : Validation) → validation_of (auth_of s) message ≡ v → authenticating_judgement s message ≡ ConnectionAttempt → ⊥
+    by (Validated algorithm) e = rw e (plain_cond (answers_allocate s message) (challenged_or (cond (is_outstanding (id_of message) s.transactions) (by_class (class_in message)) LateResponse) (challenge_in s message)) Unrelated (plain_or _ (challenge_in s message) (plain_cond (is_outstanding (id_of message) s.transactions) (by_class (class_in message)) LateResponse (plain_class (class_in message)) (λ e. cc))) (λ e. cc))
+    by (Refused integrity) e = rw e (plain_cond (answers_allocate s message) (challenged_or (cond integrity Fatal Unrelated) (challenge_in s message)) Unrelated (plain_or _ (challenge_in s message) (plain_cond integrity Fatal Unrelated (λ e. cc) (λ e. cc))) (λ e. cc))
+    by (ResendRequest algorithm) e = rw e (plain_cond (answers_allocate s message) (challenged_or Unrelated (challenge_in s message)) Unrelated (plain_or Unrelated (challenge_in s message) (λ e. cc)) (λ e. cc))
 
 no_allocation : (ip : IpAddr) (grants : List Grant) (s : State) → grants ≡ [] → allocation_for Tcp ip (record s { grants = grants }) ≡ None
 no_allocation ip (g ∷ gs) s e = absurd (unlike e)
@@ -138,7 +138,7 @@ attempt_split P message u empty refused = by (connection_id_in message) refl (pe
     by (Some id) e None f = rw (e, f) (refused _)
     by None e p f = rw e (refused _)
 
-requesting-cases : (Q : Judgement → Type 0) (b : Bool) (o : Option Challenge) → Q Nothing → Q Wrong → ((d : Challenge) → Q (Challenged d)) → Q (cond b (challenged_or Wrong o) Nothing)
+requesting-cases : (Q : Judgement → Type 0) (b : Bool) (o : Option Challenge) → Q Unrelated → Q Fatal → ((d : Challenge) → Q (Challenged d)) → Q (cond b (challenged_or Fatal o) Unrelated)
 requesting-cases Q false o n w c = n
 requesting-cases Q true None n w c = w
 requesting-cases Q true (Some d) n w c = c d

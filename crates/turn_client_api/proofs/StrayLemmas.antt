@@ -15,7 +15,7 @@ use Rattle.turn_agent.specs.Agent.{is_outstanding, is_response, same_address}
 use Rattle.turn_client_api.specs.State.{State, DataConnection, Grant, Allocation, Permission, Channel, Connect, Offer, Connection, Purpose, Phase, New, Requesting, Authenticating, Allocated, Closed, auth_of, later_by}
 use Rattle.turn_client_api.specs.Grants.{purposes_of}
 use Rattle.turn_client_api.specs.Requests.{connection_bind_method}
-use Rattle.turn_client_api.specs.Judgement.{Judgement, Nothing, Challenged, Wrong, Late, PeerSent, Attempt, Asked, Granted, Denied, allocated_judgement, answers_allocate, answers_one, authenticating_judgement, bind_judgement, challenged_or, class_in, is_bind_of, judgement_of, method_in}
+use Rattle.turn_client_api.specs.Judgement.{Judgement, Unrelated, Challenged, Fatal, LateResponse, DataIndication, ConnectionAttempt, SignedRequest, SignedSuccess, SignedError, allocated_judgement, answers_allocate, answers_one, authenticating_judgement, bind_judgement, challenged_or, class_in, is_bind_of, judgement_of, method_in}
 use Rattle.turn_client_api.specs.Retry.{bind_time, most_challenges, retried}
 use Rattle.turn_client_api.specs.Connections.{bind_again, bind_answered, bind_step, connection_at, with_deadline}
 use Rattle.turn_client_api.specs.Payloads.{challenge_step, message_step, wrong_step}
@@ -30,10 +30,10 @@ IsUnasked message s = is_outstanding (id_of message) s.transactions ≡ false
 
 -- it grants nothing, takes nothing and offers nothing
 abbrev IsStray : Judgement → Type 0
-IsStray Nothing = ⊤
+IsStray Unrelated = ⊤
 IsStray (Challenged challenge) = ⊤
-IsStray Wrong = ⊤
-IsStray Late = ⊤
+IsStray Fatal = ⊤
+IsStray LateResponse = ⊤
 IsStray _ = ⊥
 
 if-stray : (b : Bool) (j k : Judgement) → IsStray j → IsStray k → IsStray (cond b j k)
@@ -48,9 +48,9 @@ authenticating-stray : (s : State) (message : List ℕ) → IsUnasked message s 
 authenticating-stray s message none = by (validation_of (auth_of s) message) refl
   where
     by : (v : Validation) → validation_of (auth_of s) message ≡ v → IsStray (authenticating_judgement s message)
-    by (Validated algorithm) e = rw (e, none) (if-stray (answers_allocate s message) _ Nothing (challenged_or-stray Late _ tt) tt)
-    by (Refused integrity) e = rw e (if-stray (answers_allocate s message) _ Nothing (challenged_or-stray (cond integrity Wrong Nothing) _ (if-stray integrity Wrong Nothing tt tt)) tt)
-    by (ResendRequest algorithm) e = rw e (if-stray (answers_allocate s message) _ Nothing (challenged_or-stray Nothing _ tt) tt)
+    by (Validated algorithm) e = rw (e, none) (if-stray (answers_allocate s message) _ Unrelated (challenged_or-stray LateResponse _ tt) tt)
+    by (Refused integrity) e = rw e (if-stray (answers_allocate s message) _ Unrelated (challenged_or-stray (cond integrity Fatal Unrelated) _ (if-stray integrity Fatal Unrelated tt tt)) tt)
+    by (ResendRequest algorithm) e = rw e (if-stray (answers_allocate s message) _ Unrelated (challenged_or-stray Unrelated _ tt) tt)
 
 allocated-stray : (s : State) (message : List ℕ) → is_response (class_in message) ≡ true → IsUnasked message s → IsStray (allocated_judgement s message)
 allocated-stray s message answers none = by (class_in message) refl (validation_of (auth_of s) message) refl
@@ -61,16 +61,16 @@ allocated-stray s message answers none = by (class_in message) refl (validation_
     by Success e (Validated algorithm) f = rw (e, f, e, none) tt
     by Success e (Refused integrity) f = rw (e, f) tt
     by Success e (ResendRequest algorithm) f = rw (e, f) tt
-    by Error e (Validated algorithm) f = rw (e, f, e, none) (challenged_or-stray Nothing _ tt)
-    by Error e (Refused integrity) f = rw (e, f) (challenged_or-stray Nothing _ tt)
-    by Error e (ResendRequest algorithm) f = rw (e, f) (challenged_or-stray Nothing _ tt)
+    by Error e (Validated algorithm) f = rw (e, f, e, none) (challenged_or-stray Unrelated _ tt)
+    by Error e (Refused integrity) f = rw (e, f) (challenged_or-stray Unrelated _ tt)
+    by Error e (ResendRequest algorithm) f = rw (e, f) (challenged_or-stray Unrelated _ tt)
 
 judgement-stray : (message : List ℕ) (s : State) → is_response (class_in message) ≡ true → IsUnasked message s → IsStray (judgement_of s message)
 judgement-stray message s answers none = by s.phase refl
   where
     by : (p : Phase) → s.phase ≡ p → IsStray (judgement_of s message)
     by New e = rw e tt
-    by Requesting e = rw e (if-stray (answers_one s message) _ Nothing (challenged_or-stray Wrong _ tt) tt)
+    by Requesting e = rw e (if-stray (answers_one s message) _ Unrelated (challenged_or-stray Fatal _ tt) tt)
     by Authenticating e = rw e (authenticating-stray s message none)
     by Allocated e = rw e (allocated-stray s message answers none)
     by Closed e = rw e tt
@@ -82,9 +82,9 @@ bind-stray local message s none = by (validation_of (auth_of s) message) refl
     is_answer = is_response (class_in message) && list_any (is_bind_of local) (purposes_of (id_of message) s)
 
     by : (v : Validation) → validation_of (auth_of s) message ≡ v → IsStray (bind_judgement s local message)
-    by (Validated algorithm) e = rw (e, none) (if-stray is_answer _ Wrong (challenged_or-stray Wrong _ tt) tt)
-    by (Refused integrity) e = rw e (if-stray is_answer _ Wrong (challenged_or-stray Wrong _ tt) tt)
-    by (ResendRequest algorithm) e = rw e (if-stray is_answer _ Wrong (challenged_or-stray Wrong _ tt) tt)
+    by (Validated algorithm) e = rw (e, none) (if-stray is_answer _ Fatal (challenged_or-stray Fatal _ tt) tt)
+    by (Refused integrity) e = rw e (if-stray is_answer _ Fatal (challenged_or-stray Fatal _ tt) tt)
+    by (ResendRequest algorithm) e = rw e (if-stray is_answer _ Fatal (challenged_or-stray Fatal _ tt) tt)
 
 -- ---- it changes no grant
 
@@ -107,15 +107,15 @@ pub stray-grants : (message : List ℕ) (now : ℕ) (s : State) → is_response 
 stray-grants message now s answers none = by (judgement_of s message) refl (judgement-stray message s answers none)
   where
     by : (j : Judgement) → judgement_of s message ≡ j → IsStray (judgement_of s message) → (message_step message now s).1.grants ≡ s.grants
-    by Nothing e stray = rw e refl
+    by Unrelated e stray = rw e refl
     by (Challenged d) e stray = rw e (challenge-grants message d now s)
-    by Wrong e stray = rw e (wrong-grants s.phase message s)
-    by Late e stray = rw e refl
-    by PeerSent e stray = absurd (rw e at stray)
-    by Attempt e stray = absurd (rw e at stray)
-    by Asked e stray = absurd (rw e at stray)
-    by Granted e stray = absurd (rw e at stray)
-    by Denied e stray = absurd (rw e at stray)
+    by Fatal e stray = rw e (wrong-grants s.phase message s)
+    by LateResponse e stray = rw e refl
+    by DataIndication e stray = absurd (rw e at stray)
+    by ConnectionAttempt e stray = absurd (rw e at stray)
+    by SignedRequest e stray = absurd (rw e at stray)
+    by SignedSuccess e stray = absurd (rw e at stray)
+    by SignedError e stray = absurd (rw e at stray)
 
 -- ---- it binds no connection
 
@@ -168,14 +168,14 @@ answered-stray c d message now s unasked none = by (bind_judgement s d.local mes
   where
     by : (j : Judgement) → bind_judgement s d.local message ≡ j → IsStray (bind_judgement s d.local message) → BindsNothing c s (bind_answered d message now s)
     by (Challenged challenge) e stray = rw e (again-stray c d message challenge now s none)
-    by Nothing e stray = rw e (λ h. (has-filter _ (Connection c) s.grants h).0)
-    by Wrong e stray = rw e (λ h. (has-filter _ (Connection c) s.grants h).0)
-    by Late e stray = rw e (λ h. (has-filter _ (Connection c) s.grants h).0)
-    by PeerSent e stray = absurd (rw e at stray)
-    by Attempt e stray = absurd (rw e at stray)
-    by Asked e stray = absurd (rw e at stray)
-    by Granted e stray = absurd (rw e at stray)
-    by Denied e stray = absurd (rw e at stray)
+    by Unrelated e stray = rw e (λ h. (has-filter _ (Connection c) s.grants h).0)
+    by Fatal e stray = rw e (λ h. (has-filter _ (Connection c) s.grants h).0)
+    by LateResponse e stray = rw e (λ h. (has-filter _ (Connection c) s.grants h).0)
+    by DataIndication e stray = absurd (rw e at stray)
+    by ConnectionAttempt e stray = absurd (rw e at stray)
+    by SignedRequest e stray = absurd (rw e at stray)
+    by SignedSuccess e stray = absurd (rw e at stray)
+    by SignedError e stray = absurd (rw e at stray)
 
 bind_in_phase : (p : Phase) (c : DataConnection) (local : SocketAddr) (message : List ℕ) (now : ℕ) (s : State) → IsUnasked message s → c.deadline ≡ None → BindsNothing c s (bind_step local message now (record s { phase = p }))
 bind_in_phase New c local message now s unasked none = λ h. h

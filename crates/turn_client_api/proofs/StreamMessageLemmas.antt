@@ -14,13 +14,13 @@ use Rattle.turn_client_api.specs.State.{State, Mode, Control, Waiting, Bound, Br
 use Rattle.turn_client_api.specs.State.{Purpose, ForAllocation, ForRefresh, ForPermission, ForChannel, ForConnect, ForBind}
 use Rattle.turn_client_api.specs.Grants.{allocation_for, channel_at, first_in, permission_for, purposes_of}
 use Rattle.turn_client_api.specs.Requests.{connection_attempt_method, connection_bind_method}
-use Rattle.turn_client_api.specs.Judgement.{Judgement, Nothing, Challenged, Wrong, Late, PeerSent, Attempt, Asked, Granted, Denied, judgement_of, bind_judgement, is_bind_of, connection_id_in}
+use Rattle.turn_client_api.specs.Judgement.{Judgement, Unrelated, Challenged, Fatal, LateResponse, DataIndication, ConnectionAttempt, SignedRequest, SignedSuccess, SignedError, judgement_of, bind_judgement, is_bind_of, connection_id_in}
 use Rattle.turn_client_api.specs.Judgement.{lifetime_in, method_in, peer_in}
 use Rattle.turn_client_api.specs.Effect.{allocate_denied, allocate_granted, allocation_mismatch, channel_answered, connect_answered, effect, ended, family_not_supported, has_code, least_lifetime}
-use Rattle.turn_client_api.specs.Effect.{permission_answered, permission_answered_for, permissions_answered, prolonged, refreshed}
+use Rattle.turn_client_api.specs.Effect.{permission_answered, permission_answered_for, listed_permissions_answered, prolonged, refreshed}
 use Rattle.turn_client_api.specs.Retry.{most_challenges, retried}
 use Rattle.turn_client_api.specs.Connections.{attempt_indicated, attempt_requested, bind_again, bind_answered, bind_step, connection_at, is_connected, is_heeded, with_mode}
-use Rattle.turn_client_api.specs.Payloads.{Outcome, Handled, Ignored, answered_purposes, challenge_step, channel_sent, is_message, message_step, reply_step, signed_step, wrong_step}
+use Rattle.turn_client_api.specs.Payloads.{Outcome, Handled, Ignored, answered_purposes, challenge_step, channel_sent, is_message, message_step, response_step, signed_step, wrong_step}
 use Rattle.turn_client_api.specs.Streams.{frame_step}
 
 -- the streams stay as they are
@@ -56,7 +56,7 @@ permission_for-same is_granted now t (ForChannel number peer) = refl
 permission_for-same is_granted now t (ForConnect peer) = refl
 permission_for-same is_granted now t (ForBind local peer id) = refl
 
-permissions-same : (id : ℕ) (is_granted : Bool) (now : ℕ) (s : State) → Same s (permissions_answered id is_granted now s)
+permissions-same : (id : ℕ) (is_granted : Bool) (now : ℕ) (s : State) → Same s (listed_permissions_answered id is_granted now s)
 permissions-same id is_granted now s = same-fold (permission_answered_for is_granted now) (permission_for-same is_granted now) (purposes_of id s) s
 
 channel-same : (number id : ℕ) (is_granted : Bool) (now : ℕ) (s : State) → Same s (channel_answered number id is_granted now s)
@@ -109,7 +109,7 @@ wrong-same Authenticating message s = refl
 wrong-same Allocated message s = refl
 wrong-same Closed message s = refl
 
-reply-same : (is_granted : Bool) (message : List ℕ) (now : ℕ) (s : State) → Same s (reply_step is_granted message now s).1
+reply-same : (is_granted : Bool) (message : List ℕ) (now : ℕ) (s : State) → Same s (response_step is_granted message now s).1
 reply-same is_granted message now s = same-fold (effect (id_of message) is_granted message now) (effect-same (id_of message) is_granted message now) (answered_purposes message s) (ended (id_of message) s)
 
 granted-same : (message : List ℕ) (now : ℕ) (s : State) → Same s (allocate_granted message now s)
@@ -165,15 +165,15 @@ message-same message now s = by (judgement_of s message) refl
     asked false = refl
 
     by : (j : Judgement) → judgement_of s message ≡ j → Same s (message_step message now s).1
-    by Nothing e = rw e refl
+    by Unrelated e = rw e refl
     by (Challenged d) e = rw e (challenge-same message d now s)
-    by Wrong e = rw e (wrong-same s.phase message s)
-    by Late e = rw e refl
-    by PeerSent e = rw e refl
-    by Attempt e = rw e (indicated (attempt_indicated message s) (indicated-same message s))
-    by Asked e = rw e (asked (eqb (method_in message) connection_attempt_method))
-    by Granted e = rw e (signed-same s.phase true message now s)
-    by Denied e = rw e (signed-same s.phase false message now s)
+    by Fatal e = rw e (wrong-same s.phase message s)
+    by LateResponse e = rw e refl
+    by DataIndication e = rw e refl
+    by ConnectionAttempt e = rw e (indicated (attempt_indicated message s) (indicated-same message s))
+    by SignedRequest e = rw e (asked (eqb (method_in message) connection_attempt_method))
+    by SignedSuccess e = rw e (signed-same s.phase true message now s)
+    by SignedError e = rw e (signed-same s.phase false message now s)
 
 -- ---- connections that wait to be bound
 
@@ -197,14 +197,14 @@ answered-rebound c message now s = by (bind_judgement s c.local message) refl
   where
     by : (j : Judgement) → bind_judgement s c.local message ≡ j → Rebound s (bind_answered c message now s)
     by (Challenged d) e = rw e (inl (again-same c (id_of message) d now s))
-    by Granted e = rw e (inr (c.local, c.peer, refl))
-    by Denied e = rw e (inl refl)
-    by Nothing e = rw e (inl refl)
-    by Wrong e = rw e (inl refl)
-    by Late e = rw e (inl refl)
-    by PeerSent e = rw e (inl refl)
-    by Attempt e = rw e (inl refl)
-    by Asked e = rw e (inl refl)
+    by SignedSuccess e = rw e (inr (c.local, c.peer, refl))
+    by SignedError e = rw e (inl refl)
+    by Unrelated e = rw e (inl refl)
+    by Fatal e = rw e (inl refl)
+    by LateResponse e = rw e (inl refl)
+    by DataIndication e = rw e (inl refl)
+    by ConnectionAttempt e = rw e (inl refl)
+    by SignedRequest e = rw e (inl refl)
 
 bind_in_phase : (p : Phase) (local : SocketAddr) (message : List ℕ) (now : ℕ) (s : State) → Rebound (record s { phase = p }) (bind_step local message now (record s { phase = p }))
 bind_in_phase New local message now s = inl refl

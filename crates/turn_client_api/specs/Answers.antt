@@ -13,7 +13,7 @@ use Rattle.std.specs.Option.{option_map_or}
 use Rattle.turn_agent.specs.Agent.{same_address}
 use Rattle.turn_client_api.specs.Delayed.{delayed_send_bytes}
 use Rattle.turn_client_api.specs.Range.{source_of, place_of}
-use Rattle.turn_client_api.specs.Received.{held_in, payload_of}
+use Rattle.turn_client_api.specs.PeerBytes.{held_in, payload_of}
 use Rattle.turn_client_api.specs.State.{State, Stream, Mode, Control, Broken}
 use Rattle.turn_client_api.specs.Requests.{data_method}
 use Rattle.turn_client_api.specs.Judgement.{class_in, method_in}

@@ -15,7 +15,7 @@ use Rattle.turn_types.specs.declared.family.AddressFamily.{AddressFamily}
 use Rattle.turn_agent.specs.Agent.{same_address}
 use Rattle.turn_client_api.specs.Config.{same_family}
 use Rattle.turn_client_api.specs.State.{State, Phase, Allocated, Closed, Grant, Permission, Channel, Connect, Connection, DataConnection, Relay, Progress, Pending, Active, Reserved, Origin, ServerRequest, ForRefresh, ForPermission, ForChannel, ForConnect, ForBind, Waiting, later_by}
-use Rattle.turn_client_api.specs.Grants.{allocations, allocation_for, connection_in, family_of, family_of_ip, in_turn, is_channel_of, is_past, is_permitted, offer_in, permission_for, same_transport, with_allocations, with_expired, with_grant, with_grants, without}
+use Rattle.turn_client_api.specs.Grants.{allocations, allocation_for, connection_in, family_of, family_of_ip, in_turn, is_channel_of, is_past, is_permitted, offer_in, permission_for, same_transport, with_allocations, with_expired, with_grant, with_more_grants, without}
 use Rattle.turn_client_api.specs.Requests.{asked, connection_timed_out, drawn, fresh_id, lifetime_attribute, message_of, queued, refresh_method, request_for, requested, signed, to_server, accepted_reply, refused_reply, replied}
 use Rattle.turn_client_api.specs.Effect.{closed, fail_all}
 use Rattle.turn_client_api.specs.Retry.{bind_time}
@@ -95,12 +95,12 @@ create_permission_step transport ip now s =
 -- ---- channels (RFC 8656, section 12)
 
 -- the channels of a peer
-abbrev pub channel_to : SocketAddr → Grant → Option Progress
-channel_to peer (Channel number other progress) = if same_address other peer then Some progress else None
-channel_to peer _ = None
+abbrev pub progress_to : SocketAddr → Grant → Option Progress
+progress_to peer (Channel number other progress) = if same_address other peer then Some progress else None
+progress_to peer _ = None
 
 abbrev pub channels_to : SocketAddr → State → List Progress
-channels_to peer s = filter_map (channel_to peer) s.grants
+channels_to peer s = filter_map (progress_to peer) s.grants
 
 -- pending or active
 abbrev pub is_in_progress : Progress → Bool
@@ -132,7 +132,7 @@ bind_channel number peer now s =
     let text = request_for s (ForChannel number peer) (fresh_id s) in
     let ips = missing_permission peer s in
     in_turn (
-    with_grants (Channel number peer Pending ∷ map (λ ip. Permission ip Pending) ips)
+    with_more_grants (Channel number peer Pending ∷ map (λ ip. Permission ip Pending) ips)
     ∷ asked (fresh_id s) text (ForChannel number peer ∷ map ForPermission ips) now
     ∷ queued true s.local text
     ∷ []

@@ -11,7 +11,7 @@ use Rattle.turn_client_api.specs.State.{State, Phase, Allocated, Grant, Offer, C
 use Rattle.std.specs.Option.{option_map_or}
 use Rattle.turn_client_api.specs.Grants.{allocation_for, connection_in, is_connect_to, is_connection_from, is_permitted, offer_in, purposes_of, unlisted, without, wait}
 use Rattle.turn_client_api.specs.Requests.{bad_request, connection_already_exists, fresh_id, requested, refused_reply, replied, connection_bind_method}
-use Rattle.turn_client_api.specs.Judgement.{Judgement, Challenged, Granted, Denied, bind_judgement, is_bind_of, connection_id_in, peer_in, method_in}
+use Rattle.turn_client_api.specs.Judgement.{Judgement, Challenged, SignedSuccess, SignedError, bind_judgement, is_bind_of, connection_id_in, peer_in, method_in}
 use Rattle.turn_client_api.specs.Effect.{ended, with_offer}
 use Rattle.turn_client_api.specs.Retry.{bind_time, with_held}
 use Rattle.turn_client_api.specs.declared.event.TurnEvent.TheVariants.{TcpConnected, TcpConnectFailed}
@@ -127,8 +127,8 @@ bind_answered c message now s = by (bind_judgement s c.local message)
   where
     by : Judgement → State
     by (Challenged challenge) = bind_again c (id_of message) challenge now s
-    by Granted = bound c (ended (id_of message) s)
-    by Denied = not_bound c (ended (id_of message) s)
+    by SignedSuccess = bound c (ended (id_of message) s)
+    by SignedError = not_bound c (ended (id_of message) s)
     by _ = not_bound c s
 
 -- what a message of a data connection changes: nothing, where it is about no such connection

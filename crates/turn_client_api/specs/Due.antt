@@ -48,9 +48,9 @@ refresh_time_of a =
     if nat_le a.first_lifetime short_lifetime then a.expiry - a.first_lifetime / 2 else a.expiry - refresh_ahead
 
 -- an allocation that is expired is refreshed no more, nor is what is in it
-abbrev pub is_in_use : Grant → State → Bool
-is_in_use (Allocation a) s = not a.is_expired
-is_in_use grant s = option_map_or (λ a. not a.is_expired) (allocation_of (family_of_grant grant) s) false
+abbrev pub is_refreshable : Grant → State → Bool
+is_refreshable (Allocation a) s = not a.is_expired
+is_refreshable grant s = option_map_or (λ a. not a.is_expired) (allocation_of (family_of_grant grant) s) false
 
 -- when a grant of its kind is refreshed, if ever
 abbrev pub refresh_time_by_kind : Grant → Option ℕ
@@ -62,7 +62,7 @@ refresh_time_by_kind _ = None
 -- when the grant is to be refreshed, unless that is asked for already
 unfoldable pub refresh_time : State → Grant → Option ℕ
 refresh_time s grant =
-    option_and_then (λ moment. if is_in_use grant s && not (has_request grant s) then Some moment else None) (refresh_time_by_kind grant)
+    option_and_then (λ moment. if is_refreshable grant s && not (has_request grant s) then Some moment else None) (refresh_time_by_kind grant)
 
 -- ---- when a client has to be polled again
 

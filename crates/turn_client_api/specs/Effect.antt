@@ -13,7 +13,7 @@ use Rattle.turn_types.specs.declared.family.AddressFamily.TheVariants.{IPV4, IPV
 use Rattle.turn_auth.specs.Challenge.{code_in}
 use Rattle.turn_agent.specs.Agent as A
 use Rattle.turn_client_api.specs.State.{State, Phase, Allocated, Closed, Grant, Allocation, Permission, Channel, Offer, Origin, OwnConnect, Progress, Pending, Active, Reserved, Purpose, ForAllocation, ForRefresh, ForPermission, ForChannel, ForConnect, later_by, seconds}
-use Rattle.turn_client_api.specs.Grants.{allocation_in, channel_at, first_in, in_turn, is_channel_of, is_connect_to, is_for_any, is_of, is_of_family, is_pending_permission, is_permission_of, permission_for, purposes_of, is_for_allocation, unlisted, without, with_allocations, with_grant, with_grants, jump, wait, failures_of}
+use Rattle.turn_client_api.specs.Grants.{allocation_in, channel_at, first_in, in_turn, is_channel_of, is_connect_to, is_for_any, is_of, is_of_family, is_pending_permission, is_permission_of, permission_for, purposes_of, is_for_allocation, unlisted, without, with_allocations, with_grant, with_more_grants, jump, wait, failures_among}
 use Rattle.turn_client_api.specs.Requests.{relayed_kind, requested}
 use Rattle.turn_client_api.specs.Judgement.{lifetime_in, connection_id_in}
 use Rattle.turn_client_api.specs.declared.event.TurnEvent.TheVariants.{AllocationCreated, AllocationCreateFailed, PermissionCreated, PermissionCreateFailed, ChannelCreated, ChannelCreateFailed, TcpConnectFailed}
@@ -68,8 +68,8 @@ abbrev pub ended : ℕ → State → State
 ended id s = record s { transactions = A.without id s.transactions }
 
 -- the server took a request: challenges are counted anew
-abbrev pub heeded : State → State
-heeded s = record s { challenges = 0 }
+abbrev pub challenges_reset : State → State
+challenges_reset s = record s { challenges = 0 }
 
 -- ---- ALLOCATE
 
@@ -114,7 +114,7 @@ abbrev pub allocated : ℕ → List SocketAddr → ℕ → State → State
 allocated lifetime addresses now s = in_turn (
     in_phase (phase_with addresses)
     ∷ without_families
-    ∷ with_grants (map (new_allocation lifetime now) addresses)
+    ∷ with_more_grants (map (new_allocation lifetime now) addresses)
     ∷ wait (map (AllocationCreated s.config.allocation_transport) addresses)
     ∷ wait (map AllocationCreateFailed (missing_families addresses s))
     ∷ []
@@ -141,13 +141,13 @@ all_gone s = closed (without (λ g. true) s)
 
 -- What was to be given back is gone once the server says so, or that it never was there.
 abbrev pub given_back : Bool → List ℕ → State → State
-given_back is_granted message s = if is_granted || has_code allocation_mismatch message then heeded (all_gone s) else s
+given_back is_granted message s = if is_granted || has_code allocation_mismatch message then challenges_reset (all_gone s) else s
 
 -- what was asked for longer lasts as long as the server says
 abbrev pub prolonged : AddressFamily → ℕ → ℕ → State → State
 prolonged family lifetime now s =
     if nat_le least_lifetime lifetime
-    then heeded (with_allocations (λ a. is_of_family family a.relayed) (λ a. record a { expiry = later_by (seconds lifetime) now })
+    then challenges_reset (with_allocations (λ a. is_of_family family a.relayed) (λ a. record a { expiry = later_by (seconds lifetime) now })
     (unlisted (λ g. is_some (allocation_in g) && is_of family g) s))
     else s
 
@@ -202,8 +202,8 @@ permission_answered_for is_granted now s (ForPermission ip) = permission_answere
 permission_answered_for is_granted now s _ = s
 
 -- the permissions that the request of this ID was made for
-abbrev pub permissions_answered : ℕ → Bool → ℕ → State → State
-permissions_answered id is_granted now s = fold (permission_answered_for is_granted now) s (purposes_of id s)
+abbrev pub listed_permissions_answered : ℕ → Bool → ℕ → State → State
+listed_permissions_answered id is_granted now s = fold (permission_answered_for is_granted now) s (purposes_of id s)
 
 -- ---- channels (RFC 8656, section 12.3)
 
@@ -219,13 +219,13 @@ is_asked_permission purposes grant = is_pending_permission grant && is_for_any p
 
 abbrev pub permission_refused_too : List Purpose → State → State
 permission_refused_too purposes s =
-    wait (failures_of (is_asked_permission purposes) s) (without (is_asked_permission purposes) s)
+    wait (failures_among (is_asked_permission purposes) s) (without (is_asked_permission purposes) s)
 
 -- One that was asked for. The binding brings a permission with it, where one was asked for with it
 -- (RFC 8656, section 12.2), and a refusal takes it too.
 abbrev pub pending_channel_answered : ℕ → SocketAddr → ℕ → Bool → ℕ → State → State
 pending_channel_answered number peer id true now s = in_turn (
-    permissions_answered id true now
+    listed_permissions_answered id true now
     ∷ without (is_channel_of number)
     ∷ with_grant (Channel number peer (Active (later_by channel_lifetime now)))
     ∷ wait (ChannelCreated s.config.allocation_transport peer ∷ [])
@@ -269,8 +269,8 @@ connect_answered peer None s = wait (TcpConnectFailed peer ∷ []) (without (is_
 -- what it changes for one purpose of its request
 abbrev pub effect : ℕ → Bool → List ℕ → ℕ → State → Purpose → State
 effect id is_granted message now s (ForRefresh family lifetime) = refreshed family lifetime is_granted message now s
-effect id is_granted message now s (ForPermission ip) = heeded (permission_answered ip is_granted now s)
-effect id is_granted message now s (ForChannel number peer) = heeded (channel_answered number id is_granted now s)
+effect id is_granted message now s (ForPermission ip) = challenges_reset (permission_answered ip is_granted now s)
+effect id is_granted message now s (ForChannel number peer) = challenges_reset (channel_answered number id is_granted now s)
 effect id is_granted message now s (ForConnect peer) =
-    heeded (connect_answered peer (if is_granted then connection_id_in message else None) s)
+    challenges_reset (connect_answered peer (if is_granted then connection_id_in message else None) s)
 effect id is_granted message now s _ = s

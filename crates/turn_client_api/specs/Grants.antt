@@ -199,12 +199,12 @@ abbrev pub without : (Grant → Bool) → State → State
 without which s = record (unlisted which s) { grants = filter (λ g. not (which g)) s.grants }
 
 -- these grants are behind all others
-abbrev pub with_grants : List Grant → State → State
-with_grants grants s = record s { grants = s.grants ++ grants }
+abbrev pub with_more_grants : List Grant → State → State
+with_more_grants grants s = record s { grants = s.grants ++ grants }
 
 -- one grant more, behind all others
 abbrev pub with_grant : Grant → State → State
-with_grant grant s = with_grants (grant ∷ []) s
+with_grant grant s = with_more_grants (grant ∷ []) s
 
 abbrev pub family_of_grant : Grant → AddressFamily
 family_of_grant (Allocation a) = family_of a.relayed
@@ -235,5 +235,5 @@ jump events s = record s { events = reverse events ++ s.events }
 abbrev pub wait : List TurnEvent → State → State
 wait events s = record s { events = s.events ++ events }
 
-abbrev pub failures_of : (Grant → Bool) → State → List TurnEvent
-failures_of which s = filter_map (failure_of s.config.allocation_transport) (filter which s.grants)
+abbrev pub failures_among : (Grant → Bool) → State → List TurnEvent
+failures_among which s = filter_map (failure_of s.config.allocation_transport) (filter which s.grants)

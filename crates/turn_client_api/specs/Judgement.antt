@@ -68,20 +68,20 @@ has_unknown message = list_any is_unknown (seen_of message)
 
 pub data Judgement : Type 0 where
   -- it is not for the client, or says nothing that it can trust
-  Nothing : Judgement
+  Unrelated : Judgement
   -- the server asks for another signature; what is held once that is taken
   Challenged : Challenge → Judgement
   -- it ends what it is about
-  Wrong : Judgement
+  Fatal : Judgement
   -- a signed reply to a request that is no longer outstanding
-  Late : Judgement
+  LateResponse : Judgement
   -- DATA, and a ConnectionAttempt that is an indication
-  PeerSent : Judgement
-  Attempt : Judgement
+  DataIndication : Judgement
+  ConnectionAttempt : Judgement
   -- signed: a request, and replies to requests that are outstanding
-  Asked : Judgement
-  Granted : Judgement
-  Denied : Judgement
+  SignedRequest : Judgement
+  SignedSuccess : Judgement
+  SignedError : Judgement
 
 abbrev pub answers_one : State → List ℕ → Bool
 answers_one s message = is_response (class_in message) && is_outstanding (id_of message) s.transactions
@@ -92,10 +92,10 @@ answers_allocate s message =
 
 -- a signed message, by its class
 abbrev pub by_class : MessageClass → Judgement
-by_class Request = Asked
-by_class Indication = Nothing
-by_class Success = Granted
-by_class Error = Denied
+by_class Request = SignedRequest
+by_class Indication = Unrelated
+by_class Success = SignedSuccess
+by_class Error = SignedError
 
 -- a challenge is judged before any integrity (our choice: the first one cannot be signed)
 abbrev pub challenged_or : Judgement → Option Challenge → Judgement
@@ -107,33 +107,33 @@ challenge_in s message = challenge_of (auth_of s) message
 
 -- before anything is held, no reply can be signed: all but a challenge ends the client
 abbrev pub requesting_judgement : State → List ℕ → Judgement
-requesting_judgement s message = if answers_one s message then challenged_or Wrong (challenge_in s message) else Nothing
+requesting_judgement s message = if answers_one s message then challenged_or Fatal (challenge_in s message) else Unrelated
 
 -- an unsigned reply may be anyone's, and one with a wrong signature ends the client
 abbrev pub authenticating_judgement : State → List ℕ → Judgement
 authenticating_judgement s message =
     if answers_allocate s message then challenged_or (by (validation_of (auth_of s) message)) (challenge_in s message)
-    else Nothing
+    else Unrelated
   where
     by : Validation → Judgement
-    by (Validated algorithm) = if is_outstanding (id_of message) s.transactions then by_class (class_in message) else Late
-    by (Refused integrity) = if integrity then Wrong else Nothing
-    by (ResendRequest algorithm) = Nothing
+    by (Validated algorithm) = if is_outstanding (id_of message) s.transactions then by_class (class_in message) else LateResponse
+    by (Refused integrity) = if integrity then Fatal else Unrelated
+    by (ResendRequest algorithm) = Unrelated
 
 abbrev pub indication_judgement : List ℕ → Judgement
 indication_judgement message =
-    if method_in message == data_method then PeerSent
-    else (if method_in message == connection_attempt_method then Attempt else Nothing)
+    if method_in message == data_method then DataIndication
+    else (if method_in message == connection_attempt_method then ConnectionAttempt else Unrelated)
 
 abbrev pub allocated_judgement : State → List ℕ → Judgement
 allocated_judgement s message = by (class_in message)
   where
     signed : Validation → Judgement
     signed (Validated algorithm) =
-        if is_response (class_in message) && not (is_outstanding (id_of message) s.transactions) then Nothing
+        if is_response (class_in message) && not (is_outstanding (id_of message) s.transactions) then Unrelated
         else by_class (class_in message)
-    signed (Refused integrity) = Nothing
-    signed (ResendRequest algorithm) = Nothing
+    signed (Refused integrity) = Unrelated
+    signed (ResendRequest algorithm) = Unrelated
 
     by : MessageClass → Judgement
     by Indication = indication_judgement message
@@ -146,11 +146,11 @@ abbrev pub judgement_of : State → List ℕ → Judgement
 judgement_of s message = by s.phase
   where
     by : Phase → Judgement
-    by New = Nothing
+    by New = Unrelated
     by Requesting = requesting_judgement s message
     by Authenticating = authenticating_judgement s message
     by Allocated = allocated_judgement s message
-    by Closed = Nothing
+    by Closed = Unrelated
 
 -- the request of this ID was made to bind the connection at this local end
 abbrev pub is_bind_of : SocketAddr → Purpose → Bool
@@ -162,9 +162,9 @@ abbrev pub bind_judgement : State → SocketAddr → List ℕ → Judgement
 bind_judgement s local message =
     if is_response (class_in message) && list_any (is_bind_of local) (purposes_of (id_of message) s)
     then challenged_or (by (validation_of (auth_of s) message)) (challenge_in s message)
-    else Wrong
+    else Fatal
   where
     by : Validation → Judgement
-    by (Validated algorithm) = if is_outstanding (id_of message) s.transactions then by_class (class_in message) else Wrong
-    by (Refused integrity) = Wrong
-    by (ResendRequest algorithm) = Wrong
+    by (Validated algorithm) = if is_outstanding (id_of message) s.transactions then by_class (class_in message) else Fatal
+    by (Refused integrity) = Fatal
+    by (ResendRequest algorithm) = Fatal

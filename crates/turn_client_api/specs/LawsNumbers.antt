@@ -4,12 +4,12 @@ use Rattle.std.specs.List.{IsDistinct}
 use Rattle.turn_client_api.specs.State.{State, Grant, Channel}
 
 -- the number of a channel, whether it is asked for, active or reserved
-abbrev pub channel_number : Grant → Option ℕ
-channel_number (Channel number peer progress) = Some number
-channel_number _ = None
+abbrev pub number_of_channel : Grant → Option ℕ
+number_of_channel (Channel number peer progress) = Some number
+number_of_channel _ = None
 
 abbrev pub channel_numbers_of : State → List ℕ
-channel_numbers_of s = filter_map channel_number s.grants
+channel_numbers_of s = filter_map number_of_channel s.grants
 
 -- no two channels have one number
 abbrev pub HasDistinctNumbers : State → Type 0

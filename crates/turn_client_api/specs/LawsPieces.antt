@@ -14,7 +14,7 @@ use Rattle.turn_client_api.specs.Effect.{new_allocation}
 use Rattle.turn_client_api.specs.Payloads.{Outcome, Payload, PeerIcmp}
 use Rattle.turn_client_api.specs.Streams.{poll_recv_step}
 use Rattle.turn_client_api.specs.Receive.{recv_step}
-use Rattle.turn_client_api.specs.LawsRows.{granted_at, peer, peer_ip, relayed_v4}
+use Rattle.turn_client_api.specs.LawsRows.{granted_at, peer, ip_of_peer, relayed_v4}
 
 -- ---- addresses
 
@@ -45,7 +45,7 @@ over_tcp grants streams s = record (granted_at 0 (new_allocation 1800 0 relayed_
 
 -- channel 4000 leads to the peer, which has a permission
 abbrev pub with_channel : State → State
-with_channel s = over_tcp (Permission peer_ip (Active (seconds 300)) ∷ Channel 0x4000 peer (Active (seconds 600)) ∷ []) [] s
+with_channel s = over_tcp (Permission ip_of_peer (Active (seconds 300)) ∷ Channel 0x4000 peer (Active (seconds 600)) ∷ []) [] s
 
 -- the data connection to the peer is bound, or waits for the reply to request 1
 abbrev pub with_connection : Option ℕ → Mode → State → State

@@ -2,14 +2,14 @@
 use Rattle.std.specs.Prelude.{◌≡◌, ◌⊎◌, ℕ, ⊤}
 use Rattle.turn_client_api.specs.State.{State}
 use Rattle.turn_client_api.specs.Requests.{fresh_id}
-use Rattle.turn_client_api.specs.Judgement.{Judgement, Granted, Denied}
+use Rattle.turn_client_api.specs.Judgement.{Judgement, SignedSuccess, SignedError}
 use Rattle.turn_client_api.specs.Steps.{Call}
 use Rattle.turn_client_api.specs.LawsTurns.{IsBroughtBy}
 
 -- the server grants what was asked for, or denies it, and signed that
 abbrev pub IsAccepted : Judgement → Type 0
-IsAccepted Granted = ⊤
-IsAccepted Denied = ⊤
+IsAccepted SignedSuccess = ⊤
+IsAccepted SignedError = ⊤
 IsAccepted _ = ⊥
 
 -- a call draws the ID: as the next one of the client as it is, or as it is when the turn of a message

@@ -31,8 +31,8 @@ abbrev pub relayed_v6 : SocketAddr
 relayed_v6 = V6 (xor_v6 (0x2001 ∷ 0xdb8 ∷ 0 ∷ 0 ∷ 0 ∷ 0 ∷ 0 ∷ 1 ∷ []) 5000)
 
 -- 10.0.0.3, and its port 9000
-abbrev pub peer_ip : IpAddr
-peer_ip = Ip.V4 (record { octets = 10 ∷ 0 ∷ 0 ∷ 3 ∷ [] })
+abbrev pub ip_of_peer : IpAddr
+ip_of_peer = Ip.V4 (record { octets = 10 ∷ 0 ∷ 0 ∷ 3 ∷ [] })
 
 abbrev pub peer : SocketAddr
 peer = V4 (xor_v4 (10 ∷ 0 ∷ 0 ∷ 3 ∷ []) 9000)
@@ -122,5 +122,5 @@ deleted_in_silence to text s =
 -- the client asked for a channel and the permission that it needs, and nothing came
 abbrev pub binding_in_silence : SocketAddr → List ℕ → State → State
 binding_in_silence to text s =
-    awaiting (ForChannel 0x4000 peer ∷ ForPermission peer_ip ∷ []) to text
-    (granted_at 32_500_000_000 (new_allocation 1800 50_000_000 relayed_v4 ∷ Channel 0x4000 peer Pending ∷ Permission peer_ip Pending ∷ []) s)
+    awaiting (ForChannel 0x4000 peer ∷ ForPermission ip_of_peer ∷ []) to text
+    (granted_at 32_500_000_000 (new_allocation 1800 50_000_000 relayed_v4 ∷ Channel 0x4000 peer Pending ∷ Permission ip_of_peer Pending ∷ []) s)

@@ -5,8 +5,8 @@ use Rattle.turn_stun.specs.declared.transport.TransportType.TheVariants.{Tcp}
 use Rattle.turn_agent.specs.Schedule.{default_timers}
 use Rattle.turn_client_api.specs.State.{State, Grant, Permission, Active, ServerIndication, seconds}
 use Rattle.turn_client_api.specs.Calls.{allocated_tcp_socket_step}
-use Rattle.turn_client_api.specs.LawsRows.{peer_ip}
-use Rattle.turn_client_api.specs.LawsReplied.{message_with, ms, offer_of, with_connection_id, with_peer}
+use Rattle.turn_client_api.specs.LawsRows.{ip_of_peer}
+use Rattle.turn_client_api.specs.LawsMessages.{message_with, ms, offer_of, with_connection_id, with_peer}
 use Rattle.turn_client_api.specs.LawsPieces.{client, over_tcp, server}
 use Rattle.turn_client_api.specs.declared.error.TcpAllocateError.{TcpAllocateError}
 use Rattle.turn_client_api.specs.declared.poll.Socket5Tuple.{Socket5Tuple}
@@ -19,7 +19,7 @@ relaying_tcp grants s = record (over_tcp grants [] s) {
 
 -- the peer has a permission
 abbrev pub permission : Grant
-permission = Permission peer_ip (Active (seconds 300))
+permission = Permission ip_of_peer (Active (seconds 300))
 
 -- the server told of a connection of the peer
 abbrev pub offered : State → State

@@ -14,11 +14,11 @@ pub mod Judgement
 pub mod LawsGranted
 pub mod LawsHoused
 pub mod LawsLapses
+pub mod LawsMessages
 pub mod LawsNumbers
 pub mod LawsOrder
 pub mod LawsPeers
 pub mod LawsPieces
-pub mod LawsReplied
 pub mod LawsReplies
 pub mod LawsRows
 pub mod LawsSockets
@@ -27,10 +27,10 @@ pub mod LawsStreams
 pub mod LawsTurns
 pub mod LawsWakeup
 pub mod Payloads
+pub mod PeerBytes
 pub mod Poll
 pub mod Range
 pub mod Receive
-pub mod Received
 pub mod Requests
 pub mod Retry
 pub mod SameConfig

@@ -13,7 +13,7 @@ use Rattle.turn_auth.specs.LongTerm.{Challenge}
 use Rattle.turn_client_api.specs.State.{State, Phase, Requesting, Authenticating, Purpose, ForBind}
 use Rattle.turn_client_api.specs.Grants.{channel_peer, first_in, is_permitted, purposes_of}
 use Rattle.turn_client_api.specs.Requests.{fresh_id, method_for, refresh_method, connection_attempt_method}
-use Rattle.turn_client_api.specs.Judgement.{Judgement, Nothing, Challenged, Wrong, Late, PeerSent, Attempt, Asked, Granted, Denied, judgement_of, method_in, has_unknown, last_in, last_peer_in, last_icmp_in}
+use Rattle.turn_client_api.specs.Judgement.{Judgement, Unrelated, Challenged, Fatal, LateResponse, DataIndication, ConnectionAttempt, SignedRequest, SignedSuccess, SignedError, judgement_of, method_in, has_unknown, last_in, last_peer_in, last_icmp_in}
 use Rattle.turn_client_api.specs.Effect.{allocate_granted, allocate_denied, effect, ended, closed, fail_all}
 use Rattle.turn_client_api.specs.Retry.{most_challenges, retried, state_after_retry}
 use Rattle.turn_client_api.specs.Connections.{attempt_requested, attempt_indicated}
@@ -77,8 +77,8 @@ abbrev pub outcome_for : List ℕ → List Purpose → Outcome
 outcome_for message [] = if method_in message == refresh_method then Handled else Ignored
 outcome_for message (purpose ∷ others) = Handled
 
-abbrev pub reply_step : Bool → List ℕ → ℕ → State → Outcome × State
-reply_step is_granted message now s =
+abbrev pub response_step : Bool → List ℕ → ℕ → State → Outcome × State
+response_step is_granted message now s =
     let purposes = answered_purposes message s in (
       outcome_for message purposes,
       fold (effect (id_of message) is_granted message now) (ended (id_of message) s) purposes,
@@ -108,23 +108,23 @@ signed_step is_granted message now s = by s.phase is_granted
     by : Phase → Bool → Outcome × State
     by Authenticating true = (Handled, allocate_granted message now (ended (id_of message) s))
     by Authenticating false = (Handled, allocate_denied (fresh_id s) message now (ended (id_of message) s))
-    by _ _ = reply_step is_granted message now s
+    by _ _ = response_step is_granted message now s
 
 -- a message of the control connection, or over UDP of the server
 abbrev pub message_step : List ℕ → ℕ → State → Outcome × State
 message_step message now s = by (judgement_of s message)
   where
     by : Judgement → Outcome × State
-    by Nothing = (Ignored, s)
+    by Unrelated = (Ignored, s)
     by (Challenged challenge) = challenge_step message challenge now s
-    by Wrong = wrong_step message s
-    by Late = (Handled, s)
-    by PeerSent = (data_indicated s message, s)
-    by Attempt = option_map_or (λ t. (Handled, t)) (attempt_indicated message s) (Ignored, s)
-    by Asked =
+    by Fatal = wrong_step message s
+    by LateResponse = (Handled, s)
+    by DataIndication = (data_indicated s message, s)
+    by ConnectionAttempt = option_map_or (λ t. (Handled, t)) (attempt_indicated message s) (Ignored, s)
+    by SignedRequest =
         if method_in message == connection_attempt_method then (Handled, attempt_requested message s) else (Ignored, s)
-    by Granted = signed_step true message now s
-    by Denied = signed_step false message now s
+    by SignedSuccess = signed_step true message now s
+    by SignedError = signed_step false message now s
 
 abbrev pub is_message : List ℕ → Bool
 is_message bytes = is_none (fault_of bytes)

@@ -6,7 +6,7 @@ use Rattle.std.specs.declared.net.socket_addr.SocketAddr.{SocketAddr}
 use Rattle.turn_types.specs.declared.family.AddressFamily.{AddressFamily}
 use Rattle.turn_agent.specs.Agent.{given_up}
 use Rattle.turn_client_api.specs.State.{State, Phase, New, Requesting, Authenticating, Allocated, Closed, Grant, Allocation, Permission, Channel, Offer, Connection, Relay, DataOffer, Active, Reserved, Purpose, agent_of}
-use Rattle.turn_client_api.specs.Grants.{allocations, family_of, failures_of, first_in, connection_in, has_request, in_turn, is_connect, is_for_allocation, is_for_any, is_of, is_of_family, is_of_request, is_past, is_pending_channel, is_pending_permission, jump, purposes_of, unlisted, without}
+use Rattle.turn_client_api.specs.Grants.{allocations, family_of, failures_among, first_in, connection_in, has_request, in_turn, is_connect, is_for_allocation, is_for_any, is_of, is_of_family, is_of_request, is_past, is_pending_channel, is_pending_permission, jump, purposes_of, unlisted, without}
 use Rattle.turn_client_api.specs.Effect.{closed, ended, reserved, without_families}
 use Rattle.turn_client_api.specs.Calls.{is_allocated}
 use Rattle.turn_client_api.specs.Due.{has_event, has_reply, next_wakeup}
@@ -29,7 +29,7 @@ goes purposes now s a =
 
 -- these grants are no longer there, and their failures jump
 abbrev pub failed : (Grant → Bool) → State → State
-failed which s = jump (failures_of which s) (without which s)
+failed which s = jump (failures_among which s) (without which s)
 
 -- a permission or channel lapses at its expiry
 abbrev pub is_lapsed_permission : ℕ → Grant → Bool

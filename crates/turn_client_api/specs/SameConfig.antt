@@ -10,11 +10,11 @@ use Rattle.turn_auth.specs.declared.feature.Feature.TheVariants.{Auto, Disabled,
 use Rattle.turn_agent.specs.Schedule.{Timers}
 use Rattle.turn_client_api.specs.Config.{Config, same_family}
 
-abbrev pub same_transport : TransportType → TransportType → Bool
-same_transport Udp Udp = true
-same_transport Udp Tcp = false
-same_transport Tcp Udp = false
-same_transport Tcp Tcp = true
+abbrev pub same_allocation_transport : TransportType → TransportType → Bool
+same_allocation_transport Udp Udp = true
+same_allocation_transport Udp Tcp = false
+same_allocation_transport Tcp Udp = false
+same_allocation_transport Tcp Tcp = true
 
 abbrev pub same_feature : Feature → Feature → Bool
 same_feature Auto Auto = true
@@ -32,7 +32,7 @@ same_timers a b =
 -- both ask for the same allocations
 abbrev pub same_request : Config → Config → Bool
 same_request a b =
-    same_transport a.allocation_transport b.allocation_transport
+    same_allocation_transport a.allocation_transport b.allocation_transport
     && pointwise same_family a.address_families b.address_families
 
 -- both are the same to a server, and keep integrity by the same algorithms

@@ -16,7 +16,7 @@ use Rattle.turn_auth.specs.declared.integrity.IntegrityAlgorithm.{IntegrityAlgor
 use Rattle.turn_auth.specs.declared.integrity.IntegrityAlgorithm.TheVariants.{Sha1, Sha256}
 use Rattle.turn_agent.specs.Schedule.{Timers}
 use Rattle.turn_client_api.specs.Config.{Config, same_family}
-use Rattle.turn_client_api.specs.SameConfig.{same_config, same_credentials, same_feature, same_timers, same_transport}
+use Rattle.turn_client_api.specs.SameConfig.{same_config, same_credentials, same_feature, same_timers, same_allocation_transport}
 
 -- two tests decide whether two parts are the same
 both : {r s : Bool} {P Q : Type 0} → Decides r P → Decides s Q → Decides (r && s) (P × Q)
@@ -24,14 +24,14 @@ both {r = true} p q = (λ h. (p.0 refl, q.0 h), λ h. q.1 h.1)
 both {r = false} p q = (λ h. cc, λ h. p.1 h.0)
 
 -- a fact may be told in other words
-told : {r : Bool} {P Q : Type 0} → Decides r P → (P → Q) → (Q → P) → Decides r Q
-told d f g = (λ h. f (d.0 h), λ h. d.1 (g h))
+in_other_words : {r : Bool} {P Q : Type 0} → Decides r P → (P → Q) → (Q → P) → Decides r Q
+in_other_words d f g = (λ h. f (d.0 h), λ h. d.1 (g h))
 
-same_transport-Decides : (a b : TransportType) → Decides (same_transport a b) (a ≡ b)
-same_transport-Decides Udp Udp = (λ _. refl, λ _. refl)
-same_transport-Decides Udp Tcp = (λ e. cc, λ e. cc)
-same_transport-Decides Tcp Udp = (λ e. cc, λ e. cc)
-same_transport-Decides Tcp Tcp = (λ _. refl, λ _. refl)
+same_allocation_transport-Decides : (a b : TransportType) → Decides (same_allocation_transport a b) (a ≡ b)
+same_allocation_transport-Decides Udp Udp = (λ _. refl, λ _. refl)
+same_allocation_transport-Decides Udp Tcp = (λ e. cc, λ e. cc)
+same_allocation_transport-Decides Tcp Udp = (λ e. cc, λ e. cc)
+same_allocation_transport-Decides Tcp Tcp = (λ _. refl, λ _. refl)
 
 same_family-Decides : (a b : AddressFamily) → Decides (same_family a b) (a ≡ b)
 same_family-Decides IPV4 IPV4 = (λ _. refl, λ _. refl)
@@ -58,21 +58,21 @@ same_feature-Decides Required Required = (λ _. refl, λ _. refl)
 
 same_credentials-Decides : (a b : Credentials) → Decides (same_credentials a b) (a ≡ b)
 same_credentials-Decides a b =
-    told (both (pointwise_decides unsigned_Decides a.user b.user) (pointwise_decides unsigned_Decides a.password b.password))
+    in_other_words (both (pointwise_decides unsigned_Decides a.user b.user) (pointwise_decides unsigned_Decides a.password b.password))
     (λ (user, password) i. record { user = user i; password = password i })
     (λ e. (ap (λ c. c.user) e, ap (λ c. c.password) e))
 
 same_timers-Decides : (a b : Timers) → Decides (same_timers a b) (a ≡ b)
 same_timers-Decides a b =
-    told (both (both (both (unsigned_Decides a.initial b.initial) (unsigned_Decides a.max b.max)) (unsigned_Decides a.transmissions b.transmissions)) (unsigned_Decides a.last b.last))
+    in_other_words (both (both (both (unsigned_Decides a.initial b.initial) (unsigned_Decides a.max b.max)) (unsigned_Decides a.transmissions b.transmissions)) (unsigned_Decides a.last b.last))
     (λ (((first, longest), count), last) i. record { initial = first i; max = longest i; transmissions = count i; last = last i })
     (λ e. (((ap (λ t. t.initial) e, ap (λ t. t.max) e), ap (λ t. t.transmissions) e), ap (λ t. t.last) e))
 
 same_config-Decides : (a b : Config) → Decides (same_config a b) (a ≡ b)
 same_config-Decides a b =
-    told
+    in_other_words
     (both (both
-    (both (same_transport-Decides a.allocation_transport b.allocation_transport)
+    (both (same_allocation_transport-Decides a.allocation_transport b.allocation_transport)
     (pointwise_decides same_family-Decides a.address_families b.address_families))
     (both (both (same_credentials-Decides a.credentials b.credentials)
     (pointwise_decides same_algorithm-Decides a.supported_integrity b.supported_integrity))

@@ -5,12 +5,12 @@ mod granted;
 mod housed;
 mod ids;
 mod lapses;
+mod messages;
 mod numbers;
 mod order;
 mod payloads;
 mod peers;
 mod pieces;
-mod replied;
 mod replies;
 mod rows;
 mod sockets;
@@ -24,15 +24,15 @@ pub use granted::only_a_signed_success_grants;
 pub use housed::grants_stand_in_allocations;
 pub use ids::drawn_ids_are_free;
 pub use lapses::grants_lapse;
+pub use messages::{
+    allocations_are_answered, challenges_are_answered, connects_are_answered, grants_are_answered,
+    refreshes_are_answered,
+};
 pub use numbers::numbers_are_distinct;
 pub use order::clients_stay_in_order;
 pub use payloads::payloads_are_answered;
 pub use peers::only_let_in;
 pub use pieces::{connections_are_bound, datagrams_are_judged, pieces_are_cut};
-pub use replied::{
-    allocations_are_answered, challenges_are_answered, connects_are_answered, grants_are_answered,
-    refreshes_are_answered,
-};
 pub use replies::{ids_are_drawn, replies_count_once};
 pub use rows::{
     channel_numbers_count_up, delete_is_one_request, failures_jump, first_allocate_is_spelled,

@@ -1,7 +1,7 @@
 //! What came in for the caller.
 
 ghost use Rattle.std.specs.Prelude.{◌≡◌, IfOk, IfErr, IsOk};
-ghost use Rattle.turn_client_api.specs.Received.{held_bytes, held_in, payload_of, IsOwned};
+ghost use Rattle.turn_client_api.specs.PeerBytes.{held_bytes, held_in, payload_of, IsOwned};
 
 mod data_range;
 

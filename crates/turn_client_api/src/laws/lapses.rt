@@ -8,8 +8,8 @@ ghost use Rattle.turn_client_api.specs.declared.event.TurnEvent.TheVariants.{Cha
 ghost use Rattle.turn_client_api.specs.declared.poll.TurnPollRet.TheVariants.{Closed, WaitUntil};
 ghost use Rattle.turn_client_api.specs.Calls.{bind_channel_step, free_number};
 ghost use Rattle.turn_client_api.specs.Poll.{poll_step};
-ghost use Rattle.turn_client_api.specs.LawsRows.{peer, peer_ip};
-ghost use Rattle.turn_client_api.specs.LawsReplied.{allocation, ms};
+ghost use Rattle.turn_client_api.specs.LawsRows.{peer, ip_of_peer};
+ghost use Rattle.turn_client_api.specs.LawsMessages.{allocation_of_v4, ms};
 ghost use Rattle.turn_client_api.specs.LawsLapses.{with_both, with_channel_alone, with_refresh_in_vain, with_reserved};
 
 /// What lapses that was granted at 100 ms and is not refreshed (RFC 8656, sections 9 and 12): a permission at
@@ -18,11 +18,11 @@ pub fn grants_lapse()
     // A minute before that the permission is to be refreshed.
     ensures refresh { (s : State) → (poll_step (ms 100) (with_both s)).0 ≡ WaitUntil (ms 240_100) }
     ensures permission { (s : State) → (poll_step (ms 300_100) (with_both s)).0 ≡ WaitUntil (ms 300_100) }
-    ensures permission_told { (s : State) → (poll_step (ms 300_100) (with_both s)).1.events ≡ PermissionCreateFailed Udp peer_ip ∷ [] }
+    ensures permission_told { (s : State) → (poll_step (ms 300_100) (with_both s)).1.events ≡ PermissionCreateFailed Udp ip_of_peer ∷ [] }
     ensures channel_left { (s : State) → (poll_step (ms 300_100) (with_both s)).1.grants ≡ (with_channel_alone s).grants }
     ensures channel_told { (s : State) → (poll_step (ms 600_100) (with_channel_alone s)).1.events ≡ ChannelCreateFailed Udp peer ∷ [] }
     // Its number and its peer are reserved for 300 s.
-    ensures reserved { (s : State) → (poll_step (ms 600_100) (with_channel_alone s)).1.grants ≡ allocation ∷ Channel 0x4000 peer (Reserved (ms 900_100)) ∷ [] }
+    ensures reserved { (s : State) → (poll_step (ms 600_100) (with_channel_alone s)).1.grants ≡ allocation_of_v4 ∷ Channel 0x4000 peer (Reserved (ms 900_100)) ∷ [] }
     ensures refused { (s : State) → bind_channel_step Udp peer (ms 601_000) (with_reserved s) ≡ (Err (ExpiredChannelExists (ms 900_100)), with_reserved s) }
     ensures still_refused { (s : State) → bind_channel_step Udp peer (ms 900_100) (with_reserved s) ≡ (Err (ExpiredChannelExists (ms 900_100)), with_reserved s) }
     ensures bound { (s : State) → (bind_channel_step Udp peer (ms 900_200) (with_reserved s)).0 ≡ Ok tt }

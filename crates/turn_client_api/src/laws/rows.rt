@@ -12,7 +12,7 @@ ghost use Rattle.turn_client_api.specs.Retry.{state_after_retry};
 ghost use Rattle.turn_client_api.specs.Calls.{create_permission_step, delete_step, free_number, relayed_addresses_of};
 ghost use Rattle.turn_client_api.specs.Poll.{poll_step};
 ghost use Rattle.turn_client_api.specs.Transmit.{next_transmit};
-ghost use Rattle.turn_client_api.specs.LawsRows.{allocate_bytes, binding_in_silence, both_allocations, deleted_in_silence, granted_at, peer, peer_ip, relayed_v4, relayed_v6, requesting, requesting_by, short_timers, told_in_turn, waits_and_ends};
+ghost use Rattle.turn_client_api.specs.LawsRows.{allocate_bytes, binding_in_silence, both_allocations, deleted_in_silence, granted_at, peer, ip_of_peer, relayed_v4, relayed_v6, requesting, requesting_by, short_timers, told_in_turn, waits_and_ends};
 ghost use Rattle.std.specs.declared.net.socket_addr.SocketAddr.{SocketAddr};
 ghost use Rattle.turn_client_api.specs.declared.event.TurnEvent.TheVariants.{ChannelCreateFailed, PermissionCreateFailed};
 ghost use Rattle.turn_client_api.specs.declared.poll.TurnPollRet.TheVariants as Do;
@@ -39,12 +39,12 @@ pub fn moments_are_told()
     // Two allocations of 1000 s that were granted at 50 ms: a minute before they end.
     ensures allocations { (s : State) → (poll_step 50_000_000 (granted_at 0 (new_allocation 1000 50_000_000 relayed_v4 ∷ new_allocation 1000 50_000_000 relayed_v6 ∷ []) s)).0 ≡ Do.WaitUntil 940_050_000_000 }
     // A permission that was granted at 100 ms: a minute before it ends.
-    ensures permission { (s : State) → (poll_step 100_000_000 (granted_at 50_000_000 (new_allocation 1800 50_000_000 relayed_v4 ∷ Permission peer_ip (Active 300_100_000_000) ∷ []) s)).0 ≡ Do.WaitUntil 240_100_000_000 }
+    ensures permission { (s : State) → (poll_step 100_000_000 (granted_at 50_000_000 (new_allocation 1800 50_000_000 relayed_v4 ∷ Permission ip_of_peer (Active 300_100_000_000) ∷ []) s)).0 ≡ Do.WaitUntil 240_100_000_000 }
     // A permission that ends at 300.1 s, before the pause does at 300.12 s: its end.
-    ensures lapse { (s : State) → (poll_step 300_080_000_000 (granted_at 300_070_000_000 (new_allocation 1800 50_000_000 relayed_v4 ∷ Permission peer_ip (Active 300_100_000_000) ∷ []) s)).0 ≡ Do.WaitUntil 300_100_000_000 }
+    ensures lapse { (s : State) → (poll_step 300_080_000_000 (granted_at 300_070_000_000 (new_allocation 1800 50_000_000 relayed_v4 ∷ Permission ip_of_peer (Active 300_100_000_000) ∷ []) s)).0 ≡ Do.WaitUntil 300_100_000_000 }
     // A permission that is asked for at 60 ms, 10 ms behind the last request: the end of the pause.
-    ensures queued { (s : State) → (poll_step 60_000_000 (create_permission_step Udp peer_ip 60_000_000 (granted_at 50_000_000 (new_allocation 1800 50_000_000 relayed_v4 ∷ []) s)).1).0 ≡ Do.WaitUntil 100_000_000 }
-    ensures paused { (s : State) → next_transmit 99_999_999 (create_permission_step Udp peer_ip 60_000_000 (granted_at 50_000_000 (new_allocation 1800 50_000_000 relayed_v4 ∷ []) s)).1 ≡ None }
+    ensures queued { (s : State) → (poll_step 60_000_000 (create_permission_step Udp ip_of_peer 60_000_000 (granted_at 50_000_000 (new_allocation 1800 50_000_000 relayed_v4 ∷ []) s)).1).0 ≡ Do.WaitUntil 100_000_000 }
+    ensures paused { (s : State) → next_transmit 99_999_999 (create_permission_step Udp ip_of_peer 60_000_000 (granted_at 50_000_000 (new_allocation 1800 50_000_000 relayed_v4 ∷ []) s)).1 ≡ None }
 {}
 
 /// A first ALLOCATE that was sent at moment 0 and gets no response (RFC 8489, sections 6.2.1 and 6.2.2): what a
@@ -75,6 +75,6 @@ pub fn delete_is_one_request()
 /// with it, whose request got no response, the permission is told first, and `poll` answers that both
 /// wait.
 pub fn failures_jump()
-    ensures events { (to : SocketAddr) (text : List ℕ) (s : State) → (poll_step 40_500_000_000 (binding_in_silence to text s)).1.events ≡ PermissionCreateFailed Udp peer_ip ∷ ChannelCreateFailed Udp peer ∷ [] }
+    ensures events { (to : SocketAddr) (text : List ℕ) (s : State) → (poll_step 40_500_000_000 (binding_in_silence to text s)).1.events ≡ PermissionCreateFailed Udp ip_of_peer ∷ ChannelCreateFailed Udp peer ∷ [] }
     ensures now { (to : SocketAddr) (text : List ℕ) (s : State) → (poll_step 40_500_000_000 (binding_in_silence to text s)).0 ≡ Do.WaitUntil 40_500_000_000 }
 {}

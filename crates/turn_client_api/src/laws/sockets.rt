@@ -9,18 +9,18 @@ ghost use Rattle.turn_client_api.specs.Payloads.{Handled, Ignored};
 ghost use Rattle.turn_client_api.specs.Poll.{poll_step};
 ghost use Rattle.turn_client_api.specs.Transmit.{transmit_step};
 ghost use Rattle.turn_client_api.specs.LawsRows.{peer, relayed_v4};
-ghost use Rattle.turn_client_api.specs.LawsReplied.{IfSigned, ms, offer_of, replied};
+ghost use Rattle.turn_client_api.specs.LawsMessages.{IfSigned, ms, offer_of, after_message};
 ghost use Rattle.turn_client_api.specs.LawsPieces.{client, data_end, empty_stream, server, with_waiting};
 ghost use Rattle.turn_client_api.specs.LawsSockets.{asked_to_connect, asked_without_peer, attempted, control, offered, opened, permission, relaying_tcp};
 
 /// What comes of a peer that connects (RFC 6062, sections 4.4 and 5.4).
 pub fn peers_may_connect()
     // With a permission the caller is to open a connection.
-    ensures offered { (s : State) → replied attempted (relaying_tcp (permission ∷ []) s) ≡ (Handled, offered s) }
+    ensures offered { (s : State) → after_message attempted (relaying_tcp (permission ∷ []) s) ≡ (Handled, offered s) }
     ensures told { (s : State) → (poll_step (ms 100) (offered s)).0 ≡ AllocateTcpSocket 9 control peer }
     // Not so a second time, nor without a permission.
-    ensures again { (s : State) → replied attempted (offered s) ≡ (Ignored, offered s) }
-    ensures unpermitted { (s : State) → replied attempted (relaying_tcp [] s) ≡ (Ignored, relaying_tcp [] s) }
+    ensures again { (s : State) → after_message attempted (offered s) ≡ (Ignored, offered s) }
+    ensures unpermitted { (s : State) → after_message attempted (relaying_tcp [] s) ≡ (Ignored, relaying_tcp [] s) }
     // A signed request makes an offer, which is to be answered.
     ensures asked { (s : State) → IfSigned asked_to_connect (relaying_tcp [] s) (λ r. r ≡ (Handled, relaying_tcp (offer_of (ServerRequest 7) ∷ []) s)) }
     // Without a peer it is refused at once.

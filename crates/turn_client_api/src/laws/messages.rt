@@ -8,8 +8,8 @@ ghost use Rattle.turn_client_api.specs.State.{State, Authenticating, Allocated, 
 ghost use Rattle.turn_client_api.specs.declared.event.TurnEvent.TheVariants.{AllocationCreated, AllocationCreateFailed, ChannelCreated, ChannelCreateFailed, PermissionCreated, PermissionCreateFailed, TcpConnectFailed};
 ghost use Rattle.turn_client_api.specs.Payloads.{Handled, Ignored};
 ghost use Rattle.turn_client_api.specs.Effect.{new_allocation};
-ghost use Rattle.turn_client_api.specs.LawsRows.{peer, peer_ip, relayed_v4, relayed_v6};
-ghost use Rattle.turn_client_api.specs.LawsReplied.{IfSigned, IfUnsigned, IsSigned, allocating, allocation, asking_channel, asking_connection, asking_first, asking_permission, bad_request, both_allocated, bound, challenged, connected, held_by_it, lifetime_behind, mismatched, ms, not_bound, not_connected, offer_of, one_allocated, one_family_alone, permitted, refreshed_for, refreshing, replied, stale, unauthorized, with_integrity};
+ghost use Rattle.turn_client_api.specs.LawsRows.{peer, ip_of_peer, relayed_v4, relayed_v6};
+ghost use Rattle.turn_client_api.specs.LawsMessages.{IfSigned, IfUnsigned, IsSigned, allocating, allocation_of_v4, asking_channel, asking_connection, asking_first, asking_permission, bad_request_reply, both_allocated, channel_bound, challenged, connected, held_by_it, lifetime_behind, mismatched, ms, channel_not_bound, not_connected, offer_of, one_allocated, one_family_alone, permitted, refreshed_for, refreshing, after_message, stale, unauthorized, with_integrity};
 
 /// What comes of replies to a signed ALLOCATE for both families (RFC 8656, sections 7.3 and 7.4).
 pub fn allocations_are_answered()
@@ -32,52 +32,52 @@ pub fn allocations_are_answered()
 /// What comes of replies to CREATE_PERMISSION and CHANNEL_BIND (RFC 8656, sections 10.3 and 12.3), whose grants
 /// last for 300 and 600 s from the moment of the reply.
 pub fn grants_are_answered()
-    ensures permitted { (to : SocketAddr) (text : List ℕ) (s : State) → IfSigned permitted (asking_permission to text s) (λ r. r.1.grants ≡ allocation ∷ Permission peer_ip (Active (ms 300_100)) ∷ []) }
-    ensures permission_told { (to : SocketAddr) (text : List ℕ) (s : State) → IfSigned permitted (asking_permission to text s) (λ r. r.1.events ≡ PermissionCreated Udp peer_ip ∷ []) }
+    ensures permitted { (to : SocketAddr) (text : List ℕ) (s : State) → IfSigned permitted (asking_permission to text s) (λ r. r.1.grants ≡ allocation_of_v4 ∷ Permission ip_of_peer (Active (ms 300_100)) ∷ []) }
+    ensures permission_told { (to : SocketAddr) (text : List ℕ) (s : State) → IfSigned permitted (asking_permission to text s) (λ r. r.1.events ≡ PermissionCreated Udp ip_of_peer ∷ []) }
     ensures unsigned { (to : SocketAddr) (text : List ℕ) (s : State) → IfUnsigned permitted (asking_permission to text s) (λ r. r ≡ (Ignored, asking_permission to text s)) }
     // A second copy changes nothing.
-    ensures copy { (byte : ℕ → ℕ) (to : SocketAddr) (text : List ℕ) (s : State) → IsSigned (permitted (with_integrity byte)) (asking_permission to text s) → replied (permitted (with_integrity byte)) (replied (permitted (with_integrity byte)) (asking_permission to text s)).1 ≡ (Ignored, (replied (permitted (with_integrity byte)) (asking_permission to text s)).1) }
+    ensures copy { (byte : ℕ → ℕ) (to : SocketAddr) (text : List ℕ) (s : State) → IsSigned (permitted (with_integrity byte)) (asking_permission to text s) → after_message (permitted (with_integrity byte)) (after_message (permitted (with_integrity byte)) (asking_permission to text s)).1 ≡ (Ignored, (after_message (permitted (with_integrity byte)) (asking_permission to text s)).1) }
     // The permission of a channel is granted before it.
-    ensures bound { (to : SocketAddr) (text : List ℕ) (s : State) → IfSigned bound (asking_channel to text s) (λ r. r.1.grants ≡ allocation ∷ Permission peer_ip (Active (ms 300_100)) ∷ Channel 0x4000 peer (Active (ms 600_100)) ∷ []) }
-    ensures channel_told { (to : SocketAddr) (text : List ℕ) (s : State) → IfSigned bound (asking_channel to text s) (λ r. r.1.events ≡ PermissionCreated Udp peer_ip ∷ ChannelCreated Udp peer ∷ []) }
+    ensures bound { (to : SocketAddr) (text : List ℕ) (s : State) → IfSigned channel_bound (asking_channel to text s) (λ r. r.1.grants ≡ allocation_of_v4 ∷ Permission ip_of_peer (Active (ms 300_100)) ∷ Channel 0x4000 peer (Active (ms 600_100)) ∷ []) }
+    ensures channel_told { (to : SocketAddr) (text : List ℕ) (s : State) → IfSigned channel_bound (asking_channel to text s) (λ r. r.1.events ≡ PermissionCreated Udp ip_of_peer ∷ ChannelCreated Udp peer ∷ []) }
     // A refusal takes the permission that was asked for with the channel.
-    ensures refused { (to : SocketAddr) (text : List ℕ) (s : State) → IfSigned not_bound (asking_channel to text s) (λ r. r.1.grants ≡ allocation ∷ []) }
-    ensures refusal_told { (to : SocketAddr) (text : List ℕ) (s : State) → IfSigned not_bound (asking_channel to text s) (λ r. r.1.events ≡ ChannelCreateFailed Udp peer ∷ PermissionCreateFailed Udp peer_ip ∷ []) }
+    ensures refused { (to : SocketAddr) (text : List ℕ) (s : State) → IfSigned channel_not_bound (asking_channel to text s) (λ r. r.1.grants ≡ allocation_of_v4 ∷ []) }
+    ensures refusal_told { (to : SocketAddr) (text : List ℕ) (s : State) → IfSigned channel_not_bound (asking_channel to text s) (λ r. r.1.events ≡ ChannelCreateFailed Udp peer ∷ PermissionCreateFailed Udp ip_of_peer ∷ []) }
 {}
 
 /// What comes of replies to REFRESH (RFC 8656, section 8.3).
 pub fn refreshes_are_answered()
     // At least 600 s count from the moment of the reply, and 599 s do not.
     ensures longer { (to : SocketAddr) (text : List ℕ) (s : State) → IfSigned (refreshed_for 0x02 0x58) (refreshing 1800 to text s) (λ r. r.1.grants ≡ Allocation (record { relayed = relayed_v4; first_lifetime = seconds 1000; expiry = ms 600_100; is_expired = false }) ∷ []) }
-    ensures shorter { (to : SocketAddr) (text : List ℕ) (s : State) → IfSigned (refreshed_for 0x02 0x57) (refreshing 1800 to text s) (λ r. (r.0 ≡ Handled) × (r.1.grants ≡ allocation ∷ [])) }
+    ensures shorter { (to : SocketAddr) (text : List ℕ) (s : State) → IfSigned (refreshed_for 0x02 0x57) (refreshing 1800 to text s) (λ r. (r.0 ≡ Handled) × (r.1.grants ≡ allocation_of_v4 ∷ [])) }
     // What was to be given back is gone, also where the server knows nothing of it.
     ensures deleted { (to : SocketAddr) (text : List ℕ) (s : State) → IfSigned (refreshed_for 0x00 0x00) (refreshing 0 to text s) (λ r. (r.1.phase ≡ Closed) × (r.1.grants ≡ [])) }
     ensures mismatch { (to : SocketAddr) (text : List ℕ) (s : State) → IfSigned mismatched (refreshing 0 to text s) (λ r. (r.1.phase ≡ Closed) × (r.1.grants ≡ [])) }
-    ensures kept { (to : SocketAddr) (text : List ℕ) (s : State) → IfSigned mismatched (refreshing 1800 to text s) (λ r. (r.0 ≡ Handled) × (r.1.grants ≡ allocation ∷ [])) }
+    ensures kept { (to : SocketAddr) (text : List ℕ) (s : State) → IfSigned mismatched (refreshing 1800 to text s) (λ r. (r.0 ≡ Handled) × (r.1.grants ≡ allocation_of_v4 ∷ [])) }
 {}
 
 /// What comes of replies to CONNECT (RFC 6062, section 4.3).
 pub fn connects_are_answered()
     // The caller is to open the connection that the server tells of.
-    ensures offered { (to : SocketAddr) (text : List ℕ) (s : State) → IfSigned connected (asking_connection to text s) (λ r. r.1.grants ≡ allocation ∷ Permission peer_ip (Active (seconds 300)) ∷ offer_of OwnConnect ∷ []) }
+    ensures offered { (to : SocketAddr) (text : List ℕ) (s : State) → IfSigned connected (asking_connection to text s) (λ r. r.1.grants ≡ allocation_of_v4 ∷ Permission ip_of_peer (Active (seconds 300)) ∷ offer_of OwnConnect ∷ []) }
     // A refusal counts, whatever else it says.
-    ensures refused { (to : SocketAddr) (text : List ℕ) (s : State) → IfSigned not_connected (asking_connection to text s) (λ r. r.1.grants ≡ allocation ∷ Permission peer_ip (Active (seconds 300)) ∷ []) }
+    ensures refused { (to : SocketAddr) (text : List ℕ) (s : State) → IfSigned not_connected (asking_connection to text s) (λ r. r.1.grants ≡ allocation_of_v4 ∷ Permission ip_of_peer (Active (seconds 300)) ∷ []) }
     ensures told { (to : SocketAddr) (text : List ℕ) (s : State) → IfSigned not_connected (asking_connection to text s) (λ r. r.1.events ≡ TcpConnectFailed peer ∷ []) }
 {}
 
 /// What comes of challenges (RFC 8489, sections 9.2.3 to 9.2.5).
 pub fn challenges_are_answered()
     // The first one brings realm, nonce and algorithm, and the request is made again.
-    ensures handled { (text : List ℕ) (s : State) → (replied unauthorized (asking_first text s)).0 ≡ Handled }
-    ensures phase { (text : List ℕ) (s : State) → (replied unauthorized (asking_first text s)).1.phase ≡ Authenticating }
-    ensures held { (text : List ℕ) (s : State) → (replied unauthorized (asking_first text s)).1.held ≡ Some held_by_it }
-    ensures queued { (text : List ℕ) (s : State) → map (λ q. q.is_request) (replied unauthorized (asking_first text s)).1.queue ≡ true ∷ [] }
+    ensures handled { (text : List ℕ) (s : State) → (after_message unauthorized (asking_first text s)).0 ≡ Handled }
+    ensures phase { (text : List ℕ) (s : State) → (after_message unauthorized (asking_first text s)).1.phase ≡ Authenticating }
+    ensures held { (text : List ℕ) (s : State) → (after_message unauthorized (asking_first text s)).1.held ≡ Some held_by_it }
+    ensures queued { (text : List ℕ) (s : State) → map (λ q. q.is_request) (after_message unauthorized (asking_first text s)).1.queue ≡ true ∷ [] }
     // To no request that is outstanding it brings nothing, and before it any other reply ends the client.
-    ensures unasked { (text : List ℕ) (s : State) → replied unauthorized (record (asking_first text s) { transactions = [] }) ≡ (Ignored, record (asking_first text s) { transactions = [] }) }
-    ensures refused { (text : List ℕ) (s : State) → (replied bad_request (asking_first text s)).1.phase ≡ Closed }
-    ensures told { (text : List ℕ) (s : State) → (replied bad_request (asking_first text s)).1.events ≡ AllocationCreateFailed IPV4 ∷ [] }
+    ensures unasked { (text : List ℕ) (s : State) → after_message unauthorized (record (asking_first text s) { transactions = [] }) ≡ (Ignored, record (asking_first text s) { transactions = [] }) }
+    ensures refused { (text : List ℕ) (s : State) → (after_message bad_request_reply (asking_first text s)).1.phase ≡ Closed }
+    ensures told { (text : List ℕ) (s : State) → (after_message bad_request_reply (asking_first text s)).1.events ≡ AllocationCreateFailed IPV4 ∷ [] }
     // Nine in a row are answered, and the tenth ends the client.
-    ensures ninth { (to : SocketAddr) (text : List ℕ) (s : State) → (replied stale (challenged 8 to text s)).1.challenges ≡ 9 }
-    ensures still { (to : SocketAddr) (text : List ℕ) (s : State) → (replied stale (challenged 8 to text s)).1.phase ≡ Allocated }
-    ensures tenth { (to : SocketAddr) (text : List ℕ) (s : State) → (replied stale (challenged 9 to text s)).1.phase ≡ Closed }
+    ensures ninth { (to : SocketAddr) (text : List ℕ) (s : State) → (after_message stale (challenged 8 to text s)).1.challenges ≡ 9 }
+    ensures still { (to : SocketAddr) (text : List ℕ) (s : State) → (after_message stale (challenged 8 to text s)).1.phase ≡ Allocated }
+    ensures tenth { (to : SocketAddr) (text : List ℕ) (s : State) → (after_message stale (challenged 9 to text s)).1.phase ≡ Closed }
 {}

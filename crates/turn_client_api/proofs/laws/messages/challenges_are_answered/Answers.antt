@@ -1,7 +1,7 @@
 use Rattle.std.proofs.Common.{refl}
 use Rattle.turn_stun.specs.Message.{attributes_from}
 use Rattle.turn_stun.specs.Attributes.{seen_after}
-use Rattle.turn_client_api.proofs.laws.replied.challenges_are_answered.Goals as goal
+use Rattle.turn_client_api.proofs.laws.messages.challenges_are_answered.Goals as goal
 
 pub returns-clause-handled : goal.returns-clause-handled
 unfolding attributes_from seen_after

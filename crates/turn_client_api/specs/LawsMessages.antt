@@ -9,7 +9,7 @@ use Rattle.turn_auth.specs.declared.validation.Validation.TheVariants.{Validated
 use Rattle.turn_client_api.specs.State.{State, auth_of, Authenticating, Grant, Permission, Channel, Connect, Offer, Origin, Active, Pending, Purpose, ForAllocation, ForRefresh, ForPermission, ForChannel, ForConnect, seconds}
 use Rattle.turn_client_api.specs.Effect.{new_allocation}
 use Rattle.turn_client_api.specs.Payloads.{Outcome, message_step}
-use Rattle.turn_client_api.specs.LawsRows.{awaiting, granted_at, peer, peer_ip, relayed_v4, requesting}
+use Rattle.turn_client_api.specs.LawsRows.{awaiting, granted_at, peer, ip_of_peer, relayed_v4, requesting}
 
 -- ---- messages
 
@@ -69,8 +69,8 @@ unauthorized = message_with 0x01 0x13 (with_error 1 ++ with_realm_and_nonce)
 abbrev pub stale : List ℕ
 stale = message_with 0x01 0x18 (with_error 38 ++ with_realm_and_nonce)
 
-abbrev pub bad_request : List ℕ
-bad_request = message_with 0x01 0x13 (with_error 0)
+abbrev pub bad_request_reply : List ℕ
+bad_request_reply = message_with 0x01 0x13 (with_error 0)
 
 -- Replies, each with this signature or with none. ALLOCATE: 1000 s for both families; for IPv4, with more
 -- behind the signature; nothing but the address before it; and no address of one family
@@ -97,11 +97,11 @@ mismatched signature = message_with 0x01 0x14 (with_error 37 ++ signature)
 abbrev pub permitted : List ℕ → List ℕ
 permitted signature = message_with 0x01 0x08 signature
 
-abbrev pub bound : List ℕ → List ℕ
-bound signature = message_with 0x01 0x09 signature
+abbrev pub channel_bound : List ℕ → List ℕ
+channel_bound signature = message_with 0x01 0x09 signature
 
-abbrev pub not_bound : List ℕ → List ℕ
-not_bound signature = message_with 0x01 0x19 (with_error 3 ++ signature)
+abbrev pub channel_not_bound : List ℕ → List ℕ
+channel_not_bound signature = message_with 0x01 0x19 (with_error 3 ++ signature)
 
 -- CONNECT: the server's connection 9, also in an error, which counts for nothing
 abbrev pub connected : List ℕ → List ℕ
@@ -117,17 +117,17 @@ abbrev pub IsSigned : List ℕ → State → Type 0
 IsSigned message s = validation_of (auth_of s) message ≡ Validated Sha1
 
 -- what the client makes of it at 100 ms
-abbrev pub replied : List ℕ → State → Outcome × State
-replied message s = message_step message (ms 100) s
+abbrev pub after_message : List ℕ → State → Outcome × State
+after_message message s = message_step message (ms 100) s
 
 -- with a signature, whatever its bytes, that is right, this is so of what comes of the reply
 abbrev pub IfSigned : (List ℕ → List ℕ) → State → (Outcome × State → Type 0) → Type 0
 IfSigned reply s Is =
-    (byte : ℕ → ℕ) → IsSigned (reply (with_integrity byte)) s → Is (replied (reply (with_integrity byte)) s)
+    (byte : ℕ → ℕ) → IsSigned (reply (with_integrity byte)) s → Is (after_message (reply (with_integrity byte)) s)
 
 -- without one, which the client finds to be so
 abbrev pub IfUnsigned : (List ℕ → List ℕ) → State → (Outcome × State → Type 0) → Type 0
-IfUnsigned reply s Is = validation_of (auth_of s) (reply []) ≡ Refused false → Is (replied (reply []) s)
+IfUnsigned reply s Is = validation_of (auth_of s) (reply []) ≡ Refused false → Is (after_message (reply []) s)
 
 -- ---- clients that await the response to request 7
 
@@ -139,22 +139,22 @@ allocating to text s = record (awaiting (ForAllocation ∷ []) to text (granted_
 }
 
 -- an IPv4 allocation of 1000 s, that was granted at 50 ms
-abbrev pub allocation : Grant
-allocation = new_allocation 1000 (ms 50) relayed_v4
+abbrev pub allocation_of_v4 : Grant
+allocation_of_v4 = new_allocation 1000 (ms 50) relayed_v4
 
 -- it was made for these, and this was asked for
 abbrev pub asking : List Purpose → List Grant → SocketAddr → List ℕ → State → State
-asking purposes grants to text s = awaiting purposes to text (granted_at 0 (allocation ∷ grants) s)
+asking purposes grants to text s = awaiting purposes to text (granted_at 0 (allocation_of_v4 ∷ grants) s)
 
 abbrev pub asking_permission : SocketAddr → List ℕ → State → State
-asking_permission to text s = asking (ForPermission peer_ip ∷ []) (Permission peer_ip Pending ∷ []) to text s
+asking_permission to text s = asking (ForPermission ip_of_peer ∷ []) (Permission ip_of_peer Pending ∷ []) to text s
 
 abbrev pub asking_channel : SocketAddr → List ℕ → State → State
 asking_channel to text s =
-    asking (ForChannel 0x4000 peer ∷ ForPermission peer_ip ∷ []) (Channel 0x4000 peer Pending ∷ Permission peer_ip Pending ∷ []) to text s
+    asking (ForChannel 0x4000 peer ∷ ForPermission ip_of_peer ∷ []) (Channel 0x4000 peer Pending ∷ Permission ip_of_peer Pending ∷ []) to text s
 
 abbrev pub asking_connection : SocketAddr → List ℕ → State → State
-asking_connection to text s = asking (ForConnect peer ∷ []) (Permission peer_ip (Active (seconds 300)) ∷ Connect peer ∷ []) to text s
+asking_connection to text s = asking (ForConnect peer ∷ []) (Permission ip_of_peer (Active (seconds 300)) ∷ Connect peer ∷ []) to text s
 
 abbrev pub refreshing : ℕ → SocketAddr → List ℕ → State → State
 refreshing lifetime to text s = asking (ForRefresh IPV4 lifetime ∷ []) [] to text s

@@ -1,7 +1,7 @@
 use Rattle.std.proofs.Common.{refl}
 use Rattle.turn_stun.specs.Message.{attributes_from, fault_of}
 use Rattle.turn_stun.specs.Attributes.{seen_after}
-use Rattle.turn_client_api.proofs.laws.replied.refreshes_are_answered.Goals as goal
+use Rattle.turn_client_api.proofs.laws.messages.refreshes_are_answered.Goals as goal
 
 pub returns-clause-longer : goal.returns-clause-longer
 unfolding fault_of attributes_from seen_after
