@@ -15,7 +15,7 @@ use Rattle.turn_client_api.specs.Payloads.{Payload, Outcome, Handled, Ignored, P
 use Rattle.turn_client_api.specs.Streams.{broken_at, framed_by, framed_turn, go_on, is_ready, most_turns, owned, payload_in, poll_recv_step, stream_at, turn, turn_of_first, turned, turns, with_bytes}
 use Rattle.turn_client_api.specs.Receive.{first_turn, is_from_server, piece_step, place_kept, recv_step, stream_step, then_all}
 use Rattle.turn_client_api.specs.Steps.{Recv, packet_step}
-use Rattle.turn_client_api.specs.Handled.{Turn, fed, fed_taken, frame_taken, framed_taken, handled, is_front, payload_at, payloads, piece_turns, poll_recv_turns, recv_turns, stream_turns, taken, taken_first, taken_in, then_taken, turn_of, turns_taken, unless_given}
+use Rattle.turn_client_api.specs.Handled.{Turn, fed, fed_taken, frame_taken, handled, is_front, payloads, piece_turns, poll_recv_turns, recv_turns, stream_turns, taken, taken_first, taken_in, taken_of_len, then_taken, turn_of, turn_payload, turns_taken, unless_given}
 use Rattle.turn_client_api.specs.LawsPeers.{IsLetInTurn}
 use Rattle.turn_client_api.proofs.PeerLemmas.{datagram-IsLetThrough, frame-IsLetIn}
 
@@ -23,15 +23,15 @@ use Rattle.turn_client_api.proofs.PeerLemmas.{datagram-IsLetThrough, frame-IsLet
 abbrev AreOf : List Turn → Outcome → Type 0
 AreOf turns o = payloads turns ≡ option_to_list (payload_in o)
 
-one-AreOf : (t : Turn) → payloads (t ∷ []) ≡ option_to_list (payload_at t)
-one-AreOf t = by (payload_at t)
+one-AreOf : (t : Turn) → payloads (t ∷ []) ≡ option_to_list (turn_payload t)
+one-AreOf t = by (turn_payload t)
   where
     by : (o : Option Payload) → cons_option o [] ≡ option_to_list o
     by None = refl
     by (Some payload) = refl
 
 payloads-append : (front later : List Turn) → payloads (front ++ later) ≡ payloads front ++ payloads later
-payloads-append front later = filter_map-append payload_at front later
+payloads-append front later = filter_map-append turn_payload front later
 
 -- ---- the turn of a stream
 
@@ -42,14 +42,14 @@ handled-AreOf : (is_lent : Bool) → AreOf [] (given is_lent Handled)
 handled-AreOf true = refl
 handled-AreOf false = refl
 
-frame-AreOf : (is_lent : Bool) (stream : Stream) (now : ℕ) (t : State) (o : Option ℕ) → AreOf (frame_taken is_lent stream now t o) (given is_lent (framed_by stream now t o).0)
+frame-AreOf : (is_lent : Bool) (stream : Stream) (now : ℕ) (t : State) (o : Option ℕ) → AreOf (taken_of_len is_lent stream now t o) (given is_lent (framed_by stream now t o).0)
 frame-AreOf is_lent stream now t None = handled-AreOf is_lent
 frame-AreOf is_lent stream now t (Some len) = one-AreOf (turn_of is_lent stream (take len stream.bytes) now t)
 
-framed-AreOf : (is_lent : Bool) (stream : Stream) (now : ℕ) (t : State) → AreOf (framed_taken is_lent stream now t) (given is_lent (framed_turn stream now t).0)
+framed-AreOf : (is_lent : Bool) (stream : Stream) (now : ℕ) (t : State) → AreOf (frame_taken is_lent stream now t) (given is_lent (framed_turn stream now t).0)
 framed-AreOf is_lent stream now t = by (begins_no_frame stream.bytes) (frame_len stream.bytes)
   where
-    by : (b : Bool) (o : Option ℕ) → AreOf (cond b [] (frame_taken is_lent stream now t o)) (given is_lent (cond {A = Outcome × State} b (Handled, broken_at stream.local t) (framed_by stream now t o)).0)
+    by : (b : Bool) (o : Option ℕ) → AreOf (cond b [] (taken_of_len is_lent stream now t o)) (given is_lent (cond {A = Outcome × State} b (Handled, broken_at stream.local t) (framed_by stream now t o)).0)
     by true o = handled-AreOf is_lent
     by false o = frame-AreOf is_lent stream now t o
 
@@ -108,7 +108,7 @@ kept-given : (waited : List ℕ) (o : Outcome) → given (is_front waited) o ≡
 kept-given [] o = refl
 kept-given (b ∷ bs) o = refl
 
-framed-fed : (stream : Stream) (piece : List ℕ) (now : ℕ) (t : State) → AreOf (framed_taken (is_front stream.bytes) (fed stream piece) now t) (place_kept stream.bytes (framed_turn (fed stream piece) now t).0)
+framed-fed : (stream : Stream) (piece : List ℕ) (now : ℕ) (t : State) → AreOf (frame_taken (is_front stream.bytes) (fed stream piece) now t) (place_kept stream.bytes (framed_turn (fed stream piece) now t).0)
 framed-fed stream piece now t =
     framed-AreOf (is_front stream.bytes) (fed stream piece) now t
     ∙ ap (λ o. option_to_list (payload_in o)) (kept-given stream.bytes (framed_turn (fed stream piece) now t).0)

@@ -15,7 +15,7 @@ use Rattle.turn_client_api.specs.Steps.{Call, Recv, PollRecv}
 
 -- a datagram, or a frame of a stream that is taken out
 pub record Turn : Type 0 where
-  -- the stream with its mode as it is now, or none where this is a datagram
+  -- the stream, with its mode in the state just before, or none where this is a datagram
   pub stream : Option Stream
   pub bytes : List ℕ
   -- what the caller handed in begins with these bytes
@@ -33,12 +33,12 @@ made_of t = by t.stream
     by (Some stream) = frame_step stream t.bytes t.moment t.before
 
 -- what it gives to the caller: a part of what the caller handed in, or owned
-abbrev pub payload_at : Turn → Option Payload
-payload_at t = payload_in (if t.is_lent then (made_of t).0 else owned (made_of t).0)
+abbrev pub turn_payload : Turn → Option Payload
+turn_payload t = payload_in (if t.is_lent then (made_of t).0 else owned (made_of t).0)
 
 -- what peers sent, in order
 abbrev pub payloads : List Turn → List Payload
-payloads turns = filter_map payload_at turns
+payloads turns = filter_map turn_payload turns
 
 -- ---- the turn of a stream
 
@@ -47,21 +47,21 @@ turn_of is_lent stream bytes now t =
     record { stream = Some stream; bytes = bytes; is_lent = is_lent; moment = now; before = t }
 
 -- the frame in front has so many bytes, or the stream waits for more
-abbrev pub frame_taken : Bool → Stream → ℕ → State → Option ℕ → List Turn
-frame_taken is_lent stream now t None = []
-frame_taken is_lent stream now t (Some len) = turn_of is_lent stream (take len stream.bytes) now t ∷ []
+abbrev pub taken_of_len : Bool → Stream → ℕ → State → Option ℕ → List Turn
+taken_of_len is_lent stream now t None = []
+taken_of_len is_lent stream now t (Some len) = turn_of is_lent stream (take len stream.bytes) now t ∷ []
 
-abbrev pub framed_taken : Bool → Stream → ℕ → State → List Turn
-framed_taken is_lent stream now t =
-    if begins_no_frame stream.bytes then [] else frame_taken is_lent stream now t (frame_len stream.bytes)
+abbrev pub frame_taken : Bool → Stream → ℕ → State → List Turn
+frame_taken is_lent stream now t =
+    if begins_no_frame stream.bytes then [] else taken_of_len is_lent stream now t (frame_len stream.bytes)
 
 -- a frame, or all bytes of a bound stream; the stream is taken out: in this state it holds nothing
 abbrev pub taken_in : Bool → Stream → ℕ → State → List Turn
 taken_in is_lent stream now t = by stream.mode
   where
     by : Mode → List Turn
-    by Control = framed_taken is_lent stream now t
-    by Waiting = framed_taken is_lent stream now t
+    by Control = frame_taken is_lent stream now t
+    by Waiting = frame_taken is_lent stream now t
     by (Bound peer) = turn_of is_lent stream stream.bytes now t ∷ []
     by Broken = []
 
