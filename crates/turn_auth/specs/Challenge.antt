@@ -1,5 +1,5 @@
 -- Which messages are challenges (RFC 8489, sections 9.2.3 to 9.2.5).
-use Rattle.std.specs.Prelude.{◌≡◌, ℕ, ◌==◌, Bool, true, false, ◌&&◌, ◌||◌, if◌then◌else◌, nat_le, List, [], length, Option, Some, None, is_some, unwrap_or, IsSome, ◌⊎◌, option_map, option_and_then}
+use Rattle.std.specs.Prelude.{◌≡◌, ℕ, ◌==◌, Bool, true, false, ◌&&◌, ◌||◌, if◌then◌else◌, nat_le, List, [], length, Option, Some, None, is_some, unwrap_or, IsSome, IfSome, ◌⊎◌, option_map, option_and_then}
 use Rattle.std.specs.Option.{option_map_or}
 use Rattle.std.specs.List.{list_any}
 use Rattle.std.specs.Str.{bytes_eq}
@@ -107,3 +107,9 @@ pub record IsChallenge (auth : ClientAuth) (bytes : List ℕ) (challenge : Chall
   pub realm : realm_in bytes ≡ Some challenge.realm
   pub nonce : nonce_in bytes ≡ Some challenge.nonce
   pub follows : Follows auth.supported (value_in 0x8002 bytes) (code_in bytes) challenge auth.held
+
+-- The client may take what the challenge gave: it has credentials, and of what it holds the nonce
+-- changes alone (RFC 8489, section 9.2.5; that the realm stays is our choice).
+pub record MayTake (auth : ClientAuth) (challenge : Challenge) : Type 0 where
+  pub known : IsSome auth.credentials
+  pub kept : IfSome auth.held (λ held. challenge ≡ record held { nonce = challenge.nonce })

@@ -8,15 +8,17 @@ use Rattle.turn_auth.specs.Keyed.{HoldsKey, algorithm_of}
 use Rattle.turn_auth.specs.declared.integrity.IntegrityAlgorithm.{IntegrityAlgorithm}
 use Rattle.turn_auth.specs.declared.integrity.IntegrityAlgorithm.TheVariants.{Sha1, Sha256}
 use Rattle.turn_auth.specs.declared.held.Held.{Held}
+use Rattle.turn_auth.specs.declared.key.SigningKey.{SigningKey}
+use Rattle.turn_auth.specs.declared.server_challenge.ServerChallenge.TheInside.{Inside as Taken}
 use Rattle.turn_auth.specs.declared.long_term.LongTermClientAuth.TheInside.{Inside}
 
--- what is held, without the kept key
-abbrev pub held_view : Held → Challenge
-held_view held = record {
-  realm = held.realm.items;
-  nonce = held.nonce.items;
-  algorithm = algorithm_of held.key;
-  password_algorithms = held.password_algorithms.items;
+-- a challenge, as contracts see it
+abbrev pub challenge_view : Taken → Challenge
+challenge_view taken = record {
+  realm = taken.realm.items;
+  nonce = taken.nonce.items;
+  algorithm = taken.algorithm;
+  password_algorithms = taken.password_algorithms.items;
 }
 
 abbrev pub auth_view : Inside → ClientAuth
@@ -24,7 +26,7 @@ auth_view auth = record {
   credentials = auth.credentials;
   supported = auth.supported.items;
   anonymous_username = auth.anonymous_username;
-  held = option_map held_view auth.held;
+  held = option_map (λ held. held.challenge) auth.held;
 }
 
 -- a list of algorithms that is not empty and has each of them at most once
@@ -34,19 +36,24 @@ is_supported_list (Sha1 ∷ Sha256 ∷ []) = true
 is_supported_list (Sha256 ∷ Sha1 ∷ []) = true
 is_supported_list _ = false
 
--- what is held can be written into a message, and the kept key is the key of the user in the realm
-pub record IsKept (credentials : Credentials) (held : Held) : Type 0 where
-  pub realm_some : 1 ≤ length held.realm.items
-  pub realm_short : length held.realm.items ≤ 763
-  pub nonce_some : 1 ≤ length held.nonce.items
-  pub nonce_short : length held.nonce.items ≤ 763
-  pub algorithms_whole : is_some (attributes_from 0 0 held.password_algorithms.items) ≡ true
-  pub algorithms_short : length held.password_algorithms.items ≤ 64
-  pub key : HoldsKey held.key (key_of credentials held.realm.items (algorithm_of held.key))
+-- what the challenge gave can be written into a message (RFC 8489, sections 14.9 to 14.11; that at
+-- most 64 bytes are sent back is our choice)
+pub record IsWritable (challenge : Challenge) : Type 0 where
+  pub realm_some : 1 ≤ length challenge.realm
+  pub realm_short : length challenge.realm ≤ 763
+  pub nonce_some : 1 ≤ length challenge.nonce
+  pub nonce_short : length challenge.nonce ≤ 763
+  pub algorithms_whole : is_some (attributes_from 0 0 challenge.password_algorithms) ≡ true
+  pub algorithms_short : length challenge.password_algorithms ≤ 64
+
+-- it is the key of the user in the realm, for the algorithm
+pub record IsKeyOf (credentials : Credentials) (challenge : Challenge) (key : SigningKey) : Type 0 where
+  pub algorithm : algorithm_of key ≡ challenge.algorithm
+  pub text : HoldsKey key (key_of credentials challenge.realm challenge.algorithm)
 
 abbrev pub IsHeldBy : Option Credentials → Option Held → Type 0
 IsHeldBy credentials None = ⊤
-IsHeldBy credentials (Some held) = IsSomeAnd credentials (λ c. IsKept c held)
+IsHeldBy credentials (Some held) = IsSomeAnd credentials (λ c. IsKeyOf c held.challenge held.key)
 
 pub record IsSound (auth : Inside) : Type 0 where
   pub supported : is_supported_list auth.supported.items ≡ true

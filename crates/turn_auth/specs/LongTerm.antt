@@ -1,5 +1,5 @@
 -- The client's side of the long-term credential mechanism (RFC 8489, section 9.2).
-use Rattle.std.specs.Prelude.{ℕ, Bool, true, false, if◌then◌else◌, List, [], ◌∷◌, ◌++◌, Option}
+use Rattle.std.specs.Prelude.{ℕ, Bool, true, false, if◌then◌else◌, List, [], ◌∷◌, ◌++◌, Option, Some}
 use Rattle.std.specs.List.{list_any}
 use Rattle.turn_auth.specs.Credentials.{Credentials}
 use Rattle.turn_auth.specs.declared.feature.Feature.{Feature}
@@ -20,6 +20,10 @@ pub record ClientAuth : Type 0 where
   pub supported : List IntegrityAlgorithm
   pub anonymous_username : Feature
   pub held : Option Challenge
+
+-- the client once it holds what this challenge gave
+abbrev pub holding : Challenge → ClientAuth → ClientAuth
+holding challenge auth = record auth { held = Some challenge }
 
 -- whether two algorithms are the same
 abbrev pub same_algorithm : IntegrityAlgorithm → IntegrityAlgorithm → Bool

@@ -98,6 +98,14 @@ signature_len_by None _ anonymous class = 0
 abbrev pub signature_len : ClientAuth → MessageClass → ℕ
 signature_len auth class = signature_len_by auth.credentials auth.held auth.anonymous_username class
 
+-- how long a message is once it is signed
+abbrev pub signed_len : ClientAuth → List ℕ → ℕ
+signed_len auth message = length message + signature_len auth (class_of (type_of message))
+
+-- how many bytes the algorithms and the integrity of a request take
+abbrev pub algorithm_len : IntegrityAlgorithm → List ℕ → ℕ
+algorithm_len algorithm sent_back = additions_len (algorithm_additions algorithm sent_back) + (4 + integrity_len algorithm)
+
 -- whether attributes of the type tell something else than integrity
 abbrev pub is_plain : ℕ → Bool
 is_plain kind = not (is_sha1 kind || is_sha256 kind)

@@ -9,7 +9,15 @@ pub mod hmac;
 pub mod integrity;
 mod key;
 pub mod long_term;
+pub mod server_challenge;
 mod signature;
 #[cfg(test)]
 mod tests;
 pub mod validation;
+
+pub use credentials::{CredentialsError, TurnCredentials};
+pub use feature::Feature;
+pub use integrity::IntegrityAlgorithm;
+pub use long_term::LongTermClientAuth;
+pub use server_challenge::ServerChallenge;
+pub use validation::Validation;

@@ -1,21 +1,20 @@
 //! The client's side of the long-term credential mechanism (RFC 8489, section 9.2).
 
-ghost use Rattle.std.specs.Prelude.{◌≡◌, ◌≢◌, ◌+◌, ◌≤◌, length, true, [], ◌∷◌, Some, None, option_map, ◌↔◌, IsTrue, IsSome, IsNone, IsSomeAnd, IfSome, OnOk, OnErr};
-ghost use Rattle.turn_auth.specs.LongTerm.{Challenge, with_algorithm};
-ghost use Rattle.turn_auth.specs.Challenge.{IsChallenge, value_in, chosen, held_after, challenge_of};
+ghost use Rattle.std.specs.Prelude.{◌≡◌, ◌≤◌, length, true, [], ◌∷◌, Some, None, option_map, ◌↔◌, IsTrue, IsSome, IsNone, IsSomeAnd, IfOk, IfSome, OnOk, OnErr};
+ghost use Rattle.turn_auth.specs.LongTerm.{Challenge, holding, with_algorithm};
+ghost use Rattle.turn_auth.specs.Challenge.{IsChallenge, value_in, MayTake, chosen, held_after, challenge_of};
 ghost use Rattle.turn_auth.specs.Validation.{IsResendRequest, IsSigned, IsValidated, validation_of};
-ghost use Rattle.turn_auth.specs.Signature.{is_unsigned, signature_len, signed_text};
+ghost use Rattle.turn_auth.specs.Signature.{is_unsigned, signature_len, signed_len, signed_text};
 ghost use Rattle.turn_stun.specs.Message.{type_of, id_of, attributes_of};
-ghost use Rattle.turn_stun.specs.MessageType.{class_of};
 ghost use Rattle.turn_stun.specs.declared.message.header.MessageClass.{MessageClass};
-ghost use Rattle.turn_stun.specs.declared.message.header.MessageClass.TheVariants.{Request, Indication};
+ghost use Rattle.turn_stun.specs.declared.message.header.MessageClass.TheVariants.{Request};
 
 use crate::challenge::{Denial, offered_in, picked, supports};
 use crate::credentials::TurnCredentials;
 use crate::feature::Feature;
 use crate::held::Held;
 use crate::integrity::IntegrityAlgorithm;
-use crate::key::SigningKey;
+use crate::server_challenge::ServerChallenge;
 use crate::signature::signed_copy;
 use crate::validation::Validation;
 use smallvec::SmallVec;
@@ -77,7 +76,7 @@ impl LongTermClientAuth {
         ensures { self.new ≡ record self.old { credentials = Some credentials } }
     {
         if let Some(held) = &mut self.held {
-            held.key = SigningKey::new(&credentials, held.realm.as_slice(), held.key.algorithm());
+            held.key = held.challenge.key(&credentials);
         }
         self.credentials = Some(credentials);
     }
@@ -127,7 +126,7 @@ impl LongTermClientAuth {
         // What is computed of a challenge is what a challenge is.
         ensures challenge { (challenge : Challenge) → (challenge_of self.now message.now ≡ Some challenge) ↔ IsChallenge self.now message.now challenge }
     {
-        if let Some((_, algorithm)) = self.challenge_in(message) {
+        if let Some((_, algorithm)) = self.denial_in(message) {
             return Validation::ResendRequest(algorithm);
         }
         match &self.held {
@@ -148,21 +147,56 @@ impl LongTermClientAuth {
         ensures kept { IfSome self.old.held (λ old. IsSomeAnd self.new.held (λ new. (new.realm ≡ old.realm) × (new.algorithm ≡ old.algorithm))) }
         ensures err { OnErr result (self.new ≡ self.old) }
     {
-        let (Some((denial, algorithm)), Some(credentials)) = (
-            self.challenge_in(message),
-            &self.credentials,
-        ) else {
+        let Some(challenge) = self.challenge_in(message)? else {
+            unreachable!();
+        };
+        self.accept(challenge);
+        Ok(())
+    }
+
+    /// What the message gives, where it is a challenge, and `None` where it is none. The client holds
+    /// nothing of it before it accepts it: a request that is signed under it first can fail and leave
+    /// the client as it was.
+    ///
+    /// # Errors
+    ///
+    /// Where there is no memory.
+    pub fn challenge_in(&self, message: &Message<'_>) -> Result<Option<ServerChallenge>, AllocError>
+        ensures exact { IfOk result (λ found. found ≡ challenge_of self.now message.now) }
+        ensures fits { IfOk result (λ found. IfSome found (λ challenge. MayTake self.now challenge)) }
+    {
+        let Some((denial, algorithm)) = self.denial_in(message) else {
+            return Ok(None);
+        };
+        let challenge = match &self.held {
+            Some(held) => held.challenge.with_nonce(self.alloc, &denial.nonce)?,
+            None => {
+                let offered = offered_in(message);
+                ServerChallenge::first(self.alloc, &denial, algorithm, offered)?
+            }
+        };
+        Ok(Some(challenge))
+    }
+
+    /// Takes what a challenge gave, as [`LongTermClientAuth::take_challenge`] does. It wants no
+    /// memory.
+    pub fn accept(&mut self, challenge: ServerChallenge)
+        requires { MayTake self.old challenge }
+        ensures taken { self.new ≡ holding challenge self.old }
+        ensures kept { IfSome self.old.held (λ old. (challenge.realm ≡ old.realm) × (challenge.algorithm ≡ old.algorithm)) }
+    {
+        let Some(credentials) = &self.credentials else {
             unreachable!();
         };
         match &mut self.held {
-            Some(held) => held.nonce = Vec::from_slice(self.alloc, denial.nonce.as_bytes())?,
+            Some(held) => held.challenge = challenge,
             None => {
-                let offered = offered_in(message);
-                let held = Held::first(self.alloc, credentials, &denial, algorithm, offered)?;
-                self.held = Some(held);
+                self.held = Some(Held {
+                    key: challenge.key(credentials),
+                    challenge,
+                });
             }
         }
-        Ok(())
     }
 
     /// Whether a realm is held, without which nothing can be signed.
@@ -173,8 +207,8 @@ impl LongTermClientAuth {
     }
 
     /// Signs the message. To a request it adds who asks, the realm, the nonce, with SHA-256 the
-    /// password algorithms, and the integrity, in this order; to a response the integrity alone
-    /// (RFC 8489, section 9.2.4). The attributes that were there are written anew, with zeros for
+    /// password algorithms, and the integrity, in this order; to any other message the
+    /// integrity alone (RFC 8489, section 9.2.4). The attributes that were there are written anew, with zeros for
     /// padding.
     ///
     /// # Errors
@@ -182,12 +216,11 @@ impl LongTermClientAuth {
     /// Where there is no memory. The message is then as before.
     pub fn sign_outgoing_message(&self, message: &mut MessageWriteVec) -> Result<(), AllocError>
         requires held { IsSome self.now.held }
-        requires class { class_of (type_of message.old) ≢ Indication }
         requires unsigned { is_unsigned (attributes_of message.old) ≡ true }
-        requires room { length message.old + signature_len self.now (class_of (type_of message.old)) ≤ 65552 }
+        requires room { signed_len self.now message.old ≤ 65552 }
         ensures text { OnOk result (message.new ≡ signed_text self.now message.old) }
         ensures signed { OnOk result (IsSigned self.now message.new) }
-        ensures len { OnOk result (length message.new ≡ length message.old + signature_len self.now (class_of (type_of message.old))) }
+        ensures len { OnOk result (length message.new ≡ signed_len self.now message.old) }
         ensures same_type { OnOk result (type_of message.new ≡ type_of message.old) }
         ensures same_id { OnOk result (id_of message.new ≡ id_of message.old) }
         ensures err { OnErr result (message.new ≡ message.old) }
@@ -200,7 +233,43 @@ impl LongTermClientAuth {
             message,
             self.anonymous_username,
             credentials,
-            held,
+            &held.challenge,
+            &held.key,
+        )?;
+        Ok(())
+    }
+
+    /// Signs the message as the client would once it accepted the challenge.
+    ///
+    /// # Errors
+    ///
+    /// Where there is no memory. The message is then as before.
+    pub fn sign_under(
+        &self,
+        challenge: &ServerChallenge,
+        message: &mut MessageWriteVec,
+    ) -> Result<(), AllocError>
+        requires known { IsSome self.now.credentials }
+        requires unsigned { is_unsigned (attributes_of message.old) ≡ true }
+        requires room { signed_len (holding challenge.now self.now) message.old ≤ 65552 }
+        ensures text { OnOk result (message.new ≡ signed_text (holding challenge.now self.now) message.old) }
+        ensures signed { OnOk result (IsSigned (holding challenge.now self.now) message.new) }
+        ensures len { OnOk result (length message.new ≡ signed_len (holding challenge.now self.now) message.old) }
+        ensures same_type { OnOk result (type_of message.new ≡ type_of message.old) }
+        ensures same_id { OnOk result (id_of message.new ≡ id_of message.old) }
+        ensures err { OnErr result (message.new ≡ message.old) }
+    {
+        let Some(credentials) = &self.credentials else {
+            unreachable!();
+        };
+        let key = challenge.key(credentials);
+        *message = signed_copy(
+            self.alloc,
+            message,
+            self.anonymous_username,
+            credentials,
+            challenge,
+            &key,
         )?;
         Ok(())
     }
@@ -212,14 +281,26 @@ impl LongTermClientAuth {
     {
         match (&self.credentials, &self.held) {
             (Some(credentials), Some(held)) => {
-                held.signature_len(credentials, self.anonymous_username)
+                held.challenge
+                    .signature_len(credentials, self.anonymous_username)
             }
             _ => 0,
         }
     }
 
+    /// How many bytes signing under the challenge adds to a request, and 0 without credentials.
+    pub fn signature_bytes_under(&self, challenge: &ServerChallenge) -> usize
+        ensures value { result ≡ signature_len (holding challenge.now self.now) Request }
+        ensures short { (class : MessageClass) → signature_len (holding challenge.now self.now) class ≤ 2160 }
+    {
+        match &self.credentials {
+            Some(credentials) => challenge.signature_len(credentials, self.anonymous_username),
+            None => 0,
+        }
+    }
+
     /// What the message says and the algorithm to go on with, where it is a challenge.
-    fn challenge_in<'a>(&self, message: &Message<'a>) -> Option<(Denial<'a>, IntegrityAlgorithm)>
+    fn denial_in<'a>(&self, message: &Message<'a>) -> Option<(Denial<'a>, IntegrityAlgorithm)>
         ensures held { option_map (λ found. held_after self.now.held (value_in 0x8002 message.now) found.0 found.1) result ≡ challenge_of self.now message.now }
         ensures chosen { IfSome result (λ found. chosen self.now.supported self.now.held (value_in 0x8002 message.now) found.0 ≡ Some found.1) }
     {
@@ -245,9 +326,9 @@ impl LongTermClientAuth {
             }
             Some(held) => {
                 if denial.code == ErrorCode::STALE_NONCE
-                    && denial.realm.as_bytes() == held.realm.as_slice()
+                    && denial.realm.as_bytes() == held.challenge.realm()
                 {
-                    return Some(held.key.algorithm());
+                    return Some(held.challenge.algorithm());
                 }
                 None
             }

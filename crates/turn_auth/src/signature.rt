@@ -8,15 +8,15 @@ ghost use Rattle.turn_auth.specs.Signature.{AddsAll, additions_for, rewritten, s
 ghost use Rattle.turn_auth.specs.Integrity.{IntegrityHolds, integrity_len};
 ghost use Rattle.turn_auth.specs.Keyed.{HoldsKey, HoldsSha1, HoldsSha256, algorithm_of};
 ghost use Rattle.turn_auth.specs.Validation.{held_key};
-ghost use Rattle.turn_auth.specs.Kept.{held_view, IsKept};
+ghost use Rattle.turn_auth.specs.Kept.{IsKeyOf};
 ghost use Rattle.turn_auth.specs.declared.integrity.IntegrityAlgorithm.TheVariants.{Sha256};
 
 use crate::credentials::TurnCredentials;
 use crate::feature::Feature;
-use crate::held::Held;
 use crate::hmac::{HmacSha1, HmacSha256};
 use crate::integrity::{IntegrityAlgorithm, sha1_value, sha256_value};
 use crate::key::{SigningKey, userhash};
+use crate::server_challenge::ServerChallenge;
 use std::alloc::{AllocError, Global};
 use turn_stun::attribute::nonce::Nonce;
 use turn_stun::attribute::password_algorithms::PasswordAlgorithms;
@@ -36,20 +36,21 @@ pub(crate) fn signed_copy(
     message: &MessageWriteVec,
     anonymous: Feature,
     credentials: &TurnCredentials,
-    held: &Held,
+    challenge: &ServerChallenge,
+    key: &SigningKey,
 ) -> Result<MessageWriteVec, AllocError>
-    requires kept { IsKept credentials.now held.now }
+    requires key { IsKeyOf credentials.now challenge.now key.now }
     requires unsigned { is_unsigned (attributes_of message.now) ≡ true }
-    requires room { length message.now + signature_len_by (Some credentials.now) (Some (held_view held.now)) anonymous (class_of (type_of message.now)) ≤ 65552 }
-    ensures text { IfOk result (λ signed. signed ≡ signed_by (Some credentials.now) (Some (held_view held.now)) anonymous message.now) }
-    ensures holds { IfOk result (λ signed. IntegrityHolds signed (held_view held.now).algorithm (held_key credentials.now (held_view held.now))) }
-    ensures len { IfOk result (λ signed. length signed ≡ length message.now + signature_len_by (Some credentials.now) (Some (held_view held.now)) anonymous (class_of (type_of message.now))) }
+    requires room { length message.now + signature_len_by (Some credentials.now) (Some challenge.now) anonymous (class_of (type_of message.now)) ≤ 65552 }
+    ensures text { IfOk result (λ signed. signed ≡ signed_by (Some credentials.now) (Some challenge.now) anonymous message.now) }
+    ensures holds { IfOk result (λ signed. IntegrityHolds signed challenge.now.algorithm (held_key credentials.now challenge.now)) }
+    ensures len { IfOk result (λ signed. length signed ≡ length message.now + signature_len_by (Some credentials.now) (Some challenge.now) anonymous (class_of (type_of message.now))) }
     ensures same_type { IfOk result (λ signed. type_of signed ≡ type_of message.now) }
     ensures same_id { IfOk result (λ signed. id_of signed ≡ id_of message.now) }
 {
     let mut signed = copy_of(alloc, message)?;
-    add_attributes(&mut signed, anonymous, credentials, held)?;
-    add_integrity(&mut signed, &held.key)?;
+    add_attributes(&mut signed, anonymous, credentials, challenge)?;
+    add_integrity(&mut signed, key)?;
     Ok(signed)
 }
 
@@ -88,14 +89,13 @@ fn add_attributes(
     message: &mut MessageWriteVec,
     anonymous: Feature,
     credentials: &TurnCredentials,
-    held: &Held,
+    challenge: &ServerChallenge,
 ) -> Result<(), AllocError>
-    requires kept { IsKept credentials.now held.now }
-    requires room { length message.old + additions_len (additions_for (class_of (type_of message.old)) anonymous credentials.now (held_view held.now)) ≤ 65552 }
-    ensures { OnOk result (AddsAll message.old message.new (additions_for (class_of (type_of message.old)) anonymous credentials.now (held_view held.now))) }
+    requires room { length message.old + additions_len (additions_for (class_of (type_of message.old)) anonymous credentials.now challenge.now) ≤ 65552 }
+    ensures { OnOk result (AddsAll message.old message.new (additions_for (class_of (type_of message.old)) anonymous credentials.now challenge.now)) }
 {
     match message.message_type().class {
-        MessageClass::Request => add_request_attributes(message, anonymous, credentials, held),
+        MessageClass::Request => add_request_attributes(message, anonymous, credentials, challenge),
         _ => Ok(()),
     }
 }
@@ -106,19 +106,18 @@ pub(crate) fn add_request_attributes(
     message: &mut MessageWriteVec,
     anonymous: Feature,
     credentials: &TurnCredentials,
-    held: &Held,
+    challenge: &ServerChallenge,
 ) -> Result<(), AllocError>
-    requires kept { IsKept credentials.now held.now }
-    requires room { length message.old + additions_len (request_additions anonymous credentials.now (held_view held.now)) ≤ 65552 }
-    ensures { OnOk result (AddsAll message.old message.new (request_additions anonymous credentials.now (held_view held.now))) }
+    requires room { length message.old + additions_len (request_additions anonymous credentials.now challenge.now) ≤ 65552 }
+    ensures { OnOk result (AddsAll message.old message.new (request_additions anonymous credentials.now challenge.now)) }
 {
-    add_user(message, anonymous, credentials, held.realm.as_slice())?;
-    add(message, &Realm::new(held.realm.as_slice()))?;
-    add(message, &Nonce::new(held.nonce.as_slice()))?;
-    match held.key.algorithm() {
+    add_user(message, anonymous, credentials, challenge.realm())?;
+    add(message, &Realm::new(challenge.realm()))?;
+    add(message, &Nonce::new(challenge.nonce()))?;
+    match challenge.algorithm() {
         IntegrityAlgorithm::Sha1 => Ok(()),
         IntegrityAlgorithm::Sha256 => {
-            add_algorithms(message, held.password_algorithms.as_slice())?;
+            add_algorithms(message, challenge.password_algorithms())?;
             Ok(())
         }
     }

@@ -17,6 +17,24 @@ mod tests;
 pub mod transaction;
 pub mod transport;
 
+pub use attribute::error_code::ErrorCode;
+pub use attribute::nonce::Nonce;
+pub use attribute::password_algorithms::{PasswordAlgorithm, PasswordAlgorithms};
+pub use attribute::realm::Realm;
+pub use attribute::userhash::Userhash;
+pub use attribute::username::Username;
+pub use attribute::xor_address::XorSocketAddr;
+pub use attribute::{AttributeType, RawAttribute};
+pub use data::Data;
+pub use error::{AttributeError, ParseError, WriteError};
+pub use instant::Instant;
+pub use message::Message;
+pub use message::header::{MessageClass, MessageHeader, MessageType};
+pub use message::method::Method;
+pub use message::write::MessageWriteVec;
+pub use transaction::TransactionId;
+pub use transport::{Transmit, TransportType};
+
 /// The traits of attributes, as `use turn_stun::prelude::*` brings them.
 pub mod prelude {
     pub use crate::attribute::typed::{AttributeFromRaw, AttributeWrite};

@@ -90,7 +90,7 @@ fn no_key_is_printed(rt: HostRuntime) -> Result<(), Fail> {
         &rt,
         text.as_str(),
         "LongTermClientAuth { credentials: Some(TurnCredentials { user: [65, 66], .. }), \
-        supported: [Sha1], anonymous_username: Auto, held: Some(Held { \
+        supported: [Sha1], anonymous_username: Auto, held: Some(ServerChallenge { \
         realm: [114, 101, 97, 108, 109], nonce: [110, 111, 110, 99, 101], \
         algorithm: Sha1, .. }), .. }",
     );

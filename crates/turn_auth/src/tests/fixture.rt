@@ -1,7 +1,5 @@
-ghost use Rattle.std.specs.Prelude.{◌≡◌, ◌≢◌, ◌+◌, ◌≤◌, length, true, IfOk};
-ghost use Rattle.turn_stun.specs.Message.{type_of, attributes_of};
-ghost use Rattle.turn_stun.specs.MessageType.{class_of};
-ghost use Rattle.turn_stun.specs.declared.message.header.MessageClass.TheVariants.{Request, Success, Indication};
+ghost use Rattle.std.specs.Prelude.{◌≡◌, true, IfOk};
+ghost use Rattle.turn_stun.specs.Message.{attributes_of};
 ghost use Rattle.turn_auth.specs.Signature.{is_unsigned};
 
 use crate::credentials::{CredentialsError, TurnCredentials};
@@ -16,6 +14,7 @@ use turn_stun::attribute::realm::Realm;
 use turn_stun::attribute::{AttributeType, RawAttribute};
 use turn_stun::error::WriteError;
 use turn_stun::message::Message;
+use turn_stun::message::header::{MessageClass, MessageType};
 use turn_stun::message::method::Method;
 use turn_stun::message::write::MessageWriteVec;
 use turn_stun::transaction::TransactionId;
@@ -143,20 +142,22 @@ pub(crate) fn challenged(
     auth
 }
 
-/// A response to ALLOCATE, which carries nothing yet.
-pub(crate) fn response(alloc: Global) -> Result<MessageWriteVec, AllocError>
-    ensures unsigned { IfOk result (λ message. is_unsigned (attributes_of message) ≡ true) }
-    ensures class { IfOk result (λ message. class_of (type_of message) ≡ Success) }
+/// An ALLOCATE of that class, which carries nothing yet.
+pub(crate) fn bare(alloc: Global, class: MessageClass) -> Result<MessageWriteVec, AllocError>
+    ensures { IfOk result (λ message. is_unsigned (attributes_of message) ≡ true) }
 {
     let id = TransactionId::from_bytes(SECOND_ID);
-    let message = MessageWriteVec::builder_success(alloc, ALLOCATE, id)?;
+    let message_type = MessageType {
+        method: ALLOCATE,
+        class,
+    };
+    let message = MessageWriteVec::builder(alloc, message_type, id)?;
     Ok(message)
 }
 
 /// A request to allocate, which carries REQUESTED-TRANSPORT and LIFETIME.
 pub(crate) fn allocate(alloc: Global) -> Result<MessageWriteVec, WriteError>
-    ensures unsigned { IfOk result (λ message. is_unsigned (attributes_of message) ≡ true) }
-    ensures class { IfOk result (λ message. class_of (type_of message) ≡ Request) }
+    ensures { IfOk result (λ message. is_unsigned (attributes_of message) ≡ true) }
 {
     let id = TransactionId::from_bytes(SECOND_ID);
     let mut message = MessageWriteVec::builder_request(alloc, ALLOCATE, id)?;
@@ -171,8 +172,7 @@ pub(crate) fn sign(
     auth: &LongTermClientAuth,
     message: &mut MessageWriteVec,
 ) -> Result<(), AllocError>
-    requires unsigned { is_unsigned (attributes_of message.old) ≡ true }
-    requires class { class_of (type_of message.old) ≢ Indication }
+    requires { is_unsigned (attributes_of message.old) ≡ true }
 {
     assert!(rt; auth.has_realm());
     assert!(rt; message.as_bytes().len() < 60_000);

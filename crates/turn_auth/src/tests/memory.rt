@@ -1,8 +1,11 @@
 //! Each `OutOfMemory` is an answer here, and what stands after it is asserted. So these pass
 //! whichever request for memory is refused.
 
+ghost use Rattle.std.specs.Prelude.{IsSome};
+
 use crate::credentials::{CredentialsError, TurnCredentials};
 use crate::long_term::LongTermClientAuth;
+use crate::server_challenge::ServerChallenge;
 use crate::tests::fixture::{
     allocate, assert_bytes, assert_len, challenge, client, denial, sign, take,
 };
@@ -24,16 +27,27 @@ fn credentials_without_memory_are_refused(rt: HostRuntime) {
     }
 }
 
+/// Nonces of which each takes another number of bytes in a message, so that one which is half taken
+/// would be told, and how many bytes signing adds to a request with each.
+const NONCES: &[(&[u8], usize)] = &[(b"1", 52), (b"second", 56), (b"the third", 60)];
+
 /// Takes a challenge of that nonce, or else leaves the client as it was.
-fn takes_or_leaves(rt: &impl Abort, alloc: Global, auth: &mut LongTermClientAuth, nonce: &[u8]) {
+fn takes_or_leaves(
+    rt: &impl Abort,
+    alloc: Global,
+    auth: &mut LongTermClientAuth,
+    nonce: &[u8],
+    added: usize,
+) {
     let Ok(bytes) = denial(rt, alloc, 438, b"realm", nonce, None) else {
         return;
     };
     let before = auth.message_signature_bytes();
-    match take(rt, auth, bytes.as_slice()) {
-        Ok(()) => assert!(rt; auth.has_realm()),
-        Err(_) => assert_len(rt, auth.message_signature_bytes(), before),
-    }
+    let expected = match take(rt, auth, bytes.as_slice()) {
+        Ok(()) => added,
+        Err(_) => before,
+    };
+    assert_len(rt, auth.message_signature_bytes(), expected);
 }
 
 #[test]
@@ -41,8 +55,70 @@ fn a_challenge_without_memory_changes_nothing(rt: HostRuntime) {
     let Ok(mut auth) = client(rt.alloc()) else {
         return;
     };
-    for nonce in [b"first".as_slice(), b"second", b"third"] {
-        takes_or_leaves(&rt, rt.alloc(), &mut auth, nonce);
+    for (nonce, added) in NONCES {
+        takes_or_leaves(&rt, rt.alloc(), &mut auth, nonce, *added);
+    }
+}
+
+/// Whether memory was left to sign a request under the challenge, which the client then accepts.
+fn is_retried(rt: &impl Abort, alloc: Global, auth: &mut LongTermClientAuth, bytes: &[u8]) -> bool {
+    let message = Message::from_bytes(bytes).expect(rt, "a message");
+    let Ok(found) = auth.challenge_in(&message) else {
+        return false;
+    };
+    let challenge = found.expect(rt, "a challenge");
+    if signs_under(rt, alloc, auth, &challenge) {
+        auth.accept(challenge);
+        return true;
+    }
+    false
+}
+
+/// Signs a request under the challenge, or else leaves it as it was.
+fn signs_under(
+    rt: &impl Abort,
+    alloc: Global,
+    auth: &LongTermClientAuth,
+    challenge: &ServerChallenge,
+) -> bool
+    requires { IsSome auth.now.credentials }
+{
+    let Ok(mut request) = allocate(alloc) else {
+        return false;
+    };
+    let before = request.as_bytes().len();
+    assert!(rt; before == 36);
+    let added = auth.signature_bytes_under(challenge);
+    let signed = auth.sign_under(challenge, &mut request).is_ok();
+    let expected = if signed { before + added } else { before };
+    assert_len(rt, request.as_bytes().len(), expected);
+    signed
+}
+
+/// Makes a request again under a challenge of that nonce, or else leaves what is held as it was.
+fn retries_or_leaves(
+    rt: &impl Abort,
+    alloc: Global,
+    auth: &mut LongTermClientAuth,
+    nonce: &[u8],
+    added: usize,
+) {
+    let Ok(bytes) = denial(rt, alloc, 438, b"realm", nonce, None) else {
+        return;
+    };
+    let before = auth.message_signature_bytes();
+    let retried = is_retried(rt, alloc, auth, bytes.as_slice());
+    let expected = if retried { added } else { before };
+    assert_len(rt, auth.message_signature_bytes(), expected);
+}
+
+#[test]
+fn a_retry_without_memory_leaves_what_is_held(rt: HostRuntime) {
+    let Ok(mut auth) = client(rt.alloc()) else {
+        return;
+    };
+    for (nonce, added) in NONCES {
+        retries_or_leaves(&rt, rt.alloc(), &mut auth, nonce, *added);
     }
 }
 

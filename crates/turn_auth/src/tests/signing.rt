@@ -1,14 +1,20 @@
+ghost use Rattle.std.specs.Prelude.{IsSome};
+ghost use Rattle.turn_auth.specs.Challenge.{MayTake};
+
 use crate::feature::Feature;
 use crate::integrity::IntegrityAlgorithm;
 use crate::long_term::LongTermClientAuth;
+use crate::server_challenge::ServerChallenge;
 use crate::tests::fixture::{
-    allocate, assert_bytes, assert_judged, assert_len, challenge, challenged, response, sign,
+    allocate, assert_bytes, assert_judged, assert_len, bare, challenge, challenged, client, denial,
+    sign,
 };
 use crate::validation::Validation;
 use std::alloc::Global;
 use std::process::Abort;
 use turn_stun::attribute::nonce::Nonce;
 use turn_stun::message::Message;
+use turn_stun::message::header::MessageClass;
 use turn_stun::message::write::MessageWriteVec;
 
 /// The ALLOCATE of TURN that follows a challenge of `realm` and `nonce`, for `user` and `pass`.
@@ -92,10 +98,16 @@ fn nothing_is_told_without_a_realm(rt: HostRuntime) {
     assert_len(&rt, auth.message_signature_bytes(), 0);
 }
 
-/// Asserts how long a response is once it is signed, and that it is valid then.
-fn signs_response(rt: &impl Abort, alloc: Global, algorithm: IntegrityAlgorithm, expected: usize) {
+/// Asserts how long a message of the class is once it is signed, and that it is valid then.
+fn signs_bare(
+    rt: &impl Abort,
+    alloc: Global,
+    algorithm: IntegrityAlgorithm,
+    class: MessageClass,
+    expected: usize,
+) {
     let auth = challenged(rt, alloc, algorithm);
-    let mut message = response(alloc).expect(rt, "memory");
+    let mut message = bare(alloc, class).expect(rt, "memory");
     sign(rt, &auth, &mut message).expect(rt, "memory");
     assert_len(rt, message.as_bytes().len(), expected);
     let valid = Validation::Validated(algorithm);
@@ -103,9 +115,65 @@ fn signs_response(rt: &impl Abort, alloc: Global, algorithm: IntegrityAlgorithm,
 }
 
 #[test]
-fn a_response_gets_the_integrity_alone(rt: HostRuntime) {
-    signs_response(&rt, rt.alloc(), IntegrityAlgorithm::Sha1, 44);
-    signs_response(&rt, rt.alloc(), IntegrityAlgorithm::Sha256, 56);
+fn other_messages_get_the_integrity_alone(rt: HostRuntime) {
+    let cases = [
+        (IntegrityAlgorithm::Sha1, MessageClass::Success, 44usize),
+        (IntegrityAlgorithm::Sha256, MessageClass::Success, 56),
+        (IntegrityAlgorithm::Sha1, MessageClass::Indication, 44),
+    ];
+    for (algorithm, class, expected) in cases {
+        signs_bare(&rt, rt.alloc(), algorithm, class, expected);
+    }
+}
+
+/// What the challenge that the bytes are gives to the client.
+fn challenge_of(rt: &impl Abort, auth: &LongTermClientAuth, bytes: &[u8]) -> ServerChallenge
+    ensures { MayTake auth.now result }
+{
+    let message = Message::from_bytes(bytes).expect(rt, "a message");
+    let Ok(Some(challenge)) = auth.challenge_in(&message) else {
+        panic!(rt; "a challenge");
+    };
+    challenge
+}
+
+/// The request to allocate as the client signs it under the challenge, and what that was told to add.
+fn signed_under(
+    rt: &impl Abort,
+    alloc: Global,
+    auth: &LongTermClientAuth,
+    challenge: &ServerChallenge,
+) -> MessageWriteVec
+    requires { IsSome auth.now.credentials }
+{
+    let mut message = allocate(alloc).expect(rt, "memory");
+    let before = message.as_bytes().len();
+    assert!(rt; before < 60_000);
+    let told = auth.signature_bytes_under(challenge);
+    auth.sign_under(challenge, &mut message)
+        .expect(rt, "memory");
+    assert_len(rt, message.as_bytes().len(), before + told);
+    message
+}
+
+#[test]
+fn a_request_is_signed_before_its_challenge_is_held(rt: HostRuntime) {
+    let mut auth = client(rt.alloc()).expect(&rt, "memory");
+    let bytes = denial(&rt, rt.alloc(), 401, b"realm", b"nonce", None).expect(&rt, "memory");
+    let challenge = challenge_of(&rt, &auth, bytes.as_slice());
+    let message = signed_under(&rt, rt.alloc(), &auth, &challenge);
+    assert_bytes(&rt, message.as_bytes(), SIGNED_ALLOCATE);
+    assert!(rt; !auth.has_realm());
+    auth.accept(challenge);
+    let message = signed_allocate(&rt, rt.alloc(), &auth);
+    assert_bytes(&rt, message.as_bytes(), SIGNED_ALLOCATE);
+}
+
+#[test]
+fn what_is_no_challenge_gives_none(rt: HostRuntime) {
+    let auth = client(rt.alloc()).expect(&rt, "memory");
+    let message = Message::from_bytes(SIGNED_ALLOCATE).expect(&rt, "a message");
+    assert!(rt; matches!(auth.challenge_in(&message), Ok(None)));
 }
 
 /// Asserts which nonce the message carries.

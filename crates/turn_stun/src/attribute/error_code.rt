@@ -28,12 +28,33 @@ impl<'a> Model for ErrorCode<'a> {
 }
 
 impl<'a> ErrorCode<'a> {
-    /// 400 (section 14.8): the request is malformed.
+    /// 400 Bad Request (section 14.8): the request is malformed.
     pub const BAD_REQUEST: u16 = 400;
-    /// 401: the request lacks integrity.
+    /// 401 Unauthenticated (section 14.8): the request lacks integrity that holds.
     pub const UNAUTHORIZED: u16 = 401;
-    /// 438: the nonce is no longer good.
+    /// 403 Forbidden (RFC 8656, section 19): the server's policy forbids what is asked for.
+    pub const FORBIDDEN: u16 = 403;
+    /// 420 Unknown Attribute (section 14.8): the request has a required attribute that the server
+    /// does not know.
+    pub const UNKNOWN_ATTRIBUTE: u16 = 420;
+    /// 437 Allocation Mismatch (RFC 8656, section 19): an allocation is asked for where one stands,
+    /// or needed where none does.
+    pub const ALLOCATION_MISMATCH: u16 = 437;
+    /// 438 Stale Nonce (section 14.8): the nonce is no longer good.
     pub const STALE_NONCE: u16 = 438;
+    /// 440 Address Family not Supported (RFC 8656, section 19): the server has no relayed addresses
+    /// of the family.
+    pub const ADDRESS_FAMILY_NOT_SUPPORTED: u16 = 440;
+    /// 446 Connection Already Exists (RFC 6062, section 6.3): the allocation has a connection to the
+    /// peer.
+    pub const CONNECTION_ALREADY_EXISTS: u16 = 446;
+    /// 447 Connection Timeout or Failure (RFC 6062, section 6.3): the peer could not be connected to.
+    pub const CONNECTION_TIMEOUT_OR_FAILURE: u16 = 447;
+    /// 486 Allocation Quota Reached (RFC 8656, section 19): the user has as many allocations as it
+    /// may.
+    pub const ALLOCATION_QUOTA_REACHED: u16 = 486;
+    /// 508 Insufficient Capacity (RFC 8656, section 19): the server has no room for more.
+    pub const INSUFFICIENT_CAPACITY: u16 = 508;
 
     /// The attribute with this code and reason. The reason should be text of at most 127 characters
     /// (section 14.8), which nothing here checks.

@@ -1,0 +1,191 @@
+//! What a server's challenge gives to a client (RFC 8489, sections 9.2.4 and 9.2.5).
+
+ghost use Rattle.std.specs.Prelude.{◌≡◌, ◌≤◌, ◌<◌, ◌+◌, ◌^◌, ℕ, List, length, is_some, true, Some, None, option_copied, IfOk};
+ghost use Rattle.turn_stun.specs.Message.{attributes_from, padded_len};
+ghost use Rattle.turn_stun.specs.declared.message.header.MessageClass.{MessageClass};
+ghost use Rattle.turn_stun.specs.declared.message.header.MessageClass.TheVariants.{Request};
+ghost use Rattle.turn_auth.specs.Signature.{algorithm_len, signature_len_by, user_addition};
+ghost use Rattle.turn_auth.specs.Kept.{IsKeyOf};
+ghost use Rattle.turn_auth.specs.Challenge.{picked, sent_back, held_after};
+
+use crate::challenge::Denial;
+use crate::credentials::TurnCredentials;
+use crate::feature::Feature;
+use crate::integrity::IntegrityAlgorithm;
+use crate::key::SigningKey;
+use smallvec::SmallVec;
+use std::alloc::{AllocError, Global};
+use std::fmt;
+use std::marker::Model;
+use turn_stun::attribute::nonce::Nonce;
+
+/// A challenge as a client takes it (RFC 8489, section 9.2.5): its realm, its nonce, the algorithm
+/// that was picked, and with SHA-256 the PASSWORD-ALGORITHMS that it was picked by.
+///
+/// Only [`crate::long_term::LongTermClientAuth::challenge_in`] makes one. It borrows nothing of the
+/// message.
+#[derive(Drop)]
+pub struct ServerChallenge {
+    realm: Vec<u8>,
+    nonce: Vec<u8>,
+    algorithm: IntegrityAlgorithm,
+    password_algorithms: SmallVec<u8, 64>,
+}
+
+impl Model for ServerChallenge {
+    ghost use Rattle.turn_auth.specs.LongTerm.{Challenge};
+
+    ghost Value = { Challenge };
+
+    ghost use Rattle.turn_auth.specs.Kept.{challenge_view, IsWritable};
+
+    ghost view = { challenge_view };
+
+    ghost invariant = { λ challenge. IsWritable (challenge_view challenge) };
+}
+
+impl ServerChallenge {
+    /// What a first challenge gives, which picked the algorithm.
+    pub(crate) fn first(
+        alloc: Global,
+        denial: &Denial<'_>,
+        algorithm: IntegrityAlgorithm,
+        offered: Option<&[u8]>,
+    ) -> Result<ServerChallenge, AllocError>
+        requires { (supported : List IntegrityAlgorithm) × (picked supported (option_copied offered) ≡ Some algorithm) }
+        ensures { IfOk result (λ challenge. challenge ≡ held_after None (option_copied offered.entry) denial.now algorithm) }
+    {
+        Ok(ServerChallenge {
+            realm: Vec::from_slice(alloc, denial.realm.as_bytes())?,
+            nonce: Vec::from_slice(alloc, denial.nonce.as_bytes())?,
+            algorithm,
+            password_algorithms: sent_back(alloc, algorithm, offered),
+        })
+    }
+
+    /// What a later challenge gives: another nonce.
+    pub(crate) fn with_nonce(
+        &self,
+        alloc: Global,
+        nonce: &Nonce<'_>,
+    ) -> Result<ServerChallenge, AllocError>
+        ensures { IfOk result (λ challenge. challenge ≡ record self.now { nonce = nonce.now }) }
+    {
+        let algorithms = self.password_algorithms.as_slice();
+        Ok(ServerChallenge {
+            realm: Vec::from_slice(alloc, self.realm.as_slice())?,
+            nonce: Vec::from_slice(alloc, nonce.as_bytes())?,
+            algorithm: self.algorithm,
+            password_algorithms: SmallVec::from_slice(alloc, algorithms).unwrap(),
+        })
+    }
+
+    /// The bytes of the realm, 1 to 763 of them.
+    pub(crate) fn realm(&self) -> &[u8]
+        ensures bytes { result.now ≡ self.now.realm }
+        ensures some { 1 ≤ length result.now }
+        ensures short { length result.now ≤ 763 }
+    {
+        self.realm.as_slice()
+    }
+
+    /// The bytes of the nonce, 1 to 763 of them.
+    pub(crate) fn nonce(&self) -> &[u8]
+        ensures bytes { result.now ≡ self.now.nonce }
+        ensures some { 1 ≤ length result.now }
+        ensures short { length result.now ≤ 763 }
+    {
+        self.nonce.as_slice()
+    }
+
+    /// The algorithm to sign by.
+    pub(crate) fn algorithm(&self) -> IntegrityAlgorithm
+        ensures { result ≡ self.now.algorithm }
+    {
+        self.algorithm
+    }
+
+    /// The value of the PASSWORD-ALGORITHMS to send back, at most 64 bytes. With SHA-1 it is empty.
+    pub(crate) fn password_algorithms(&self) -> &[u8]
+        ensures bytes { result.now ≡ self.now.password_algorithms }
+        ensures whole { is_some (attributes_from 0 0 result.now) ≡ true }
+        ensures short { length result.now ≤ 64 }
+    {
+        self.password_algorithms.as_slice()
+    }
+
+    /// The key of the user in the realm.
+    pub(crate) fn key(&self, credentials: &TurnCredentials) -> SigningKey
+        ensures { IsKeyOf credentials.now self.now result }
+    {
+        SigningKey::new(credentials, self.realm.as_slice(), self.algorithm)
+    }
+
+    /// How many bytes signing adds to a request. To other messages it adds fewer.
+    pub(crate) fn signature_len(&self, credentials: &TurnCredentials, anonymous: Feature) -> usize
+        ensures value { result ≡ signature_len_by (Some credentials.now) (Some self.now) anonymous Request }
+        ensures short { (class : MessageClass) → signature_len_by (Some credentials.now) (Some self.now) anonymous class ≤ 2160 }
+    {
+        written_len(user_len(credentials, anonymous))
+            + written_len(self.realm().len())
+            + written_len(self.nonce().len())
+            + self.algorithm_len()
+    }
+
+    /// How many bytes the algorithms and the integrity take behind these.
+    fn algorithm_len(&self) -> usize
+        ensures value { result ≡ algorithm_len self.now.algorithm self.now.password_algorithms }
+        ensures short { result ≤ 112 }
+    {
+        match self.algorithm {
+            IntegrityAlgorithm::Sha1 => 24,
+            IntegrityAlgorithm::Sha256 => written_len(self.password_algorithms.len()) + 8 + 36,
+        }
+    }
+}
+
+impl fmt::Debug for ServerChallenge {
+    fn fmt<W: fmt::Write>(&self, f: &mut fmt::Formatter<W>) -> fmt::Result {
+        f.debug_struct("ServerChallenge")
+            .field("realm", &self.realm)
+            .field("nonce", &self.nonce)
+            .field("algorithm", &self.algorithm)
+            .finish_non_exhaustive()
+    }
+}
+
+/// The value that is sent back with the algorithm that a first challenge picked by it.
+fn sent_back(
+    alloc: Global,
+    algorithm: IntegrityAlgorithm,
+    offered: Option<&[u8]>,
+) -> SmallVec<u8, 64>
+    requires { (supported : List IntegrityAlgorithm) × (picked supported (option_copied offered) ≡ Some algorithm) }
+    ensures items { result.items ≡ sent_back (option_copied offered.entry) algorithm }
+    ensures short { length result.items ≤ 64 }
+    ensures whole { is_some (attributes_from 0 0 result.items) ≡ true }
+{
+    match (algorithm, offered) {
+        (IntegrityAlgorithm::Sha256, Some(value)) => SmallVec::from_slice(alloc, value).unwrap(),
+        _ => SmallVec::new(alloc),
+    }
+}
+
+/// How many bytes name the user, or stand in the name's place.
+fn user_len(credentials: &TurnCredentials, anonymous: Feature) -> usize
+    ensures value { (realm : List ℕ) → length (user_addition anonymous credentials.now realm).value ≡ result }
+    ensures short { result ≤ 508 }
+{
+    match anonymous {
+        Feature::Required => 32,
+        Feature::Auto | Feature::Disabled => credentials.user().len(),
+    }
+}
+
+/// How many bytes an attribute with a value of `len` bytes takes.
+fn written_len(len: usize) -> usize
+    requires { len < 2 ^ 16 }
+    ensures { result ≡ 4 + padded_len len }
+{
+    4 + (len + 3) / 4 * 4
+}
