@@ -3,6 +3,8 @@
 ghost use Rattle.std.specs.Prelude.{◌≡◌};
 ghost use Rattle.turn_types.specs.Send.{peer_kind, data_kind};
 ghost use Rattle.turn_client_api.specs.State.{greatest_moment};
+ghost use Rattle.turn_client_api.specs.Effect.{allocation_mismatch, family_not_supported};
+ghost use Rattle.turn_client_api.specs.Requests.{connection_already_exists, connection_timed_out};
 ghost use Rattle.turn_client_api.specs.Requests.{allocate_method, channel_bind_method, connect_method, connection_attempt_method, connection_bind_method, create_permission_method, data_method, refresh_method};
 ghost use Rattle.turn_client_api.specs.Requests.{additional_family_kind, bad_request, channel_number_kind, connection_id_kind, dont_fragment_kind, error_kind, icmp_kind, lifetime_kind};
 ghost use Rattle.turn_client_api.specs.Requests.{relayed_kind, requested_family_kind, requested_transport_kind};
@@ -38,6 +40,10 @@ pub fn numbers_are_the_standards()
     ensures icmp { icmp_kind ≡ Icmp.TYPE.value }
     // error codes
     ensures bad_request { bad_request ≡ ErrorCode.BAD_REQUEST }
+    ensures mismatch { allocation_mismatch ≡ ErrorCode.ALLOCATION_MISMATCH }
+    ensures family { family_not_supported ≡ ErrorCode.ADDRESS_FAMILY_NOT_SUPPORTED }
+    ensures exists { connection_already_exists ≡ ErrorCode.CONNECTION_ALREADY_EXISTS }
+    ensures timed_out { connection_timed_out ≡ ErrorCode.CONNECTION_TIMEOUT_OR_FAILURE }
 {}
 
 /// Its methods are theirs too (RFC 8656, section 17, and RFC 6062, section 6.1).
