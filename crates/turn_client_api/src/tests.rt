@@ -7,10 +7,13 @@ mod memory;
 mod payloads;
 mod texts;
 
-use crate::TurnConfig;
+use crate::{TurnConfig, TurnPeerData};
 use std::alloc::Global;
+use std::convert::AsSlice;
 use std::net::{IpAddr, Ipv4Addr, Ipv6Addr, SocketAddr};
+use std::process::Abort;
 use turn_auth::credentials::{CredentialsError, TurnCredentials};
+use turn_types::TransportType;
 
 /// A Data indication from 10.0.0.3:9000 (RFC 8656, section 11.4): `hello` stands at 36 to 41.
 const HELLO: [u8; 44] = [
@@ -39,4 +42,11 @@ fn relayed_ipv6() -> SocketAddr {
 fn config(alloc: Global) -> Result<TurnConfig, CredentialsError> {
     let credentials = TurnCredentials::new(alloc, b"user", b"pass")?;
     Ok(TurnConfig::new(alloc, credentials))
+}
+
+/// Compares a payload with `hello` from the peer.
+fn is_hello<T: AsSlice<u8>>(rt: &impl Abort, payload: &TurnPeerData<T>, transport: TransportType) {
+    assert_eq!(rt; payload.data(), b"hello".as_slice());
+    assert_eq!(rt; payload.as_slice(), b"hello".as_slice());
+    assert_eq!(rt; (payload.transport, payload.peer), (transport, peer()));
 }

@@ -1,65 +1,87 @@
 //! Each refusal for memory is an answer here, and what stands after it is asserted. So these pass
 //! whichever request for memory is refused.
 
-use crate::tests::{HELLO, config, peer};
+use crate::tests::{HELLO, config, is_hello, peer};
 use crate::{
     BindChannelError, CreatePermissionError, DataRange, DataRangeOrOwned,
     DelayedMessageOrChannelSend, DelayedTransmit, DeleteError, SendError, TcpAllocateError,
-    TcpConnectError, TurnPeerData,
+    TcpConnectError, TurnConfig, TurnPeerData,
 };
-use std::alloc::AllocError;
+use std::alloc::{AllocError, Global};
+use std::fmt::Debug;
+use std::process::Abort;
 use turn_types::TransportType;
 use turn_types::transmit::DelayedTransmitBuild;
 
-#[test]
-fn a_payload_without_memory_is_handed_back(rt: HostRuntime) {
-    let range = DataRange::new(HELLO.as_slice(), 36..41);
-    let mut payload = TurnPeerData::new(TransportType::Udp, peer(), DataRangeOrOwned::Range(range));
-    for _ in 0..2 {
-        match payload.into_owned(rt.alloc()) {
-            Ok(owned) => {
-                assert_eq!(rt; owned.data(), b"hello".as_slice());
-                return;
-            }
-            Err(back) => {
-                assert_eq!(rt; back.data(), b"hello".as_slice());
-                assert_eq!(rt; back.transport, TransportType::Udp);
-                assert_eq!(rt; back.peer, peer());
-                payload = back;
-            }
+/// Owns a payload, or has it back as it was.
+fn own<'a>(
+    rt: &impl Abort,
+    alloc: Global,
+    payload: TurnPeerData<&'a [u8]>,
+) -> Option<TurnPeerData<&'a [u8]>> {
+    match payload.into_owned(alloc) {
+        Ok(owned) => {
+            is_hello(rt, &owned, TransportType::Udp);
+            None
+        }
+        Err(back) => {
+            is_hello(rt, &back, TransportType::Udp);
+            Some(back)
         }
     }
 }
 
 #[test]
-fn owned_bytes_take_no_memory(rt: HostRuntime) {
-    let Ok(bytes) = HELLO.to_vec(rt.alloc()) else {
-        return;
-    };
-    let payload: TurnPeerData<Vec<u8>> = TurnPeerData::new(
-        TransportType::Udp,
-        peer(),
-        DataRangeOrOwned::Owned(bytes),
-    );
-    match payload.into_owned(rt.alloc()) {
+fn a_payload_without_memory_is_handed_back(rt: HostRuntime) {
+    let range = DataRange::new(HELLO.as_slice(), 36..41);
+    let payload = TurnPeerData::new(TransportType::Udp, peer(), DataRangeOrOwned::Range(range));
+    if let Some(back) = own(&rt, rt.alloc(), payload) {
+        let _again = own(&rt, rt.alloc(), back);
+    }
+}
+
+fn is_owned_at_once(rt: &impl Abort, alloc: Global, bytes: Vec<u8>) {
+    let owned = DataRangeOrOwned::Owned(bytes);
+    let payload: TurnPeerData<Vec<u8>> = TurnPeerData::new(TransportType::Udp, peer(), owned);
+    match payload.into_owned(alloc) {
         Ok(owned) => assert_eq!(rt; owned.data(), HELLO.as_slice()),
         Err(_) => assert!(rt; false, "memory was asked for"),
     }
-    let Ok(bytes) = HELLO.to_vec(rt.alloc()) else {
-        return;
-    };
+}
+
+fn is_built_at_once(rt: &impl Abort, alloc: Global, bytes: Vec<u8>) {
     let send: DelayedMessageOrChannelSend<Vec<u8>> = DelayedMessageOrChannelSend::OwnedData(bytes);
-    assert!(rt; send.build(rt.alloc()).is_ok());
+    assert!(rt; send.build(alloc).is_ok());
+}
+
+#[test]
+fn owned_bytes_take_no_memory(rt: HostRuntime) {
+    if let Ok(bytes) = HELLO.to_vec(rt.alloc()) {
+        is_owned_at_once(&rt, rt.alloc(), bytes);
+    }
+    if let Ok(bytes) = HELLO.to_vec(rt.alloc()) {
+        is_built_at_once(&rt, rt.alloc(), bytes);
+    }
+}
+
+fn is_copied_or_stays(rt: &impl Abort, first: &TurnConfig) {
+    match first.clone() {
+        Ok(copy) => assert!(rt; copy == *first),
+        Err(AllocError) => assert_eq!(rt; first.credentials().user(), b"user".as_slice()),
+    }
 }
 
 #[test]
 fn a_configuration_without_memory_stays(rt: HostRuntime) {
-    let Ok(first) = config(rt.alloc()) else {
-        return;
-    };
-    match first.clone() {
-        Ok(copy) => assert!(rt; copy == first),
-        Err(AllocError) => assert_eq!(rt; first.credentials().user(), b"user".as_slice()),
+    if let Ok(first) = config(rt.alloc()) {
+        is_copied_or_stays(&rt, &first);
+    }
+}
+
+/// Where a packet is built, it is these bytes.
+fn builds_if_at_all<T: DelayedTransmitBuild>(rt: &impl Abort, alloc: Global, send: T, want: &[u8]) {
+    if let Ok(built) = send.build(alloc) {
+        assert_eq!(rt; built.as_slice(), want);
     }
 }
 
@@ -67,35 +89,23 @@ fn a_configuration_without_memory_stays(rt: HostRuntime) {
 fn what_is_not_built_can_be_made_again(rt: HostRuntime) {
     for _ in 0..2 {
         let part = DelayedTransmit::new(HELLO.as_slice(), 36..41);
-        if let Ok(built) = part.build(rt.alloc()) {
-            assert_eq!(rt; built.as_slice(), b"hello".as_slice());
-        }
+        builds_if_at_all(&rt, rt.alloc(), part, b"hello");
         let plain = DelayedMessageOrChannelSend::Data(HELLO.as_slice());
-        if let Ok(built) = plain.build(rt.alloc()) {
-            assert_eq!(rt; built.as_slice(), HELLO.as_slice());
-        }
+        builds_if_at_all(&rt, rt.alloc(), plain, &HELLO);
     }
 }
 
 /// A call that passes a refusal on by `?` gives its own error.
 #[test]
 fn a_refusal_is_each_error(rt: HostRuntime) {
-    assert_eq!(rt;
-        BindChannelError::from(AllocError),
-        BindChannelError::OutOfMemory
-    );
-    assert_eq!(rt;
-        CreatePermissionError::from(AllocError),
-        CreatePermissionError::OutOfMemory
-    );
-    assert_eq!(rt; DeleteError::from(AllocError), DeleteError::OutOfMemory);
-    assert_eq!(rt; SendError::from(AllocError), SendError::OutOfMemory);
-    assert_eq!(rt;
-        TcpConnectError::from(AllocError),
-        TcpConnectError::OutOfMemory
-    );
-    assert_eq!(rt;
-        TcpAllocateError::from(AllocError),
-        TcpAllocateError::OutOfMemory
-    );
+    is_error(&rt, BindChannelError::OutOfMemory);
+    is_error(&rt, CreatePermissionError::OutOfMemory);
+    is_error(&rt, DeleteError::OutOfMemory);
+    is_error(&rt, SendError::OutOfMemory);
+    is_error(&rt, TcpConnectError::OutOfMemory);
+    is_error(&rt, TcpAllocateError::OutOfMemory);
+}
+
+fn is_error<E: From<AllocError> + PartialEq + Debug + Drop>(rt: &impl Abort, want: E) {
+    assert_eq!(rt; E::from(AllocError), want);
 }

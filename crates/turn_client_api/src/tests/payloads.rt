@@ -1,119 +1,151 @@
 //! Parts of the caller's bytes, and packets that are built late.
 
-use crate::tests::{HELLO, peer};
+use crate::tests::{HELLO, is_hello, peer};
 use crate::{
     DataRange, DataRangeOrOwned, DelayedMessageOrChannelSend, DelayedTransmit, TurnPeerData,
 };
+use std::alloc::Global;
 use std::convert::AsSlice;
+use std::process::Abort;
 use std::test::Fail;
 use turn_stun::data::Data;
 use turn_stun::transaction::TransactionId;
 use turn_types::TransportType;
 use turn_types::transmit::{DelayedChannel, DelayedMessage, DelayedTransmitBuild};
 
+/// Compares the part of `hello` from `start` on and before `end`.
+fn is_part(rt: &impl Abort, start: usize, end: usize, want: &[u8]) {
+    let source = b"hello".as_slice();
+    assert!(rt; start <= end && end <= source.len());
+    let range = DataRange::new(source, start..end);
+    assert_eq!(rt; range.as_slice(), want);
+    assert_eq!(rt; *range.source(), source);
+    assert_eq!(rt; (range.range().start, range.range().end), (start, end));
+}
+
 #[test]
 fn a_range_is_its_part(rt: HostRuntime) {
-    let source = b"hello".as_slice();
-    let rows: [(usize, usize, &[u8]); 6] = [
-        (0, 0, b""),
-        (5, 5, b""),
-        (0, 1, b"h"),
-        (4, 5, b"o"),
-        (1, 4, b"ell"),
-        (0, 5, b"hello"),
-    ];
-    for (start, end, want) in rows {
-        assert!(rt; start <= end && end <= source.len());
-        let range = DataRange::new(source, start..end);
-        assert_eq!(rt; range.as_slice(), want);
-        assert_eq!(rt; *range.source(), source);
-        assert_eq!(rt; (range.range().start, range.range().end), (start, end));
-    }
+    is_part(&rt, 0, 0, b"");
+    is_part(&rt, 5, 5, b"");
+    is_part(&rt, 0, 1, b"h");
+    is_part(&rt, 4, 5, b"o");
+    is_part(&rt, 1, 4, b"ell");
+    is_part(&rt, 0, 5, b"hello");
 }
 
 #[test]
 fn a_payload_is_owned_without_its_message(rt: HostRuntime) -> Result<(), Fail> {
     let range = DataRange::new(HELLO.as_slice(), 36..41);
     let payload = TurnPeerData::new(TransportType::Udp, peer(), DataRangeOrOwned::Range(range));
-    assert_eq!(rt; payload.data(), b"hello".as_slice());
+    is_hello(&rt, &payload, TransportType::Udp);
     let owned = payload.into_owned(rt.alloc())?;
-    assert_eq!(rt; owned.as_slice(), b"hello".as_slice());
-    assert_eq!(rt; owned.transport, TransportType::Udp);
-    assert_eq!(rt; owned.peer, peer());
+    is_hello(&rt, &owned, TransportType::Udp);
 
     // It is owned now, so that it can be owned again.
     let again = owned.into_owned(rt.alloc())?;
-    assert_eq!(rt; again.data(), b"hello".as_slice());
+    is_hello(&rt, &again, TransportType::Udp);
+    Ok(())
+}
+
+/// Makes a payload of a part of these bytes, and owns it.
+fn is_owned(rt: &impl Abort, alloc: Global, source: Data) -> Result<(), Fail> {
+    assert!(rt; source.as_bytes().len() == 44);
+    let range = DataRange::new(source, 36..41);
+    let payload = TurnPeerData::new(TransportType::Tcp, peer(), DataRangeOrOwned::Range(range));
+    is_hello(rt, &payload, TransportType::Tcp);
+    is_hello(rt, &payload.into_owned(alloc)?, TransportType::Tcp);
     Ok(())
 }
 
 #[test]
 fn a_part_of_owned_bytes_is_a_payload(rt: HostRuntime) -> Result<(), Fail> {
     let source = Data::from(HELLO.to_vec(rt.alloc())?);
-    assert!(rt; source.as_bytes().len() == 44);
-    let range = DataRange::new(source, 36..41);
-    let payload = TurnPeerData::new(TransportType::Tcp, peer(), DataRangeOrOwned::Range(range));
-    assert_eq!(rt; payload.data(), b"hello".as_slice());
-    let owned = payload.into_owned(rt.alloc())?;
-    assert_eq!(rt; owned.transport, TransportType::Tcp);
+    is_owned(&rt, rt.alloc(), source)
+}
+
+/// Compares the bytes that a packet builds.
+fn builds<T: DelayedTransmitBuild>(
+    rt: &impl Abort,
+    alloc: Global,
+    send: T,
+    want: &[u8],
+) -> Result<(), Fail> {
+    assert_eq!(rt; send.len(), want.len());
+    assert!(rt; !send.is_empty());
+    assert_eq!(rt; send.build(alloc)?.as_slice(), want);
+    Ok(())
+}
+
+/// Compares the bytes that a packet writes.
+fn writes<T: DelayedTransmitBuild + Drop>(
+    rt: &impl Abort,
+    alloc: Global,
+    send: T,
+    want: &[u8],
+) -> Result<(), Fail> {
+    let mut place = vec![in alloc; 0xaa; want.len()]?;
+    assert!(rt; send.len() == place.len());
+    assert!(rt; !send.is_empty());
+    assert_eq!(rt; send.write_into(place.as_mut_slice()), want.len());
+    assert_eq!(rt; place.as_slice(), want);
     Ok(())
 }
 
 #[test]
 fn a_part_is_sent_as_it_is(rt: HostRuntime) -> Result<(), Fail> {
     let part = DelayedTransmit::new(HELLO.as_slice(), 36..41);
-    assert_eq!(rt; part.len(), 5);
-    assert!(rt; !part.is_empty());
-    assert_eq!(rt; part.build(rt.alloc())?.as_slice(), b"hello".as_slice());
-
+    builds(&rt, rt.alloc(), part, b"hello")?;
     let part = DelayedTransmit::new(HELLO.as_slice(), 36..41);
-    let mut place = [0; 5];
-    assert_eq!(rt; part.write_into(&mut place), 5);
-    assert_eq!(rt; place.as_slice(), b"hello".as_slice());
-
+    writes(&rt, rt.alloc(), part, b"hello")?;
     let nothing = DelayedTransmit::new(HELLO.as_slice(), 44..44);
     assert!(rt; nothing.is_empty());
     Ok(())
 }
 
-/// The four ways to a peer, each with the bytes that it sends.
+// The four ways to a peer, each with the bytes that it sends.
+
 #[test]
-fn data_goes_by_each_way(rt: HostRuntime) -> Result<(), Fail> {
-    let sevens = [7; 7];
+fn data_goes_over_a_channel(rt: HostRuntime) -> Result<(), Fail> {
     let frame = [0x40, 0, 0, 5, 0x68, 0x65, 0x6c, 0x6c, 0x6f, 0, 0, 0];
-    // A Send indication has the attributes of a Data indication (RFC 8656, sections 11.1 and 11.3).
-    let mut indication = HELLO;
-    indication[1] = 0x16;
-    for writes in [false, true] {
-        let channel = DelayedMessageOrChannelSend::Channel(DelayedChannel::new(
-            0x4000,
-            b"hello".as_slice(),
-        ));
-        let id = TransactionId::from_bytes([0, 0, 0, 0, 0, 0, 0, 0, 0, 0, 0, 1]);
-        let message = DelayedMessageOrChannelSend::Message(DelayedMessage::for_server(
-            peer(),
-            b"hello".as_slice(),
-            id,
-        ));
-        let plain = DelayedMessageOrChannelSend::Data(sevens.as_slice());
-        let owned = DelayedMessageOrChannelSend::OwnedData(sevens.to_vec(rt.alloc())?);
-        for (send, want) in [
-            (channel, frame.as_slice()),
-            (message, indication.as_slice()),
-            (plain, sevens.as_slice()),
-            (owned, sevens.as_slice()),
-        ] {
-            assert_eq!(rt; send.len(), want.len());
-            assert!(rt; !send.is_empty());
-            if !writes {
-                assert_eq!(rt; send.build(rt.alloc())?.as_slice(), want);
-                continue;
-            }
-            let mut place = vec![in rt.alloc(); 0xaa; want.len()]?;
-            assert!(rt; send.len() == place.len());
-            assert_eq!(rt; send.write_into(place.as_mut_slice()), want.len());
-            assert_eq!(rt; place.as_slice(), want);
-        }
-    }
-    Ok(())
+    let channel = || -> DelayedMessageOrChannelSend<&[u8]> {
+        DelayedMessageOrChannelSend::Channel(DelayedChannel::new(0x4000, b"hello"))
+    };
+    builds(&rt, rt.alloc(), channel(), &frame)?;
+    writes(&rt, rt.alloc(), channel(), &frame)
+}
+
+/// A Send indication with `hello`.
+fn indication() -> DelayedMessageOrChannelSend<&'static [u8]> {
+    let id = TransactionId::from_bytes([0, 0, 0, 0, 0, 0, 0, 0, 0, 0, 0, 1]);
+    DelayedMessageOrChannelSend::Message(DelayedMessage::for_server(peer(), b"hello", id))
+}
+
+// A Send indication has the attributes of a Data indication (RFC 8656, sections 11.1 and 11.3).
+#[test]
+fn data_goes_in_an_indication(rt: HostRuntime) -> Result<(), Fail> {
+    let mut want = HELLO;
+    want[1] = 0x16;
+    builds(&rt, rt.alloc(), indication(), &want)?;
+    writes(&rt, rt.alloc(), indication(), &want)
+}
+
+#[test]
+fn data_goes_as_it_is(rt: HostRuntime) -> Result<(), Fail> {
+    let sevens = [7; 7];
+    let plain = DelayedMessageOrChannelSend::Data(sevens.as_slice());
+    builds(&rt, rt.alloc(), plain, &sevens)?;
+    let plain = DelayedMessageOrChannelSend::Data(sevens.as_slice());
+    writes(&rt, rt.alloc(), plain, &sevens)
+}
+
+/// Seven bytes that the packet owns.
+fn owned_sevens(alloc: Global) -> Result<DelayedMessageOrChannelSend<&'static [u8]>, Fail> {
+    let sevens = [7; 7].to_vec(alloc)?;
+    Ok(DelayedMessageOrChannelSend::OwnedData(sevens))
+}
+
+#[test]
+fn owned_data_goes_as_it_is(rt: HostRuntime) -> Result<(), Fail> {
+    builds(&rt, rt.alloc(), owned_sevens(rt.alloc())?, &[7; 7])?;
+    writes(&rt, rt.alloc(), owned_sevens(rt.alloc())?, &[7; 7])
 }

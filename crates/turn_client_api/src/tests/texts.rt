@@ -5,99 +5,146 @@ use crate::{
     BindChannelError, CreatePermissionError, DeleteError, SendError, TcpAllocateError,
     TcpConnectError,
 };
-use std::alloc::{AllocError, Global};
+use std::alloc::Global;
 use std::error::Error;
+use std::process::Abort;
 use std::test::Fail;
 use turn_stun::instant::Instant;
 
+/// Compares the text of an error.
+fn says(rt: &impl Abort, alloc: Global, error: &impl Error, want: &str) -> Result<(), Fail> {
+    assert_eq!(rt; format!(in alloc; "{error}")?.as_str(), want);
+    Ok(())
+}
+
 #[test]
-fn errors_say_what_is_wrong(rt: HostRuntime) -> Result<(), Fail> {
-    let alloc = rt.alloc();
+fn errors_of_bind_channel_say_what_is_wrong(rt: HostRuntime) -> Result<(), Fail> {
     let until = Instant::from_nanos(900_100_000_000);
-    let rows = [
+    for (error, want) in [
         (
-            text(alloc, BindChannelError::AlreadyExists)?,
+            BindChannelError::AlreadyExists,
             "The channel identifier already exists and cannot be recreated.",
         ),
         (
-            text(alloc, BindChannelError::ExpiredChannelExists(until))?,
+            BindChannelError::ExpiredChannelExists(until),
             "The channel for requested peer address has expired and cannot be recreated until 900.100000000s.",
         ),
         (
-            text(alloc, BindChannelError::NoAllocation)?,
+            BindChannelError::NoAllocation,
             "There is no connection to the TURN server that can handle this channel.",
         ),
-        (text(alloc, BindChannelError::OutOfMemory)?, "out of memory"),
-        (
-            text(alloc, CreatePermissionError::AlreadyExists)?,
-            "The permission already exists and cannot be recreated.",
-        ),
-        (
-            text(alloc, CreatePermissionError::NoAllocation)?,
-            "There is no connection to the TURN server that can handle this permission",
-        ),
-        (
-            text(alloc, CreatePermissionError::OutOfMemory)?,
-            "out of memory",
-        ),
-        (
-            text(alloc, DeleteError::NoAllocation)?,
-            "There is no connection to the TURN server",
-        ),
-        (text(alloc, DeleteError::OutOfMemory)?, "out of memory"),
-        (
-            text(alloc, SendError::NoAllocation)?,
-            "There is no connection to the TURN server",
-        ),
-        (
-            text(alloc, SendError::NoPermission)?,
-            "There is no permission installed for the requested peer",
-        ),
-        (
-            text(alloc, SendError::NoTcpSocket)?,
-            "There is no local TCP socket for the requested peer",
-        ),
-        (text(alloc, SendError::OutOfMemory)?, "out of memory"),
-        (
-            text(alloc, TcpConnectError::AlreadyExists)?,
-            "The TCP connection already exists and cannot be recreated.",
-        ),
-        (
-            text(alloc, TcpConnectError::NoAllocation)?,
-            "There is no connection to the TURN server that can handle this TCP socket.",
-        ),
-        (
-            text(alloc, TcpConnectError::NoPermission)?,
-            "There is no permission installed for the requested peer",
-        ),
-        (text(alloc, TcpConnectError::OutOfMemory)?, "out of memory"),
-        (
-            text(alloc, TcpAllocateError::AlreadyExists)?,
-            "The TCP connection already exists and cannot be recreated.",
-        ),
-        (
-            text(alloc, TcpAllocateError::NoAllocation)?,
-            "There is no connection to the TURN server that can handle this TCP socket.",
-        ),
-        (text(alloc, TcpAllocateError::OutOfMemory)?, "out of memory"),
-    ];
-    for (text, want) in &rows {
-        assert_eq!(rt; text.as_str(), *want);
+        (BindChannelError::OutOfMemory, "out of memory"),
+    ] {
+        says(&rt, rt.alloc(), &error, want)?;
     }
     Ok(())
 }
 
-fn text<E: Error>(alloc: Global, error: E) -> Result<String, AllocError> {
-    format!(in alloc; "{error}")
+#[test]
+fn errors_of_create_permission_say_what_is_wrong(rt: HostRuntime) -> Result<(), Fail> {
+    for (error, want) in [
+        (
+            CreatePermissionError::AlreadyExists,
+            "The permission already exists and cannot be recreated.",
+        ),
+        (
+            CreatePermissionError::NoAllocation,
+            "There is no connection to the TURN server that can handle this permission",
+        ),
+        (CreatePermissionError::OutOfMemory, "out of memory"),
+    ] {
+        says(&rt, rt.alloc(), &error, want)?;
+    }
+    Ok(())
+}
+
+#[test]
+fn errors_of_delete_say_what_is_wrong(rt: HostRuntime) -> Result<(), Fail> {
+    for (error, want) in [
+        (
+            DeleteError::NoAllocation,
+            "There is no connection to the TURN server",
+        ),
+        (DeleteError::OutOfMemory, "out of memory"),
+    ] {
+        says(&rt, rt.alloc(), &error, want)?;
+    }
+    Ok(())
+}
+
+#[test]
+fn errors_of_send_to_say_what_is_wrong(rt: HostRuntime) -> Result<(), Fail> {
+    for (error, want) in [
+        (
+            SendError::NoAllocation,
+            "There is no connection to the TURN server",
+        ),
+        (
+            SendError::NoPermission,
+            "There is no permission installed for the requested peer",
+        ),
+        (
+            SendError::NoTcpSocket,
+            "There is no local TCP socket for the requested peer",
+        ),
+        (SendError::OutOfMemory, "out of memory"),
+    ] {
+        says(&rt, rt.alloc(), &error, want)?;
+    }
+    Ok(())
+}
+
+#[test]
+fn errors_of_tcp_connect_say_what_is_wrong(rt: HostRuntime) -> Result<(), Fail> {
+    for (error, want) in [
+        (
+            TcpConnectError::AlreadyExists,
+            "The TCP connection already exists and cannot be recreated.",
+        ),
+        (
+            TcpConnectError::NoAllocation,
+            "There is no connection to the TURN server that can handle this TCP socket.",
+        ),
+        (
+            TcpConnectError::NoPermission,
+            "There is no permission installed for the requested peer",
+        ),
+        (TcpConnectError::OutOfMemory, "out of memory"),
+    ] {
+        says(&rt, rt.alloc(), &error, want)?;
+    }
+    Ok(())
+}
+
+#[test]
+fn errors_of_tcp_allocate_say_what_is_wrong(rt: HostRuntime) -> Result<(), Fail> {
+    for (error, want) in [
+        (
+            TcpAllocateError::AlreadyExists,
+            "The TCP connection already exists and cannot be recreated.",
+        ),
+        (
+            TcpAllocateError::NoAllocation,
+            "There is no connection to the TURN server that can handle this TCP socket.",
+        ),
+        (TcpAllocateError::OutOfMemory, "out of memory"),
+    ] {
+        says(&rt, rt.alloc(), &error, want)?;
+    }
+    Ok(())
+}
+
+/// The bytes of `user`, and not those of `pass`.
+fn is_without_password(rt: &impl Abort, text: &str) {
+    assert!(rt; text.contains("[117, 115, 101, 114]"));
+    assert!(rt; !text.contains("[112, 97, 115, 115]"));
+    assert!(rt; !text.contains("pass"));
 }
 
 #[test]
 fn no_password_is_printed(rt: HostRuntime) -> Result<(), Fail> {
     let config = config(rt.alloc())?;
     let text = format!(in rt.alloc(); "{config:?}")?;
-    // The bytes of `user`, and not those of `pass`.
-    assert!(rt; text.as_str().contains("[117, 115, 101, 114]"));
-    assert!(rt; !text.as_str().contains("[112, 97, 115, 115]"));
-    assert!(rt; !text.as_str().contains("pass"));
+    is_without_password(&rt, text.as_str());
     Ok(())
 }

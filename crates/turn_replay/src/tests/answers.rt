@@ -2,8 +2,9 @@
 
 use crate::status::Status;
 use crate::tests::fixture::{
-    BAD_REQUEST, CLIENT, FROM_SERVER, SEED, SEND_ALLOCATE, run_bytes, run_text,
+    BAD_REQUEST, CLIENT, FROM_SERVER, SEED, SEND_ALLOCATE, follow, follow_client,
 };
+use std::alloc::{AllocError, Global};
 use std::test::Fail;
 
 #[test]
@@ -14,28 +15,21 @@ fn a_trace_without_calls_has_no_answers(rt: HostRuntime) -> Result<(), Fail> {
         " 0,0,0,0",
         " 18446744073709551615,1,4294967295,0\n",
     ] {
-        let (status, written) = run_text(
-            rt.alloc(),
-            format!(in rt.alloc(); "{CLIENT} {SEED}{end}")?.as_str(),
-        )?;
-        assert_eq!(rt; status, Status::Answered, "{end}");
-        assert_eq!(rt; written.as_str(), "");
+        follow_client(&rt, rt.alloc(), end, &[])?;
     }
     Ok(())
 }
 
 #[test]
 fn heads_of_all_kinds_are_read(rt: HostRuntime) -> Result<(), Fail> {
-    let v6 = "[20010db8000000000000000000000001]:65535";
+    let front = "udp [20010db8000000000000000000000001]:65535 0.0.0.0:0 ";
     for middle in [
         "udp 6 sha256 required",
         "udp 4,6 sha1,sha256 disabled",
         "udp 6,4 sha256,sha1 auto",
     ] {
-        let head = format!(in rt.alloc(); "udp {v6} 0.0.0.0:0 {middle} 00 - {SEED}")?;
-        let (status, written) = run_text(rt.alloc(), head.as_str())?;
-        assert_eq!(rt; status, Status::Answered, "{middle}");
-        assert_eq!(rt; written.as_str(), "");
+        let head = [front, middle, " 00 - ", SEED];
+        follow(&rt, rt.alloc(), &head, Status::Answered, &[])?;
     }
     Ok(())
 }
@@ -43,15 +37,12 @@ fn heads_of_all_kinds_are_read(rt: HostRuntime) -> Result<(), Fail> {
 // RFC 8656, sections 18.11 and 18.6: an IPv6 address beside the IPv4 one.
 #[test]
 fn the_first_request_names_the_families(rt: HostRuntime) -> Result<(), Fail> {
-    let trace = format!(in rt.alloc();
-        "udp 192.168.0.1:1000 [00000000000000000000000000000001]:3478 udp 4,6 sha1 auto 75 - {SEED}\n0 transmit"
-    )?;
-    let (_, written) = run_text(rt.alloc(), trace.as_str())?;
-    assert_eq!(rt;
-        written.as_str(),
-        "send udp 192.168.0.1:1000 [00000000000000000000000000000001]:3478 0003001c2112a44276b8e0ada0f13d90405d6ae5000d0004000007080019000411000000001a00008000000402000000\n"
-    );
-    Ok(())
+    let head =
+        "udp 192.168.0.1:1000 [00000000000000000000000000000001]:3478 udp 4,6 sha1 auto 75 - ";
+    let want =
+        "send udp 192.168.0.1:1000 [00000000000000000000000000000001]:3478 0003001c2112a44276b8e0ada0f13d90405d6ae5000d0004000007080019000411000000001a00008000000402000000\n";
+    let trace = [head, SEED, "\n0 transmit"];
+    follow(&rt, rt.alloc(), &trace, Status::Answered, &[want])
 }
 
 // RFC 8489, section 5: an ID has twelve bytes, whatever they are. These are the first of ChaCha20's key
@@ -59,20 +50,16 @@ fn the_first_request_names_the_families(rt: HostRuntime) -> Result<(), Fail> {
 #[test]
 fn an_id_is_printed_with_its_leading_zeros(rt: HostRuntime) -> Result<(), Fail> {
     let seed = "000000000000000000000000000000000000000000000000000000000000abab";
-    let trace = format!(in rt.alloc(); "{CLIENT} {seed}\n0 transmit")?;
-    let (_, written) = run_text(rt.alloc(), trace.as_str())?;
-    assert_eq!(rt;
-        written.as_str(),
-        "send udp 192.168.0.1:1000 10.0.0.2:2000 000300142112a4420000b9e043294c202fa14e11000d0004000007080019000411000000001a0000\n"
-    );
-    Ok(())
+    let want =
+        "send udp 192.168.0.1:1000 10.0.0.2:2000 000300142112a4420000b9e043294c202fa14e11000d0004000007080019000411000000001a0000\n";
+    let trace = [CLIENT, " ", seed, "\n0 transmit"];
+    follow(&rt, rt.alloc(), &trace, Status::Answered, &[want])
 }
 
 // RFC 8489, section 6.2.1, with waits of 0.6, 1 and 3 seconds.
 #[test]
 fn a_silent_server_is_given_up(rt: HostRuntime) -> Result<(), Fail> {
-    let trace = format!(in rt.alloc();
-        "{CLIENT} {SEED} 600000000,1000000000,3,3000000000
+    let rest = " 600000000,1000000000,3,3000000000
 0 poll
 0 event
 0 transmit
@@ -86,71 +73,60 @@ fn a_silent_server_is_given_up(rt: HostRuntime) -> Result<(), Fail> {
 4600000000 event
 4600000000 event
 4600000000 poll
-"
-    )?;
-    let (status, written) = run_text(rt.alloc(), trace.as_str())?;
-    assert_eq!(rt; status, Status::Answered);
-    let want = format!(in rt.alloc();
-        "wait 0
-none
-{SEND_ALLOCATE}
-none
-wait 600000000
-{SEND_ALLOCATE}
-wait 1600000000
-{SEND_ALLOCATE}
-wait 4600000000
-closed
-allocate-failed 4
-none
-closed
-"
-    )?;
-    assert_eq!(rt; written.as_str(), want.as_str());
-    Ok(())
+";
+    let want = [
+        "wait 0\nnone\n",
+        SEND_ALLOCATE,
+        "\nnone\nwait 600000000\n",
+        SEND_ALLOCATE,
+        "\nwait 1600000000\n",
+        SEND_ALLOCATE,
+        "\nwait 4600000000\nclosed\nallocate-failed 4\nnone\nclosed\n",
+    ];
+    follow_client(&rt, rt.alloc(), rest, &want)
+}
+
+/// The lines of seven sends.
+fn seven_sends(alloc: Global) -> Result<String, AllocError> {
+    let line = format!(in alloc; "{SEND_ALLOCATE}\n")?;
+    line.as_str().repeat(alloc, 7)
 }
 
 // RFC 8489, section 6.2.1, with its own waits: each send, and the end.
 #[test]
 fn seven_sends_by_default(rt: HostRuntime) -> Result<(), Fail> {
-    let mut trace = format!(in rt.alloc(); "{CLIENT} {SEED}\n")?;
-    let mut want = String::new(rt.alloc());
-    for at in [
-        "0",
-        "500000000",
-        "1500000000",
-        "3500000000",
-        "7500000000",
-        "15500000000",
-        "31500000000",
-    ] {
-        trace.push_str(format!(in rt.alloc(); "{at} transmit\n")?.as_str())?;
-        want.push_str(SEND_ALLOCATE)?;
-        want.push('\n')?;
-    }
-    trace.push_str("31500000000 poll\n39499999999 poll\n39500000000 poll\n")?;
-    want.push_str("wait 39500000000\nwait 39500000000\nclosed\n")?;
-    let (_, written) = run_text(rt.alloc(), trace.as_str())?;
-    assert_eq!(rt; written.as_str(), want.as_str());
-    Ok(())
+    let rest = "
+0 transmit
+500000000 transmit
+1500000000 transmit
+3500000000 transmit
+7500000000 transmit
+15500000000 transmit
+31500000000 transmit
+31500000000 poll
+39499999999 poll
+39500000000 poll
+";
+    let sends = seven_sends(rt.alloc())?;
+    let want = [
+        sends.as_str(),
+        "wait 39500000000\nwait 39500000000\nclosed\n",
+    ];
+    follow_client(&rt, rt.alloc(), rest, &want)
 }
 
 // A wait that no moment ends: the caller is to come again in 9999 s.
 #[test]
 fn no_sleep_is_longer_than_9999_seconds(rt: HostRuntime) -> Result<(), Fail> {
-    let trace = format!(in rt.alloc();
-        "{CLIENT} {SEED} 18446744073709551615,18446744073709551615,2,0\n0 transmit\n0 poll\n"
-    )?;
-    let (_, written) = run_text(rt.alloc(), trace.as_str())?;
-    let want = format!(in rt.alloc(); "{SEND_ALLOCATE}\nwait 9999000000000\n")?;
-    assert_eq!(rt; written.as_str(), want.as_str());
-    Ok(())
+    let rest = " 18446744073709551615,18446744073709551615,2,0\n0 transmit\n0 poll\n";
+    let want = [SEND_ALLOCATE, "\nwait 9999000000000\n"];
+    follow_client(&rt, rt.alloc(), rest, &want)
 }
 
-#[test]
-fn a_refusal_ends_the_client(rt: HostRuntime) -> Result<(), Fail> {
-    let trace = format!(in rt.alloc();
-        "{CLIENT} {SEED}
+/// The calls of a client that is sent no response, then two from elsewhere, and then a refusal, twice.
+fn calls_refused(alloc: Global) -> Result<String, AllocError> {
+    format!(in alloc;
+        "
 0 transmit
 0 recv {FROM_SERVER} -
 0 recv {FROM_SERVER} 000300002112a44276b8e0ada0f13d90405d6ae5
@@ -161,34 +137,23 @@ fn a_refusal_ends_the_client(rt: HostRuntime) -> Result<(), Fail> {
 0 event
 0 poll
 0 recv {FROM_SERVER} {BAD_REQUEST}"
-    )?;
-    let (_, written) = run_text(rt.alloc(), trace.as_str())?;
-    let want = format!(in rt.alloc();
-        "{SEND_ALLOCATE}
-ignored
-ignored
-ignored
-ignored
-handled
-wait 0
-allocate-failed 4
-closed
-ignored
-"
-    )?;
-    assert_eq!(rt; written.as_str(), want.as_str());
-    Ok(())
+    )
+}
+
+#[test]
+fn a_refusal_ends_the_client(rt: HostRuntime) -> Result<(), Fail> {
+    let want = [
+        SEND_ALLOCATE,
+        "\nignored\nignored\nignored\nignored\n",
+        "handled\nwait 0\nallocate-failed 4\nclosed\nignored\n",
+    ];
+    let calls = calls_refused(rt.alloc())?;
+    follow_client(&rt, rt.alloc(), calls.as_str(), &want)
 }
 
 #[test]
 fn an_error_of_the_caller_ends_the_client(rt: HostRuntime) -> Result<(), Fail> {
-    let trace = format!(in rt.alloc();
-        "{CLIENT} {SEED}\n0 error\n0 poll\n0 event\n4611686018427387904 poll\n0 error\n0 event"
-    )?;
-    let (_, written) = run_bytes(rt.alloc(), trace.as_bytes());
-    assert_eq!(rt;
-        written.as_slice(),
-        "ok\nwait 0\nallocate-failed 4\nclosed\nok\nnone\n".as_bytes()
-    );
-    Ok(())
+    let rest = "\n0 error\n0 poll\n0 event\n4611686018427387904 poll\n0 error\n0 event";
+    let want = "ok\nwait 0\nallocate-failed 4\nclosed\nok\nnone\n";
+    follow_client(&rt, rt.alloc(), rest, &[want])
 }

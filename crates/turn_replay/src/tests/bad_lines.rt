@@ -1,7 +1,9 @@
 //! Traces with a bad line, each with the one line that they are answered.
 
 use crate::status::Status;
-use crate::tests::fixture::{CLIENT, FROM_SERVER, SEED, run_bytes, run_text};
+use crate::tests::fixture::{CLIENT, FROM_SERVER, SEED, follow, run_bytes};
+use std::alloc::{AllocError, Global};
+use std::process::Abort;
 use std::test::Fail;
 
 // Each up to a `;`, and S is the seed: each field missing, doubled, empty, or not as it is to be.
@@ -42,16 +44,23 @@ const BAD_ARGUMENTS: &str = "0 poll ;0 event 0;0 recv;0 recv A;0 recv A  ;0 recv
 0 recv udp 10.0.0.2:2000 192.168.0.1:1000 1.2.3.4:5 00;\
 0 recv udp 10.0.0.02:2000 192.168.0.1:1000 00";
 
+/// The seed, and two addresses, in the place of a head's letters.
+fn spelled_out(alloc: Global, head: &str) -> Result<String, AllocError> {
+    let head = head.replace(alloc, "L", "1.2.3.4:5")?;
+    let head = head.as_str().replace(alloc, "R", "6.7.8.9:10")?;
+    head.as_str().replace(alloc, "S", SEED)
+}
+
+fn is_bad_head(rt: &impl Abort, alloc: Global, head: &str) -> Result<(), Fail> {
+    let want = "line 1: bad head\n";
+    let trace = [head, "\n0 poll"];
+    follow(rt, alloc, &trace, Status::Malformed, &[want])
+}
+
 #[test]
 fn every_field_of_the_head_is_tested(rt: HostRuntime) -> Result<(), Fail> {
     for head in BAD_HEADS.split(';') {
-        let head = head.replace(rt.alloc(), "L", "1.2.3.4:5")?;
-        let head = head.as_str().replace(rt.alloc(), "R", "6.7.8.9:10")?;
-        let head = head.as_str().replace(rt.alloc(), "S", SEED)?;
-        let trace = format!(in rt.alloc(); "{head}\n0 poll")?;
-        let (status, written) = run_text(rt.alloc(), trace.as_str())?;
-        assert_eq!(rt; status, Status::Malformed, "{head}");
-        assert_eq!(rt; written.as_str(), "line 1: bad head\n", "{head}");
+        is_bad_head(&rt, rt.alloc(), spelled_out(rt.alloc(), head)?.as_str())?;
     }
     Ok(())
 }
@@ -59,43 +68,56 @@ fn every_field_of_the_head_is_tested(rt: HostRuntime) -> Result<(), Fail> {
 #[test]
 fn a_user_name_of_509_bytes_is_too_long(rt: HostRuntime) -> Result<(), Fail> {
     let user = "75".repeat(rt.alloc(), 509)?;
-    let trace = format!(in rt.alloc();
-        "udp 1.2.3.4:5 6.7.8.9:10 udp 4 sha1 auto {user} 70 {SEED}"
-    )?;
-    let (status, written) = run_text(rt.alloc(), trace.as_str())?;
-    assert_eq!(rt; status, Status::Malformed);
-    assert_eq!(rt; written.as_str(), "line 1: bad head\n");
-    Ok(())
+    let ends = "udp 1.2.3.4:5 6.7.8.9:10 udp 4 sha1 auto ";
+    let head = [ends, user.as_str(), " 70 ", SEED];
+    follow(
+        &rt,
+        rt.alloc(),
+        &head,
+        Status::Malformed,
+        &["line 1: bad head\n"],
+    )
 }
 
-#[test]
-fn every_field_of_a_call_is_tested(rt: HostRuntime) -> Result<(), Fail> {
-    for (lines, kind) in [
-        (BAD_MOMENTS, "moment"),
-        (BAD_CALLS, "call"),
-        (BAD_ARGUMENTS, "argument"),
-    ] {
-        for line in lines.split(';') {
-            let line = line.replace(rt.alloc(), "A", FROM_SERVER)?;
-            let trace = format!(in rt.alloc(); "{CLIENT} {SEED}\n0 poll\n{line}\n0 nothing\n")?;
-            let (status, written) = run_text(rt.alloc(), trace.as_str())?;
-            let want = format!(in rt.alloc(); "line 3: bad {kind}\n")?;
-            assert_eq!(rt; status, Status::Malformed, "{line}");
-            assert_eq!(rt; written.as_str(), want.as_str(), "{line}");
-        }
+fn is_bad_line(rt: &impl Abort, alloc: Global, line: &str, kind: &str) -> Result<(), Fail> {
+    let trace = [CLIENT, " ", SEED, "\n0 poll\n", line, "\n0 nothing\n"];
+    let want = ["line 3: bad ", kind, "\n"];
+    follow(rt, alloc, &trace, Status::Malformed, &want)
+}
+
+fn are_bad_lines(rt: &impl Abort, alloc: Global, lines: &str, kind: &str) -> Result<(), Fail> {
+    for line in lines.split(';') {
+        let line = line.replace(alloc, "A", FROM_SERVER)?;
+        is_bad_line(rt, alloc, line.as_str(), kind)?;
     }
     Ok(())
 }
 
 #[test]
-fn bytes_that_are_no_text_are_tested(rt: HostRuntime) -> Result<(), Fail> {
-    let (status, written) = run_bytes(rt.alloc(), &[0xff, 0xfe]);
+fn every_field_of_a_call_is_tested(rt: HostRuntime) -> Result<(), Fail> {
+    are_bad_lines(&rt, rt.alloc(), BAD_MOMENTS, "moment")?;
+    are_bad_lines(&rt, rt.alloc(), BAD_CALLS, "call")?;
+    are_bad_lines(&rt, rt.alloc(), BAD_ARGUMENTS, "argument")
+}
+
+/// Runs bytes that are no text, and compares what is written.
+fn are_bad_bytes(rt: &impl Abort, alloc: Global, trace: &[u8], want: &[u8]) {
+    let (status, written) = run_bytes(alloc, trace);
     assert_eq!(rt; status, Status::Malformed);
-    assert_eq!(rt; written.as_slice(), b"line 1: bad head\n".as_slice());
-    let mut trace = format!(in rt.alloc(); "{CLIENT} {SEED}\n0 ")?.into_bytes();
+    assert_eq!(rt; written.as_slice(), want);
+}
+
+/// A head, and a call whose name is no ASCII.
+fn trace_of_other_letters(alloc: Global) -> Result<Vec<u8>, AllocError> {
+    let mut trace = format!(in alloc; "{CLIENT} {SEED}\n0 ")?.into_bytes();
     trace.extend_from_slice(b"\xc3\xa4")?;
-    let (status, written) = run_bytes(rt.alloc(), trace.as_slice());
-    assert_eq!(rt; status, Status::Malformed);
-    assert_eq!(rt; written.as_slice(), b"line 2: bad call\n".as_slice());
+    Ok(trace)
+}
+
+#[test]
+fn bytes_that_are_no_text_are_tested(rt: HostRuntime) -> Result<(), Fail> {
+    are_bad_bytes(&rt, rt.alloc(), &[0xff, 0xfe], b"line 1: bad head\n");
+    let trace = trace_of_other_letters(rt.alloc())?;
+    are_bad_bytes(&rt, rt.alloc(), trace.as_slice(), b"line 2: bad call\n");
     Ok(())
 }

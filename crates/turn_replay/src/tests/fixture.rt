@@ -3,6 +3,7 @@
 use crate::program::run;
 use crate::status::Status;
 use std::alloc::Global;
+use std::process::Abort;
 use std::test::Fail;
 
 /// A head up to the seed.
@@ -31,8 +32,47 @@ pub fn run_bytes(alloc: Global, trace: &[u8]) -> (Status, Vec<u8>) {
     (status, written)
 }
 
-/// The same of a text.
-pub fn run_text(alloc: Global, trace: &str) -> Result<(Status, String), Fail> {
-    let (status, written) = run_bytes(alloc, trace.as_bytes());
-    Ok((status, String::from_utf8(written)?))
+// Whole traces, and few locals: the proof of a test grows with the square of what it holds.
+
+/// Runs a trace, which is to end so and to write this.
+pub fn is_answered(
+    rt: &impl Abort,
+    alloc: Global,
+    trace: &str,
+    status: Status,
+    want: &str,
+) -> Result<(), Fail> {
+    let (ended, written) = run_bytes(alloc, trace.as_bytes());
+    assert_eq!(rt; ended, status, "{trace}");
+    assert_eq!(rt; String::from_utf8(written)?.as_str(), want, "{trace}");
+    Ok(())
+}
+
+/// The same of a trace and an answer in parts.
+pub fn follow(
+    rt: &impl Abort,
+    alloc: Global,
+    trace: &[&str],
+    status: Status,
+    want: &[&str],
+) -> Result<(), Fail> {
+    let trace = trace.concat(alloc)?;
+    let want = want.concat(alloc)?;
+    is_answered(rt, alloc, trace.as_str(), status, want.as_str())
+}
+
+/// The same of the client, under the seed of zeros, with this after the seed.
+pub fn follow_client(
+    rt: &impl Abort,
+    alloc: Global,
+    rest: &str,
+    want: &[&str],
+) -> Result<(), Fail> {
+    follow(
+        rt,
+        alloc,
+        &[CLIENT, " ", SEED, rest],
+        Status::Answered,
+        want,
+    )
 }

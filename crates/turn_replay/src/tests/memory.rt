@@ -6,6 +6,8 @@
 use crate::program::run;
 use crate::status::Status;
 use crate::tests::fixture::SEND_ALLOCATE;
+use std::alloc::Global;
+use std::process::Abort;
 use std::test::Fail;
 
 const TRACE: &[u8] =
@@ -15,14 +17,26 @@ const TRACE: &[u8] =
 500000000 transmit
 ";
 
+/// Runs the trace into this room, and gives how it ended and how many bytes are left.
+fn run_into(alloc: Global, room: &mut [u8]) -> (Status, usize) {
+    let mut reader = TRACE;
+    let mut writer = room;
+    let status = run(alloc, &mut reader, &mut writer);
+    (status, writer.len())
+}
+
+fn is_answered(rt: &impl Abort, alloc: Global, written: &[u8]) -> Result<(), Fail> {
+    let want = [SEND_ALLOCATE, "\nignored\n", SEND_ALLOCATE, "\n"].concat(alloc)?;
+    assert_eq!(rt; written, want.as_bytes());
+    Ok(())
+}
+
 #[test]
 fn refused_memory_is_told(rt: HostRuntime) -> Result<(), Fail> {
-    let mut reader = TRACE;
     let mut room = [0; 512];
-    let mut writer = room.as_mut_slice();
-    let status = run(rt.alloc(), &mut reader, &mut writer);
+    let (status, left) = run_into(rt.alloc(), &mut room);
     let count = 512usize
-        .checked_sub(writer.len())
+        .checked_sub(left)
         .ok_or("more is left than there was")?;
     let written = room.get(..count).ok_or("more is left than there was")?;
     if status == Status::OutOfMemory {
@@ -30,7 +44,5 @@ fn refused_memory_is_told(rt: HostRuntime) -> Result<(), Fail> {
         return Ok(());
     }
     assert_eq!(rt; status, Status::Answered);
-    let want = format!(in rt.alloc(); "{SEND_ALLOCATE}\nignored\n{SEND_ALLOCATE}\n")?;
-    assert_eq!(rt; written, want.as_bytes());
-    Ok(())
+    is_answered(&rt, rt.alloc(), written)
 }

@@ -1,41 +1,60 @@
 //! Traces that are just short enough, and just too long.
 
 use crate::status::Status;
-use crate::tests::fixture::{CLIENT, FROM_SERVER, SEED, run_bytes};
+use crate::tests::fixture::{CLIENT, FROM_SERVER, SEED, follow, follow_client};
+use std::alloc::Global;
+use std::process::Abort;
 use std::test::Fail;
+
+/// The line 10002 is the ten thousand and first call.
+fn is_one_call_too_many(rt: &impl Abort, alloc: Global, calls: &str) -> Result<(), Fail> {
+    let trace = [CLIENT, " ", SEED, calls, "\nnothing"];
+    follow(
+        rt,
+        alloc,
+        &trace,
+        Status::Malformed,
+        &["line 10002: bad size\n"],
+    )
+}
 
 #[test]
 fn the_ten_thousand_and_first_call_is_bad(rt: HostRuntime) -> Result<(), Fail> {
-    let mut trace = format!(in rt.alloc(); "{CLIENT} {SEED}\n")?;
-    for _ in 0..10_000u32 {
-        trace.push_str("0 event\n")?;
+    let calls = "\n0 event".repeat(rt.alloc(), 10_000)?;
+    is_one_call_too_many(&rt, rt.alloc(), calls.as_str())?;
+    let answers = "none\n".repeat(rt.alloc(), 10_000)?;
+    follow_client(&rt, rt.alloc(), calls.as_str(), &[answers.as_str()])
+}
+
+/// A mebibyte, which brings zeros from the server.
+fn mebibyte(alloc: Global) -> Result<String, Fail> {
+    let front = [CLIENT, " ", SEED, "\n0 recv ", FROM_SERVER, " "].concat(alloc)?;
+    let room = 1_048_576usize.checked_sub(front.len()).ok_or("too long")?;
+    let digits = "00".repeat(alloc, room / 2)?;
+    let mut trace = format!(in alloc; "{front}{digits}")?;
+    if room % 2 == 1 {
+        trace.push('\n')?;
     }
-    let (status, written) = run_bytes(rt.alloc(), trace.as_bytes());
-    assert_eq!(rt; status, Status::Answered);
-    assert_eq!(rt; written.len(), 50_000);
-    trace.push_str("nothing")?;
-    let (status, written) = run_bytes(rt.alloc(), trace.as_bytes());
-    assert_eq!(rt; status, Status::Malformed);
-    assert_eq!(rt; written.as_slice(), b"line 10002: bad size\n".as_slice());
-    Ok(())
+    Ok(trace)
 }
 
 #[test]
 fn a_mebibyte_is_read_and_no_more(rt: HostRuntime) -> Result<(), Fail> {
-    let front = format!(in rt.alloc(); "{CLIENT} {SEED}\n0 recv {FROM_SERVER} ")?;
-    let room = 1_048_576usize.checked_sub(front.len()).ok_or("too long")?;
-    let digits = "00".repeat(rt.alloc(), room / 2)?;
-    let mut trace = format!(in rt.alloc(); "{front}{digits}")?.into_bytes();
-    if room % 2 == 1 {
-        trace.push(b'\n')?;
-    }
+    let trace = mebibyte(rt.alloc())?;
     assert_eq!(rt; trace.len(), 1_048_576);
-    let (status, written) = run_bytes(rt.alloc(), trace.as_slice());
-    assert_eq!(rt; status, Status::Answered);
-    assert_eq!(rt; written.as_slice(), b"ignored\n".as_slice());
-    trace.push(b'\n')?;
-    let (status, written) = run_bytes(rt.alloc(), trace.as_slice());
-    assert_eq!(rt; status, Status::Malformed);
-    assert_eq!(rt; written.as_slice(), b"line 0: bad size\n".as_slice());
-    Ok(())
+    let parts = [trace.as_str(), "\n"];
+    follow(
+        &rt,
+        rt.alloc(),
+        &parts[..1],
+        Status::Answered,
+        &["ignored\n"],
+    )?;
+    follow(
+        &rt,
+        rt.alloc(),
+        &parts,
+        Status::Malformed,
+        &["line 0: bad size\n"],
+    )
 }

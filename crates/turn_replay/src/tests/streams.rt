@@ -3,9 +3,10 @@
 use crate::program::{exit_code, run};
 use crate::status::Status;
 use crate::tests::fixture::{CLIENT, SEED, SEND_ALLOCATE};
+use std::alloc::{AllocError, Global};
 use std::io;
 use std::io::{ErrorKind, Read, Write};
-use std::process::ExitCode;
+use std::process::{Abort, ExitCode};
 use std::test::Fail;
 
 /// A reader that gives a few bytes at a time, each time after an interruption, and fails once it has
@@ -63,66 +64,103 @@ impl Write for Narrow {
     }
 }
 
+/// Three lines: the head, a poll and a transmit.
+fn short_trace(alloc: Global) -> Result<String, AllocError> {
+    [CLIENT, " ", SEED, "\n0 poll\n0 transmit\n"].concat(alloc)
+}
+
+/// What it is answered.
+fn short_answer(alloc: Global) -> Result<String, AllocError> {
+    ["wait 0\n", SEND_ALLOCATE, "\n"].concat(alloc)
+}
+
+/// Runs over a reader that fails after some bytes.
+fn is_told_as_failed(rt: &impl Abort, alloc: Global, trace: &[u8], left: usize) {
+    let mut reader = Halting {
+        rest: trace,
+        step: 7,
+        left,
+        interrupts: false,
+    };
+    let mut written = Vec::new(alloc);
+    let status = run(alloc, &mut reader, &mut written);
+    assert_eq!(rt; status, Status::ReadFailed, "after {left} bytes");
+    assert_eq!(rt; written.as_slice(), b"read failed\n".as_slice());
+}
+
 #[test]
 fn a_failing_reader_is_told(rt: HostRuntime) -> Result<(), Fail> {
-    let trace = format!(in rt.alloc(); "{CLIENT} {SEED}\n0 poll\n0 transmit\n")?;
+    let trace = short_trace(rt.alloc())?;
     for left in 0..trace.len() + 1 {
-        let mut reader = Halting {
-            rest: trace.as_bytes(),
-            step: 7,
-            left,
-            interrupts: false,
-        };
-        let mut written = Vec::new(rt.alloc());
-        let status = run(rt.alloc(), &mut reader, &mut written);
-        assert_eq!(rt; status, Status::ReadFailed, "after {left} bytes");
-        assert_eq!(rt; written.as_slice(), b"read failed\n".as_slice());
+        is_told_as_failed(&rt, rt.alloc(), trace.as_bytes(), left);
     }
     Ok(())
+}
+
+/// How a run ended whose reader and writer take a few bytes at a time, and what it wrote.
+fn run_by_steps(alloc: Global, trace: &[u8], step: usize) -> (Status, Vec<u8>) {
+    let mut reader = Halting {
+        rest: trace,
+        step,
+        left: usize::MAX,
+        interrupts: false,
+    };
+    let mut writer = Narrow {
+        held: Vec::new(alloc),
+        step,
+        left: usize::MAX,
+        flushes: true,
+    };
+    let status = run(alloc, &mut reader, &mut writer);
+    let Narrow { held, .. } = writer;
+    (status, held)
+}
+
+/// Runs by steps of some bytes, and compares what is written.
+fn is_the_same(rt: &impl Abort, alloc: Global, trace: &[u8], want: &[u8], step: usize) {
+    let (status, written) = run_by_steps(alloc, trace, step);
+    assert_eq!(rt; status, Status::Answered, "by {step}");
+    assert_eq!(rt; written.as_slice(), want, "by {step}");
 }
 
 #[test]
 fn a_slow_reader_and_a_narrow_writer_change_nothing(rt: HostRuntime) -> Result<(), Fail> {
-    let trace = format!(in rt.alloc(); "{CLIENT} {SEED}\n0 poll\n0 transmit\n")?;
-    let want = format!(in rt.alloc(); "wait 0\n{SEND_ALLOCATE}\n")?;
+    let trace = short_trace(rt.alloc())?;
+    let want = short_answer(rt.alloc())?;
     for step in [1, 2, 3, 100, 1_000] {
-        let mut reader = Halting {
-            rest: trace.as_bytes(),
-            step,
-            left: usize::MAX,
-            interrupts: false,
-        };
-        let mut writer = Narrow {
-            held: Vec::new(rt.alloc()),
-            step,
-            left: usize::MAX,
-            flushes: true,
-        };
-        let status = run(rt.alloc(), &mut reader, &mut writer);
-        let Narrow { held, .. } = writer;
-        assert_eq!(rt; status, Status::Answered, "by {step}");
-        assert_eq!(rt; held.as_slice(), want.as_bytes());
+        is_the_same(&rt, rt.alloc(), trace.as_bytes(), want.as_bytes(), step);
     }
     Ok(())
 }
 
+/// How a run ended whose writer fails after some bytes, and what it wrote until then.
+fn run_until_full(alloc: Global, trace: &[u8], left: usize) -> (Status, Vec<u8>) {
+    let mut reader = trace;
+    let mut writer = Narrow {
+        held: Vec::new(alloc),
+        step: 5,
+        left,
+        flushes: false,
+    };
+    let status = run(alloc, &mut reader, &mut writer);
+    let Narrow { held, .. } = writer;
+    (status, held)
+}
+
+/// Runs until the writer fails, and compares what is written with the beginning of what is wanted.
+fn is_cut_off(rt: &impl Abort, alloc: Global, trace: &[u8], want: &[u8], left: usize) {
+    let (status, written) = run_until_full(alloc, trace, left);
+    assert_eq!(rt; status, Status::WriteFailed, "after {left} bytes");
+    assert_eq!(rt; status.code(), 4);
+    assert_eq!(rt; Some(written.as_slice()), want.get(..left));
+}
+
 #[test]
 fn a_failing_writer_is_told_by_the_status_alone(rt: HostRuntime) -> Result<(), Fail> {
-    let trace = format!(in rt.alloc(); "{CLIENT} {SEED}\n0 poll\n0 transmit\n")?;
-    let want = format!(in rt.alloc(); "wait 0\n{SEND_ALLOCATE}\n")?;
+    let trace = short_trace(rt.alloc())?;
+    let want = short_answer(rt.alloc())?;
     for left in 0..want.len() + 1 {
-        let mut reader = trace.as_bytes();
-        let mut writer = Narrow {
-            held: Vec::new(rt.alloc()),
-            step: 5,
-            left,
-            flushes: false,
-        };
-        let status = run(rt.alloc(), &mut reader, &mut writer);
-        let Narrow { held, .. } = writer;
-        assert_eq!(rt; status, Status::WriteFailed, "after {left} bytes");
-        assert_eq!(rt; status.code(), 4);
-        assert_eq!(rt; Some(held.as_slice()), want.as_bytes().get(..left));
+        is_cut_off(&rt, rt.alloc(), trace.as_bytes(), want.as_bytes(), left);
     }
     Ok(())
 }
