@@ -1,5 +1,5 @@
 -- What a client is configured with.
-use Rattle.std.specs.Prelude.{◌≡◌, Bool, true, false, List, [], ◌∷◌, ◌++◌, if◌then◌else◌}
+use Rattle.std.specs.Prelude.{◌≡◌, Bool, true, false, List, [], ◌∷◌, ◌++◌, Option, unwrap_or, if◌then◌else◌}
 use Rattle.std.specs.List.{list_any}
 use Rattle.smallvec.specs.SmallVec.{SmallVec}
 use Rattle.turn_stun.specs.declared.transport.TransportType.{TransportType}
@@ -9,16 +9,20 @@ use Rattle.turn_auth.specs.Credentials.{Credentials}
 use Rattle.turn_auth.specs.declared.feature.Feature.{Feature}
 use Rattle.turn_auth.specs.declared.integrity.IntegrityAlgorithm.{IntegrityAlgorithm}
 use Rattle.turn_auth.specs.declared.integrity.IntegrityAlgorithm.TheVariants.{Sha1, Sha256}
-use Rattle.turn_agent.specs.Schedule.{Timers}
+use Rattle.turn_agent.specs.Schedule.{Timers, default_timers}
 
--- the settings
+-- the settings; the timers of requests are there only where they were set
 pub record Config : Type 0 where
   pub allocation_transport : TransportType
   pub address_families : List AddressFamily
   pub credentials : Credentials
   pub supported_integrity : List IntegrityAlgorithm
   pub anonymous_username : Feature
-  pub request_timers : Timers
+  pub request_timers : Option Timers
+
+-- when requests are sent again and given up: as it was set, or else as RFC 8489, section 6.2.1, has it
+abbrev pub timers_of : Config → Timers
+timers_of config = unwrap_or config.request_timers default_timers
 
 -- whether two families are the same
 abbrev pub same_family : AddressFamily → AddressFamily → Bool

@@ -1,5 +1,5 @@
 -- Worked states, so that the check computes what the machine answers in them.
-use Rattle.std.specs.Prelude.{ℕ, zero, suc, ◌*◌, List, [], ◌∷◌, ◌++◌, map, Some}
+use Rattle.std.specs.Prelude.{ℕ, zero, suc, ◌*◌, List, [], ◌∷◌, ◌++◌, map, Option, Some, None}
 use Rattle.std.specs.declared.net.ip_addr.IpAddr.{IpAddr}
 use Rattle.std.specs.declared.net.ip_addr.IpAddr.TheVariants as Ip
 use Rattle.std.specs.declared.net.socket_addr.SocketAddr.{SocketAddr}
@@ -17,7 +17,7 @@ use Rattle.turn_client_api.specs.Effect.{new_allocation}
 use Rattle.turn_client_api.specs.Calls.{all_expired}
 use Rattle.turn_client_api.specs.Poll.{poll_step}
 use Rattle.turn_client_api.specs.Transmit.{transmit_step}
-use Rattle.turn_agent.specs.Schedule.{Timers, default_timers}
+use Rattle.turn_agent.specs.Schedule.{Timers}
 use Rattle.turn_client_api.specs.declared.poll.TurnPollRet.{TurnPollRet}
 use Rattle.turn_client_api.specs.declared.poll.TurnPollRet.TheVariants.{WaitUntil, Closed as Ended}
 
@@ -42,7 +42,7 @@ peer = V4 (xor_v4 (10 ∷ 0 ∷ 0 ∷ 3 ∷ []) 9000)
 -- a client over UDP with these grants, that sent its last request at this moment and awaits nothing
 abbrev pub granted_at : ℕ → List Grant → State → State
 granted_at moment grants s = record s {
-  config = record s.config { allocation_transport = Udp; request_timers = default_timers };
+  config = record s.config { allocation_transport = Udp; request_timers = None };
   transport = Udp;
   phase = Allocated;
   grants = grants;
@@ -68,8 +68,8 @@ requesting text s = record (granted_at 0 [] s) {
 abbrev pub short_timers : Timers
 short_timers = record { initial = 600_000_000; max = 1_000_000_000; transmissions = 3; last = 3_000_000_000 }
 
--- the client has sent its first ALLOCATE at moment 0 over this transport, and waits by these timers
-abbrev pub requesting_by : Timers → TransportType → List ℕ → State → State
+-- the client has sent its first ALLOCATE at moment 0 over this transport, and waits by these timers, or by default
+abbrev pub requesting_by : Option Timers → TransportType → List ℕ → State → State
 requesting_by timers transport text s = record (requesting text s) {
   config = record s.config { request_timers = timers };
   transport = transport;

@@ -1,8 +1,7 @@
 -- Worked data connections, so that the check computes what the machine does with them.
-use Rattle.std.specs.Prelude.{ℕ, List, [], ◌∷◌, ◌++◌, Option, Result}
+use Rattle.std.specs.Prelude.{ℕ, List, [], ◌∷◌, ◌++◌, Option, None, Result}
 use Rattle.std.specs.declared.net.socket_addr.SocketAddr.{SocketAddr}
 use Rattle.turn_stun.specs.declared.transport.TransportType.TheVariants.{Tcp}
-use Rattle.turn_agent.specs.Schedule.{default_timers}
 use Rattle.turn_client_api.specs.State.{State, Grant, Permission, Active, ServerIndication, seconds}
 use Rattle.turn_client_api.specs.Calls.{allocated_tcp_socket_step}
 use Rattle.turn_client_api.specs.LawsRows.{ip_of_peer}
@@ -14,7 +13,7 @@ use Rattle.turn_client_api.specs.declared.poll.Socket5Tuple.{Socket5Tuple}
 -- a client with an allocation over TCP and these grants, whose control stream holds nothing
 abbrev pub relaying_tcp : List Grant → State → State
 relaying_tcp grants s = record (over_tcp grants [] s) {
-  config = record s.config { allocation_transport = Tcp; request_timers = default_timers };
+  config = record s.config { allocation_transport = Tcp; request_timers = None };
 }
 
 -- the peer has a permission

@@ -1,5 +1,5 @@
 -- When two configurations have the same settings.
-use Rattle.std.specs.Prelude.{Bool, true, false, ◌==◌, ◌&&◌}
+use Rattle.std.specs.Prelude.{Bool, true, false, ◌==◌, ◌&&◌, Option, Some, None}
 use Rattle.std.specs.Cmp.Lexicographic.{pointwise}
 use Rattle.turn_stun.specs.declared.transport.TransportType.{TransportType}
 use Rattle.turn_stun.specs.declared.transport.TransportType.TheVariants.{Udp, Tcp}
@@ -29,6 +29,13 @@ abbrev pub same_timers : Timers → Timers → Bool
 same_timers a b =
     (a.initial == b.initial) && (a.max == b.max) && (a.transmissions == b.transmissions) && (a.last == b.last)
 
+-- timers that were never set are not the same as any that were
+abbrev pub same_set_timers : Option Timers → Option Timers → Bool
+same_set_timers None None = true
+same_set_timers None (Some b) = false
+same_set_timers (Some a) None = false
+same_set_timers (Some a) (Some b) = same_timers a b
+
 -- both ask for the same allocations
 abbrev pub same_request : Config → Config → Bool
 same_request a b =
@@ -43,4 +50,4 @@ same_user a b =
     && same_feature a.anonymous_username b.anonymous_username
 
 abbrev pub same_config : Config → Config → Bool
-same_config a b = same_request a b && same_user a b && same_timers a.request_timers b.request_timers
+same_config a b = same_request a b && same_user a b && same_set_timers a.request_timers b.request_timers

@@ -1,5 +1,5 @@
 -- The test of equality of two configurations decides it, and so is an equivalence.
-use Rattle.std.specs.Prelude.{◌≡◌, Bool, true, false, IsTrue, ◌↔◌, ◌&&◌, refl}
+use Rattle.std.specs.Prelude.{◌≡◌, Bool, true, false, IsTrue, ◌↔◌, ◌&&◌, Option, Some, None, refl}
 use Rattle.std.proofs.Common.{ap}
 use Rattle.std.specs.Bool.{Decides}
 use Rattle.std.specs.Cmp.{IsEquivalence, decided, unsigned_Decides}
@@ -16,7 +16,7 @@ use Rattle.turn_auth.specs.declared.integrity.IntegrityAlgorithm.{IntegrityAlgor
 use Rattle.turn_auth.specs.declared.integrity.IntegrityAlgorithm.TheVariants.{Sha1, Sha256}
 use Rattle.turn_agent.specs.Schedule.{Timers}
 use Rattle.turn_client_api.specs.Config.{Config, same_family}
-use Rattle.turn_client_api.specs.SameConfig.{same_config, same_credentials, same_feature, same_timers, same_allocation_transport}
+use Rattle.turn_client_api.specs.SameConfig.{same_config, same_credentials, same_feature, same_set_timers, same_timers, same_allocation_transport}
 
 -- two tests decide whether two parts are the same
 both : {r s : Bool} {P Q : Type 0} → Decides r P → Decides s Q → Decides (r && s) (P × Q)
@@ -68,6 +68,12 @@ same_timers-Decides a b =
     (λ (((first, longest), count), last) i. record { initial = first i; max = longest i; transmissions = count i; last = last i })
     (λ e. (((ap (λ t. t.initial) e, ap (λ t. t.max) e), ap (λ t. t.transmissions) e), ap (λ t. t.last) e))
 
+same_set_timers-Decides : (a b : Option Timers) → Decides (same_set_timers a b) (a ≡ b)
+same_set_timers-Decides None None = (λ _. refl, λ _. refl)
+same_set_timers-Decides None (Some b) = (λ e. cc, λ e. cc)
+same_set_timers-Decides (Some a) None = (λ e. cc, λ e. cc)
+same_set_timers-Decides (Some a) (Some b) = in_other_words (same_timers-Decides a b) (λ e. ap Some e) (λ e. cc)
+
 same_config-Decides : (a b : Config) → Decides (same_config a b) (a ≡ b)
 same_config-Decides a b =
     in_other_words
@@ -77,7 +83,7 @@ same_config-Decides a b =
     (both (both (same_credentials-Decides a.credentials b.credentials)
     (pointwise_decides same_algorithm-Decides a.supported_integrity b.supported_integrity))
     (same_feature-Decides a.anonymous_username b.anonymous_username)))
-    (same_timers-Decides a.request_timers b.request_timers))
+    (same_set_timers-Decides a.request_timers b.request_timers))
     (λ (((transport, families), ((credentials, algorithms), anonymous)), timers) i. record {
       allocation_transport = transport i;
       address_families = families i;

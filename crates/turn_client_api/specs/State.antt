@@ -8,7 +8,7 @@ use Rattle.turn_auth.specs.LongTerm.{Challenge, ClientAuth}
 use Rattle.turn_agent.specs.Agent.{Agent}
 use Rattle.turn_agent.specs.TransactionIds.{Source}
 use Rattle.turn_agent.specs.declared.transaction.Transaction.{Transaction}
-use Rattle.turn_client_api.specs.Config.{Config}
+use Rattle.turn_client_api.specs.Config.{Config, timers_of}
 use Rattle.turn_client_api.specs.declared.event.TurnEvent.{TurnEvent}
 pub use Rattle.turn_client_api.specs.declared.state.Phase.{Phase}
 pub use Rattle.turn_client_api.specs.declared.state.Phase.TheVariants.{New, Requesting, Authenticating, Allocated, Closed}
@@ -106,7 +106,7 @@ agent_of s = record {
   transport = s.transport;
   local = s.local;
   remote = Some s.remote;
-  timers = s.config.request_timers;
+  timers = timers_of s.config;
   transactions = s.transactions;
 }
 

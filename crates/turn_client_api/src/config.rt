@@ -1,9 +1,9 @@
 //! What a client is to ask of its server, and as whom.
 
-ghost use Rattle.std.specs.Prelude.{◌≡◌, ◌<◌, ◌≤◌, ◌≢◌, [], ◌∷◌, length, IfOk, AllPairs, Contains};
-ghost use Rattle.turn_agent.specs.Schedule.{default_timers, wait_of};
+ghost use Rattle.std.specs.Prelude.{◌≡◌, ◌<◌, ◌≤◌, ◌≢◌, [], ◌∷◌, Some, None, length, IfOk, AllPairs, Contains};
+ghost use Rattle.turn_agent.specs.Schedule.{wait_of};
 ghost use Rattle.turn_auth.specs.LongTerm.{with_algorithm};
-ghost use Rattle.turn_client_api.specs.Config.{Config, with_family};
+ghost use Rattle.turn_client_api.specs.Config.{Config, timers_of, with_family};
 ghost use Rattle.turn_client_api.specs.SameConfig.{same_request, same_user};
 
 use smallvec::SmallVec;
@@ -28,7 +28,7 @@ pub struct TurnConfig {
     credentials: TurnCredentials,
     supported_integrity: SmallVec<IntegrityAlgorithm, 2>,
     anonymous_username: Feature,
-    request_timers: RequestTimers,
+    request_timers: Option<RequestTimers>,
 }
 
 impl Model for TurnConfig {
@@ -59,7 +59,7 @@ impl TurnConfig {
           credentials = credentials;
           supported_integrity = IntegrityAlgorithm.Sha1 ∷ [];
           anonymous_username = Feature.Auto;
-          request_timers = default_timers;
+          request_timers = None;
         } }
     {
         TurnConfig {
@@ -68,7 +68,7 @@ impl TurnConfig {
             credentials,
             supported_integrity: SmallVec::from_slice(alloc, &[IntegrityAlgorithm::Sha1]).unwrap(),
             anonymous_username: Feature::Auto,
-            request_timers: RequestTimers::default(),
+            request_timers: None,
         }
     }
 
@@ -191,28 +191,28 @@ impl TurnConfig {
         final_retransmit_timeout: Duration,
     )
         ensures { self.new ≡ record self.old {
-          request_timers = record {
+          request_timers = Some (record {
             initial = wait_of initial;
             max = wait_of max;
             transmissions = retransmits;
             last = wait_of final_retransmit_timeout;
-          };
+          });
         } }
     {
-        self.request_timers = RequestTimers::new(
+        self.request_timers = Some(RequestTimers::new(
             initial,
             max,
             retransmits,
             final_retransmit_timeout,
-        );
+        ));
     }
 
     /// When each request is sent again and when it is given up, as `set_request_retransmits` set it
     /// last, or else by default.
     pub fn request_timers(&self) -> RequestTimers
-        ensures { result ≡ self.now.request_timers }
+        ensures { result ≡ timers_of self.now }
     {
-        self.request_timers
+        self.request_timers.unwrap_or_default()
     }
 
     /// A configuration with the same settings.
@@ -253,7 +253,7 @@ impl TurnConfig {
     }
 }
 
-/// By content. The default times are equal to the same times that were set.
+/// By content. Times that were never set differ from the same times that were set.
 impl PartialEq for TurnConfig {
     ghost use Rattle.std.specs.Prelude.{◌≡◌, ◌↔◌, IsTrue};
     ghost use Rattle.std.specs.Cmp.{partial_equiv_from_equiv};

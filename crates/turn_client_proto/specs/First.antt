@@ -17,7 +17,7 @@ use Rattle.turn_agent.specs.TransactionIds.{Source, next_id, behind_id}
 use Rattle.turn_agent.specs.Agent.{Agent, asked, ends_one, given_up, same_address, poll_step as agent_poll, transmit_step as agent_transmit, handle_step as agent_handle}
 use Rattle.turn_agent.specs.declared.agent.StunAgentPollRet.{StunAgentPollRet}
 use Rattle.turn_agent.specs.declared.agent.StunAgentPollRet.TheVariants as Agents
-use Rattle.turn_client_api.specs.Config.{Config, same_family}
+use Rattle.turn_client_api.specs.Config.{Config, same_family, timers_of}
 use Rattle.turn_client_api.specs.declared.event.TurnEvent.{TurnEvent}
 use Rattle.turn_client_api.specs.declared.event.TurnEvent.TheVariants.{AllocationCreateFailed}
 use Rattle.turn_client_api.specs.declared.poll.TurnPollRet.{TurnPollRet}
@@ -49,7 +49,7 @@ new_client transport local remote config seed = record {
     transport = transport;
     local = local;
     remote = Some remote;
-    timers = config.request_timers;
+    timers = timers_of config;
     transactions = [];
   };
   events = [];

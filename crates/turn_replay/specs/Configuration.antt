@@ -6,7 +6,7 @@ use Rattle.turn_auth.specs.Credentials.{Credentials}
 use Rattle.turn_auth.specs.LongTerm.{with_algorithm}
 use Rattle.turn_auth.specs.declared.integrity.IntegrityAlgorithm.{IntegrityAlgorithm}
 use Rattle.turn_client_api.specs.Config.{Config, with_family}
-use Rattle.turn_agent.specs.Schedule.{Timers, default_timers}
+use Rattle.turn_agent.specs.Schedule.{Timers}
 use Rattle.turn_replay.specs.declared.head.Request.{Request}
 use Rattle.turn_replay.specs.declared.head.waits.Waits.{Waits}
 
@@ -20,15 +20,15 @@ abbrev pub algorithms_with : IntegrityAlgorithm × Option IntegrityAlgorithm →
 algorithms_with (first, None) = first ∷ []
 algorithms_with (first, Some second) = with_algorithm (first ∷ []) second
 
--- when requests are sent again: as the head says, or else as RFC 8489, section 6.2.1, has it
-abbrev pub timers_with : Option Waits → Timers
-timers_with None = default_timers
-timers_with (Some waits) = record {
+-- when requests are sent again, where the head says so
+abbrev pub timers_with : Option Waits → Option Timers
+timers_with None = None
+timers_with (Some waits) = Some (record {
   initial = waits.initial;
   max = waits.max;
   transmissions = waits.count;
   last = waits.last;
-}
+})
 
 abbrev pub config_with : Request → Credentials → Option Waits → Config
 config_with request credentials waits = record {

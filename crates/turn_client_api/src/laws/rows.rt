@@ -7,7 +7,6 @@ ghost use Rattle.turn_client_api.specs.State.{State, Channel, ForAllocation, For
 ghost use Rattle.turn_client_api.specs.Requests.{first_allocate};
 ghost use Rattle.turn_client_api.specs.Effect.{new_allocation};
 ghost use Rattle.turn_auth.specs.LongTerm.{Challenge};
-ghost use Rattle.turn_agent.specs.Schedule.{default_timers};
 ghost use Rattle.turn_client_api.specs.Retry.{state_after_retry};
 ghost use Rattle.turn_client_api.specs.Calls.{create_permission_step, delete_step, free_number, relayed_addresses_of};
 ghost use Rattle.turn_client_api.specs.Poll.{poll_step};
@@ -51,12 +50,12 @@ pub fn moments_are_told()
 /// caller is told that comes back at each told moment, and sends what is due.
 pub fn silence_is_timed()
     // By default it is sent at 0, 0.5, 1.5, 3.5, 7.5, 15.5 and 31.5 s, and given up at 39.5 s.
-    ensures default { (text : List ℕ) (s : State) → told_in_turn 8 0 (requesting_by default_timers Udp text s) ≡ waits_and_ends (500 ∷ 1_500 ∷ 3_500 ∷ 7_500 ∷ 15_500 ∷ 31_500 ∷ 39_500 ∷ []) }
+    ensures default { (text : List ℕ) (s : State) → told_in_turn 8 0 (requesting_by None Udp text s) ≡ waits_and_ends (500 ∷ 1_500 ∷ 3_500 ∷ 7_500 ∷ 15_500 ∷ 31_500 ∷ 39_500 ∷ []) }
     // With 600 ms after the first send, at most 1 s after others, three sends, and 3 s after the last.
-    ensures set { (text : List ℕ) (s : State) → told_in_turn 4 0 (requesting_by short_timers Udp text s) ≡ waits_and_ends (600 ∷ 1_600 ∷ 4_600 ∷ []) }
+    ensures set { (text : List ℕ) (s : State) → told_in_turn 4 0 (requesting_by (Some short_timers) Udp text s) ≡ waits_and_ends (600 ∷ 1_600 ∷ 4_600 ∷ []) }
     // Over TCP it is sent once.
-    ensures tcp { (text : List ℕ) (s : State) → told_in_turn 2 0 (requesting_by default_timers Tcp text s) ≡ waits_and_ends (39_500 ∷ []) }
-    ensures tcp_set { (text : List ℕ) (s : State) → told_in_turn 2 0 (requesting_by short_timers Tcp text s) ≡ waits_and_ends (4_600 ∷ []) }
+    ensures tcp { (text : List ℕ) (s : State) → told_in_turn 2 0 (requesting_by None Tcp text s) ≡ waits_and_ends (39_500 ∷ []) }
+    ensures tcp_set { (text : List ℕ) (s : State) → told_in_turn 2 0 (requesting_by (Some short_timers) Tcp text s) ≡ waits_and_ends (4_600 ∷ []) }
 {}
 
 /// `delete` with two allocations (RFC 8656, section 8.1): one REFRESH gives both back, and neither is
