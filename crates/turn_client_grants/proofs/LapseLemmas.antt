@@ -1,0 +1,127 @@
+-- What ends as time passes, and the room that it leaves.
+use Rattle.std.proofs.Common.{◌≡◌, ◌≤◌, ◌<◌, ◌+◌, ℕ, Bool, true, false, List, [], ◌∷◌, ◌++◌, filter, find, length, map, not, refl, reverse, sym, ap, ◌∙◌, ◌⊎◌, inl, inr, arith}
+use Rattle.std.specs.Prelude.{◌&&◌, Option, Some, None, filter_map, option_to_list, slice_get}
+use Rattle.std.specs.List.{list_all}
+use Rattle.std.specs.declared.net.socket_addr.SocketAddr.{SocketAddr}
+use Rattle.turn_types.specs.declared.family.AddressFamily.{AddressFamily}
+use Rattle.turn_types.specs.declared.family.AddressFamily.TheVariants.{IPV4, IPV6}
+use Rattle.turn_client_api.specs.Grants.{allocation_in, connection_in, family_of, is_channel_of, is_of}
+use Rattle.turn_client_api.specs.declared.grant.DataConnection.{DataConnection}
+use Rattle.turn_client_api.specs.declared.grant.Grant.{Grant}
+use Rattle.turn_client_api.specs.declared.grant.Grant.TheVariants.{Allocation, Permission, Channel, Connect, Offer, Connection}
+use Rattle.turn_client_api.specs.declared.grant.Progress.TheVariants.{Active}
+use Rattle.turn_client_api.specs.declared.grant.Relay.{Relay}
+use Rattle.turn_client_grants.specs.Failures.{close_in, closes_aside, events_of, set_aside}
+use Rattle.turn_client_grants.proofs.PushLemmas.{few-of}
+use Rattle.turn_client_grants.proofs.RoomLemmas.{set_aside-filtered}
+use Rattle.turn_client_api.proofs.HasLemmas.{Has}
+use Rattle.std.proofs.lemmas.Bool.{and_parts, eq-eqb}
+use Rattle.turn_client_api.specs.Grants.{without}
+use Rattle.turn_client_api.specs.Poll.{goes, is_lapsed_channel, lapsed_allocation, lapsed_in, last_channel_lapsed}
+use Rattle.turn_client_api.specs.State.{State}
+use Rattle.turn_client_api.specs.declared.grant.Purpose.{Purpose}
+use Rattle.turn_client_grants.specs.Lapsed.{channel_ended}
+use Rattle.turn_client_grants.specs.Table.{is_allocation_of, is_numbered}
+use Rattle.turn_client_grants.specs.Which.{holds}
+use Rattle.turn_client_grants.specs.declared.which.Which.{Which}
+
+-- ---- closes
+
+pub closes-are : (which : Which) (grants : List Grant) → filter_map (close_in which) grants ≡ map (λ (c : DataConnection). c.local) (filter_map connection_in (filter (holds which) grants))
+unfolding close_in
+closes-are which [] = refl
+closes-are which (g ∷ others) = by (holds which g) (connection_in g) refl refl (closes-are which others)
+  where
+    by : (b : Bool) (found : Option DataConnection) → holds which g ≡ b → connection_in g ≡ found → filter_map (close_in which) others ≡ map (λ (c : DataConnection). c.local) (filter_map connection_in (filter (holds which) others))
+        → filter_map (close_in which) (g ∷ others) ≡ map (λ (c : DataConnection). c.local) (filter_map connection_in (filter (holds which) (g ∷ others)))
+    by true None e f rest = rw (e, f) rest
+    by true (Some c) e f rest = rw (e, f, rest) refl
+    by false found e f rest = rw e rest
+
+pub closes-left : (which : Which) (grants : List Grant) → length (filter_map (close_in which) grants) + closes_aside (filter (λ g. not (holds which g)) grants) ≤ closes_aside grants
+unfolding close_in
+closes-left which [] = omega arith
+closes-left which (g ∷ others) = by (holds which g) (connection_in g) refl refl (closes-left which others)
+  where
+    by : (b : Bool) (found : Option DataConnection) → holds which g ≡ b → connection_in g ≡ found
+        → length (filter_map (close_in which) others) + closes_aside (filter (λ g. not (holds which g)) others) ≤ closes_aside others
+        → length (filter_map (close_in which) (g ∷ others)) + closes_aside (filter (λ g. not (holds which g)) (g ∷ others)) ≤ closes_aside (g ∷ others)
+    by true None e f rest = rw (e, f) rest
+    by true (Some c) e f rest = rw (e, f) (omega (arith, rest))
+    by false None e f rest = rw (e, f) rest
+    by false (Some c) e f rest = rw (e, f) (omega (arith, rest))
+
+-- ---- the allocations
+
+count-of : (grants : List Grant) → length (filter_map allocation_in grants) ≡ length (filter (is_allocation_of IPV4) grants) + length (filter (is_allocation_of IPV6) grants)
+count-of [] = refl
+count-of (Allocation a ∷ others) = by (family_of a.relayed) refl (count-of others)
+  where
+    by : (family : AddressFamily) → family_of a.relayed ≡ family → length (filter_map allocation_in others) ≡ length (filter (is_allocation_of IPV4) others) + length (filter (is_allocation_of IPV6) others)
+        → length (filter_map allocation_in (Allocation a ∷ others)) ≡ length (filter (is_allocation_of IPV4) (Allocation a ∷ others)) + length (filter (is_allocation_of IPV6) (Allocation a ∷ others))
+    by IPV4 e rest = rw e (omega (arith, rest))
+    by IPV6 e rest = rw e (omega (arith, rest))
+count-of (Permission ip progress ∷ others) = count-of others
+count-of (Channel number peer progress ∷ others) = count-of others
+count-of (Connect peer ∷ others) = count-of others
+count-of (Offer offer ∷ others) = count-of others
+count-of (Connection c ∷ others) = count-of others
+
+two-of : (xs : List Relay) → length xs ≤ 2 → xs ≡ option_to_list (slice_get xs 0) ++ option_to_list (slice_get xs 1)
+two-of [] few = refl
+two-of (a ∷ []) few = refl
+two-of (a ∷ b ∷ []) few = refl
+two-of (a ∷ b ∷ c ∷ others) few = let no : ⊥ = omega (arith, few) in absurd no
+
+-- at most two allocations, the one of each family
+pub both-allocations : (grants : List Grant) → ((family : AddressFamily) → length (filter (is_allocation_of family) grants) ≤ 1)
+    → filter_map allocation_in grants ≡ option_to_list (slice_get (filter_map allocation_in grants) 0) ++ option_to_list (slice_get (filter_map allocation_in grants) 1)
+both-allocations grants few = two-of (filter_map allocation_in grants) (omega (arith, count-of grants, few IPV4, few IPV6))
+
+-- ---- whether an allocation goes
+
+pub goes-away : (given : Option ℕ) (purposes : List Purpose) (now : ℕ) (s : State) (a : Relay) → goes purposes now s a ≡ true → without (is_of (family_of a.relayed)) s ≡ lapsed_allocation given purposes now s a
+goes-away given purposes now s a e = rw e refl
+
+pub goes-not : (given : Option ℕ) (purposes : List Purpose) (now : ℕ) (s : State) (a : Relay) → goes purposes now s a ≡ false → lapsed_in (family_of a.relayed) given purposes now s ≡ lapsed_allocation given purposes now s a
+goes-not given purposes now s a e = rw e refl
+
+-- ---- a channel that is there
+
+pub ended-is : (family : AddressFamily) (now : ℕ) (s : State) (number : ℕ) (peer : SocketAddr) (expiry : ℕ) → find (λ g. is_of family g && is_lapsed_channel now g) (reverse s.grants) ≡ Some (Channel number peer (Active expiry))
+    → channel_ended number peer expiry s ≡ last_channel_lapsed family now s
+ended-is family now s number peer expiry found = rw found refl
+
+has-fewer : {X : Type 0} (p : X → Bool) (g : X) (xs : List X) → Has g xs → p g ≡ true → length (filter (λ x. not (p x)) xs) < length xs
+has-fewer p g [] has passes = absurd has
+has-fewer p g (x ∷ xs) has passes = by (p x) refl has (few-of (λ y. not (p y)) xs) (λ later. has-fewer p g xs later passes)
+  where
+    by : (b : Bool) → p x ≡ b → (g ≡ x) ⊎ Has g xs → length (filter (λ y. not (p y)) xs) ≤ length xs → (Has g xs → length (filter (λ y. not (p y)) xs) < length xs) → length (filter (λ y. not (p y)) (x ∷ xs)) < length (x ∷ xs)
+    by true e has few rest = rw e (omega (arith, few))
+    by false e (inl same) few rest = let no : false ≡ true = sym e ∙ (rw same at passes) in cc
+    by false e (inr later) few rest = rw e (omega (arith, rest later))
+
+pub ended-fewer : (number : ℕ) (peer : SocketAddr) (expiry : ℕ) (grants : List Grant) → Has (Channel number peer (Active expiry)) grants → length (filter (λ g. not (is_channel_of number g)) grants) < length grants
+ended-fewer number peer expiry grants has = has-fewer (is_channel_of number) (Channel number peer (Active expiry)) grants has (eq-eqb number number refl)
+
+pub ended-aside : (number : ℕ) (peer : SocketAddr) (expiry : ℕ) (grants : List Grant) → Has (Channel number peer (Active expiry)) grants → set_aside (filter (λ g. not (is_channel_of number g)) grants) + 2 ≤ set_aside grants
+ended-aside number peer expiry [] has = absurd has
+ended-aside number peer expiry (g ∷ others) has = by (is_channel_of number g) refl has (set_aside-filtered (λ h. not (is_channel_of number h)) others) (ended-aside number peer expiry others)
+  where
+    by : (b : Bool) → is_channel_of number g ≡ b → (Channel number peer (Active expiry) ≡ g) ⊎ Has (Channel number peer (Active expiry)) others → set_aside (filter (λ h. not (is_channel_of number h)) others) ≤ set_aside others
+        → (Has (Channel number peer (Active expiry)) others → set_aside (filter (λ h. not (is_channel_of number h)) others) + 2 ≤ set_aside others)
+        → set_aside (filter (λ h. not (is_channel_of number h)) (g ∷ others)) + 2 ≤ set_aside (g ∷ others)
+    by true e (inl same) less rest = let two : events_of g ≡ 2 = ap events_of (sym same) in rw e (omega (arith, two, less))
+    by true e (inr later) less rest = rw e (omega (arith, rest later))
+    by false e (inl same) less rest = let no : false ≡ true = sym e ∙ (ap (is_channel_of number) (sym same) ∙ eq-eqb number number refl) in cc
+    by false e (inr later) less rest = rw e (omega (arith, rest later))
+
+pub ended-numbered : (g : Grant) (grants : List Grant) → Has g grants → list_all is_numbered grants ≡ true → is_numbered g ≡ true
+ended-numbered g [] has all = absurd has
+ended-numbered g (h ∷ others) has all =
+    let parts = and_parts (is_numbered h) (list_all is_numbered others) all in
+    by has parts.0 (ended-numbered g others) parts.1
+  where
+    by : (g ≡ h) ⊎ Has g others → is_numbered h ≡ true → (Has g others → list_all is_numbered others ≡ true → is_numbered g ≡ true) → list_all is_numbered others ≡ true → is_numbered g ≡ true
+    by (inl same) here rest all = rw same here
+    by (inr later) here rest all = rest later all

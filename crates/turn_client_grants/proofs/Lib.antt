@@ -1,0 +1,10 @@
+pub mod AnswerLemmas
+pub mod ChangeLemmas
+pub mod LapseLemmas
+pub mod ListLemmas
+pub mod NumberLemmas
+pub mod PushLemmas
+pub mod RangeLemmas
+pub mod RefreshLemmas
+pub mod RoomLemmas
+pub mod TableLemmas

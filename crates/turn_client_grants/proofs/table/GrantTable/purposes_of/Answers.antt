@@ -1,0 +1,4 @@
+use Rattle.turn_client_grants.proofs.table.GrantTable.purposes_of.Goals as goal
+
+pub purposes_of-requires : goal.purposes_of-requires
+purposes_of-requires c = rw c.as_slice.ensures.value (c.self.invariant.requests c.args.id)

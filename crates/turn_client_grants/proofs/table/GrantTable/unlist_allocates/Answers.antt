@@ -1,0 +1,5 @@
+use Rattle.turn_client_grants.proofs.TableLemmas.{kept-unlisted}
+use Rattle.turn_client_grants.proofs.table.GrantTable.unlist_allocates.Goals as goal
+
+pub invariant_of-self : goal.invariant_of-self
+invariant_of-self c = rw c.unlist_allocates.ensures.items (kept-unlisted _ _ _ c.self.invariant)

@@ -1,0 +1,12 @@
+-- When something falls due in a list of grants.
+use Rattle.std.specs.Prelude.{ℕ, ◌++◌, List, map, max, flat_map, option_to_list}
+use Rattle.turn_client_api.specs.Due.{end_of, refresh_time}
+use Rattle.turn_client_api.specs.State.{State}
+use Rattle.turn_client_api.specs.declared.grant.Grant.{Grant}
+
+-- the end of the grant and its refresh, where no request goes out before the pause ends
+abbrev pub moments_of : ℕ → ℕ → State → Grant → List ℕ
+moments_of now pause s grant = end_of now grant ++ map (max pause) (option_to_list (refresh_time s grant))
+
+abbrev pub all_moments : ℕ → ℕ → State → List ℕ
+all_moments now pause s = flat_map (moments_of now pause s) s.grants

@@ -1,0 +1,9 @@
+pub mod Answered
+pub mod Due
+pub mod Failures
+pub mod Lapsed
+pub mod Ledger
+pub mod Lists
+pub mod Refresh
+pub mod Table
+pub mod Which

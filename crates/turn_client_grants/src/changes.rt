@@ -1,0 +1,211 @@
+//! How lists of grants and of requests change.
+
+ghost use Rattle.std.specs.Prelude.{◌≡◌, ◌≤◌, ◌<◌, ◌+◌, ◌++◌, ◌∷◌, [], true, filter, length, map, not, option_to_list, vec_capacity, vec_len};
+ghost use Rattle.turn_client_api.specs.Effect.{lasting};
+ghost use Rattle.turn_client_api.specs.Grants.{is_for_allocation, is_of_family};
+ghost use Rattle.turn_client_grants.specs.Table.{changed, listings, on_allocation, unlisted, with_deadline_at};
+ghost use Rattle.turn_client_grants.specs.Which.{holds, purposes_in};
+
+use crate::kind::is_of_family;
+use crate::listed::is_for_one;
+use crate::purposes::Purposes;
+use crate::which::Which;
+use std::net::SocketAddr;
+use turn_client_api::{DataConnection, Grant, Listing, Progress, Purpose, Relay};
+use turn_stun::instant::Instant;
+use turn_stun::transaction::TransactionId;
+use turn_types::AddressFamily;
+
+/// How grants change that keep their places.
+#[derive(Clone, Copy, Debug, PartialEq, Eq)]
+pub enum Change {
+    /// The allocation of this family is expired: it is used no more for sending.
+    Expire(AddressFamily),
+    /// All allocations are expired and end at this moment.
+    EndAll(Instant),
+    /// The allocation of this family ends at this moment.
+    Prolong(AddressFamily, Instant),
+    /// What is active of these lasts up to this moment.
+    Renew(Which, Instant),
+    /// The data connection from this local end is to be bound at this moment, or is bound.
+    Deadline(SocketAddr, Option<Instant>),
+}
+
+impl Change {
+    /// The grant after the change.
+    #[tactic(auto, unfolding(crate::specs::Table::changed))]
+    fn applied(&self, grant: &Grant) -> Grant
+        ensures { result ≡ changed self.now grant.now }
+    {
+        match self {
+            Change::Expire(family) => expired(*family, grant),
+            Change::EndAll(now) => ended(*now, grant),
+            Change::Prolong(family, expiry) => prolonged(*family, *expiry, grant),
+            Change::Renew(which, expiry) => {
+                if which.holds(grant) {
+                    return renewed(*expiry, grant);
+                }
+                *grant
+            }
+            Change::Deadline(local, deadline) => with_deadline(*local, *deadline, grant),
+        }
+    }
+}
+
+/// The grant, where the allocation of this family is expired.
+fn expired(family: AddressFamily, grant: &Grant) -> Grant
+    ensures { result ≡ on_allocation (λ a. is_of_family family a.relayed) (λ a. record a { is_expired = true }) grant.now }
+{
+    match grant {
+        Grant::Allocation(relay) => Grant::Allocation(Relay {
+            is_expired: relay.is_expired || is_of_family(family, relay.relayed),
+            ..*relay
+        }),
+        _ => *grant,
+    }
+}
+
+/// The grant, where all allocations are expired and end now.
+fn ended(now: Instant, grant: &Grant) -> Grant
+    ensures { result ≡ on_allocation (λ a. true) (λ a. record a { expiry = now; is_expired = true }) grant.now }
+{
+    match grant {
+        Grant::Allocation(relay) => Grant::Allocation(Relay {
+            expiry: now,
+            is_expired: true,
+            ..*relay
+        }),
+        _ => *grant,
+    }
+}
+
+/// The grant, where the allocation of this family ends at this moment.
+fn prolonged(family: AddressFamily, expiry: Instant, grant: &Grant) -> Grant
+    ensures { result ≡ on_allocation (λ a. is_of_family family a.relayed) (λ a. record a { expiry = expiry }) grant.now }
+{
+    let Grant::Allocation(relay) = grant else {
+        return *grant;
+    };
+    if is_of_family(family, relay.relayed) {
+        return Grant::Allocation(Relay { expiry, ..*relay });
+    }
+    *grant
+}
+
+/// The grant, which lasts up to this moment if it is active.
+fn renewed(expiry: Instant, grant: &Grant) -> Grant
+    ensures { result ≡ lasting expiry grant.now }
+{
+    match grant {
+        Grant::Permission(ip, Progress::Active(_)) => Grant::Permission(
+            *ip,
+            Progress::Active(expiry),
+        ),
+        Grant::Channel(number, peer, Progress::Active(_)) => {
+            Grant::Channel(*number, *peer, Progress::Active(expiry))
+        }
+        _ => *grant,
+    }
+}
+
+/// The grant, where the data connection from this local end has this deadline.
+fn with_deadline(local: SocketAddr, deadline: Option<Instant>, grant: &Grant) -> Grant
+    ensures { result ≡ with_deadline_at local deadline grant.now }
+{
+    let Grant::Connection(connection) = grant else {
+        return *grant;
+    };
+    if connection.local == local {
+        return Grant::Connection(DataConnection {
+            deadline,
+            ..*connection
+        });
+    }
+    *grant
+}
+
+/// Changes all grants that the change is about, which keep their places.
+pub(crate) fn apply(grants: &mut Vec<Grant>, change: &Change)
+    ensures items { grants.new.items ≡ map (changed change.now) grants.old.items }
+    ensures capacity { vec_capacity grants.new ≡ vec_capacity grants.old }
+    ensures len { vec_len grants.new ≡ vec_len grants.old }
+{
+    apply_all(grants.as_mut_slice(), change);
+}
+
+/// Changes all grants of the slice that the change is about.
+fn apply_all(grants: &mut [Grant], change: &Change)
+    ensures { grants.new ≡ map (changed change.now) grants.old }
+{
+    for grant in grants.iter_mut() {
+        *grant = change.applied(grant);
+    }
+}
+
+/// Adds a grant after all others, for which there is room.
+pub(crate) fn add(grants: &mut Vec<Grant>, grant: &Grant)
+    requires { vec_len grants.old < vec_capacity grants.old }
+    ensures items { grants.new.items ≡ grants.old.items ++ grant.now ∷ [] }
+    ensures capacity { vec_capacity grants.old ≤ vec_capacity grants.new }
+    ensures len { vec_len grants.new ≡ vec_len grants.old + 1 }
+{
+    let _ = grants.extend_from_slice(&[*grant]);
+}
+
+/// Takes away these grants.
+pub(crate) fn remove(grants: &mut Vec<Grant>, which: &Which)
+    ensures items { grants.new.items ≡ filter (λ g. not (holds which.now g)) grants.old.items }
+    ensures capacity { vec_capacity grants.new ≡ vec_capacity grants.old }
+    ensures len { vec_len grants.new ≤ vec_len grants.old }
+{
+    grants.retain(|grant| !which.holds(grant));
+}
+
+/// Takes away what is listed for these grants.
+pub(crate) fn unlist(listed: &mut Vec<Listing>, grants: &[Grant], which: &Which)
+    ensures items { listed.new.items ≡ unlisted (holds which.now) grants.now listed.old.items }
+    ensures capacity { vec_capacity listed.new ≡ vec_capacity listed.old }
+    ensures len { vec_len listed.new ≤ vec_len listed.old }
+{
+    listed.retain(|listing| !is_for_one(listing, grants, which));
+}
+
+/// Takes away what is listed for an ALLOCATE.
+pub(crate) fn unlist_allocates(listed: &mut Vec<Listing>)
+    ensures items { listed.new.items ≡ filter (λ l. not (is_for_allocation l.purpose)) listed.old.items }
+    ensures capacity { vec_capacity listed.new ≡ vec_capacity listed.old }
+    ensures len { vec_len listed.new ≤ vec_len listed.old }
+{
+    listed.retain(|listing| !is_for_allocation(&listing.purpose));
+}
+
+/// Whether a request for this is an ALLOCATE.
+fn is_for_allocation(purpose: &Purpose) -> bool
+    ensures { result ≡ is_for_allocation purpose.now }
+{
+    matches!(purpose, Purpose::ForAllocation)
+}
+
+/// Lists a purpose, where there is one.
+fn list_one(listed: &mut Vec<Listing>, id: TransactionId, purpose: &Option<Purpose>)
+    requires { vec_len listed.old + length (option_to_list purpose.now) ≤ vec_capacity listed.old }
+    ensures items { listed.new.items ≡ listed.old.items ++ listings id (option_to_list purpose.now) }
+    ensures capacity { vec_capacity listed.new ≡ vec_capacity listed.old }
+{
+    if let Some(purpose) = purpose {
+        listed.push_reserved(Listing {
+            id,
+            purpose: *purpose,
+        });
+    }
+}
+
+/// Lists a request of this ID that is made for these purposes, after all others.
+pub(crate) fn list(listed: &mut Vec<Listing>, id: TransactionId, purposes: &Purposes)
+    requires { vec_len listed.old + 2 ≤ vec_capacity listed.old }
+    ensures items { listed.new.items ≡ listed.old.items ++ listings id (purposes_in purposes.now) }
+    ensures capacity { vec_capacity listed.new ≡ vec_capacity listed.old }
+{
+    list_one(listed, id, &purposes.first);
+    list_one(listed, id, &purposes.second);
+}

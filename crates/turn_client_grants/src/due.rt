@@ -1,0 +1,173 @@
+//! When a grant ends, when it is to be refreshed, and the soonest of these moments.
+
+ghost use Rattle.std.specs.Option.{option_map_or};
+ghost use Rattle.std.specs.Prelude.{◌≡◌, ◌-◌, false, flat_map, fold, map, max, min, not, option_to_list};
+ghost use Rattle.turn_client_api.specs.Due.{end_of, is_refreshable, refresh_time, refresh_time_by_kind, refresh_time_of};
+ghost use Rattle.turn_client_api.specs.State.{State};
+ghost use Rattle.turn_client_grants.specs.Due.{moments_of};
+ghost use Rattle.turn_client_grants.specs.Lists.{allocation_among, with_lists};
+
+use crate::kind::{family_of, family_of_ip};
+use crate::listed::has_request;
+use crate::reads::allocation_of;
+use turn_client_api::{Grant, Listing, Progress, Relay};
+use turn_stun::instant::Instant;
+use turn_types::AddressFamily;
+
+/// How long before its end a grant is refreshed, in nanoseconds: 60 s (our choice; RFC 8656, section
+/// 8, asks for about a minute).
+const REFRESH_AHEAD: u64 = 60_000_000_000;
+
+/// An allocation whose first lifetime is at most 120 s, in nanoseconds, is refreshed half of that
+/// lifetime before it ends (our choice).
+const SHORT_LIFETIME: u64 = 120_000_000_000;
+
+/// The moment so many nanoseconds earlier, or the start of the clock where that is later.
+fn earlier(moment: Instant, nanos: u64) -> Instant
+    ensures { result ≡ moment - nanos }
+{
+    Instant::from_nanos(moment.as_nanos().saturating_sub(nanos))
+}
+
+/// When the allocation is to be refreshed.
+fn refresh_time_of(relay: &Relay) -> Instant
+    ensures { result ≡ refresh_time_of relay.now }
+{
+    if relay.first_lifetime <= SHORT_LIFETIME {
+        return earlier(relay.expiry, relay.first_lifetime / 2);
+    }
+    earlier(relay.expiry, REFRESH_AHEAD)
+}
+
+/// Whether there is an allocation of this family, and it is not expired.
+fn is_family_in_use(grants: &[Grant], family: AddressFamily) -> bool
+    ensures { result ≡ option_map_or (λ a. not a.is_expired) (allocation_among family grants.now) false }
+{
+    match allocation_of(grants, family) {
+        Some(relay) => !relay.is_expired,
+        None => false,
+    }
+}
+
+/// Whether the grant is in an allocation that is not expired.
+fn is_in_use(grants: &[Grant], listed: &[Listing], grant: &Grant) -> bool
+    ensures { (s : State) → result ≡ is_refreshable grant.now (with_lists grants.now listed.now s) }
+{
+    match grant {
+        Grant::Allocation(relay) => !relay.is_expired,
+        Grant::Permission(ip, _) => is_family_in_use(grants, family_of_ip(*ip)),
+        Grant::Channel(_, peer, _) => is_family_in_use(grants, family_of(*peer)),
+        Grant::Connect(peer) => is_family_in_use(grants, family_of(*peer)),
+        Grant::Offer(offer) => is_family_in_use(grants, family_of(offer.peer)),
+        Grant::Connection(connection) => is_family_in_use(grants, family_of(connection.peer)),
+    }
+}
+
+/// When a grant of its kind is refreshed, if ever.
+fn refresh_time_by_kind(grant: &Grant) -> Option<Instant>
+    ensures { result ≡ refresh_time_by_kind grant.now }
+{
+    match grant {
+        Grant::Allocation(relay) => Some(refresh_time_of(relay)),
+        Grant::Permission(_, Progress::Active(expiry)) => Some(earlier(*expiry, REFRESH_AHEAD)),
+        Grant::Permission(_, Progress::Pending) => None,
+        Grant::Permission(_, Progress::Reserved(_)) => None,
+        Grant::Channel(_, _, Progress::Active(expiry)) => Some(earlier(*expiry, REFRESH_AHEAD)),
+        Grant::Channel(_, _, Progress::Pending) => None,
+        Grant::Channel(_, _, Progress::Reserved(_)) => None,
+        Grant::Connect(_) => None,
+        Grant::Offer(_) => None,
+        Grant::Connection(_) => None,
+    }
+}
+
+/// When the grant is to be refreshed, or `None` where that is asked for already.
+#[tactic(auto, unfolding(turn_client_api::specs::Due::refresh_time))]
+pub(crate) fn refresh_time(grants: &[Grant], listed: &[Listing], grant: &Grant) -> Option<Instant>
+    ensures { (s : State) → result ≡ refresh_time (with_lists grants.now listed.now s) grant.now }
+{
+    let moment = refresh_time_by_kind(grant)?;
+    if !is_in_use(grants, listed, grant) {
+        return None;
+    }
+    if has_request(listed, grant) {
+        return None;
+    }
+    Some(moment)
+}
+
+/// The end of the grant, where that is to be waited for: that of an allocation which is past is not.
+fn end_of(grant: &Grant, now: Instant) -> Option<Instant>
+    ensures { option_to_list result ≡ end_of now grant.now }
+{
+    match grant {
+        Grant::Allocation(relay) => {
+            if now < relay.expiry {
+                return Some(relay.expiry);
+            }
+            None
+        }
+        Grant::Permission(_, Progress::Active(expiry)) => Some(*expiry),
+        Grant::Permission(_, Progress::Pending) => None,
+        Grant::Permission(_, Progress::Reserved(_)) => None,
+        Grant::Channel(_, _, Progress::Active(expiry)) => Some(*expiry),
+        Grant::Channel(_, _, Progress::Pending) => None,
+        Grant::Channel(_, _, Progress::Reserved(_)) => None,
+        Grant::Connect(_) => None,
+        Grant::Offer(_) => None,
+        Grant::Connection(connection) => connection.deadline,
+    }
+}
+
+/// The lesser of the moment and one that may be there.
+fn least(moment: Instant, other: Option<Instant>) -> Instant
+    ensures { result ≡ fold min moment (option_to_list other) }
+{
+    match other {
+        Some(other) => moment.min(other),
+        None => moment,
+    }
+}
+
+/// The moment, but not before the pause between two requests ends.
+fn after_pause(pause: Instant, moment: Option<Instant>) -> Option<Instant>
+    ensures { option_to_list result ≡ map (max pause) (option_to_list moment) }
+{
+    match moment {
+        Some(moment) => Some(pause.max(moment)),
+        None => None,
+    }
+}
+
+/// The least of the moment and of those of the grant.
+fn least_with(
+    moment: Instant,
+    grants: &[Grant],
+    listed: &[Listing],
+    grant: &Grant,
+    now: Instant,
+    pause: Instant,
+) -> Instant
+    ensures { (s : State) → result ≡ fold min moment (moments_of now pause (with_lists grants.now listed.now s) grant.now) }
+{
+    let end = end_of(grant, now);
+    let refresh = after_pause(pause, refresh_time(grants, listed, grant));
+    least(least(moment, end), refresh)
+}
+
+/// The least of the moment and of those of all grants.
+pub(crate) fn least_of(
+    moment: Instant,
+    grants: &[Grant],
+    listed: &[Listing],
+    now: Instant,
+    pause: Instant,
+) -> Instant
+    ensures { (s : State) → result ≡ fold min moment (flat_map (moments_of now pause (with_lists grants.now listed.now s)) grants.now) }
+{
+    let mut least = moment;
+    for grant in grants {
+        least = least_with(least, grants, listed, grant, now, pause);
+    }
+    least
+}

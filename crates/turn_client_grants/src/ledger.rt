@@ -1,0 +1,214 @@
+//! The grants, with the events and the closes that come of them.
+
+ghost use Rattle.std.specs.Prelude.{◌≡◌, ◌≤◌, ◌<◌, ◌+◌, ◌∷◌, ◌++◌, [], true, OnOk};
+ghost use Rattle.turn_client_api.specs.Effect.{renewed};
+ghost use Rattle.turn_client_api.specs.Grants.{failures_among, jump, unlisted, wait, with_grant, without};
+ghost use Rattle.turn_client_api.specs.Poll.{failed};
+ghost use Rattle.turn_client_api.specs.State.{State};
+ghost use Rattle.turn_client_grants.specs.Ledger.{IsApart, SameRoomBut, changed_by, on};
+ghost use Rattle.turn_client_grants.specs.Table.{is_numbered};
+ghost use Rattle.turn_client_grants.specs.Which.{holds};
+
+use crate::changes::Change;
+use crate::table::GrantTable;
+use crate::which::Which;
+use std::alloc::{AllocError, Global};
+use std::collections::VecDeque;
+use std::marker::Model;
+use std::net::SocketAddr;
+use turn_client_api::{Grant, TurnEvent};
+use turn_stun::instant::Instant;
+use turn_stun::transport::TransportType;
+
+mod answer;
+mod ask;
+mod connect;
+mod lapse;
+mod poll;
+
+/// The grants of a client, what its requests were made for, the events that wait to be polled, and the
+/// local ends of the data connections that the caller is to close.
+///
+/// Room for the events and closes that may yet come of a grant is set aside when the grant comes, so
+/// that nothing that ends as time passes takes memory.
+#[derive(Debug, Drop)]
+pub struct GrantLedger {
+    transport: TransportType,
+    table: GrantTable,
+    events: VecDeque<TurnEvent>,
+    closes: VecDeque<SocketAddr>,
+}
+
+impl Model for GrantLedger {
+    ghost use Rattle.std.specs.Prelude.{◌+◌, ◌-◌, ◌≤◌};
+    ghost use Rattle.std.specs.VecDeque.{deque_capacity, deque_len};
+    ghost use Rattle.turn_client_grants.specs.Failures.{IsSetAside, closes_aside, set_aside};
+    ghost use Rattle.turn_client_grants.specs.Ledger.{Ledger};
+
+    ghost Value = { Ledger };
+
+    ghost view = { λ l. record {
+      transport = l.transport;
+      grants = l.table.grants;
+      listed = l.table.listed;
+      events = l.events.items;
+      closes = l.closes.items;
+      grant_room = l.table.grant_room;
+      listing_room = l.table.listing_room;
+      event_room = deque_capacity l.events - (deque_len l.events + set_aside l.table.grants);
+      close_room = deque_capacity l.closes - (deque_len l.closes + closes_aside l.table.grants);
+    } };
+
+    ghost invariant = { λ l. IsSetAside l.table.grants (deque_len l.events) (deque_capacity l.events) (deque_len l.closes) (deque_capacity l.closes) };
+}
+
+impl GrantLedger {
+    /// A ledger with nothing in it. `transport` is what the server relays over.
+    pub fn new(transport: TransportType, alloc: Global) -> GrantLedger
+        ensures transport { result.transport ≡ transport }
+        ensures grants { result.grants ≡ [] }
+        ensures listed { result.listed ≡ [] }
+        ensures events { result.events ≡ [] }
+        ensures closes { result.closes ≡ [] }
+    {
+        GrantLedger {
+            transport,
+            table: GrantTable::new(alloc),
+            events: VecDeque::new(alloc),
+            closes: VecDeque::new(alloc),
+        }
+    }
+
+    /// What the server relays over, between a relayed address and the peers.
+    pub fn transport(&self) -> TransportType
+        ensures { result ≡ self.now.transport }
+    {
+        self.transport
+    }
+
+    /// The grants and the requests, to be read.
+    pub fn table(&self) -> &GrantTable
+        ensures grants { result.now.grants ≡ self.now.grants }
+        ensures listed { result.now.listed ≡ self.now.listed }
+    {
+        &self.table
+    }
+
+    /// Makes room for so many grants, listings and events more, and sets aside what may come of the
+    /// grants.
+    ///
+    /// # Errors
+    ///
+    /// `AllocError` where there is no memory. All stays as it was.
+    pub fn reserve(
+        &mut self,
+        grants: usize,
+        listings: usize,
+        events: usize,
+    ) -> Result<(), AllocError>
+        ensures same { (s : State) → on self.new s ≡ on self.old s }
+        ensures grant_room { OnOk result (grants ≤ self.new.grant_room) }
+        ensures listing_room { OnOk result (listings ≤ self.new.listing_room) }
+        ensures event_room { OnOk result (events ≤ self.new.event_room) }
+        ensures close_room { OnOk result (grants ≤ self.new.close_room) }
+    {
+        let Some(closes) = self.table.count().checked_add(grants) else {
+            return Err(AllocError);
+        };
+        let Some(twice) = closes.checked_mul(2) else {
+            return Err(AllocError);
+        };
+        let Some(all) = twice.checked_add(events) else {
+            return Err(AllocError);
+        };
+        self.table.reserve(grants, listings)?;
+        self.events.reserve(all)?;
+        self.closes.reserve(closes)?;
+        Ok(())
+    }
+}
+
+impl GrantLedger {
+    /// Tells the caller of this after all that waits.
+    pub fn tell(&mut self, event: TurnEvent)
+        requires { 0 < self.old.event_room }
+        ensures state { (s : State) → on self.new s ≡ wait (event ∷ []) (on self.old s) }
+        ensures room { SameRoomBut 0 1 self.old self.new }
+    {
+        self.events.push_back_reserved(event);
+    }
+
+    /// Tells the caller of this before all that waits.
+    pub fn tell_first(&mut self, event: TurnEvent)
+        requires { 0 < self.old.event_room }
+        ensures state { (s : State) → on self.new s ≡ jump (event ∷ []) (on self.old s) }
+        ensures room { SameRoomBut 0 1 self.old self.new }
+    {
+        self.events.push_front_reserved(event);
+    }
+
+    /// Takes away these grants, and nobody is told.
+    fn remove(&mut self, which: &Which)
+        ensures state { (s : State) → on self.new s ≡ without (holds which.now) (on self.old s) }
+        ensures room { SameRoomBut 0 0 self.old self.new }
+    {
+        self.table.remove(which);
+    }
+
+    /// Takes away these grants, and their failures wait after all events.
+    fn fail_back(&mut self, which: &Which)
+        ensures state { (s : State) → on self.new s ≡ wait (failures_among (holds which.now) (on self.old s)) (without (holds which.now) (on self.old s)) }
+        ensures room { SameRoomBut 0 0 self.old self.new }
+    {
+        self.table
+            .failures_back(&mut self.events, self.transport, which);
+        self.table.remove(which);
+    }
+
+    /// Takes away these grants, and their failures come before all events, one after the other.
+    fn fail_front(&mut self, which: &Which)
+        ensures state { (s : State) → on self.new s ≡ failed (holds which.now) (on self.old s) }
+        ensures room { SameRoomBut 0 0 self.old self.new }
+    {
+        self.table
+            .failures_front(&mut self.events, self.transport, which);
+        self.table.remove(which);
+    }
+
+    /// Changes grants, which keep their places.
+    fn change(&mut self, change: &Change)
+        ensures state { (s : State) → on self.new s ≡ changed_by change.now (on self.old s) }
+        ensures room { SameRoomBut 0 0 self.old self.new }
+    {
+        self.table.change(change);
+    }
+
+    /// Takes away what is listed for these grants, which may be asked for again.
+    fn unlist(&mut self, which: &Which)
+        ensures state { (s : State) → on self.new s ≡ unlisted (holds which.now) (on self.old s) }
+        ensures room { SameRoomBut 0 0 self.old self.new }
+    {
+        self.table.unlist(which);
+    }
+
+    /// What is active of these lasts up to this moment, and no request is listed for it any more.
+    fn renew(&mut self, which: &Which, expiry: Instant)
+        ensures state { (s : State) → on self.new s ≡ renewed (holds which.now) expiry (unlisted (holds which.now) (on self.old s)) }
+        ensures room { SameRoomBut 0 0 self.old self.new }
+    {
+        self.table.unlist(which);
+        self.table.change(&Change::Renew(*which, expiry));
+    }
+
+    /// Puts one grant after all others in the place of these.
+    fn replace(&mut self, which: &Which, grant: &Grant)
+        requires numbered { is_numbered grant.now ≡ true }
+        requires apart { IsApart grant.now }
+        requires room { 0 < self.old.grant_room }
+        requires aside { 2 ≤ self.old.event_room }
+        ensures state { (s : State) → on self.new s ≡ with_grant grant.now (without (holds which.now) (on self.old s)) }
+        ensures room { SameRoomBut 1 2 self.old self.new }
+    {
+        self.table.replace(which, grant);
+    }
+}

@@ -1,0 +1,254 @@
+//! What the server's signed reply to a request changes (RFC 8656, sections 8.3, 10.3 and 12.3; RFC 6062,
+//! section 4.3).
+
+ghost use Rattle.std.specs.Prelude.{ℕ, ◌≡◌, ◌≤◌, false, fold, option_to_list, true};
+ghost use Rattle.turn_client_api.specs.Effect.{active_channel_answered, active_permission_answered, channel_answered, connect_answered, pending_channel_answered, pending_permission_answered, permission_answered, permission_answered_for, listed_permissions_answered};
+ghost use Rattle.turn_client_api.specs.State.{State, later_by, seconds};
+ghost use Rattle.turn_client_grants.specs.Answered.{permission_granted};
+ghost use Rattle.turn_client_grants.specs.Ledger.{SameRoomBut, on};
+ghost use Rattle.turn_client_grants.specs.Table.{is_numbered};
+
+use crate::ledger::GrantLedger;
+use crate::which::Which;
+use std::net::{IpAddr, SocketAddr};
+use std::time::Duration;
+use turn_client_api::{Grant, Progress, Purpose, TurnEvent};
+use turn_stun::instant::Instant;
+use turn_stun::transaction::TransactionId;
+
+/// How long a permission lasts, in seconds (RFC 8656, section 9).
+const PERMISSION_SECONDS: u64 = 300;
+
+/// How long a channel lasts, in seconds (RFC 8656, section 12).
+const CHANNEL_SECONDS: u64 = 600;
+
+/// How long neither the number nor the peer of a channel that is over is bound again, in seconds
+/// (RFC 8656, section 12).
+pub(crate) const RESERVED_SECONDS: u64 = 300;
+
+/// The moment so many seconds later, or the greatest moment if that is earlier.
+pub(crate) fn later(moment: Instant, secs: u64) -> Instant
+    ensures { result ≡ later_by (seconds secs) moment }
+{
+    moment.plus(Duration::from_secs(secs))
+}
+
+impl GrantLedger {
+    /// The server answered for the permission for this IP address.
+    pub fn permission_answered(&mut self, ip: IpAddr, is_granted: bool, now: Instant)
+        requires grant_room { 1 ≤ self.old.grant_room }
+        requires event_room { 3 ≤ self.old.event_room }
+        ensures state { (s : State) → on self.new s ≡ permission_answered ip is_granted now (on self.old s) }
+        ensures room { SameRoomBut 1 3 self.old self.new }
+    {
+        let Some(progress) = self.table.permission_for(ip) else {
+            return;
+        };
+        match progress {
+            Progress::Pending => self.pending_permission_answered(ip, is_granted, now),
+            Progress::Active(_) => self.active_permission_answered(ip, is_granted, now),
+            Progress::Reserved(_) => {}
+        }
+    }
+
+    /// The server answered for a permission that was asked for.
+    fn pending_permission_answered(&mut self, ip: IpAddr, is_granted: bool, now: Instant)
+        requires grant_room { 1 ≤ self.old.grant_room }
+        requires event_room { 3 ≤ self.old.event_room }
+        ensures state { (s : State) → on self.new s ≡ pending_permission_answered ip is_granted now (on self.old s) }
+        ensures room { SameRoomBut 1 3 self.old self.new }
+    {
+        let transport = self.transport();
+        if is_granted {
+            return self.permission_granted(ip, later(now, PERMISSION_SECONDS));
+        }
+        self.remove(&Which::PermissionOf(ip));
+        self.tell(TurnEvent::PermissionCreateFailed(transport, ip));
+    }
+
+    /// A permission that was asked for stands from now on, after all other grants.
+    fn permission_granted(&mut self, ip: IpAddr, expiry: Instant)
+        requires grant_room { 1 ≤ self.old.grant_room }
+        requires event_room { 3 ≤ self.old.event_room }
+        ensures state { (s : State) → on self.new s ≡ permission_granted ip expiry (on self.old s) }
+        ensures room { SameRoomBut 1 3 self.old self.new }
+    {
+        let transport = self.transport();
+        self.replace(
+            &Which::PermissionOf(ip),
+            &Grant::Permission(ip, Progress::Active(expiry)),
+        );
+        self.tell(TurnEvent::PermissionCreated(transport, ip));
+    }
+
+    /// The server answered for a permission that was to be refreshed.
+    fn active_permission_answered(&mut self, ip: IpAddr, is_granted: bool, now: Instant)
+        requires event_room { 3 ≤ self.old.event_room }
+        ensures state { (s : State) → on self.new s ≡ active_permission_answered ip is_granted now (on self.old s) }
+        ensures room { SameRoomBut 1 3 self.old self.new }
+    {
+        let transport = self.transport();
+        if is_granted {
+            return self.renew(&Which::PermissionOf(ip), later(now, PERMISSION_SECONDS));
+        }
+        self.remove(&Which::PermissionOf(ip));
+        self.tell_first(TurnEvent::PermissionCreateFailed(transport, ip));
+    }
+
+    /// The server answered for the permission that the purpose names, if it names one.
+    fn permission_answered_for(&mut self, purpose: &Purpose, is_granted: bool, now: Instant)
+        requires grant_room { 1 ≤ self.old.grant_room }
+        requires event_room { 3 ≤ self.old.event_room }
+        ensures state { (s : State) → on self.new s ≡ permission_answered_for is_granted now (on self.old s) purpose.now }
+        ensures room { SameRoomBut 1 3 self.old self.new }
+    {
+        match purpose {
+            Purpose::ForPermission(ip) => self.permission_answered(*ip, is_granted, now),
+            Purpose::ForAllocation => {}
+            Purpose::ForRefresh(_, _) => {}
+            Purpose::ForChannel(_, _) => {}
+            Purpose::ForConnect(_) => {}
+            Purpose::ForBind(_, _, _) => {}
+        }
+    }
+
+    /// The server answered for the permission that the purpose names, if there is a purpose.
+    fn permission_answered_for_one(
+        &mut self,
+        purpose: &Option<Purpose>,
+        is_granted: bool,
+        now: Instant,
+    )
+        requires grant_room { 1 ≤ self.old.grant_room }
+        requires event_room { 3 ≤ self.old.event_room }
+        ensures state { (s : State) → on self.new s ≡ fold (permission_answered_for is_granted now) (on self.old s) (option_to_list purpose.now) }
+        ensures room { SameRoomBut 1 3 self.old self.new }
+    {
+        match purpose {
+            Some(purpose) => self.permission_answered_for(purpose, is_granted, now),
+            None => {}
+        }
+    }
+
+    /// The server answered for the permissions that the request of this ID was made for.
+    fn permissions_answered(&mut self, id: TransactionId, is_granted: bool, now: Instant)
+        requires grant_room { 2 ≤ self.old.grant_room }
+        requires event_room { 6 ≤ self.old.event_room }
+        ensures state { (s : State) → on self.new s ≡ listed_permissions_answered id is_granted now (on self.old s) }
+        ensures room { SameRoomBut 2 6 self.old self.new }
+    {
+        let purposes = self.table.purposes_of(id);
+        self.permission_answered_for_one(&purposes.first, is_granted, now);
+        self.permission_answered_for_one(&purposes.second, is_granted, now);
+    }
+
+    /// The server answered for the channel of this number, in a request of this ID. The binding brings
+    /// a permission, where one was asked for with it (RFC 8656, section 12.2), and a refusal takes it.
+    pub fn channel_answered(
+        &mut self,
+        number: u16,
+        id: TransactionId,
+        is_granted: bool,
+        now: Instant,
+    )
+        requires grant_room { 3 ≤ self.old.grant_room }
+        requires event_room { 9 ≤ self.old.event_room }
+        ensures state { (s : State) → on self.new s ≡ channel_answered number id is_granted now (on self.old s) }
+        ensures room { SameRoomBut 3 9 self.old self.new }
+    {
+        let Some(peer) = self.table.channel_owner(number) else {
+            return;
+        };
+        let Some(progress) = self.table.channel_progress(number) else {
+            return;
+        };
+        match progress {
+            Progress::Pending => self.pending_channel_answered(number, peer, id, is_granted, now),
+            Progress::Active(expiry) => {
+                self.active_channel_answered(number, peer, expiry, is_granted, now)
+            }
+            Progress::Reserved(_) => {}
+        }
+    }
+
+    /// The server answered for a channel to the peer that was asked for.
+    fn pending_channel_answered(
+        &mut self,
+        number: u16,
+        peer: SocketAddr,
+        id: TransactionId,
+        is_granted: bool,
+        now: Instant,
+    )
+        requires numbered { is_numbered (Grant.Channel number peer Progress.Pending) ≡ true }
+        requires grant_room { 3 ≤ self.old.grant_room }
+        requires event_room { 9 ≤ self.old.event_room }
+        ensures state { (s : State) → on self.new s ≡ pending_channel_answered number peer id is_granted now (on self.old s) }
+        ensures room { SameRoomBut 3 9 self.old self.new }
+    {
+        if is_granted {
+            return self.channel_granted(number, peer, id, now);
+        }
+        self.channel_refused(number, peer, id);
+    }
+
+    /// A channel that was asked for stands from now on, after all other grants, and its permission too.
+    fn channel_granted(&mut self, number: u16, peer: SocketAddr, id: TransactionId, now: Instant)
+        requires numbered { is_numbered (Grant.Channel number peer Progress.Pending) ≡ true }
+        requires grant_room { 3 ≤ self.old.grant_room }
+        requires event_room { 9 ≤ self.old.event_room }
+        ensures state { (s : State) → on self.new s ≡ pending_channel_answered number peer id true now (on self.old s) }
+        ensures room { SameRoomBut 3 9 self.old self.new }
+    {
+        let transport = self.transport();
+        self.permissions_answered(id, true, now);
+        self.replace(
+            &Which::ChannelOf(number),
+            &Grant::Channel(number, peer, Progress::Active(later(now, CHANNEL_SECONDS))),
+        );
+        self.tell(TurnEvent::ChannelCreated(transport, peer));
+    }
+
+    /// A channel that was asked for is refused, and so is the permission that was to come with it.
+    fn channel_refused(&mut self, number: u16, peer: SocketAddr, id: TransactionId)
+        requires event_room { 9 ≤ self.old.event_room }
+        ensures state { (s : State) (now : ℕ) → on self.new s ≡ pending_channel_answered number peer id false now (on self.old s) }
+        ensures room { SameRoomBut 3 9 self.old self.new }
+    {
+        let transport = self.transport();
+        let purposes = self.table.purposes_of(id);
+        self.remove(&Which::ChannelOf(number));
+        self.tell(TurnEvent::ChannelCreateFailed(transport, peer));
+        self.fail_back(&Which::PendingPermissionsOf(purposes));
+    }
+
+    /// The server answered for a channel to the peer that was to be refreshed.
+    fn active_channel_answered(
+        &mut self,
+        number: u16,
+        peer: SocketAddr,
+        expiry: Instant,
+        is_granted: bool,
+        now: Instant,
+    )
+        requires numbered { is_numbered (Grant.Channel number peer Progress.Pending) ≡ true }
+        requires grant_room { 3 ≤ self.old.grant_room }
+        requires event_room { 9 ≤ self.old.event_room }
+        ensures state { (s : State) → on self.new s ≡ active_channel_answered number peer expiry is_granted now (on self.old s) }
+        ensures room { SameRoomBut 3 9 self.old self.new }
+    {
+        let transport = self.transport();
+        if is_granted {
+            return self.renew(&Which::ChannelOf(number), later(now, CHANNEL_SECONDS));
+        }
+        self.replace(
+            &Which::ChannelOf(number),
+            &Grant::Channel(
+                number,
+                peer,
+                Progress::Reserved(later(expiry, RESERVED_SECONDS)),
+            ),
+        );
+        self.tell(TurnEvent::ChannelCreateFailed(transport, peer));
+    }
+}

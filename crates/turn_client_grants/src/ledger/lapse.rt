@@ -1,0 +1,167 @@
+//! What ends as time passes (RFC 8656, sections 8 to 12; RFC 6062, section 4.3). None of it takes memory.
+
+ghost use Rattle.std.specs.Prelude.{◌≡◌, ◌≤◌, ◌<◌, ◌+◌, filter, fold, length, not, option_to_list, true};
+ghost use Rattle.turn_client_api.specs.Grants.{is_channel_of};
+ghost use Rattle.turn_client_api.specs.Poll.{given_up_purposes, goes, lapsed, lapsed_allocation, lapsed_in, last_channel_lapsed, unbound};
+ghost use Rattle.turn_client_api.specs.State.{State};
+ghost use Rattle.turn_client_grants.specs.Failures.{set_aside};
+ghost use Rattle.turn_client_grants.specs.Lapsed.{channel_ended, lapsed_each};
+ghost use Rattle.turn_client_grants.specs.Ledger.{SameRoomBut, on};
+ghost use Rattle.turn_client_grants.specs.Table.{is_numbered};
+ghost use Rattle.turn_client_grants.specs.Which.{holds, purposes_in};
+
+use crate::kind::family_of;
+use crate::ledger::GrantLedger;
+use crate::ledger::answer::{RESERVED_SECONDS, later};
+use crate::purposes::Purposes;
+use crate::which::Which;
+use std::net::SocketAddr;
+use turn_client_api::{Grant, Progress, Relay, TurnEvent};
+use turn_stun::instant::Instant;
+use turn_stun::transaction::TransactionId;
+use turn_types::AddressFamily;
+
+impl GrantLedger {
+    /// All that ends at this moment or earlier, allocation by allocation in the order in which the
+    /// server granted them, and what was asked for by the request that was given up, if there is one.
+    pub fn lapse(&mut self, given: Option<TransactionId>, now: Instant)
+        ensures state { (s : State) → on self.new s ≡ lapsed given now (on self.old s) }
+        ensures room { SameRoomBut 0 0 self.old self.new }
+    {
+        let purposes = self.given_up_purposes(&given);
+        let first = self.table.allocation_at(0);
+        let second = self.table.allocation_at(1);
+        self.lapse_one(&first, &given, &purposes, now);
+        self.lapse_one(&second, &given, &purposes, now);
+    }
+
+    /// What the request that was given up was made for, if there is one.
+    fn given_up_purposes(&self, given: &Option<TransactionId>) -> Purposes
+        ensures { (s : State) → purposes_in result ≡ given_up_purposes given.now (on self.now s) }
+    {
+        match given {
+            Some(id) => self.table.purposes_of(*id),
+            None => Purposes::none(),
+        }
+    }
+
+    /// What ends in the allocation, if there is one.
+    fn lapse_one(
+        &mut self,
+        relay: &Option<Relay>,
+        given: &Option<TransactionId>,
+        purposes: &Purposes,
+        now: Instant,
+    )
+        ensures state { (s : State) → on self.new s ≡ lapsed_each given.now (purposes_in purposes.now) now (on self.old s) (option_to_list relay.now) }
+        ensures room { SameRoomBut 0 0 self.old self.new }
+    {
+        match relay {
+            Some(relay) => self.lapse_allocation(relay, given, purposes, now),
+            None => {}
+        }
+    }
+
+    /// The allocation goes with all that is in it, or what ends in it does.
+    fn lapse_allocation(
+        &mut self,
+        relay: &Relay,
+        given: &Option<TransactionId>,
+        purposes: &Purposes,
+        now: Instant,
+    )
+        ensures state { (s : State) → on self.new s ≡ lapsed_allocation given.now (purposes_in purposes.now) now (on self.old s) relay.now }
+        ensures room { SameRoomBut 0 0 self.old self.new }
+    {
+        let goes = self.goes(relay, purposes, now);
+        if goes {
+            return self.remove(&Which::OfFamily(family_of(relay.relayed)));
+        }
+        self.lapse_in(family_of(relay.relayed), given, purposes, now);
+    }
+
+    /// Whether the allocation goes: at its end, unless it is expired and a request for it still awaits
+    /// its response.
+    fn goes(&self, relay: &Relay, purposes: &Purposes, now: Instant) -> bool
+        ensures { (s : State) → result ≡ goes (purposes_in purposes.now) now (on self.now s) relay.now }
+    {
+        let grant = Grant::Allocation(*relay);
+        relay.expiry <= now
+            && (purposes.are_for(&grant) || !self.table.has_request(&grant) || !relay.is_expired)
+    }
+
+    /// What ends in the allocation of this family, which stays, from the inside out.
+    fn lapse_in(
+        &mut self,
+        family: AddressFamily,
+        given: &Option<TransactionId>,
+        purposes: &Purposes,
+        now: Instant,
+    )
+        ensures state { (s : State) → on self.new s ≡ lapsed_in family given.now (purposes_in purposes.now) now (on self.old s) }
+        ensures room { SameRoomBut 0 0 self.old self.new }
+    {
+        self.fail_front(&Which::PendingChannelsIn(family, *purposes));
+        self.fail_front(&Which::PendingPermissionsIn(family, *purposes));
+        self.lapse_channel(family, now);
+        self.fail_front(&Which::LapsedPermissions(family, now));
+        self.fail_front(&Which::ConnectsIn(family, *purposes));
+        self.unbind(&Which::UnboundIn(family, now, *purposes));
+        self.fail_front(&Which::OffersIn(family, *given));
+        self.unlist(&Which::AskedIn(family, *purposes));
+        self.remove(&Which::FreedChannels(family, now));
+    }
+
+    /// The last channel of this family that ends at this moment or earlier, one a call: its failure
+    /// jumps, and its number and peer are reserved (RFC 8656, section 12).
+    fn lapse_channel(&mut self, family: AddressFamily, now: Instant)
+        ensures state { (s : State) → on self.new s ≡ last_channel_lapsed family now (on self.old s) }
+        ensures room { SameRoomBut 0 0 self.old self.new }
+    {
+        let Some(found) = self.table.last_lapsed_channel(family, now) else {
+            return;
+        };
+        match &found {
+            Grant::Channel(number, peer, progress) => match progress {
+                Progress::Active(expiry) => self.end_channel(*number, *peer, *expiry),
+                Progress::Pending => {}
+                Progress::Reserved(_) => {}
+            },
+            Grant::Allocation(_) => {}
+            Grant::Permission(_, _) => {}
+            Grant::Connect(_) => {}
+            Grant::Offer(_) => {}
+            Grant::Connection(_) => {}
+        }
+    }
+
+    /// A channel that is there and active ends, and takes no room but its own.
+    fn end_channel(&mut self, number: u16, peer: SocketAddr, expiry: Instant)
+        requires numbered { is_numbered (Grant.Channel number peer Progress.Pending) ≡ true }
+        requires fewer { length (filter (λ g. not (is_channel_of number g)) self.old.grants) < length self.old.grants }
+        requires aside { set_aside (filter (λ g. not (is_channel_of number g)) self.old.grants) + 2 ≤ set_aside self.old.grants }
+        ensures state { (s : State) → on self.new s ≡ channel_ended number peer expiry (on self.old s) }
+        ensures room { SameRoomBut 0 0 self.old self.new }
+    {
+        let transport = self.transport();
+        let until = later(expiry, RESERVED_SECONDS);
+        self.table.replace(
+            &Which::ChannelOf(number),
+            &Grant::Channel(number, peer, Progress::Reserved(until)),
+        );
+        self.events
+            .push_front_reserved(TurnEvent::ChannelCreateFailed(transport, peer));
+    }
+
+    /// Data connections that are not bound: their failures jump, and the caller is to close them after
+    /// all others that it is to close.
+    fn unbind(&mut self, which: &Which)
+        ensures state { (s : State) → on self.new s ≡ unbound (holds which.now) (on self.old s) }
+        ensures room { SameRoomBut 0 0 self.old self.new }
+    {
+        self.table.closes_back(&mut self.closes, which);
+        self.table
+            .failures_front(&mut self.events, self.transport, which);
+        self.table.remove(which);
+    }
+}

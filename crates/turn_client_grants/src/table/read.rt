@@ -1,0 +1,226 @@
+//! What is read off a table.
+
+ghost use Rattle.std.specs.Prelude.{◌≡◌, ◌==◌, ◌&&◌, map, filter, filter_map, find, fold, length, min, nat_le, nat_lt, option_map, reverse, slice_get, true, IfSome};
+ghost use Rattle.std.specs.List.{list_all, list_any};
+ghost use Rattle.turn_client_api.specs.Addresses.{permitted_left, permitted_in_use, relayed_left, relayed_in_use};
+ghost use Rattle.turn_client_api.specs.Calls.{active_channel, bound_to, channels_to, free_number, is_in_progress, offer_origin, reserved_from};
+ghost use Rattle.turn_client_api.specs.Connections.{connection_at, is_connected, is_connecting, is_indicated};
+ghost use Rattle.turn_client_api.specs.Grants.{allocation_of, allocations, channel_at, channel_peer, allocation_in, connection_in, first_in, is_for, is_of, is_listed, permission_progress};
+ghost use Rattle.turn_client_api.specs.Poll.{is_lapsed_channel};
+ghost use Rattle.turn_client_api.specs.State.{State};
+ghost use Rattle.turn_client_api.specs.declared.grant.Grant.TheVariants.{Channel};
+ghost use Rattle.turn_client_api.specs.declared.grant.Progress.TheVariants.{Pending};
+ghost use Rattle.turn_client_grants.specs.Due.{all_moments};
+ghost use Rattle.turn_client_grants.specs.Lists.{both_of, first_among};
+ghost use Rattle.turn_client_grants.specs.Refresh.{first_refresh};
+ghost use Rattle.turn_client_grants.specs.Table.{is_numbered, with_table};
+ghost use Rattle.turn_client_grants.specs.Which.{purposes_in};
+
+use crate::purposes::Purposes;
+use crate::table::GrantTable;
+use crate::{connections, due, listed, reads, refresh};
+use std::net::{IpAddr, SocketAddr};
+use turn_client_api::{
+    DataConnection, Grant, Origin, PermissionAddressesIter, Progress, Purpose, Relay,
+    RelayedAddressesIter,
+};
+use turn_stun::instant::Instant;
+use turn_stun::transaction::TransactionId;
+use turn_stun::transport::TransportType;
+use turn_types::AddressFamily;
+
+impl GrantTable {
+    /// The allocation of this family, whether or not it is expired.
+    pub fn allocation_of(&self, family: AddressFamily) -> Option<Relay>
+        ensures { (s : State) → result ≡ allocation_of family (with_table self.now s) }
+    {
+        reads::allocation_of(self.grants.as_slice(), family)
+    }
+
+    /// The allocation at this place, 0 or 1, in the order in which the server granted them. There are at
+    /// most two, one of each address family.
+    pub(crate) fn allocation_at(&self, place: usize) -> Option<Relay>
+        ensures found { result ≡ slice_get (filter_map allocation_in self.now.grants) place }
+        ensures both { filter_map allocation_in self.now.grants ≡ both_of (filter_map allocation_in self.now.grants) }
+    {
+        reads::allocation_at(self.grants.as_slice(), place)
+    }
+
+    /// The last channel of this family that is active up to this moment or an earlier one.
+    pub(crate) fn last_lapsed_channel(&self, family: AddressFamily, now: Instant) -> Option<Grant>
+        ensures found { result ≡ find (λ g. is_of family g && is_lapsed_channel now g) (reverse self.now.grants) }
+        ensures numbers { list_all is_numbered self.now.grants ≡ true }
+    {
+        reads::last_lapsed_channel(self.grants.as_slice(), family, now)
+    }
+
+    /// Whether some request was made for the grant.
+    pub(crate) fn has_request(&self, grant: &Grant) -> bool
+        ensures { result ≡ list_any (λ l. is_for l.purpose grant.now) self.now.listed }
+    {
+        listed::has_request(self.listed.as_slice(), grant)
+    }
+
+    /// The relayed addresses of the allocations that are not expired, in the order in which the server
+    /// granted them. `transport` is what they relay over.
+    pub fn relayed_addresses(&self, transport: TransportType) -> RelayedAddressesIter<'_>
+        ensures { relayed_left result ≡ relayed_in_use transport self.now.grants }
+    {
+        RelayedAddressesIter::new(transport, self.grants.as_slice())
+    }
+
+    /// The IP addresses of this family with an active permission, in the order in which the server
+    /// granted them (RFC 8656, section 9).
+    pub fn permitted_addresses(&self, family: AddressFamily) -> PermissionAddressesIter<'_>
+        ensures { permitted_left result ≡ permitted_in_use family self.now.grants }
+    {
+        PermissionAddressesIter::new(family, self.grants.as_slice())
+    }
+
+    /// How many grants there are.
+    pub fn count(&self) -> usize
+        ensures { result ≡ length self.now.grants }
+    {
+        self.grants.len()
+    }
+
+    /// How far the permission for this IP address has come.
+    pub fn permission_for(&self, ip: IpAddr) -> Option<Progress>
+        ensures { result ≡ first_among (permission_progress ip) self.now.grants }
+    {
+        reads::permission_for(self.grants.as_slice(), ip)
+    }
+
+    /// The peer of the channel of this number, however far it has come. The number is one that a client
+    /// may bind (RFC 8656, section 12).
+    pub fn channel_owner(&self, number: u16) -> Option<SocketAddr>
+        ensures found { result ≡ option_map (λ found. found.0) (first_among (channel_at number) self.now.grants) }
+        ensures numbered { IfSome result (λ peer. is_numbered (Channel number peer Pending) ≡ true) }
+    {
+        reads::channel_owner(self.grants.as_slice(), number)
+    }
+
+    /// How far the channel of this number has come.
+    pub fn channel_progress(&self, number: u16) -> Option<Progress>
+        ensures { result ≡ option_map (λ found. found.1) (first_among (channel_at number) self.now.grants) }
+    {
+        reads::channel_progress(self.grants.as_slice(), number)
+    }
+
+    /// The peer of the active channel of this number.
+    pub fn channel_peer(&self, number: u16) -> Option<SocketAddr>
+        ensures { (s : State) → result ≡ first_in (channel_peer number) (with_table self.now s) }
+    {
+        reads::channel_peer(self.grants.as_slice(), number)
+    }
+
+    /// The number and the expiry of the first active channel to the peer. The number is one that a
+    /// client may bind (RFC 8656, section 12).
+    pub fn active_channel(&self, peer: SocketAddr) -> Option<(u16, Instant)>
+        ensures found { (s : State) → result ≡ first_in (active_channel peer) (with_table self.now s) }
+        ensures numbered { IfSome result (λ found. (nat_le 0x4000 found.0 && nat_lt found.0 0x5000) ≡ true) }
+    {
+        reads::active_channel(self.grants.as_slice(), peer)
+    }
+
+    /// Whether a channel to the peer is pending or active.
+    pub fn has_channel(&self, peer: SocketAddr) -> bool
+        ensures { (s : State) → result ≡ list_any is_in_progress (channels_to peer (with_table self.now s)) }
+    {
+        reads::has_channel(self.grants.as_slice(), peer)
+    }
+
+    /// Up to when a reserved channel keeps the peer from being bound, if that is now or later. Of
+    /// several it is the first in the table.
+    pub fn reserved_until(&self, peer: SocketAddr, now: Instant) -> Option<Instant>
+        ensures { (s : State) → result ≡ slice_get (filter_map (reserved_from now) (channels_to peer (with_table self.now s))) 0 }
+    {
+        reads::reserved_until(self.grants.as_slice(), peer, now)
+    }
+
+    /// The least channel number that no channel has, also none that is pending or reserved, in any
+    /// allocation.
+    pub fn free_number(&self) -> Option<u16>
+        ensures { (s : State) → result ≡ free_number (with_table self.now s) }
+    {
+        reads::free_number(self.grants.as_slice())
+    }
+
+    /// The data connection from this local end.
+    pub fn connection_at(&self, local: SocketAddr) -> Option<DataConnection>
+        ensures { (s : State) → result ≡ connection_at local (with_table self.now s) }
+    {
+        connections::connection_at(self.grants.as_slice(), local)
+    }
+
+    /// The first data connection to the peer that is bound (RFC 6062, section 4.3).
+    pub fn bound_connection(&self, peer: SocketAddr) -> Option<DataConnection>
+        ensures { result ≡ find (bound_to peer) (filter_map connection_in self.now.grants) }
+    {
+        connections::bound_connection(self.grants.as_slice(), peer)
+    }
+
+    /// Whether a data connection to the peer is there, or the caller is to open it.
+    pub fn is_connected(&self, peer: SocketAddr) -> bool
+        ensures { (s : State) → result ≡ is_connected peer (with_table self.now s) }
+    {
+        connections::is_connected(self.grants.as_slice(), peer)
+    }
+
+    /// Whether a data connection to the peer is asked for.
+    pub fn is_connecting(&self, peer: SocketAddr) -> bool
+        ensures { (s : State) → result ≡ is_connecting peer (with_table self.now s) }
+    {
+        connections::is_connecting(self.grants.as_slice(), peer)
+    }
+
+    /// Why the offer of this number and this peer was made.
+    pub fn offer_origin(&self, id: u32, peer: SocketAddr) -> Option<Origin>
+        ensures { (s : State) → result ≡ offer_origin id peer (with_table self.now s) }
+    {
+        connections::offer_origin(self.grants.as_slice(), id, peer)
+    }
+
+    /// How many offers there are that the server told of in indications.
+    pub fn indicated_count(&self) -> usize
+        ensures { result ≡ length (filter is_indicated self.now.grants) }
+    {
+        connections::indicated_count(self.grants.as_slice())
+    }
+
+    /// What the request of this ID was made for.
+    pub fn purposes_of(&self, id: TransactionId) -> Purposes
+        ensures { purposes_in result ≡ map (λ l. l.purpose) (filter (λ l. l.id == id) self.now.listed) }
+    {
+        listed::purposes_of(self.listed.as_slice(), id)
+    }
+
+    /// Whether a request of this ID is listed, or one of the server that is to be answered has it.
+    pub fn is_listed(&self, id: TransactionId) -> bool
+        ensures { (s : State) → result ≡ is_listed id (with_table self.now s) }
+    {
+        listed::has_id(self.listed.as_slice(), id)
+            || connections::has_of_request(self.grants.as_slice(), id)
+    }
+
+    /// The soonest of the moment and of those at which a grant ends or is to be refreshed, where no
+    /// request goes out before the pause ends.
+    pub fn soonest(&self, moment: Instant, now: Instant, pause: Instant) -> Instant
+        ensures { (s : State) → result ≡ fold min moment (all_moments now pause (with_table self.now s)) }
+    {
+        due::least_of(
+            moment,
+            self.grants.as_slice(),
+            self.listed.as_slice(),
+            now,
+            pause,
+        )
+    }
+
+    /// What is to be refreshed first.
+    pub fn first_refresh(&self, now: Instant) -> Option<Purpose>
+        ensures { (s : State) → result ≡ slice_get (filter_map (first_refresh now (with_table self.now s)) (allocations (with_table self.now s))) 0 }
+    {
+        refresh::first_refresh(self.grants.as_slice(), self.listed.as_slice(), now)
+    }
+}
