@@ -1,5 +1,5 @@
 -- What the calls leave standing: without a message of the server nothing is granted.
-use Rattle.std.proofs.Common.{◌≡◌, ℕ, Bool, true, false, not, cond, leb, eqb, ◌&&◌, ◌||◌, List, [], ◌∷◌, ◌++◌, map, Option, Some, None, Result, Err, refl, inl, inr, arith}
+use Rattle.std.proofs.Common.{◌≡◌, ℕ, Bool, true, false, not, cond, leb, eqb, ◌&&◌, ◌||◌, List, [], ◌∷◌, ◌++◌, map, Option, Some, None, Result, Err, refl, inl, inr}
 use Rattle.std.specs.Prelude.{is_some, find, filter_map}
 use Rattle.std.specs.List.{list_any}
 use Rattle.std.specs.Option.{option_map_or}
@@ -111,8 +111,8 @@ expired-kept : (family : AddressFamily) (g : Grant) → IsStanding (expired_of f
 expired-kept family (Allocation a) = by (is_of_family family a.relayed)
   where
     by : (b : Bool) → IsStanding (cond b (Allocation (record a { is_expired = true })) (Allocation a)) → IsKeptAs (Allocation a) (cond b (Allocation (record a { is_expired = true })) (Allocation a))
-    by true stands = (refl, omega arith)
-    by false stands = (refl, omega arith)
+    by true stands = (refl, refl)
+    by false stands = (refl, refl)
 expired-kept family (Permission ip progress) = kept-same (Permission ip progress)
 expired-kept family (Channel number peer progress) = kept-same (Channel number peer progress)
 expired-kept family (Connect peer) = kept-same (Connect peer)

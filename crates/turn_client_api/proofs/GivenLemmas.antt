@@ -16,7 +16,7 @@ pub record IsGivenOf (purposes : List Purpose) (message : List ℕ) (now : ℕ) 
 abbrev pub IsGiven : List Purpose → List ℕ → ℕ → Grant → Type 0
 IsGiven purposes message now g = (was : Grant) × IsGivenOf purposes message now was × IsKeptAs was g
 
--- All that stands in the second list stood in the first, and ended no earlier there, or was given.
+-- All that stands in the second list stood in the first, with the same end, or was given.
 abbrev pub Gives : List Purpose → List ℕ → ℕ → List Grant → List Grant → Type 0
 Gives purposes message now grants later = (g : Grant) → Has g later → IsStanding g → Covers grants g ⊎ IsGiven purposes message now g
 

@@ -272,13 +272,14 @@ indicated-leaves message s = by (connection_id_in message) refl (peer_in message
 
 -- ---- a whole message
 
-pub message-brings : (g : Grant) (message : List ℕ) (now : ℕ) (s : State) → Covers (message_step message now s).1.grants g → Covers s.grants g ⊎ IsGrant g message now s
-message-brings g message now s = by (judgement_of s message) refl
+-- a success that is judged so grants it
+pub message-grants : (g : Grant) (message : List ℕ) (now : ℕ) (s : State) → Covers (message_step message now s).1.grants g → Covers s.grants g ⊎ ((judgement_of s message ≡ SignedSuccess) × IsGrant g message now s)
+message-grants g message now s = by (judgement_of s message) refl
   where
-    Brings : Type 0
-    Brings = Covers (message_step message now s).1.grants g → Covers s.grants g ⊎ IsGrant g message now s
+    Brings : Judgement → Type 0
+    Brings j = Covers (message_step message now s).1.grants g → Covers s.grants g ⊎ ((j ≡ SignedSuccess) × IsGrant g message now s)
 
-    left : (t : State) → Leaves s t → Covers t.grants g → Covers s.grants g ⊎ IsGrant g message now s
+    left : {X : Type 0} (t : State) → Leaves s t → Covers t.grants g → Covers s.grants g ⊎ X
     left t leaves covers = inl (covers-left s.grants t.grants g leaves covers)
 
     indicated : (o : Option State) → IfSome o (Leaves s) → Leaves s (option_map_or {T = State} {U = Outcome × State} (λ t. (Handled, t)) o (Ignored, s)).1
@@ -289,21 +290,24 @@ message-brings g message now s = by (judgement_of s message) refl
     asked true = requested-leaves message s
     asked false = leaves-same s
 
-    granted : judgement_of s message ≡ SignedSuccess → Covers s.grants g ⊎ IsGiven (asked_for message s) message now g → Covers s.grants g ⊎ IsGrant g message now s
+    granted : judgement_of s message ≡ SignedSuccess → Covers s.grants g ⊎ IsGiven (asked_for message s) message now g → Covers s.grants g ⊎ ((SignedSuccess ≡ SignedSuccess) × IsGrant g message now s)
     granted e (inl covers) = inl covers
     granted e (inr (was, given, kept)) =
         let is = (SignedSuccess-is s message e).0 in
         inr (
-          was,
-          record {
-            success = is.success;
-            signed = is.signed;
-            outstanding = is.outstanding;
-            purpose = given.purpose;
-            listed = has-contains given.purpose (asked_for message s) given.one;
-            given = given.given;
-          },
-          kept,
+          refl,
+          (
+            was,
+            record {
+              success = is.success;
+              signed = is.signed;
+              outstanding = is.outstanding;
+              purpose = given.purpose;
+              listed = has-contains given.purpose (asked_for message s) given.one;
+              given = given.given;
+            },
+            kept,
+          ),
         )
 
     attempt : Outcome × State
@@ -315,7 +319,7 @@ message-brings g message now s = by (judgement_of s message) refl
     gives : judgement_of s message ≡ SignedSuccess → Gives (asked_for message s) message now s.grants (signed_step true message now s).1.grants
     gives e = granted-gives s.phase message now s (SignedSuccess-is s message e).1
 
-    by : (j : Judgement) → judgement_of s message ≡ j → Brings
+    by : (j : Judgement) → judgement_of s message ≡ j → Brings j
     by Unrelated e = rw e (left s (leaves-same s))
     by (Challenged d) e = rw e (left (challenge_step message d now s).1 (challenge-leaves message d now s))
     by Fatal e = rw e (left (wrong_step message s).1 (wrong-leaves s.phase message s))
@@ -325,3 +329,10 @@ message-brings g message now s = by (judgement_of s message) refl
     by SignedRequest e = rw e (left request.1 (asked (eqb (method_in message) connection_attempt_method)))
     by SignedSuccess e = rw e (λ covers. granted e (gives-covers (asked_for message s) message now s.grants (signed_step true message now s).1.grants g (gives e) covers))
     by SignedError e = rw e (left (signed_step false message now s).1 (denied-leaves s.phase message now s))
+
+pub message-brings : (g : Grant) (message : List ℕ) (now : ℕ) (s : State) → Covers (message_step message now s).1.grants g → Covers s.grants g ⊎ IsGrant g message now s
+message-brings g message now s covers = by (message-grants g message now s covers)
+  where
+    by : Covers s.grants g ⊎ ((judgement_of s message ≡ SignedSuccess) × IsGrant g message now s) → Covers s.grants g ⊎ IsGrant g message now s
+    by (inl covers) = inl covers
+    by (inr (e, is)) = inr is

@@ -2,6 +2,11 @@ pub mod AddressLemmas
 pub mod CallDrawLemmas
 pub mod CallKeepLemmas
 mod ConfigLemmas
+pub mod CountLemmas
+pub mod DoubleCallLemmas
+pub mod DoubleKeepLemmas
+pub mod DoubleLemmas
+pub mod DoubleMessageLemmas
 pub mod DrawLemmas
 pub mod GivenCallLemmas
 pub mod GivenEffectLemmas

@@ -18,7 +18,7 @@ use Rattle.turn_client_api.specs.Grants.{allocations, allocation_in, allocation_
 use Rattle.turn_client_api.specs.Requests.{asked_lifetime}
 use Rattle.turn_client_api.specs.Due.{due_moments, end_of, is_refreshable, has_queued_request, has_reply, is_paused, least_due, pause_end, refresh_of, refresh_time, refresh_time_by_kind}
 use Rattle.turn_client_api.specs.Poll.{next_offer}
-use Rattle.turn_client_api.specs.Transmit.{idle_step, is_due_in, is_ranked, is_refresh_due, next_transmit, queue_step, refresh_purpose, refresh_step, refreshes_in, refreshes_of_rank, reply_in, reply_step, transmit_step}
+use Rattle.turn_client_api.specs.Transmit.{idle_step, is_due_in, is_ranked, is_refresh_due, next_transmit, queue_step, refresh_purpose, refresh_step, refreshes_in, refreshes_of_rank, reply_in, reply_step, transmit_step, without_first_reply}
 use Rattle.turn_client_api.specs.Alarm.{IsSilent, Lasts}
 use Rattle.turn_client_api.proofs.HasLemmas.{Has, has-append, has-left, has-right, map-has, flat_map-has, has-flat_map, has-found, filter-has, filter_map-has, has-filter_map, find-none, filter-none, least-le, all-has}
 
@@ -134,7 +134,7 @@ flat_map-none : {X Y : Type 0} (f : X → List Y) (xs : List X) → ((x : X) →
 flat_map-none f [] none = refl
 flat_map-none f (x ∷ xs) none = rw (none x) (flat_map-none f xs none)
 
-idle_silent : (now m : ℕ) (t : State) → m < least_due now t → is_paused m t ≡ false → (p : Phase) → p ≢ New → (idle_step p m t).0 ≡ None
+idle_silent : (now m : ℕ) (t : State) → m < least_due now t → is_paused m t ≡ false → (p : Phase) → p ≢ New → idle_step p m t ≡ (None, t)
 idle_silent now m t before idle New old = absurd (old refl)
 idle_silent now m t before idle Requesting old = refl
 idle_silent now m t before idle Authenticating old = refl
@@ -146,16 +146,30 @@ idle_silent now m t before idle Allocated old =
 not_due-transmit : (m : ℕ) (t : State) → due (agent_of t) m ≡ None → transmit_step m t ≡ (if is_paused m t then reply_step t else queue_step m t)
 not_due-transmit m t none = rw (none, transmit_step) refl
 
-reply-none : (t : State) → has_reply t ≡ false → (reply_step t).0 ≡ None
-reply-none t none = rw (no_replies t.queue none) refl
+no_reply-kept : (qs : List Queued) → list_any (λ q. not q.is_request) qs ≡ false → without_first_reply qs ≡ qs
+no_reply-kept [] none = refl
+no_reply-kept (q ∷ qs) none = by q.is_request (no_reply-kept qs) none
+  where
+    has : Bool → List Queued
+    has b = record q { is_request = b } ∷ qs
+
+    by : (b : Bool) → (list_any (λ q. not q.is_request) qs ≡ false → without_first_reply qs ≡ qs) → list_any (λ q. not q.is_request) (has b) ≡ false → without_first_reply (has b) ≡ has b
+    by true later none = rw (later none) refl
+    by false later none = absurd (some none)
+      where
+        some : true ≡ false → ⊥
+        some e = cc
+
+reply-none : (t : State) → has_reply t ≡ false → reply_step t ≡ (None, t)
+reply-none t none = rw (no_replies t.queue none, no_reply-kept t.queue none) refl
 
 queue-empty : (m : ℕ) (t : State) → t.queue ≡ [] → queue_step m t ≡ idle_step t.phase m t
 queue-empty m t e = rw (e, queue_step) refl
 
-sends_nothing : (now m : ℕ) (t : State) → IsReady now t → m < least_due now t → next_transmit m t ≡ None
-sends_nothing now m t ready before = rw (next_transmit, not_due-transmit m t (not_due now m t before)) (by (is_paused m t) refl)
+sends_nothing : (now m : ℕ) (t : State) → IsReady now t → m < least_due now t → transmit_step m t ≡ (None, t)
+sends_nothing now m t ready before = rw (not_due-transmit m t (not_due now m t before)) (by (is_paused m t) refl)
   where
-    by : (b : Bool) → is_paused m t ≡ b → (if is_paused m t then reply_step t else queue_step m t).0 ≡ None
+    by : (b : Bool) → is_paused m t ≡ b → (if is_paused m t then reply_step t else queue_step m t) ≡ (None, t)
     by true e = rw e (reply-none t ready.no_reply)
     by false e =
         let no_request = false_from_ne_true (has_queued_request t) (λ queued. absurd (omega (arith, before, least-queued now t queued, ltb-false m (pause_end t) e))) in

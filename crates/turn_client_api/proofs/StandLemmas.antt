@@ -1,5 +1,5 @@
 -- What stands in a list of grants, and what a change of the list leaves of it.
-use Rattle.std.proofs.Common.{◌≡◌, ◌≤◌, ℕ, zero, suc, Bool, true, false, cond, List, [], ◌∷◌, ◌++◌, map, filter, fold, ◌⊎◌, inl, inr, refl, sym, ◌∙◌, arith}
+use Rattle.std.proofs.Common.{◌≡◌, ℕ, zero, suc, Bool, true, false, cond, List, [], ◌∷◌, ◌++◌, map, filter, fold, ◌⊎◌, inl, inr, refl, sym, ◌∙◌, arith}
 use Rattle.std.specs.List.{Contains}
 use Rattle.std.specs.declared.net.ip_addr.IpAddr.{IpAddr}
 use Rattle.std.specs.declared.net.socket_addr.SocketAddr.{SocketAddr}
@@ -24,11 +24,11 @@ contains-has x (y ∷ xs) (suc k, within, is) = inr (contains-has x xs (k, omega
 
 -- a grant that stands is kept as itself
 pub kept-same : (g : Grant) → IsStanding g → IsKeptAs g g
-kept-same (Allocation a) h = (refl, omega arith)
-kept-same (Permission ip (Active expiry)) h = (refl, omega arith)
+kept-same (Allocation a) h = (refl, refl)
+kept-same (Permission ip (Active expiry)) h = (refl, refl)
 kept-same (Permission ip Pending) h = absurd h
 kept-same (Permission ip (Reserved until)) h = absurd h
-kept-same (Channel number peer (Active expiry)) h = (refl, refl, omega arith)
+kept-same (Channel number peer (Active expiry)) h = (refl, refl, refl)
 kept-same (Channel number peer Pending) h = absurd h
 kept-same (Channel number peer (Reserved until)) h = absurd h
 kept-same (Connect peer) h = absurd h
@@ -49,15 +49,15 @@ kept-stood (Offer offer) h k = absurd k
 kept-stood (Connection c) h k = absurd k
 
 allocation-kept : (a b : Relay) (i : Grant) → IsKeptAs (Allocation a) (Allocation b) → IsKeptAs (Allocation b) i → IsKeptAs (Allocation a) i
-allocation-kept a b (Allocation c) (e, d) (f, l) = (e ∙ f, omega (arith, d, l))
+allocation-kept a b (Allocation c) (e, d) (f, l) = (e ∙ f, d ∙ l)
 allocation-kept a b (Permission ip progress) k l = absurd l
 allocation-kept a b (Channel number peer progress) k l = absurd l
 allocation-kept a b (Connect peer) k l = absurd l
 allocation-kept a b (Offer offer) k l = absurd l
 allocation-kept a b (Connection c) k l = absurd l
 
-permission-kept : (a b : IpAddr) (m n : ℕ) (i : Grant) → (a ≡ b) × (n ≤ m) → IsKeptAs (Permission b (Active n)) i → IsKeptAs (Permission a (Active m)) i
-permission-kept a b m n (Permission ip (Active expiry)) (e, d) (f, l) = (e ∙ f, omega (arith, d, l))
+permission-kept : (a b : IpAddr) (m n : ℕ) (i : Grant) → (a ≡ b) × (m ≡ n) → IsKeptAs (Permission b (Active n)) i → IsKeptAs (Permission a (Active m)) i
+permission-kept a b m n (Permission ip (Active expiry)) (e, d) (f, l) = (e ∙ f, d ∙ l)
 permission-kept a b m n (Permission ip Pending) k l = absurd l
 permission-kept a b m n (Permission ip (Reserved until)) k l = absurd l
 permission-kept a b m n (Allocation c) k l = absurd l
@@ -66,8 +66,8 @@ permission-kept a b m n (Connect peer) k l = absurd l
 permission-kept a b m n (Offer offer) k l = absurd l
 permission-kept a b m n (Connection c) k l = absurd l
 
-channel-kept : (a b : ℕ) (p q : SocketAddr) (m n : ℕ) (i : Grant) → (a ≡ b) × (p ≡ q) × (n ≤ m) → IsKeptAs (Channel b q (Active n)) i → IsKeptAs (Channel a p (Active m)) i
-channel-kept a b p q m n (Channel number peer (Active expiry)) (e, f, d) (g, h, l) = (e ∙ g, f ∙ h, omega (arith, d, l))
+channel-kept : (a b : ℕ) (p q : SocketAddr) (m n : ℕ) (i : Grant) → (a ≡ b) × (p ≡ q) × (m ≡ n) → IsKeptAs (Channel b q (Active n)) i → IsKeptAs (Channel a p (Active m)) i
+channel-kept a b p q m n (Channel number peer (Active expiry)) (e, f, d) (g, h, l) = (e ∙ g, f ∙ h, d ∙ l)
 channel-kept a b p q m n (Channel number peer Pending) k l = absurd l
 channel-kept a b p q m n (Channel number peer (Reserved until)) k l = absurd l
 channel-kept a b p q m n (Allocation c) k l = absurd l

@@ -6,7 +6,7 @@ use Rattle.turn_client_api.specs.State.{State, Phase, New, Requesting, Authentic
 use Rattle.turn_client_api.specs.Grants.{allocation_of, family_of_grant}
 use Rattle.turn_client_api.specs.Due.{has_queued_request}
 use Rattle.turn_client_api.specs.Poll.{next_offer}
-use Rattle.turn_client_api.specs.Transmit.{next_transmit}
+use Rattle.turn_client_api.specs.Transmit.{next_transmit, transmit_step}
 use Rattle.turn_client_api.specs.declared.poll.TurnPollRet.{TurnPollRet}
 use Rattle.turn_client_api.specs.declared.poll.TurnPollRet.TheVariants.{WaitUntil, AllocateTcpSocket, TcpClose, Closed as Ended}
 
@@ -18,10 +18,10 @@ Lasts moment (Channel number peer (Active expiry)) = moment ≤ expiry
 Lasts moment (Connection c) = IfSome c.deadline (λ deadline. moment ≤ deadline)
 Lasts moment _ = ⊤
 
--- Nothing is to be done from now on before that moment: no packet is to be sent, no transaction ends,
--- nothing waits, and no grant ends.
+-- Nothing is to be done from now on before that moment: no packet is to be sent, and to ask for one
+-- changes nothing, no transaction ends, nothing waits, and no grant ends.
 pub record IsSilent (now moment : ℕ) (s : State) : Type 0 where
-  pub sends_nothing : (t : ℕ) → now ≤ t → t < moment → next_transmit t s ≡ None
+  pub sends_nothing : (t : ℕ) → now ≤ t → t < moment → transmit_step t s ≡ (None, s)
   pub ends_nothing : (t : ℕ) → now ≤ t → t < moment → given_up (agent_of s) t ≡ None
   pub no_event : s.events ≡ []
   pub no_offer : next_offer s ≡ None

@@ -20,14 +20,14 @@ IsStanding (Permission ip (Active expiry)) = ⊤
 IsStanding (Channel number peer (Active expiry)) = ⊤
 IsStanding _ = ⊥
 
--- the second is the first, granted, and ends no later
+-- the second is the first, granted, and ends at the same moment
 abbrev pub IsKeptAs : Grant → Grant → Type 0
-IsKeptAs (Allocation was) (Allocation is) = (was.relayed ≡ is.relayed) × (is.expiry ≤ was.expiry)
-IsKeptAs (Permission ip (Active was)) (Permission other (Active is)) = (ip ≡ other) × (is ≤ was)
-IsKeptAs (Channel number peer (Active was)) (Channel other to (Active is)) = (number ≡ other) × (peer ≡ to) × (is ≤ was)
+IsKeptAs (Allocation was) (Allocation is) = (was.relayed ≡ is.relayed) × (was.expiry ≡ is.expiry)
+IsKeptAs (Permission ip (Active was)) (Permission other (Active is)) = (ip ≡ other) × (was ≡ is)
+IsKeptAs (Channel number peer (Active was)) (Channel other to (Active is)) = (number ≡ other) × (peer ≡ to) × (was ≡ is)
 IsKeptAs _ _ = ⊥
 
--- it stood already, up to this end at least
+-- it stood already, with this end
 abbrev pub Stood : State → Grant → Type 0
 Stood s g = (was : Grant) × Contains s.grants was × IsKeptAs was g
 
@@ -55,7 +55,7 @@ pub record IsGrantedBy (message : List ℕ) (now : ℕ) (s : State) (g : Grant) 
   pub listed : Contains (purposes_of (id_of message) s) purpose
   pub given : IsGivenFor purpose message now g
 
--- the message granted it, up to this end at least
+-- the message granted it, with this end
 abbrev pub IsGrant : Grant → Deed
 IsGrant g message now s = (was : Grant) × IsGrantedBy message now s was × IsKeptAs was g
 

@@ -11,6 +11,7 @@ pub mod Effect
 pub mod Grants
 pub mod Handled
 pub mod Judgement
+pub mod LawsDoubles
 pub mod LawsGranted
 pub mod LawsHoused
 pub mod LawsLapses

@@ -1,6 +1,7 @@
 //! Laws of the machine. Their functions do nothing, or give a constant: what they ensure is the law.
 
 mod alarm;
+mod doubles;
 mod granted;
 mod housed;
 mod ids;
@@ -20,6 +21,7 @@ mod streams;
 mod wakeup;
 
 pub use alarm::sleeps_through_nothing;
+pub use doubles::grants_are_distinct;
 pub use granted::only_a_signed_success_grants;
 pub use housed::grants_stand_in_allocations;
 pub use ids::drawn_ids_are_free;

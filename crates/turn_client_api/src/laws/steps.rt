@@ -1,6 +1,6 @@
 //! What every call keeps, whether or not it finds memory.
 
-ghost use Rattle.std.specs.Prelude.{◌≡◌, ℕ, false, List, [], Some};
+ghost use Rattle.std.specs.Prelude.{◌≡◌, ◌<◌, ℕ, false, List, [], Some};
 ghost use Rattle.turn_auth.specs.LongTerm.{Challenge};
 ghost use Rattle.turn_client_api.specs.State.{State, Closed};
 ghost use Rattle.turn_client_api.specs.Judgement.{Judgement, Challenged, judgement_of};
@@ -8,6 +8,8 @@ ghost use Rattle.turn_client_api.specs.Payloads.{message_step};
 ghost use Rattle.turn_client_api.specs.Due.{has_reply};
 ghost use Rattle.turn_client_api.specs.Poll.{poll_step};
 ghost use Rattle.turn_client_api.specs.Steps.{Call, Leaves};
+ghost use Rattle.turn_client_api.specs.LawsTurns.{IsBroughtBy};
+ghost use Rattle.turn_client_api.specs.LawsReplies.{IsHeeded};
 ghost use Rattle.turn_client_api.specs.LawsSteps.{StaysClosed, StaysPatient, KeepsRealm, IsCounted, GoesOn};
 ghost use Rattle.turn_client_api.specs.declared.poll.TurnPollRet.TheVariants as Do;
 
@@ -19,11 +21,13 @@ pub fn stays_closed()
 {}
 
 /// At most nine challenges are answered one after the other, but for those to a CONNECTION_BIND (our
-/// choice: RFC 8489, section 9.2.5, has no end): each answer is counted, and the server's heed of a
-/// request begins the count anew.
+/// choice: RFC 8489, section 9.2.5, has no end): each answer is counted, and the count falls only by a
+/// message whose turn comes in the call, that is a signed reply to an outstanding request and answers
+/// something that this was made for.
 pub fn challenges_are_counted()
     ensures stays { (call : Call) (s t : State) → Leaves call s t → StaysPatient s t }
     ensures each { (message : List ℕ) (now : ℕ) (s : State) (challenge : Challenge) → judgement_of s message ≡ Challenged challenge → IsCounted s (message_step message now s).1 }
+    ensures falls { (call : Call) (s t : State) → Leaves call s t → t.challenges < s.challenges → IsBroughtBy IsHeeded call s }
 {}
 
 /// Realm and algorithm, once held, never change (RFC 8489, section 9.2.5: a later challenge brings a

@@ -1,3 +1,4 @@
+use Rattle.turn_client_api.proofs.CountLemmas.{leaves-heeded}
 use Rattle.turn_client_api.proofs.CallKeepLemmas.{leaves-keeps}
 use Rattle.turn_client_api.proofs.MessageKeepLemmas.{challenge-IsCounted}
 use Rattle.turn_client_api.proofs.laws.steps.challenges_are_counted.Goals as goal
@@ -7,3 +8,6 @@ returns-clause-stays c = λ call s t leaves. (leaves-keeps call s t leaves).1
 
 pub returns-clause-each : goal.returns-clause-each
 returns-clause-each c = challenge-IsCounted
+
+pub returns-clause-falls : goal.returns-clause-falls
+returns-clause-falls c = leaves-heeded
