@@ -3,7 +3,7 @@
 ghost use Rattle.std.specs.Prelude.{◌≡◌, ◌+◌, ◌<◌, ◌^◌, ◌&&◌, filter, filter_map, find, not, option_map, reverse, slice_get};
 ghost use Rattle.std.specs.List.{list_any, range_with_len};
 ghost use Rattle.turn_agent.specs.Agent.{same_address};
-ghost use Rattle.turn_client_api.specs.Calls.{active_channel, channel_numbers, channel_to, is_in_progress, reserved_from};
+ghost use Rattle.turn_client_api.specs.Calls.{active_channel, channel_numbers, progress_to, is_in_progress, reserved_from};
 ghost use Rattle.turn_client_api.specs.Grants.{allocation_in, channel_at, channel_peer, is_channel_of, is_of, permission_progress};
 ghost use Rattle.turn_client_api.specs.Poll.{is_lapsed_channel};
 ghost use Rattle.turn_client_grants.specs.Lists.{allocation_among, first_among};
@@ -120,7 +120,7 @@ pub(crate) fn active_channel(grants: &[Grant], peer: SocketAddr) -> Option<(u16,
 
 /// Whether a channel to the peer is pending or active.
 pub(crate) fn has_channel(grants: &[Grant], peer: SocketAddr) -> bool
-    ensures { result ≡ list_any is_in_progress (filter_map (channel_to peer) grants.now) }
+    ensures { result ≡ list_any is_in_progress (filter_map (progress_to peer) grants.now) }
 {
     for grant in grants {
         if let Grant::Channel(_, other, Progress::Pending | Progress::Active(_)) = grant {
@@ -134,7 +134,7 @@ pub(crate) fn has_channel(grants: &[Grant], peer: SocketAddr) -> bool
 
 /// Up to when the first reserved channel to the peer keeps it from being bound, if that is now or later.
 pub(crate) fn reserved_until(grants: &[Grant], peer: SocketAddr, now: Instant) -> Option<Instant>
-    ensures { result ≡ slice_get (filter_map (reserved_from now) (filter_map (channel_to peer) grants.now)) 0 }
+    ensures { result ≡ slice_get (filter_map (reserved_from now) (filter_map (progress_to peer) grants.now)) 0 }
 {
     for grant in grants {
         if let Grant::Channel(_, other, Progress::Reserved(until)) = grant {
