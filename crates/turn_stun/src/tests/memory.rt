@@ -3,30 +3,35 @@
 
 use crate::error::WriteError;
 use crate::message::Message;
-use crate::message::method::Method;
 use crate::message::write::MessageWriteVec;
-use crate::tests::messages::ALLOCATE_REQUEST;
-use crate::tests::moments::FIRST_ID;
-use crate::tests::writing::raw;
+use crate::tests::fixture::{ALLOCATE, FIRST_ID, assert_holds, assert_same, raw};
 use crate::transaction::TransactionId;
+use std::process::Abort;
+
+/// Adds an attribute of 304 bytes, or else leaves the message as it was.
+fn adds_or_leaves(rt: &impl Abort, message: &mut MessageWriteVec) {
+    let before = message.as_bytes().len();
+    let refusal = message.add_attribute(&raw(0x0013, &[1; 300])).err();
+    let added = match refusal {
+        None => 304,
+        Some(_) => 0,
+    };
+    assert_same(rt, message.as_bytes().len().wrapping_sub(before), added);
+    assert_same(
+        rt,
+        refusal.unwrap_or(WriteError::OutOfMemory),
+        WriteError::OutOfMemory,
+    );
+    assert_holds(rt, Message::from_bytes(message.as_bytes()).is_ok());
+}
 
 #[test]
 fn a_writer_without_memory_is_unchanged(rt: HostRuntime) {
     let id = TransactionId::from_bytes(FIRST_ID);
-    let method = Method { value: 3 };
-    let Ok(mut message) = MessageWriteVec::builder_request(rt.alloc(), method, id) else {
+    let Ok(mut message) = MessageWriteVec::builder_request(rt.alloc(), ALLOCATE, id) else {
         return;
     };
-    let value = [1; 300];
-    for count in 0usize..8 {
-        let before = message.as_bytes().len();
-        match message.add_attribute(&raw(0x0013, &value)) {
-            Ok(()) => assert_eq!(rt; message.as_bytes().len(), before + 304, "{count}"),
-            Err(error) => {
-                assert_eq!(rt; error, WriteError::OutOfMemory);
-                assert_eq!(rt; message.as_bytes().len(), before);
-            }
-        }
-        assert!(rt; Message::from_bytes(message.as_bytes()).is_ok());
+    for _ in 0usize..8 {
+        adds_or_leaves(&rt, &mut message);
     }
 }

@@ -2,13 +2,11 @@ use crate::attribute::realm::Realm;
 use crate::attribute::{AttributeType, RawAttribute};
 use crate::error::{AttributeError, ParseError};
 use crate::message::Message;
-use crate::message::header::{MessageClass, MessageHeader};
-use crate::message::method::Method;
-use crate::tests::moments::FIRST_ID;
+use crate::message::header::{MessageClass, MessageHeader, MessageType};
+use crate::tests::fixture::{ALLOCATE, FIRST_ID, assert_bytes, assert_holds, assert_same, parsed};
 use crate::transaction::TransactionId;
-use std::alloc::AllocError;
-
-const ALLOCATE: Method = Method { value: 3 };
+use std::alloc::Global;
+use std::process::Abort;
 
 /// A first ALLOCATE of TURN: LIFETIME 1800, REQUESTED-TRANSPORT 17, DONT-FRAGMENT.
 pub(crate) const ALLOCATE_REQUEST: &[u8] = b"\x00\x03\x00\x14\x21\x12\xa4\x42\
@@ -29,25 +27,44 @@ const BEHIND_INTEGRITY: &[u8] = b"\x00\x01\x00\x40\x21\x12\xa4\x42\
     \x00\x1c\x00\x01e\x00\x00\x00\x00\x1c\x00\x01f\x00\x00\x00\
     \x80\x28\x00\x01g\x00\x00\x00\x80\x28\x00\x01h\x00\x00\x00";
 
-fn fault_of(bytes: &[u8]) -> Option<ParseError> {
-    Message::from_bytes(bytes).err()
+/// Bytes that are no message, and why. More than one reason holds for most: the first is told.
+const REFUSED: &[(&[u8], ParseError)] = &[
+    (
+        b"\x00\x03\x00\x14\x21\x12\xa4\x42\x76\xb8\xe0\xad\xa0\xf1\x3d\x90\x40\x5d\x6a",
+        ParseError::Short,
+    ),
+    (
+        b"\x00\x03\x00\x04\x21\x12\xa4\x42\x76\xb8\xe0\xad\xa0\xf1\x3d\x90\x40\x5d\x6a\xe5",
+        ParseError::Length,
+    ),
+    (
+        b"\x00\x03\x00\x04\x21\x12\xa4\x42\x76\xb8\xe0\xad\xa0\xf1\x3d\x90\x40\x5d\x6a\xe5\
+        \x00\x14\x00\x08",
+        ParseError::Attribute,
+    ),
+    (
+        b"\x00\x03\x00\x00\x21\x12\xa4\x42\x76\xb8\xe0\xad\xa0\xf1\x3d\x90\x40\x5d\x6a\xe5\
+        \x00\x14\x00\x08",
+        ParseError::Length,
+    ),
+    (
+        b"\x00\x03\x00\x00\x21\x12\xa4\x43\x76\xb8\xe0\xad\xa0\xf1\x3d\x90\x40\x5d\x6a\xe5\
+        \x00\x14\x00\x08",
+        ParseError::NotStun,
+    ),
+    (&[0x40; 20], ParseError::NotStun),
+];
+
+/// Asserts why the bytes are no message, or with `None` that they are one.
+fn assert_fault(rt: &impl Abort, bytes: &[u8], expected: Option<ParseError>) {
+    assert_same(rt, Message::from_bytes(bytes).err(), expected);
 }
 
 #[test]
-fn refusals_come_in_their_order(rt: HostRuntime) -> Result<(), AllocError> {
-    let header = &ALLOCATE_REQUEST[..20];
-    let mut message = header.to_vec(rt.alloc())?;
-    assert_eq!(rt; fault_of(&header[..19]), Some(ParseError::Short));
-    message[3] = 4;
-    assert_eq!(rt; fault_of(message.as_slice()), Some(ParseError::Length));
-    message.extend_from_slice(b"\x00\x14\x00\x08")?;
-    assert_eq!(rt; fault_of(message.as_slice()), Some(ParseError::Attribute));
-    message[3] = 0;
-    assert_eq!(rt; fault_of(message.as_slice()), Some(ParseError::Length));
-    message[7] = 0x43;
-    assert_eq!(rt; fault_of(message.as_slice()), Some(ParseError::NotStun));
-    assert_eq!(rt; fault_of(&[0x40; 20]), Some(ParseError::NotStun));
-    Ok(())
+fn refusals_come_in_their_order(rt: HostRuntime) {
+    for (bytes, fault) in REFUSED {
+        assert_fault(&rt, bytes, Some(*fault));
+    }
 }
 
 #[test]
@@ -58,136 +75,158 @@ fn a_message_cut_anywhere_is_refused(rt: HostRuntime) {
         } else {
             ParseError::Length
         };
-        assert_eq!(rt; fault_of(&UNAUTHORIZED[..end]), Some(fault), "cut at {end}");
+        assert_fault(&rt, &UNAUTHORIZED[..end], Some(fault));
     }
-    assert_eq!(rt; fault_of(UNAUTHORIZED), None);
+    assert_fault(&rt, UNAUTHORIZED, None);
+}
+
+/// A place in the response, another byte there, and why the bytes are then no message: its length is
+/// off by up to four, or the value of NONCE runs past the end by one byte and by three.
+const ALTERED: &[(usize, u8, ParseError)] = &[
+    (3, 0x21, ParseError::NotStun),
+    (3, 0x1f, ParseError::NotStun),
+    (3, 0x22, ParseError::NotStun),
+    (3, 0x1e, ParseError::NotStun),
+    (3, 0x23, ParseError::NotStun),
+    (3, 0x1d, ParseError::NotStun),
+    (3, 0x24, ParseError::Length),
+    (3, 0x1c, ParseError::Length),
+    (43, 9, ParseError::Attribute),
+    (43, 11, ParseError::Attribute),
+];
+
+/// The response with another byte at that place.
+fn altered(rt: &impl Abort, alloc: Global, at: usize, byte: u8) -> Vec<u8> {
+    let mut bytes = UNAUTHORIZED.to_vec(alloc).expect(rt, "memory");
+    assert!(rt; at < bytes.len());
+    bytes[at] = byte;
+    bytes
 }
 
 #[test]
-fn a_length_that_is_off_is_refused(rt: HostRuntime) -> Result<(), AllocError> {
-    for off in 1u8..=4 {
-        let fault = if off == 4 {
-            ParseError::Length
-        } else {
-            ParseError::NotStun
-        };
-        for length in [0x20 + off, 0x20 - off] {
-            let mut message = UNAUTHORIZED.to_vec(rt.alloc())?;
-            assert!(rt; message.len() > 3);
-            message[3] = length;
-            assert_eq!(rt;
-                fault_of(message.as_slice()),
-                Some(fault),
-                "length {length}"
-            );
-        }
+fn a_length_that_is_off_is_refused(rt: HostRuntime) {
+    for (at, byte, fault) in ALTERED {
+        let bytes = altered(&rt, rt.alloc(), *at, *byte);
+        assert_fault(&rt, bytes.as_slice(), Some(*fault));
     }
-    // The last attribute, NONCE, runs past the end by one byte and by three.
-    for value_len in [9, 11] {
-        let mut message = UNAUTHORIZED.to_vec(rt.alloc())?;
-        assert!(rt; message.len() > 43);
-        message[43] = value_len;
-        assert_eq!(rt; fault_of(message.as_slice()), Some(ParseError::Attribute));
-    }
-    Ok(())
 }
 
 #[test]
-fn a_request_is_looked_into(rt: HostRuntime) {
-    let message = Message::from_bytes(ALLOCATE_REQUEST).expect(&rt, "a message");
-    assert_eq!(rt; message.method(), ALLOCATE);
-    assert_eq!(rt; message.class(), MessageClass::Request);
-    assert_eq!(rt;
-        message.transaction_id(),
-        TransactionId::from_bytes(FIRST_ID)
-    );
-    assert!(rt; !message.is_response());
-    assert!(rt; message.has_class(MessageClass::Request) && message.has_method(ALLOCATE));
-    assert!(rt; message.has_attribute(AttributeType { value: 0x001a }));
-    assert!(rt; !message.has_attribute(AttributeType::REALM));
-    assert_eq!(rt; message.as_bytes(), ALLOCATE_REQUEST);
-    let kinds: [(usize, u16); 3] = [(20, 0x000d), (28, 0x0019), (36, 0x001a)];
+fn a_request_has_its_header(rt: HostRuntime) {
+    let message = parsed(&rt, ALLOCATE_REQUEST);
+    assert_same(&rt, message.method(), ALLOCATE);
+    assert_same(&rt, message.class(), MessageClass::Request);
+    let id = TransactionId::from_bytes(FIRST_ID);
+    assert_same(&rt, message.transaction_id(), id);
+    assert_holds(&rt, !message.is_response());
+    assert_holds(&rt, message.has_class(MessageClass::Request));
+    assert_holds(&rt, message.has_method(ALLOCATE));
+    assert_bytes(&rt, message.as_bytes(), ALLOCATE_REQUEST);
+}
+
+/// Asserts which attributes are seen: their offsets, types and values.
+fn assert_seen(rt: &impl Abort, message: &Message<'_>, expected: &[(usize, u16, &[u8])]) {
     let mut found = message.iter_attributes();
-    for (at, kind) in kinds {
-        let (offset, raw) = found.next().expect(&rt, "an attribute");
-        assert_eq!(rt; (offset, raw.attribute_type.value), (at, kind));
+    for (at, kind, value) in expected {
+        let (offset, raw) = found.next().expect(rt, "an attribute");
+        assert_same(rt, (offset, raw.attribute_type.value), (*at, *kind));
+        assert_bytes(rt, raw.value, value);
     }
-    assert!(rt; found.next().is_none());
+    assert_holds(rt, found.next().is_none());
 }
 
 #[test]
-fn a_challenge_is_looked_into(rt: HostRuntime) {
-    let message = Message::from_bytes(UNAUTHORIZED).expect(&rt, "a message");
-    assert!(rt; message.is_response() && message.has_class(MessageClass::Error));
-    let realm = message.attribute::<Realm>().expect(&rt, "a realm");
-    assert_eq!(rt; realm.as_bytes(), b"realm".as_slice());
-    let first = message.nth_attribute::<Realm>(0).expect(&rt, "a realm");
-    assert_eq!(rt; first.as_bytes(), b"realm".as_slice());
-    assert_eq!(rt;
-        message.nth_attribute::<Realm>(1).err(),
-        Some(AttributeError::Absent)
-    );
-    let request = Message::from_bytes(ALLOCATE_REQUEST).expect(&rt, "a message");
-    assert_eq!(rt;
-        request.attribute::<Realm>().err(),
-        Some(AttributeError::Absent)
-    );
+fn a_request_has_its_attributes(rt: HostRuntime) {
+    let message = parsed(&rt, ALLOCATE_REQUEST);
+    let expected: &[(usize, u16, &[u8])] = &[
+        (20, 0x000d, b"\x00\x00\x07\x08"),
+        (28, 0x0019, b"\x11\x00\x00\x00"),
+        (36, 0x001a, b""),
+    ];
+    assert_seen(&rt, &message, expected);
+    assert_holds(&rt, message.has_attribute(AttributeType { value: 0x001a }));
+    assert_holds(&rt, !message.has_attribute(AttributeType::REALM));
+}
+
+/// Asserts that the realm is there, and what it is.
+fn assert_realm(rt: &impl Abort, found: Result<Realm<'_>, AttributeError>, expected: &[u8]) {
+    let realm = found.expect(rt, "a realm");
+    assert_bytes(rt, realm.as_bytes(), expected);
+}
+
+/// Asserts that no realm is there.
+fn assert_no_realm(rt: &impl Abort, found: Result<Realm<'_>, AttributeError>) {
+    assert_same(rt, found.err(), Some(AttributeError::Absent));
+}
+
+#[test]
+fn a_challenge_has_a_realm(rt: HostRuntime) {
+    let message = parsed(&rt, UNAUTHORIZED);
+    assert_holds(&rt, message.is_response());
+    assert_holds(&rt, message.has_class(MessageClass::Error));
+    assert_realm(&rt, message.attribute(), b"realm");
+    assert_realm(&rt, message.nth_attribute(0), b"realm");
+    assert_no_realm(&rt, message.nth_attribute(1));
+    assert_no_realm(&rt, parsed(&rt, ALLOCATE_REQUEST).attribute());
+}
+
+#[test]
+fn a_header_is_read_on_its_own(rt: HostRuntime) {
     let header = MessageHeader::from_bytes(UNAUTHORIZED).expect(&rt, "a header");
-    assert_eq!(rt;
-        (header.data_length, header.message_type.method),
-        (32, ALLOCATE)
-    );
-    assert_eq!(rt;
-        MessageHeader::from_bytes(b"short").err(),
-        Some(ParseError::Short)
-    );
-    assert_eq!(rt;
-        MessageHeader::from_bytes(&[0xff; 20]).err(),
-        Some(ParseError::NotStun)
-    );
+    assert_same(&rt, header.data_length, 32);
+    assert_same(&rt, header.message_type.method, ALLOCATE);
+    let short = MessageHeader::from_bytes(b"short").err();
+    assert_same(&rt, short, Some(ParseError::Short));
+    let other = MessageHeader::from_bytes(&[0xff; 20]).err();
+    assert_same(&rt, other, Some(ParseError::NotStun));
 }
 
 #[test]
 fn attributes_behind_integrity_are_hidden(rt: HostRuntime) {
-    let message = Message::from_bytes(BEHIND_INTEGRITY).expect(&rt, "a message");
-    let mut seen = message.iter_attributes();
-    for value in [b"a", b"b", b"e", b"g", b"h"] {
-        let (_, raw) = seen.next().expect(&rt, "an attribute");
-        assert_eq!(rt; raw.value, value.as_slice());
-    }
-    assert!(rt; seen.next().is_none());
-    let (offset, raw) = message
-        .raw_attribute(AttributeType::MESSAGE_INTEGRITY_SHA256)
-        .expect(&rt, "integrity");
-    assert_eq!(rt; (offset, raw.value), (52, b"e".as_slice()));
-    assert_eq!(rt;
-        message.nth_attribute::<Realm>(1).err(),
-        Some(AttributeError::Absent)
-    );
-    assert!(rt; RawAttribute::from_bytes(b"\x00\x14\x00\x01a\x00\x00").is_none());
-    let first = RawAttribute::from_bytes(&BEHIND_INTEGRITY[20..]).expect(&rt, "an attribute");
-    assert_eq!(rt;
-        (first.value, first.attribute_type),
-        (b"a".as_slice(), AttributeType::REALM)
-    );
+    let message = parsed(&rt, BEHIND_INTEGRITY);
+    let expected: &[(usize, u16, &[u8])] = &[
+        (20, 0x0014, b"a"),
+        (28, 0x0008, b"b"),
+        (52, 0x001c, b"e"),
+        (68, 0x8028, b"g"),
+        (76, 0x8028, b"h"),
+    ];
+    assert_seen(&rt, &message, expected);
+    let found = message.raw_attribute(AttributeType::MESSAGE_INTEGRITY_SHA256);
+    let (offset, raw) = found.expect(&rt, "integrity");
+    assert_same(&rt, (offset, raw.value), (52, b"e".as_slice()));
+    assert_no_realm(&rt, message.nth_attribute(1));
 }
 
 #[test]
+fn a_raw_attribute_is_read_whole(rt: HostRuntime) {
+    let cut = RawAttribute::from_bytes(b"\x00\x14\x00\x01a\x00\x00");
+    assert_holds(&rt, cut.is_none());
+    let first = RawAttribute::from_bytes(&BEHIND_INTEGRITY[20..]).expect(&rt, "an attribute");
+    assert_bytes(&rt, first.value, b"a");
+    assert_same(&rt, first.attribute_type, AttributeType::REALM);
+}
+
+/// The numbers of ALLOCATE's types.
+const TYPES: &[(u16, MessageClass)] = &[
+    (0x0003, MessageClass::Request),
+    (0x0013, MessageClass::Indication),
+    (0x0103, MessageClass::Success),
+    (0x0113, MessageClass::Error),
+];
+
+#[test]
 fn every_class_has_its_number(rt: HostRuntime) {
-    let numbers = [
-        (0x0003, MessageClass::Request),
-        (0x0013, MessageClass::Indication),
-        (0x0103, MessageClass::Success),
-        (0x0113, MessageClass::Error),
-    ];
-    for (number, class) in numbers {
-        let message_type = crate::message::header::MessageType::from_number(number);
-        assert_eq!(rt;
-            (message_type.method, message_type.class),
-            (ALLOCATE, class)
-        );
-        assert_eq!(rt; message_type.to_number(), number);
+    for (number, class) in TYPES {
+        let message_type = MessageType::from_number(*number);
+        assert_same(&rt, message_type.method, ALLOCATE);
+        assert_same(&rt, message_type.class, *class);
+        assert_same(&rt, message_type.to_number(), *number);
     }
-    assert!(rt; AttributeType::REALM.is_comprehension_required());
-    assert!(rt; !AttributeType::FINGERPRINT.is_comprehension_required());
+}
+
+#[test]
+fn half_of_the_types_are_required(rt: HostRuntime) {
+    assert_holds(&rt, AttributeType::REALM.is_comprehension_required());
+    assert_holds(&rt, !AttributeType::FINGERPRINT.is_comprehension_required());
 }

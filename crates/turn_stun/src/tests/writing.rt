@@ -4,94 +4,100 @@ use crate::attribute::password_algorithms::PasswordAlgorithms;
 use crate::attribute::realm::Realm;
 use crate::attribute::userhash::Userhash;
 use crate::attribute::username::Username;
-use crate::attribute::{AttributeType, RawAttribute};
 use crate::error::WriteError;
 use crate::message::Message;
 use crate::message::header::{MessageClass, MessageType};
 use crate::message::method::Method;
 use crate::message::write::MessageWriteVec;
+use crate::tests::fixture::{
+    ALLOCATE, FIRST_ID, add, assert_bytes, assert_holds, assert_same, parsed, raw, request,
+};
 use crate::tests::messages::ALLOCATE_REQUEST;
-use crate::tests::moments::FIRST_ID;
 use crate::transaction::TransactionId;
-use std::test::Fail;
+use std::alloc::Global;
+use std::process::Abort;
 
-const ALLOCATE: Method = Method { value: 3 };
+#[test]
+fn a_request_is_written(rt: HostRuntime) {
+    let mut message = request(&rt, rt.alloc());
+    add(&rt, &mut message, &raw(0x000d, b"\x00\x00\x07\x08"));
+    add(&rt, &mut message, &raw(0x0019, b"\x11\x00\x00\x00"));
+    add(&rt, &mut message, &raw(0x001a, b""));
+    assert_bytes(&rt, message.as_bytes(), ALLOCATE_REQUEST);
+    let id = TransactionId::from_bytes(FIRST_ID);
+    assert_same(&rt, message.transaction_id(), id);
+    assert_same(&rt, message.message_type().class, MessageClass::Request);
+    assert_bytes(&rt, message.finish().as_slice(), ALLOCATE_REQUEST);
+}
 
-pub(crate) fn raw(kind: u16, value: &[u8]) -> RawAttribute<'_> {
-    RawAttribute {
-        attribute_type: AttributeType { value: kind },
-        value,
-    }
+/// An error response of four attributes.
+const ERROR_RESPONSE: &[u8] = b"\x01\x13\x00\x28\x21\x12\xa4\x42\
+    \x76\xb8\xe0\xad\xa0\xf1\x3d\x90\x40\x5d\x6a\xe5\
+    \x00\x09\x00\x05\x00\x00\x04\x01?\x00\x00\x00\x00\x06\x00\x04user\
+    \x00\x14\x00\x05realm\x00\x00\x00\x00\x15\x00\x01n\x00\x00\x00";
+
+#[test]
+fn an_error_response_is_written(rt: HostRuntime) {
+    let id = TransactionId::from_bytes(FIRST_ID);
+    let message = MessageWriteVec::builder_error(rt.alloc(), ALLOCATE, id);
+    let mut message = message.expect(&rt, "memory");
+    add(&rt, &mut message, &ErrorCode::new(401, b"?"));
+    add(&rt, &mut message, &Username::new(b"user"));
+    add(&rt, &mut message, &Realm::new(b"realm"));
+    add(&rt, &mut message, &Nonce::new(b"n"));
+    assert_bytes(&rt, message.as_bytes(), ERROR_RESPONSE);
+    let found = parsed(&rt, message.as_bytes());
+    assert_holds(&rt, found.has_class(MessageClass::Error));
+}
+
+/// An indication with a PASSWORD-ALGORITHMS and a USERHASH.
+fn indication(rt: &impl Abort, alloc: Global) -> MessageWriteVec {
+    let message_type = MessageType {
+        method: Method { value: 1 },
+        class: MessageClass::Indication,
+    };
+    let id = TransactionId::from_bytes(FIRST_ID);
+    let mut message = MessageWriteVec::builder(alloc, message_type, id).expect(rt, "memory");
+    let list = PasswordAlgorithms::from_bytes(b"\x00\x02\x00\x00").expect(rt, "a list");
+    add(rt, &mut message, &list);
+    add(rt, &mut message, &Userhash::new([7; 32]));
+    message
 }
 
 #[test]
-fn a_request_is_written(rt: HostRuntime) -> Result<(), Fail> {
-    let id = TransactionId::from_bytes(FIRST_ID);
-    let mut message = MessageWriteVec::builder_request(rt.alloc(), ALLOCATE, id)?;
-    message.add_attribute(&raw(0x000d, b"\x00\x00\x07\x08"))?;
-    message.add_attribute(&raw(0x0019, b"\x11\x00\x00\x00"))?;
-    message.add_attribute(&raw(0x001a, b""))?;
-    assert_eq!(rt; message.as_bytes(), ALLOCATE_REQUEST);
-    assert_eq!(rt; message.transaction_id(), id);
-    assert_eq!(rt; message.message_type().class, MessageClass::Request);
-    assert_eq!(rt; message.finish().as_slice(), ALLOCATE_REQUEST);
-    Ok(())
-}
-
-#[test]
-fn an_error_response_is_written(rt: HostRuntime) -> Result<(), Fail> {
-    let id = TransactionId::from_bytes(FIRST_ID);
-    let mut message = MessageWriteVec::builder_error(rt.alloc(), ALLOCATE, id)?;
-    message.add_attribute(&ErrorCode::new(401, b"?"))?;
-    message.add_attribute(&Username::new(b"user"))?;
-    message.add_attribute(&Realm::new(b"realm"))?;
-    message.add_attribute(&Nonce::new(b"n"))?;
-    let expected = b"\x01\x13\x00\x28\x21\x12\xa4\x42\
-        \x76\xb8\xe0\xad\xa0\xf1\x3d\x90\x40\x5d\x6a\xe5\
-        \x00\x09\x00\x05\x00\x00\x04\x01?\x00\x00\x00\x00\x06\x00\x04user\
-        \x00\x14\x00\x05realm\x00\x00\x00\x00\x15\x00\x01n\x00\x00\x00";
-    assert_eq!(rt; message.as_bytes(), expected.as_slice());
-    let found = Message::from_bytes(message.as_bytes()).expect(&rt, "a message");
-    assert!(rt; found.has_class(MessageClass::Error));
-    Ok(())
-}
-
-#[test]
-fn the_other_values_are_written(rt: HostRuntime) -> Result<(), Fail> {
-    let id = TransactionId::from_bytes(FIRST_ID);
-    let class = MessageClass::Indication;
-    let method = Method { value: 1 };
-    let mut message = MessageWriteVec::builder(rt.alloc(), MessageType { method, class }, id)?;
-    let list = PasswordAlgorithms::from_bytes(b"\x00\x02\x00\x00").expect(&rt, "a list");
-    message.add_attribute(&list)?;
-    message.add_attribute(&Userhash::new([7; 32]))?;
-    let found = Message::from_bytes(message.as_bytes()).expect(&rt, "a message");
+fn the_other_values_are_written(rt: HostRuntime) {
+    let message = indication(&rt, rt.alloc());
+    let found = parsed(&rt, message.as_bytes());
     let hash = found.attribute::<Userhash>().expect(&rt, "a hash");
-    assert_eq!(rt; hash.hash(), &[7; 32]);
-    assert!(rt; found.attribute::<PasswordAlgorithms>().is_ok());
-    let success = MessageWriteVec::builder_success(rt.alloc(), method, id)?;
-    assert_eq!(rt; success.as_bytes().first(), Some(&1));
-    Ok(())
+    assert_bytes(&rt, hash.hash(), &[7; 32]);
+    assert_holds(&rt, found.attribute::<PasswordAlgorithms>().is_ok());
 }
 
 #[test]
-fn attributes_take_no_more_than_they_may(rt: HostRuntime) -> Result<(), Fail> {
+fn a_success_begins_with_one(rt: HostRuntime) {
     let id = TransactionId::from_bytes(FIRST_ID);
-    let value = vec![in rt.alloc(); 0; 65_529]?;
+    let message = MessageWriteVec::builder_success(rt.alloc(), Method { value: 1 }, id);
+    let message = message.expect(&rt, "memory");
+    assert_same(&rt, message.as_bytes().first().copied(), Some(1));
+}
+
+/// Asserts that the attribute is refused for its length, and that the message stays as it was.
+fn assert_too_long(rt: &impl Abort, message: &mut MessageWriteVec, value: &[u8]) {
+    let before = message.as_bytes().len();
+    let refusal = message.add_attribute(&raw(0x001a, value)).err();
+    assert_same(rt, refusal, Some(WriteError::TooLong));
+    assert_same(rt, message.as_bytes().len(), before);
+}
+
+#[test]
+fn attributes_take_no_more_than_they_may(rt: HostRuntime) {
+    let value = vec![in rt.alloc(); 0; 65_529].expect(&rt, "memory");
     assert!(rt; value.len() == 65_529);
-    let mut message = MessageWriteVec::builder_request(rt.alloc(), ALLOCATE, id)?;
-    let longer = raw(0x0013, value.as_slice());
-    assert_eq!(rt;
-        message.add_attribute(&longer).err(),
-        Some(WriteError::TooLong)
-    );
-    assert_eq!(rt; message.as_bytes().len(), 20);
-    message.add_attribute(&raw(0x0013, &value[..65_528]))?;
-    assert_eq!(rt; message.as_bytes().len(), 65_552);
-    assert_eq!(rt;
-        message.add_attribute(&raw(0x001a, b"")).err(),
-        Some(WriteError::TooLong)
-    );
-    assert!(rt; Message::from_bytes(message.as_bytes()).is_ok());
-    Ok(())
+    let mut message = request(&rt, rt.alloc());
+    assert_too_long(&rt, &mut message, value.as_slice());
+    assert_same(&rt, message.as_bytes().len(), 20);
+    add(&rt, &mut message, &raw(0x0013, &value[..65_528]));
+    assert_same(&rt, message.as_bytes().len(), 65_552);
+    assert_too_long(&rt, &mut message, b"");
+    assert_holds(&rt, Message::from_bytes(message.as_bytes()).is_ok());
 }
