@@ -4,6 +4,7 @@ mod attributes;
 mod frames;
 mod memory;
 
+use std::process::Abort;
 use turn_stun::transaction::TransactionId;
 
 /// The first two transaction IDs that ChaCha20 gives under a seed of zeros.
@@ -21,4 +22,8 @@ fn first_id() -> TransactionId {
 
 fn second_id() -> TransactionId {
     TransactionId::from_bytes(SECOND_ID)
+}
+
+fn assert_bytes(rt: &impl Abort, found: &[u8], want: &[u8]) {
+    assert_eq!(rt; found, want);
 }

@@ -1,11 +1,15 @@
 //! What no clause says: streams of worked frames, and that each call succeeds while there is memory.
 
+ghost use Rattle.std.specs.Prelude.{◌≤◌};
+
 mod cuts;
 mod memory;
 
 use crate::TransportType;
 use crate::tcp::{IncomingTcp, StoredTcp, TcpCounts, TurnTcpBuffer};
+use std::alloc::{AllocError, Global};
 use std::net::{Ipv4Addr, SocketAddr, SocketAddrV4};
+use std::process::Abort;
 use std::test::Fail;
 use turn_stun::transport::Transmit;
 
@@ -26,158 +30,262 @@ fn piece(bytes: &[u8]) -> Transmit<&[u8]> {
     Transmit::new(bytes, TransportType::Tcp, server, client)
 }
 
-#[test]
-fn a_channel_frame_in_two_pieces_is_stored(rt: HostRuntime) -> Result<(), Fail> {
-    let mut buffer = TurnTcpBuffer::new(rt.alloc());
-    assert!(rt; buffer.incoming_tcp(piece(&[0x40, 0x00, 0x00]))?.is_none());
+// A test makes its buffer in one call and hands it to helpers: a proof follows what a function owns on
+// each way out of it.
+
+/// The piece gives no frame.
+fn gives_nothing(
+    rt: &impl Abort,
+    buffer: &mut TurnTcpBuffer,
+    bytes: &[u8],
+) -> Result<(), AllocError> {
+    assert!(rt; buffer.incoming_tcp(piece(bytes))?.is_none());
+    Ok(())
+}
+
+/// The piece gives a frame.
+fn gives_one(rt: &impl Abort, buffer: &mut TurnTcpBuffer, bytes: &[u8]) -> Result<(), AllocError> {
+    assert!(rt; buffer.incoming_tcp(piece(bytes))?.is_some());
+    Ok(())
+}
+
+/// No frame waits.
+fn polls_nothing(rt: &impl Abort, buffer: &mut TurnTcpBuffer) -> Result<(), AllocError> {
+    assert!(rt; buffer.poll_recv()?.is_none());
+    Ok(())
+}
+
+fn counts(rt: &impl Abort, buffer: &TurnTcpBuffer, taken: u64, moved: u64) {
+    assert_eq!(rt; buffer.counts(), TcpCounts { taken, moved });
+}
+
+fn is_empty(rt: &impl Abort, buffer: &TurnTcpBuffer, want: bool) {
+    assert_eq!(rt; buffer.is_empty(), want);
+}
+
+fn assert_bytes(rt: &impl Abort, found: &[u8], want: &[u8]) {
+    assert_eq!(rt; found, want);
+}
+
+/// These bytes wait.
+fn holds(rt: &impl Abort, buffer: TurnTcpBuffer, want: &[u8]) {
+    assert_bytes(rt, buffer.into_inner().as_slice(), want);
+}
+
+fn stores_a_frame(rt: &impl Abort, buffer: &mut TurnTcpBuffer) -> Result<(), Fail> {
+    gives_nothing(rt, buffer, &[0x40, 0x00, 0x00])?;
     let came = buffer.incoming_tcp(piece(&[0x03, 0x61, 0x62, 0x63, 0x00, 0x40]))?;
     let Some(IncomingTcp::StoredChannel(frame, transmit)) = came else {
         return Err(Fail::from("no stored channel frame"));
     };
-    assert_eq!(rt; frame.as_slice(), CHANNEL_FRAME.as_slice());
+    assert_bytes(rt, frame.as_slice(), &CHANNEL_FRAME);
     assert_eq!(rt; transmit.payload.len(), 6);
-    assert!(rt; !buffer.is_empty());
-    assert_eq!(rt; buffer.into_inner().as_slice(), [0x40].as_slice());
+    Ok(())
+}
+
+#[test]
+fn a_channel_frame_in_two_pieces_is_stored(rt: HostRuntime) -> Result<(), Fail> {
+    let mut buffer = TurnTcpBuffer::new(rt.alloc());
+    stores_a_frame(&rt, &mut buffer)?;
+    is_empty(&rt, &buffer, false);
+    holds(&rt, buffer, &[0x40]);
+    Ok(())
+}
+
+fn moves_once(rt: &impl Abort, buffer: &mut TurnTcpBuffer) -> Result<(), AllocError> {
+    counts(rt, buffer, 0, 0);
+    gives_nothing(rt, buffer, &[0x40, 0x00, 0x00])?;
+    gives_one(
+        rt,
+        buffer,
+        &[0x03, 0x61, 0x62, 0x63, 0x00, 0x40, 0x00, 0x00],
+    )?;
+    polls_nothing(rt, buffer)?;
+    counts(rt, buffer, 8, 3);
+    gives_nothing(rt, buffer, &[0x03])?;
+    counts(rt, buffer, 8, 3);
     Ok(())
 }
 
 #[test]
 fn a_rest_is_moved_once(rt: HostRuntime) -> Result<(), Fail> {
     let mut buffer = TurnTcpBuffer::new(rt.alloc());
-    let none = TcpCounts { taken: 0, moved: 0 };
-    assert_eq!(rt; buffer.counts(), none);
-    assert!(rt; buffer.incoming_tcp(piece(&[0x40, 0x00, 0x00]))?.is_none());
-    let more = [0x03, 0x61, 0x62, 0x63, 0x00, 0x40, 0x00, 0x00];
-    assert!(rt; buffer.incoming_tcp(piece(&more))?.is_some());
-    assert!(rt; buffer.poll_recv()?.is_none());
-    let once = TcpCounts { taken: 8, moved: 3 };
-    assert_eq!(rt; buffer.counts(), once);
-    assert!(rt; buffer.incoming_tcp(piece(&[0x03]))?.is_none());
-    assert_eq!(rt; buffer.counts(), once);
-    assert_eq!(rt;
-        buffer.into_inner().as_slice(),
-        [0x40, 0x00, 0x00, 0x03].as_slice()
-    );
+    moves_once(&rt, &mut buffer)?;
+    holds(&rt, buffer, &[0x40, 0x00, 0x00, 0x03]);
+    Ok(())
+}
+
+/// The rest of a channel frame, and all but the last byte of a message.
+fn long_rest(alloc: Global) -> Result<Vec<u8>, AllocError> {
+    let mut bytes = CHANNEL_FRAME[1..].to_vec(alloc)?;
+    bytes.extend_from_slice(&DATA_INDICATION[..43])?;
+    Ok(bytes)
+}
+
+fn moves_nothing(
+    rt: &impl Abort,
+    buffer: &mut TurnTcpBuffer,
+    rest: &[u8],
+) -> Result<(), AllocError> {
+    gives_nothing(rt, buffer, &CHANNEL_FRAME[..1])?;
+    gives_one(rt, buffer, &CHANNEL_FRAME[1..])?;
+    gives_nothing(rt, buffer, &CHANNEL_FRAME[..1])?;
+    gives_one(rt, buffer, rest)?;
+    counts(rt, buffer, 16, 0);
+    gives_one(rt, buffer, &DATA_INDICATION[43..])?;
+    is_empty(rt, buffer, true);
+    counts(rt, buffer, 60, 0);
     Ok(())
 }
 
 #[test]
 fn a_long_rest_is_not_moved(rt: HostRuntime) -> Result<(), Fail> {
+    let rest = long_rest(rt.alloc())?;
     let mut buffer = TurnTcpBuffer::new(rt.alloc());
-    assert!(rt; buffer.incoming_tcp(piece(&CHANNEL_FRAME[..1]))?.is_none());
-    assert!(rt; buffer.incoming_tcp(piece(&CHANNEL_FRAME[1..]))?.is_some());
-    assert!(rt; buffer.incoming_tcp(piece(&CHANNEL_FRAME[..1]))?.is_none());
-    let mut bytes = CHANNEL_FRAME[1..].to_vec(rt.alloc())?;
-    bytes.extend_from_slice(&DATA_INDICATION[..43])?;
-    assert!(rt; buffer.incoming_tcp(piece(bytes.as_slice()))?.is_some());
-    assert_eq!(rt;
-        buffer.counts(),
-        TcpCounts {
-            taken: 16,
-            moved: 0
-        }
-    );
-    assert!(rt;
-        buffer
-            .incoming_tcp(piece(&DATA_INDICATION[43..]))?
-            .is_some()
-    );
-    assert!(rt; buffer.is_empty());
-    assert_eq!(rt;
-        buffer.counts(),
-        TcpCounts {
-            taken: 60,
-            moved: 0
-        }
-    );
+    Ok(moves_nothing(&rt, &mut buffer, rest.as_slice())?)
+}
+
+/// The range of the frame in a piece, and whether it is a message.
+fn range_of(buffer: &mut TurnTcpBuffer, bytes: &[u8]) -> Result<(usize, usize, bool), Fail> {
+    match buffer.incoming_tcp(piece(bytes))? {
+        Some(IncomingTcp::CompleteMessage(_, range)) => Ok((range.start, range.end, true)),
+        Some(IncomingTcp::CompleteChannel(_, range)) => Ok((range.start, range.end, false)),
+        _ => Err(Fail::from("no frame in the piece")),
+    }
+}
+
+fn gives_ranges(rt: &impl Abort, buffer: &mut TurnTcpBuffer) -> Result<(), Fail> {
+    for (bytes, is_message) in [(DATA_INDICATION.as_slice(), true), (&CHANNEL_FRAME, false)] {
+        assert_eq!(rt; range_of(buffer, bytes)?, (0, bytes.len(), is_message));
+        is_empty(rt, buffer, true);
+    }
+    counts(rt, buffer, 52, 0);
     Ok(())
 }
 
 #[test]
 fn a_frame_at_the_front_of_a_piece_is_a_range_of_it(rt: HostRuntime) -> Result<(), Fail> {
     let mut buffer = TurnTcpBuffer::new(rt.alloc());
-    let came = buffer.incoming_tcp(piece(&DATA_INDICATION))?;
-    let Some(IncomingTcp::CompleteMessage(_, range)) = came else {
-        return Err(Fail::from("no message in the piece"));
-    };
-    assert_eq!(rt; (range.start, range.end), (0, 44));
-    assert!(rt; buffer.is_empty());
+    gives_ranges(&rt, &mut buffer)
+}
 
-    let came = buffer.incoming_tcp(piece(&CHANNEL_FRAME))?;
-    let Some(IncomingTcp::CompleteChannel(_, range)) = came else {
-        return Err(Fail::from("no channel frame in the piece"));
-    };
-    assert_eq!(rt; (range.start, range.end), (0, 8));
-    assert_eq!(rt;
-        buffer.counts(),
-        TcpCounts {
-            taken: 52,
-            moved: 0
-        }
-    );
-    Ok(())
+/// A frame, and what comes behind it.
+fn with_rest(alloc: Global, frame: &[u8], rest: &[u8]) -> Result<Vec<u8>, AllocError> {
+    let mut bytes = frame.to_vec(alloc)?;
+    bytes.extend_from_slice(rest)?;
+    Ok(bytes)
 }
 
 #[test]
 fn bytes_behind_a_frame_are_kept_whatever_they_are(rt: HostRuntime) -> Result<(), Fail> {
+    let bytes = with_rest(rt.alloc(), &DATA_INDICATION, &[0xff, 0x00])?;
     let mut buffer = TurnTcpBuffer::new(rt.alloc());
-    let mut bytes = DATA_INDICATION.to_vec(rt.alloc())?;
-    bytes.extend_from_slice(&[0xff, 0x00])?;
-    assert!(rt; buffer.incoming_tcp(piece(bytes.as_slice()))?.is_some());
-    assert_eq!(rt; buffer.into_inner().as_slice(), [0xff, 0x00].as_slice());
+    gives_one(&rt, &mut buffer, bytes.as_slice())?;
+    holds(&rt, buffer, &[0xff, 0x00]);
     Ok(())
+}
+
+/// The turn of a rest comes with which no frame begins.
+fn breaks(rt: &impl Abort, buffer: &mut TurnTcpBuffer, bytes: &[u8]) -> Result<(), AllocError> {
+    gives_one(rt, buffer, bytes)?;
+    is_empty(rt, buffer, false);
+    polls_nothing(rt, buffer)?;
+    is_empty(rt, buffer, true);
+    counts(rt, buffer, 9, 0);
+    Ok(())
+}
+
+fn stays_broken(rt: &impl Abort, buffer: &mut TurnTcpBuffer) -> Result<(), AllocError> {
+    gives_nothing(rt, buffer, &CHANNEL_FRAME)?;
+    gives_nothing(rt, buffer, &DATA_INDICATION)?;
+    polls_nothing(rt, buffer)?;
+    is_empty(rt, buffer, true);
+    counts(rt, buffer, 9, 0);
+    Ok(())
+}
+
+/// A channel frame and a byte with which no frame begins.
+fn breaks_by(rt: &impl Abort, alloc: Global, first: u8) -> Result<(), AllocError> {
+    let bytes = with_rest(alloc, &CHANNEL_FRAME, &[first])?;
+    let mut buffer = TurnTcpBuffer::new(alloc);
+    breaks(rt, &mut buffer, bytes.as_slice())?;
+    stays_broken(rt, &mut buffer)
 }
 
 #[test]
 fn a_stream_breaks_when_the_turn_of_its_rest_comes(rt: HostRuntime) -> Result<(), Fail> {
     for first in [0x80, 0xff] {
-        let mut buffer = TurnTcpBuffer::new(rt.alloc());
-        let mut bytes = CHANNEL_FRAME.to_vec(rt.alloc())?;
-        bytes.extend_from_slice(&[first])?;
-        assert!(rt; buffer.incoming_tcp(piece(bytes.as_slice()))?.is_some());
-        assert!(rt; !buffer.is_empty());
-        assert!(rt; buffer.poll_recv()?.is_none());
-        assert!(rt; buffer.is_empty());
-        assert_eq!(rt; buffer.counts(), TcpCounts { taken: 9, moved: 0 });
-
-        assert!(rt; buffer.incoming_tcp(piece(&CHANNEL_FRAME))?.is_none());
-        assert!(rt; buffer.incoming_tcp(piece(&DATA_INDICATION))?.is_none());
-        assert!(rt; buffer.poll_recv()?.is_none());
-        assert!(rt; buffer.is_empty());
-        assert_eq!(rt; buffer.counts(), TcpCounts { taken: 9, moved: 0 });
+        breaks_by(&rt, rt.alloc(), first)?;
     }
+    Ok(())
+}
+
+/// Whether it is stuck, and lends a frame.
+fn is_in_front(rt: &impl Abort, buffer: &TurnTcpBuffer, stuck: bool, lends: bool) {
+    assert_eq!(rt;
+        (buffer.is_stuck(), buffer.front().is_some()),
+        (stuck, lends)
+    );
+}
+
+fn breaks_when_passed(
+    rt: &impl Abort,
+    buffer: &mut TurnTcpBuffer,
+    bytes: &[u8],
+) -> Result<(), AllocError> {
+    buffer.feed(bytes)?;
+    is_in_front(rt, buffer, false, true);
+    buffer.pass();
+    is_in_front(rt, buffer, true, false);
+    buffer.pass();
+    counts(rt, buffer, 9, 1);
+    buffer.feed(&CHANNEL_FRAME)?;
+    is_in_front(rt, buffer, false, false);
+    is_empty(rt, buffer, true);
     Ok(())
 }
 
 #[test]
 fn a_lent_stream_breaks_when_its_rest_is_passed(rt: HostRuntime) -> Result<(), Fail> {
+    let bytes = with_rest(rt.alloc(), &CHANNEL_FRAME, &[0x80])?;
     let mut buffer = TurnTcpBuffer::new(rt.alloc());
-    let mut bytes = CHANNEL_FRAME.to_vec(rt.alloc())?;
-    bytes.extend_from_slice(&[0x80])?;
-    buffer.feed(bytes.as_slice())?;
-    assert!(rt; !buffer.is_stuck());
-    buffer.pass();
-    assert!(rt; buffer.is_stuck() && buffer.front().is_none());
-    buffer.pass();
-    assert_eq!(rt; buffer.counts(), TcpCounts { taken: 9, moved: 1 });
-    buffer.feed(&CHANNEL_FRAME)?;
-    assert!(rt; buffer.is_empty() && !buffer.is_stuck());
+    Ok(breaks_when_passed(&rt, &mut buffer, bytes.as_slice())?)
+}
+
+/// So many bytes of a frame of this first byte and of the greatest length.
+fn long_frame(alloc: Global, number: u8, len: usize) -> Result<Vec<u8>, AllocError>
+    requires { 4 ≤ len }
+{
+    let mut bytes = vec![in alloc; 0u8; len]?;
+    bytes.splice(..4, [number, 0x01, 0xff, 0xff])?;
+    Ok(bytes)
+}
+
+fn is_whole_with_a_byte(
+    rt: &impl Abort,
+    buffer: &mut TurnTcpBuffer,
+    bytes: &[u8],
+) -> Result<(), AllocError> {
+    gives_nothing(rt, buffer, bytes)?;
+    polls_nothing(rt, buffer)?;
+    gives_one(rt, buffer, &[0])?;
+    is_empty(rt, buffer, true);
     Ok(())
+}
+
+/// A frame of the greatest length is whole with the byte after these.
+fn is_longest(rt: &impl Abort, alloc: Global, number: u8, len: usize) -> Result<(), AllocError>
+    requires { 4 ≤ len }
+{
+    let bytes = long_frame(alloc, number, len)?;
+    let mut buffer = TurnTcpBuffer::new(alloc);
+    is_whole_with_a_byte(rt, &mut buffer, bytes.as_slice())
 }
 
 #[test]
 fn the_longest_frames_are_whole_with_their_last_byte(rt: HostRuntime) -> Result<(), Fail> {
-    for (number, size) in [(0x00, 65_555), (0x40, 65_540)] {
-        let mut bytes = vec![in rt.alloc(); 0u8; size]?;
-        bytes.splice(..4, [number, 0x01, 0xff, 0xff])?;
-        let mut buffer = TurnTcpBuffer::new(rt.alloc());
-        let last = bytes.pop();
-        assert!(rt; buffer.incoming_tcp(piece(bytes.as_slice()))?.is_none());
-        assert!(rt; buffer.poll_recv()?.is_none());
-        assert!(rt; buffer.incoming_tcp(piece(&[last.unwrap_or(1)]))?.is_some());
-        assert!(rt; buffer.is_empty());
-    }
-    Ok(())
+    is_longest(&rt, rt.alloc(), 0x00, 65_554)?;
+    Ok(is_longest(&rt, rt.alloc(), 0x40, 65_539)?)
 }
 
 /// The bytes of a frame that waited.

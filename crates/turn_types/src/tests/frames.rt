@@ -6,9 +6,11 @@ use crate::channel::ChannelData;
 use crate::error::ChannelParseError;
 use crate::message::SEND;
 use crate::prelude::DelayedTransmitBuild;
-use crate::tests::first_id;
+use crate::tests::{assert_bytes, first_id};
 use crate::transmit::{DelayedChannel, DelayedMessage, TransmitBuild};
+use std::alloc::{AllocError, Global};
 use std::net::{Ipv4Addr, Ipv6Addr, SocketAddr, SocketAddrV4, SocketAddrV6};
+use std::process::Abort;
 use std::test::Fail;
 use turn_stun::message::Message;
 
@@ -35,115 +37,165 @@ fn ipv6() -> SocketAddr {
     SocketAddr::V6(SocketAddrV6::new(ip, 9000, 0, 0))
 }
 
+const REFUSED: [(&[u8], ChannelParseError); 7] = [
+    (&[0x40, 0x00], ChannelParseError::Short),
+    (&[0x00], ChannelParseError::Short),
+    (&[0x00, 0x03, 0x00, 0x04], ChannelParseError::NotChannel),
+    (&[0x3f, 0xff, 0x00, 0x00], ChannelParseError::NotChannel),
+    (&[0x80, 0x00, 0x00, 0x09], ChannelParseError::NotChannel),
+    (
+        &[0x40, 0x00, 0x00, 0x05, 0x68, 0x65, 0x6c],
+        ChannelParseError::Length,
+    ),
+    (&[0x7f, 0xff, 0xff, 0xff], ChannelParseError::Length),
+];
+
 #[test]
-fn frames_are_parsed(rt: HostRuntime) -> Result<(), Fail> {
-    let refused: [(&[u8], ChannelParseError); 7] = [
-        (&[0x40, 0x00], ChannelParseError::Short),
-        (&[0x00], ChannelParseError::Short),
-        (&[0x00, 0x03, 0x00, 0x04], ChannelParseError::NotChannel),
-        (&[0x3f, 0xff, 0x00, 0x00], ChannelParseError::NotChannel),
-        (&[0x80, 0x00, 0x00, 0x09], ChannelParseError::NotChannel),
-        (
-            &[0x40, 0x00, 0x00, 0x05, 0x68, 0x65, 0x6c],
-            ChannelParseError::Length,
-        ),
-        (&[0x7f, 0xff, 0xff, 0xff], ChannelParseError::Length),
-    ];
-    for (bytes, want) in refused {
+fn frames_are_refused(rt: HostRuntime) {
+    for (bytes, want) in REFUSED {
         assert_eq!(rt; ChannelData::parse(bytes).err(), Some(want));
     }
-    let accepted: [(&[u8], u16, &[u8]); 4] = [
-        (&[0x40, 0x00, 0x00, 0x03, 0x61, 0x62, 0x63], 0x4000, b"abc"),
-        (&[0x40, 0x00, 0x00, 0x00, 0xff], 0x4000, b""),
-        (
-            &[0x7f, 0xff, 0x00, 0x01, 0x61, 0x00, 0x00, 0x00],
-            0x7fff,
-            b"a",
-        ),
-        (&[0x50, 0x00, 0x00, 0x00], 0x5000, b""),
-    ];
-    for (bytes, id, want) in accepted {
+}
+
+const ACCEPTED: [(&[u8], u16, &[u8]); 4] = [
+    (&[0x40, 0x00, 0x00, 0x03, 0x61, 0x62, 0x63], 0x4000, b"abc"),
+    (&[0x40, 0x00, 0x00, 0x00, 0xff], 0x4000, b""),
+    (
+        &[0x7f, 0xff, 0x00, 0x01, 0x61, 0x00, 0x00, 0x00],
+        0x7fff,
+        b"a",
+    ),
+    (&[0x50, 0x00, 0x00, 0x00], 0x5000, b""),
+];
+
+#[test]
+fn frames_are_parsed(rt: HostRuntime) -> Result<(), Fail> {
+    for (bytes, id, want) in ACCEPTED {
         let frame = ChannelData::parse(bytes)?;
         assert_eq!(rt; frame.id(), id);
-        assert_eq!(rt; frame.data(), want);
+        assert_bytes(&rt, frame.data(), want);
     }
+    Ok(())
+}
+
+/// A channel's number, what goes over it, and the frame.
+const FRAMES: [(u16, &[u8], &[u8]); 3] = [
+    (0x4567, &[5; 5], &[0x45, 0x67, 0, 5, 5, 5, 5, 5, 5, 0, 0, 0]),
+    (0x4000, b"abcd", &[0x40, 0, 0, 4, 0x61, 0x62, 0x63, 0x64]),
+    (0x4000, b"", &[0x40, 0, 0, 0]),
+];
+
+/// It takes as many bytes as these, and some.
+fn has_len(rt: &impl Abort, frame: &impl DelayedTransmitBuild, want: &[u8]) {
+    assert_eq!(rt; frame.len(), want.len());
+    assert!(rt; !frame.is_empty());
+}
+
+fn is_built(
+    rt: &impl Abort,
+    alloc: Global,
+    id: u16,
+    payload: &[u8],
+    want: &[u8],
+) -> Result<(), AllocError> {
+    assert!(rt; (0x4000..0x8000).contains(&id) && payload.len() < 0x1_0000);
+    let frame = DelayedChannel::new(id, payload);
+    has_len(rt, &frame, want);
+    assert_bytes(rt, frame.build(alloc)?.as_slice(), want);
+    Ok(())
+}
+
+fn is_written(
+    rt: &impl Abort,
+    alloc: Global,
+    id: u16,
+    payload: &[u8],
+    want: &[u8],
+) -> Result<(), AllocError> {
+    assert!(rt; (0x4000..0x8000).contains(&id) && payload.len() < 0x1_0000);
+    let mut place = vec![in alloc; 0xaa; want.len()]?;
+    let frame = DelayedChannel::new(id, payload);
+    assert!(rt; frame.len() == place.len());
+    assert_eq!(rt; frame.write_into(place.as_mut_slice()), want.len());
+    assert_bytes(rt, place.as_slice(), want);
     Ok(())
 }
 
 #[test]
 fn frames_are_written(rt: HostRuntime) -> Result<(), Fail> {
-    let rows: [(u16, &[u8], &[u8]); 3] = [
-        (0x4567, &[5; 5], &[0x45, 0x67, 0, 5, 5, 5, 5, 5, 5, 0, 0, 0]),
-        (0x4000, b"abcd", &[0x40, 0, 0, 4, 0x61, 0x62, 0x63, 0x64]),
-        (0x4000, b"", &[0x40, 0, 0, 0]),
-    ];
-    for (id, payload, want) in rows {
-        assert!(rt; (0x4000..0x8000).contains(&id) && payload.len() < 0x1_0000);
-        let frame = DelayedChannel::new(id, payload);
-        assert_eq!(rt; frame.len(), want.len());
-        assert!(rt; !frame.is_empty());
-        assert_eq!(rt; frame.build(rt.alloc())?.as_slice(), want);
-        let mut place = vec![in rt.alloc(); 0xaa; want.len()]?;
-        let frame = DelayedChannel::new(id, payload);
-        assert!(rt; frame.len() == place.len());
-        assert_eq!(rt; frame.write_into(place.as_mut_slice()), want.len());
-        assert_eq!(rt; place.as_slice(), want);
+    for (id, payload, want) in FRAMES {
+        is_built(&rt, rt.alloc(), id, payload, want)?;
+        is_written(&rt, rt.alloc(), id, payload, want)?;
     }
     Ok(())
 }
 
 #[test]
-fn messages_are_written(rt: HostRuntime) -> Result<(), Fail> {
+fn messages_are_built(rt: HostRuntime) -> Result<(), Fail> {
     let message = DelayedMessage::for_server(localhost(), [5; 5], first_id());
-    assert_eq!(rt; message.len(), 44);
-    assert!(rt; !message.is_empty());
-    assert_eq!(rt;
-        message.build(rt.alloc())?.as_slice(),
-        TO_LOCALHOST.as_slice()
-    );
-
-    let message = DelayedMessage::for_server(ipv6(), b"".as_slice(), first_id());
-    let mut place = [0xaa; 48];
-    assert!(rt; message.len() == place.len());
-    assert_eq!(rt; message.write_into(&mut place), 48);
-    assert_eq!(rt; place.as_slice(), NOTHING_TO_IPV6.as_slice());
-
-    let parsed = Message::from_bytes(&TO_LOCALHOST)?;
-    assert!(rt; parsed.has_method(SEND));
-    assert_eq!(rt; parsed.attribute::<XorPeerAddress>()?.addr(), localhost());
-    assert_eq!(rt; parsed.attribute::<Data>()?.data(), [5; 5].as_slice());
+    has_len(&rt, &message, &TO_LOCALHOST);
+    assert_bytes(&rt, message.build(rt.alloc())?.as_slice(), &TO_LOCALHOST);
     Ok(())
 }
 
 #[test]
-fn the_largest_payload_fills_a_message(rt: HostRuntime) -> Result<(), Fail> {
-    let payload = vec![in rt.alloc(); 5; 65504]?;
+fn messages_are_written(rt: HostRuntime) {
+    let message = DelayedMessage::for_server(ipv6(), b"".as_slice(), first_id());
+    let mut place = [0xaa; 48];
+    assert!(rt; message.len() == place.len());
+    assert_eq!(rt; message.write_into(&mut place), 48);
+    assert_bytes(&rt, &place, &NOTHING_TO_IPV6);
+}
+
+#[test]
+fn messages_are_read_again(rt: HostRuntime) -> Result<(), Fail> {
+    let parsed = Message::from_bytes(&TO_LOCALHOST)?;
+    assert!(rt; parsed.has_method(SEND));
+    assert_eq!(rt; parsed.attribute::<XorPeerAddress>()?.addr(), localhost());
+    assert_bytes(&rt, parsed.attribute::<Data>()?.data(), &[5; 5]);
+    Ok(())
+}
+
+/// The message that carries so much, which is the most.
+fn largest(rt: &impl Abort, alloc: Global) -> Result<Vec<u8>, AllocError> {
+    let payload = vec![in alloc; 5; 65504]?;
     assert!(rt; payload.len() <= 65504);
-    let message = DelayedMessage::for_server(ipv6(), payload.as_slice(), first_id());
-    let built = message.build(rt.alloc())?;
+    DelayedMessage::for_server(ipv6(), payload.as_slice(), first_id()).build(alloc)
+}
+
+#[test]
+fn the_largest_payload_fills_a_message(rt: HostRuntime) -> Result<(), Fail> {
+    let built = largest(&rt, rt.alloc())?;
     assert_eq!(rt; built.len(), 65552);
     assert_eq!(rt; built.get(..4), Some([0x00, 0x16, 0xff, 0xfc].as_slice()));
     Ok(())
 }
 
+fn is_between(rt: &impl Abort, from: SocketAddr, to: SocketAddr) {
+    assert_eq!(rt; (from, to), (localhost(), ipv6()));
+}
+
 #[test]
-fn packets_keep_their_way(rt: HostRuntime) -> Result<(), Fail> {
+fn a_built_packet_keeps_its_way(rt: HostRuntime) -> Result<(), Fail> {
     let frame = DelayedChannel::new(0x4000, b"abcd".as_slice());
     let packet = TransmitBuild::new(frame, TransportType::Udp, localhost(), ipv6());
     let sent = packet.build(rt.alloc())?;
-    assert_eq!(rt;
+    assert_bytes(
+        &rt,
         sent.payload.as_bytes(),
-        [0x40, 0, 0, 4, 0x61, 0x62, 0x63, 0x64].as_slice()
+        &[0x40, 0, 0, 4, 0x61, 0x62, 0x63, 0x64],
     );
     assert_eq!(rt; sent.transport, TransportType::Udp);
-    assert_eq!(rt; sent.from, localhost());
-    assert_eq!(rt; sent.to, ipv6());
+    is_between(&rt, sent.from, sent.to);
+    Ok(())
+}
 
+#[test]
+fn a_packet_is_written_in_place(rt: HostRuntime) {
     let frame = DelayedChannel::new(0x4000, b"".as_slice());
     let packet = TransmitBuild::new(frame, TransportType::Tcp, localhost(), ipv6());
     let mut place = [0xaa; 4];
     assert!(rt; packet.payload.len() == place.len());
     assert_eq!(rt; packet.write_into(&mut place), 4);
-    assert_eq!(rt; place, [0x40, 0, 0, 0]);
-    Ok(())
+    assert_bytes(&rt, &place, &[0x40, 0, 0, 0]);
 }

@@ -6,27 +6,50 @@ use crate::attribute::{Data, Lifetime, XorPeerAddress};
 use crate::prelude::DelayedTransmitBuild;
 use crate::tests::first_id;
 use crate::transmit::{DelayedChannel, DelayedMessage, TransmitBuild};
+use std::alloc::Global;
 use std::net::{Ipv4Addr, SocketAddr, SocketAddrV4};
+use std::process::Abort;
 use turn_stun::attribute::typed::AttributeWrite;
 
 fn peer() -> SocketAddr {
     SocketAddr::V4(SocketAddrV4::new(Ipv4Addr::new(127, 0, 0, 1), 1))
 }
 
+/// Whether there is memory for the value.
+fn is_written<A: AttributeWrite>(attribute: &A, out: &mut Vec<u8>) -> bool {
+    attribute.write_value(first_id(), out).is_ok()
+}
+
+fn writes_three(rt: &impl Abort, out: &mut Vec<u8>) {
+    let lifetime = is_written(&Lifetime::new(1800), out);
+    let address = is_written(&XorPeerAddress::new(peer()), out);
+    let data = is_written(&Data::new(b"hello"), out);
+    assert!(rt; out.starts_with(b"front"));
+    if lifetime && address && data {
+        assert_eq!(rt; out.len(), 5 + 4 + 8 + 5);
+    }
+}
+
 #[test]
 fn a_value_keeps_what_stands_before_it(rt: HostRuntime) {
     let mut out = Vec::new(rt.alloc());
-    if out.extend_from_slice(b"front").is_err() {
-        return;
+    if out.extend_from_slice(b"front").is_ok() {
+        writes_three(&rt, &mut out);
     }
-    let written = [
-        Lifetime::new(1800).write_value(first_id(), &mut out),
-        XorPeerAddress::new(peer()).write_value(first_id(), &mut out),
-        Data::new(b"hello").write_value(first_id(), &mut out),
-    ];
-    assert!(rt; out.starts_with(b"front"));
-    if written.iter().all(|outcome| outcome.is_ok()) {
-        assert_eq!(rt; out.len(), 5 + 4 + 8 + 5);
+}
+
+/// Where there is memory, so many bytes are built.
+fn is_built(rt: &impl Abort, alloc: Global, packet: impl DelayedTransmitBuild, len: usize) {
+    if let Ok(built) = packet.build(alloc) {
+        assert_eq!(rt; built.len(), len);
+    }
+}
+
+fn is_sent(rt: &impl Abort, alloc: Global, payload: &[u8; 5]) {
+    let frame = DelayedChannel::new(0x4567, payload.as_slice());
+    let packet = TransmitBuild::new(frame, TransportType::Udp, peer(), peer());
+    if let Ok(sent) = packet.build(alloc) {
+        assert_eq!(rt; sent.payload.as_bytes().len(), 12);
     }
 }
 
@@ -35,18 +58,10 @@ fn a_packet_that_is_not_built_can_be_made_again(rt: HostRuntime) {
     let payload = [5; 5];
     for _ in 0..2 {
         let frame = DelayedChannel::new(0x4567, payload.as_slice());
-        if let Ok(built) = frame.build(rt.alloc()) {
-            assert_eq!(rt; built.len(), 12);
-        }
+        is_built(&rt, rt.alloc(), frame, 12);
         let message = DelayedMessage::for_server(peer(), payload.as_slice(), first_id());
-        if let Ok(built) = message.build(rt.alloc()) {
-            assert_eq!(rt; built.len(), 44);
-        }
-        let frame = DelayedChannel::new(0x4567, payload.as_slice());
-        let packet = TransmitBuild::new(frame, TransportType::Udp, peer(), peer());
-        if let Ok(sent) = packet.build(rt.alloc()) {
-            assert_eq!(rt; sent.payload.as_bytes().len(), 12);
-        }
+        is_built(&rt, rt.alloc(), message, 44);
+        is_sent(&rt, rt.alloc(), &payload);
     }
     assert_eq!(rt; payload, [5; 5]);
 }
