@@ -38,11 +38,17 @@ fn moments_are_printed_in_seconds(rt: HostRuntime) {
     assert_printed(&rt, rt.alloc(), moment, "1.000000005s");
 }
 
+fn assert_printed_id(rt: &impl Abort, alloc: Global, bytes: [u8; 12], expected: &str) {
+    let id = TransactionId::from_bytes(bytes);
+    let text = format!(in alloc; "{id:?}").expect(rt, "memory");
+    assert_text(rt, text.as_str(), expected);
+}
+
 #[test]
 fn ids_are_printed_in_hexadecimal(rt: HostRuntime) {
-    let id = TransactionId::from_bytes(FIRST_ID);
-    let text = format!(in rt.alloc(); "{id:?}").expect(&rt, "memory");
-    assert_text(&rt, text.as_str(), "76b8e0ada0f13d90405d6ae5");
+    assert_printed_id(&rt, rt.alloc(), FIRST_ID, "76b8e0ada0f13d90405d6ae5");
+    let zeros = *b"\x00\x00\x00\x0c\x00\x00\x00\x00\x00\x00\x0a\xbc";
+    assert_printed_id(&rt, rt.alloc(), zeros, "0000000c0000000000000abc");
 }
 
 /// An ID and the one after it.
@@ -57,14 +63,6 @@ const SUCCESSORS: &[([u8; 12], [u8; 12])] = &[
         *b"\x00\x00\x00\x01\x00\x00\x00\x00\x00\x00\x00\x00",
     ),
 ];
-
-#[test]
-fn an_id_is_printed_with_its_leading_zeros(rt: HostRuntime) -> Result<(), AllocError> {
-    let id = TransactionId::from_bytes(*b"\x00\x00\x00\x0c\x00\x00\x00\x00\x00\x00\x0a\xbc");
-    let text = format!(in rt.alloc(); "{id:?}")?;
-    assert_eq!(rt; text.as_str(), "0000000c0000000000000abc");
-    Ok(())
-}
 
 #[test]
 fn the_successor_carries(rt: HostRuntime) {
