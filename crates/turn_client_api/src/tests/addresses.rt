@@ -7,6 +7,7 @@ use crate::tests::{peer, relayed, relayed_ipv6};
 use crate::{Grant, PermissionAddressesIter, Progress, Relay, RelayedAddressesIter};
 use std::alloc::{AllocError, Global};
 use std::net::{IpAddr, SocketAddr};
+use std::process::Abort;
 use std::test::Fail;
 use turn_stun::instant::Instant;
 use turn_types::{AddressFamily, TransportType};
@@ -49,28 +50,62 @@ fn permission(addr: SocketAddr) -> Grant {
     )
 }
 
-#[test]
-fn expired_allocations_are_passed_over(rt: HostRuntime) -> Result<(), Fail> {
-    let [first, second] = [relayed(), relayed_ipv6()].map(|address| allocation(address, false));
-    let expired = allocation(peer(), true);
-    let asked = Grant::Permission(peer().ip(), Progress::Pending);
+fn over_ipv4() -> Grant {
+    allocation(relayed(), false)
+}
+
+fn over_ipv6() -> Grant {
+    allocation(relayed_ipv6(), false)
+}
+
+fn expired() -> Grant {
+    allocation(peer(), true)
+}
+
+/// A permission that the server was only asked for.
+fn asked() -> Grant {
+    Grant::Permission(peer().ip(), Progress::Pending)
+}
+
+/// The addresses of both allocations, and no others, are among these grants.
+fn both_are_listed(rt: &impl Abort, alloc: Global, grants: &[Grant]) {
+    let all = all_relayed(alloc, TransportType::Udp, grants).expect(rt, "memory");
     let both = [
         (TransportType::Udp, relayed()),
         (TransportType::Udp, relayed_ipv6()),
     ];
-    for grants in [
-        [first, second, expired, expired],
-        [expired, first, asked, second],
-        [expired, expired, first, second],
-        [first, permission(peer()), expired, second],
-    ] {
-        let all = all_relayed(rt.alloc(), TransportType::Udp, &grants)?;
-        assert_eq!(rt; all.as_slice(), both.as_slice());
-    }
+    assert_eq!(rt; all.as_slice(), both.as_slice());
+}
+
+#[test]
+fn expired_allocations_are_passed_over(rt: HostRuntime) {
+    both_are_listed(
+        &rt,
+        rt.alloc(),
+        &[over_ipv4(), over_ipv6(), expired(), expired()],
+    );
+    both_are_listed(
+        &rt,
+        rt.alloc(),
+        &[expired(), over_ipv4(), asked(), over_ipv6()],
+    );
+    both_are_listed(
+        &rt,
+        rt.alloc(),
+        &[expired(), expired(), over_ipv4(), over_ipv6()],
+    );
+    both_are_listed(
+        &rt,
+        rt.alloc(),
+        &[over_ipv4(), permission(peer()), expired(), over_ipv6()],
+    );
+}
+
+#[test]
+fn an_iterator_stays_at_its_end(rt: HostRuntime) {
     let mut none = RelayedAddressesIter::new(TransportType::Tcp, &[]);
     assert_eq!(rt; none.next(), None);
     assert_eq!(rt; none.next(), None);
-    Ok(())
 }
 
 #[test]
@@ -94,8 +129,7 @@ fn permissions_are_listed_in_order(rt: HostRuntime) -> Result<(), Fail> {
 
 #[test]
 fn pending_permissions_are_passed_over(rt: HostRuntime) -> Result<(), Fail> {
-    let asked = Grant::Permission(peer().ip(), Progress::Pending);
-    let grants = [asked, permission(relayed())];
+    let grants = [asked(), permission(relayed())];
     let all = all_permitted(rt.alloc(), AddressFamily::IPV4, &grants)?;
     assert_eq!(rt; all.as_slice(), [relayed().ip()].as_slice());
     Ok(())
