@@ -41,7 +41,7 @@ pub use rows::{
     moments_are_told, silence_is_timed,
 };
 pub use sockets::{peers_may_connect, sockets_are_taken};
-pub use standards::{first_moment, last_moment, methods, numbers_are_the_standards};
+pub use standards::numbers_are_the_standards;
 pub use steps::{challenges_are_counted, phases_go_on, realm_stays, stays_closed};
 pub use streams::{streams_are_drained, streams_stay_apart};
 pub use wakeup::wakeup_is_the_least_moment;

@@ -22,9 +22,22 @@ use turn_types::message::{
     REFRESH,
 };
 
-/// The machine's types of attributes and error codes are those that the crates below write and read
-/// (RFC 8656, section 18, RFC 6062, section 6.2, and RFC 8489, section 14.8).
-pub fn numbers_are_the_standards()
+/// The machine's numbers are those that the crates below write and read: its types of attributes (RFC 8656,
+/// section 18, and RFC 6062, section 6.2), its error codes (RFC 8489, section 14.8), its methods (RFC 8656,
+/// section 17, and RFC 6062, section 6.1), and both ends of its clock. The methods and these two moments are
+/// given, in the order of the clauses.
+pub fn numbers_are_the_standards() -> (
+    Method,
+    Method,
+    Method,
+    Method,
+    Method,
+    Method,
+    Method,
+    Method,
+    Instant,
+    Instant,
+)
     // types of attributes
     ensures error { error_kind ≡ AttributeType.ERROR_CODE.value }
     ensures channel_number { channel_number_kind ≡ ChannelNumber.TYPE.value }
@@ -44,19 +57,7 @@ pub fn numbers_are_the_standards()
     ensures family { family_not_supported ≡ ErrorCode.ADDRESS_FAMILY_NOT_SUPPORTED }
     ensures exists { connection_already_exists ≡ ErrorCode.CONNECTION_ALREADY_EXISTS }
     ensures timed_out { connection_timed_out ≡ ErrorCode.CONNECTION_TIMEOUT_OR_FAILURE }
-{}
-
-/// Its methods are theirs too (RFC 8656, section 17, and RFC 6062, section 6.1).
-pub fn methods() -> (
-    Method,
-    Method,
-    Method,
-    Method,
-    Method,
-    Method,
-    Method,
-    Method,
-)
+    // methods
     ensures allocate { result.0.value ≡ allocate_method }
     ensures refresh { result.1.value ≡ refresh_method }
     ensures data { result.2.value ≡ data_method }
@@ -65,6 +66,9 @@ pub fn methods() -> (
     ensures connect { result.5.value ≡ connect_method }
     ensures connection_bind { result.6.value ≡ connection_bind_method }
     ensures connection_attempt { result.7.value ≡ connection_attempt_method }
+    // The pause of a client that has sent nothing ends at the first moment, and the machine's sums stop at the last.
+    ensures first_moment { result.8 ≡ 0 }
+    ensures last_moment { result.9 ≡ greatest_moment }
 {
     (
         ALLOCATE,
@@ -75,19 +79,7 @@ pub fn methods() -> (
         CONNECT,
         CONNECTION_BIND,
         CONNECTION_ATTEMPT,
+        Instant::ZERO,
+        Instant::from_nanos(u64::MAX),
     )
-}
-
-/// The first moment of a clock: the pause of a client that has sent nothing ends there.
-pub fn first_moment() -> Instant
-    ensures { result ≡ 0 }
-{
-    Instant::ZERO
-}
-
-/// The greatest moment that an `Instant` holds is the one at which the machine's sums stop.
-pub fn last_moment() -> Instant
-    ensures { result ≡ greatest_moment }
-{
-    Instant::from_nanos(u64::MAX)
 }
