@@ -12,7 +12,7 @@ use Rattle.turn_types.specs.Frames.{begins_no_frame, frame_len}
 use Rattle.turn_agent.specs.Agent.{same_address}
 use Rattle.turn_client_api.specs.State.{State, Mode, Control, Waiting, Bound, Broken, Stream}
 use Rattle.turn_client_api.specs.Payloads.{Payload, Outcome, Handled, Ignored, PeerData, PeerIcmp, datagram_step}
-use Rattle.turn_client_api.specs.Streams.{broken_at, framed_by, framed_turn, go_on, is_ready, most_turns, owned, payload_in, poll_recv_step, stream_at, turn, turn_of_first, turned, turns, with_bytes}
+use Rattle.turn_client_api.specs.Streams.{broken_at, framed_by, framed_turn, go_on, is_ready, most_turns, owned, payload_in, poll_recv_step, stream_at, turn, turn_of_first, turned, turns_until_payload, with_bytes}
 use Rattle.turn_client_api.specs.Receive.{first_turn, is_from_server, piece_step, place_kept, recv_step, stream_step, then_all}
 use Rattle.turn_client_api.specs.Steps.{Recv, packet_step}
 use Rattle.turn_client_api.specs.Handled.{Turn, fed, fed_taken, frame_taken, handled, is_front, payloads, piece_turns, poll_recv_turns, recv_turns, stream_turns, taken, taken_first, taken_in, taken_of_len, then_taken, turn_of, turn_payload, turns_taken, unless_given}
@@ -74,14 +74,14 @@ go_on-Gives next later front (Handled, t) first more = payloads-append front (la
 go_on-Gives next later front (Ignored, t) first more = payloads-append front (later t) ∙ (ap (λ ps. ps ++ payloads (later t)) first ∙ more t)
 go_on-Gives next later front (PeerIcmp transport peer icmp, t) first more = payloads-append front (later t) ∙ (ap (λ ps. ps ++ payloads (later t)) first ∙ more t)
 
-turns-Gives : (n now : ℕ) (s : State) → Gives (turns_taken n now s) (turns n now s)
-unfolding turns turns_taken
+turns-Gives : (n now : ℕ) (s : State) → Gives (turns_taken n now s) (turns_until_payload n now s)
+unfolding turns_until_payload turns_taken
 turns-Gives zero now s = refl
 turns-Gives (suc n) now s = by (find is_ready s.streams) (λ t. turns-Gives n now t)
   where
-    by : (o : Option Stream) → ((t : State) → Gives (turns_taken n now t) (turns n now t)) → Gives (taken_first (turns_taken n now) now s o) (turn_of_first (turns n now) now s o)
+    by : (o : Option Stream) → ((t : State) → Gives (turns_taken n now t) (turns_until_payload n now t)) → Gives (taken_first (turns_taken n now) now s o) (turn_of_first (turns_until_payload n now) now s o)
     by None more = refl
-    by (Some stream) more = go_on-Gives (turns n now) (turns_taken n now) (taken false stream now s) (turn stream now s) (turn-AreOf stream now s) more
+    by (Some stream) more = go_on-Gives (turns_until_payload n now) (turns_taken n now) (taken false stream now s) (turn stream now s) (turn-AreOf stream now s) more
 
 pub poll_recv-Gives : (now : ℕ) (s : State) → payloads (poll_recv_turns now s) ≡ option_to_list (poll_recv_step now s).0
 poll_recv-Gives now s = turns-Gives (most_turns s) now s

@@ -10,7 +10,7 @@ use Rattle.turn_client_api.specs.State.{State, Mode, Control, Waiting, Bound, Br
 use Rattle.turn_client_api.specs.Grants.{same_transport}
 use Rattle.turn_client_api.specs.Connections.{bind_step}
 use Rattle.turn_client_api.specs.Payloads.{Payload, Outcome, Handled, Ignored, PeerData, PeerIcmp, channel_sent, datagram_step, is_channel_frame, is_message, message_step}
-use Rattle.turn_client_api.specs.Streams.{broken_at, control_frame_step, frame_step, framed_by, framed_turn, go_on, is_ready, most_turns, poll_recv_step, stream_at, turn, turned, turns, turn_of_first, waiting_frame_step, with_bytes, without_stream}
+use Rattle.turn_client_api.specs.Streams.{broken_at, control_frame_step, frame_step, framed_by, framed_turn, go_on, is_ready, most_turns, poll_recv_step, stream_at, turn, turned, turns_until_payload, turn_of_first, waiting_frame_step, with_bytes, without_stream}
 use Rattle.turn_client_api.specs.Receive.{connection_gone, first_turn, is_from_server, piece_step, recv_step, stream_step, tcp_closed_step, then_all}
 
 -- Of a relation between a state and a later one: each state is as itself, later is later again, streams
@@ -76,14 +76,14 @@ module _ (R : State → State → Type 0) (k : IsKept R) where
   go_on-kept next s (Ignored, t) first more = k.trans s t (next t).1 first (more t)
   go_on-kept next s (PeerIcmp transport peer icmp, t) first more = k.trans s t (next t).1 first (more t)
 
-  pub turns-kept : (n now : ℕ) (s : State) → R s (turns n now s).1
-  unfolding turns
+  pub turns-kept : (n now : ℕ) (s : State) → R s (turns_until_payload n now s).1
+  unfolding turns_until_payload
   turns-kept zero now s = k.same s
   turns-kept (suc n) now s = by (find is_ready s.streams) (λ t. turns-kept n now t)
     where
-      by : (o : Option Stream) → ((t : State) → R t (turns n now t).1) → R s (turn_of_first (turns n now) now s o).1
+      by : (o : Option Stream) → ((t : State) → R t (turns_until_payload n now t).1) → R s (turn_of_first (turns_until_payload n now) now s o).1
       by None more = k.same s
-      by (Some stream) more = go_on-kept (turns n now) s (turn stream now s) (turn-kept stream now s) more
+      by (Some stream) more = go_on-kept (turns_until_payload n now) s (turn stream now s) (turn-kept stream now s) more
 
   pub poll_recv-kept : (now : ℕ) (s : State) → R s (poll_recv_step now s).1
   poll_recv-kept now s = turns-kept (most_turns s) now s

@@ -12,7 +12,7 @@ use Rattle.turn_types.proofs.SplitLemmas.{IsFrame-frame_len}
 use Rattle.turn_agent.specs.Agent.{same_address}
 use Rattle.turn_client_api.specs.State.{State, Mode, Control, Waiting, Bound, Broken, Stream}
 use Rattle.turn_client_api.specs.Payloads.{Payload, Outcome, Handled, Ignored, PeerData, PeerIcmp}
-use Rattle.turn_client_api.specs.Streams.{broken_at, frame_step, framed_by, framed_turn, go_on, is_ready, most_turns, poll_recv_step, ready_len, turn, turn_of_first, turns, with_bytes}
+use Rattle.turn_client_api.specs.Streams.{broken_at, frame_step, framed_by, framed_turn, go_on, is_ready, most_turns, poll_recv_step, ready_len, turn, turn_of_first, turns_until_payload, with_bytes}
 use Rattle.turn_client_api.specs.Receive.{first_turn, piece_step, then_all}
 use Rattle.turn_client_api.specs.LawsPeers.{IsNobodys}
 use Rattle.turn_client_api.specs.LawsStreams.{HasNoFrame, IsDrained}
@@ -180,23 +180,23 @@ none-ready now s empty None e = refl
 none-ready now s empty (Some stream) e = let less = turn-lighter stream now s e in absurd (omega (arith, empty, less))
 
 -- more turns than the streams' weight give the same
-turns-enough : (n m now : ℕ) (s : State) → weight s.streams ≤ n → weight s.streams ≤ m → turns n now s ≡ turns m now s
-unfolding turns
+turns-enough : (n m now : ℕ) (s : State) → weight s.streams ≤ n → weight s.streams ≤ m → turns_until_payload n now s ≡ turns_until_payload m now s
+unfolding turns_until_payload
 turns-enough zero zero now s hn hm = refl
 turns-enough zero (suc m) now s hn hm = rw (none-ready now s hn _ refl) refl
 turns-enough (suc n) zero now s hn hm = rw (none-ready now s hm _ refl) refl
 turns-enough (suc n) (suc m) now s hn hm = by (find is_ready s.streams) refl (λ t p q. turns-enough n m now t p q)
   where
     Later : Type 0
-    Later = (t : State) → weight t.streams ≤ n → weight t.streams ≤ m → turns n now t ≡ turns m now t
+    Later = (t : State) → weight t.streams ≤ n → weight t.streams ≤ m → turns_until_payload n now t ≡ turns_until_payload m now t
 
-    by : (o : Option Stream) → find is_ready s.streams ≡ o → Later → turn_of_first (turns n now) now s o ≡ turn_of_first (turns m now) now s o
+    by : (o : Option Stream) → find is_ready s.streams ≡ o → Later → turn_of_first (turns_until_payload n now) now s o ≡ turn_of_first (turns_until_payload m now) now s o
     by None e more = refl
     by (Some stream) e more =
         let less = turn-lighter stream now s e in
-        go_on-same (turns n now) (turns m now) (turn stream now s) (more (turn stream now s).1 (omega (arith, less)) (omega (arith, less)))
+        go_on-same (turns_until_payload n now) (turns_until_payload m now) (turn stream now s) (more (turn stream now s).1 (omega (arith, less)) (omega (arith, less)))
 
-pub poll_recv-enough : (n now : ℕ) (s : State) → most_turns s ≤ n → turns n now s ≡ poll_recv_step now s
+pub poll_recv-enough : (n now : ℕ) (s : State) → most_turns s ≤ n → turns_until_payload n now s ≡ poll_recv_step now s
 poll_recv-enough n now s h =
     let most = weight-le s.streams in
     turns-enough n (most_turns s) now s (omega (arith, most, h)) most
@@ -214,16 +214,16 @@ go_on-done next (Handled, t) done = done
 go_on-done next (Ignored, t) done = done
 go_on-done next (PeerIcmp transport peer icmp, t) done = done
 
-turns-done : (n now : ℕ) (s : State) → weight s.streams ≤ n → IsDone (turns n now s)
-unfolding turns
+turns-done : (n now : ℕ) (s : State) → weight s.streams ≤ n → IsDone (turns_until_payload n now s)
+unfolding turns_until_payload
 turns-done zero now s h = λ none. none-ready now s h _ refl
 turns-done (suc n) now s h = by (find is_ready s.streams) refl (λ t p. turns-done n now t p)
   where
-    by : (o : Option Stream) → find is_ready s.streams ≡ o → ((t : State) → weight t.streams ≤ n → IsDone (turns n now t)) → IsDone (turn_of_first (turns n now) now s o)
+    by : (o : Option Stream) → find is_ready s.streams ≡ o → ((t : State) → weight t.streams ≤ n → IsDone (turns_until_payload n now t)) → IsDone (turn_of_first (turns_until_payload n now) now s o)
     by None e more = λ none. e
     by (Some stream) e more =
         let less = turn-lighter stream now s e in
-        go_on-done (turns n now) (turn stream now s) (more (turn stream now s).1 (omega (arith, less)))
+        go_on-done (turns_until_payload n now) (turn stream now s) (more (turn stream now s).1 (omega (arith, less)))
 
 -- ---- what is not ready
 

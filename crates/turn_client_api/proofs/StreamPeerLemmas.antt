@@ -10,7 +10,7 @@ use Rattle.turn_client_api.specs.Answers.{before_others}
 use Rattle.std.specs.Option.{option_map_or}
 use Rattle.turn_client_api.specs.Payloads.{Handled, Ignored, PeerData, PeerIcmp}
 use Rattle.turn_client_api.specs.Payloads.{Payload, Outcome, datagram_step}
-use Rattle.turn_client_api.specs.Streams.{broken_at, framed_by, framed_turn, go_on, is_ready, most_turns, payload_in, poll_recv_step, stream_at, turn, turned, turns, with_bytes}
+use Rattle.turn_client_api.specs.Streams.{broken_at, framed_by, framed_turn, go_on, is_ready, most_turns, payload_in, poll_recv_step, stream_at, turn, turned, turns_until_payload, with_bytes}
 use Rattle.turn_client_api.specs.LawsPeers.{IsLetThrough, IsLetIn, IsNobodys, IsNextOf, IsNextAt, IsPolled, IsReceived, IsTaken}
 use Rattle.turn_client_api.specs.Receive.{first_turn, place_kept, is_from_server, piece_step, recv_step, stream_step, then_all}
 use Rattle.std.proofs.Math.Seq.{take-length}
@@ -98,9 +98,9 @@ go_on-IsGiven next (PeerIcmp transport peer icmp, t) payload h = inr (refl, h)
 go_on-IsGiven next (PeerData q, t) payload h = inl (q, refl, same_Some _ _ h)
 
 -- a turn that gives no payload is one turn more
-pub turns-suc : (n now : ℕ) (s : State) (stream : Stream) → find is_ready s.streams ≡ Some stream → payload_in (turn stream now s).0 ≡ None → turns (suc n) now s ≡ turns n now (turn stream now s).1
-unfolding turns
-turns-suc n now s stream e none = rw e (go_on-none (turns n now) (turn stream now s) none)
+pub turns-suc : (n now : ℕ) (s : State) (stream : Stream) → find is_ready s.streams ≡ Some stream → payload_in (turn stream now s).0 ≡ None → turns_until_payload (suc n) now s ≡ turns_until_payload n now (turn stream now s).1
+unfolding turns_until_payload
+turns-suc n now s stream e none = rw e (go_on-none (turns_until_payload n now) (turn stream now s) none)
 
 next-data : (stream : Stream) (s : State) (o : Outcome) (q : Payload) → IsTurned stream s o → o ≡ PeerData q → IsNextOf stream s (PeerData q)
 next-data stream s o q (inl is) e = absurd (unlike (sym is ∙ e))
@@ -117,28 +117,28 @@ polled_later now s stream payload e none (m, other, nothing, there, next) =
     let same = turns-suc m now s stream e none in
     (suc m, other, rw same nothing, rw same there, rw same next)
 
-given-IsPolled : (n now : ℕ) (s : State) (stream : Stream) (payload : Payload) → find is_ready s.streams ≡ Some stream → ((t : State) → (turns n now t).0 ≡ Some payload → IsPolled now t payload) → IsGiven (turns n now) (turn stream now s) payload → IsPolled now s payload
-unfolding turns
+given-IsPolled : (n now : ℕ) (s : State) (stream : Stream) (payload : Payload) → find is_ready s.streams ≡ Some stream → ((t : State) → (turns_until_payload n now t).0 ≡ Some payload → IsPolled now t payload) → IsGiven (turns_until_payload n now) (turn stream now s) payload → IsPolled now s payload
+unfolding turns_until_payload
 given-IsPolled n now s stream payload e more (inl (q, is, same)) =
     (0, stream, refl, find-Contains is_ready s.streams stream e, next-owned stream s q payload same (next-data stream s _ q (turn-IsTurned stream now s) is))
 given-IsPolled n now s stream payload e more (inr (none, later)) =
     polled_later now s stream payload e none (more (turn stream now s).1 later)
 
-turns-IsPolled : (n now : ℕ) (s : State) (payload : Payload) → (turns n now s).0 ≡ Some payload → IsPolled now s payload
-unfolding turns
+turns-IsPolled : (n now : ℕ) (s : State) (payload : Payload) → (turns_until_payload n now s).0 ≡ Some payload → IsPolled now s payload
+unfolding turns_until_payload
 turns-IsPolled zero now s payload h = cc
 turns-IsPolled (suc n) now s payload h = by (λ t. turns-IsPolled n now t payload) (find is_ready s.streams) refl
   where
-    by : ((t : State) → (turns n now t).0 ≡ Some payload → IsPolled now t payload) → (o : Option Stream) → find is_ready s.streams ≡ o → IsPolled now s payload
+    by : ((t : State) → (turns_until_payload n now t).0 ≡ Some payload → IsPolled now t payload) → (o : Option Stream) → find is_ready s.streams ≡ o → IsPolled now s payload
     by more None e = let none : None ≡ Some payload = rw e at h in absurd (none-some payload none)
-    by more (Some stream) e = given-IsPolled n now s stream payload e more (go_on-IsGiven (turns n now) (turn stream now s) payload (rw e at h))
+    by more (Some stream) e = given-IsPolled n now s stream payload e more (go_on-IsGiven (turns_until_payload n now) (turn stream now s) payload (rw e at h))
 
 IfSome-by : {X : Type 0} (P : X → Type 0) (o : Option X) → ((x : X) → o ≡ Some x → P x) → IfSome o P
 IfSome-by P None h = tt
 IfSome-by P (Some x) h = h x refl
 
 pub poll_recv-IsPolled : (now : ℕ) (s : State) → IfSome (poll_recv_step now s).0 (IsPolled now s)
-poll_recv-IsPolled now s = IfSome-by (IsPolled now s) (turns (most_turns s) now s).0 (turns-IsPolled (most_turns s) now s)
+poll_recv-IsPolled now s = IfSome-by (IsPolled now s) (turns_until_payload (most_turns s) now s).0 (turns-IsPolled (most_turns s) now s)
 
 -- ---- what comes in
 

@@ -10,7 +10,7 @@ use Rattle.turn_client_api.specs.State.{State, Mode, Control, Waiting, Bound, Br
 use Rattle.turn_client_api.specs.Grants.{same_transport}
 use Rattle.turn_client_api.specs.Connections.{connection_at}
 use Rattle.turn_client_api.specs.Payloads.{Payload, Outcome, Handled, Ignored, PeerData, PeerIcmp, channel_sent, datagram_step, is_channel_frame, is_message, message_step}
-use Rattle.turn_client_api.specs.Streams.{broken_at, frame_step, framed_by, framed_turn, go_on, is_ready, most_turns, poll_recv_step, stream_at, turn, turned, turn_of_first, turns, with_bytes}
+use Rattle.turn_client_api.specs.Streams.{broken_at, frame_step, framed_by, framed_turn, go_on, is_ready, most_turns, poll_recv_step, stream_at, turn, turned, turn_of_first, turns_until_payload, with_bytes}
 use Rattle.turn_client_api.specs.Receive.{connection_gone, first_turn, is_from_server, piece_step, recv_step, stream_step, tcp_closed_step, then_all}
 use Rattle.turn_client_api.specs.LawsStreams.{AreApart}
 use Rattle.turn_client_api.proofs.StreamApartLemmas.{Apart, NotBroken, bound-NotBroken, bound-apart, broken-apart, bytes-apart, bytes-NotBroken, emptied-apart, filter-apart, found-NotBroken}
@@ -78,16 +78,16 @@ ready-whole Waiting stream e = λ f. cc
 ready-whole (Bound peer) stream e = λ f. cc
 ready-whole Broken stream e = cc
 
-pub turns-apart : (n now : ℕ) (s : State) → StayApart s (turns n now s).1
-unfolding turns
+pub turns-apart : (n now : ℕ) (s : State) → StayApart s (turns_until_payload n now s).1
+unfolding turns_until_payload
 turns-apart zero now s h = h
 turns-apart (suc n) now s h = by (find is_ready s.streams) refl (λ t. turns-apart n now t)
   where
-    by : (o : Option Stream) → find is_ready s.streams ≡ o → ((t : State) → StayApart t (turns n now t).1) → AreApart (turn_of_first (turns n now) now s o).1
+    by : (o : Option Stream) → find is_ready s.streams ≡ o → ((t : State) → StayApart t (turns_until_payload n now t).1) → AreApart (turn_of_first (turns_until_payload n now) now s o).1
     by None e more = h
     by (Some stream) e more =
         let whole = found-NotBroken is_ready s.streams stream e (ready-whole stream.mode stream (found-ready s.streams stream e)) h.0 in
-        go_on-apart (turns n now) s (turn stream now s) (turn-apart stream now s whole h) more
+        go_on-apart (turns_until_payload n now) s (turn stream now s) (turn-apart stream now s whole h) more
 
 pub poll_recv-apart : (now : ℕ) (s : State) → StayApart s (poll_recv_step now s).1
 poll_recv-apart now s = turns-apart (most_turns s) now s

@@ -10,7 +10,7 @@ use Rattle.turn_client_api.specs.State.{State, Mode, Control, Waiting, Bound, Br
 use Rattle.turn_client_api.specs.Answers.{before_others}
 use Rattle.turn_client_api.specs.Connections.{bind_step}
 use Rattle.turn_client_api.specs.Payloads.{Payload, Outcome, Handled, Ignored, PeerData, PeerIcmp, channel_sent, datagram_step, is_channel_frame, is_message, message_step}
-use Rattle.turn_client_api.specs.Streams.{broken_at, control_frame_step, frame_step, framed_by, framed_turn, go_on, is_ready, most_turns, payload_in, poll_recv_step, stream_at, turn, turned, turns, turn_of_first, waiting_frame_step, with_bytes, without_stream}
+use Rattle.turn_client_api.specs.Streams.{broken_at, control_frame_step, frame_step, framed_by, framed_turn, go_on, is_ready, most_turns, payload_in, poll_recv_step, stream_at, turn, turned, turns_until_payload, turn_of_first, waiting_frame_step, with_bytes, without_stream}
 use Rattle.turn_client_api.specs.Receive.{connection_gone, first_turn, is_from_server, piece_step, recv_step, stream_step, then_all}
 use Rattle.turn_client_api.specs.LawsTurns.{Deed, IsBroughtByPiece, IsBroughtIn, IsBroughtInTurn}
 use Rattle.turn_client_api.proofs.StreamPeerLemmas.{behind, find-Contains, turns-suc}
@@ -95,7 +95,7 @@ module _ (P : State → Type 0) (Did : Deed) (k : IsBringing P Did) where
   IsTurned now s = P s ⊎ IsBroughtInTurn Did now s
 
   now-IsTurned : (stream : Stream) (now : ℕ) (s : State) → find is_ready s.streams ≡ Some stream → P s ⊎ IsByNext stream now s → IsTurned now s
-  unfolding turns
+  unfolding turns_until_payload
   now-IsTurned stream now s e (inl h) = inl h
   now-IsTurned stream now s e (inr (len, d)) = inr (0, stream, len, find-Contains is_ready s.streams stream e, d)
 
@@ -111,16 +111,16 @@ module _ (P : State → Type 0) (Did : Deed) (k : IsBringing P Did) where
   go_on-brings next (Ignored, t) h = inr (refl, h)
   go_on-brings next (PeerIcmp transport peer icmp, t) h = inr (refl, h)
 
-  pub turns-bring : (n now : ℕ) (s : State) → P (turns n now s).1 → IsTurned now s
-  unfolding turns
+  pub turns-bring : (n now : ℕ) (s : State) → P (turns_until_payload n now s).1 → IsTurned now s
+  unfolding turns_until_payload
   turns-bring zero now s h = inl h
   turns-bring (suc n) now s h = by (find is_ready s.streams) refl (λ t. turns-bring n now t) h
     where
-      by : (o : Option Stream) → find is_ready s.streams ≡ o → ((t : State) → P (turns n now t).1 → IsTurned now t) → P (turn_of_first (turns n now) now s o).1 → IsTurned now s
+      by : (o : Option Stream) → find is_ready s.streams ≡ o → ((t : State) → P (turns_until_payload n now t).1 → IsTurned now t) → P (turn_of_first (turns_until_payload n now) now s o).1 → IsTurned now s
       by None e more g = inl g
-      by (Some stream) e more g = at (go_on-brings (turns n now) (turn stream now s) g)
+      by (Some stream) e more g = at (go_on-brings (turns_until_payload n now) (turn stream now s) g)
         where
-          at : P (turn stream now s).1 ⊎ ((payload_in (turn stream now s).0 ≡ None) × P (turns n now (turn stream now s).1).1) → IsTurned now s
+          at : P (turn stream now s).1 ⊎ ((payload_in (turn stream now s).0 ≡ None) × P (turns_until_payload n now (turn stream now s).1).1) → IsTurned now s
           at (inl here) = now-IsTurned stream now s e (turn-brings stream now s here)
           at (inr (none, later)) = later-IsTurned stream now s e none (more (turn stream now s).1 later)
 

@@ -20,7 +20,7 @@ use Rattle.turn_client_api.specs.Judgement.{class_in, method_in}
 use Rattle.turn_client_api.specs.Effect.{closed}
 use Rattle.turn_client_api.specs.Payloads.{Payload, Outcome, is_channel_frame, is_message}
 use Rattle.turn_client_api.specs.Payloads as O
-use Rattle.turn_client_api.specs.Streams.{broken_at, is_bound, is_ready, stream_at, turns}
+use Rattle.turn_client_api.specs.Streams.{broken_at, is_bound, is_ready, stream_at, turns_until_payload}
 use Rattle.turn_client_api.specs.Receive.{first_turn, is_from_server}
 use Rattle.turn_client_api.specs.declared.receive.DataRangeOrOwned.{DataRangeOrOwned}
 use Rattle.turn_client_api.specs.declared.receive.DataRangeOrOwned.TheVariants as Data
@@ -111,7 +111,7 @@ HandsBack transmit (Recv.PeerIcmp transport peer icmp_type icmp_code icmp_data) 
 
 -- so many turns without a payload lead from one state to the other
 abbrev pub LeadsTo : ℕ → State → State → Type 0
-LeadsTo now before s = (n : ℕ) × (turns n now before ≡ (None, s))
+LeadsTo now before s = (n : ℕ) × (turns_until_payload n now before ≡ (None, s))
 
 -- After some turns without a payload there was no memory for the next one: its stream is broken, and the
 -- client has ended, with what these turns left. Where no stream is ready, nothing asks for memory.

@@ -113,8 +113,8 @@ not_connected signature = message_with 0x01 0x1a (with_error 47 ++ with_connecti
 -- ---- what comes of them
 
 -- the message is signed under what the client holds
-abbrev pub IsSigned : List ℕ → State → Type 0
-IsSigned message s = validation_of (auth_of s) message ≡ Validated Sha1
+abbrev pub IsOfHeldKey : List ℕ → State → Type 0
+IsOfHeldKey message s = validation_of (auth_of s) message ≡ Validated Sha1
 
 -- what the client makes of it at 100 ms
 abbrev pub after_message : List ℕ → State → Outcome × State
@@ -123,7 +123,7 @@ after_message message s = message_step message (ms 100) s
 -- with a signature, whatever its bytes, that is right, this is so of what comes of the reply
 abbrev pub IfSigned : (List ℕ → List ℕ) → State → (Outcome × State → Type 0) → Type 0
 IfSigned reply s Is =
-    (byte : ℕ → ℕ) → IsSigned (reply (with_integrity byte)) s → Is (after_message (reply (with_integrity byte)) s)
+    (byte : ℕ → ℕ) → IsOfHeldKey (reply (with_integrity byte)) s → Is (after_message (reply (with_integrity byte)) s)
 
 -- without one, which the client finds to be so
 abbrev pub IfUnsigned : (List ℕ → List ℕ) → State → (Outcome × State → Type 0) → Type 0

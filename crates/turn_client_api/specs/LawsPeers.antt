@@ -11,7 +11,7 @@ use Rattle.turn_client_api.specs.State.{State, Permission, Channel, Active, Mode
 use Rattle.turn_client_api.specs.Judgement.{last_peer_in}
 use Rattle.turn_client_api.specs.Answers.{before_others, is_data_indication}
 use Rattle.turn_client_api.specs.Payloads.{Payload, Outcome, Handled, Ignored, PeerData, PeerIcmp}
-use Rattle.turn_client_api.specs.Streams.{stream_at, turns}
+use Rattle.turn_client_api.specs.Streams.{stream_at, turns_until_payload}
 use Rattle.turn_client_api.specs.Handled.{Turn, made_of}
 
 -- the IP address has an active permission
@@ -63,8 +63,8 @@ IsNextOf stream s outcome = (len : ℕ) × IsLetIn stream.mode (take len stream.
 -- that these left
 abbrev pub IsPolled : ℕ → State → Payload → Type 0
 IsPolled now s payload =
-    (n : ℕ) × (stream : Stream) × ((turns n now s).0 ≡ None) × Contains (turns n now s).1.streams stream
-    × IsNextOf stream (turns n now s).1 (PeerData payload)
+    (n : ℕ) × (stream : Stream) × ((turns_until_payload n now s).0 ≡ None) × Contains (turns_until_payload n now s).1.streams stream
+    × IsNextOf stream (turns_until_payload n now s).1 (PeerData payload)
 
 -- what the stream at this local end gives once this piece of it came
 abbrev pub IsNextAt : SocketAddr → List ℕ → State → Outcome → Type 0

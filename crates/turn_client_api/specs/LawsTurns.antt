@@ -6,7 +6,7 @@ use Rattle.turn_stun.specs.declared.transport.TransportType.{TransportType}
 use Rattle.turn_stun.specs.declared.transport.TransportType.TheVariants.{Udp, Tcp}
 use Rattle.turn_client_api.specs.State.{State, Stream}
 use Rattle.turn_client_api.specs.Answers.{before_others}
-use Rattle.turn_client_api.specs.Streams.{stream_at, turns}
+use Rattle.turn_client_api.specs.Streams.{stream_at, turns_until_payload}
 use Rattle.turn_client_api.specs.Steps.{Call, Recv, PollRecv}
 
 -- What a message did: it came at this moment to a client in this state.
@@ -16,8 +16,8 @@ Deed = List ℕ → ℕ → State → Type 0
 -- the next bytes of a stream did it, when some turns had been taken, in the state that these left
 abbrev pub IsBroughtInTurn : Deed → ℕ → State → Type 0
 IsBroughtInTurn Did now s =
-    (n : ℕ) × (stream : Stream) × (len : ℕ) × Contains (turns n now s).1.streams stream
-    × Did (take len stream.bytes) now (turns n now s).1
+    (n : ℕ) × (stream : Stream) × (len : ℕ) × Contains (turns_until_payload n now s).1.streams stream
+    × Did (take len stream.bytes) now (turns_until_payload n now s).1
 
 -- the first bytes of the stream at this local end did it once this piece of it came, or those of any
 -- stream where the piece sets all of them going

@@ -139,9 +139,9 @@ turn_of_first next now s (Some stream) = go_on next (turn stream now s)
 
 -- so many turns, each of the first stream that is ready, or as many as there are up to a payload; what
 -- ICMP tells is dropped here
-unfoldable pub turns : ℕ → ℕ → State → Option Payload × State
-turns zero now s = (None, s)
-turns (suc n) now s = turn_of_first (turns n now) now s (find is_ready s.streams)
+unfoldable pub turns_until_payload : ℕ → ℕ → State → Option Payload × State
+turns_until_payload zero now s = (None, s)
+turns_until_payload (suc n) now s = turn_of_first (turns_until_payload n now) now s (find is_ready s.streams)
 
 -- each turn takes a byte at least
 abbrev pub most_turns : State → ℕ
@@ -149,7 +149,7 @@ most_turns s = sum_by (λ stream. length stream.bytes) s.streams
 
 -- what is handed out next of what the streams hold
 abbrev pub poll_recv_step : ℕ → State → Option Payload × State
-poll_recv_step now s = turns (most_turns s) now s
+poll_recv_step now s = turns_until_payload (most_turns s) now s
 
 abbrev pub payload_in : Outcome → Option Payload
 payload_in (PeerData payload) = Some payload

@@ -9,7 +9,7 @@ ghost use Rattle.turn_client_api.specs.declared.event.TurnEvent.TheVariants.{All
 ghost use Rattle.turn_client_api.specs.Payloads.{Handled, Ignored};
 ghost use Rattle.turn_client_api.specs.Effect.{new_allocation};
 ghost use Rattle.turn_client_api.specs.LawsRows.{peer, ip_of_peer, relayed_v4, relayed_v6};
-ghost use Rattle.turn_client_api.specs.LawsMessages.{IfSigned, IfUnsigned, IsSigned, allocating, allocation_of_v4, asking_channel, asking_connection, asking_first, asking_permission, bad_request_reply, both_allocated, channel_bound, challenged, connected, held_by_it, lifetime_behind, mismatched, ms, channel_not_bound, not_connected, offer_of, one_allocated, one_family_alone, permitted, refreshed_for, refreshing, after_message, stale, unauthorized, with_integrity};
+ghost use Rattle.turn_client_api.specs.LawsMessages.{IfSigned, IfUnsigned, IsOfHeldKey, allocating, allocation_of_v4, asking_channel, asking_connection, asking_first, asking_permission, bad_request_reply, both_allocated, channel_bound, challenged, connected, held_by_it, lifetime_behind, mismatched, ms, channel_not_bound, not_connected, offer_of, one_allocated, one_family_alone, permitted, refreshed_for, refreshing, after_message, stale, unauthorized, with_integrity};
 
 /// What comes of replies to a signed ALLOCATE for both families (RFC 8656, sections 7.3 and 7.4).
 pub fn allocations_are_answered()
@@ -36,7 +36,7 @@ pub fn grants_are_answered()
     ensures permission_told { (to : SocketAddr) (text : List ℕ) (s : State) → IfSigned permitted (asking_permission to text s) (λ r. r.1.events ≡ PermissionCreated Udp ip_of_peer ∷ []) }
     ensures unsigned { (to : SocketAddr) (text : List ℕ) (s : State) → IfUnsigned permitted (asking_permission to text s) (λ r. r ≡ (Ignored, asking_permission to text s)) }
     // A second copy changes nothing.
-    ensures copy { (byte : ℕ → ℕ) (to : SocketAddr) (text : List ℕ) (s : State) → IsSigned (permitted (with_integrity byte)) (asking_permission to text s) → after_message (permitted (with_integrity byte)) (after_message (permitted (with_integrity byte)) (asking_permission to text s)).1 ≡ (Ignored, (after_message (permitted (with_integrity byte)) (asking_permission to text s)).1) }
+    ensures copy { (byte : ℕ → ℕ) (to : SocketAddr) (text : List ℕ) (s : State) → IsOfHeldKey (permitted (with_integrity byte)) (asking_permission to text s) → after_message (permitted (with_integrity byte)) (after_message (permitted (with_integrity byte)) (asking_permission to text s)).1 ≡ (Ignored, (after_message (permitted (with_integrity byte)) (asking_permission to text s)).1) }
     // The permission of a channel is granted before it.
     ensures bound { (to : SocketAddr) (text : List ℕ) (s : State) → IfSigned channel_bound (asking_channel to text s) (λ r. r.1.grants ≡ allocation_of_v4 ∷ Permission ip_of_peer (Active (ms 300_100)) ∷ Channel 0x4000 peer (Active (ms 600_100)) ∷ []) }
     ensures channel_told { (to : SocketAddr) (text : List ℕ) (s : State) → IfSigned channel_bound (asking_channel to text s) (λ r. r.1.events ≡ PermissionCreated Udp ip_of_peer ∷ ChannelCreated Udp peer ∷ []) }
