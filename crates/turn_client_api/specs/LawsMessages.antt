@@ -6,9 +6,9 @@ use Rattle.turn_auth.specs.LongTerm.{Challenge}
 use Rattle.turn_auth.specs.Validation.{validation_of}
 use Rattle.turn_auth.specs.declared.integrity.IntegrityAlgorithm.TheVariants.{Sha1}
 use Rattle.turn_auth.specs.declared.validation.Validation.TheVariants.{Validated, Refused}
-use Rattle.turn_client_api.specs.State.{State, auth_of, Authenticating, Grant, Permission, Channel, Connect, Offer, Origin, Active, Pending, Purpose, ForAllocation, ForRefresh, ForPermission, ForChannel, ForConnect, seconds}
+use Rattle.turn_client_api.specs.State.{State, auth_of, Authenticating, Grant, Allocation, Permission, Channel, Connect, Offer, Origin, Active, Pending, Purpose, ForAllocation, ForRefresh, ForPermission, ForChannel, ForConnect, seconds}
 use Rattle.turn_client_api.specs.Effect.{new_allocation}
-use Rattle.turn_client_api.specs.Payloads.{Outcome, message_step}
+use Rattle.turn_client_api.specs.Payloads.{Outcome, Ignored, message_step}
 use Rattle.turn_client_api.specs.LawsRows.{awaiting, granted_at, peer, ip_of_peer, relayed_v4, requesting}
 
 -- ---- messages
@@ -125,9 +125,25 @@ abbrev pub IfSigned : (List ℕ → List ℕ) → State → (Outcome × State �
 IfSigned reply s Is =
     (byte : ℕ → ℕ) → IsOfHeldKey (reply (with_integrity byte)) s → Is (after_message (reply (with_integrity byte)) s)
 
--- without one, which the client finds to be so
-abbrev pub IfUnsigned : (List ℕ → List ℕ) → State → (Outcome × State → Type 0) → Type 0
-IfUnsigned reply s Is = validation_of (auth_of s) (reply []) ≡ Refused false → Is (after_message (reply []) s)
+-- so it is at each client of a kind
+abbrev pub WhenSigned : (List ℕ → List ℕ) → (SocketAddr → List ℕ → State → State) → (Outcome × State → Type 0) → Type 0
+WhenSigned reply client Is = (to : SocketAddr) (text : List ℕ) (s : State) → IfSigned reply (client to text s) Is
+
+-- nothing comes of the message
+abbrev pub Ignores : List ℕ → State → Type 0
+Ignores message s = after_message message s ≡ (Ignored, s)
+
+-- without a signature, which the client finds to be so, nothing comes of the reply
+abbrev pub IgnoresUnsigned : (List ℕ → List ℕ) → (SocketAddr → List ℕ → State → State) → Type 0
+IgnoresUnsigned reply client =
+    (to : SocketAddr) (text : List ℕ) (s : State) → validation_of (auth_of (client to text s)) (reply []) ≡ Refused false
+    → Ignores (reply []) (client to text s)
+
+-- nor of a second copy of a signed one
+abbrev pub IgnoresCopy : (List ℕ → List ℕ) → (SocketAddr → List ℕ → State → State) → Type 0
+IgnoresCopy reply client =
+    (byte : ℕ → ℕ) (to : SocketAddr) (text : List ℕ) (s : State) → IsOfHeldKey (reply (with_integrity byte)) (client to text s)
+    → Ignores (reply (with_integrity byte)) (after_message (reply (with_integrity byte)) (client to text s)).1
 
 -- ---- clients that await the response to request 7
 
@@ -141,6 +157,17 @@ allocating to text s = record (awaiting (ForAllocation ∷ []) to text (granted_
 -- an IPv4 allocation of 1000 s, that was granted at 50 ms
 abbrev pub allocation_of_v4 : Grant
 allocation_of_v4 = new_allocation 1000 (ms 50) relayed_v4
+
+-- a REFRESH that was answered at 100 ms lets it last for 600 s from then on
+abbrev pub lasting_600_s : Grant
+lasting_600_s = Allocation (record { relayed = relayed_v4; first_lifetime = seconds 1000; expiry = ms 600_100; is_expired = false })
+
+-- what is granted at 100 ms
+abbrev pub granted_permission : Grant
+granted_permission = Permission ip_of_peer (Active (ms 300_100))
+
+abbrev pub granted_channel : Grant
+granted_channel = Channel 0x4000 peer (Active (ms 600_100))
 
 -- it was made for these, and this was asked for
 abbrev pub asking : List Purpose → List Grant → SocketAddr → List ℕ → State → State

@@ -11,7 +11,7 @@ use Rattle.turn_agent.specs.Agent.{first_sent}
 use Rattle.turn_client_api.specs.State.{State, auth_of, Grant, Permission, Channel, Connection, Active, Mode, Control, Waiting, Bound, Stream, ForBind, seconds}
 use Rattle.turn_client_api.specs.Requests.{listings}
 use Rattle.turn_client_api.specs.Effect.{new_allocation}
-use Rattle.turn_client_api.specs.Payloads.{Outcome, Payload, PeerIcmp}
+use Rattle.turn_client_api.specs.Payloads.{Outcome, Payload, PeerIcmp, datagram_step}
 use Rattle.turn_client_api.specs.Streams.{poll_recv_step}
 use Rattle.turn_client_api.specs.Receive.{recv_step}
 use Rattle.turn_client_api.specs.LawsRows.{granted_at, peer, ip_of_peer, relayed_v4}
@@ -61,6 +61,10 @@ with_waiting text s = record (with_connection (Some (seconds 39)) Waiting s) {
   listed = listings 1 (ForBind data_end peer 7 ∷ []);
 }
 
+-- a datagram of the server comes
+abbrev pub datagram_in : List ℕ → State → Outcome × State
+datagram_in bytes s = datagram_step bytes (seconds 1) s
+
 -- the server's piece of the stream at this local end comes
 abbrev pub piece_at : SocketAddr → List ℕ → State → Outcome × State
 piece_at local piece s = recv_step Tcp server local piece (seconds 1) s
@@ -77,6 +81,13 @@ abc = 0x61 ∷ 0x62 ∷ 0x63 ∷ []
 
 abbrev pub abc_frame : List ℕ
 abc_frame = (0x40 ∷ 0x00 ∷ 0x00 ∷ 0x03 ∷ []) ++ abc ++ 0x00 ∷ []
+
+-- half of its header, and what is behind that
+abbrev pub half_header : List ℕ
+half_header = 0x40 ∷ 0x00 ∷ []
+
+abbrev pub behind_half : List ℕ
+behind_half = (0x00 ∷ 0x03 ∷ []) ++ abc ++ 0x00 ∷ []
 
 abbrev pub hello : List ℕ
 hello = 0x68 ∷ 0x65 ∷ 0x6c ∷ 0x6c ∷ 0x6f ∷ []
@@ -131,3 +142,9 @@ reported icmp_type code value = PeerIcmp Udp peer (record { icmp_type = icmp_typ
 -- the message is judged so by the client's credentials and what it holds
 abbrev pub IsJudged : Validation → List ℕ → State → Type 0
 IsJudged verdict message s = validation_of (auth_of s) message ≡ verdict
+
+-- where the success to CONNECTION_BIND is judged so, this is so of what comes of it and of these bytes behind it
+abbrev pub WhenJudged : Validation → List ℕ → (Outcome × State → Type 0) → Type 0
+WhenJudged verdict behind Is =
+    (byte : ℕ → ℕ) (text : List ℕ) (s : State) → IsJudged verdict (bind_success byte) (with_waiting text s)
+    → Is (piece_at data_end (bind_success byte ++ behind) (with_waiting text s))

@@ -1,5 +1,5 @@
 -- Worked states, so that the check computes what the machine answers in them.
-use Rattle.std.specs.Prelude.{ℕ, zero, suc, ◌*◌, List, [], ◌∷◌, ◌++◌, map, Option, Some, None}
+use Rattle.std.specs.Prelude.{◌≡◌, ℕ, zero, suc, ◌*◌, List, [], ◌∷◌, ◌++◌, length, map, Option, Some, None}
 use Rattle.std.specs.declared.net.ip_addr.IpAddr.{IpAddr}
 use Rattle.std.specs.declared.net.ip_addr.IpAddr.TheVariants as Ip
 use Rattle.std.specs.declared.net.socket_addr.SocketAddr.{SocketAddr}
@@ -8,13 +8,16 @@ use Rattle.turn_stun.specs.XorAddress.{xor_v4, xor_v6}
 use Rattle.std.specs.declared.net.socket_addr.SocketAddr.TheVariants.{V4, V6}
 use Rattle.turn_stun.specs.declared.transport.TransportType.{TransportType}
 use Rattle.turn_stun.specs.declared.transport.TransportType.TheVariants.{Udp}
+use Rattle.turn_types.specs.declared.family.AddressFamily.{AddressFamily}
 use Rattle.turn_types.specs.declared.family.AddressFamily.TheVariants.{IPV4, IPV6}
+use Rattle.turn_auth.specs.LongTerm.{Challenge}
 use Rattle.turn_agent.specs.declared.transaction.Transaction.{Transaction}
 use Rattle.turn_agent.specs.Agent.{first_sent}
-use Rattle.turn_client_api.specs.State.{State, Requesting, Allocated, ForAllocation, Grant, Channel, Permission, Pending, Purpose, ForRefresh, ForChannel, ForPermission}
-use Rattle.turn_client_api.specs.Requests.{listings}
+use Rattle.turn_client_api.specs.State.{State, Requesting, Allocated, ForAllocation, Grant, Channel, Permission, Active, Pending, Purpose, ForRefresh, ForChannel, ForPermission}
+use Rattle.turn_client_api.specs.Requests.{first_allocate, listings}
 use Rattle.turn_client_api.specs.Effect.{new_allocation}
-use Rattle.turn_client_api.specs.Calls.{all_expired}
+use Rattle.turn_client_api.specs.Retry.{state_after_retry}
+use Rattle.turn_client_api.specs.Calls.{all_expired, create_permission_step, delete_step}
 use Rattle.turn_client_api.specs.Poll.{poll_step}
 use Rattle.turn_client_api.specs.Transmit.{transmit_step}
 use Rattle.turn_agent.specs.Schedule.{Timers}
@@ -62,6 +65,24 @@ requesting text s = record (granted_at 0 [] s) {
   transactions = first_sent 7 s.remote 0 text ∷ [];
 }
 
+-- it answered a challenge at 10 ms
+abbrev pub challenged_once : List ℕ → Challenge → State → State
+challenged_once text challenge s = state_after_retry (requesting text s) 7 ForAllocation challenge 10_000_000
+
+-- it has allocations of both families, of 1000 s from 50 ms on
+abbrev pub with_both_families : State → State
+with_both_families s = granted_at 0 (new_allocation 1000 50_000_000 relayed_v4 ∷ new_allocation 1000 50_000_000 relayed_v6 ∷ []) s
+
+-- it has an allocation over IPv4 and a permission, which was granted at 100 ms, and sent its last request at this moment
+abbrev pub with_permission : ℕ → State → State
+with_permission moment s =
+    granted_at moment (new_allocation 1800 50_000_000 relayed_v4 ∷ Permission ip_of_peer (Active 300_100_000_000) ∷ []) s
+
+-- it asks for a permission at 60 ms, 10 ms after its last request
+abbrev pub asking_at_60_ms : State → State
+asking_at_60_ms s =
+    (create_permission_step Udp ip_of_peer 60_000_000 (granted_at 50_000_000 (new_allocation 1800 50_000_000 relayed_v4 ∷ []) s)).1
+
 -- ---- a server that keeps silent
 
 -- 600 ms after the first send, 1 s at most after others, three sends, and 3 s after the last
@@ -89,6 +110,11 @@ told_in_turn (suc n) now s = told_and_then (told_in_turn n) (poll_step now (tran
 abbrev pub waits_and_ends : List ℕ → List TurnPollRet
 waits_and_ends moments = map (λ m. WaitUntil (m * 1_000_000)) moments ++ Ended ∷ []
 
+-- the client waits for a first ALLOCATE up to each of these moments in turn, and has ended after the last one
+abbrev pub WaitsInSilence : Option Timers → TransportType → List ℕ → Type 0
+WaitsInSilence timers transport moments =
+    (text : List ℕ) (s : State) → told_in_turn (suc (length moments)) 0 (requesting_by timers transport text s) ≡ waits_and_ends moments
+
 -- ---- the first ALLOCATE (RFC 8656, section 7.1)
 
 -- so many bytes behind the header, a lifetime of 1800 s, and UDP to be relayed unfragmented
@@ -98,6 +124,11 @@ allocate_bytes len id others =
     ++ (0x00 ∷ 0x0d ∷ 0x00 ∷ 0x04 ∷ 0x00 ∷ 0x00 ∷ 0x07 ∷ 0x08 ∷ [])
     ++ (0x00 ∷ 0x19 ∷ 0x00 ∷ 0x04 ∷ 0x11 ∷ 0x00 ∷ 0x00 ∷ 0x00 ∷ [])
     ++ (0x00 ∷ 0x1a ∷ 0x00 ∷ 0x00 ∷ []) ++ others
+
+-- over UDP it is so spelled for these families: so many bytes behind the header, and these behind the others
+abbrev pub IsFirstAllocate : List AddressFamily → ℕ → List ℕ → Type 0
+IsFirstAllocate families len others =
+    (s : State) (id : ℕ) → s.config.allocation_transport ≡ Udp → s.families ≡ families → first_allocate s id ≡ allocate_bytes len id others
 
 -- ---- requests that get no response
 
@@ -114,7 +145,11 @@ awaiting purposes to text s = record s { transactions = last_sent to text ∷ []
 abbrev pub both_allocations : List Grant
 both_allocations = new_allocation 1800 50_000_000 relayed_v4 ∷ new_allocation 1800 50_000_000 relayed_v6 ∷ []
 
--- the client gave them back at 1 s, and nothing came
+-- the client gives them back at 1 s
+abbrev pub giving_back : State → State
+giving_back s = (delete_step 1_000_000_000 (granted_at 0 both_allocations s)).1
+
+-- it did so, and nothing came
 abbrev pub deleted_in_silence : SocketAddr → List ℕ → State → State
 deleted_in_silence to text s =
     awaiting (ForRefresh IPV4 0 ∷ ForRefresh IPV6 0 ∷ []) to text (all_expired 1_000_000_000 (granted_at 32_500_000_000 both_allocations s))
@@ -124,3 +159,7 @@ abbrev pub binding_in_silence : SocketAddr → List ℕ → State → State
 binding_in_silence to text s =
     awaiting (ForChannel 0x4000 peer ∷ ForPermission ip_of_peer ∷ []) to text
     (granted_at 32_500_000_000 (new_allocation 1800 50_000_000 relayed_v4 ∷ Channel 0x4000 peer Pending ∷ Permission ip_of_peer Pending ∷ []) s)
+
+-- this is so of what a client answers that is polled when that request is given up
+abbrev pub WhenGivenUp : (TurnPollRet × State → Type 0) → Type 0
+WhenGivenUp Is = (to : SocketAddr) (text : List ℕ) (s : State) → Is (poll_step 40_500_000_000 (binding_in_silence to text s))

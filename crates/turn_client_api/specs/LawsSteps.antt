@@ -1,8 +1,10 @@
 -- What every call keeps.
-use Rattle.std.specs.Prelude.{◌≡◌, ◌⊎◌, ◌+◌, ◌<◌, ◌≤◌, Some, IsSome, ℕ}
+use Rattle.std.specs.Prelude.{◌≡◌, ◌⊎◌, ◌+◌, ◌<◌, ◌≤◌, Some, IsSome, ℕ, List}
 use Rattle.turn_auth.specs.LongTerm.{Challenge}
 use Rattle.turn_client_api.specs.State.{State, Phase, New, Requesting, Authenticating, Allocated, Closed}
+use Rattle.turn_client_api.specs.Judgement.{Challenged, judgement_of}
 use Rattle.turn_client_api.specs.Retry.{most_challenges}
+use Rattle.turn_client_api.specs.Payloads.{message_step}
 
 -- a client that has ended stays so
 abbrev pub StaysClosed : State → State → Type 0
@@ -23,6 +25,11 @@ abbrev pub IsCounted : State → State → Type 0
 IsCounted s t =
     (t ≡ s) ⊎ (((s.challenges < most_challenges) × (t.challenges ≡ s.challenges + 1))
     ⊎ ((most_challenges ≤ s.challenges) × (t.phase ≡ Closed) × (t.challenges ≡ s.challenges)))
+
+-- each challenge that comes when its turn is in this state is counted so
+abbrev pub CountsChallenge : List ℕ → ℕ → State → Type 0
+CountsChallenge message now s =
+    (challenge : Challenge) → judgement_of s message ≡ Challenged challenge → IsCounted s (message_step message now s).1
 
 -- how far a client has come
 abbrev pub rank : Phase → ℕ

@@ -4,65 +4,66 @@ ghost use Rattle.std.specs.Prelude.{true, false, ◌≡◌, ◌∷◌, List, [],
 ghost use Rattle.std.specs.declared.net.socket_addr.SocketAddr.{SocketAddr};
 ghost use Rattle.turn_stun.specs.declared.transport.TransportType.TheVariants.{Udp};
 ghost use Rattle.turn_types.specs.declared.family.AddressFamily.TheVariants.{IPV4, IPV6};
-ghost use Rattle.turn_client_api.specs.State.{State, Authenticating, Allocated, Allocation, Closed, Permission, Channel, Active, OwnConnect, seconds};
+ghost use Rattle.turn_client_api.specs.State.{State, Authenticating, Allocated, Closed, Permission, Active, OwnConnect, seconds};
 ghost use Rattle.turn_client_api.specs.declared.event.TurnEvent.TheVariants.{AllocationCreated, AllocationCreateFailed, ChannelCreated, ChannelCreateFailed, PermissionCreated, PermissionCreateFailed, TcpConnectFailed};
 ghost use Rattle.turn_client_api.specs.Payloads.{Handled, Ignored};
 ghost use Rattle.turn_client_api.specs.Effect.{new_allocation};
 ghost use Rattle.turn_client_api.specs.LawsRows.{peer, ip_of_peer, relayed_v4, relayed_v6};
-ghost use Rattle.turn_client_api.specs.LawsMessages.{IfSigned, IfUnsigned, IsOfHeldKey, allocating, allocation_of_v4, asking_channel, asking_connection, asking_first, asking_permission, bad_request_reply, both_allocated, channel_bound, challenged, connected, held_by_it, lifetime_behind, mismatched, ms, channel_not_bound, not_connected, offer_of, one_allocated, one_family_alone, permitted, refreshed_for, refreshing, after_message, stale, unauthorized, with_integrity};
+ghost use Rattle.turn_client_api.specs.LawsMessages.{IgnoresCopy, IgnoresUnsigned, Ignores, WhenSigned, after_message, allocating, allocation_of_v4, asking_channel, asking_connection, asking_first, asking_permission, bad_request_reply, both_allocated, challenged, channel_bound, channel_not_bound};
+ghost use Rattle.turn_client_api.specs.LawsMessages.{connected, granted_channel, granted_permission, held_by_it, lasting_600_s, lifetime_behind, mismatched, ms, not_connected, offer_of, one_allocated, one_family_alone, permitted, refreshed_for, refreshing, stale, unauthorized};
 
 /// What comes of replies to a signed ALLOCATE for both families (RFC 8656, sections 7.3 and 7.4).
 pub fn allocations_are_answered()
     // The addresses in the order in which they are written, each for 1000 s from the moment of the reply.
-    ensures created { (to : SocketAddr) (text : List ℕ) (s : State) → IfSigned both_allocated (allocating to text s) (λ r. r.1.events ≡ AllocationCreated Udp relayed_v6 ∷ AllocationCreated Udp relayed_v4 ∷ []) }
-    ensures grants { (to : SocketAddr) (text : List ℕ) (s : State) → IfSigned both_allocated (allocating to text s) (λ r. r.1.grants ≡ new_allocation 1000 (ms 100) relayed_v6 ∷ new_allocation 1000 (ms 100) relayed_v4 ∷ []) }
-    ensures phase { (to : SocketAddr) (text : List ℕ) (s : State) → IfSigned both_allocated (allocating to text s) (λ r. r.1.phase ≡ Allocated) }
+    ensures created { WhenSigned both_allocated allocating (λ r. r.1.events ≡ AllocationCreated Udp relayed_v6 ∷ AllocationCreated Udp relayed_v4 ∷ []) }
+    ensures grants { WhenSigned both_allocated allocating (λ r. r.1.grants ≡ new_allocation 1000 (ms 100) relayed_v6 ∷ new_allocation 1000 (ms 100) relayed_v4 ∷ []) }
+    ensures phase { WhenSigned both_allocated allocating (λ r. r.1.phase ≡ Allocated) }
     // What follows the integrity counts for nothing: neither an address nor a lifetime.
-    ensures one { (to : SocketAddr) (text : List ℕ) (s : State) → IfSigned one_allocated (allocating to text s) (λ r. r.1.events ≡ AllocationCreated Udp relayed_v4 ∷ AllocationCreateFailed IPV6 ∷ []) }
-    ensures none { (to : SocketAddr) (text : List ℕ) (s : State) → IfSigned lifetime_behind (allocating to text s) (λ r. r.1.events ≡ AllocationCreateFailed IPV4 ∷ AllocationCreateFailed IPV6 ∷ []) }
-    ensures closed { (to : SocketAddr) (text : List ℕ) (s : State) → IfSigned lifetime_behind (allocating to text s) (λ r. r.1.phase ≡ Closed) }
+    ensures one { WhenSigned one_allocated allocating (λ r. r.1.events ≡ AllocationCreated Udp relayed_v4 ∷ AllocationCreateFailed IPV6 ∷ []) }
+    ensures none { WhenSigned lifetime_behind allocating (λ r. r.1.events ≡ AllocationCreateFailed IPV4 ∷ AllocationCreateFailed IPV6 ∷ []) }
+    ensures closed { WhenSigned lifetime_behind allocating (λ r. r.1.phase ≡ Closed) }
     // With 440 IPv4 is given up, and one request more is made.
-    ensures denied { (to : SocketAddr) (text : List ℕ) (s : State) → IfSigned one_family_alone (allocating to text s) (λ r. r.1.events ≡ AllocationCreateFailed IPV4 ∷ []) }
-    ensures families { (to : SocketAddr) (text : List ℕ) (s : State) → IfSigned one_family_alone (allocating to text s) (λ r. r.1.families ≡ IPV6 ∷ []) }
-    ensures queued { (to : SocketAddr) (text : List ℕ) (s : State) → IfSigned one_family_alone (allocating to text s) (λ r. map (λ q. q.is_request) r.1.queue ≡ true ∷ []) }
+    ensures denied { WhenSigned one_family_alone allocating (λ r. r.1.events ≡ AllocationCreateFailed IPV4 ∷ []) }
+    ensures families { WhenSigned one_family_alone allocating (λ r. r.1.families ≡ IPV6 ∷ []) }
+    ensures queued { WhenSigned one_family_alone allocating (λ r. map (λ q. q.is_request) r.1.queue ≡ true ∷ []) }
     // One that is not signed changes nothing.
-    ensures unsigned { (to : SocketAddr) (text : List ℕ) (s : State) → IfUnsigned both_allocated (allocating to text s) (λ r. r ≡ (Ignored, allocating to text s)) }
+    ensures unsigned { IgnoresUnsigned both_allocated allocating }
 {}
 
 /// What comes of replies to CREATE_PERMISSION and CHANNEL_BIND (RFC 8656, sections 10.3 and 12.3), whose grants
 /// last for 300 and 600 s from the moment of the reply.
 pub fn grants_are_answered()
-    ensures permitted { (to : SocketAddr) (text : List ℕ) (s : State) → IfSigned permitted (asking_permission to text s) (λ r. r.1.grants ≡ allocation_of_v4 ∷ Permission ip_of_peer (Active (ms 300_100)) ∷ []) }
-    ensures permission_told { (to : SocketAddr) (text : List ℕ) (s : State) → IfSigned permitted (asking_permission to text s) (λ r. r.1.events ≡ PermissionCreated Udp ip_of_peer ∷ []) }
-    ensures unsigned { (to : SocketAddr) (text : List ℕ) (s : State) → IfUnsigned permitted (asking_permission to text s) (λ r. r ≡ (Ignored, asking_permission to text s)) }
+    ensures permitted { WhenSigned permitted asking_permission (λ r. r.1.grants ≡ allocation_of_v4 ∷ granted_permission ∷ []) }
+    ensures permission_told { WhenSigned permitted asking_permission (λ r. r.1.events ≡ PermissionCreated Udp ip_of_peer ∷ []) }
+    ensures unsigned { IgnoresUnsigned permitted asking_permission }
     // A second copy changes nothing.
-    ensures copy { (byte : ℕ → ℕ) (to : SocketAddr) (text : List ℕ) (s : State) → IsOfHeldKey (permitted (with_integrity byte)) (asking_permission to text s) → after_message (permitted (with_integrity byte)) (after_message (permitted (with_integrity byte)) (asking_permission to text s)).1 ≡ (Ignored, (after_message (permitted (with_integrity byte)) (asking_permission to text s)).1) }
+    ensures copy { IgnoresCopy permitted asking_permission }
     // The permission of a channel is granted before it.
-    ensures bound { (to : SocketAddr) (text : List ℕ) (s : State) → IfSigned channel_bound (asking_channel to text s) (λ r. r.1.grants ≡ allocation_of_v4 ∷ Permission ip_of_peer (Active (ms 300_100)) ∷ Channel 0x4000 peer (Active (ms 600_100)) ∷ []) }
-    ensures channel_told { (to : SocketAddr) (text : List ℕ) (s : State) → IfSigned channel_bound (asking_channel to text s) (λ r. r.1.events ≡ PermissionCreated Udp ip_of_peer ∷ ChannelCreated Udp peer ∷ []) }
+    ensures bound { WhenSigned channel_bound asking_channel (λ r. r.1.grants ≡ allocation_of_v4 ∷ granted_permission ∷ granted_channel ∷ []) }
+    ensures channel_told { WhenSigned channel_bound asking_channel (λ r. r.1.events ≡ PermissionCreated Udp ip_of_peer ∷ ChannelCreated Udp peer ∷ []) }
     // A refusal takes the permission that was asked for with the channel.
-    ensures refused { (to : SocketAddr) (text : List ℕ) (s : State) → IfSigned channel_not_bound (asking_channel to text s) (λ r. r.1.grants ≡ allocation_of_v4 ∷ []) }
-    ensures refusal_told { (to : SocketAddr) (text : List ℕ) (s : State) → IfSigned channel_not_bound (asking_channel to text s) (λ r. r.1.events ≡ ChannelCreateFailed Udp peer ∷ PermissionCreateFailed Udp ip_of_peer ∷ []) }
+    ensures refused { WhenSigned channel_not_bound asking_channel (λ r. r.1.grants ≡ allocation_of_v4 ∷ []) }
+    ensures refusal_told { WhenSigned channel_not_bound asking_channel (λ r. r.1.events ≡ ChannelCreateFailed Udp peer ∷ PermissionCreateFailed Udp ip_of_peer ∷ []) }
 {}
 
 /// What comes of replies to REFRESH (RFC 8656, section 8.3).
 pub fn refreshes_are_answered()
     // At least 600 s count from the moment of the reply, and 599 s do not.
-    ensures longer { (to : SocketAddr) (text : List ℕ) (s : State) → IfSigned (refreshed_for 0x02 0x58) (refreshing 1800 to text s) (λ r. r.1.grants ≡ Allocation (record { relayed = relayed_v4; first_lifetime = seconds 1000; expiry = ms 600_100; is_expired = false }) ∷ []) }
-    ensures shorter { (to : SocketAddr) (text : List ℕ) (s : State) → IfSigned (refreshed_for 0x02 0x57) (refreshing 1800 to text s) (λ r. (r.0 ≡ Handled) × (r.1.grants ≡ allocation_of_v4 ∷ [])) }
+    ensures longer { WhenSigned (refreshed_for 0x02 0x58) (refreshing 1800) (λ r. r.1.grants ≡ lasting_600_s ∷ []) }
+    ensures shorter { WhenSigned (refreshed_for 0x02 0x57) (refreshing 1800) (λ r. (r.0 ≡ Handled) × (r.1.grants ≡ allocation_of_v4 ∷ [])) }
     // What was to be given back is gone, also where the server knows nothing of it.
-    ensures deleted { (to : SocketAddr) (text : List ℕ) (s : State) → IfSigned (refreshed_for 0x00 0x00) (refreshing 0 to text s) (λ r. (r.1.phase ≡ Closed) × (r.1.grants ≡ [])) }
-    ensures mismatch { (to : SocketAddr) (text : List ℕ) (s : State) → IfSigned mismatched (refreshing 0 to text s) (λ r. (r.1.phase ≡ Closed) × (r.1.grants ≡ [])) }
-    ensures kept { (to : SocketAddr) (text : List ℕ) (s : State) → IfSigned mismatched (refreshing 1800 to text s) (λ r. (r.0 ≡ Handled) × (r.1.grants ≡ allocation_of_v4 ∷ [])) }
+    ensures deleted { WhenSigned (refreshed_for 0x00 0x00) (refreshing 0) (λ r. (r.1.phase ≡ Closed) × (r.1.grants ≡ [])) }
+    ensures mismatch { WhenSigned mismatched (refreshing 0) (λ r. (r.1.phase ≡ Closed) × (r.1.grants ≡ [])) }
+    ensures kept { WhenSigned mismatched (refreshing 1800) (λ r. (r.0 ≡ Handled) × (r.1.grants ≡ allocation_of_v4 ∷ [])) }
 {}
 
 /// What comes of replies to CONNECT (RFC 6062, section 4.3).
 pub fn connects_are_answered()
     // The caller is to open the connection that the server tells of.
-    ensures offered { (to : SocketAddr) (text : List ℕ) (s : State) → IfSigned connected (asking_connection to text s) (λ r. r.1.grants ≡ allocation_of_v4 ∷ Permission ip_of_peer (Active (seconds 300)) ∷ offer_of OwnConnect ∷ []) }
+    ensures offered { WhenSigned connected asking_connection (λ r. r.1.grants ≡ allocation_of_v4 ∷ Permission ip_of_peer (Active (seconds 300)) ∷ offer_of OwnConnect ∷ []) }
     // A refusal counts, whatever else it says.
-    ensures refused { (to : SocketAddr) (text : List ℕ) (s : State) → IfSigned not_connected (asking_connection to text s) (λ r. r.1.grants ≡ allocation_of_v4 ∷ Permission ip_of_peer (Active (seconds 300)) ∷ []) }
-    ensures told { (to : SocketAddr) (text : List ℕ) (s : State) → IfSigned not_connected (asking_connection to text s) (λ r. r.1.events ≡ TcpConnectFailed peer ∷ []) }
+    ensures refused { WhenSigned not_connected asking_connection (λ r. r.1.grants ≡ allocation_of_v4 ∷ Permission ip_of_peer (Active (seconds 300)) ∷ []) }
+    ensures told { WhenSigned not_connected asking_connection (λ r. r.1.events ≡ TcpConnectFailed peer ∷ []) }
 {}
 
 /// What comes of challenges (RFC 8489, sections 9.2.3 to 9.2.5).
@@ -73,7 +74,7 @@ pub fn challenges_are_answered()
     ensures held { (text : List ℕ) (s : State) → (after_message unauthorized (asking_first text s)).1.held ≡ Some held_by_it }
     ensures queued { (text : List ℕ) (s : State) → map (λ q. q.is_request) (after_message unauthorized (asking_first text s)).1.queue ≡ true ∷ [] }
     // To no request that is outstanding it brings nothing, and before it any other reply ends the client.
-    ensures unasked { (text : List ℕ) (s : State) → after_message unauthorized (record (asking_first text s) { transactions = [] }) ≡ (Ignored, record (asking_first text s) { transactions = [] }) }
+    ensures unasked { (text : List ℕ) (s : State) → Ignores unauthorized (record (asking_first text s) { transactions = [] }) }
     ensures refused { (text : List ℕ) (s : State) → (after_message bad_request_reply (asking_first text s)).1.phase ≡ Closed }
     ensures told { (text : List ℕ) (s : State) → (after_message bad_request_reply (asking_first text s)).1.events ≡ AllocationCreateFailed IPV4 ∷ [] }
     // Nine in a row are answered, and the tenth ends the client.

@@ -5,9 +5,9 @@ ghost use Rattle.turn_auth.specs.declared.validation.Validation.TheVariants.{Val
 ghost use Rattle.turn_auth.specs.declared.integrity.IntegrityAlgorithm.TheVariants.{Sha1};
 ghost use Rattle.turn_client_api.specs.State.{State, seconds};
 ghost use Rattle.turn_client_api.specs.declared.event.TurnEvent.TheVariants.{TcpConnected, TcpConnectFailed};
-ghost use Rattle.turn_client_api.specs.Payloads.{Handled, Ignored, PeerData, datagram_step};
+ghost use Rattle.turn_client_api.specs.Payloads.{Handled, Ignored, PeerData};
 ghost use Rattle.turn_client_api.specs.LawsRows.{peer};
-ghost use Rattle.turn_client_api.specs.LawsPieces.{IsJudged, abc, abc_frame, bind_success, client, data_end, from_peer, hello, hello_message, icmp_message, over_tcp, piece_at, polled, relayed, reported, second_peer_message, unknown_message, with_bound, with_channel, with_waiting};
+ghost use Rattle.turn_client_api.specs.LawsPieces.{WhenJudged, abc, abc_frame, behind_half, bind_success, client, data_end, datagram_in, from_peer, half_header, hello, hello_message, icmp_message, over_tcp, piece_at, polled, relayed, reported, second_peer_message, unknown_message, with_bound, with_channel, with_waiting};
 
 /// What comes of pieces of the control stream (RFC 8656, sections 11.6, 12.5 and 12.6), each at a client
 /// with a channel to the peer.
@@ -15,9 +15,9 @@ pub fn pieces_are_cut()
     // A whole frame, without its padding, is a part of the piece, and leaves nothing behind.
     ensures frame { (s : State) → piece_at client abc_frame (with_channel s) ≡ (PeerData (relayed abc (Some 4)), with_channel s) }
     // Half of a header is kept.
-    ensures half { (s : State) → (piece_at client (0x40 ∷ 0x00 ∷ []) (with_channel s)).0 ≡ Handled }
+    ensures half { (s : State) → (piece_at client half_header (with_channel s)).0 ≡ Handled }
     // With the rest it is a frame, whose data is owned.
-    ensures joined { (s : State) → piece_at client (0x00 ∷ 0x03 ∷ 0x61 ∷ 0x62 ∷ 0x63 ∷ 0x00 ∷ []) (piece_at client (0x40 ∷ 0x00 ∷ []) (with_channel s)).1 ≡ (PeerData (relayed abc None), with_channel s) }
+    ensures joined { (s : State) → piece_at client behind_half (piece_at client half_header (with_channel s)).1 ≡ (PeerData (relayed abc None), with_channel s) }
     // Of two frames in one piece the second is polled.
     ensures second { (s : State) → polled (piece_at client (abc_frame ++ hello_message) (with_channel s)).1 ≡ (Some (relayed hello None), with_channel s) }
     // A message is cut from the stream like a frame.
@@ -38,26 +38,26 @@ pub fn connections_are_bound()
     // A reply and data of the peer come in one piece: the reply is handled, and where it is a signed success the
     // connection is bound, and the data is polled.
     ensures handled { (byte : ℕ → ℕ) (text : List ℕ) (s : State) → (piece_at data_end (bind_success byte ++ hello) (with_waiting text s)).0 ≡ Handled }
-    ensures behind { (byte : ℕ → ℕ) (text : List ℕ) (s : State) → IsJudged (Validated Sha1) (bind_success byte) (with_waiting text s) → (polled (piece_at data_end (bind_success byte ++ hello) (with_waiting text s)).1).0 ≡ Some (from_peer hello None) }
-    ensures told { (byte : ℕ → ℕ) (text : List ℕ) (s : State) → IsJudged (Validated Sha1) (bind_success byte) (with_waiting text s) → (piece_at data_end (bind_success byte) (with_waiting text s)).1.events ≡ TcpConnected peer ∷ [] }
+    ensures behind { WhenJudged (Validated Sha1) hello (λ r. (polled r.1).0 ≡ Some (from_peer hello None)) }
+    ensures told { WhenJudged (Validated Sha1) [] (λ r. r.1.events ≡ TcpConnected peer ∷ []) }
     // One with a wrong signature binds nothing: the connection is to be closed, and gives no data.
-    ensures refused { (byte : ℕ → ℕ) (text : List ℕ) (s : State) → IsJudged (Refused true) (bind_success byte) (with_waiting text s) → (piece_at data_end (bind_success byte ++ hello) (with_waiting text s)).1.closes ≡ data_end ∷ [] }
-    ensures failed { (byte : ℕ → ℕ) (text : List ℕ) (s : State) → IsJudged (Refused true) (bind_success byte) (with_waiting text s) → (piece_at data_end (bind_success byte ++ hello) (with_waiting text s)).1.events ≡ TcpConnectFailed peer ∷ [] }
-    ensures silent { (byte : ℕ → ℕ) (text : List ℕ) (s : State) → IsJudged (Refused true) (bind_success byte) (with_waiting text s) → (polled (piece_at data_end (bind_success byte ++ hello) (with_waiting text s)).1).0 ≡ None }
+    ensures refused { WhenJudged (Refused true) hello (λ r. r.1.closes ≡ data_end ∷ []) }
+    ensures failed { WhenJudged (Refused true) hello (λ r. r.1.events ≡ TcpConnectFailed peer ∷ []) }
+    ensures silent { WhenJudged (Refused true) hello (λ r. (polled r.1).0 ≡ None) }
 {}
 
 /// What comes of datagrams (RFC 8656, sections 11.6 and 12.6), each at a client with a permission for the
 /// peer, and a channel to it.
 pub fn datagrams_are_judged()
-    ensures data { (s : State) → datagram_step hello_message (seconds 1) (with_channel s) ≡ (PeerData (relayed hello (Some 36)), with_channel s) }
+    ensures data { (s : State) → datagram_in hello_message (with_channel s) ≡ (PeerData (relayed hello (Some 36)), with_channel s) }
     // Padding behind a frame is not needed, but all of its data is.
-    ensures frame { (s : State) → datagram_step (0x40 ∷ 0x00 ∷ 0x00 ∷ 0x03 ∷ abc) (seconds 1) (with_channel s) ≡ (PeerData (relayed abc (Some 4)), with_channel s) }
-    ensures short { (s : State) → datagram_step (0x40 ∷ 0x00 ∷ 0x00 ∷ 0x05 ∷ abc) (seconds 1) (with_channel s) ≡ (Ignored, with_channel s) }
+    ensures frame { (s : State) → datagram_in (0x40 ∷ 0x00 ∷ 0x00 ∷ 0x03 ∷ abc) (with_channel s) ≡ (PeerData (relayed abc (Some 4)), with_channel s) }
+    ensures short { (s : State) → datagram_in (0x40 ∷ 0x00 ∷ 0x00 ∷ 0x05 ∷ abc) (with_channel s) ≡ (Ignored, with_channel s) }
     // No other number leads to the peer.
-    ensures unbound { (s : State) → datagram_step (0x50 ∷ 0x00 ∷ 0x00 ∷ 0x03 ∷ abc) (seconds 1) (with_channel s) ≡ (Ignored, with_channel s) }
+    ensures unbound { (s : State) → datagram_in (0x50 ∷ 0x00 ∷ 0x00 ∷ 0x03 ∷ abc) (with_channel s) ≡ (Ignored, with_channel s) }
     // Without the permission, with a second peer that is malformed, and with a type that has to be
     // understood, an indication is ignored.
-    ensures unpermitted { (s : State) → datagram_step hello_message (seconds 1) (over_tcp [] [] s) ≡ (Ignored, over_tcp [] [] s) }
-    ensures malformed { (s : State) → datagram_step second_peer_message (seconds 1) (with_channel s) ≡ (Ignored, with_channel s) }
-    ensures unknown { (s : State) → datagram_step unknown_message (seconds 1) (with_channel s) ≡ (Ignored, with_channel s) }
+    ensures unpermitted { (s : State) → datagram_in hello_message (over_tcp [] [] s) ≡ (Ignored, over_tcp [] [] s) }
+    ensures malformed { (s : State) → datagram_in second_peer_message (with_channel s) ≡ (Ignored, with_channel s) }
+    ensures unknown { (s : State) → datagram_in unknown_message (with_channel s) ≡ (Ignored, with_channel s) }
 {}

@@ -1,27 +1,24 @@
 //! Worked states.
 
-ghost use Rattle.std.specs.Prelude.{true, map, ◌≡◌, ℕ, List, [], ◌∷◌, Some, None};
+ghost use Rattle.std.specs.Prelude.{◌≡◌, ◌∷◌, true, map, ℕ, List, [], Some, None};
+ghost use Rattle.std.specs.declared.net.socket_addr.SocketAddr.{SocketAddr};
 ghost use Rattle.turn_stun.specs.declared.transport.TransportType.TheVariants.{Udp, Tcp};
 ghost use Rattle.turn_types.specs.declared.family.AddressFamily.TheVariants.{IPV4, IPV6};
-ghost use Rattle.turn_client_api.specs.State.{State, Channel, ForAllocation, ForRefresh, Permission, Pending, Active};
-ghost use Rattle.turn_client_api.specs.Requests.{first_allocate};
-ghost use Rattle.turn_client_api.specs.Effect.{new_allocation};
 ghost use Rattle.turn_auth.specs.LongTerm.{Challenge};
-ghost use Rattle.turn_client_api.specs.Retry.{state_after_retry};
-ghost use Rattle.turn_client_api.specs.Calls.{create_permission_step, delete_step, free_number, relayed_addresses_of};
+ghost use Rattle.turn_client_api.specs.State.{State, Channel, ForRefresh, Pending};
+ghost use Rattle.turn_client_api.specs.Calls.{free_number, relayed_addresses_of};
 ghost use Rattle.turn_client_api.specs.Poll.{poll_step};
 ghost use Rattle.turn_client_api.specs.Transmit.{next_transmit};
-ghost use Rattle.turn_client_api.specs.LawsRows.{allocate_bytes, binding_in_silence, both_allocations, deleted_in_silence, granted_at, peer, ip_of_peer, relayed_v4, relayed_v6, requesting, requesting_by, short_timers, told_in_turn, waits_and_ends};
-ghost use Rattle.std.specs.declared.net.socket_addr.SocketAddr.{SocketAddr};
+ghost use Rattle.turn_client_api.specs.LawsRows.{IsFirstAllocate, WaitsInSilence, WhenGivenUp, asking_at_60_ms, challenged_once, deleted_in_silence, giving_back, granted_at, ip_of_peer, peer, short_timers, with_both_families, with_permission};
 ghost use Rattle.turn_client_api.specs.declared.event.TurnEvent.TheVariants.{ChannelCreateFailed, PermissionCreateFailed};
 ghost use Rattle.turn_client_api.specs.declared.poll.TurnPollRet.TheVariants as Do;
 
 /// The bytes of the first ALLOCATE (RFC 8656, sections 7.1 and 18): for IPv4 no family is named, for
 /// both the additional one is, and for IPv6 alone the requested one.
 pub fn first_allocate_is_spelled()
-    ensures ipv4 { (s : State) (id : ℕ) → s.config.allocation_transport ≡ Udp → s.families ≡ IPV4 ∷ [] → first_allocate s id ≡ allocate_bytes 0x14 id [] }
-    ensures both { (s : State) (id : ℕ) → s.config.allocation_transport ≡ Udp → s.families ≡ IPV4 ∷ IPV6 ∷ [] → first_allocate s id ≡ allocate_bytes 0x1c id (0x80 ∷ 0x00 ∷ 0x00 ∷ 0x04 ∷ 0x02 ∷ 0x00 ∷ 0x00 ∷ 0x00 ∷ []) }
-    ensures ipv6 { (s : State) (id : ℕ) → s.config.allocation_transport ≡ Udp → s.families ≡ IPV6 ∷ [] → first_allocate s id ≡ allocate_bytes 0x1c id (0x00 ∷ 0x17 ∷ 0x00 ∷ 0x04 ∷ 0x02 ∷ 0x00 ∷ 0x00 ∷ 0x00 ∷ []) }
+    ensures ipv4 { IsFirstAllocate (IPV4 ∷ []) 0x14 [] }
+    ensures both { IsFirstAllocate (IPV4 ∷ IPV6 ∷ []) 0x1c (0x80 ∷ 0x00 ∷ 0x00 ∷ 0x04 ∷ 0x02 ∷ 0x00 ∷ 0x00 ∷ 0x00 ∷ []) }
+    ensures ipv6 { IsFirstAllocate (IPV6 ∷ []) 0x1c (0x00 ∷ 0x17 ∷ 0x00 ∷ 0x04 ∷ 0x02 ∷ 0x00 ∷ 0x00 ∷ 0x00 ∷ []) }
 {}
 
 /// Channel numbers are given from 0x4000 on (RFC 8656, section 12), each also while the one before is
@@ -34,37 +31,37 @@ pub fn channel_numbers_count_up()
 /// When a caller is told to come back.
 pub fn moments_are_told()
     // A challenge that is answered at 10 ms, behind a first ALLOCATE at 0: the end of the pause.
-    ensures challenge { (text : List ℕ) (challenge : Challenge) (s : State) → (poll_step 10_000_000 (state_after_retry (requesting text s) 7 ForAllocation challenge 10_000_000)).0 ≡ Do.WaitUntil 50_000_000 }
+    ensures challenge { (text : List ℕ) (challenge : Challenge) (s : State) → (poll_step 10_000_000 (challenged_once text challenge s)).0 ≡ Do.WaitUntil 50_000_000 }
     // Two allocations of 1000 s that were granted at 50 ms: a minute before they end.
-    ensures allocations { (s : State) → (poll_step 50_000_000 (granted_at 0 (new_allocation 1000 50_000_000 relayed_v4 ∷ new_allocation 1000 50_000_000 relayed_v6 ∷ []) s)).0 ≡ Do.WaitUntil 940_050_000_000 }
+    ensures allocations { (s : State) → (poll_step 50_000_000 (with_both_families s)).0 ≡ Do.WaitUntil 940_050_000_000 }
     // A permission that was granted at 100 ms: a minute before it ends.
-    ensures permission { (s : State) → (poll_step 100_000_000 (granted_at 50_000_000 (new_allocation 1800 50_000_000 relayed_v4 ∷ Permission ip_of_peer (Active 300_100_000_000) ∷ []) s)).0 ≡ Do.WaitUntil 240_100_000_000 }
+    ensures permission { (s : State) → (poll_step 100_000_000 (with_permission 50_000_000 s)).0 ≡ Do.WaitUntil 240_100_000_000 }
     // A permission that ends at 300.1 s, before the pause does at 300.12 s: its end.
-    ensures lapse { (s : State) → (poll_step 300_080_000_000 (granted_at 300_070_000_000 (new_allocation 1800 50_000_000 relayed_v4 ∷ Permission ip_of_peer (Active 300_100_000_000) ∷ []) s)).0 ≡ Do.WaitUntil 300_100_000_000 }
+    ensures lapse { (s : State) → (poll_step 300_080_000_000 (with_permission 300_070_000_000 s)).0 ≡ Do.WaitUntil 300_100_000_000 }
     // A permission that is asked for at 60 ms, 10 ms behind the last request: the end of the pause.
-    ensures queued { (s : State) → (poll_step 60_000_000 (create_permission_step Udp ip_of_peer 60_000_000 (granted_at 50_000_000 (new_allocation 1800 50_000_000 relayed_v4 ∷ []) s)).1).0 ≡ Do.WaitUntil 100_000_000 }
-    ensures paused { (s : State) → next_transmit 99_999_999 (create_permission_step Udp ip_of_peer 60_000_000 (granted_at 50_000_000 (new_allocation 1800 50_000_000 relayed_v4 ∷ []) s)).1 ≡ None }
+    ensures queued { (s : State) → (poll_step 60_000_000 (asking_at_60_ms s)).0 ≡ Do.WaitUntil 100_000_000 }
+    ensures paused { (s : State) → next_transmit 99_999_999 (asking_at_60_ms s) ≡ None }
 {}
 
 /// A first ALLOCATE that was sent at moment 0 and gets no response (RFC 8489, sections 6.2.1 and 6.2.2): what a
 /// caller is told that comes back at each told moment, and sends what is due.
 pub fn silence_is_timed()
     // By default it is sent at 0, 0.5, 1.5, 3.5, 7.5, 15.5 and 31.5 s, and given up at 39.5 s.
-    ensures default { (text : List ℕ) (s : State) → told_in_turn 8 0 (requesting_by None Udp text s) ≡ waits_and_ends (500 ∷ 1_500 ∷ 3_500 ∷ 7_500 ∷ 15_500 ∷ 31_500 ∷ 39_500 ∷ []) }
+    ensures default { WaitsInSilence None Udp (500 ∷ 1_500 ∷ 3_500 ∷ 7_500 ∷ 15_500 ∷ 31_500 ∷ 39_500 ∷ []) }
     // With 600 ms after the first send, at most 1 s after others, three sends, and 3 s after the last.
-    ensures set { (text : List ℕ) (s : State) → told_in_turn 4 0 (requesting_by (Some short_timers) Udp text s) ≡ waits_and_ends (600 ∷ 1_600 ∷ 4_600 ∷ []) }
+    ensures set { WaitsInSilence (Some short_timers) Udp (600 ∷ 1_600 ∷ 4_600 ∷ []) }
     // Over TCP it is sent once.
-    ensures tcp { (text : List ℕ) (s : State) → told_in_turn 2 0 (requesting_by None Tcp text s) ≡ waits_and_ends (39_500 ∷ []) }
-    ensures tcp_set { (text : List ℕ) (s : State) → told_in_turn 2 0 (requesting_by (Some short_timers) Tcp text s) ≡ waits_and_ends (4_600 ∷ []) }
+    ensures tcp { WaitsInSilence None Tcp (39_500 ∷ []) }
+    ensures tcp_set { WaitsInSilence (Some short_timers) Tcp (4_600 ∷ []) }
 {}
 
 /// `delete` with two allocations (RFC 8656, section 8.1): one REFRESH gives both back, and neither is
 /// used from then on. While nothing comes, the client waits for 39.5 s from the first send, and then
 /// has ended.
 pub fn delete_is_one_request()
-    ensures one { (s : State) → map (λ q. q.is_request) (delete_step 1_000_000_000 (granted_at 0 both_allocations s)).1.queue ≡ true ∷ [] }
-    ensures purposes { (s : State) → map (λ l. l.purpose) (delete_step 1_000_000_000 (granted_at 0 both_allocations s)).1.listed ≡ ForRefresh IPV4 0 ∷ ForRefresh IPV6 0 ∷ [] }
-    ensures unused { (s : State) → relayed_addresses_of (delete_step 1_000_000_000 (granted_at 0 both_allocations s)).1 ≡ [] }
+    ensures one { (s : State) → map (λ q. q.is_request) (giving_back s).queue ≡ true ∷ [] }
+    ensures purposes { (s : State) → map (λ l. l.purpose) (giving_back s).listed ≡ ForRefresh IPV4 0 ∷ ForRefresh IPV6 0 ∷ [] }
+    ensures unused { (s : State) → relayed_addresses_of (giving_back s) ≡ [] }
     ensures waits { (to : SocketAddr) (text : List ℕ) (s : State) → (poll_step 33_000_000_000 (deleted_in_silence to text s)).0 ≡ Do.WaitUntil 40_500_000_000 }
     ensures ends { (to : SocketAddr) (text : List ℕ) (s : State) → (poll_step 40_500_000_000 (deleted_in_silence to text s)).0 ≡ Do.Closed }
     ensures empty { (to : SocketAddr) (text : List ℕ) (s : State) → (poll_step 40_500_000_000 (deleted_in_silence to text s)).1.grants ≡ [] }
@@ -74,6 +71,6 @@ pub fn delete_is_one_request()
 /// with it, whose request got no response, the permission is told first, and `poll` answers that both
 /// wait.
 pub fn failures_jump()
-    ensures events { (to : SocketAddr) (text : List ℕ) (s : State) → (poll_step 40_500_000_000 (binding_in_silence to text s)).1.events ≡ PermissionCreateFailed Udp ip_of_peer ∷ ChannelCreateFailed Udp peer ∷ [] }
-    ensures now { (to : SocketAddr) (text : List ℕ) (s : State) → (poll_step 40_500_000_000 (binding_in_silence to text s)).0 ≡ Do.WaitUntil 40_500_000_000 }
+    ensures events { WhenGivenUp (λ r. r.1.events ≡ PermissionCreateFailed Udp ip_of_peer ∷ ChannelCreateFailed Udp peer ∷ []) }
+    ensures now { WhenGivenUp (λ r. r.0 ≡ Do.WaitUntil 40_500_000_000) }
 {}

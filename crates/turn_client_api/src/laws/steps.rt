@@ -1,16 +1,13 @@
 //! What every call keeps, whether or not it finds memory.
 
 ghost use Rattle.std.specs.Prelude.{◌≡◌, ◌<◌, ℕ, false, List, [], Some};
-ghost use Rattle.turn_auth.specs.LongTerm.{Challenge};
 ghost use Rattle.turn_client_api.specs.State.{State, Closed};
-ghost use Rattle.turn_client_api.specs.Judgement.{Judgement, Challenged, judgement_of};
-ghost use Rattle.turn_client_api.specs.Payloads.{message_step};
 ghost use Rattle.turn_client_api.specs.Due.{has_reply};
 ghost use Rattle.turn_client_api.specs.Poll.{poll_step};
 ghost use Rattle.turn_client_api.specs.Steps.{Call, Leaves};
 ghost use Rattle.turn_client_api.specs.LawsTurns.{IsBroughtBy};
 ghost use Rattle.turn_client_api.specs.LawsReplies.{IsHeeded};
-ghost use Rattle.turn_client_api.specs.LawsSteps.{StaysClosed, StaysPatient, KeepsRealm, IsCounted, GoesOn};
+ghost use Rattle.turn_client_api.specs.LawsSteps.{StaysClosed, StaysPatient, KeepsRealm, CountsChallenge, GoesOn};
 ghost use Rattle.turn_client_api.specs.declared.poll.TurnPollRet.TheVariants as Do;
 
 /// A client that has ended stays so, whatever is called, whether or not a call finds memory. Once no
@@ -26,7 +23,7 @@ pub fn stays_closed()
 /// something that this was made for.
 pub fn challenges_are_counted()
     ensures stays { (call : Call) (s t : State) → Leaves call s t → StaysPatient s t }
-    ensures each { (message : List ℕ) (now : ℕ) (s : State) (challenge : Challenge) → judgement_of s message ≡ Challenged challenge → IsCounted s (message_step message now s).1 }
+    ensures each { (message : List ℕ) (now : ℕ) (s : State) → CountsChallenge message now s }
     ensures falls { (call : Call) (s t : State) → Leaves call s t → t.challenges < s.challenges → IsBroughtBy IsHeeded call s }
 {}
 

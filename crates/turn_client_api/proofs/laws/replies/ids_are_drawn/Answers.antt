@@ -2,4 +2,4 @@ use Rattle.turn_client_api.proofs.CallDrawLemmas.{leaves-draws}
 use Rattle.turn_client_api.proofs.laws.replies.ids_are_drawn.Goals as goal
 
 pub returns : goal.returns
-returns c = λ call id s t. leaves-draws id call s t
+returns c = λ call s t left id. leaves-draws id call s t left
