@@ -9,7 +9,7 @@ use Rattle.turn_auth.specs.declared.validation.Validation.TheVariants.{Validated
 use Rattle.turn_client_api.specs.State.{State, auth_of, Authenticating, Grant, Allocation, Permission, Channel, Connect, Offer, Origin, Active, Pending, Purpose, ForAllocation, ForRefresh, ForPermission, ForChannel, ForConnect, seconds}
 use Rattle.turn_client_api.specs.Effect.{new_allocation}
 use Rattle.turn_client_api.specs.Payloads.{Outcome, Ignored, message_step}
-use Rattle.turn_client_api.specs.LawsRows.{awaiting, granted_at, peer, ip_of_peer, relayed_v4, requesting}
+use Rattle.turn_client_api.specs.LawsRows.{awaiting, granted_at, peer, ip_of_peer, relayed_v4, relayed_v6, requesting}
 
 -- ---- messages
 
@@ -163,6 +163,12 @@ abbrev pub lasting_600_s : Grant
 lasting_600_s = Allocation (record { relayed = relayed_v4; first_lifetime = seconds 1000; expiry = ms 600_100; is_expired = false })
 
 -- what is granted at 100 ms
+abbrev pub granted_v4 : Grant
+granted_v4 = new_allocation 1000 (ms 100) relayed_v4
+
+abbrev pub granted_v6 : Grant
+granted_v6 = new_allocation 1000 (ms 100) relayed_v6
+
 abbrev pub granted_permission : Grant
 granted_permission = Permission ip_of_peer (Active (ms 300_100))
 
@@ -180,8 +186,12 @@ abbrev pub asking_channel : SocketAddr → List ℕ → State → State
 asking_channel to text s =
     asking (ForChannel 0x4000 peer ∷ ForPermission ip_of_peer ∷ []) (Channel 0x4000 peer Pending ∷ Permission ip_of_peer Pending ∷ []) to text s
 
+-- one that it has
+abbrev pub permission_for_300_s : Grant
+permission_for_300_s = Permission ip_of_peer (Active (seconds 300))
+
 abbrev pub asking_connection : SocketAddr → List ℕ → State → State
-asking_connection to text s = asking (ForConnect peer ∷ []) (Permission ip_of_peer (Active (seconds 300)) ∷ Connect peer ∷ []) to text s
+asking_connection to text s = asking (ForConnect peer ∷ []) (permission_for_300_s ∷ Connect peer ∷ []) to text s
 
 abbrev pub refreshing : ℕ → SocketAddr → List ℕ → State → State
 refreshing lifetime to text s = asking (ForRefresh IPV4 lifetime ∷ []) [] to text s

@@ -4,6 +4,8 @@ use Rattle.std.specs.List.{IsDistinct}
 use Rattle.turn_types.specs.Frames.{IsFrame, begins_no_frame}
 use Rattle.turn_agent.specs.Agent.{same_address}
 use Rattle.turn_client_api.specs.State.{State, Mode, Control, Waiting, Bound, Broken, Stream}
+use Rattle.turn_client_api.specs.Payloads.{Outcome}
+use Rattle.turn_client_api.specs.LawsPeers.{IsNobodys}
 
 -- no whole frame is in front, nor a byte that no frame begins with
 abbrev pub HasNoFrame : List ℕ → Type 0
@@ -19,6 +21,10 @@ IsDrained stream = by stream.mode
     by Waiting = HasNoFrame stream.bytes
     by (Bound peer) = stream.bytes ≡ []
     by Broken = ⊤
+
+-- where nothing of a peer comes, no stream is left with something to be handled
+abbrev pub DrainsOrGives : Outcome × State → Type 0
+DrainsOrGives r = IsNobodys r.0 → All IsDrained r.1.streams
 
 -- where the stream is broken, it holds nothing
 abbrev pub IsEmptyIfBroken : Stream → Type 0

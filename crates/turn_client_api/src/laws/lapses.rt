@@ -2,14 +2,14 @@
 
 ghost use Rattle.std.specs.Prelude.{◌≡◌, ◌∷◌, [], Some, Ok, Err};
 ghost use Rattle.turn_stun.specs.declared.transport.TransportType.TheVariants.{Udp};
-ghost use Rattle.turn_client_api.specs.State.{State, Channel, Reserved};
+ghost use Rattle.turn_client_api.specs.State.{State};
 ghost use Rattle.turn_client_api.specs.declared.error.BindChannelError.TheVariants.{ExpiredChannelExists};
 ghost use Rattle.turn_client_api.specs.declared.event.TurnEvent.TheVariants.{ChannelCreateFailed, PermissionCreateFailed};
 ghost use Rattle.turn_client_api.specs.declared.poll.TurnPollRet.TheVariants.{Closed, WaitUntil};
 ghost use Rattle.turn_client_api.specs.Calls.{bind_channel_step, free_number};
 ghost use Rattle.turn_client_api.specs.Poll.{poll_step};
 ghost use Rattle.turn_client_api.specs.LawsRows.{peer, ip_of_peer};
-ghost use Rattle.turn_client_api.specs.LawsMessages.{allocation_of_v4, ms};
+ghost use Rattle.turn_client_api.specs.LawsMessages.{ms};
 ghost use Rattle.turn_client_api.specs.LawsLapses.{with_both, with_channel_alone, with_refresh_in_vain, with_reserved};
 
 /// What lapses that was granted at 100 ms and is not refreshed (RFC 8656, sections 9 and 12): a permission at
@@ -22,7 +22,7 @@ pub fn grants_lapse()
     ensures channel_left { (s : State) → (poll_step (ms 300_100) (with_both s)).1.grants ≡ (with_channel_alone s).grants }
     ensures channel_told { (s : State) → (poll_step (ms 600_100) (with_channel_alone s)).1.events ≡ ChannelCreateFailed Udp peer ∷ [] }
     // Its number and its peer are reserved for 300 s.
-    ensures reserved { (s : State) → (poll_step (ms 600_100) (with_channel_alone s)).1.grants ≡ allocation_of_v4 ∷ Channel 0x4000 peer (Reserved (ms 900_100)) ∷ [] }
+    ensures reserved { (s : State) → (poll_step (ms 600_100) (with_channel_alone s)).1.grants ≡ (with_reserved s).grants }
     ensures refused { (s : State) → bind_channel_step Udp peer (ms 601_000) (with_reserved s) ≡ (Err (ExpiredChannelExists (ms 900_100)), with_reserved s) }
     ensures still_refused { (s : State) → bind_channel_step Udp peer (ms 900_100) (with_reserved s) ≡ (Err (ExpiredChannelExists (ms 900_100)), with_reserved s) }
     ensures bound { (s : State) → (bind_channel_step Udp peer (ms 900_200) (with_reserved s)).0 ≡ Ok tt }

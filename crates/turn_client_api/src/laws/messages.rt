@@ -1,22 +1,21 @@
 //! Worked messages of the server.
 
-ghost use Rattle.std.specs.Prelude.{true, false, ◌≡◌, ◌∷◌, List, [], ℕ, map, Some};
+ghost use Rattle.std.specs.Prelude.{true, ◌≡◌, ◌∷◌, List, [], ℕ, map, Some};
 ghost use Rattle.std.specs.declared.net.socket_addr.SocketAddr.{SocketAddr};
 ghost use Rattle.turn_stun.specs.declared.transport.TransportType.TheVariants.{Udp};
 ghost use Rattle.turn_types.specs.declared.family.AddressFamily.TheVariants.{IPV4, IPV6};
-ghost use Rattle.turn_client_api.specs.State.{State, Authenticating, Allocated, Closed, Permission, Active, OwnConnect, seconds};
+ghost use Rattle.turn_client_api.specs.State.{State, Authenticating, Allocated, Closed, OwnConnect};
 ghost use Rattle.turn_client_api.specs.declared.event.TurnEvent.TheVariants.{AllocationCreated, AllocationCreateFailed, ChannelCreated, ChannelCreateFailed, PermissionCreated, PermissionCreateFailed, TcpConnectFailed};
-ghost use Rattle.turn_client_api.specs.Payloads.{Handled, Ignored};
-ghost use Rattle.turn_client_api.specs.Effect.{new_allocation};
+ghost use Rattle.turn_client_api.specs.Payloads.{Handled};
 ghost use Rattle.turn_client_api.specs.LawsRows.{peer, ip_of_peer, relayed_v4, relayed_v6};
 ghost use Rattle.turn_client_api.specs.LawsMessages.{IgnoresCopy, IgnoresUnsigned, Ignores, WhenSigned, after_message, allocating, allocation_of_v4, asking_channel, asking_connection, asking_first, asking_permission, bad_request_reply, both_allocated, challenged, channel_bound, channel_not_bound};
-ghost use Rattle.turn_client_api.specs.LawsMessages.{connected, granted_channel, granted_permission, held_by_it, lasting_600_s, lifetime_behind, mismatched, ms, not_connected, offer_of, one_allocated, one_family_alone, permitted, refreshed_for, refreshing, stale, unauthorized};
+ghost use Rattle.turn_client_api.specs.LawsMessages.{connected, granted_channel, granted_permission, granted_v4, granted_v6, held_by_it, lasting_600_s, lifetime_behind, mismatched, not_connected, offer_of, one_allocated, one_family_alone, permission_for_300_s, permitted, refreshed_for, refreshing, stale, unauthorized};
 
 /// What comes of replies to a signed ALLOCATE for both families (RFC 8656, sections 7.3 and 7.4).
 pub fn allocations_are_answered()
     // The addresses in the order in which they are written, each for 1000 s from the moment of the reply.
     ensures created { WhenSigned both_allocated allocating (λ r. r.1.events ≡ AllocationCreated Udp relayed_v6 ∷ AllocationCreated Udp relayed_v4 ∷ []) }
-    ensures grants { WhenSigned both_allocated allocating (λ r. r.1.grants ≡ new_allocation 1000 (ms 100) relayed_v6 ∷ new_allocation 1000 (ms 100) relayed_v4 ∷ []) }
+    ensures grants { WhenSigned both_allocated allocating (λ r. r.1.grants ≡ granted_v6 ∷ granted_v4 ∷ []) }
     ensures phase { WhenSigned both_allocated allocating (λ r. r.1.phase ≡ Allocated) }
     // What follows the integrity counts for nothing: neither an address nor a lifetime.
     ensures one { WhenSigned one_allocated allocating (λ r. r.1.events ≡ AllocationCreated Udp relayed_v4 ∷ AllocationCreateFailed IPV6 ∷ []) }
@@ -43,7 +42,7 @@ pub fn grants_are_answered()
     ensures channel_told { WhenSigned channel_bound asking_channel (λ r. r.1.events ≡ PermissionCreated Udp ip_of_peer ∷ ChannelCreated Udp peer ∷ []) }
     // A refusal takes the permission that was asked for with the channel.
     ensures refused { WhenSigned channel_not_bound asking_channel (λ r. r.1.grants ≡ allocation_of_v4 ∷ []) }
-    ensures refusal_told { WhenSigned channel_not_bound asking_channel (λ r. r.1.events ≡ ChannelCreateFailed Udp peer ∷ PermissionCreateFailed Udp ip_of_peer ∷ []) }
+    ensures refusals { WhenSigned channel_not_bound asking_channel (λ r. r.1.events ≡ ChannelCreateFailed Udp peer ∷ PermissionCreateFailed Udp ip_of_peer ∷ []) }
 {}
 
 /// What comes of replies to REFRESH (RFC 8656, section 8.3).
@@ -60,9 +59,9 @@ pub fn refreshes_are_answered()
 /// What comes of replies to CONNECT (RFC 6062, section 4.3).
 pub fn connects_are_answered()
     // The caller is to open the connection that the server tells of.
-    ensures offered { WhenSigned connected asking_connection (λ r. r.1.grants ≡ allocation_of_v4 ∷ Permission ip_of_peer (Active (seconds 300)) ∷ offer_of OwnConnect ∷ []) }
+    ensures offered { WhenSigned connected asking_connection (λ r. r.1.grants ≡ allocation_of_v4 ∷ permission_for_300_s ∷ offer_of OwnConnect ∷ []) }
     // A refusal counts, whatever else it says.
-    ensures refused { WhenSigned not_connected asking_connection (λ r. r.1.grants ≡ allocation_of_v4 ∷ Permission ip_of_peer (Active (seconds 300)) ∷ []) }
+    ensures refused { WhenSigned not_connected asking_connection (λ r. r.1.grants ≡ allocation_of_v4 ∷ permission_for_300_s ∷ []) }
     ensures told { WhenSigned not_connected asking_connection (λ r. r.1.events ≡ TcpConnectFailed peer ∷ []) }
 {}
 

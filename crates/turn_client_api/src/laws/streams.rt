@@ -8,8 +8,7 @@ ghost use Rattle.turn_client_api.specs.State.{State, Stream, Control, Broken, in
 ghost use Rattle.turn_client_api.specs.Streams.{most_turns, poll_recv_step, turns_until_payload};
 ghost use Rattle.turn_client_api.specs.Receive.{piece_step};
 ghost use Rattle.turn_client_api.specs.Steps.{Call, Leaves};
-ghost use Rattle.turn_client_api.specs.LawsPeers.{IsNobodys};
-ghost use Rattle.turn_client_api.specs.LawsStreams.{AreApart, IsDrained};
+ghost use Rattle.turn_client_api.specs.LawsStreams.{AreApart, DrainsOrGives, IsDrained};
 
 /// `poll_recv` leaves nothing behind (RFC 8656, section 12.5): where it gives no payload, no stream
 /// holds a whole frame, nor a bound one any byte, and each that is not broken holds less than the
@@ -19,7 +18,7 @@ ghost use Rattle.turn_client_api.specs.LawsStreams.{AreApart, IsDrained};
 /// nothing comes gets to the end.
 pub fn streams_are_drained()
     ensures drained { (now : ℕ) (s : State) → (poll_recv_step now s).0 ≡ None → All IsDrained (poll_recv_step now s).1.streams }
-    ensures piece { (stream : Stream) (piece : List ℕ) (now : ℕ) (s : State) → stream.mode ≡ Control → IsNobodys (piece_step stream piece now s).0 → All IsDrained (piece_step stream piece now s).1.streams }
+    ensures piece { (stream : Stream) (piece : List ℕ) (now : ℕ) (s : State) → stream.mode ≡ Control → DrainsOrGives (piece_step stream piece now s) }
     ensures short { (stream : Stream) → IsDrained stream → stream.mode ≢ Broken → All (λ b. b < 256) stream.bytes → length stream.bytes < 65555 }
     ensures enough { (n now : ℕ) (s : State) → most_turns s ≤ n → turns_until_payload n now s ≡ poll_recv_step now s }
     ensures fewer { (now : ℕ) (s : State) → AreApart s → IsSome (poll_recv_step now s).0 → most_turns (poll_recv_step now s).1 < most_turns s }

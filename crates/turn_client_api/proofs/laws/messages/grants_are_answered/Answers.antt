@@ -31,6 +31,6 @@ pub returns-clause-refused : goal.returns-clause-refused
 unfolding fault_of attributes_from seen_after
 returns-clause-refused c = λ to text s byte e. rw e refl
 
-pub returns-clause-refusal_told : goal.returns-clause-refusal_told
+pub returns-clause-refusals : goal.returns-clause-refusals
 unfolding fault_of attributes_from seen_after
-returns-clause-refusal_told c = λ to text s byte e. rw e refl
+returns-clause-refusals c = λ to text s byte e. rw e refl

@@ -21,5 +21,5 @@ returns-clause-queued c = λ s. refl
 pub returns-clause-paused : goal.returns-clause-paused
 returns-clause-paused c = λ s. refl
 
-pub returns-clause-challenge : goal.returns-clause-challenge
-returns-clause-challenge c = λ text challenge s. refl
+pub returns-clause-retry : goal.returns-clause-retry
+returns-clause-retry c = λ text challenge s. refl
