@@ -76,7 +76,7 @@ fn no_password_is_printed(rt: HostRuntime) -> Result<(), Fail> {
 }
 
 /// A client that was challenged, and got other credentials then.
-fn secret_client(rt: &impl Abort, alloc: Global) -> LongTermClientAuth {
+fn secret_client(rt: &impl Abort, alloc: Global) -> Box<LongTermClientAuth> {
     let mut auth = challenged(rt, alloc, IntegrityAlgorithm::Sha1);
     auth.set_credentials(secret(alloc).expect(rt, "memory"));
     auth

@@ -36,9 +36,17 @@ pub(crate) fn raw(kind: u16, value: &[u8]) -> RawAttribute<'_>
     }
 }
 
+// Clients stand in a box. A function that holds one by itself is far more to prove, since a proof opens
+// all that is dropped at its end.
+
+/// A client without credentials.
+pub(crate) fn nobody(alloc: Global) -> Result<Box<LongTermClientAuth>, AllocError> {
+    Ok(Box::new(alloc, LongTermClientAuth::new(alloc))?)
+}
+
 /// A client with the credentials `user` and `pass`.
-pub(crate) fn client(alloc: Global) -> Result<LongTermClientAuth, CredentialsError> {
-    let mut auth = LongTermClientAuth::new(alloc);
+pub(crate) fn client(alloc: Global) -> Result<Box<LongTermClientAuth>, CredentialsError> {
+    let mut auth = nobody(alloc)?;
     auth.set_credentials(TurnCredentials::new(alloc, b"user", b"pass")?);
     Ok(auth)
 }
@@ -134,7 +142,7 @@ pub(crate) fn challenged(
     rt: &impl Abort,
     alloc: Global,
     algorithm: IntegrityAlgorithm,
-) -> LongTermClientAuth {
+) -> Box<LongTermClientAuth> {
     let mut auth = client(alloc).expect(rt, "memory");
     auth.set_supported_integrity(algorithm);
     let offered = Some(BOTH_ALGORITHMS);

@@ -3,7 +3,7 @@ use crate::integrity::IntegrityAlgorithm;
 use crate::long_term::LongTermClientAuth;
 use crate::tests::fixture::{
     ALLOCATE, BOTH_ALGORITHMS, SECOND_ID, assert_judged, assert_validation, challenge, challenged,
-    client, denial, judge, raw,
+    client, denial, judge, nobody, raw,
 };
 use crate::validation::Validation;
 use std::alloc::Global;
@@ -108,8 +108,8 @@ fn responses_signed_with_sha256_are_valid(rt: HostRuntime) {
 }
 
 /// The client of the sample request, after a challenge of its realm.
-fn sample_client(rt: &impl Abort, alloc: Global) -> LongTermClientAuth {
-    let mut auth = LongTermClientAuth::new(alloc);
+fn sample_client(rt: &impl Abort, alloc: Global) -> Box<LongTermClientAuth> {
+    let mut auth = nobody(alloc).expect(rt, "memory");
     let user = SAMPLE_USER.as_bytes();
     let credentials = TurnCredentials::new(alloc, user, b"TheMatrIX").expect(rt, "memory");
     auth.set_credentials(credentials);
@@ -201,7 +201,7 @@ fn integrity_of_another_length_is_wrong(rt: HostRuntime) {
 
 #[test]
 fn without_credentials_all_is_refused(rt: HostRuntime) {
-    let auth = LongTermClientAuth::new(rt.alloc());
+    let auth = nobody(rt.alloc()).expect(&rt, "memory");
     let found = judge_denial(&rt, rt.alloc(), &auth, 401, b"realm", b"nonce", None);
     assert_validation(&rt, found, UNSIGNED);
     assert_judged(&rt, &auth, SIGNED, UNSIGNED);

@@ -123,7 +123,7 @@ fn a_retry_without_memory_leaves_what_is_held(rt: HostRuntime) {
 }
 
 /// The client after a challenge that offers nothing.
-fn plainly_challenged(rt: &impl Abort, alloc: Global) -> Option<LongTermClientAuth> {
+fn plainly_challenged(rt: &impl Abort, alloc: Global) -> Option<Box<LongTermClientAuth>> {
     let mut auth = client(alloc).ok()?;
     challenge(rt, alloc, &mut auth, 401, b"realm", b"nonce", None).ok()?;
     Some(auth)

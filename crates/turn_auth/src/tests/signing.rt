@@ -7,7 +7,7 @@ use crate::long_term::LongTermClientAuth;
 use crate::server_challenge::ServerChallenge;
 use crate::tests::fixture::{
     allocate, assert_bytes, assert_judged, assert_len, bare, challenge, challenged, client, denial,
-    sign,
+    nobody, sign,
 };
 use crate::validation::Validation;
 use std::alloc::Global;
@@ -94,7 +94,7 @@ fn signing_adds_what_was_told(rt: HostRuntime) {
 
 #[test]
 fn nothing_is_told_without_a_realm(rt: HostRuntime) {
-    let auth = LongTermClientAuth::new(rt.alloc());
+    let auth = nobody(rt.alloc()).expect(&rt, "memory");
     assert_len(&rt, auth.message_signature_bytes(), 0);
 }
 
