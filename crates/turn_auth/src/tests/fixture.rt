@@ -52,7 +52,11 @@ pub(crate) fn client(alloc: Global) -> Result<Box<LongTermClientAuth>, Credentia
 }
 
 /// Adds an attribute of that type and value.
-fn add(message: &mut MessageWriteVec, kind: u16, value: &[u8]) -> Result<(), WriteError> {
+pub(crate) fn add(
+    message: &mut MessageWriteVec,
+    kind: u16,
+    value: &[u8],
+) -> Result<(), WriteError> {
     message.add_attribute(&raw(kind, value))
 }
 
@@ -135,6 +139,18 @@ pub(crate) fn challenge(
     let bytes = denial(rt, alloc, code, realm, nonce, algorithms)?;
     take(rt, auth, bytes.as_slice())?;
     Ok(())
+}
+
+/// Takes another challenge of `realm` with that nonce and value of PASSWORD-ALGORITHMS.
+pub(crate) fn accept(
+    rt: &impl Abort,
+    alloc: Global,
+    auth: &mut LongTermClientAuth,
+    nonce: &[u8],
+    algorithms: Option<&[u8]>,
+) {
+    let taken = challenge(rt, alloc, auth, 438, b"realm", nonce, algorithms);
+    taken.expect(rt, "memory");
 }
 
 /// The client of these algorithms after the challenge of `realm` and `nonce` that offers both.

@@ -2,8 +2,8 @@ use crate::credentials::TurnCredentials;
 use crate::integrity::IntegrityAlgorithm;
 use crate::long_term::LongTermClientAuth;
 use crate::tests::fixture::{
-    ALLOCATE, BOTH_ALGORITHMS, SECOND_ID, assert_judged, assert_validation, challenge, challenged,
-    client, denial, judge, nobody, raw,
+    ALLOCATE, BOTH_ALGORITHMS, SECOND_ID, accept, add, assert_judged, assert_len,
+    assert_validation, challenge, challenged, client, denial, judge, nobody,
 };
 use crate::validation::Validation;
 use std::alloc::Global;
@@ -65,11 +65,14 @@ const AGAIN: Validation = Validation::ResendRequest(IntegrityAlgorithm::Sha1);
 
 const AGAIN_SHA256: Validation = Validation::ResendRequest(IntegrityAlgorithm::Sha256);
 
-const EITHER: &[IntegrityAlgorithm] = &[IntegrityAlgorithm::Sha256, IntegrityAlgorithm::Sha1];
+/// The algorithms of a client: these two, or one where they are the same.
+type Supported = (IntegrityAlgorithm, IntegrityAlgorithm);
 
-const SHA1_ALONE: &[IntegrityAlgorithm] = &[IntegrityAlgorithm::Sha1];
+const EITHER: Supported = (IntegrityAlgorithm::Sha256, IntegrityAlgorithm::Sha1);
 
-const SHA256_ALONE: &[IntegrityAlgorithm] = &[IntegrityAlgorithm::Sha256];
+const SHA1_ALONE: Supported = (IntegrityAlgorithm::Sha1, IntegrityAlgorithm::Sha1);
+
+const SHA256_ALONE: Supported = (IntegrityAlgorithm::Sha256, IntegrityAlgorithm::Sha256);
 
 /// How the client judges the denial with that code, realm, nonce and value of PASSWORD-ALGORITHMS.
 fn judge_denial(
@@ -85,26 +88,31 @@ fn judge_denial(
     judge(rt, auth, bytes.as_slice())
 }
 
+/// Asserts how the client judges each of these messages.
+fn assert_all_judged(rt: &impl Abort, auth: &LongTermClientAuth, rows: &[(&[u8], Validation)]) {
+    for (bytes, expected) in rows {
+        assert_judged(rt, auth, bytes, *expected);
+    }
+}
+
+const RESPONSES: &[(&[u8], Validation)] = &[
+    (SIGNED, SHA1),
+    (BEHIND_FINGERPRINT, SHA1),
+    (AT_THE_HEADER, SHA1),
+    (SIGNED_BY_WORD, WRONG),
+    (SIGNED_SHA256, UNSIGNED),
+];
+
 #[test]
 fn signed_responses_are_valid(rt: HostRuntime) {
     let auth = challenged(&rt, rt.alloc(), IntegrityAlgorithm::Sha1);
-    let cases: [(&[u8], Validation); 5] = [
-        (SIGNED, SHA1),
-        (BEHIND_FINGERPRINT, SHA1),
-        (AT_THE_HEADER, SHA1),
-        (SIGNED_BY_WORD, WRONG),
-        (SIGNED_SHA256, UNSIGNED),
-    ];
-    for (bytes, expected) in cases {
-        assert_judged(&rt, &auth, bytes, expected);
-    }
+    assert_all_judged(&rt, &auth, RESPONSES);
 }
 
 #[test]
 fn responses_signed_with_sha256_are_valid(rt: HostRuntime) {
     let auth = challenged(&rt, rt.alloc(), IntegrityAlgorithm::Sha256);
-    assert_judged(&rt, &auth, SIGNED_SHA256, SHA256);
-    assert_judged(&rt, &auth, SIGNED, UNSIGNED);
+    assert_all_judged(&rt, &auth, &[(SIGNED_SHA256, SHA256), (SIGNED, UNSIGNED)]);
 }
 
 /// The client of the sample request, after a challenge of its realm.
@@ -113,7 +121,8 @@ fn sample_client(rt: &impl Abort, alloc: Global) -> Box<LongTermClientAuth> {
     let user = SAMPLE_USER.as_bytes();
     let credentials = TurnCredentials::new(alloc, user, b"TheMatrIX").expect(rt, "memory");
     auth.set_credentials(credentials);
-    challenge(rt, alloc, &mut auth, 401, b"example.org", b"nonce", None).expect(rt, "memory");
+    let taken = challenge(rt, alloc, &mut auth, 401, b"example.org", b"nonce", None);
+    taken.expect(rt, "memory");
     auth
 }
 
@@ -123,49 +132,46 @@ fn a_sample_of_the_standard_is_valid(rt: HostRuntime) {
     assert_judged(&rt, &auth, SAMPLE_REQUEST, SHA1);
 }
 
-/// Whether the signed response with that bit turned is a message, which then is refused.
-fn refuses_turned(
-    rt: &impl Abort,
-    alloc: Global,
-    auth: &LongTermClientAuth,
-    at: usize,
-    bit: u32,
-) -> bool {
+/// The signed response with that bit turned.
+fn turned(rt: &impl Abort, alloc: Global, at: usize, bit: u32) -> Vec<u8> {
     let mut turned = SIGNED.to_vec(alloc).expect(rt, "memory");
     assert!(rt; at < turned.len() && bit < 8);
     turned[at] ^= 1u8 << bit;
-    let Ok(message) = Message::from_bytes(turned.as_slice()) else {
+    turned
+}
+
+/// Whether the bytes are a message, which then is refused.
+fn refuses(rt: &impl Abort, auth: &LongTermClientAuth, bytes: &[u8]) -> bool {
+    let Ok(message) = Message::from_bytes(bytes) else {
         return false;
     };
     let validation = auth.validate_incoming_message(&message);
-    assert!(rt;
-        matches!(validation, Validation::Refused { .. }),
-        "{at}, {bit}"
-    );
+    assert!(rt; matches!(validation, Validation::Refused { .. }));
     true
 }
 
 #[test]
 fn no_turned_bit_is_valid(rt: HostRuntime) {
     let auth = challenged(&rt, rt.alloc(), IntegrityAlgorithm::Sha1);
-    let mut judged = 0u32;
+    let mut judged = 0usize;
     for at in 0..SIGNED.len() {
         for bit in 0u32..8 {
-            if refuses_turned(&rt, rt.alloc(), &auth, at, bit) {
+            if refuses(&rt, &auth, turned(&rt, rt.alloc(), at, bit).as_slice()) {
                 judged = judged.wrapping_add(1);
             }
         }
     }
     // The others of the 416 bits leave no message.
-    assert_eq!(rt; judged, 334);
+    assert_len(&rt, judged, 334);
 }
+
+/// An integrity of sevens.
+const SEVENS: &[u8] = b"\x00\x08\x00\x14\x07\x07\x07\x07\x07\x07\x07\x07\x07\x07\
+    \x07\x07\x07\x07\x07\x07\x07\x07\x07\x07";
 
 /// Adds an integrity of sevens to a message of 52 bytes.
 fn add_sevens(rt: &impl Abort, bytes: &mut Vec<u8>) {
-    bytes
-        .extend_from_slice(b"\x00\x08\x00\x14")
-        .expect(rt, "memory");
-    bytes.extend_from_slice(&[7; 20]).expect(rt, "memory");
+    bytes.extend_from_slice(SEVENS).expect(rt, "memory");
     assert!(rt; bytes.len() == 76);
     bytes[3] = 56;
 }
@@ -178,14 +184,23 @@ fn a_second_integrity_is_not_seen(rt: HostRuntime) {
     assert_judged(&rt, &auth, twice.as_slice(), SHA1);
 }
 
+/// Adds an attribute of that type and that many zeros.
+fn add_zeros(
+    alloc: Global,
+    message: &mut MessageWriteVec,
+    kind: u16,
+    len: usize,
+) -> Result<(), WriteError> {
+    let value = vec![in alloc; 0; len]?;
+    add(message, kind, value.as_slice())
+}
+
 /// A response with an attribute and an integrity of that many zeros.
 fn zeros(alloc: Global, front: usize, len: usize) -> Result<MessageWriteVec, WriteError> {
     let id = TransactionId::from_bytes(SECOND_ID);
     let mut message = MessageWriteVec::builder_success(alloc, ALLOCATE, id)?;
-    let first = vec![in alloc; 0; front]?;
-    message.add_attribute(&raw(0x0013, first.as_slice()))?;
-    let second = vec![in alloc; 0; len]?;
-    message.add_attribute(&raw(0x0008, second.as_slice()))?;
+    add_zeros(alloc, &mut message, 0x0013, front)?;
+    add_zeros(alloc, &mut message, 0x0008, len)?;
     Ok(message)
 }
 
@@ -199,141 +214,141 @@ fn integrity_of_another_length_is_wrong(rt: HostRuntime) {
     }
 }
 
+fn assert_holds_nothing(rt: &impl Abort, auth: &LongTermClientAuth) {
+    assert!(rt; auth.credentials().is_none() && !auth.has_realm());
+}
+
 #[test]
 fn without_credentials_all_is_refused(rt: HostRuntime) {
     let auth = nobody(rt.alloc()).expect(&rt, "memory");
     let found = judge_denial(&rt, rt.alloc(), &auth, 401, b"realm", b"nonce", None);
     assert_validation(&rt, found, UNSIGNED);
-    assert_judged(&rt, &auth, SIGNED, UNSIGNED);
-    assert_judged(&rt, &auth, SAMPLE_REQUEST, UNSIGNED);
-    assert!(rt; auth.credentials().is_none() && !auth.has_realm());
+    assert_all_judged(
+        &rt,
+        &auth,
+        &[(SIGNED, UNSIGNED), (SAMPLE_REQUEST, UNSIGNED)],
+    );
+    assert_holds_nothing(&rt, &auth);
 }
 
-/// How a client of these algorithms judges a challenge with that value of PASSWORD-ALGORITHMS.
-fn judge_offer(
+/// Asserts how a client of these algorithms judges a challenge with that value of PASSWORD-ALGORITHMS.
+fn assert_offer(
     rt: &impl Abort,
     alloc: Global,
-    supported: &[IntegrityAlgorithm],
+    supported: Supported,
     offered: Option<&[u8]>,
-) -> Validation {
+    expected: Validation,
+) {
     let mut auth = client(alloc).expect(rt, "memory");
-    assert!(rt; !supported.is_empty());
-    auth.set_supported_integrity(supported[0]);
-    for algorithm in supported {
-        auth.add_supported_integrity(*algorithm);
-    }
-    judge_denial(rt, alloc, &auth, 401, b"realm", b"nonce", offered)
+    auth.set_supported_integrity(supported.0);
+    auth.add_supported_integrity(supported.1);
+    let found = judge_denial(rt, alloc, &auth, 401, b"realm", b"nonce", offered);
+    assert_validation(rt, found, expected);
 }
+
+fn assert_offers(rt: &impl Abort, alloc: Global, rows: &[(Supported, Option<&[u8]>, Validation)]) {
+    for (supported, offered, expected) in rows {
+        assert_offer(rt, alloc, *supported, *offered, *expected);
+    }
+}
+
+const OFFERS: &[(Supported, Option<&[u8]>, Validation)] = &[
+    (EITHER, Some(BOTH_ALGORITHMS), AGAIN_SHA256),
+    (SHA1_ALONE, Some(BOTH_ALGORITHMS), AGAIN),
+    (SHA256_ALONE, Some(BOTH_ALGORITHMS), AGAIN_SHA256),
+    (SHA256_ALONE, None, UNSIGNED),
+    (EITHER, None, AGAIN),
+    (
+        SHA256_ALONE,
+        Some(b"\x00\x02\x00\x00\x00\x07\x00\x01"),
+        UNSIGNED,
+    ),
+];
 
 #[test]
 fn the_algorithm_is_picked(rt: HostRuntime) {
-    let cases: [(&[IntegrityAlgorithm], Option<&[u8]>, Validation); 6] = [
-        (EITHER, Some(BOTH_ALGORITHMS), AGAIN_SHA256),
-        (SHA1_ALONE, Some(BOTH_ALGORITHMS), AGAIN),
-        (SHA256_ALONE, Some(BOTH_ALGORITHMS), AGAIN_SHA256),
-        (SHA256_ALONE, None, UNSIGNED),
-        (EITHER, None, AGAIN),
-        (
-            SHA256_ALONE,
-            Some(b"\x00\x02\x00\x00\x00\x07\x00\x01"),
-            UNSIGNED,
-        ),
-    ];
-    for (supported, offered, expected) in cases {
-        let found = judge_offer(&rt, rt.alloc(), supported, offered);
-        assert_validation(&rt, found, expected);
-    }
+    assert_offers(&rt, rt.alloc(), OFFERS);
 }
+
+const ILL_FORMED_OFFERS: &[(Supported, Option<&[u8]>, Validation)] = &[
+    (EITHER, Some(b"\x00\x02\x00\x04\x00\x00\x00\x00"), AGAIN),
+    (EITHER, Some(b"\x00\x02\x00"), AGAIN),
+    (EITHER, Some(b""), AGAIN),
+    (EITHER, Some(b"\x00\x01\x00\x00"), AGAIN),
+    (
+        EITHER,
+        Some(b"\x00\x07\x00\x03abc\x00\x00\x02\x00\x00"),
+        AGAIN_SHA256,
+    ),
+];
 
 #[test]
 fn an_offer_counts_where_it_is_well_formed(rt: HostRuntime) {
-    let cases: [(&[u8], Validation); 5] = [
-        (b"\x00\x02\x00\x04\x00\x00\x00\x00", AGAIN),
-        (b"\x00\x02\x00", AGAIN),
-        (b"", AGAIN),
-        (b"\x00\x01\x00\x00", AGAIN),
-        (b"\x00\x07\x00\x03abc\x00\x00\x02\x00\x00", AGAIN_SHA256),
-    ];
-    for (offered, expected) in cases {
-        let found = judge_offer(&rt, rt.alloc(), EITHER, Some(offered));
-        assert_validation(&rt, found, expected);
-    }
+    assert_offers(&rt, rt.alloc(), ILL_FORMED_OFFERS);
+}
+
+/// The value of PASSWORD-ALGORITHMS that names SHA-256 and then what is unknown, of that many bytes.
+fn long_offer(rt: &impl Abort, alloc: Global, len: usize) -> Vec<u8> {
+    let mut offered = vec![in alloc; 0u8; len].expect(rt, "memory");
+    assert!(rt; offered.len() > 1);
+    offered[1] = 2;
+    offered
 }
 
 #[test]
 fn an_offer_counts_up_to_64_bytes(rt: HostRuntime) {
-    for (len, expected) in [(64usize, AGAIN_SHA256), (68, AGAIN)] {
-        let mut offered = vec![in rt.alloc(); 0u8; len].expect(&rt, "memory");
-        assert!(rt; offered.len() > 1);
-        offered[1] = 2;
-        let found = judge_offer(&rt, rt.alloc(), EITHER, Some(offered.as_slice()));
-        assert_validation(&rt, found, expected);
+    let offered = long_offer(&rt, rt.alloc(), 64);
+    assert_offer(
+        &rt,
+        rt.alloc(),
+        EITHER,
+        Some(offered.as_slice()),
+        AGAIN_SHA256,
+    );
+    let offered = long_offer(&rt, rt.alloc(), 68);
+    assert_offer(&rt, rt.alloc(), EITHER, Some(offered.as_slice()), AGAIN);
+}
+
+/// Asserts how the client judges each denial with that code, realm and nonce.
+fn assert_denials(rt: &impl Abort, alloc: Global, rows: &[(u16, &[u8], &[u8], Validation)]) {
+    let auth = client(alloc).expect(rt, "memory");
+    for (code, realm, nonce, expected) in rows {
+        let found = judge_denial(rt, alloc, &auth, *code, realm, nonce, None);
+        assert_validation(rt, found, *expected);
     }
 }
+
+const NO_CHALLENGES: &[(u16, &[u8], &[u8], Validation)] = &[
+    (401, b"", b"nonce", UNSIGNED),
+    (401, b"realm", b"", UNSIGNED),
+    (400, b"realm", b"nonce", UNSIGNED),
+    (508, b"realm", b"nonce", UNSIGNED),
+];
 
 #[test]
 fn what_is_no_challenge_is_refused(rt: HostRuntime) {
-    let auth = client(rt.alloc()).expect(&rt, "memory");
-    let cases: [(u16, &[u8], &[u8]); 4] = [
-        (401, b"", b"nonce"),
-        (401, b"realm", b""),
-        (400, b"realm", b"nonce"),
-        (508, b"realm", b"nonce"),
-    ];
-    for (code, realm, nonce) in cases {
-        let found = judge_denial(&rt, rt.alloc(), &auth, code, realm, nonce, None);
-        assert_validation(&rt, found, UNSIGNED);
-    }
+    assert_denials(&rt, rt.alloc(), NO_CHALLENGES);
 }
+
+const LONG_CHALLENGES: &[(u16, &[u8], &[u8], Validation)] = &[
+    (401, &[b'r'; 763], b"nonce", AGAIN),
+    (401, &[b'r'; 764], b"nonce", UNSIGNED),
+    (438, b"realm", &[b'r'; 763], AGAIN),
+    (401, b"realm", &[b'r'; 764], UNSIGNED),
+];
 
 #[test]
-fn a_realm_has_up_to_763_bytes(rt: HostRuntime) {
-    let auth = client(rt.alloc()).expect(&rt, "memory");
-    for (len, expected) in [(763usize, AGAIN), (764, UNSIGNED)] {
-        let realm = vec![in rt.alloc(); b'r'; len].expect(&rt, "memory");
-        let found = judge_denial(
-            &rt,
-            rt.alloc(),
-            &auth,
-            401,
-            realm.as_slice(),
-            b"nonce",
-            None,
-        );
-        assert_validation(&rt, found, expected);
-    }
+fn a_realm_and_a_nonce_have_up_to_763_bytes(rt: HostRuntime) {
+    assert_denials(&rt, rt.alloc(), LONG_CHALLENGES);
 }
 
-#[test]
-fn a_nonce_has_up_to_763_bytes(rt: HostRuntime) {
-    let auth = client(rt.alloc()).expect(&rt, "memory");
-    for (code, len, expected) in [(438u16, 763usize, AGAIN), (401, 764, UNSIGNED)] {
-        let nonce = vec![in rt.alloc(); b'r'; len].expect(&rt, "memory");
-        let found = judge_denial(
-            &rt,
-            rt.alloc(),
-            &auth,
-            code,
-            b"realm",
-            nonce.as_slice(),
-            None,
-        );
-        assert_validation(&rt, found, expected);
-    }
-}
-
-/// How the client judges the first challenge with another byte at that place.
-fn judge_altered(
-    rt: &impl Abort,
-    alloc: Global,
-    auth: &LongTermClientAuth,
-    at: usize,
-    byte: u8,
-) -> Validation {
-    let mut bytes = denial(rt, alloc, 401, b"realm", b"nonce", None).expect(rt, "memory");
+/// The first challenge with another byte at that place.
+fn altered(rt: &impl Abort, alloc: Global, at: usize, byte: u8) -> Vec<u8> {
+    let bytes = denial(rt, alloc, 401, b"realm", b"nonce", None);
+    let mut bytes = bytes.expect(rt, "memory");
     assert!(rt; at < bytes.len());
     bytes[at] = byte;
-    judge(rt, auth, bytes.as_slice())
+    bytes
 }
 
 #[test]
@@ -341,60 +356,60 @@ fn a_challenge_lacks_nothing(rt: HostRuntime) {
     let auth = client(rt.alloc()).expect(&rt, "memory");
     // Each of the three attributes gets a type that is unknown, and the class that of a success.
     for (at, byte) in [(21usize, 0x7fu8), (29, 0x7f), (41, 0x7f), (1, 0x03)] {
-        let found = judge_altered(&rt, rt.alloc(), &auth, at, byte);
-        assert_validation(&rt, found, UNSIGNED);
+        let bytes = altered(&rt, rt.alloc(), at, byte);
+        assert_judged(&rt, &auth, bytes.as_slice(), UNSIGNED);
     }
 }
 
-/// How the client judges a denial of the second nonce, which offers both algorithms.
-fn judge_second(
+/// Asserts how the client judges a denial of the second nonce, which offers both algorithms.
+fn assert_second(
     rt: &impl Abort,
     alloc: Global,
     auth: &LongTermClientAuth,
     code: u16,
     realm: &[u8],
-) -> Validation {
+    expected: Validation,
+) {
     let offered = Some(BOTH_ALGORITHMS);
-    judge_denial(rt, alloc, auth, code, realm, b"second", offered)
+    let found = judge_denial(rt, alloc, auth, code, realm, b"second", offered);
+    assert_validation(rt, found, expected);
+}
+
+/// A client that took a challenge with SHA-1, and was told of SHA-256 then.
+fn later_client(rt: &impl Abort, alloc: Global) -> Box<LongTermClientAuth> {
+    let mut auth = challenged(rt, alloc, IntegrityAlgorithm::Sha1);
+    auth.add_supported_integrity(IntegrityAlgorithm::Sha256);
+    auth
 }
 
 #[test]
 fn a_later_challenge_keeps_the_realm(rt: HostRuntime) {
-    let mut auth = challenged(&rt, rt.alloc(), IntegrityAlgorithm::Sha1);
-    auth.add_supported_integrity(IntegrityAlgorithm::Sha256);
-    let found = judge_second(&rt, rt.alloc(), &auth, 438, b"realm");
-    assert_validation(&rt, found, AGAIN);
-    let found = judge_second(&rt, rt.alloc(), &auth, 438, b"other");
-    assert_validation(&rt, found, UNSIGNED);
-    let found = judge_second(&rt, rt.alloc(), &auth, 401, b"realm");
-    assert_validation(&rt, found, UNSIGNED);
+    let auth = later_client(&rt, rt.alloc());
+    assert_second(&rt, rt.alloc(), &auth, 438, b"realm", AGAIN);
+    assert_second(&rt, rt.alloc(), &auth, 438, b"other", UNSIGNED);
+    assert_second(&rt, rt.alloc(), &auth, 401, b"realm", UNSIGNED);
 }
 
 #[test]
 fn a_later_challenge_keeps_the_algorithm(rt: HostRuntime) {
-    let mut auth = challenged(&rt, rt.alloc(), IntegrityAlgorithm::Sha1);
-    auth.add_supported_integrity(IntegrityAlgorithm::Sha256);
-    let offered = Some(BOTH_ALGORITHMS);
-    challenge(
-        &rt,
-        rt.alloc(),
-        &mut auth,
-        438,
-        b"realm",
-        b"second",
-        offered,
-    )
-    .expect(&rt, "memory");
+    let mut auth = later_client(&rt, rt.alloc());
+    accept(&rt, rt.alloc(), &mut auth, b"second", Some(BOTH_ALGORITHMS));
     assert_judged(&rt, &auth, SIGNED, SHA1);
+}
+
+/// A challenge with an integrity of sevens.
+fn signed_by_sevens(rt: &impl Abort, alloc: Global) -> Vec<u8> {
+    let bytes = denial(rt, alloc, 438, b"realm", b"second", None);
+    let mut bytes = bytes.expect(rt, "memory");
+    add_sevens(rt, &mut bytes);
+    bytes
 }
 
 #[test]
 fn a_signed_challenge_is_a_challenge(rt: HostRuntime) {
     let auth = challenged(&rt, rt.alloc(), IntegrityAlgorithm::Sha1);
     // Its integrity is not looked at, be it right or wrong.
-    let bytes = denial(&rt, rt.alloc(), 438, b"realm", b"second", None);
-    let mut bytes = bytes.expect(&rt, "memory");
-    add_sevens(&rt, &mut bytes);
+    let bytes = signed_by_sevens(&rt, rt.alloc());
     assert_judged(&rt, &auth, bytes.as_slice(), AGAIN);
 }
 
@@ -403,6 +418,5 @@ fn new_credentials_make_a_new_key(rt: HostRuntime) {
     let mut auth = challenged(&rt, rt.alloc(), IntegrityAlgorithm::Sha1);
     let credentials = TurnCredentials::new(rt.alloc(), b"user", b"word");
     auth.set_credentials(credentials.expect(&rt, "memory"));
-    assert_judged(&rt, &auth, SIGNED, WRONG);
-    assert_judged(&rt, &auth, SIGNED_BY_WORD, SHA1);
+    assert_all_judged(&rt, &auth, &[(SIGNED, WRONG), (SIGNED_BY_WORD, SHA1)]);
 }

@@ -129,17 +129,19 @@ fn plainly_challenged(rt: &impl Abort, alloc: Global) -> Option<Box<LongTermClie
     Some(auth)
 }
 
+/// The request to allocate before it is signed.
+const UNSIGNED_ALLOCATE: &[u8] =
+    b"\x00\x03\x00\x10\x21\x12\xa4\x42\x53\x86\xbd\x28\xbd\xd2\x19\xb8\xa0\x8d\xed\x1a\
+    \x00\x19\x00\x04\x11\x00\x00\x00\x00\x0d\x00\x04\x00\x00\x07\x08";
+
 /// Signs a request, or else leaves it as it was.
 fn signs_or_leaves(rt: &impl Abort, alloc: Global, auth: &LongTermClientAuth) {
     let Ok(mut request) = allocate(alloc) else {
         return;
     };
-    let mut before = [0; 36];
-    assert!(rt; request.as_bytes().len() == 36);
-    before.copy_from_slice(request.as_bytes());
     match sign(rt, auth, &mut request) {
         Ok(()) => assert!(rt; is_valid(auth, &request)),
-        Err(_) => assert_bytes(rt, request.as_bytes(), before.as_slice()),
+        Err(_) => assert_bytes(rt, request.as_bytes(), UNSIGNED_ALLOCATE),
     }
 }
 

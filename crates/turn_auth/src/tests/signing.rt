@@ -6,7 +6,7 @@ use crate::integrity::IntegrityAlgorithm;
 use crate::long_term::LongTermClientAuth;
 use crate::server_challenge::ServerChallenge;
 use crate::tests::fixture::{
-    allocate, assert_bytes, assert_judged, assert_len, bare, challenge, challenged, client, denial,
+    accept, allocate, assert_bytes, assert_judged, assert_len, bare, challenged, client, denial,
     nobody, sign,
 };
 use crate::validation::Validation;
@@ -60,7 +60,19 @@ fn a_request_is_signed_and_hides_the_user(rt: HostRuntime) {
     assert_bytes(&rt, message.as_bytes(), ANONYMOUS_ALLOCATE);
 }
 
-/// Asserts how many bytes this client tells and adds, and that the request is valid then.
+/// Asserts how long this message is, and that the client takes it for signed.
+fn assert_signed(
+    rt: &impl Abort,
+    auth: &LongTermClientAuth,
+    algorithm: IntegrityAlgorithm,
+    bytes: &[u8],
+    len: usize,
+) {
+    assert_len(rt, bytes.len(), len);
+    assert_judged(rt, auth, bytes, Validation::Validated(algorithm));
+}
+
+/// Asserts how many bytes this client tells and adds to a request of 36 bytes, which is valid then.
 fn adds(
     rt: &impl Abort,
     alloc: Global,
@@ -71,11 +83,9 @@ fn adds(
     let mut auth = challenged(rt, alloc, algorithm);
     auth.set_anonymous_username(anonymous);
     assert_len(rt, auth.message_signature_bytes(), expected);
-    let before = allocate(alloc).expect(rt, "memory").as_bytes().len();
     let message = signed_allocate(rt, alloc, &auth);
-    assert_len(rt, message.as_bytes().len().wrapping_sub(before), expected);
-    let valid = Validation::Validated(algorithm);
-    assert_judged(rt, &auth, message.as_bytes(), valid);
+    assert!(rt; expected < 60_000);
+    assert_signed(rt, &auth, algorithm, message.as_bytes(), 36 + expected);
 }
 
 #[test]
@@ -109,9 +119,7 @@ fn signs_bare(
     let auth = challenged(rt, alloc, algorithm);
     let mut message = bare(alloc, class).expect(rt, "memory");
     sign(rt, &auth, &mut message).expect(rt, "memory");
-    assert_len(rt, message.as_bytes().len(), expected);
-    let valid = Validation::Validated(algorithm);
-    assert_judged(rt, &auth, message.as_bytes(), valid);
+    assert_signed(rt, &auth, algorithm, message.as_bytes(), expected);
 }
 
 #[test]
@@ -131,10 +139,16 @@ fn challenge_of(rt: &impl Abort, auth: &LongTermClientAuth, bytes: &[u8]) -> Ser
     ensures { MayTake auth.now result }
 {
     let message = Message::from_bytes(bytes).expect(rt, "a message");
-    let Ok(Some(challenge)) = auth.challenge_in(&message) else {
-        panic!(rt; "a challenge");
-    };
-    challenge
+    let found = auth.challenge_in(&message).expect(rt, "memory");
+    found.expect(rt, "a challenge")
+}
+
+/// The same of the challenge of `realm` and `nonce`.
+fn first_challenge(rt: &impl Abort, alloc: Global, auth: &LongTermClientAuth) -> ServerChallenge
+    ensures { MayTake auth.now result }
+{
+    let bytes = denial(rt, alloc, 401, b"realm", b"nonce", None);
+    challenge_of(rt, auth, bytes.expect(rt, "memory").as_slice())
 }
 
 /// The request to allocate as the client signs it under the challenge, and what that was told to add.
@@ -159,8 +173,7 @@ fn signed_under(
 #[test]
 fn a_request_is_signed_before_its_challenge_is_held(rt: HostRuntime) {
     let mut auth = client(rt.alloc()).expect(&rt, "memory");
-    let bytes = denial(&rt, rt.alloc(), 401, b"realm", b"nonce", None).expect(&rt, "memory");
-    let challenge = challenge_of(&rt, &auth, bytes.as_slice());
+    let challenge = first_challenge(&rt, rt.alloc(), &auth);
     let message = signed_under(&rt, rt.alloc(), &auth, &challenge);
     assert_bytes(&rt, message.as_bytes(), SIGNED_ALLOCATE);
     assert!(rt; !auth.has_realm());
@@ -186,7 +199,7 @@ fn assert_nonce(rt: &impl Abort, bytes: &[u8], expected: &[u8]) {
 #[test]
 fn the_last_nonce_is_sent(rt: HostRuntime) {
     let mut auth = challenged(&rt, rt.alloc(), IntegrityAlgorithm::Sha1);
-    challenge(&rt, rt.alloc(), &mut auth, 438, b"realm", b"other", None).expect(&rt, "memory");
+    accept(&rt, rt.alloc(), &mut auth, b"other", None);
     let message = signed_allocate(&rt, rt.alloc(), &auth);
     assert_nonce(&rt, message.as_bytes(), b"other");
 }
