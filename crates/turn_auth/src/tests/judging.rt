@@ -132,11 +132,17 @@ fn a_sample_of_the_standard_is_valid(rt: HostRuntime) {
     assert_judged(&rt, &auth, SAMPLE_REQUEST, SHA1);
 }
 
+/// Makes the byte at that place another.
+fn put(rt: &impl Abort, bytes: &mut [u8], at: usize, byte: u8) {
+    assert!(rt; at < bytes.len());
+    bytes[at] = byte;
+}
+
 /// The signed response with that bit turned.
 fn turned(rt: &impl Abort, alloc: Global, at: usize, bit: u32) -> Vec<u8> {
     let mut turned = SIGNED.to_vec(alloc).expect(rt, "memory");
-    assert!(rt; at < turned.len() && bit < 8);
-    turned[at] ^= 1u8 << bit;
+    assert!(rt; at < SIGNED.len() && bit < 8);
+    put(rt, turned.as_mut_slice(), at, SIGNED[at] ^ (1u8 << bit));
     turned
 }
 
@@ -172,8 +178,8 @@ const SEVENS: &[u8] = b"\x00\x08\x00\x14\x07\x07\x07\x07\x07\x07\x07\x07\x07\x07
 /// Adds an integrity of sevens to a message of 52 bytes.
 fn add_sevens(rt: &impl Abort, bytes: &mut Vec<u8>) {
     bytes.extend_from_slice(SEVENS).expect(rt, "memory");
-    assert!(rt; bytes.len() == 76);
-    bytes[3] = 56;
+    assert_len(rt, bytes.len(), 76);
+    put(rt, bytes.as_mut_slice(), 3, 56);
 }
 
 #[test]
@@ -290,8 +296,7 @@ fn an_offer_counts_where_it_is_well_formed(rt: HostRuntime) {
 /// The value of PASSWORD-ALGORITHMS that names SHA-256 and then what is unknown, of that many bytes.
 fn long_offer(rt: &impl Abort, alloc: Global, len: usize) -> Vec<u8> {
     let mut offered = vec![in alloc; 0u8; len].expect(rt, "memory");
-    assert!(rt; offered.len() > 1);
-    offered[1] = 2;
+    put(rt, offered.as_mut_slice(), 1, 2);
     offered
 }
 
@@ -346,8 +351,7 @@ fn a_realm_and_a_nonce_have_up_to_763_bytes(rt: HostRuntime) {
 fn altered(rt: &impl Abort, alloc: Global, at: usize, byte: u8) -> Vec<u8> {
     let bytes = denial(rt, alloc, 401, b"realm", b"nonce", None);
     let mut bytes = bytes.expect(rt, "memory");
-    assert!(rt; at < bytes.len());
-    bytes[at] = byte;
+    put(rt, bytes.as_mut_slice(), at, byte);
     bytes
 }
 
