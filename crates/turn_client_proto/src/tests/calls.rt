@@ -3,7 +3,7 @@
 use crate::client::TurnClient;
 use crate::prelude::TurnClientApi;
 use crate::tests::fixture::{
-    BAD_REQUEST, at, client, is_closed, is_first_request, local, refuse, server,
+    BAD_REQUEST, at, check, client, is_closed, is_first_request, local, refuse, server,
 };
 use std::net::SocketAddr;
 use std::process::Abort;
@@ -13,29 +13,30 @@ use turn_stun::transport::{Transmit, TransportType};
 use turn_types::AddressFamily;
 
 fn sends_its_request<C: TurnClientApi>(rt: &impl Abort, client: &mut C) -> Result<(), Fail> {
-    assert_eq!(rt; client.transport(), TransportType::Udp);
-    assert_eq!(rt;
-        (client.local_addr(), client.remote_addr()),
-        (local(), server())
+    check(rt, client.transport() == TransportType::Udp);
+    check(
+        rt,
+        client.local_addr() == local() && client.remote_addr() == server(),
     );
     is_first_request(rt, client.poll_transmit(at(0))?);
     Ok(())
 }
 
-/// The refusal is to come back with the way that it took.
+/// Whether the refusal came back with the way that it took.
 fn is_handed_back(
-    rt: &impl Abort,
     answer: &TurnRecvRet<&[u8]>,
     transport: TransportType,
     from: SocketAddr,
     to: SocketAddr,
-) {
+) -> bool {
     match answer {
         TurnRecvRet::Ignored(back) => {
-            assert_eq!(rt; back.payload, BAD_REQUEST.as_slice());
-            assert_eq!(rt; (back.transport, back.from, back.to), (transport, from, to));
+            back.payload == BAD_REQUEST
+                && back.transport == transport
+                && back.from == from
+                && back.to == to
         }
-        other => assert!(rt; false, "{transport:?} {from} {to}: {other:?}"),
+        _ => false,
     }
 }
 
@@ -47,35 +48,36 @@ fn is_ignored<C: TurnClientApi>(
     from: SocketAddr,
     to: SocketAddr,
 ) -> Result<(), Fail> {
-    let packet = Transmit::new(BAD_REQUEST.as_slice(), transport, from, to);
+    let packet = Transmit::new(BAD_REQUEST, transport, from, to);
     let answer = client.recv(packet, at(1))?;
-    is_handed_back(rt, &answer, transport, from, to);
+    check(rt, is_handed_back(&answer, transport, from, to));
     Ok(())
 }
 
 fn ends_when_refused<C: TurnClientApi>(rt: &impl Abort, client: &mut C) -> Result<(), Fail> {
     refuse(rt, client, at(1));
-    assert_eq!(rt; client.poll(at(1))?, TurnPollRet::WaitUntil(at(1)));
+    check(rt, client.poll(at(1))? == TurnPollRet::WaitUntil(at(1)));
     let event = TurnEvent::AllocationCreateFailed(AddressFamily::IPV4);
-    assert_eq!(rt; client.poll_event(), Some(event));
+    check(rt, client.poll_event() == Some(event));
     client.protocol_error()?;
-    assert_eq!(rt; client.poll_event(), None);
+    check(rt, client.poll_event().is_none());
     is_closed(rt, client, at(1))?;
     Ok(())
+}
+
+/// Hands the refusal in by four wrong ways.
+fn are_ignored<C: TurnClientApi>(rt: &impl Abort, client: &mut C) -> Result<(), Fail> {
+    let other_port = SocketAddr::new(server().ip(), 2_001);
+    is_ignored(rt, client, TransportType::Tcp, server(), local())?;
+    is_ignored(rt, client, TransportType::Udp, other_port, local())?;
+    is_ignored(rt, client, TransportType::Udp, local(), local())?;
+    is_ignored(rt, client, TransportType::Udp, server(), server())
 }
 
 /// Sends the first request, hands its refusal in by wrong ways, and then by the right one.
 fn is_refused<C: TurnClientApi>(rt: &impl Abort, mut client: C) -> Result<(), Fail> {
     sends_its_request(rt, &mut client)?;
-    let other_port = SocketAddr::new(server().ip(), 2_001);
-    for (transport, from, to) in [
-        (TransportType::Tcp, server(), local()),
-        (TransportType::Udp, other_port, local()),
-        (TransportType::Udp, local(), local()),
-        (TransportType::Udp, server(), server()),
-    ] {
-        is_ignored(rt, &mut client, transport, from, to)?;
-    }
+    are_ignored(rt, &mut client)?;
     ends_when_refused(rt, &mut client)
 }
 

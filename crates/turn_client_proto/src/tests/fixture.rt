@@ -9,6 +9,7 @@ use std::alloc::{AllocError, Global};
 use std::net::{IpAddr, Ipv4Addr, SocketAddr};
 use std::process::Abort;
 use std::test::Fail;
+use std::time::Duration;
 use turn_auth::credentials::{CredentialsError, TurnCredentials};
 use turn_client_api::{TurnConfig, TurnEvent, TurnPollRet, TurnRecvRet};
 use turn_stun::data::Data;
@@ -19,14 +20,14 @@ use turn_types::AddressFamily;
 pub const MS: u64 = 1_000_000;
 
 /// The first ALLOCATE of the seed of zeros, for an IPv4 address (RFC 8656, section 7.1).
-pub const FIRST_ALLOCATE: [u8; 40] = [
+pub const FIRST_ALLOCATE: &[u8] = &[
     0x00, 0x03, 0x00, 0x14, 0x21, 0x12, 0xa4, 0x42, 0x76, 0xb8, 0xe0, 0xad, 0xa0, 0xf1, 0x3d, 0x90,
     0x40, 0x5d, 0x6a, 0xe5, 0x00, 0x0d, 0x00, 0x04, 0x00, 0x00, 0x07, 0x08, 0x00, 0x19, 0x00, 0x04,
     0x11, 0x00, 0x00, 0x00, 0x00, 0x1a, 0x00, 0x00,
 ];
 
 /// The error 400 `Bad Request` to it, unsigned.
-pub const BAD_REQUEST: [u8; 40] = [
+pub const BAD_REQUEST: &[u8] = &[
     0x01, 0x13, 0x00, 0x14, 0x21, 0x12, 0xa4, 0x42, 0x76, 0xb8, 0xe0, 0xad, 0xa0, 0xf1, 0x3d, 0x90,
     0x40, 0x5d, 0x6a, 0xe5, 0x00, 0x09, 0x00, 0x0f, 0x00, 0x00, 0x04, 0x00, 0x42, 0x61, 0x64, 0x20,
     0x52, 0x65, 0x71, 0x75, 0x65, 0x73, 0x74, 0x00,
@@ -52,17 +53,46 @@ pub fn config(alloc: Global) -> Result<TurnConfig, CredentialsError>
     Ok(TurnConfig::new(alloc, credentials))
 }
 
-/// The same for addresses of these families, or of one of them where they are the same.
-pub fn config_for(
-    alloc: Global,
-    first: AddressFamily,
-    second: AddressFamily,
-) -> Result<TurnConfig, CredentialsError>
+/// What a client asks for, and how long it waits.
+#[derive(Clone, Copy)]
+pub struct Setup {
+    /// It asks for addresses of these families, or of one of them where they are the same.
+    pub first: AddressFamily,
+    pub second: AddressFamily,
+    pub waits: Option<Waits>,
+}
+
+/// Waits that were set, in nanoseconds, and how often the first request is sent.
+#[derive(Clone, Copy)]
+pub struct Waits {
+    pub initial: u64,
+    pub longest: u64,
+    pub sends: u32,
+    pub last: u64,
+}
+
+/// For an IPv4 address, with the waits of the standard.
+pub const IPV4: Setup = Setup {
+    first: AddressFamily::IPV4,
+    second: AddressFamily::IPV4,
+    waits: None,
+};
+
+/// The configuration of `user` with the password `pass`, with that setup.
+pub fn config_for(alloc: Global, setup: Setup) -> Result<TurnConfig, CredentialsError>
     ensures { IfOk result (λ config. config.allocation_transport ≡ TransportType.Udp) }
 {
     let mut config = config(alloc)?;
-    config.set_address_family(first);
-    config.add_address_family(second);
+    config.set_address_family(setup.first);
+    config.add_address_family(setup.second);
+    if let Some(waits) = setup.waits {
+        config.set_request_retransmits(
+            Duration::from_nanos(waits.initial),
+            Duration::from_nanos(waits.longest),
+            waits.sends,
+            Duration::from_nanos(waits.last),
+        );
+    }
     Ok(config)
 }
 
@@ -72,26 +102,32 @@ pub fn client(alloc: Global) -> Result<TurnClientUdp, CredentialsError> {
     Ok(TurnClientUdp::allocate(alloc, local(), server(), config, [0; 32])?)
 }
 
-/// The same for addresses of these families.
-pub fn client_for(
-    alloc: Global,
-    first: AddressFamily,
-    second: AddressFamily,
-) -> Result<TurnClientUdp, CredentialsError> {
-    let config = config_for(alloc, first, second)?;
+/// The same with that setup.
+pub fn client_for(alloc: Global, setup: Setup) -> Result<TurnClientUdp, CredentialsError> {
+    let config = config_for(alloc, setup)?;
     Ok(TurnClientUdp::allocate(alloc, local(), server(), config, [0; 32])?)
 }
 
 // A client comes as a type parameter: a proof then opens none of its parts, and ends far sooner.
 
+/// Compares what a call answered, which is to be so.
+pub fn check(rt: &impl Abort, is_so: bool) {
+    assert!(rt; is_so);
+}
+
+/// Whether a packet takes these bytes to the server.
+fn sends(packet: &Transmit<Data>, bytes: &[u8]) -> bool {
+    packet.payload.as_bytes() == bytes
+        && packet.transport == TransportType::Udp
+        && packet.from == local()
+        && packet.to == server()
+}
+
 /// Compares a packet with the first request.
 pub fn is_first_request(rt: &impl Abort, packet: Option<Transmit<Data>>) {
     match &packet {
-        Some(packet) => {
-            assert_eq!(rt; packet.payload.as_bytes(), FIRST_ALLOCATE.as_slice());
-            assert_eq!(rt; (packet.from, packet.to), (local(), server()));
-        }
-        None => assert!(rt; false, "nothing is sent"),
+        Some(packet) => check(rt, sends(packet, FIRST_ALLOCATE)),
+        None => check(rt, false),
     }
 }
 
@@ -99,7 +135,7 @@ pub fn is_first_request(rt: &impl Abort, packet: Option<Transmit<Data>>) {
 pub fn refuse<C: TurnClientApi>(rt: &impl Abort, client: &mut C, now: Instant) {
     let packet = Transmit::new(BAD_REQUEST, TransportType::Udp, server(), local());
     let answer = client.recv(packet, now);
-    assert!(rt; matches!(answer, Ok(TurnRecvRet::Handled)));
+    check(rt, matches!(answer, Ok(TurnRecvRet::Handled)));
 }
 
 /// The client is to have ended, with no event that waits.
@@ -108,13 +144,13 @@ pub fn is_closed<C: TurnClientApi>(
     client: &mut C,
     now: Instant,
 ) -> Result<(), AllocError> {
-    assert_eq!(rt; client.poll(now)?, TurnPollRet::Closed);
-    assert_eq!(rt; client.poll_event(), None);
+    check(rt, client.poll(now)? == TurnPollRet::Closed);
+    check(rt, client.poll_event().is_none());
     Ok(())
 }
 
 /// A call of a run.
-#[derive(Clone, Copy, Debug)]
+#[derive(Clone, Copy)]
 pub enum Ask<'a> {
     Poll(u64),
     Transmit(u64),
@@ -125,7 +161,7 @@ pub enum Ask<'a> {
 }
 
 /// What it is to answer.
-#[derive(Clone, Copy, Debug)]
+#[derive(Clone, Copy)]
 pub enum Want<'a> {
     Wait(u64),
     Closed,
@@ -139,18 +175,22 @@ pub enum Want<'a> {
     Done,
 }
 
+/// A row of a run: a call, and what it is to answer.
+pub type Row<'a> = (Ask<'a>, Want<'a>);
+
+/// These bytes from the server.
+fn from_server(alloc: Global, bytes: &[u8]) -> Result<Transmit<Data>, AllocError> {
+    let data = Data::from(bytes.to_vec(alloc)?);
+    Ok(Transmit::new(data, TransportType::Udp, server(), local()))
+}
+
 fn call(alloc: Global, ask: Ask<'_>) -> Result<Call, AllocError> {
     Ok(match ask {
         Ask::Poll(now) => Call::Poll { now: at(now) },
         Ask::Transmit(now) => Call::PollTransmit { now: at(now) },
         Ask::Event => Call::PollEvent,
         Ask::Recv(now, bytes) => Call::Recv {
-            transmit: Transmit::new(
-                Data::from(bytes.to_vec(alloc)?),
-                TransportType::Udp,
-                server(),
-                local(),
-            ),
+            transmit: from_server(alloc, bytes)?,
             now: at(now),
         },
         Ask::Error => Call::ProtocolError,
@@ -162,12 +202,7 @@ fn is_wanted(reply: &Reply, want: Want<'_>) -> bool {
         (Reply::Poll(TurnPollRet::WaitUntil(told)), Want::Wait(moment)) => *told == at(moment),
         (Reply::Poll(TurnPollRet::Closed), Want::Closed) => true,
         (Reply::Transmit(None), Want::Nothing) => true,
-        (Reply::Transmit(Some(packet)), Want::Send(bytes)) => {
-            packet.payload.as_bytes() == bytes
-                && packet.transport == TransportType::Udp
-                && packet.from == local()
-                && packet.to == server()
-        }
+        (Reply::Transmit(Some(packet)), Want::Send(bytes)) => sends(packet, bytes),
         (Reply::Event(None), Want::Nothing) => true,
         (Reply::Event(Some(event)), Want::Failed(family)) => {
             *event == TurnEvent::AllocationCreateFailed(family)
@@ -179,7 +214,7 @@ fn is_wanted(reply: &Reply, want: Want<'_>) -> bool {
     }
 }
 
-fn calls_of(alloc: Global, rows: &[(Ask<'_>, Want<'_>)]) -> Result<Vec<Call>, AllocError> {
+fn calls_of(alloc: Global, rows: &[Row<'_>]) -> Result<Vec<Call>, AllocError> {
     let mut calls = Vec::new(alloc);
     for (ask, _) in rows {
         calls.push(call(alloc, *ask)?)?;
@@ -207,36 +242,25 @@ pub fn replies_of(
     Ok(replayed.replies)
 }
 
-fn are_wanted(rt: &impl Abort, replies: &[Reply], rows: &[(Ask<'_>, Want<'_>)]) {
-    assert_eq!(rt; replies.len(), rows.len());
-    for (row, (reply, (ask, want))) in replies.iter().zip(rows).enumerate() {
-        assert!(rt;
-            is_wanted(reply, *want),
-            "row {row}: {ask:?} gave {reply:?}"
-        );
+/// The first row that was not answered as it is to be, counted from 0.
+fn first_unwanted(replies: &[Reply], rows: &[Row<'_>]) -> Option<usize> {
+    for (row, (reply, (_, want))) in replies.iter().zip(rows).enumerate() {
+        if !is_wanted(reply, *want) {
+            return Some(row);
+        }
     }
+    None
 }
 
-/// Makes the calls on a new client of the seed of zeros, and compares each answer.
-pub fn follow(
-    rt: &impl Abort,
-    alloc: Global,
-    config: TurnConfig,
-    rows: &[(Ask<'_>, Want<'_>)],
-) -> Result<(), Fail>
-    requires { config.allocation_transport ≡ TransportType.Udp }
-{
+fn are_wanted(rt: &impl Abort, replies: &[Reply], rows: &[Row<'_>]) {
+    check(rt, replies.len() == rows.len());
+    assert_eq!(rt; first_unwanted(replies, rows), None);
+}
+
+/// Makes the calls on a new client of the seed of zeros with that setup, and compares each answer.
+pub fn follow(rt: &impl Abort, alloc: Global, setup: Setup, rows: &[Row<'_>]) -> Result<(), Fail> {
     let calls = calls_of(alloc, rows)?;
-    let replies = replies_of(alloc, config, calls.as_slice())?;
+    let replies = replies_of(alloc, config_for(alloc, setup)?, calls.as_slice())?;
     are_wanted(rt, replies.as_slice(), rows);
     Ok(())
-}
-
-/// The same of a client for an IPv4 address.
-pub fn follow_ipv4(
-    rt: &impl Abort,
-    alloc: Global,
-    rows: &[(Ask<'_>, Want<'_>)],
-) -> Result<(), Fail> {
-    follow(rt, alloc, config(alloc)?, rows)
 }

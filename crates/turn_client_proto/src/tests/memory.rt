@@ -6,7 +6,8 @@
 use crate::api::TurnClientApi;
 use crate::runs::{Call, Reply};
 use crate::tests::fixture::{
-    MS, at, client, client_for, config, is_closed, is_first_request, refuse, replies_of,
+    MS, Setup, at, check, client, client_for, config, is_closed, is_first_request, refuse,
+    replies_of,
 };
 use std::process::Abort;
 use std::test::Fail;
@@ -18,7 +19,7 @@ fn sends_or_ends<C: TurnClientApi>(rt: &impl Abort, mut client: C) -> Result<(),
         Ok(packet) => is_first_request(rt, packet),
         Err(_) => {
             is_closed(rt, &mut client, at(0))?;
-            assert!(rt; client.poll_transmit(at(0))?.is_none());
+            check(rt, client.poll_transmit(at(0))?.is_none());
         }
     }
     Ok(())
@@ -36,7 +37,10 @@ fn sends_again_or_ends<C: TurnClientApi>(rt: &impl Abort, client: &mut C) -> Res
     let due = at(500 * MS);
     match client.poll_transmit(due) {
         Ok(packet) => {
-            assert_eq!(rt; client.poll(due)?, TurnPollRet::WaitUntil(at(1_500 * MS)));
+            check(
+                rt,
+                client.poll(due)? == TurnPollRet::WaitUntil(at(1_500 * MS)),
+            );
             is_first_request(rt, packet);
         }
         Err(_) => {
@@ -63,18 +67,21 @@ fn a_refused_resend_ends_the_client_and_is_still_due(rt: HostRuntime) -> Result<
     }
 }
 
+fn tells_a_failure<C: TurnClientApi>(rt: &impl Abort, client: &mut C, family: AddressFamily) {
+    let event = TurnEvent::AllocationCreateFailed(family);
+    check(rt, client.poll_event() == Some(event));
+}
+
 /// Fails both families of a client that has sent its request, by a refusal or by the caller.
 fn ends<C: TurnClientApi>(rt: &impl Abort, client: &mut C, refused: bool) {
     if refused {
         refuse(rt, client, at(0));
     } else {
-        assert!(rt; client.protocol_error().is_ok());
+        check(rt, client.protocol_error().is_ok());
     }
-    for family in [AddressFamily::IPV6, AddressFamily::IPV4] {
-        let event = TurnEvent::AllocationCreateFailed(family);
-        assert_eq!(rt; client.poll_event(), Some(event));
-    }
-    assert!(rt; matches!(client.poll(at(0)), Ok(TurnPollRet::Closed)));
+    tells_a_failure(rt, client, AddressFamily::IPV6);
+    tells_a_failure(rt, client, AddressFamily::IPV4);
+    check(rt, matches!(client.poll(at(0)), Ok(TurnPollRet::Closed)));
 }
 
 fn sends_and_ends<C: TurnClientApi>(rt: &impl Abort, mut client: C, refused: bool) {
@@ -83,14 +90,25 @@ fn sends_and_ends<C: TurnClientApi>(rt: &impl Abort, mut client: C, refused: boo
     }
 }
 
+const BOTH: Setup = Setup {
+    first: AddressFamily::IPV6,
+    second: AddressFamily::IPV4,
+    waits: None,
+};
+
 // The places of the failures are set aside when the client is made.
 #[test]
 fn ends_take_no_memory(rt: HostRuntime) {
     for refused in [false, true] {
-        if let Ok(client) = client_for(rt.alloc(), AddressFamily::IPV6, AddressFamily::IPV4) {
+        if let Ok(client) = client_for(rt.alloc(), BOTH) {
             sends_and_ends(&rt, client, refused);
         }
     }
+}
+
+/// Whether these are a packet and no event.
+fn are_both_told(replies: &[Reply]) -> bool {
+    matches!(replies, [Reply::Transmit(Some(_)), Reply::Event(None)])
 }
 
 #[test]
@@ -102,7 +120,5 @@ fn a_refused_run_gives_no_answers(rt: HostRuntime) {
     let Ok(replies) = replies_of(rt.alloc(), config, &calls) else {
         return;
     };
-    assert_eq!(rt; replies.len(), 2);
-    assert!(rt; matches!(replies[0], Reply::Transmit(Some(_))));
-    assert!(rt; matches!(replies[1], Reply::Event(None)));
+    check(&rt, are_both_told(replies.as_slice()));
 }

@@ -50,6 +50,6 @@ fn credentials_are_named_by_types_and_auth(rt: HostRuntime) -> Result<(), Fail> 
     auth.set_anonymous_username(Feature::Required);
     auth.set_credentials(TurnCredentials::new(rt.alloc(), b"user", b"pass")?);
     assert!(rt; auth.credentials().is_some());
-    assert!(rt; Message::from_bytes(&FIRST_ALLOCATE).is_ok());
+    assert!(rt; Message::from_bytes(FIRST_ALLOCATE).is_ok());
     Ok(())
 }
