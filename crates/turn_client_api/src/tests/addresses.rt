@@ -1,7 +1,7 @@
 //! The iterators over addresses.
 
 ghost use Rattle.std.specs.Prelude.{◌≡◌, IfOk};
-ghost use Rattle.turn_client_api.specs.Addresses.{relayed_in_use};
+ghost use Rattle.turn_client_api.specs.Addresses.{relayed_in_use, permitted_in_use};
 
 use crate::tests::{peer, relayed, relayed_ipv6};
 use crate::{Grant, PermissionAddressesIter, Progress, Relay, RelayedAddressesIter};
@@ -28,7 +28,9 @@ fn all_permitted(
     alloc: Global,
     family: AddressFamily,
     grants: &[Grant],
-) -> Result<Vec<IpAddr>, AllocError> {
+) -> Result<Vec<IpAddr>, AllocError>
+    ensures { IfOk result (λ all. all.items ≡ permitted_in_use family grants.now) }
+{
     PermissionAddressesIter::new(family, grants).collect(alloc)
 }
 
