@@ -5,164 +5,159 @@ mod ids;
 mod memory;
 mod responses;
 mod schedules;
+mod steps;
 
 use crate::agent::StunAgent;
-use crate::tests::fixture::{
-    agent_with, assert_bytes, at, gives_up, id, local, resends, sends, sends_nothing, server,
-    short_agent, tells, waits,
+use crate::tests::fixture::{agent_with, at, id, local, server, short_agent};
+use crate::tests::steps::Step::{
+    Earliest, Ends, GivesUp, Outstanding, Resends, Sends, SendsNothing, Waits,
 };
-use std::alloc::AllocError;
+use crate::tests::steps::{Step, follow_all, gives_up, resends, sends, waits};
+use std::fmt::Debug;
 use std::process::Abort;
-use std::test::Fail;
 use turn_stun::transport::TransportType;
 
-fn waits_for_the_greatest(rt: &impl Abort, agent: &mut StunAgent) -> Result<(), AllocError> {
-    waits(rt, agent, 0, 9_999_000_000_000);
-    sends(rt, agent, 1, 5)?;
-    waits(rt, agent, 5, 0x7fff_ffff_ffff_ffff);
-    waits(rt, agent, u64::MAX, 0x7fff_ffff_ffff_ffff);
-    Ok(())
+// A proof follows each local of a test on each way out of it, and the text of each assertion again. So an
+// assertion stands once, here, rows are data, and a call that finds no memory ends the test.
+
+/// Both are the same.
+fn same<T: PartialEq + Debug + Drop>(rt: &impl Abort, found: T, want: T) {
+    assert_eq!(rt; found, want);
 }
+
+static TO_THE_GREATEST: [Step; 4] = [
+    Waits(0, 9_999_000_000_000),
+    Sends(1, 5),
+    Waits(5, 0x7fff_ffff_ffff_ffff),
+    Waits(u64::MAX, 0x7fff_ffff_ffff_ffff),
+];
 
 // A wait past the greatest moment is told as that moment, and nothing outstanding as 9999 s.
 #[test]
-fn moments_stop_at_the_greatest(rt: HostRuntime) -> Result<(), Fail> {
+fn moments_stop_at_the_greatest(rt: HostRuntime) {
     let mut agent = agent_with(rt.alloc(), TransportType::Udp, u64::MAX, u64::MAX, 2, 0);
-    Ok(waits_for_the_greatest(&rt, &mut agent)?)
+    follow_all(&rt, &mut agent, &TO_THE_GREATEST);
 }
 
-fn sends_whole(rt: &impl Abort, agent: &mut StunAgent) -> Result<(), AllocError> {
+fn sends_whole(rt: &impl Abort, agent: &mut StunAgent) {
     assert!(rt; !agent.is_outstanding(id(1)));
-    let packet = agent.send_request(id(1), [7u8; 3].as_slice(), server(), at(5))?;
-    assert_bytes(rt, packet.payload, &[7; 3]);
-    assert_eq!(rt; (packet.from, packet.to), (local(), server()));
-    Ok(())
+    let bytes = [7u8; 3];
+    let sent = agent.send_request(id(1), bytes.as_slice(), server(), at(5));
+    let packet = sent.expect(rt, "memory");
+    let found = (packet.payload, packet.from, packet.to);
+    same(rt, found, (bytes.as_slice(), local(), server()));
 }
 
 #[test]
-fn first_packet_is_the_request(rt: HostRuntime) -> Result<(), Fail> {
+fn first_packet_is_the_request(rt: HostRuntime) {
     let mut agent = agent_with(rt.alloc(), TransportType::Udp, u64::MAX, u64::MAX, 2, 0);
-    Ok(sends_whole(&rt, &mut agent)?)
+    sends_whole(&rt, &mut agent);
 }
 
-fn sends_two_in_order(rt: &impl Abort, agent: &mut StunAgent) -> Result<(), AllocError> {
-    sends(rt, agent, 1, 0)?;
-    sends(rt, agent, 2, 0)?;
-    waits(rt, agent, 0, 2_000_000);
-    for n in 1..=2 {
-        waits(rt, agent, 2_000_000, 2_000_000);
-        resends(rt, agent, 2_000_000, n)?;
-    }
-    sends_nothing(rt, agent, 2_000_000)
-}
-
-fn gives_two_up_in_order(rt: &impl Abort, agent: &mut StunAgent) {
-    let end = 2_000_005;
-    waits(rt, agent, 2_000_000, end);
-    gives_up(rt, agent, end, 1);
-    gives_up(rt, agent, end, 2);
-    waits(rt, agent, end, end + 9_999_000_000_000);
-}
+static TWO_AT_ONCE: [Step; 12] = [
+    Sends(1, 0),
+    Sends(2, 0),
+    Waits(0, 2_000_000),
+    Waits(2_000_000, 2_000_000),
+    Resends(2_000_000, 1),
+    Waits(2_000_000, 2_000_000),
+    Resends(2_000_000, 2),
+    SendsNothing(2_000_000),
+    Waits(2_000_000, 2_000_005),
+    GivesUp(2_000_005, 1),
+    GivesUp(2_000_005, 2),
+    Waits(2_000_005, 9_999_002_000_005),
+];
 
 #[test]
-fn two_due_at_one_moment_go_in_their_order(rt: HostRuntime) -> Result<(), Fail> {
+fn two_due_at_one_moment_go_in_their_order(rt: HostRuntime) {
     let mut agent = short_agent(rt.alloc());
-    sends_two_in_order(&rt, &mut agent)?;
-    gives_two_up_in_order(&rt, &mut agent);
-    Ok(())
+    follow_all(&rt, &mut agent, &TWO_AT_ONCE);
 }
+
+static COUNTED: [Step; 6] = [
+    Outstanding(0),
+    Sends(0, 0),
+    Outstanding(1),
+    Sends(1, 0),
+    Outstanding(2),
+    Sends(2, 0),
+];
 
 #[test]
-fn outstanding_requests_are_counted(rt: HostRuntime) -> Result<(), Fail> {
+fn outstanding_requests_are_counted(rt: HostRuntime) {
     let mut agent = short_agent(rt.alloc());
-    for n in 0..3 {
-        assert_eq!(rt; agent.outstanding(), usize::from(n));
-        sends(&rt, &mut agent, n, 0)?;
-    }
-    Ok(())
+    follow_all(&rt, &mut agent, &COUNTED);
 }
 
-fn is_earliest(rt: &impl Abort, agent: &StunAgent, moment: u64, want: u64) {
-    assert_eq!(rt; agent.earliest(at(moment)), at(want));
-}
-
-fn tells_the_earliest(rt: &impl Abort, agent: &mut StunAgent) -> Result<(), AllocError> {
-    sends(rt, agent, 1, 7)?;
-    sends(rt, agent, 2, 0)?;
-    for _ in 0..2 {
-        is_earliest(rt, agent, u64::MAX, 2_000_000);
-        is_earliest(rt, agent, 3, 3);
-        waits(rt, agent, 1, 2_000_000);
-    }
-    Ok(())
-}
+static EARLIEST: [Step; 8] = [
+    Sends(1, 7),
+    Sends(2, 0),
+    Earliest(u64::MAX, 2_000_000),
+    Earliest(3, 3),
+    Waits(1, 2_000_000),
+    Earliest(u64::MAX, 2_000_000),
+    Earliest(3, 3),
+    Waits(1, 2_000_000),
+];
 
 // Before `poll` the moments are gone through, after it the least of them is kept.
 #[test]
-fn earliest_moment_counts_the_callers_own(rt: HostRuntime) -> Result<(), Fail> {
+fn earliest_moment_counts_the_callers_own(rt: HostRuntime) {
     let mut agent = short_agent(rt.alloc());
-    Ok(tells_the_earliest(&rt, &mut agent)?)
+    follow_all(&rt, &mut agent, &EARLIEST);
 }
 
-fn ends_the_first(rt: &impl Abort, agent: &mut StunAgent) -> Result<(), AllocError> {
-    sends(rt, agent, 1, 0)?;
-    sends(rt, agent, 2, 7)?;
-    waits(rt, agent, 1, 2_000_000);
-    assert_eq!(rt; (agent.end(id(1)), agent.end(id(1))), (true, false));
-    waits(rt, agent, 1, 2_000_007);
-    Ok(())
-}
+static ENDED: [Step; 6] = [
+    Sends(1, 0),
+    Sends(2, 7),
+    Waits(1, 2_000_000),
+    Ends(1, true),
+    Ends(1, false),
+    Waits(1, 2_000_007),
+];
 
 #[test]
-fn ended_request_is_not_sent_again(rt: HostRuntime) -> Result<(), Fail> {
+fn ended_request_is_not_sent_again(rt: HostRuntime) {
     let mut agent = short_agent(rt.alloc());
-    Ok(ends_the_first(&rt, &mut agent)?)
+    follow_all(&rt, &mut agent, &ENDED);
 }
 
-fn goes_back(rt: &impl Abort, agent: &mut StunAgent) -> Result<(), AllocError> {
-    sends(rt, agent, 1, 9_000_000)?;
-    waits(rt, agent, 0, 11_000_000);
-    resends(rt, agent, 20_000_000, 1)?;
-    waits(rt, agent, 1, 24_000_000);
-    sends_nothing(rt, agent, 1)?;
-    resends(rt, agent, 24_000_001, 1)?;
-    waits(rt, agent, 0, 24_000_006);
-    Ok(())
-}
+static BACK: [Step; 7] = [
+    Sends(1, 9_000_000),
+    Waits(0, 11_000_000),
+    Resends(20_000_000, 1),
+    Waits(1, 24_000_000),
+    SendsNothing(1),
+    Resends(24_000_001, 1),
+    Waits(0, 24_000_006),
+];
 
 // A wait runs from the moment of its send, also where that lies before an earlier one.
 #[test]
-fn moments_may_go_back(rt: HostRuntime) -> Result<(), Fail> {
+fn moments_may_go_back(rt: HostRuntime) {
     let mut agent = agent_with(rt.alloc(), TransportType::Udp, 2_000_000, u64::MAX, 3, 5);
-    Ok(goes_back(&rt, &mut agent)?)
+    follow_all(&rt, &mut agent, &BACK);
 }
 
-fn sends_numbered(rt: &impl Abort, agent: &mut StunAgent, n: u32) -> Result<(), AllocError> {
-    let id = id(n);
-    assert!(rt; !agent.is_outstanding(id));
-    let _packet = agent.send_request(id, [1u8].as_slice(), server(), at(u64::from(n)))?;
-    Ok(())
-}
-
-fn come_to_their_ends(rt: &impl Abort, agent: &mut StunAgent) -> Result<(), AllocError> {
+fn come_to_their_ends(rt: &impl Abort, agent: &mut StunAgent) {
     for n in 0u32..1_000 {
-        sends_numbered(rt, agent, n)?;
+        sends(rt, agent, n, u64::from(n));
     }
-    for n in 0u64..1_000 {
-        let due = 2_000_000 + n;
+    for n in 0u32..1_000 {
+        let due = 2_000_000 + u64::from(n);
         waits(rt, agent, due, due);
-        resends(rt, agent, due, 1)?;
+        resends(rt, agent, due, n);
     }
     for n in 0u32..1_000 {
         gives_up(rt, agent, 9_000_000, n);
-        assert!(rt; !agent.is_outstanding(id(n)), "{n}");
+        same(rt, (n, agent.is_outstanding(id(n))), (n, false));
     }
-    Ok(())
 }
 
 #[test]
-fn a_thousand_requests_come_to_their_ends(rt: HostRuntime) -> Result<(), Fail> {
+fn a_thousand_requests_come_to_their_ends(rt: HostRuntime) {
     let end = 5_000_000;
     let mut agent = agent_with(rt.alloc(), TransportType::Udp, 2_000_000, u64::MAX, 2, end);
-    Ok(come_to_their_ends(&rt, &mut agent)?)
+    come_to_their_ends(&rt, &mut agent);
 }

@@ -1,58 +1,64 @@
 //! Which messages an agent accepts.
 
 use crate::agent::StunAgent;
-use crate::tests::fixture::{
-    INDICATION, REQUEST, SUCCESS, agent_with, header, id, local, sends, sends_nothing, server,
-};
+use crate::tests::fixture::{INDICATION, REQUEST, SUCCESS, agent_with, header, id, local, server};
+use crate::tests::same;
+use crate::tests::steps::{Step, follow, sends};
 use std::net::SocketAddr;
 use std::process::Abort;
-use std::test::Fail;
 use turn_stun::message::Message;
 use turn_stun::transport::TransportType;
 
-/// Whether the agent accepts a message of this type and ID from this address.
-fn accepts(agent: &mut StunAgent, kind: [u8; 2], n: u32, from: SocketAddr) -> Result<bool, Fail> {
-    let bytes = header(kind, id(n));
-    let message = Message::from_bytes(bytes.as_slice())?;
-    Ok(agent.handle_stun_message(&message, from))
+/// Where a message comes from.
+#[derive(Clone, Copy)]
+enum Origin {
+    Server,
+    /// Another port of the server.
+    Elsewhere,
+    Client,
 }
 
-/// Accepts the messages as their rows say, of which the one at place 5 is the response.
-fn accepts_one(
-    rt: &impl Abort,
-    agent: &mut StunAgent,
-    rows: &[([u8; 2], u32, SocketAddr, bool)],
-) -> Result<(), Fail> {
-    for (row, (kind, n, from, accepted)) in rows.iter().enumerate() {
-        assert_eq!(rt; agent.is_outstanding(id(1)), row < 6, "before row {row}");
-        let found = accepts(agent, *kind, *n, *from)?;
-        assert_eq!(rt; found, *accepted, "row {row}");
+fn address_of(origin: Origin) -> SocketAddr {
+    match origin {
+        Origin::Server => server(),
+        Origin::Elsewhere => SocketAddr::new(server().ip(), 2001),
+        Origin::Client => local(),
     }
-    Ok(())
+}
+
+/// A message: its type, the number of its ID, where it comes from, whether request 1 is outstanding
+/// before it, and whether it is accepted.
+type Row = ([u8; 2], u32, Origin, bool, bool);
+
+static ROWS: [Row; 7] = [
+    (REQUEST, 1, Origin::Elsewhere, true, true),
+    (INDICATION, 1, Origin::Elsewhere, true, true),
+    (SUCCESS, 2, Origin::Server, true, false),
+    (SUCCESS, 1, Origin::Elsewhere, true, false),
+    (SUCCESS, 1, Origin::Client, true, false),
+    (SUCCESS, 1, Origin::Server, true, true),
+    (SUCCESS, 1, Origin::Server, false, false),
+];
+
+/// Whether the agent accepts a message.
+fn accepts(rt: &impl Abort, agent: &mut StunAgent, bytes: [u8; 20], from: SocketAddr) -> bool {
+    let message = Message::from_bytes(bytes.as_slice()).expect(rt, "a message");
+    agent.handle_stun_message(&message, from)
+}
+
+fn is_answered(rt: &impl Abort, agent: &mut StunAgent, row: &Row) {
+    same(rt, agent.is_outstanding(id(1)), row.3);
+    let found = accepts(rt, agent, header(row.0, id(row.1)), address_of(row.2));
+    same(rt, found, row.4);
 }
 
 #[test]
-fn response_is_accepted_once_and_from_the_address_asked(rt: HostRuntime) -> Result<(), Fail> {
-    let elsewhere = SocketAddr::new(server().ip(), 2001);
-    let rows = [
-        (REQUEST, 1, elsewhere, true),
-        (INDICATION, 1, elsewhere, true),
-        (SUCCESS, 2, server(), false),
-        (SUCCESS, 1, elsewhere, false),
-        (SUCCESS, 1, local(), false),
-        (SUCCESS, 1, server(), true),
-        (SUCCESS, 1, server(), false),
-    ];
-    let last = 8_000_000_000;
-    let mut agent = agent_with(
-        rt.alloc(),
-        TransportType::Udp,
-        500_000_000,
-        u64::MAX,
-        7,
-        last,
-    );
-    sends(&rt, &mut agent, 1, 0)?;
-    accepts_one(&rt, &mut agent, rows.as_slice())?;
-    Ok(sends_nothing(&rt, &mut agent, 500_000_000)?)
+fn response_is_accepted_once_and_from_the_address_asked(rt: HostRuntime) {
+    let (first, last) = (500_000_000, 8_000_000_000);
+    let mut agent = agent_with(rt.alloc(), TransportType::Udp, first, u64::MAX, 7, last);
+    sends(&rt, &mut agent, 1, 0);
+    for row in &ROWS {
+        is_answered(&rt, &mut agent, row);
+    }
+    follow(&rt, &mut agent, Step::SendsNothing(first));
 }

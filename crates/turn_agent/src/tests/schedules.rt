@@ -1,10 +1,13 @@
 //! Worked schedules: when a request is sent, and when it is given up.
 
-use crate::agent::StunAgent;
-use crate::tests::fixture::{agent_with, follows, local, server};
-use std::net::SocketAddr;
+use crate::agent::{StunAgent, StunAgentPollRet};
+use crate::tests::fixture::{agent_with, local, server};
+use crate::tests::same;
+use crate::tests::steps::{due, sends};
+use std::alloc::Global;
 use std::process::Abort;
-use std::test::Fail;
+use std::slice::Iter;
+use turn_stun::instant::Instant;
 use turn_stun::transport::TransportType;
 
 const MS: u64 = 1_000_000;
@@ -15,7 +18,7 @@ const SECOND: u64 = 1_000_000_000;
 /// request is sent, and when it is given up.
 type Schedule = (u64, u64, u32, u64, TransportType, &'static [u64], u64);
 
-const SCHEDULES: [Schedule; 6] = [
+static SCHEDULES: [Schedule; 6] = [
     (
         600 * MS,
         SECOND,
@@ -72,17 +75,53 @@ const SCHEDULES: [Schedule; 6] = [
     ),
 ];
 
-#[test]
-fn requests_follow_their_schedule(rt: HostRuntime) -> Result<(), Fail> {
-    for (initial, max, count, last, transport, moments, end) in SCHEDULES {
-        let agent = agent_with(rt.alloc(), transport, initial, max, count, last);
-        follows(&rt, rt.alloc(), agent, moments, end)?;
+/// The moment of the next step after this one, or `None` where the request is given up at this one.
+fn step_after(agent: &mut StunAgent, now: Instant) -> Option<Instant> {
+    match agent.poll(now) {
+        StunAgentPollRet::WaitUntil(moment) => Some(now.max(moment)),
+        StunAgentPollRet::TransactionTimedOut(_) => None,
     }
-    Ok(())
+}
+
+/// Does what the agent tells at the moments that it tells, where a request is due at these: when it
+/// was given up, in at most 40 steps.
+fn end_of(rt: &impl Abort, agent: &mut StunAgent, moments: &mut Iter<u64>) -> Option<u64> {
+    let mut now = Instant::ZERO;
+    for _ in 0..40 {
+        let Some(moment) = step_after(agent, now) else {
+            return Some(now.as_nanos());
+        };
+        now = moment;
+        if due(rt, agent, now.as_nanos()).0.is_some() {
+            same(rt, moments.next().copied(), Some(now.as_nanos()));
+        }
+    }
+    None
+}
+
+/// The agent sends a request at these moments, the first of which is 0, and gives it up at that one.
+fn follows(rt: &impl Abort, mut agent: StunAgent, moments: &[u64], end: u64) {
+    let mut wanted = moments.iter();
+    sends(rt, &mut agent, 1, 0);
+    same(rt, wanted.next().copied(), Some(0));
+    same(rt, end_of(rt, &mut agent, &mut wanted), Some(end));
+    same(rt, wanted.len(), 0);
+}
+
+fn follows_schedule(rt: &impl Abort, alloc: Global, it: &Schedule) {
+    let agent = agent_with(alloc, it.4, it.0, it.1, it.2, it.3);
+    follows(rt, agent, it.5, it.6);
+}
+
+#[test]
+fn requests_follow_their_schedule(rt: HostRuntime) {
+    for schedule in &SCHEDULES {
+        follows_schedule(&rt, rt.alloc(), schedule);
+    }
 }
 
 /// When a request of the default timers is sent.
-const DEFAULT_MOMENTS: [u64; 7] = [
+static DEFAULT_MOMENTS: [u64; 7] = [
     0,
     500_000_000,
     1_500_000_000,
@@ -93,19 +132,9 @@ const DEFAULT_MOMENTS: [u64; 7] = [
 ];
 
 #[test]
-fn default_schedule_takes_39_seconds_and_a_half(rt: HostRuntime) -> Result<(), Fail> {
+fn default_schedule_takes_39_seconds_and_a_half(rt: HostRuntime) {
     let agent = StunAgent::builder(rt.alloc(), TransportType::Udp, local()).build();
-    Ok(follows(
-        &rt,
-        rt.alloc(),
-        agent,
-        DEFAULT_MOMENTS.as_slice(),
-        39_500_000_000,
-    )?)
-}
-
-fn is_between(rt: &impl Abort, agent: &StunAgent, from: SocketAddr, to: SocketAddr) {
-    assert_eq!(rt; (agent.local_addr(), agent.remote_addr()), (from, Some(to)));
+    follows(&rt, agent, &DEFAULT_MOMENTS, 39_500_000_000);
 }
 
 #[test]
@@ -113,6 +142,6 @@ fn an_agent_tells_what_it_is_for(rt: HostRuntime) {
     let agent = StunAgent::builder(rt.alloc(), TransportType::Udp, local())
         .remote_addr(server())
         .build();
-    is_between(&rt, &agent, local(), server());
-    assert_eq!(rt; agent.transport(), TransportType::Udp);
+    let told = (agent.local_addr(), agent.remote_addr(), agent.transport());
+    same(&rt, told, (local(), Some(server()), TransportType::Udp));
 }
