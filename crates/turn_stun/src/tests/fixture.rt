@@ -33,12 +33,7 @@ pub(crate) fn assert_same<T: Copy + PartialEq + fmt::Debug>(
 
 /// Asserts that the same bytes are in both.
 pub(crate) fn assert_bytes(rt: &impl Abort, found: &[u8], expected: &[u8]) {
-    assert_eq!(rt; found, expected);
-}
-
-/// Asserts that two texts are the same.
-pub(crate) fn assert_text(rt: &impl Abort, found: &str, expected: &str) {
-    assert_eq!(rt; found, expected);
+    assert_same(rt, found, expected);
 }
 
 /// The message that the bytes are.

@@ -114,36 +114,46 @@ fn a_length_that_is_off_is_refused(rt: HostRuntime) {
 #[test]
 fn a_request_has_its_header(rt: HostRuntime) {
     let message = parsed(&rt, ALLOCATE_REQUEST);
-    assert_same(&rt, message.method(), ALLOCATE);
-    assert_same(&rt, message.class(), MessageClass::Request);
     let id = TransactionId::from_bytes(FIRST_ID);
-    assert_same(&rt, message.transaction_id(), id);
-    assert_holds(&rt, !message.is_response());
-    assert_holds(&rt, message.has_class(MessageClass::Request));
-    assert_holds(&rt, message.has_method(ALLOCATE));
+    let found = (message.method(), message.class(), message.transaction_id());
+    assert_same(&rt, found, (ALLOCATE, MessageClass::Request, id));
+    let is_request = message.has_class(MessageClass::Request);
+    let found = (
+        message.is_response(),
+        is_request,
+        message.has_method(ALLOCATE),
+    );
+    assert_same(&rt, found, (false, true, true));
     assert_bytes(&rt, message.as_bytes(), ALLOCATE_REQUEST);
 }
 
-/// Asserts which attributes are seen: their offsets, types and values.
-fn assert_seen(rt: &impl Abort, message: &Message<'_>, expected: &[(usize, u16, &[u8])]) {
+/// An attribute: its offset, its type and its value.
+type Seen = (usize, u16, &'static [u8]);
+
+/// Asserts which attributes are seen.
+fn assert_seen(rt: &impl Abort, message: &Message<'_>, expected: &[Seen]) {
     let mut found = message.iter_attributes();
-    for (at, kind, value) in expected {
+    for attribute in expected {
         let (offset, raw) = found.next().expect(rt, "an attribute");
-        assert_same(rt, (offset, raw.attribute_type.value), (*at, *kind));
-        assert_bytes(rt, raw.value, value);
+        assert_same(
+            rt,
+            (offset, raw.attribute_type.value, raw.value),
+            *attribute,
+        );
     }
     assert_holds(rt, found.next().is_none());
 }
 
+static OF_THE_REQUEST: [Seen; 3] = [
+    (20, 0x000d, b"\x00\x00\x07\x08"),
+    (28, 0x0019, b"\x11\x00\x00\x00"),
+    (36, 0x001a, b""),
+];
+
 #[test]
 fn a_request_has_its_attributes(rt: HostRuntime) {
     let message = parsed(&rt, ALLOCATE_REQUEST);
-    let expected: &[(usize, u16, &[u8])] = &[
-        (20, 0x000d, b"\x00\x00\x07\x08"),
-        (28, 0x0019, b"\x11\x00\x00\x00"),
-        (36, 0x001a, b""),
-    ];
-    assert_seen(&rt, &message, expected);
+    assert_seen(&rt, &message, &OF_THE_REQUEST);
     assert_holds(&rt, message.has_attribute(AttributeType { value: 0x001a }));
     assert_holds(&rt, !message.has_attribute(AttributeType::REALM));
 }
@@ -173,25 +183,29 @@ fn a_challenge_has_a_realm(rt: HostRuntime) {
 #[test]
 fn a_header_is_read_on_its_own(rt: HostRuntime) {
     let header = MessageHeader::from_bytes(UNAUTHORIZED).expect(&rt, "a header");
-    assert_same(&rt, header.data_length, 32);
-    assert_same(&rt, header.message_type.method, ALLOCATE);
+    assert_same(
+        &rt,
+        (header.data_length, header.message_type.method),
+        (32, ALLOCATE),
+    );
     let short = MessageHeader::from_bytes(b"short").err();
     assert_same(&rt, short, Some(ParseError::Short));
     let other = MessageHeader::from_bytes(&[0xff; 20]).err();
     assert_same(&rt, other, Some(ParseError::NotStun));
 }
 
+static NOT_HIDDEN: [Seen; 5] = [
+    (20, 0x0014, b"a"),
+    (28, 0x0008, b"b"),
+    (52, 0x001c, b"e"),
+    (68, 0x8028, b"g"),
+    (76, 0x8028, b"h"),
+];
+
 #[test]
 fn attributes_behind_integrity_are_hidden(rt: HostRuntime) {
     let message = parsed(&rt, BEHIND_INTEGRITY);
-    let expected: &[(usize, u16, &[u8])] = &[
-        (20, 0x0014, b"a"),
-        (28, 0x0008, b"b"),
-        (52, 0x001c, b"e"),
-        (68, 0x8028, b"g"),
-        (76, 0x8028, b"h"),
-    ];
-    assert_seen(&rt, &message, expected);
+    assert_seen(&rt, &message, &NOT_HIDDEN);
     let found = message.raw_attribute(AttributeType::MESSAGE_INTEGRITY_SHA256);
     let (offset, raw) = found.expect(&rt, "integrity");
     assert_same(&rt, (offset, raw.value), (52, b"e".as_slice()));
@@ -218,10 +232,9 @@ const TYPES: &[(u16, MessageClass)] = &[
 #[test]
 fn every_class_has_its_number(rt: HostRuntime) {
     for (number, class) in TYPES {
-        let message_type = MessageType::from_number(*number);
-        assert_same(&rt, message_type.method, ALLOCATE);
-        assert_same(&rt, message_type.class, *class);
-        assert_same(&rt, message_type.to_number(), *number);
+        let read = MessageType::from_number(*number);
+        let found = (read.method, read.class, read.to_number());
+        assert_same(&rt, found, (ALLOCATE, *class, *number));
     }
 }
 

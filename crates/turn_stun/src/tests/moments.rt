@@ -1,6 +1,6 @@
 use crate::data::Data;
 use crate::instant::Instant;
-use crate::tests::fixture::{FIRST_ID, assert_bytes, assert_same, assert_text};
+use crate::tests::fixture::{FIRST_ID, assert_bytes, assert_same};
 use crate::transaction::TransactionId;
 use crate::transport::{Transmit, TransportType};
 use std::alloc::Global;
@@ -27,7 +27,7 @@ fn differences_stop_at_zero(rt: HostRuntime) {
 
 fn assert_printed(rt: &impl Abort, alloc: Global, moment: Instant, expected: &str) {
     let text = format!(in alloc; "{moment}").expect(rt, "memory");
-    assert_text(rt, text.as_str(), expected);
+    assert_same(rt, text.as_str(), expected);
 }
 
 #[test]
@@ -41,7 +41,7 @@ fn moments_are_printed_in_seconds(rt: HostRuntime) {
 fn assert_printed_id(rt: &impl Abort, alloc: Global, bytes: [u8; 12], expected: &str) {
     let id = TransactionId::from_bytes(bytes);
     let text = format!(in alloc; "{id:?}").expect(rt, "memory");
-    assert_text(rt, text.as_str(), expected);
+    assert_same(rt, text.as_str(), expected);
 }
 
 #[test]
@@ -79,13 +79,17 @@ fn packet(rt: &impl Abort, alloc: Global, from: SocketAddr, to: SocketAddr) -> T
     Transmit::new(bytes, TransportType::Tcp, from, to).reinterpret_data(Data::from)
 }
 
+fn address(rt: &impl Abort, text: &str) -> SocketAddr {
+    text.parse().expect(rt, "an address")
+}
+
 #[test]
 fn packets_keep_their_way(rt: HostRuntime) {
-    let from = "192.168.0.1:1000".parse().expect(&rt, "an address");
-    let to = "10.0.0.2:2000".parse().expect(&rt, "an address");
+    let from = address(&rt, "192.168.0.1:1000");
+    let to = address(&rt, "10.0.0.2:2000");
     let packet = packet(&rt, rt.alloc(), from, to);
     assert_bytes(&rt, packet.payload.as_bytes(), b"hello");
-    assert_same(&rt, packet.transport, TransportType::Tcp);
-    assert_same(&rt, (packet.from, packet.to), (from, to));
+    let way = (packet.transport, packet.from, packet.to);
+    assert_same(&rt, way, (TransportType::Tcp, from, to));
     assert_same(&rt, packet.payload.into_bytes().len(), 5);
 }

@@ -13,7 +13,7 @@ use std::net::SocketAddr;
 use std::process::Abort;
 
 /// As many bytes as the longest value below needs.
-const LONG: [u8; 800] = [b'x'; 800];
+static LONG: [u8; 800] = [b'x'; 800];
 
 fn is_read<'a, A: AttributeFromRaw<'a> + Drop>(value: &'a [u8]) -> bool {
     A::from_value(value, TransactionId::from_bytes(SECOND_ID)).is_some()
@@ -145,8 +145,7 @@ const ADDRESSES: &[(&str, [u8; 12], &[u8])] = &[
 /// Asserts that the value is that of the address, both ways.
 fn assert_xored(rt: &impl Abort, alloc: Global, addr: SocketAddr, id: TransactionId, value: &[u8]) {
     let found = XorSocketAddr::decode(value, id).expect(rt, "an address");
-    assert_same(rt, found.addr(), addr);
-    assert_same(rt, found.value_len(), value.len());
+    assert_same(rt, (found.addr(), found.value_len()), (addr, value.len()));
     let mut written = Vec::new(alloc);
     let address = XorSocketAddr::new(addr);
     address.append(id, &mut written).expect(rt, "memory");
@@ -157,8 +156,7 @@ fn assert_xored(rt: &impl Abort, alloc: Global, addr: SocketAddr, id: Transactio
 fn addresses_are_xored_as_in_the_standard(rt: HostRuntime) {
     for (text, id, value) in ADDRESSES {
         let addr = text.parse().expect(&rt, "an address");
-        let id = TransactionId::from_bytes(*id);
-        assert_xored(&rt, rt.alloc(), addr, id, value);
+        assert_xored(&rt, rt.alloc(), addr, TransactionId::from_bytes(*id), value);
     }
 }
 

@@ -17,16 +17,28 @@ use crate::transaction::TransactionId;
 use std::alloc::Global;
 use std::process::Abort;
 
+/// The types and values of the attributes of a first ALLOCATE.
+static ADDED: [(u16, &[u8]); 3] = [
+    (0x000d, b"\x00\x00\x07\x08"),
+    (0x0019, b"\x11\x00\x00\x00"),
+    (0x001a, b""),
+];
+
+/// Asserts that it is that ALLOCATE.
+fn assert_request(rt: &impl Abort, message: &MessageWriteVec) {
+    assert_bytes(rt, message.as_bytes(), ALLOCATE_REQUEST);
+    let found = (message.transaction_id(), message.message_type().class);
+    let id = TransactionId::from_bytes(FIRST_ID);
+    assert_same(rt, found, (id, MessageClass::Request));
+}
+
 #[test]
 fn a_request_is_written(rt: HostRuntime) {
     let mut message = request(&rt, rt.alloc());
-    add(&rt, &mut message, &raw(0x000d, b"\x00\x00\x07\x08"));
-    add(&rt, &mut message, &raw(0x0019, b"\x11\x00\x00\x00"));
-    add(&rt, &mut message, &raw(0x001a, b""));
-    assert_bytes(&rt, message.as_bytes(), ALLOCATE_REQUEST);
-    let id = TransactionId::from_bytes(FIRST_ID);
-    assert_same(&rt, message.transaction_id(), id);
-    assert_same(&rt, message.message_type().class, MessageClass::Request);
+    for (kind, value) in &ADDED {
+        add(&rt, &mut message, &raw(*kind, *value));
+    }
+    assert_request(&rt, &message);
     assert_bytes(&rt, message.finish().as_slice(), ALLOCATE_REQUEST);
 }
 
@@ -36,16 +48,21 @@ const ERROR_RESPONSE: &[u8] = b"\x01\x13\x00\x28\x21\x12\xa4\x42\
     \x00\x09\x00\x05\x00\x00\x04\x01?\x00\x00\x00\x00\x06\x00\x04user\
     \x00\x14\x00\x05realm\x00\x00\x00\x00\x15\x00\x01n\x00\x00\x00";
 
+/// Writes these attributes.
+fn writes_error_response(rt: &impl Abort, message: &mut MessageWriteVec) {
+    add(rt, message, &ErrorCode::new(401, b"?"));
+    add(rt, message, &Username::new(b"user"));
+    add(rt, message, &Realm::new(b"realm"));
+    add(rt, message, &Nonce::new(b"n"));
+    assert_bytes(rt, message.as_bytes(), ERROR_RESPONSE);
+}
+
 #[test]
 fn an_error_response_is_written(rt: HostRuntime) {
     let id = TransactionId::from_bytes(FIRST_ID);
-    let message = MessageWriteVec::builder_error(rt.alloc(), ALLOCATE, id);
-    let mut message = message.expect(&rt, "memory");
-    add(&rt, &mut message, &ErrorCode::new(401, b"?"));
-    add(&rt, &mut message, &Username::new(b"user"));
-    add(&rt, &mut message, &Realm::new(b"realm"));
-    add(&rt, &mut message, &Nonce::new(b"n"));
-    assert_bytes(&rt, message.as_bytes(), ERROR_RESPONSE);
+    let built = MessageWriteVec::builder_error(rt.alloc(), ALLOCATE, id);
+    let mut message = built.expect(&rt, "memory");
+    writes_error_response(&rt, &mut message);
     let found = parsed(&rt, message.as_bytes());
     assert_holds(&rt, found.has_class(MessageClass::Error));
 }
@@ -89,15 +106,25 @@ fn assert_too_long(rt: &impl Abort, message: &mut MessageWriteVec, value: &[u8])
     assert_same(rt, message.as_bytes().len(), before);
 }
 
+fn zeros(rt: &impl Abort, alloc: Global, len: usize) -> Vec<u8> {
+    vec![in alloc; 0; len].expect(rt, "memory")
+}
+
+/// Asserts that the value is a byte too long, and that no other attribute has room behind it once
+/// that byte is left out.
+fn assert_longest(rt: &impl Abort, message: &mut MessageWriteVec, value: &[u8]) {
+    assert_too_long(rt, message, value);
+    assert_same(rt, message.as_bytes().len(), 20);
+    let longest = value.get(..65_528).expect(rt, "the longest value");
+    add(rt, message, &raw(0x0013, longest));
+    assert_same(rt, message.as_bytes().len(), 65_552);
+    assert_too_long(rt, message, b"");
+}
+
 #[test]
 fn attributes_take_no_more_than_they_may(rt: HostRuntime) {
-    let value = vec![in rt.alloc(); 0; 65_529].expect(&rt, "memory");
-    assert!(rt; value.len() == 65_529);
+    let value = zeros(&rt, rt.alloc(), 65_529);
     let mut message = request(&rt, rt.alloc());
-    assert_too_long(&rt, &mut message, value.as_slice());
-    assert_same(&rt, message.as_bytes().len(), 20);
-    add(&rt, &mut message, &raw(0x0013, &value[..65_528]));
-    assert_same(&rt, message.as_bytes().len(), 65_552);
-    assert_too_long(&rt, &mut message, b"");
+    assert_longest(&rt, &mut message, value.as_slice());
     assert_holds(&rt, Message::from_bytes(message.as_bytes()).is_ok());
 }
