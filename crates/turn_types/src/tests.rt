@@ -4,6 +4,7 @@ mod attributes;
 mod frames;
 mod memory;
 
+use std::fmt::Debug;
 use std::process::Abort;
 use turn_stun::transaction::TransactionId;
 
@@ -24,6 +25,10 @@ fn second_id() -> TransactionId {
     TransactionId::from_bytes(SECOND_ID)
 }
 
-fn assert_bytes(rt: &impl Abort, found: &[u8], want: &[u8]) {
+// A proof follows each local of a test on each way out of it, and the text of each assertion again. So an
+// assertion stands once, here, rows are data, and a call that finds no memory ends the test.
+
+/// Both are the same.
+pub fn same<T: PartialEq + Debug + Drop>(rt: &impl Abort, found: T, want: T) {
     assert_eq!(rt; found, want);
 }

@@ -9,20 +9,16 @@ use crate::message::{
     ALLOCATE, CHANNEL_BIND, CONNECT, CONNECTION_ATTEMPT, CONNECTION_BIND, CREATE_PERMISSION, DATA,
     REFRESH, SEND,
 };
-use crate::tests::attributes::addresses::{assert_address, ipv4};
-use crate::tests::{assert_bytes, first_id, second_id};
-use std::alloc::{AllocError, Global};
+use crate::tests::attributes::addresses::ipv4;
+use crate::tests::{first_id, same, second_id};
+use std::alloc::Global;
 use std::fmt::Debug;
 use std::process::Abort;
-use std::test::Fail;
 use turn_stun::attribute::typed::{AttributeFromRaw, AttributeWrite};
 use turn_stun::message::Message;
 use turn_stun::message::header::{MessageClass, MessageType};
 use turn_stun::message::write::MessageWriteVec;
 use turn_stun::transaction::TransactionId;
-
-// An assertion stands once for each type, in a helper over any attribute: a test that lists them all
-// takes far longer to prove.
 
 /// The value under this ID is that attribute.
 fn reads<'a, A: AttributeFromRaw<'a> + PartialEq + Debug + Drop>(
@@ -31,13 +27,13 @@ fn reads<'a, A: AttributeFromRaw<'a> + PartialEq + Debug + Drop>(
     id: TransactionId,
     want: A,
 ) {
-    assert_eq!(rt; A::from_value(value, id), Some(want));
+    same(rt, A::from_value(value, id), Some(want));
 }
 
 /// Values of four bytes that are no number, or one byte short or long, are malformed.
 fn refuses<'a, A: AttributeFromRaw<'a> + Drop>(rt: &impl Abort, values: &[&'a [u8]]) {
     for value in values {
-        assert!(rt; A::from_value(*value, first_id()).is_none());
+        same(rt, A::from_value(*value, first_id()).is_none(), true);
     }
 }
 
@@ -48,18 +44,17 @@ fn writes<A: AttributeWrite>(
     attribute: &A,
     kind: u16,
     value: &[u8],
-) -> Result<(), AllocError> {
+) {
     let mut out = Vec::new(alloc);
-    attribute.write_value(second_id(), &mut out)?;
-    assert_bytes(rt, out.as_slice(), value);
-    assert_eq!(rt; attribute.value_len(), value.len());
-    assert_eq!(rt; attribute.get_type().value, kind);
-    Ok(())
-}
-
-/// A number is that.
-fn is_number(rt: &impl Abort, found: u32, want: u32) {
-    assert_eq!(rt; found, want);
+    attribute
+        .write_value(second_id(), &mut out)
+        .expect(rt, "memory");
+    same(rt, out.as_slice(), value);
+    same(
+        rt,
+        (attribute.get_type().value, attribute.value_len()),
+        (kind, value.len()),
+    );
 }
 
 const DATA_INDICATION: MessageType = MessageType {
@@ -67,39 +62,38 @@ const DATA_INDICATION: MessageType = MessageType {
     class: MessageClass::Indication,
 };
 
-fn add_data(written: &mut MessageWriteVec) -> Result<(), Fail> {
-    written.add_attribute(&XorPeerAddress::new(ipv4(3, 9000)))?;
-    written.add_attribute(&Data::new(b"hello"))?;
-    Ok(())
-}
-
-fn data_indication(alloc: Global) -> Result<Vec<u8>, Fail> {
-    let mut written = MessageWriteVec::builder(alloc, DATA_INDICATION, first_id())?;
-    add_data(&mut written)?;
-    Ok(written.finish())
-}
-
-fn is_data_indication(rt: &impl Abort, bytes: &[u8]) -> Result<(), Fail> {
-    let message = Message::from_bytes(bytes)?;
-    assert_eq!(rt; message.message_type(), DATA_INDICATION);
-    assert_address(
-        rt,
-        message.attribute::<XorPeerAddress>()?.addr(),
-        ipv4(3, 9000),
+fn data_indication(rt: &impl Abort, alloc: Global) -> Vec<u8> {
+    let mut written = MessageWriteVec::builder(alloc, DATA_INDICATION, first_id()).expect(
+        rt, "memory",
     );
-    assert_bytes(rt, message.attribute::<Data>()?.data(), b"hello");
-    assert!(rt; message.attribute::<Lifetime>().is_err());
-    Ok(())
+    written
+        .add_attribute(&XorPeerAddress::new(ipv4(3, 9000)))
+        .expect(rt, "room");
+    written
+        .add_attribute(&Data::new(b"hello"))
+        .expect(rt, "room");
+    written.finish()
+}
+
+fn is_data_indication(rt: &impl Abort, message: &Message) {
+    same(rt, message.message_type(), DATA_INDICATION);
+    let peer = message.attribute::<XorPeerAddress>().expect(rt, "a peer");
+    same(rt, peer.addr(), ipv4(3, 9000));
+    let data = message.attribute::<Data>().expect(rt, "data");
+    same(rt, data.data(), b"hello".as_slice());
+    same(rt, message.attribute::<Lifetime>().is_err(), true);
 }
 
 #[test]
-fn in_a_message(rt: HostRuntime) -> Result<(), Fail> {
-    let bytes = data_indication(rt.alloc())?;
-    is_data_indication(&rt, bytes.as_slice())
+fn in_a_message(rt: HostRuntime) {
+    let bytes = data_indication(&rt, rt.alloc());
+    let message = Message::from_bytes(bytes.as_slice()).expect(&rt, "a message");
+    is_data_indication(&rt, &message);
 }
 
 #[test]
 fn methods(rt: HostRuntime) {
+    let class = MessageClass::Request;
     let requests = [
         (ALLOCATE, 0x0003),
         (REFRESH, 0x0004),
@@ -112,7 +106,6 @@ fn methods(rt: HostRuntime) {
         (CONNECTION_ATTEMPT, 0x000c),
     ];
     for (method, number) in requests {
-        let class = MessageClass::Request;
-        assert_eq!(rt; MessageType { method, class }.to_number(), number);
+        same(&rt, MessageType { method, class }.to_number(), number);
     }
 }

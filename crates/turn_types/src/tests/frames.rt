@@ -6,23 +6,22 @@ use crate::channel::ChannelData;
 use crate::error::ChannelParseError;
 use crate::message::SEND;
 use crate::prelude::DelayedTransmitBuild;
-use crate::tests::{assert_bytes, first_id};
+use crate::tests::{first_id, same};
 use crate::transmit::{DelayedChannel, DelayedMessage, TransmitBuild};
-use std::alloc::{AllocError, Global};
+use std::alloc::Global;
 use std::net::{Ipv4Addr, Ipv6Addr, SocketAddr, SocketAddrV4, SocketAddrV6};
 use std::process::Abort;
-use std::test::Fail;
 use turn_stun::message::Message;
 
 /// Five bytes to 127.0.0.1:1, under the first ID.
-const TO_LOCALHOST: [u8; 44] = [
+static TO_LOCALHOST: [u8; 44] = [
     0x00, 0x16, 0x00, 0x18, 0x21, 0x12, 0xa4, 0x42, 0x76, 0xb8, 0xe0, 0xad, 0xa0, 0xf1, 0x3d, 0x90,
     0x40, 0x5d, 0x6a, 0xe5, 0x00, 0x12, 0x00, 0x08, 0x00, 0x01, 0x21, 0x13, 0x5e, 0x12, 0xa4, 0x43,
     0x00, 0x13, 0x00, 0x05, 0x05, 0x05, 0x05, 0x05, 0x05, 0x00, 0x00, 0x00,
 ];
 
 /// No bytes to [::1]:9000, under the first ID.
-const NOTHING_TO_IPV6: [u8; 48] = [
+static NOTHING_TO_IPV6: [u8; 48] = [
     0x00, 0x16, 0x00, 0x1c, 0x21, 0x12, 0xa4, 0x42, 0x76, 0xb8, 0xe0, 0xad, 0xa0, 0xf1, 0x3d, 0x90,
     0x40, 0x5d, 0x6a, 0xe5, 0x00, 0x12, 0x00, 0x14, 0x00, 0x02, 0x02, 0x3a, 0x21, 0x12, 0xa4, 0x42,
     0x76, 0xb8, 0xe0, 0xad, 0xa0, 0xf1, 0x3d, 0x90, 0x40, 0x5d, 0x6a, 0xe4, 0x00, 0x13, 0x00, 0x00,
@@ -37,7 +36,7 @@ fn ipv6() -> SocketAddr {
     SocketAddr::V6(SocketAddrV6::new(ip, 9000, 0, 0))
 }
 
-const REFUSED: [(&[u8], ChannelParseError); 7] = [
+static REFUSED: [(&[u8], ChannelParseError); 7] = [
     (&[0x40, 0x00], ChannelParseError::Short),
     (&[0x00], ChannelParseError::Short),
     (&[0x00, 0x03, 0x00, 0x04], ChannelParseError::NotChannel),
@@ -52,12 +51,12 @@ const REFUSED: [(&[u8], ChannelParseError); 7] = [
 
 #[test]
 fn frames_are_refused(rt: HostRuntime) {
-    for (bytes, want) in REFUSED {
-        assert_eq!(rt; ChannelData::parse(bytes).err(), Some(want));
+    for (bytes, want) in &REFUSED {
+        same(&rt, ChannelData::parse(*bytes).err(), Some(*want));
     }
 }
 
-const ACCEPTED: [(&[u8], u16, &[u8]); 4] = [
+static ACCEPTED: [(&[u8], u16, &[u8]); 4] = [
     (&[0x40, 0x00, 0x00, 0x03, 0x61, 0x62, 0x63], 0x4000, b"abc"),
     (&[0x40, 0x00, 0x00, 0x00, 0xff], 0x4000, b""),
     (
@@ -69,125 +68,107 @@ const ACCEPTED: [(&[u8], u16, &[u8]); 4] = [
 ];
 
 #[test]
-fn frames_are_parsed(rt: HostRuntime) -> Result<(), Fail> {
-    for (bytes, id, want) in ACCEPTED {
-        let frame = ChannelData::parse(bytes)?;
-        assert_eq!(rt; frame.id(), id);
-        assert_bytes(&rt, frame.data(), want);
+fn frames_are_parsed(rt: HostRuntime) {
+    for (bytes, id, want) in &ACCEPTED {
+        let frame = ChannelData::parse(*bytes).expect(&rt, "a frame");
+        same(&rt, (frame.id(), frame.data()), (*id, *want));
     }
-    Ok(())
 }
 
 /// A channel's number, what goes over it, and the frame.
-const FRAMES: [(u16, &[u8], &[u8]); 3] = [
+static FRAMES: [(u16, &[u8], &[u8]); 3] = [
     (0x4567, &[5; 5], &[0x45, 0x67, 0, 5, 5, 5, 5, 5, 5, 0, 0, 0]),
     (0x4000, b"abcd", &[0x40, 0, 0, 4, 0x61, 0x62, 0x63, 0x64]),
     (0x4000, b"", &[0x40, 0, 0, 0]),
 ];
 
-/// It takes as many bytes as these, and some.
-fn has_len(rt: &impl Abort, frame: &impl DelayedTransmitBuild, want: &[u8]) {
-    assert_eq!(rt; frame.len(), want.len());
-    assert!(rt; !frame.is_empty());
+/// A frame of this channel.
+fn frame<'a>(rt: &impl Abort, id: u16, payload: &'a [u8]) -> DelayedChannel<&'a [u8]> {
+    assert!(rt; (0x4000..0x8000).contains(&id) && payload.len() < 0x1_0000);
+    DelayedChannel::new(id, payload)
 }
 
-fn is_built(
-    rt: &impl Abort,
-    alloc: Global,
-    id: u16,
-    payload: &[u8],
-    want: &[u8],
-) -> Result<(), AllocError> {
-    assert!(rt; (0x4000..0x8000).contains(&id) && payload.len() < 0x1_0000);
-    let frame = DelayedChannel::new(id, payload);
-    has_len(rt, &frame, want);
-    assert_bytes(rt, frame.build(alloc)?.as_slice(), want);
-    Ok(())
+/// It is built as these bytes.
+fn is_built(rt: &impl Abort, alloc: Global, packet: impl DelayedTransmitBuild, want: &[u8]) {
+    same(rt, (packet.len(), packet.is_empty()), (want.len(), false));
+    let built = packet.build(alloc).expect(rt, "memory");
+    same(rt, built.as_slice(), want);
 }
 
-fn is_written(
-    rt: &impl Abort,
-    alloc: Global,
-    id: u16,
-    payload: &[u8],
-    want: &[u8],
-) -> Result<(), AllocError> {
-    assert!(rt; (0x4000..0x8000).contains(&id) && payload.len() < 0x1_0000);
-    let mut place = vec![in alloc; 0xaa; want.len()]?;
-    let frame = DelayedChannel::new(id, payload);
-    assert!(rt; frame.len() == place.len());
-    assert_eq!(rt; frame.write_into(place.as_mut_slice()), want.len());
-    assert_bytes(rt, place.as_slice(), want);
-    Ok(())
+/// It is written as these bytes.
+fn is_written(rt: &impl Abort, alloc: Global, packet: impl DelayedTransmitBuild, want: &[u8]) {
+    let mut place = vec![in alloc; 0xaa; want.len()].expect(rt, "memory");
+    assert!(rt; packet.len() == place.len());
+    same(rt, packet.write_into(place.as_mut_slice()), want.len());
+    same(rt, place.as_slice(), want);
 }
 
 #[test]
-fn frames_are_written(rt: HostRuntime) -> Result<(), Fail> {
-    for (id, payload, want) in FRAMES {
-        is_built(&rt, rt.alloc(), id, payload, want)?;
-        is_written(&rt, rt.alloc(), id, payload, want)?;
+fn frames_are_written(rt: HostRuntime) {
+    for (id, payload, want) in &FRAMES {
+        is_built(&rt, rt.alloc(), frame(&rt, *id, *payload), *want);
+        is_written(&rt, rt.alloc(), frame(&rt, *id, *payload), *want);
     }
-    Ok(())
 }
 
 #[test]
-fn messages_are_built(rt: HostRuntime) -> Result<(), Fail> {
+fn messages_are_built(rt: HostRuntime) {
     let message = DelayedMessage::for_server(localhost(), [5; 5], first_id());
-    has_len(&rt, &message, &TO_LOCALHOST);
-    assert_bytes(&rt, message.build(rt.alloc())?.as_slice(), &TO_LOCALHOST);
-    Ok(())
+    is_built(&rt, rt.alloc(), message, &TO_LOCALHOST);
 }
 
 #[test]
 fn messages_are_written(rt: HostRuntime) {
     let message = DelayedMessage::for_server(ipv6(), b"".as_slice(), first_id());
-    let mut place = [0xaa; 48];
-    assert!(rt; message.len() == place.len());
-    assert_eq!(rt; message.write_into(&mut place), 48);
-    assert_bytes(&rt, &place, &NOTHING_TO_IPV6);
+    is_written(&rt, rt.alloc(), message, &NOTHING_TO_IPV6);
 }
 
 #[test]
-fn messages_are_read_again(rt: HostRuntime) -> Result<(), Fail> {
-    let parsed = Message::from_bytes(&TO_LOCALHOST)?;
-    assert!(rt; parsed.has_method(SEND));
-    assert_eq!(rt; parsed.attribute::<XorPeerAddress>()?.addr(), localhost());
-    assert_bytes(&rt, parsed.attribute::<Data>()?.data(), &[5; 5]);
-    Ok(())
+fn messages_are_read_again(rt: HostRuntime) {
+    let parsed = Message::from_bytes(&TO_LOCALHOST).expect(&rt, "a message");
+    same(&rt, parsed.has_method(SEND), true);
+    let peer = parsed.attribute::<XorPeerAddress>().expect(&rt, "a peer");
+    same(&rt, peer.addr(), localhost());
+    let data = parsed.attribute::<Data>().expect(&rt, "data");
+    same(&rt, data.data(), [5; 5].as_slice());
 }
 
 /// The message that carries so much, which is the most.
-fn largest(rt: &impl Abort, alloc: Global) -> Result<Vec<u8>, AllocError> {
-    let payload = vec![in alloc; 5; 65504]?;
+fn largest(rt: &impl Abort, alloc: Global) -> Vec<u8> {
+    let payload = vec![in alloc; 5; 65504].expect(rt, "memory");
     assert!(rt; payload.len() <= 65504);
-    DelayedMessage::for_server(ipv6(), payload.as_slice(), first_id()).build(alloc)
+    DelayedMessage::for_server(ipv6(), payload.as_slice(), first_id())
+        .build(alloc)
+        .expect(rt, "memory")
 }
 
 #[test]
-fn the_largest_payload_fills_a_message(rt: HostRuntime) -> Result<(), Fail> {
-    let built = largest(&rt, rt.alloc())?;
-    assert_eq!(rt; built.len(), 65552);
-    assert_eq!(rt; built.get(..4), Some([0x00, 0x16, 0xff, 0xfc].as_slice()));
-    Ok(())
-}
-
-fn is_between(rt: &impl Abort, from: SocketAddr, to: SocketAddr) {
-    assert_eq!(rt; (from, to), (localhost(), ipv6()));
-}
-
-#[test]
-fn a_built_packet_keeps_its_way(rt: HostRuntime) -> Result<(), Fail> {
-    let frame = DelayedChannel::new(0x4000, b"abcd".as_slice());
-    let packet = TransmitBuild::new(frame, TransportType::Udp, localhost(), ipv6());
-    let sent = packet.build(rt.alloc())?;
-    assert_bytes(
+fn the_largest_payload_fills_a_message(rt: HostRuntime) {
+    let built = largest(&rt, rt.alloc());
+    same(&rt, built.len(), 65552);
+    same(
         &rt,
-        sent.payload.as_bytes(),
-        &[0x40, 0, 0, 4, 0x61, 0x62, 0x63, 0x64],
+        built.get(..4),
+        Some([0x00, 0x16, 0xff, 0xfc].as_slice()),
     );
-    assert_eq!(rt; sent.transport, TransportType::Udp);
-    is_between(&rt, sent.from, sent.to);
-    Ok(())
+}
+
+#[test]
+fn a_built_packet_keeps_its_way(rt: HostRuntime) {
+    let packet = TransmitBuild::new(
+        frame(&rt, 0x4000, b"abcd"),
+        TransportType::Udp,
+        localhost(),
+        ipv6(),
+    );
+    let sent = packet.build(rt.alloc()).expect(&rt, "memory");
+    let bytes = [0x40, 0, 0, 4, 0x61, 0x62, 0x63, 0x64];
+    same(&rt, sent.payload.as_bytes(), bytes.as_slice());
+    same(
+        &rt,
+        (sent.transport, sent.from, sent.to),
+        (TransportType::Udp, localhost(), ipv6()),
+    );
 }
 
 #[test]
@@ -196,6 +177,6 @@ fn a_packet_is_written_in_place(rt: HostRuntime) {
     let packet = TransmitBuild::new(frame, TransportType::Tcp, localhost(), ipv6());
     let mut place = [0xaa; 4];
     assert!(rt; packet.payload.len() == place.len());
-    assert_eq!(rt; packet.write_into(&mut place), 4);
-    assert_bytes(&rt, &place, &[0x40, 0, 0, 0]);
+    same(&rt, packet.write_into(&mut place), 4);
+    same(&rt, place, [0x40, 0, 0, 0]);
 }

@@ -4,7 +4,7 @@
 use crate::TransportType;
 use crate::attribute::{Data, Lifetime, XorPeerAddress};
 use crate::prelude::DelayedTransmitBuild;
-use crate::tests::first_id;
+use crate::tests::{first_id, same};
 use crate::transmit::{DelayedChannel, DelayedMessage, TransmitBuild};
 use std::alloc::Global;
 use std::net::{Ipv4Addr, SocketAddr, SocketAddrV4};
@@ -24,9 +24,9 @@ fn writes_three(rt: &impl Abort, out: &mut Vec<u8>) {
     let lifetime = is_written(&Lifetime::new(1800), out);
     let address = is_written(&XorPeerAddress::new(peer()), out);
     let data = is_written(&Data::new(b"hello"), out);
-    assert!(rt; out.starts_with(b"front"));
+    same(rt, out.starts_with(b"front"), true);
     if lifetime && address && data {
-        assert_eq!(rt; out.len(), 5 + 4 + 8 + 5);
+        same(rt, out.len(), 5 + 4 + 8 + 5);
     }
 }
 
@@ -41,7 +41,7 @@ fn a_value_keeps_what_stands_before_it(rt: HostRuntime) {
 /// Where there is memory, so many bytes are built.
 fn is_built(rt: &impl Abort, alloc: Global, packet: impl DelayedTransmitBuild, len: usize) {
     if let Ok(built) = packet.build(alloc) {
-        assert_eq!(rt; built.len(), len);
+        same(rt, built.len(), len);
     }
 }
 
@@ -49,19 +49,23 @@ fn is_sent(rt: &impl Abort, alloc: Global, payload: &[u8; 5]) {
     let frame = DelayedChannel::new(0x4567, payload.as_slice());
     let packet = TransmitBuild::new(frame, TransportType::Udp, peer(), peer());
     if let Ok(sent) = packet.build(alloc) {
-        assert_eq!(rt; sent.payload.as_bytes().len(), 12);
+        same(rt, sent.payload.as_bytes().len(), 12);
     }
+}
+
+/// Each packet is built, or there is no memory for it.
+fn makes_each(rt: &impl Abort, alloc: Global, payload: &[u8; 5]) {
+    let frame = DelayedChannel::new(0x4567, payload.as_slice());
+    is_built(rt, alloc, frame, 12);
+    let message = DelayedMessage::for_server(peer(), payload.as_slice(), first_id());
+    is_built(rt, alloc, message, 44);
+    is_sent(rt, alloc, payload);
 }
 
 #[test]
 fn a_packet_that_is_not_built_can_be_made_again(rt: HostRuntime) {
     let payload = [5; 5];
-    for _ in 0..2 {
-        let frame = DelayedChannel::new(0x4567, payload.as_slice());
-        is_built(&rt, rt.alloc(), frame, 12);
-        let message = DelayedMessage::for_server(peer(), payload.as_slice(), first_id());
-        is_built(&rt, rt.alloc(), message, 44);
-        is_sent(&rt, rt.alloc(), &payload);
-    }
-    assert_eq!(rt; payload, [5; 5]);
+    makes_each(&rt, rt.alloc(), &payload);
+    makes_each(&rt, rt.alloc(), &payload);
+    same(&rt, payload, [5; 5]);
 }

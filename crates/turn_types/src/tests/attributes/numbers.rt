@@ -4,63 +4,60 @@ use crate::attribute::{
     AdditionalAddressFamily, ChannelNumber, ConnectionId, Lifetime, RequestedAddressFamily,
     RequestedTransport,
 };
-use crate::tests::attributes::{is_number, reads, refuses, writes};
-use crate::tests::first_id;
+use crate::tests::attributes::{reads, refuses, writes};
+use crate::tests::{first_id, same};
 use crate::{AddressFamily, TransportType};
-use std::process::Abort;
-use std::test::Fail;
+
+/// What is no LIFETIME: nothing, a byte short, a byte long.
+static NO_LIFETIMES: [&[u8]; 3] = [&[], &[0, 7, 8], &[0, 0, 7, 8, 0]];
 
 #[test]
-fn lifetimes(rt: HostRuntime) -> Result<(), Fail> {
-    reads(&rt, &[0, 0, 7, 8], first_id(), Lifetime::new(1800));
-    is_number(&rt, Lifetime::new(1800).seconds(), 1800);
-    refuses::<Lifetime>(&rt, &[&[], &[0, 7, 8], &[0, 0, 7, 8, 0]]);
-    Ok(writes(
+fn lifetimes(rt: HostRuntime) {
+    let lifetime = Lifetime::new(1800);
+    same(&rt, lifetime.seconds(), 1800);
+    reads(&rt, &[0, 0, 7, 8], first_id(), lifetime);
+    refuses::<Lifetime>(&rt, &NO_LIFETIMES);
+    writes(
         &rt,
         rt.alloc(),
         &Lifetime::new(1000),
         0x000d,
         &[0, 0, 3, 0xe8],
-    )?)
+    );
 }
 
+/// What is no CONNECTION-ID: nothing, a byte short, a byte long.
+static NO_CONNECTION_IDS: [&[u8]; 3] = [&[], &[0, 0, 1], &[0, 0, 0, 0, 1]];
+
 #[test]
-fn connection_ids(rt: HostRuntime) -> Result<(), Fail> {
+fn connection_ids(rt: HostRuntime) {
     let connection = ConnectionId::new(0x1234_5678);
-    reads(&rt, &[0x12, 0x34, 0x56, 0x78], first_id(), connection);
-    is_number(&rt, ConnectionId::new(7).id(), 7);
-    refuses::<ConnectionId>(&rt, &[&[], &[0, 0, 1], &[0, 0, 0, 0, 1]]);
-    let connection = ConnectionId::new(0x1234_5678);
-    Ok(writes(
+    same(&rt, ConnectionId::new(7).id(), 7);
+    refuses::<ConnectionId>(&rt, &NO_CONNECTION_IDS);
+    writes(
         &rt,
         rt.alloc(),
         &connection,
         0x002a,
         &[0x12, 0x34, 0x56, 0x78],
-    )?)
+    );
+    reads(&rt, &[0x12, 0x34, 0x56, 0x78], first_id(), connection);
 }
 
+/// What is no CHANNEL-NUMBER: nothing, a byte short, a byte long.
+static NO_CHANNEL_NUMBERS: [&[u8]; 3] = [&[], &[0x40, 0x01, 0], &[0x40, 0x01, 0, 0, 0]];
+
 #[test]
-fn channel_numbers(rt: HostRuntime) -> Result<(), Fail> {
-    reads(
-        &rt,
-        &[0x40, 0x01, 0xff, 0xff],
-        first_id(),
-        ChannelNumber::new(0x4001),
-    );
-    is_number(&rt, u32::from(ChannelNumber::new(0x4001).number()), 0x4001);
-    refuses::<ChannelNumber>(&rt, &[&[], &[0x40, 0x01, 0], &[0x40, 0x01, 0, 0, 0]]);
-    Ok(writes(
-        &rt,
-        rt.alloc(),
-        &ChannelNumber::new(0x4001),
-        0x000c,
-        &[0x40, 0x01, 0, 0],
-    )?)
+fn channel_numbers(rt: HostRuntime) {
+    let number = ChannelNumber::new(0x4001);
+    same(&rt, number.number(), 0x4001);
+    refuses::<ChannelNumber>(&rt, &NO_CHANNEL_NUMBERS);
+    writes(&rt, rt.alloc(), &number, 0x000c, &[0x40, 0x01, 0, 0]);
+    reads(&rt, &[0x40, 0x01, 0xff, 0xff], first_id(), number);
 }
 
 /// What is no family: a byte short or long, a foreign number, something behind it, nothing.
-const NO_FAMILIES: [&[u8]; 6] = [
+static NO_FAMILIES: [&[u8]; 6] = [
     &[2, 0, 0],
     &[2, 0, 0, 0, 0],
     &[0, 0, 0, 0],
@@ -69,41 +66,28 @@ const NO_FAMILIES: [&[u8]; 6] = [
     &[],
 ];
 
-fn is_family(rt: &impl Abort, found: AddressFamily, want: AddressFamily) {
-    assert_eq!(rt; found, want);
-}
-
 #[test]
-fn requested_families(rt: HostRuntime) -> Result<(), Fail> {
+fn requested_families(rt: HostRuntime) {
     let ipv6 = RequestedAddressFamily::new(AddressFamily::IPV6);
-    reads(
-        &rt,
-        &[2, 0, 0, 0],
-        first_id(),
-        RequestedAddressFamily::new(AddressFamily::IPV6),
-    );
-    refuses::<RequestedAddressFamily>(&rt, NO_FAMILIES.as_slice());
-    is_family(&rt, ipv6.family(), AddressFamily::IPV6);
-    is_family(&rt, AddressFamily::default(), AddressFamily::IPV4);
-    Ok(writes(&rt, rt.alloc(), &ipv6, 0x0017, &[2, 0, 0, 0])?)
+    same(&rt, ipv6.family(), AddressFamily::IPV6);
+    same(&rt, AddressFamily::default(), AddressFamily::IPV4);
+    refuses::<RequestedAddressFamily>(&rt, &NO_FAMILIES);
+    writes(&rt, rt.alloc(), &ipv6, 0x0017, &[2, 0, 0, 0]);
+    reads(&rt, &[2, 0, 0, 0], first_id(), ipv6);
 }
 
 #[test]
-fn additional_families(rt: HostRuntime) -> Result<(), Fail> {
+fn additional_families(rt: HostRuntime) {
+    let ipv4 = AdditionalAddressFamily::new(AddressFamily::IPV4);
+    reads(&rt, &[1, 0, 0, 0], first_id(), ipv4);
     let ipv6 = AdditionalAddressFamily::new(AddressFamily::IPV6);
-    reads(
-        &rt,
-        &[1, 0, 0, 0],
-        first_id(),
-        AdditionalAddressFamily::new(AddressFamily::IPV4),
-    );
-    refuses::<AdditionalAddressFamily>(&rt, NO_FAMILIES.as_slice());
-    is_family(&rt, ipv6.family(), AddressFamily::IPV6);
-    Ok(writes(&rt, rt.alloc(), &ipv6, 0x8000, &[2, 0, 0, 0])?)
+    same(&rt, ipv6.family(), AddressFamily::IPV6);
+    refuses::<AdditionalAddressFamily>(&rt, &NO_FAMILIES);
+    writes(&rt, rt.alloc(), &ipv6, 0x8000, &[2, 0, 0, 0]);
 }
 
 /// What is no transport: a byte short or long, a foreign number, something behind it.
-const NO_TRANSPORTS: [&[u8]; 4] = [
+static NO_TRANSPORTS: [&[u8]; 4] = [
     &[17, 0, 0],
     &[17, 0, 0, 0, 0],
     &[1, 0, 0, 0],
@@ -111,23 +95,13 @@ const NO_TRANSPORTS: [&[u8]; 4] = [
 ];
 
 #[test]
-fn transports_are_read(rt: HostRuntime) {
-    let tcp = RequestedTransport::new(TransportType::Tcp);
-    assert_eq!(rt; tcp.transport(), TransportType::Tcp);
-    reads(
-        &rt,
-        &[17, 0, 0, 0],
-        first_id(),
-        RequestedTransport::new(TransportType::Udp),
-    );
-    reads(&rt, &[6, 0, 0, 0], first_id(), tcp);
-    refuses::<RequestedTransport>(&rt, NO_TRANSPORTS.as_slice());
-}
-
-#[test]
-fn transports_are_written(rt: HostRuntime) -> Result<(), Fail> {
+fn transports(rt: HostRuntime) {
     let udp = RequestedTransport::new(TransportType::Udp);
     let tcp = RequestedTransport::new(TransportType::Tcp);
-    writes(&rt, rt.alloc(), &udp, 0x0019, &[0x11, 0, 0, 0])?;
-    Ok(writes(&rt, rt.alloc(), &tcp, 0x0019, &[0x06, 0, 0, 0])?)
+    same(&rt, tcp.transport(), TransportType::Tcp);
+    refuses::<RequestedTransport>(&rt, &NO_TRANSPORTS);
+    writes(&rt, rt.alloc(), &udp, 0x0019, &[0x11, 0, 0, 0]);
+    writes(&rt, rt.alloc(), &tcp, 0x0019, &[0x06, 0, 0, 0]);
+    reads(&rt, &[17, 0, 0, 0], first_id(), udp);
+    reads(&rt, &[6, 0, 0, 0], first_id(), tcp);
 }

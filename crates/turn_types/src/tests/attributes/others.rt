@@ -2,44 +2,36 @@
 
 use crate::attribute::{Data, DontFragment, Icmp};
 use crate::tests::attributes::{reads, refuses, writes};
-use crate::tests::{assert_bytes, first_id};
-use std::process::Abort;
-use std::test::Fail;
+use crate::tests::{first_id, same};
 use turn_stun::attribute::typed::AttributeFromRaw;
 
+/// What is no ICMP: nothing, a byte short, a byte long.
+static NO_ICMP: [&[u8]; 3] = [&[], &[0, 0, 3, 4, 0, 0, 5], &[0, 0, 3, 4, 0, 0, 5, 0x78, 0]];
+
 #[test]
-fn icmp(rt: HostRuntime) -> Result<(), Fail> {
-    reads(
+fn icmp(rt: HostRuntime) {
+    let report = Icmp::new(3, 4, 1400);
+    refuses::<Icmp>(&rt, &NO_ICMP);
+    writes(
         &rt,
-        &[9, 9, 3, 4, 0, 0, 5, 0x78],
-        first_id(),
-        Icmp::new(3, 4, 1400),
+        rt.alloc(),
+        &report,
+        0x8004,
+        &[0, 0, 3, 4, 0, 0, 5, 0x78],
     );
-    refuses::<Icmp>(
-        &rt,
-        &[&[], &[0, 0, 3, 4, 0, 0, 5], &[0, 0, 3, 4, 0, 0, 5, 0x78, 0]],
-    );
-    let written = [0, 0, 3, 4, 0, 0, 5, 0x78];
-    Ok(writes(&rt, rt.alloc(), &Icmp::new(3, 4, 1400), 0x8004, &written)?)
+    reads(&rt, &[9, 9, 3, 4, 0, 0, 5, 0x78], first_id(), report);
 }
 
 #[test]
-fn dont_fragment(rt: HostRuntime) -> Result<(), Fail> {
+fn dont_fragment(rt: HostRuntime) {
     reads(&rt, &[], first_id(), DontFragment);
     refuses::<DontFragment>(&rt, &[&[0], &[0, 0, 0, 0]]);
-    Ok(writes(&rt, rt.alloc(), &DontFragment, 0x001a, &[])?)
-}
-
-/// Any bytes are data.
-fn carries(rt: &impl Abort, value: &[u8]) {
-    match Data::from_value(value, first_id()) {
-        Some(carried) => assert_bytes(rt, carried.data(), value),
-        None => assert!(rt; false, "no data"),
-    }
+    writes(&rt, rt.alloc(), &DontFragment, 0x001a, &[]);
 }
 
 #[test]
-fn data(rt: HostRuntime) -> Result<(), Fail> {
-    carries(&rt, b"hello");
-    Ok(writes(&rt, rt.alloc(), &Data::new(b"hello"), 0x0013, b"hello")?)
+fn data(rt: HostRuntime) {
+    let carried = Data::from_value(b"hello", first_id()).expect(&rt, "data");
+    same(&rt, carried.data(), b"hello".as_slice());
+    writes(&rt, rt.alloc(), &Data::new(b"hello"), 0x0013, b"hello");
 }
