@@ -1,7 +1,9 @@
 //! Traces with a bad line, each with the one line that they are answered.
 
 use crate::status::Status;
-use crate::tests::fixture::{CLIENT, FROM_SERVER, SEED, follow, run_bytes};
+use crate::tests::fixture::{
+    CLIENT, FROM_SERVER, SEED, assert_status, assert_written, follow, run_bytes,
+};
 use std::alloc::{AllocError, Global};
 use std::process::Abort;
 use std::test::Fail;
@@ -103,8 +105,8 @@ fn every_field_of_a_call_is_tested(rt: HostRuntime) -> Result<(), Fail> {
 /// Runs bytes that are no text, and compares what is written.
 fn are_bad_bytes(rt: &impl Abort, alloc: Global, trace: &[u8], want: &[u8]) {
     let (status, written) = run_bytes(alloc, trace);
-    assert_eq!(rt; status, Status::Malformed);
-    assert_eq!(rt; written.as_slice(), want);
+    assert_status(rt, status, Status::Malformed);
+    assert_written(rt, written.as_slice(), want);
 }
 
 /// A head, and a call whose name is no ASCII.

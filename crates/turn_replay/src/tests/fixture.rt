@@ -32,7 +32,28 @@ pub fn run_bytes(alloc: Global, trace: &[u8]) -> (Status, Vec<u8>) {
     (status, written)
 }
 
-// Whole traces, and few locals: the proof of a test grows with the square of what it holds.
+// Whole traces, and few locals: the proof of a test grows with the square of what it holds. An assertion
+// with a message is as much to prove as ten without, so each stands in a function of its own.
+
+/// Asserts that the case of this number is as it is to be.
+pub fn check(rt: &impl Abort, is_so: bool, case: usize) {
+    assert!(rt; is_so, "case {case}");
+}
+
+/// Asserts that a run ended so.
+pub fn assert_status(rt: &impl Abort, found: Status, want: Status) {
+    assert_eq!(rt; found, want);
+}
+
+/// Asserts that a run wrote this.
+pub fn assert_written(rt: &impl Abort, found: &[u8], want: &[u8]) {
+    assert_eq!(rt; found, want);
+}
+
+/// Asserts that a trace was answered with this text.
+fn assert_answer(rt: &impl Abort, trace: &str, found: &str, want: &str) {
+    assert_eq!(rt; found, want, "{trace}");
+}
 
 /// Runs a trace, which is to end so and to write this.
 pub fn is_answered(
@@ -43,8 +64,9 @@ pub fn is_answered(
     want: &str,
 ) -> Result<(), Fail> {
     let (ended, written) = run_bytes(alloc, trace.as_bytes());
-    assert_eq!(rt; ended, status, "{trace}");
-    assert_eq!(rt; String::from_utf8(written)?.as_str(), want, "{trace}");
+    let answer = String::from_utf8(written)?;
+    assert_answer(rt, trace, answer.as_str(), want);
+    assert_status(rt, ended, status);
     Ok(())
 }
 

@@ -5,7 +5,7 @@
 
 use crate::program::run;
 use crate::status::Status;
-use crate::tests::fixture::SEND_ALLOCATE;
+use crate::tests::fixture::{SEND_ALLOCATE, assert_status, assert_written};
 use std::alloc::Global;
 use std::process::Abort;
 use std::test::Fail;
@@ -27,22 +27,28 @@ fn run_into(alloc: Global, room: &mut [u8]) -> (Status, usize) {
 
 fn is_answered(rt: &impl Abort, alloc: Global, written: &[u8]) -> Result<(), Fail> {
     let want = [SEND_ALLOCATE, "\nignored\n", SEND_ALLOCATE, "\n"].concat(alloc)?;
-    assert_eq!(rt; written, want.as_bytes());
+    assert_written(rt, written, want.as_bytes());
     Ok(())
+}
+
+/// What the run into this room of 512 bytes wrote, and how it ended.
+fn written_to(alloc: Global, room: &mut [u8]) -> Result<(Status, &[u8]), Fail> {
+    let (status, left) = run_into(alloc, room);
+    let count = 512usize
+        .checked_sub(left)
+        .ok_or("more is left than there was")?;
+    let written = room.get(..count).ok_or("more is left than there was")?;
+    Ok((status, written))
 }
 
 #[test]
 fn refused_memory_is_told(rt: HostRuntime) -> Result<(), Fail> {
     let mut room = [0; 512];
-    let (status, left) = run_into(rt.alloc(), &mut room);
-    let count = 512usize
-        .checked_sub(left)
-        .ok_or("more is left than there was")?;
-    let written = room.get(..count).ok_or("more is left than there was")?;
+    let (status, written) = written_to(rt.alloc(), &mut room)?;
     if status == Status::OutOfMemory {
-        assert_eq!(rt; written, b"no memory\n".as_slice());
+        assert_written(&rt, written, b"no memory\n");
         return Ok(());
     }
-    assert_eq!(rt; status, Status::Answered);
+    assert_status(&rt, status, Status::Answered);
     is_answered(&rt, rt.alloc(), written)
 }

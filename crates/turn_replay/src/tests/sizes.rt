@@ -1,7 +1,7 @@
 //! Traces that are just short enough, and just too long.
 
 use crate::status::Status;
-use crate::tests::fixture::{CLIENT, FROM_SERVER, SEED, follow, follow_client};
+use crate::tests::fixture::{CLIENT, FROM_SERVER, SEED, follow, follow_client, is_answered};
 use std::alloc::Global;
 use std::process::Abort;
 use std::test::Fail;
@@ -38,23 +38,26 @@ fn mebibyte(alloc: Global) -> Result<String, Fail> {
     Ok(trace)
 }
 
+fn is_a_mebibyte(rt: &impl Abort, trace: &str) {
+    assert_eq!(rt; trace.len(), 1_048_576);
+}
+
+/// The same with a line feed behind it.
+fn is_one_byte_too_many(rt: &impl Abort, alloc: Global, trace: &str) -> Result<(), Fail> {
+    let want = "line 0: bad size\n";
+    follow(rt, alloc, &[trace, "\n"], Status::Malformed, &[want])
+}
+
 #[test]
 fn a_mebibyte_is_read_and_no_more(rt: HostRuntime) -> Result<(), Fail> {
     let trace = mebibyte(rt.alloc())?;
-    assert_eq!(rt; trace.len(), 1_048_576);
-    let parts = [trace.as_str(), "\n"];
-    follow(
+    is_a_mebibyte(&rt, trace.as_str());
+    is_answered(
         &rt,
         rt.alloc(),
-        &parts[..1],
+        trace.as_str(),
         Status::Answered,
-        &["ignored\n"],
+        "ignored\n",
     )?;
-    follow(
-        &rt,
-        rt.alloc(),
-        &parts,
-        Status::Malformed,
-        &["line 0: bad size\n"],
-    )
+    is_one_byte_too_many(&rt, rt.alloc(), trace.as_str())
 }

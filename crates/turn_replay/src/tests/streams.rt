@@ -2,11 +2,11 @@
 
 use crate::program::{exit_code, run};
 use crate::status::Status;
-use crate::tests::fixture::{CLIENT, SEED, SEND_ALLOCATE};
+use crate::tests::fixture::{CLIENT, SEED, SEND_ALLOCATE, assert_written, check};
 use std::alloc::{AllocError, Global};
 use std::io;
 use std::io::{ErrorKind, Read, Write};
-use std::process::{Abort, ExitCode};
+use std::process::ExitCode;
 use std::test::Fail;
 
 /// A reader that gives a few bytes at a time, each time after an interruption, and fails once it has
@@ -74,8 +74,8 @@ fn short_answer(alloc: Global) -> Result<String, AllocError> {
     ["wait 0\n", SEND_ALLOCATE, "\n"].concat(alloc)
 }
 
-/// Runs over a reader that fails after some bytes.
-fn is_told_as_failed(rt: &impl Abort, alloc: Global, trace: &[u8], left: usize) {
+/// Whether a run over a reader that fails after some bytes tells so.
+fn is_told_as_failed(alloc: Global, trace: &[u8], left: usize) -> bool {
     let mut reader = Halting {
         rest: trace,
         step: 7,
@@ -84,15 +84,15 @@ fn is_told_as_failed(rt: &impl Abort, alloc: Global, trace: &[u8], left: usize) 
     };
     let mut written = Vec::new(alloc);
     let status = run(alloc, &mut reader, &mut written);
-    assert_eq!(rt; status, Status::ReadFailed, "after {left} bytes");
-    assert_eq!(rt; written.as_slice(), b"read failed\n".as_slice());
+    status == Status::ReadFailed && written.as_slice() == b"read failed\n".as_slice()
 }
 
 #[test]
 fn a_failing_reader_is_told(rt: HostRuntime) -> Result<(), Fail> {
     let trace = short_trace(rt.alloc())?;
     for left in 0..trace.len() + 1 {
-        is_told_as_failed(&rt, rt.alloc(), trace.as_bytes(), left);
+        let is_told = is_told_as_failed(rt.alloc(), trace.as_bytes(), left);
+        check(&rt, is_told, left);
     }
     Ok(())
 }
@@ -116,11 +116,10 @@ fn run_by_steps(alloc: Global, trace: &[u8], step: usize) -> (Status, Vec<u8>) {
     (status, held)
 }
 
-/// Runs by steps of some bytes, and compares what is written.
-fn is_the_same(rt: &impl Abort, alloc: Global, trace: &[u8], want: &[u8], step: usize) {
+/// Whether this is written where it runs by steps of some bytes.
+fn is_the_same(alloc: Global, trace: &[u8], want: &[u8], step: usize) -> bool {
     let (status, written) = run_by_steps(alloc, trace, step);
-    assert_eq!(rt; status, Status::Answered, "by {step}");
-    assert_eq!(rt; written.as_slice(), want, "by {step}");
+    status == Status::Answered && written.as_slice() == want
 }
 
 #[test]
@@ -128,7 +127,8 @@ fn a_slow_reader_and_a_narrow_writer_change_nothing(rt: HostRuntime) -> Result<(
     let trace = short_trace(rt.alloc())?;
     let want = short_answer(rt.alloc())?;
     for step in [1, 2, 3, 100, 1_000] {
-        is_the_same(&rt, rt.alloc(), trace.as_bytes(), want.as_bytes(), step);
+        let is_same = is_the_same(rt.alloc(), trace.as_bytes(), want.as_bytes(), step);
+        check(&rt, is_same, step);
     }
     Ok(())
 }
@@ -147,12 +147,12 @@ fn run_until_full(alloc: Global, trace: &[u8], left: usize) -> (Status, Vec<u8>)
     (status, held)
 }
 
-/// Runs until the writer fails, and compares what is written with the beginning of what is wanted.
-fn is_cut_off(rt: &impl Abort, alloc: Global, trace: &[u8], want: &[u8], left: usize) {
+/// Whether what is written until the writer fails is the beginning of what is wanted.
+fn is_cut_off(alloc: Global, trace: &[u8], want: &[u8], left: usize) -> bool {
     let (status, written) = run_until_full(alloc, trace, left);
-    assert_eq!(rt; status, Status::WriteFailed, "after {left} bytes");
-    assert_eq!(rt; status.code(), 4);
-    assert_eq!(rt; Some(written.as_slice()), want.get(..left));
+    status == Status::WriteFailed
+        && status.code() == 4
+        && want.get(..left) == Some(written.as_slice())
 }
 
 #[test]
@@ -160,7 +160,8 @@ fn a_failing_writer_is_told_by_the_status_alone(rt: HostRuntime) -> Result<(), F
     let trace = short_trace(rt.alloc())?;
     let want = short_answer(rt.alloc())?;
     for left in 0..want.len() + 1 {
-        is_cut_off(&rt, rt.alloc(), trace.as_bytes(), want.as_bytes(), left);
+        let is_cut = is_cut_off(rt.alloc(), trace.as_bytes(), want.as_bytes(), left);
+        check(&rt, is_cut, left);
     }
     Ok(())
 }
@@ -169,6 +170,6 @@ fn a_failing_writer_is_told_by_the_status_alone(rt: HostRuntime) -> Result<(), F
 fn the_exit_status_tells_what_was_written(rt: HostRuntime) {
     let mut written = Vec::new(rt.alloc());
     let code = exit_code(rt.alloc(), &mut b"tcp".as_slice(), &mut written);
-    assert_eq!(rt; code, ExitCode::from(2));
-    assert_eq!(rt; written.as_slice(), b"line 1: bad head\n".as_slice());
+    check(&rt, code == ExitCode::from(2), 0);
+    assert_written(&rt, written.as_slice(), b"line 1: bad head\n");
 }
