@@ -1,4 +1,5 @@
 pub mod AddressLemmas
+pub mod AnyStreamsLemmas
 pub mod CallDrawLemmas
 pub mod CallKeepLemmas
 mod ConfigLemmas
@@ -8,6 +9,7 @@ pub mod DoubleKeepLemmas
 pub mod DoubleLemmas
 pub mod DoubleMessageLemmas
 pub mod DrawLemmas
+pub mod FrameRestLemmas
 pub mod GivenCallLemmas
 pub mod GivenEffectLemmas
 pub mod GivenLemmas
@@ -48,5 +50,8 @@ pub mod StreamShortLemmas
 pub mod StreamStepLemmas
 pub mod StreamWeightLemmas
 pub mod TimelyLemmas
+pub mod TurnChainLemmas
+pub mod TurnEndLemmas
+pub mod TurnFrameLemmas
 pub mod TurnLemmas
 pub mod WakeupLemmas

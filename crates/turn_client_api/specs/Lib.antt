@@ -13,6 +13,7 @@ pub mod Handled
 pub mod Judgement
 pub mod LawsDoubles
 pub mod LawsGranted
+pub mod LawsHandled
 pub mod LawsHoused
 pub mod LawsLapses
 pub mod LawsMessages

@@ -18,6 +18,7 @@ mod sockets;
 mod standards;
 mod steps;
 mod streams;
+mod turns;
 mod wakeup;
 
 pub use alarm::sleeps_through_nothing;
@@ -44,4 +45,5 @@ pub use sockets::{peers_may_connect, sockets_are_taken};
 pub use standards::numbers_are_the_standards;
 pub use steps::{challenges_are_counted, phases_go_on, realm_stays, stays_closed};
 pub use streams::{streams_are_drained, streams_stay_apart};
+pub use turns::{calls_are_turns, messages_leave_streams, turns_are_frames};
 pub use wakeup::wakeup_is_the_least_moment;

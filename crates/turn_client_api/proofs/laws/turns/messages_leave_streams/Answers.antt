@@ -1,0 +1,9 @@
+use Rattle.turn_client_api.proofs.AnyStreamsLemmas.{message-alike}
+use Rattle.turn_client_api.proofs.FrameRestLemmas.{frame-bytes}
+use Rattle.turn_client_api.proofs.laws.turns.messages_leave_streams.Goals as goal
+
+pub returns-clause-message : goal.returns-clause-message
+returns-clause-message c = message-alike
+
+pub returns-clause-frame : goal.returns-clause-frame
+returns-clause-frame c = frame-bytes

@@ -1,0 +1,92 @@
+-- What a call does is what the turns do that it takes (RFC 8656, section 12.5; RFC 6062, section 4.3).
+use Rattle.std.specs.Prelude.{◌≡◌, ◌⊎◌, ℕ, false, List, [], ◌∷◌, ◌++◌, Some, ⊤}
+use Rattle.std.specs.List.{Contains}
+use Rattle.std.specs.declared.net.socket_addr.SocketAddr.{SocketAddr}
+use Rattle.turn_client_api.specs.State.{State, Bound, Broken, Stream}
+use Rattle.turn_client_api.specs.Answers.{takes_no_memory}
+use Rattle.turn_client_api.specs.Effect.{closed}
+use Rattle.turn_client_api.specs.Payloads.{Outcome, Handled}
+use Rattle.turn_client_api.specs.Receive.{connection_gone}
+use Rattle.turn_client_api.specs.Streams.{broken_at, owned, with_bytes, without_stream}
+use Rattle.turn_client_api.specs.Handled.{Turn, handled, made_of}
+use Rattle.turn_client_api.specs.Steps.{Call, Recv, PollRecv, EndsWithoutMemory, state_after}
+
+-- ---- one turn of a stream
+
+-- One frame was in front of the stream. It was handled in the state in which the stream holds nothing, and
+-- what is behind it was put back. Where a payload stands does not count.
+pub record IsFrameOf (stream : Stream) (now : ℕ) (s : State) (one : Turn) (p : Outcome × State) : Type 0 where
+  pub taken_of : one.stream ≡ Some stream
+  pub at : one.moment ≡ now
+  pub alone : one.before ≡ with_bytes stream.local [] s
+  pub rest : List ℕ
+  pub cut : stream.bytes ≡ one.bytes ++ rest
+  pub outcome : owned p.0 ≡ owned (made_of one).0
+  pub after : p.1 ≡ with_bytes stream.local rest (made_of one).1
+
+-- No frame was in front: no frame begins so, and the stream is broken, it waits for more, or it was broken.
+abbrev pub IsFrameless : Stream → State → Outcome × State → Type 0
+IsFrameless stream s p =
+    (p ≡ (Handled, broken_at stream.local s))
+    ⊎ (p ≡ (Handled, with_bytes stream.local stream.bytes s))
+    ⊎ ((stream.mode ≡ Broken) × (p ≡ (Handled, with_bytes stream.local [] s)))
+
+-- the stream's turn took these frames, and did what they do
+abbrev pub IsTurnOf : Stream → ℕ → State → List Turn → Outcome × State → Type 0
+IsTurnOf stream now s [] p = IsFrameless stream s p
+IsTurnOf stream now s (one ∷ []) p = IsFrameOf stream now s one p
+IsTurnOf stream now s (one ∷ other ∷ later) p = ⊥
+
+-- ---- all turns of a call
+
+-- the stream at this local end is bound to this peer
+abbrev pub IsBoundAt : SocketAddr → SocketAddr → State → Type 0
+IsBoundAt local peer s = (x : Stream) × Contains s.streams x × (x.local ≡ local) × (x.mode ≡ Bound peer)
+
+-- the second state differs in its streams alone, and none of them is bound that was not
+pub record DiffersInStreams (s t : State) : Type 0 where
+  pub others : t ≡ record s { streams = t.streams }
+  pub bound : (local peer : SocketAddr) → IsBoundAt local peer t → IsBoundAt local peer s
+
+-- these turns, each in the state that the one before left, lead from the first state to the second
+abbrev pub TurnsLead : List Turn → State → State → Type 0
+TurnsLead [] s t = DiffersInStreams s t
+TurnsLead (one ∷ later) s t = DiffersInStreams s one.before × TurnsLead later (made_of one).1 t
+
+-- the call takes turns
+abbrev pub TakesTurns : Call → Type 0
+TakesTurns (Recv packet now) = ⊤
+TakesTurns (PollRecv now) = ⊤
+TakesTurns _ = ⊥
+
+-- an empty piece came: the server closed the stream, and no turn is taken
+pub record IsStreamEnd (call : Call) (s t : State) : Type 0 where
+  pub local : SocketAddr
+  pub nothing : handled call s ≡ []
+  pub gone : t ≡ without_stream local (connection_gone local s)
+
+-- what the call does, where it finds memory
+abbrev pub DoesTurns : Call → State → Type 0
+DoesTurns call s = TurnsLead (handled call s) s (state_after call s) ⊎ IsStreamEnd call s (state_after call s)
+
+-- a call that asks for no memory finds it
+abbrev pub AsksForMemory : Call → State → Type 0
+AsksForMemory (Recv packet now) s = takes_no_memory packet.transport packet.from packet.to packet.payload s ≡ false
+AsksForMemory _ s = ⊤
+
+-- it found none for the next turn: it took the first ones of these turns, and then ended the client
+pub record EndsInTurns (call : Call) (s t : State) : Type 0 where
+  pub front : List Turn
+  pub later : List Turn
+  pub all : handled call s ≡ front ++ later
+  pub last : State
+  pub lead : TurnsLead front s last
+  pub ended : t ≡ closed last
+
+-- a state that the call of a client may leave
+abbrev pub MayLeave : Call → State → State → Type 0
+MayLeave call s t = (t ≡ state_after call s) ⊎ (AsksForMemory call s × EndsWithoutMemory call s t)
+
+-- one of the turns that the call takes did it
+abbrev pub IsDoneBy : (Turn → Type 0) → Call → State → Type 0
+IsDoneBy Did call s = (one : Turn) × Contains (handled call s) one × Did one
