@@ -1,8 +1,10 @@
 -- What the calls leave standing: without a message of the server nothing is granted.
-use Rattle.std.proofs.Common.{◌≡◌, ℕ, Bool, true, false, not, cond, leb, eqb, ◌&&◌, ◌||◌, List, [], ◌∷◌, ◌++◌, map, Option, Some, None, Result, Err, refl, inl, inr}
+use Rattle.std.proofs.Common.{◌≡◌, ◌⊎◌, ℕ, Bool, true, false, not, cond, leb, eqb, ◌&&◌, ◌||◌, List, [], ◌∷◌, ◌++◌, map, Option, Some, None, Result, Err, refl, sym, subst, inl, inr}
 use Rattle.std.specs.Prelude.{is_some, find, filter_map}
 use Rattle.std.specs.List.{list_any}
 use Rattle.std.specs.Option.{option_map_or}
+use Rattle.std.proofs.lemmas.Bool.{eqb-true}
+use Rattle.std.proofs.lemmas.Option.{none-some}
 use Rattle.std.specs.declared.net.ip_addr.IpAddr.{IpAddr}
 use Rattle.std.specs.declared.net.socket_addr.SocketAddr.{SocketAddr}
 use Rattle.std.specs.Net.Socket.{socket_ip}
@@ -12,12 +14,12 @@ use Rattle.turn_stun.specs.declared.transport.TransportType.TheVariants.{Udp, Tc
 use Rattle.turn_types.specs.declared.family.AddressFamily.{AddressFamily}
 use Rattle.turn_auth.specs.LongTerm.{Challenge}
 use Rattle.turn_agent.specs.Agent.{same_address}
-use Rattle.turn_client_api.specs.State.{State, Phase, New, Requesting, Authenticating, Allocated, Closed}
+use Rattle.turn_client_api.specs.State.{State, Bound, Phase, New, Requesting, Authenticating, Allocated, Closed}
 use Rattle.turn_client_api.specs.State.{Grant, Allocation, Permission, Channel, Connect, Offer, Connection, DataConnection, Relay, Pending, Origin, OwnConnect, ServerRequest, ServerIndication, Purpose, later_by}
 use Rattle.turn_client_api.specs.Grants.{changed_allocation, allocation_for, connection_in, family_of_ip, is_of_family, is_past, is_permitted, permission_for, purposes_of, same_transport, with_expired, without}
 use Rattle.turn_client_api.specs.Requests.{connection_bind_method}
 use Rattle.turn_client_api.specs.Judgement.{Judgement, Unrelated, Challenged, Fatal, LateResponse, DataIndication, ConnectionAttempt, SignedRequest, SignedSuccess, SignedError, bind_judgement, is_bind_of, method_in}
-use Rattle.turn_client_api.specs.Connections.{deadline_set, bind_again, bind_answered, bind_step, connection_at, is_connected, is_connecting}
+use Rattle.turn_client_api.specs.Connections.{deadline_set, with_deadline, with_mode, bind_again, bind_answered, bind_step, connection_at, is_connected, is_connecting}
 use Rattle.turn_client_api.specs.Calls.{bound_by, active_channel, allocated_tcp_socket_step, bind_channel_step, bound_to, channel_step, channels_to, connect_step, create_permission_step, free_number, has_permission, in_allocation, is_allocated, is_closed, is_control, is_in_progress, is_local_taken, is_offer_of, missing_permission, offer_origin, offer_taken, on_channel, on_connection, permission_step, protocol_error_step, reserved_from, send_over, send_to_step, socket_opened, socket_refused, socket_step, tcp_connect_step, without_first}
 use Rattle.turn_client_api.specs.Retry.{bind_time}
 use Rattle.turn_client_api.specs.declared.poll.Socket5Tuple.{Socket5Tuple}
@@ -41,57 +43,81 @@ without-leaves which s = left-filter _ s.grants
 
 -- ---- data connections
 
-deadline-kept : (local : SocketAddr) (deadline : Option ℕ) (g : Grant) → IsStanding (deadline_set local deadline g) → IsKeptAs g (deadline_set local deadline g)
-deadline-kept local deadline (Connection c) = by (same_address c.local local)
+deadline-kept : (local : SocketAddr) (moment : ℕ) (g : Grant) → IsStanding (deadline_set local (Some moment) g) → IsKeptAs g (deadline_set local (Some moment) g)
+deadline-kept local moment (Connection c) = by (same_address c.local local)
   where
-    by : (b : Bool) → IsStanding (cond b (Connection (record c { deadline = deadline })) (Connection c)) → IsKeptAs (Connection c) (cond b (Connection (record c { deadline = deadline })) (Connection c))
-    by true stands = absurd stands
-    by false stands = absurd stands
-deadline-kept local deadline (Allocation a) = kept-same (Allocation a)
-deadline-kept local deadline (Permission ip progress) = kept-same (Permission ip progress)
-deadline-kept local deadline (Channel number peer progress) = kept-same (Channel number peer progress)
-deadline-kept local deadline (Connect peer) = kept-same (Connect peer)
-deadline-kept local deadline (Offer offer) = kept-same (Offer offer)
+    waits : Grant
+    waits = Connection (record c { deadline = Some moment })
 
-deadline-left : (local : SocketAddr) (deadline : Option ℕ) (grants : List Grant) → Left grants (map (deadline_set local deadline) grants)
-deadline-left local deadline grants = left-map (deadline_set local deadline) (deadline-kept local deadline) grants
+    by : (b : Bool) → IsStanding (cond b waits (Connection c)) → IsKeptAs (Connection c) (cond b waits (Connection c))
+    by true stands = absurd (none-some moment (sym stands))
+    by false stands = kept-same (Connection c) stands
+deadline-kept local moment (Allocation a) = kept-same (Allocation a)
+deadline-kept local moment (Permission ip progress) = kept-same (Permission ip progress)
+deadline-kept local moment (Channel number peer progress) = kept-same (Channel number peer progress)
+deadline-kept local moment (Connect peer) = kept-same (Connect peer)
+deadline-kept local moment (Offer offer) = kept-same (Offer offer)
+
+deadline-left : (local : SocketAddr) (moment : ℕ) (grants : List Grant) → Left grants (map (deadline_set local (Some moment)) grants)
+deadline-left local moment grants = left-map (deadline_set local (Some moment)) (deadline-kept local moment) grants
 
 again-leaves : (c : DataConnection) (id : ℕ) (d : Challenge) (now : ℕ) (s : State) → Leaves s (bind_again c id d now s)
 again-leaves c id d now s = by (find (is_bind_of c.local) (purposes_of id s)) refl
   where
     by : (o : Option Purpose) → find (is_bind_of c.local) (purposes_of id s) ≡ o → Leaves s (bind_again c id d now s)
     by None f = rw f (leaves-same s)
-    by (Some purpose) f = rw f (deadline-left c.local _ s.grants)
+    by (Some purpose) f = rw f (deadline-left c.local (later_by bind_time now) s.grants)
 
-answered-leaves : (c : DataConnection) (message : List ℕ) (now : ℕ) (s : State) → Leaves s (bind_answered c message now s)
-answered-leaves c message now s = by (bind_judgement s c.local message) refl
+-- The connection at the local end is bound, by a signed success on it.
+pub record Binds (local : SocketAddr) (message : List ℕ) (s t : State) : Type 0 where
+  pub c : DataConnection
+  pub found : connection_at local s ≡ Some c
+  pub method : method_in message ≡ connection_bind_method
+  pub judged : bind_judgement s c.local message ≡ SignedSuccess
+  pub grants : t.grants ≡ (with_deadline c.local None s).grants
+  pub streams : t.streams ≡ (with_mode c.local (Bound c.peer) s).streams
+
+-- a message of the connection binds it, or leaves streams as they are, and of grants what stands
+abbrev pub BindsOrLeaves : SocketAddr → List ℕ → State → State → Type 0
+BindsOrLeaves local message s t = Binds local message s t ⊎ (Leaves s t × (t.streams ≡ s.streams))
+
+again-streams : (c : DataConnection) (id : ℕ) (d : Challenge) (now : ℕ) (s : State) → (bind_again c id d now s).streams ≡ s.streams
+again-streams c id d now s = by (find (is_bind_of c.local) (purposes_of id s)) refl
   where
-    by : (j : Judgement) → bind_judgement s c.local message ≡ j → Leaves s (bind_answered c message now s)
-    by (Challenged d) e = rw e (again-leaves c (id_of message) d now s)
-    by SignedSuccess e = rw e (deadline-left c.local None s.grants)
-    by SignedError e = rw e (left-filter _ s.grants)
-    by Unrelated e = rw e (left-filter _ s.grants)
-    by Fatal e = rw e (left-filter _ s.grants)
-    by LateResponse e = rw e (left-filter _ s.grants)
-    by DataIndication e = rw e (left-filter _ s.grants)
-    by ConnectionAttempt e = rw e (left-filter _ s.grants)
-    by SignedRequest e = rw e (left-filter _ s.grants)
+    by : (o : Option Purpose) → find (is_bind_of c.local) (purposes_of id s) ≡ o → (bind_again c id d now s).streams ≡ s.streams
+    by None f = rw f refl
+    by (Some purpose) f = rw f refl
 
-bind_in_phase : (p : Phase) (local : SocketAddr) (message : List ℕ) (now : ℕ) (s : State) → Leaves (record s { phase = p }) (bind_step local message now (record s { phase = p }))
-bind_in_phase New local message now s = leaves-same s
-bind_in_phase Requesting local message now s = leaves-same s
-bind_in_phase Authenticating local message now s = leaves-same s
-bind_in_phase Closed local message now s = leaves-same s
-bind_in_phase Allocated local message now s = by (connection_at local s) refl
+answered-leaves : (local : SocketAddr) (c : DataConnection) (message : List ℕ) (now : ℕ) (s : State) → connection_at local s ≡ Some c → method_in message ≡ connection_bind_method → BindsOrLeaves local message s (bind_answered c message now s)
+answered-leaves local c message now s found method = by (bind_judgement s c.local message) refl
+  where
+    by : (j : Judgement) → bind_judgement s c.local message ≡ j → BindsOrLeaves local message s (bind_answered c message now s)
+    by (Challenged d) e = rw e (inr (again-leaves c (id_of message) d now s, again-streams c (id_of message) d now s))
+    by SignedSuccess e = inl (record { c = c; found = found; method = method; judged = e; grants = rw e refl; streams = rw e refl })
+    by SignedError e = rw e (inr (left-filter _ s.grants, refl))
+    by Unrelated e = rw e (inr (left-filter _ s.grants, refl))
+    by Fatal e = rw e (inr (left-filter _ s.grants, refl))
+    by LateResponse e = rw e (inr (left-filter _ s.grants, refl))
+    by DataIndication e = rw e (inr (left-filter _ s.grants, refl))
+    by ConnectionAttempt e = rw e (inr (left-filter _ s.grants, refl))
+    by SignedRequest e = rw e (inr (left-filter _ s.grants, refl))
+
+bind_in_phase : (p : Phase) (local : SocketAddr) (message : List ℕ) (now : ℕ) (s : State) → BindsOrLeaves local message (record s { phase = p }) (bind_step local message now (record s { phase = p }))
+bind_in_phase New local message now s = inr (leaves-same s, refl)
+bind_in_phase Requesting local message now s = inr (leaves-same s, refl)
+bind_in_phase Authenticating local message now s = inr (leaves-same s, refl)
+bind_in_phase Closed local message now s = inr (leaves-same s, refl)
+bind_in_phase Allocated local message now s = by (connection_at local s) refl (eqb (method_in message) connection_bind_method) refl
   where
     u : State
     u = record s { phase = Allocated }
 
-    by : (o : Option DataConnection) → connection_at local s ≡ o → Leaves u (bind_step local message now u)
-    by None e = rw e (leaves-same u)
-    by (Some c) e = rw e (leaves-cond (eqb (method_in message) connection_bind_method) u _ _ (answered-leaves c message now u) (leaves-same u))
+    by : (o : Option DataConnection) → connection_at local s ≡ o → (b : Bool) → eqb (method_in message) connection_bind_method ≡ b → BindsOrLeaves local message u (bind_step local message now u)
+    by None e b f = rw e (inr (leaves-same u, refl))
+    by (Some c) e false f = rw (e, f) (inr (leaves-same u, refl))
+    by (Some c) e true f = subst (BindsOrLeaves local message u) (rw (e, f) refl) (answered-leaves local c message now u e (eqb-true (method_in message) connection_bind_method f))
 
-pub bind-leaves : (local : SocketAddr) (message : List ℕ) (now : ℕ) (s : State) → Leaves s (bind_step local message now s)
+pub bind-leaves : (local : SocketAddr) (message : List ℕ) (now : ℕ) (s : State) → BindsOrLeaves local message s (bind_step local message now s)
 bind-leaves local message now s = bind_in_phase s.phase local message now s
 
 pub gone-leaves : (local : SocketAddr) (s : State) → Leaves s (connection_gone local s)
@@ -180,7 +206,7 @@ opened-leaves id peer local origin now s = by origin
     c = record { local = local; peer = peer; deadline = Some (later_by bind_time now) }
 
     opened : Left s.grants ((offer_taken id peer s).grants ++ Connection c ∷ [])
-    opened = left-trans s.grants (offer_taken id peer s).grants _ (first-left (is_offer_of id peer) s.grants) (left-one (offer_taken id peer s).grants (Connection c) (λ stands. stands))
+    opened = left-trans s.grants (offer_taken id peer s).grants _ (first-left (is_offer_of id peer) s.grants) (left-one (offer_taken id peer s).grants (Connection c) (λ stands. none-some (later_by bind_time now) (sym stands)))
 
     by : (o : Origin) → Leaves s (socket_opened id peer local o now s)
     by OwnConnect = opened

@@ -26,12 +26,12 @@ eqb-positive : (n : ℕ) → eqb n 0 ≡ false → 1 ≤ n
 eqb-positive zero e = cc
 eqb-positive (suc n) e = omega arith
 
-module _ (purposes : List Purpose) (message : List ℕ) (now : ℕ) where
+module _ (purposes : List Purpose) (message : List ℕ) (now : ℕ) (before : State) where
   abbrev Is : Grant → Grant → Type 0
-  Is was is = IsStanding is → IsKeptAs was is ⊎ IsGivenOf purposes message now is
+  Is was is = IsStanding is → IsKeptAs was is ⊎ IsGivenOf purposes message now before is
 
   abbrev Taken : State → State → Type 0
-  Taken s t = Takes purposes message now s t
+  Taken s t = Takes purposes message now before s t
 
   -- where the reply is a success, the purpose is one of these
   abbrev Names : Bool → Purpose → Type 0
@@ -42,23 +42,23 @@ module _ (purposes : List Purpose) (message : List ℕ) (now : ℕ) where
   NamesAll is_granted id s = is_granted ≡ true → (p : Purpose) → Has p (purposes_of id s) → Has p purposes
 
   same : (s : State) → Taken s s
-  same s = takes-same purposes message now s
+  same s = takes-same purposes message now before s
 
   trans : (s t u : State) → Taken s t → Taken t u → Taken s u
-  trans s t u first second = takes-trans purposes message now s t u first second
+  trans s t u first second = takes-trans purposes message now before s t u first second
 
   without-takes : (which : Grant → Bool) (s : State) → Taken s (without which s)
-  without-takes which s = (within-filter _ s.listed, gives-left purposes message now s.grants _ (left-filter _ s.grants))
+  without-takes which s = (within-filter _ s.listed, gives-left purposes message now before s.grants _ (left-filter _ s.grants))
 
   -- a grant comes for what goes
-  replaced-takes : (which : Grant → Bool) (one : Grant) (s : State) → (IsStanding one → IsGivenOf purposes message now one) → Taken s (with_grant one (without which s))
+  replaced-takes : (which : Grant → Bool) (one : Grant) (s : State) → (IsStanding one → IsGivenOf purposes message now before one) → Taken s (with_grant one (without which s))
   replaced-takes which one s gives =
       let less = without-takes which s in
-      (less.0, gives-trans purposes message now s.grants _ _ less.1 (gives-one purposes message now (without which s).grants one gives))
+      (less.0, gives-trans purposes message now before s.grants _ _ less.1 (gives-one purposes message now before (without which s).grants one gives))
 
   -- what is there lasts, with nothing listed for it any more
   lasting-takes : (which : Grant → Bool) (f : Grant → Grant) (s : State) → ((g : Grant) → Is g (f g)) → Taken s (record (unlisted which s) { grants = map f s.grants })
-  lasting-takes which f s keeps = (within-filter _ s.listed, gives-map purposes message now f keeps s.grants)
+  lasting-takes which f s keeps = (within-filter _ s.listed, gives-map purposes message now before f keeps s.grants)
 
   -- what is asked for or reserved is not renewed
   untouched : (b : Bool) (g : Grant) → Is g (cond b g g)
@@ -78,7 +78,7 @@ module _ (purposes : List Purpose) (message : List ℕ) (now : ℕ) where
   permission_lasts ip one (Channel number peer progress) = λ stands. inl (kept-same (Channel number peer progress) stands)
   permission_lasts ip one (Connect peer) = λ stands. absurd stands
   permission_lasts ip one (Offer offer) = λ stands. absurd stands
-  permission_lasts ip one (Connection c) = λ stands. absurd stands
+  permission_lasts ip one (Connection c) = λ stands. inl (kept-same (Connection c) stands)
 
   -- a channel of this number is given anew
   channel_lasts : (number : ℕ) (peer : SocketAddr) → Has (ForChannel number peer) purposes → (g : Grant) → Is g (lasting_if (is_channel_of number) (later_by channel_lifetime now) g)
@@ -93,7 +93,7 @@ module _ (purposes : List Purpose) (message : List ℕ) (now : ℕ) where
   channel_lasts number peer one (Permission ip progress) = λ stands. inl (kept-same (Permission ip progress) stands)
   channel_lasts number peer one (Connect to) = λ stands. absurd stands
   channel_lasts number peer one (Offer offer) = λ stands. absurd stands
-  channel_lasts number peer one (Connection c) = λ stands. absurd stands
+  channel_lasts number peer one (Connection c) = λ stands. inl (kept-same (Connection c) stands)
 
   permission-takes : (ip : IpAddr) (is_granted : Bool) (s : State) → Names is_granted (ForPermission ip) → Taken s (permission_answered ip is_granted now s)
   permission-takes ip is_granted s = by (permission_for ip s) refl is_granted
@@ -119,7 +119,7 @@ module _ (purposes : List Purpose) (message : List ℕ) (now : ℕ) where
 
   permissions-takes : (id : ℕ) (is_granted : Bool) (s : State) → NamesAll is_granted id s → Taken s (listed_permissions_answered id is_granted now s)
   permissions-takes id is_granted s all =
-      takes-fold purposes message now (permission_answered_for is_granted now) s (purposes_of id s)
+      takes-fold purposes message now before (permission_answered_for is_granted now) s (purposes_of id s)
       (λ t p within there. permission_for-takes is_granted t p (λ granted. all granted p there))
       (purposes_of id s) (λ p there. there) s (λ l there. there)
 
@@ -165,7 +165,7 @@ module _ (purposes : List Purpose) (message : List ℕ) (now : ℕ) where
   allocation_lasts family lifetime n lengthens (Channel number peer progress) = λ stands. inl (kept-same (Channel number peer progress) stands)
   allocation_lasts family lifetime n lengthens (Connect peer) = λ stands. absurd stands
   allocation_lasts family lifetime n lengthens (Offer offer) = λ stands. absurd stands
-  allocation_lasts family lifetime n lengthens (Connection c) = λ stands. absurd stands
+  allocation_lasts family lifetime n lengthens (Connection c) = λ stands. inl (kept-same (Connection c) stands)
 
   refreshed-takes : (family : AddressFamily) (lifetime : ℕ) (is_granted : Bool) (s : State) → Names is_granted (ForRefresh family lifetime) → Taken s (refreshed family lifetime is_granted message now s)
   refreshed-takes family lifetime is_granted s = by (eqb lifetime 0) refl is_granted
@@ -186,7 +186,7 @@ module _ (purposes : List Purpose) (message : List ℕ) (now : ℕ) where
               rw e (lasting-takes _ (prolonged_by family n) s (allocation_lasts family lifetime n lengthens))
 
       by : (b : Bool) → eqb lifetime 0 ≡ b → (g : Bool) → Names g (ForRefresh family lifetime) → Taken s (refreshed family lifetime g message now s)
-      by true e g one = rw e (takes-cond purposes message now (g || has_code allocation_mismatch message) s _ _ gone (same s))
+      by true e g one = rw e (takes-cond purposes message now before (g || has_code allocation_mismatch message) s _ _ gone (same s))
       by false e false one = rw e (same s)
       by false e true one = rw e (longer (one refl) (eqb-positive lifetime e) (lifetime_in message) refl)
 

@@ -7,26 +7,26 @@ use Rattle.turn_client_api.proofs.HasLemmas.{Has, has-append, has-filter, filter
 use Rattle.turn_client_api.proofs.StandLemmas.{Covers, Left, covers-has, kept-same, kept-stood, kept-trans}
 
 -- the message gives the grant for one of these purposes
-pub record IsGivenOf (purposes : List Purpose) (message : List ℕ) (now : ℕ) (g : Grant) : Type 0 where
+pub record IsGivenOf (purposes : List Purpose) (message : List ℕ) (now : ℕ) (before : State) (g : Grant) : Type 0 where
   pub purpose : Purpose
   pub one : Has purpose purposes
-  pub given : IsGivenFor purpose message now g
+  pub given : IsGivenFor purpose message now before g
 
 -- it gives what is kept as this grant
-abbrev pub IsGiven : List Purpose → List ℕ → ℕ → Grant → Type 0
-IsGiven purposes message now g = (was : Grant) × IsGivenOf purposes message now was × IsKeptAs was g
+abbrev pub IsGiven : List Purpose → List ℕ → ℕ → State → Grant → Type 0
+IsGiven purposes message now before g = (was : Grant) × IsGivenOf purposes message now before was × IsKeptAs was g
 
 -- All that stands in the second list stood in the first, with the same end, or was given.
-abbrev pub Gives : List Purpose → List ℕ → ℕ → List Grant → List Grant → Type 0
-Gives purposes message now grants later = (g : Grant) → Has g later → IsStanding g → Covers grants g ⊎ IsGiven purposes message now g
+abbrev pub Gives : List Purpose → List ℕ → ℕ → State → List Grant → List Grant → Type 0
+Gives purposes message now before grants later = (g : Grant) → Has g later → IsStanding g → Covers grants g ⊎ IsGiven purposes message now before g
 
 -- these requests were listed
 abbrev pub Within : List Listing → List Listing → Type 0
 Within listed later = (l : Listing) → Has l later → Has l listed
 
 -- what a success leaves of a state: nothing is listed anew, and nothing stands but what stood or was given
-abbrev pub Takes : List Purpose → List ℕ → ℕ → State → State → Type 0
-Takes purposes message now s t = Within s.listed t.listed × Gives purposes message now s.grants t.grants
+abbrev pub Takes : List Purpose → List ℕ → ℕ → State → State → State → Type 0
+Takes purposes message now before s t = Within s.listed t.listed × Gives purposes message now before s.grants t.grants
 
 pub within-same : (listed : List Listing) → Within listed listed
 within-same listed l there = there
@@ -42,61 +42,61 @@ has-mapped {X = X} f y (x ∷ xs) (inr h) = by (has-mapped f y xs h)
     by : (z : X) × Has z xs × (y ≡ f z) → (z : X) × Has z (x ∷ xs) × (y ≡ f z)
     by (z, there, e) = (z, inr there, e)
 
-module _ (purposes : List Purpose) (message : List ℕ) (now : ℕ) where
-  given-kept : (g h : Grant) → IsKeptAs g h → IsGiven purposes message now g → IsGiven purposes message now h
+module _ (purposes : List Purpose) (message : List ℕ) (now : ℕ) (before : State) where
+  given-kept : (g h : Grant) → IsKeptAs g h → IsGiven purposes message now before g → IsGiven purposes message now before h
   given-kept g h kept (was, given, k) = (was, given, kept-trans was g h k kept)
 
   -- what was given stands
-  pub gives-covers : (grants later : List Grant) (g : Grant) → Gives purposes message now grants later → Covers later g → Covers grants g ⊎ IsGiven purposes message now g
+  pub gives-covers : (grants later : List Grant) (g : Grant) → Gives purposes message now before grants later → Covers later g → Covers grants g ⊎ IsGiven purposes message now before g
   gives-covers grants later g gives (is, there, kept) = by (gives is there (kept-stood is g kept))
     where
-      by : Covers grants is ⊎ IsGiven purposes message now is → Covers grants g ⊎ IsGiven purposes message now g
-      by (inl (was, before, k)) = inl (was, before, kept-trans was is g k kept)
+      by : Covers grants is ⊎ IsGiven purposes message now before is → Covers grants g ⊎ IsGiven purposes message now before g
+      by (inl (was, earlier, k)) = inl (was, earlier, kept-trans was is g k kept)
       by (inr given) = inr (given-kept is g kept given)
 
-  pub gives-left : (grants later : List Grant) → Left grants later → Gives purposes message now grants later
+  pub gives-left : (grants later : List Grant) → Left grants later → Gives purposes message now before grants later
   gives-left grants later left g there stands = inl (left g there stands)
 
-  pub gives-trans : (a b c : List Grant) → Gives purposes message now a b → Gives purposes message now b c → Gives purposes message now a c
+  pub gives-trans : (a b c : List Grant) → Gives purposes message now before a b → Gives purposes message now before b c → Gives purposes message now before a c
   gives-trans a b c first second g there stands = by (second g there stands)
     where
-      by : Covers b g ⊎ IsGiven purposes message now g → Covers a g ⊎ IsGiven purposes message now g
+      by : Covers b g ⊎ IsGiven purposes message now before g → Covers a g ⊎ IsGiven purposes message now before g
       by (inl covers) = gives-covers a b g first covers
       by (inr given) = inr given
 
-  pub gives-append : (grants more : List Grant) → ((g : Grant) → Has g more → IsStanding g → IsGivenOf purposes message now g) → Gives purposes message now grants (grants ++ more)
+  pub gives-append : (grants more : List Grant) → ((g : Grant) → Has g more → IsStanding g → IsGivenOf purposes message now before g) → Gives purposes message now before grants (grants ++ more)
   gives-append grants more gives g there stands = by (has-append g grants more there)
     where
-      by : Has g grants ⊎ Has g more → Covers grants g ⊎ IsGiven purposes message now g
+      by : Has g grants ⊎ Has g more → Covers grants g ⊎ IsGiven purposes message now before g
       by (inl here) = inl (covers-has grants g here stands)
       by (inr behind) = inr (g, gives g behind stands, kept-same g stands)
 
-  pub gives-one : (grants : List Grant) (one : Grant) → (IsStanding one → IsGivenOf purposes message now one) → Gives purposes message now grants (grants ++ one ∷ [])
+  pub gives-one : (grants : List Grant) (one : Grant) → (IsStanding one → IsGivenOf purposes message now before one) → Gives purposes message now before grants (grants ++ one ∷ [])
   gives-one grants one gives = gives-append grants (one ∷ []) by
     where
-      by : (g : Grant) → Has g (one ∷ []) → IsStanding g → IsGivenOf purposes message now g
+      by : (g : Grant) → Has g (one ∷ []) → IsStanding g → IsGivenOf purposes message now before g
       by g (inl e) stands = rw e (gives (rw (sym e) stands))
       by g (inr h) stands = absurd h
 
   -- where the second stands, it is the first, or was given
   abbrev Is : Grant → Grant → Type 0
-  Is was is = IsStanding is → IsKeptAs was is ⊎ IsGivenOf purposes message now is
+  Is was is = IsStanding is → IsKeptAs was is ⊎ IsGivenOf purposes message now before is
 
-  pub gives-map : (f : Grant → Grant) → ((g : Grant) → Is g (f g)) → (grants : List Grant) → Gives purposes message now grants (map f grants)
+  pub gives-map : (f : Grant → Grant) → ((g : Grant) → Is g (f g)) → (grants : List Grant) → Gives purposes message now before grants (map f grants)
   gives-map f keeps grants g there stands = by (has-mapped f g grants there)
     where
-      by : (x : Grant) × Has x grants × (g ≡ f x) → Covers grants g ⊎ IsGiven purposes message now g
-      by (x, before, e) = at (keeps x (rw (sym e) stands))
+      by : (x : Grant) × Has x grants × (g ≡ f x) → Covers grants g ⊎ IsGiven purposes message now before g
+      by (x, earlier, e) = at (keeps x (rw (sym e) stands))
         where
-          at : IsKeptAs x (f x) ⊎ IsGivenOf purposes message now (f x) → Covers grants g ⊎ IsGiven purposes message now g
-          at (inl kept) = inl (x, before, rw e kept)
+          at : IsKeptAs x (f x) ⊎ IsGivenOf purposes message now before (f x) → Covers grants g ⊎ IsGiven purposes message now before g
+          at (inl kept) = inl (x, earlier, rw e kept)
           at (inr given) = inr (f x, given, rw e (kept-same (f x) (rw (sym e) stands)))
 
   -- ---- states
 
   -- the success leaves it so
   abbrev Taken : State → State → Type 0
-  Taken s t = Takes purposes message now s t
+  Taken s t = Takes purposes message now before s t
 
   pub takes-same : (s : State) → Taken s s
   takes-same s = (within-same s.listed, gives-left s.grants s.grants (covers-has s.grants))

@@ -1,5 +1,5 @@
 -- What a message leaves standing: a signed success alone gives more.
-use Rattle.std.proofs.Common.{◌≡◌, ℕ, Bool, true, false, not, cond, ◌&&◌, eqb, ltb, leb, List, [], ◌∷◌, map, filter, length, Option, Some, None, ◌⊎◌, inl, inr, refl}
+use Rattle.std.proofs.Common.{◌≡◌, ℕ, Bool, true, false, not, cond, ◌&&◌, ◌||◌, eqb, ltb, leb, List, [], ◌∷◌, map, filter, length, Option, Some, None, ◌⊎◌, inl, inr, refl}
 use Rattle.std.specs.Prelude.{is_some, IfSome}
 use Rattle.std.specs.List.{list_any}
 use Rattle.std.specs.Option.{option_map_or}
@@ -23,7 +23,7 @@ use Rattle.turn_client_api.specs.Effect.{allocate_granted, effect, ended, family
 use Rattle.turn_client_api.specs.Retry.{most_challenges, retried}
 use Rattle.turn_client_api.specs.Connections.{attempt_indicated, attempt_requested, is_connected, is_heeded}
 use Rattle.turn_client_api.specs.Payloads.{Outcome, Handled, Ignored, answered_purposes, challenge_step, is_answered, message_step, response_step, signed_step, wrong_step}
-use Rattle.turn_client_api.specs.LawsGranted.{IsGrant, IsStanding}
+use Rattle.turn_client_api.specs.LawsGranted.{IsGivenFor, IsGrant, IsStanding}
 use Rattle.turn_client_api.proofs.HasLemmas.{Has, has-filter}
 use Rattle.turn_client_api.proofs.StandLemmas.{Covers, Leaves, Left, covers-left, has-contains, leaves-cond, leaves-same, left-one, left-same}
 use Rattle.turn_client_api.proofs.GivenLemmas.{Gives, IsGiven, IsGivenOf, Takes, gives-append, gives-covers, gives-left, has-mapped, purposes-within, takes-fold}
@@ -37,17 +37,17 @@ pub record IsSignedSuccess (message : List ℕ) (s : State) : Type 0 where
   pub signed : IsValidated (validation_of (auth_of s) message)
   pub outstanding : is_outstanding (id_of message) s.transactions ≡ true
 
-by_class-granted : (class : MessageClass) → by_class class ≡ SignedSuccess → class ≡ Success
+pub by_class-granted : (class : MessageClass) → by_class class ≡ SignedSuccess → class ≡ Success
 by_class-granted Request e = cc
 by_class-granted Indication e = cc
 by_class-granted Success e = refl
 by_class-granted Error e = cc
 
-challenged_or-granted : (j : Judgement) (o : Option Challenge) → challenged_or j o ≡ SignedSuccess → j ≡ SignedSuccess
+pub challenged_or-granted : (j : Judgement) (o : Option Challenge) → challenged_or j o ≡ SignedSuccess → j ≡ SignedSuccess
 challenged_or-granted j None e = e
 challenged_or-granted j (Some challenge) e = cc
 
-cond-granted : (b : Bool) (j k : Judgement) → (k ≡ SignedSuccess → ⊥) → cond b j k ≡ SignedSuccess → (b ≡ true) × (j ≡ SignedSuccess)
+pub cond-granted : (b : Bool) (j k : Judgement) → (k ≡ SignedSuccess → ⊥) → cond b j k ≡ SignedSuccess → (b ≡ true) × (j ≡ SignedSuccess)
 cond-granted true j k not_k e = (refl, e)
 cond-granted false j k not_k e = absurd (not_k e)
 
@@ -65,7 +65,7 @@ stray-granted Error true e = cc
 stray-granted Error false e = cc
 
 -- how the validation turned out
-validated : (v w : Validation) → v ≡ w → IsValidated w → IsValidated v
+pub validated : (v w : Validation) → v ≡ w → IsValidated w → IsValidated v
 validated v w e is = rw e is
 
 authenticating-granted : (s : State) (message : List ℕ) → authenticating_judgement s message ≡ SignedSuccess → (answers_allocate s message ≡ true) × IsSignedSuccess message s
@@ -138,7 +138,7 @@ for-allocation (ForBind local peer id ∷ purposes) e = inr (for-allocation purp
 abbrev pub asked_for : List ℕ → State → List Purpose
 asked_for message s = purposes_of (id_of message) s
 
-&&-second : (a b : Bool) → (a && b) ≡ true → b ≡ true
+pub &&-second : (a b : Bool) → (a && b) ≡ true → b ≡ true
 &&-second true b e = e
 &&-second false b e = cc
 
@@ -161,10 +161,10 @@ SignedSuccess-is s message = granted_in_phase s.phase s message
 
 -- ---- signed replies
 
-takes-left : (message : List ℕ) (now : ℕ) (grants later : List Grant) → Gives [] message now grants later → Left grants later
-takes-left message now grants later gives g there stands = by (gives g there stands)
+takes-left : (message : List ℕ) (now : ℕ) (before : State) (grants later : List Grant) → Gives [] message now before grants later → Left grants later
+takes-left message now before grants later gives g there stands = by (gives g there stands)
   where
-    by : Covers grants g ⊎ IsGiven [] message now g → Covers grants g
+    by : Covers grants g ⊎ IsGiven [] message now before g → Covers grants g
     by (inl covers) = covers
     by (inr (was, given, kept)) = absurd given.one
 
@@ -172,11 +172,11 @@ takes-left message now grants later gives g there stands = by (gives g there sta
 abbrev AllAsked : List Purpose → Bool → List ℕ → State → Type 0
 AllAsked purposes is_granted message s = is_granted ≡ true → (p : Purpose) → Has p (asked_for message s) → Has p purposes
 
-reply-takes : (purposes : List Purpose) (is_granted : Bool) (message : List ℕ) (now : ℕ) (s : State) → AllAsked purposes is_granted message s → Takes purposes message now s (response_step is_granted message now s).1
-reply-takes purposes is_granted message now s all =
-    takes-fold purposes message now (effect (id_of message) is_granted message now) s (answered_purposes message s)
+reply-takes : (purposes : List Purpose) (is_granted : Bool) (message : List ℕ) (now : ℕ) (before s : State) → AllAsked purposes is_granted message s → Takes purposes message now before s (response_step is_granted message now s).1
+reply-takes purposes is_granted message now before s all =
+    takes-fold purposes message now before (effect (id_of message) is_granted message now) s (answered_purposes message s)
     (λ t p within there.
-    effect-takes purposes message now (id_of message) is_granted t p
+    effect-takes purposes message now before (id_of message) is_granted t p
     (λ granted. all granted p (has-filter (is_answered (method_in message)) p (asked_for message s) there).0)
     (λ granted q still. all granted q (purposes-within (id_of message) s t within q still)))
     (answered_purposes message s) (λ p there. there) (ended (id_of message) s) (λ l there. there)
@@ -197,28 +197,66 @@ taken-relayed families (b ∷ later) a there = by (list_any (λ family. is_of_fa
     by true less same (inr there) = inr (less there)
     by false less same there = inr (same there)
 
-allocate-gives : (message : List ℕ) (now : ℕ) (s : State) (purposes : List Purpose) → Has ForAllocation purposes → Gives purposes message now s.grants (allocate_granted message now s).grants
-allocate-gives message now s purposes one = by (lifetime_in message) refl
+any-filter : {X : Type 0} (p q : X → Bool) (xs : List X) → list_any p (filter q xs) ≡ true → list_any p xs ≡ true
+any-filter p q [] h = h
+any-filter p q (x ∷ xs) h = by (q x) (any-filter p q xs) h
   where
-    by : (o : Option ℕ) → lifetime_in message ≡ o → Gives purposes message now s.grants (allocate_granted message now s).grants
-    by None e = rw e (gives-left purposes message now s.grants s.grants (left-same s.grants))
-    by (Some n) e = rw e (gives-append purposes message now s.grants (map (new_allocation n now) (taken_addresses s.families (relayed_in message))) new)
+    by : (b : Bool) → (list_any p (filter q xs) ≡ true → list_any p xs ≡ true) → list_any p (cond b (x ∷ filter q xs) (filter q xs)) ≡ true → list_any p (x ∷ xs) ≡ true
+    by true later e = at (p x) later e
       where
-        new : (g : Grant) → Has g (map (new_allocation n now) (taken_addresses s.families (relayed_in message))) → IsStanding g → IsGivenOf purposes message now g
-        new g there stands = at (has-mapped (new_allocation n now) g (taken_addresses s.families (relayed_in message)) there)
-          where
-            at : (a : SocketAddr) × Has a (taken_addresses s.families (relayed_in message)) × (g ≡ new_allocation n now a) → IsGivenOf purposes message now g
-            at (a, taken, is) = rw is (record { purpose = ForAllocation; one = one; given = (n, e, refl, has-contains a (relayed_in message) (taken-relayed s.families (relayed_in message) a taken)) })
+        at : (c : Bool) → (list_any p (filter q xs) ≡ true → list_any p xs ≡ true) → (c || list_any p (filter q xs)) ≡ true → (c || list_any p xs) ≡ true
+        at true later e = refl
+        at false later e = later e
+    by false later e = at (p x)
+      where
+        at : (c : Bool) → (c || list_any p xs) ≡ true
+        at true = refl
+        at false = later e
 
-granted-gives : (p : Phase) (message : List ℕ) (now : ℕ) (s : State) → IsForAllocation p message s → Gives (asked_for message s) message now s.grants (signed_step true message now (record s { phase = p })).1.grants
-granted-gives Authenticating message now s one = allocate-gives message now (ended (id_of message) (record s { phase = Authenticating })) (asked_for message s) (one refl)
-granted-gives New message now s one = (reply-takes (asked_for message s) true message now (record s { phase = New }) (λ e p there. there)).1
-granted-gives Requesting message now s one = (reply-takes (asked_for message s) true message now (record s { phase = Requesting }) (λ e p there. there)).1
-granted-gives Allocated message now s one = (reply-takes (asked_for message s) true message now (record s { phase = Allocated }) (λ e p there. there)).1
-granted-gives Closed message now s one = (reply-takes (asked_for message s) true message now (record s { phase = Closed }) (λ e p there. there)).1
+-- it is of a family that is asked for
+taken-family : (families : List AddressFamily) (addresses : List SocketAddr) (a : SocketAddr) → Has a (taken_addresses families addresses) → list_any (λ family. is_of_family family a) families ≡ true
+taken-family families [] a there = absurd there
+taken-family families (b ∷ later) a there = by (list_any (λ family. is_of_family family b) families) refl (taken-family others later a) (taken-family families later a) there
+  where
+    others : List AddressFamily
+    others = filter (λ family. not (is_of_family family b)) families
+
+    Asked : List AddressFamily → Type 0
+    Asked left = Has a (taken_addresses left later) → list_any (λ family. is_of_family family a) left ≡ true
+
+    by : (c : Bool) → list_any (λ family. is_of_family family b) families ≡ c → Asked others → Asked families → Has a (cond c (b ∷ taken_addresses others later) (taken_addresses families later)) → list_any (λ family. is_of_family family a) families ≡ true
+    by true e less same (inl is) = rw is e
+    by true e less same (inr there) = any-filter (λ family. is_of_family family a) (λ family. not (is_of_family family b)) families (less there)
+    by false e less same there = same there
+
+allocate-gives : (message : List ℕ) (now : ℕ) (before s : State) (purposes : List Purpose) → before.families ≡ s.families → Has ForAllocation purposes → Gives purposes message now before s.grants (allocate_granted message now s).grants
+allocate-gives message now before s purposes same one = by (lifetime_in message) refl
+  where
+    taken : List SocketAddr
+    taken = taken_addresses s.families (relayed_in message)
+
+    by : (o : Option ℕ) → lifetime_in message ≡ o → Gives purposes message now before s.grants (allocate_granted message now s).grants
+    by None e = rw e (gives-left purposes message now before s.grants s.grants (left-same s.grants))
+    by (Some n) e = rw e (gives-append purposes message now before s.grants (map (new_allocation n now) taken) new)
+      where
+        new : (g : Grant) → Has g (map (new_allocation n now) taken) → IsStanding g → IsGivenOf purposes message now before g
+        new g there stands = at (has-mapped (new_allocation n now) g taken there)
+          where
+            given : (a : SocketAddr) → Has a taken → IsGivenFor ForAllocation message now before (new_allocation n now a)
+            given a among = (n, e, refl, has-contains a (relayed_in message) (taken-relayed s.families (relayed_in message) a among), rw same (taken-family s.families (relayed_in message) a among))
+
+            at : (a : SocketAddr) × Has a taken × (g ≡ new_allocation n now a) → IsGivenOf purposes message now before g
+            at (a, among, is) = rw is (record { purpose = ForAllocation; one = one; given = given a among })
+
+granted-gives : (p : Phase) (message : List ℕ) (now : ℕ) (s : State) → IsForAllocation p message s → Gives (asked_for message s) message now (record s { phase = p }) s.grants (signed_step true message now (record s { phase = p })).1.grants
+granted-gives Authenticating message now s one = allocate-gives message now (record s { phase = Authenticating }) (ended (id_of message) (record s { phase = Authenticating })) (asked_for message s) refl (one refl)
+granted-gives New message now s one = (reply-takes (asked_for message s) true message now (record s { phase = New }) (record s { phase = New }) (λ e p there. there)).1
+granted-gives Requesting message now s one = (reply-takes (asked_for message s) true message now (record s { phase = Requesting }) (record s { phase = Requesting }) (λ e p there. there)).1
+granted-gives Allocated message now s one = (reply-takes (asked_for message s) true message now (record s { phase = Allocated }) (record s { phase = Allocated }) (λ e p there. there)).1
+granted-gives Closed message now s one = (reply-takes (asked_for message s) true message now (record s { phase = Closed }) (record s { phase = Closed }) (λ e p there. there)).1
 
 refused-leaves : (message : List ℕ) (now : ℕ) (s : State) → Leaves s (response_step false message now s).1
-refused-leaves message now s = takes-left message now s.grants _ (reply-takes [] false message now s (λ e. cc)).1
+refused-leaves message now s = takes-left message now s s.grants _ (reply-takes [] false message now s s (λ e. cc)).1
 
 denied-leaves : (p : Phase) (message : List ℕ) (now : ℕ) (s : State) → Leaves s (signed_step false message now (record s { phase = p })).1
 denied-leaves Authenticating message now s = leaves-cond (has_code family_not_supported message && leb 2 (length s.families)) s _ _ (leaves-same s) (leaves-same s)
@@ -290,7 +328,7 @@ message-grants g message now s = by (judgement_of s message) refl
     asked true = requested-leaves message s
     asked false = leaves-same s
 
-    granted : judgement_of s message ≡ SignedSuccess → Covers s.grants g ⊎ IsGiven (asked_for message s) message now g → Covers s.grants g ⊎ ((SignedSuccess ≡ SignedSuccess) × IsGrant g message now s)
+    granted : judgement_of s message ≡ SignedSuccess → Covers s.grants g ⊎ IsGiven (asked_for message s) message now s g → Covers s.grants g ⊎ ((SignedSuccess ≡ SignedSuccess) × IsGrant g message now s)
     granted e (inl covers) = inl covers
     granted e (inr (was, given, kept)) =
         let is = (SignedSuccess-is s message e).0 in
@@ -316,7 +354,7 @@ message-grants g message now s = by (judgement_of s message) refl
     request : Outcome × State
     request = cond {A = Outcome × State} (eqb (method_in message) connection_attempt_method) (Handled, attempt_requested message s) (Ignored, s)
 
-    gives : judgement_of s message ≡ SignedSuccess → Gives (asked_for message s) message now s.grants (signed_step true message now s).1.grants
+    gives : judgement_of s message ≡ SignedSuccess → Gives (asked_for message s) message now s s.grants (signed_step true message now s).1.grants
     gives e = granted-gives s.phase message now s (SignedSuccess-is s message e).1
 
     by : (j : Judgement) → judgement_of s message ≡ j → Brings j
@@ -327,7 +365,7 @@ message-grants g message now s = by (judgement_of s message) refl
     by DataIndication e = rw e (left s (leaves-same s))
     by ConnectionAttempt e = rw e (left attempt.1 (indicated (attempt_indicated message s) (indicated-leaves message s)))
     by SignedRequest e = rw e (left request.1 (asked (eqb (method_in message) connection_attempt_method)))
-    by SignedSuccess e = rw e (λ covers. granted e (gives-covers (asked_for message s) message now s.grants (signed_step true message now s).1.grants g (gives e) covers))
+    by SignedSuccess e = rw e (λ covers. granted e (gives-covers (asked_for message s) message now s s.grants (signed_step true message now s).1.grants g (gives e) covers))
     by SignedError e = rw e (left (signed_step false message now s).1 (denied-leaves s.phase message now s))
 
 pub message-brings : (g : Grant) (message : List ℕ) (now : ℕ) (s : State) → Covers (message_step message now s).1.grants g → Covers s.grants g ⊎ IsGrant g message now s

@@ -1,5 +1,5 @@
 -- What all calls leave standing: a signed success alone grants more.
-use Rattle.std.proofs.Common.{◌≡◌, ℕ, Bool, true, false, not, cond, ◌&&◌, ◌||◌, List, [], ◌∷◌, filter, Option, Some, None, Result, Ok, Err, refl, subst, sym, inl, inr, ◌⊎◌}
+use Rattle.std.proofs.Common.{◌≡◌, ℕ, Bool, true, false, not, cond, ◌&&◌, ◌||◌, List, [], ◌∷◌, filter, Option, Some, None, Result, Ok, Err, refl, subst, sym, ap, ◌∙◌, inl, inr, ◌⊎◌}
 use Rattle.std.specs.Prelude.{is_some, find, reverse, flat_map, slice_get}
 use Rattle.std.specs.List.{Contains}
 use Rattle.turn_types.specs.declared.family.AddressFamily.{AddressFamily}
@@ -7,29 +7,34 @@ use Rattle.turn_agent.specs.Agent.{due, given_up}
 use Rattle.turn_agent.specs.declared.transaction.Transaction.{Transaction}
 use Rattle.turn_client_api.specs.State.{State, Phase, New, Requesting, Authenticating, Allocated, Closed, agent_of}
 use Rattle.std.specs.declared.net.socket_addr.SocketAddr.{SocketAddr}
-use Rattle.turn_client_api.specs.State.{Grant, Allocation, Permission, Channel, Connect, Offer, Connection, Relay, Purpose, Pending, Active, Reserved, Stream, later_by}
+use Rattle.turn_client_api.specs.State.{Grant, Allocation, Permission, Channel, Connect, Offer, Connection, DataConnection, Relay, Purpose, ForAllocation, ForRefresh, ForPermission, ForChannel, ForConnect, ForBind, Waiting, Pending, Active, Reserved, Stream, later_by}
 use Rattle.turn_client_api.specs.Grants.{changed_allocation, allocations, family_of, is_channel_of, is_connect, is_of, is_pending_channel, is_pending_permission, without}
 use Rattle.turn_client_api.specs.Effect.{closed, ended, reserved_time}
 use Rattle.turn_client_api.specs.declared.error.DeleteError.{DeleteError}
 use Rattle.turn_client_api.specs.declared.error.DeleteError.TheVariants as No
-use Rattle.turn_client_api.specs.Connections.{bind_step}
+use Rattle.turn_client_api.specs.Connections.{bind_step, deadline_set}
+use Rattle.turn_agent.specs.Agent.{same_address}
 use Rattle.turn_client_api.specs.Receive.{connection_gone}
 use Rattle.turn_client_api.specs.Due.{has_event, has_reply, is_paused}
 use Rattle.turn_client_api.specs.Calls.{deleted, is_allocated, is_granted_in}
 use Rattle.turn_client_api.specs.Poll.{answer_step, channel_lapsed, connections_unbound, given_up_step, given_up_purposes, goes, in_vain, is_lapsed_channel, is_listed_for_allocation, lapsed, lapsed_allocation, lapsed_in, last_channel_lapsed, next_offer, offer_step, offers_in_vain, permissions_lapsed, poll_step, refreshes_in_vain, set_free, timed_step, told, told_first, untold_in}
 use Rattle.turn_client_api.specs.Transmit.{idle_step, queue_step, refreshes_in, transmit_step}
 use Rattle.turn_client_api.specs.Transmit as T
-use Rattle.turn_client_api.specs.LawsTurns.{IsBroughtBy}
-use Rattle.turn_client_api.specs.LawsGranted.{IsEndedNow, IsGrant, IsKeptAs, IsStanding, Stood}
+use Rattle.turn_client_api.specs.Handled.{Turn}
+use Rattle.turn_client_api.specs.Payloads.{is_message, message_step}
+use Rattle.turn_client_api.specs.LawsHandled.{IsDoneBy, IsOverControl, MayLeave, TakesTurns}
+use Rattle.turn_client_api.specs.LawsBound.{IsBindTurn}
+use Rattle.turn_client_api.specs.LawsGranted.{HasCause, IsEndedNow, IsGivenFor, IsGrant, IsGrantTurn, IsGrantedBy, IsGrantedIn, IsKeptAs, IsStanding, Stood}
 use Rattle.turn_client_api.specs.Steps.{Call, state_after, Delete, CreatePermission, BindChannel, TcpConnect, AllocatedTcpSocket, TcpClosed, SendTo, Recv, PollRecv, Poll, PollTransmit, PollEvent, RelayedAddresses, Permissions, HavePermission, ProtocolError}
 use Rattle.turn_client_api.specs.Steps as S
 use Rattle.turn_client_api.proofs.HasLemmas.{Has, has-filter}
-use Rattle.turn_client_api.proofs.StandLemmas.{Covers, Leaves, Left, contains-has, covers-has, covers-left, covers-stood, has-contains, kept-same, leaves-cond, leaves-fold, leaves-same, leaves-trans, left-cons, left-filter, left-one, left-same, left-trans}
+use Rattle.turn_client_api.proofs.StandLemmas.{Covers, Leaves, Left, contains-has, covers-has, covers-left, covers-stood, has-contains, kept-same, kept-stood, kept-trans, leaves-cond, leaves-fold, leaves-same, leaves-trans, left-cons, left-filter, left-one, left-same, left-trans}
 use Rattle.turn_client_api.proofs.GivenLemmas.{has-mapped}
 use Rattle.turn_client_api.proofs.GivenMessageLemmas.{message-brings}
-use Rattle.turn_client_api.proofs.GivenCallLemmas.{bind-leaves, bind_channel-leaves, connect-leaves, either, error-leaves, found, gone-leaves, permission-leaves, send-leaves, tcp_closed-leaves, tcp_socket-leaves, without-leaves}
-use Rattle.turn_client_api.proofs.MemoryLemmas.{memory-brings}
-use Rattle.turn_client_api.proofs.TurnLemmas.{IsBringing, poll_recv-brings, recv-brings}
+use Rattle.turn_client_api.proofs.GivenCallLemmas.{Binds, BindsOrLeaves, bind-leaves, bind_channel-leaves, connect-leaves, either, error-leaves, found, gone-leaves, permission-leaves, send-leaves, tcp_closed-leaves, tcp_socket-leaves, without-leaves}
+use Rattle.turn_client_api.proofs.AddressLemmas.{same_address-true}
+use Rattle.turn_client_api.proofs.BoundLemmas.{binds-turn, found-local}
+use Rattle.turn_client_api.proofs.TurnBringLemmas.{IsBrought, may-bring}
 
 -- ---- as time passes
 
@@ -163,7 +168,7 @@ delete-ends now s g = by (is_allocated s.phase)
     at (Channel number peer progress) there stands = inl (covers-stood s (Channel number peer progress) (covers-has s.grants (Channel number peer progress) there stands))
     at (Connect peer) there stands = absurd stands
     at (Offer offer) there stands = absurd stands
-    at (Connection c) there stands = absurd stands
+    at (Connection c) there stands = inl (covers-stood s (Connection c) (covers-has s.grants (Connection c) there stands))
 
     by : (b : Bool) → Has g (cond {A = Result Unit DeleteError × State} b (Ok tt, deleted now s) (Err No.NoAllocation, s)).1.grants → IsStanding g → Stood s g ⊎ IsEndedNow (Delete now) s g
     by false there stands = inl (covers-stood s g (covers-has s.grants g there stands))
@@ -172,70 +177,151 @@ delete-ends now s g = by (is_allocated s.phase)
         from : (x : Grant) × Has x (filter (λ g. not (is_granted_in g)) s.grants) × (g ≡ all x) → Stood s g ⊎ IsEndedNow (Delete now) s g
         from (x, before, e) = rw e (at x (has-filter (λ g. not (is_granted_in g)) x s.grants before).0 (rw (sym e) stands))
 
--- what a message granted does not depend on the streams
-did-grant : (g : Grant) (message : List ℕ) (now : ℕ) (s : State) (streams : List Stream) → IsGrant g message now (record s { streams = streams }) → IsGrant g message now s
-did-grant g message now s streams (was, by, kept) = (
-  was,
-  record {
-    success = by.success;
-    signed = by.signed;
-    outstanding = by.outstanding;
-    purpose = by.purpose;
-    listed = by.listed;
-    given = by.given;
-  },
-  kept,
-)
+-- ---- what the turns of a call grant
 
--- of each grant: it stood, or a message granted it
-bringing : (g : Grant) → IsBringing (λ s. Covers s.grants g) (IsGrant g)
+-- an allocation, a permission or a channel is granted over the control connection
+control-grants : (g : Grant) (one : Turn) → IsOverControl one → is_message one.bytes ≡ true → Covers (message_step one.bytes one.moment one.before).1.grants g → Covers one.before.grants g ⊎ IsGrantedIn g one
+control-grants g one over whole covers = by g (message-brings g one.bytes one.moment one.before covers)
+  where
+    Grants : Grant → Type 0
+    Grants g = IsGrant g one.bytes one.moment one.before
+
+    turn : (g : Grant) → Grants g → IsGrantTurn g one
+    turn g grant = record { over = over; whole = whole; grant = grant }
+
+    -- a connection is not
+    connection : (c : DataConnection) (was : Grant) → IsGrantedBy one.bytes one.moment one.before was → IsKeptAs was (Connection c) → ⊥
+    connection c (Connection d) is kept = unlike is.purpose is.given
+      where
+        unlike : (p : Purpose) → IsGivenFor p one.bytes one.moment one.before (Connection d) → ⊥
+        unlike ForAllocation given = given
+        unlike (ForRefresh family lifetime) given = given
+        unlike (ForPermission ip) given = given
+        unlike (ForChannel number peer) given = given
+        unlike (ForConnect peer) given = given
+        unlike (ForBind local peer number) given = given
+    connection c (Allocation a) is kept = kept
+    connection c (Permission ip Pending) is kept = kept
+    connection c (Permission ip (Active expiry)) is kept = kept
+    connection c (Permission ip (Reserved until)) is kept = kept
+    connection c (Channel number peer Pending) is kept = kept
+    connection c (Channel number peer (Active expiry)) is kept = kept
+    connection c (Channel number peer (Reserved until)) is kept = kept
+    connection c (Connect peer) is kept = kept
+    connection c (Offer offer) is kept = kept
+
+    by : (g : Grant) → Covers one.before.grants g ⊎ Grants g → Covers one.before.grants g ⊎ IsGrantedIn g one
+    by g (inl there) = inl there
+    by (Allocation a) (inr grant) = inr (turn (Allocation a) grant)
+    by (Permission ip progress) (inr grant) = inr (turn (Permission ip progress) grant)
+    by (Channel number peer progress) (inr grant) = inr (turn (Channel number peer progress) grant)
+    by (Connect peer) (inr grant) = inr (turn (Connect peer) grant)
+    by (Offer offer) (inr grant) = inr (turn (Offer offer) grant)
+    by (Connection c) (inr (was, is, kept)) = absurd (connection c was is kept)
+
+-- a grant that a map leaves was there, or is a connection at this local end
+deadline-has : (local : SocketAddr) (g x : Grant) → g ≡ deadline_set local None x → (g ≡ x) ⊎ ((c : DataConnection) × (g ≡ Connection c) × (c.local ≡ local))
+deadline-has local g (Connection c) e = by (same_address c.local local) refl
+  where
+    by : (b : Bool) → same_address c.local local ≡ b → (g ≡ Connection c) ⊎ ((d : DataConnection) × (g ≡ Connection d) × (d.local ≡ local))
+    by true f = inr (record c { deadline = None }, e ∙ rw f refl, same_address-true c.local local f)
+    by false f = inl (e ∙ rw f refl)
+deadline-has local g (Allocation a) e = inl e
+deadline-has local g (Permission ip progress) e = inl e
+deadline-has local g (Channel number peer progress) e = inl e
+deadline-has local g (Connect peer) e = inl e
+deadline-has local g (Offer offer) e = inl e
+
+bind-covers : (one : Turn) (stream : Stream) (g : Grant) (t : State) → one.stream ≡ Some stream → stream.mode ≡ Waiting → is_message one.bytes ≡ true → Binds stream.local one.bytes one.before t → Covers t.grants g → Covers one.before.grants g ⊎ IsGrantedIn g one
+bind-covers one stream g t of waits whole b (is, there, kept) = by (has-mapped (deadline_set b.c.local None) is one.before.grants (subst (Has is) b.grants there))
+  where
+    bound : (c : DataConnection) (h : Grant) → c.local ≡ b.c.local → IsKeptAs (Connection c) h → IsGrantedIn h one
+    bound c (Connection d) at (same, none) =
+        let ends : stream.local ≡ d.local = sym (found-local stream.local b.c _ b.found) ∙ (sym at ∙ ap (λ (x : DataConnection). x.local) same) in
+        (b.c.peer, subst (λ (local : SocketAddr). IsBindTurn local b.c.peer one) ends (binds-turn one stream t of waits whole b))
+    bound c (Allocation a) at k = absurd k
+    bound c (Permission ip progress) at k = absurd k
+    bound c (Channel number peer progress) at k = absurd k
+    bound c (Connect peer) at k = absurd k
+    bound c (Offer offer) at k = absurd k
+
+    by : (x : Grant) × Has x one.before.grants × (is ≡ deadline_set b.c.local None x) → Covers one.before.grants g ⊎ IsGrantedIn g one
+    by (x, before, e) = at (deadline-has b.c.local is x e)
+      where
+        at : (is ≡ x) ⊎ ((c : DataConnection) × (is ≡ Connection c) × (c.local ≡ b.c.local)) → Covers one.before.grants g ⊎ IsGrantedIn g one
+        at (inl same) = inl (is, rw same before, kept)
+        at (inr (c, connection, ends)) = inr (bound c g ends (rw connection at kept))
+
+-- of each grant: it stood, or a turn granted it
+bringing : (g : Grant) → IsBrought (λ s. Covers s.grants g) (IsGrantedIn g)
 bringing g = record {
-  streams = λ s streams covers. covers;
-  did = did-grant g;
-  message = λ message now s is. message-brings g message now s;
-  binds = λ local message now s is covers. inl (covers-left s.grants (bind_step local message now s).grants g (bind-leaves local message now s) covers);
+  differs = λ s t differs covers. subst (λ (x : List Grant). Covers x g) (ap (λ (x : State). x.grants) differs.others) covers;
+  message = control-grants g;
+  binds = λ one stream of waits whole. binds one stream of waits whole (bind-leaves stream.local one.bytes one.moment one.before);
   gone = λ local s. covers-left s.grants (connection_gone local s).grants g (gone-leaves local s);
+  ended = λ s covers. covers;
 }
+  where
+    binds : (one : Turn) (stream : Stream) → one.stream ≡ Some stream → stream.mode ≡ Waiting → is_message one.bytes ≡ true
+        → BindsOrLeaves stream.local one.bytes one.before (bind_step stream.local one.bytes one.moment one.before)
+        → Covers (bind_step stream.local one.bytes one.moment one.before).grants g → Covers one.before.grants g ⊎ IsGrantedIn g one
+    binds one stream of waits whole (inl b) covers = bind-covers one stream g _ of waits whole b covers
+    binds one stream of waits whole (inr (leaves, same)) covers = inl (covers-left one.before.grants _ g leaves covers)
 
-module _ (s : State) (g : Grant) (stands : IsStanding g) where
+module _ (s : State) (g : Grant) where
+  abbrev Before : Call → Type 0
+  Before call = Covers s.grants g ⊎ IsEndedNow call s g
+
   -- what grants nothing
-  left : (call : Call) (X : Type 0) → Leaves s (state_after call s) → Has g (state_after call s).grants → Stood s g ⊎ X
-  left call X leaves there = inl (covers-stood s g (leaves g there stands))
+  left : (call : Call) → Leaves s (state_after call s) → Covers (state_after call s).grants g → Before call
+  left call leaves covers = inl (covers-left s.grants (state_after call s).grants g leaves covers)
 
-  -- of what comes in
-  came : (E X : Type 0) → Covers s.grants g ⊎ X → Stood s g ⊎ E ⊎ X
-  came E X (inl covers) = inl (covers-stood s g covers)
-  came E X (inr did) = inr (inr did)
+  -- what is given back now was there
+  deleted-covers : (now : ℕ) → Covers (state_after (Delete now) s).grants g → Before (Delete now)
+  deleted-covers now (is, there, kept) = by (delete-ends now s is there (kept-stood is g kept))
+    where
+      ended : (h i : Grant) → IsEndedNow (Delete now) s h → IsKeptAs h i → IsEndedNow (Delete now) s i
+      ended (Allocation a) (Allocation b) (e, (was, before, same)) (f, d) = (sym d ∙ e, (was, before, same ∙ f))
+      ended (Allocation a) (Permission ip progress) e k = absurd k
+      ended (Allocation a) (Channel number peer progress) e k = absurd k
+      ended (Allocation a) (Connect peer) e k = absurd k
+      ended (Allocation a) (Offer offer) e k = absurd k
+      ended (Allocation a) (Connection c) e k = absurd k
+      ended (Permission ip progress) i e k = absurd e
+      ended (Channel number peer progress) i e k = absurd e
+      ended (Connect peer) i e k = absurd e
+      ended (Offer offer) i e k = absurd e
+      ended (Connection c) i e k = absurd e
 
-  deleted-or : (X : Type 0) (now : ℕ) → Stood s g ⊎ IsEndedNow (Delete now) s g → Stood s g ⊎ IsEndedNow (Delete now) s g ⊎ X
-  deleted-or X now (inl stood) = inl stood
-  deleted-or X now (inr is) = inr (inl is)
+      stood : Stood s is → Before (Delete now)
+      stood (was, before, k) = inl (was, contains-has was s.grants before, kept-trans was is g k kept)
 
-  has-grants : (call : Call) → Has g (state_after call s).grants → Stood s g ⊎ IsEndedNow call s g ⊎ IsBroughtBy (IsGrant g) call s
-  has-grants (Delete now) there = deleted-or _ now (delete-ends now s g there stands)
-  has-grants (CreatePermission transport peer now) there = left (CreatePermission transport peer now) _ (permission-leaves transport peer now s) there
-  has-grants (BindChannel transport peer now) there = left (BindChannel transport peer now) _ (bind_channel-leaves transport peer now s) there
-  has-grants (TcpConnect peer now) there = left (TcpConnect peer now) _ (connect-leaves peer now s) there
-  has-grants (AllocatedTcpSocket id tuple peer local now) there = left (AllocatedTcpSocket id tuple peer local now) _ (tcp_socket-leaves id tuple peer local now s) there
-  has-grants (TcpClosed local remote now) there = left (TcpClosed local remote now) _ (tcp_closed-leaves local remote s) there
-  has-grants (SendTo transport peer bytes now) there = left (SendTo transport peer bytes now) _ (send-leaves transport peer bytes now s) there
-  has-grants (Recv packet now) there =
-      came _ _ (recv-brings (λ s. Covers s.grants g) (IsGrant g) (bringing g) packet.transport packet.from packet.to packet.payload now s (covers-has _ g there stands))
-  has-grants (PollRecv now) there =
-      came _ _ (poll_recv-brings (λ s. Covers s.grants g) (IsGrant g) (bringing g) now s (covers-has _ g there stands))
-  has-grants (Poll now) there = left (Poll now) _ (poll-leaves now s) there
-  has-grants (PollTransmit now) there = left (PollTransmit now) _ (transmit-leaves now s) there
-  has-grants PollEvent there = left PollEvent _ (leaves-same s) there
-  has-grants RelayedAddresses there = left RelayedAddresses _ (leaves-same s) there
-  has-grants (Permissions transport relayed) there = left (Permissions transport relayed) _ (leaves-same s) there
-  has-grants (HavePermission transport to) there = left (HavePermission transport to) _ (leaves-same s) there
-  has-grants ProtocolError there = left ProtocolError _ (error-leaves s) there
+      by : Stood s is ⊎ IsEndedNow (Delete now) s is → Before (Delete now)
+      by (inl was) = stood was
+      by (inr e) = inr (ended is g e kept)
 
-  -- whether or not the call finds memory
-  has-left : (call : Call) (t : State) → S.Leaves call s t → Has g t.grants → Stood s g ⊎ IsEndedNow call s g ⊎ IsBroughtBy (IsGrant g) call s
-  has-left call t (inl e) there = has-grants call (subst (λ (x : State). Has g x.grants) e there)
-  has-left call t (inr end) there =
-      came _ _ (memory-brings (λ u. Covers u.grants g) (IsGrant g) (bringing g) (λ u covers. covers) call s t end (covers-has t.grants g there stands))
+  call-grants : (call : Call) → (TakesTurns call → ⊥) → Covers (state_after call s).grants g → Before call
+  call-grants (Delete now) other covers = deleted-covers now covers
+  call-grants (CreatePermission transport peer now) other covers = left (CreatePermission transport peer now) (permission-leaves transport peer now s) covers
+  call-grants (BindChannel transport peer now) other covers = left (BindChannel transport peer now) (bind_channel-leaves transport peer now s) covers
+  call-grants (TcpConnect peer now) other covers = left (TcpConnect peer now) (connect-leaves peer now s) covers
+  call-grants (AllocatedTcpSocket id tuple peer local now) other covers = left (AllocatedTcpSocket id tuple peer local now) (tcp_socket-leaves id tuple peer local now s) covers
+  call-grants (TcpClosed local remote now) other covers = left (TcpClosed local remote now) (tcp_closed-leaves local remote s) covers
+  call-grants (SendTo transport peer bytes now) other covers = left (SendTo transport peer bytes now) (send-leaves transport peer bytes now s) covers
+  call-grants (Recv packet now) other covers = absurd (other tt)
+  call-grants (PollRecv now) other covers = absurd (other tt)
+  call-grants (Poll now) other covers = left (Poll now) (poll-leaves now s) covers
+  call-grants (PollTransmit now) other covers = left (PollTransmit now) (transmit-leaves now s) covers
+  call-grants PollEvent other covers = left PollEvent (leaves-same s) covers
+  call-grants RelayedAddresses other covers = left RelayedAddresses (leaves-same s) covers
+  call-grants (Permissions transport relayed) other covers = left (Permissions transport relayed) (leaves-same s) covers
+  call-grants (HavePermission transport to) other covers = left (HavePermission transport to) (leaves-same s) covers
+  call-grants ProtocolError other covers = left ProtocolError (error-leaves s) covers
 
-pub leaves-grants : (call : Call) (s t : State) (g : Grant) → S.Leaves call s t → Contains t.grants g → IsStanding g → Stood s g ⊎ IsEndedNow call s g ⊎ IsBroughtBy (IsGrant g) call s
-leaves-grants call s t g leaves contains stands = has-left s g stands call t leaves (contains-has g t.grants contains)
+pub leaves-grants : (call : Call) (s t : State) (g : Grant) → MayLeave call s t → Contains t.grants g → IsStanding g → HasCause call s g
+leaves-grants call s t g leaves there stands =
+    by (may-bring (λ u. Covers u.grants g) (IsGrantedIn g) (bringing g) (λ call s. IsEndedNow call s g) (λ call s. call-grants s g call) call s t leaves (covers-has t.grants g (contains-has g t.grants there) stands))
+  where
+    by : Covers s.grants g ⊎ IsEndedNow call s g ⊎ IsDoneBy (IsGrantedIn g) call s → Stood s g ⊎ IsEndedNow call s g ⊎ IsDoneBy (IsGrantedIn g) call s
+    by (inl covers) = inl (covers-stood s g covers)
+    by (inr other) = inr other

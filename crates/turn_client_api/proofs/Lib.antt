@@ -1,5 +1,7 @@
 pub mod AddressLemmas
 pub mod AnyStreamsLemmas
+pub mod BoundLemmas
+pub mod BoundStreamLemmas
 pub mod CallDrawLemmas
 pub mod CallKeepLemmas
 mod ConfigLemmas
@@ -50,6 +52,7 @@ pub mod StreamShortLemmas
 pub mod StreamStepLemmas
 pub mod StreamWeightLemmas
 pub mod TimelyLemmas
+pub mod TurnBringLemmas
 pub mod TurnChainLemmas
 pub mod TurnEndLemmas
 pub mod TurnFrameLemmas

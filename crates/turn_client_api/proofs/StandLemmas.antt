@@ -3,7 +3,7 @@ use Rattle.std.proofs.Common.{◌≡◌, ℕ, zero, suc, Bool, true, false, cond
 use Rattle.std.specs.List.{Contains}
 use Rattle.std.specs.declared.net.ip_addr.IpAddr.{IpAddr}
 use Rattle.std.specs.declared.net.socket_addr.SocketAddr.{SocketAddr}
-use Rattle.turn_client_api.specs.State.{State, Grant, Allocation, Permission, Channel, Connect, Offer, Connection, Relay, Pending, Active, Reserved}
+use Rattle.turn_client_api.specs.State.{State, Grant, Allocation, Permission, Channel, Connect, Offer, Connection, DataConnection, Relay, Pending, Active, Reserved}
 use Rattle.turn_client_api.specs.LawsGranted.{IsStanding, IsKeptAs, Stood}
 use Rattle.turn_client_api.proofs.HasLemmas.{Has, has-append, has-filter}
 use Rattle.turn_client_api.proofs.PeerLemmas.{Contains-here, Contains-later}
@@ -33,7 +33,7 @@ kept-same (Channel number peer Pending) h = absurd h
 kept-same (Channel number peer (Reserved until)) h = absurd h
 kept-same (Connect peer) h = absurd h
 kept-same (Offer offer) h = absurd h
-kept-same (Connection c) h = absurd h
+kept-same (Connection c) h = (refl, h)
 
 -- what is kept stood
 pub kept-stood : (g h : Grant) → IsKeptAs g h → IsStanding g
@@ -46,7 +46,12 @@ kept-stood (Channel number peer Pending) h k = absurd k
 kept-stood (Channel number peer (Reserved until)) h k = absurd k
 kept-stood (Connect peer) h k = absurd k
 kept-stood (Offer offer) h k = absurd k
-kept-stood (Connection c) h k = absurd k
+kept-stood (Connection c) (Connection d) (e, none) = none
+kept-stood (Connection c) (Allocation a) k = absurd k
+kept-stood (Connection c) (Permission ip progress) k = absurd k
+kept-stood (Connection c) (Channel number peer progress) k = absurd k
+kept-stood (Connection c) (Connect peer) k = absurd k
+kept-stood (Connection c) (Offer offer) k = absurd k
 
 allocation-kept : (a b : Relay) (i : Grant) → IsKeptAs (Allocation a) (Allocation b) → IsKeptAs (Allocation b) i → IsKeptAs (Allocation a) i
 allocation-kept a b (Allocation c) (e, d) (f, l) = (e ∙ f, d ∙ l)
@@ -75,6 +80,14 @@ channel-kept a b p q m n (Permission ip progress) k l = absurd l
 channel-kept a b p q m n (Connect peer) k l = absurd l
 channel-kept a b p q m n (Offer offer) k l = absurd l
 channel-kept a b p q m n (Connection c) k l = absurd l
+
+connection-kept : (c d : DataConnection) (i : Grant) → IsKeptAs (Connection c) (Connection d) → IsKeptAs (Connection d) i → IsKeptAs (Connection c) i
+connection-kept c d (Connection f) (e, none) (g, later) = (e ∙ g, none)
+connection-kept c d (Allocation a) k l = absurd l
+connection-kept c d (Permission ip progress) k l = absurd l
+connection-kept c d (Channel number peer progress) k l = absurd l
+connection-kept c d (Connect peer) k l = absurd l
+connection-kept c d (Offer offer) k l = absurd l
 
 pub kept-trans : (g h i : Grant) → IsKeptAs g h → IsKeptAs h i → IsKeptAs g i
 kept-trans (Allocation a) (Allocation b) i k l = allocation-kept a b i k l
@@ -105,7 +118,12 @@ kept-trans (Channel a p Pending) h i k l = absurd k
 kept-trans (Channel a p (Reserved until)) h i k l = absurd k
 kept-trans (Connect peer) h i k l = absurd k
 kept-trans (Offer offer) h i k l = absurd k
-kept-trans (Connection c) h i k l = absurd k
+kept-trans (Connection c) (Connection d) i k l = connection-kept c d i k l
+kept-trans (Connection c) (Allocation a) i k l = absurd k
+kept-trans (Connection c) (Permission ip progress) i k l = absurd k
+kept-trans (Connection c) (Channel number peer progress) i k l = absurd k
+kept-trans (Connection c) (Connect peer) i k l = absurd k
+kept-trans (Connection c) (Offer offer) i k l = absurd k
 
 -- ---- lists
 

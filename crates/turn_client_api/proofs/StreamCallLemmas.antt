@@ -1,5 +1,5 @@
 -- Calls leave the streams apart: most leave them as they are.
-use Rattle.std.proofs.Common.{◌≡◌, ℕ, Bool, true, false, not, cond, leb, ◌&&◌, ◌||◌, List, [], ◌∷◌, Option, Some, None, Result, Err, refl, ◌∙◌}
+use Rattle.std.proofs.Common.{◌≡◌, ◌⊎◌, ℕ, Bool, true, false, not, cond, leb, ◌&&◌, ◌||◌, List, [], ◌∷◌, Option, Some, None, Result, Err, refl, sym, subst, ◌∙◌, inl, inr}
 use Rattle.std.specs.Prelude.{is_some, find, reverse, filter_map, flat_map, slice_get}
 use Rattle.std.specs.List.{list_any, IsDistinct}
 use Rattle.std.specs.Option.{option_map_or}
@@ -22,7 +22,7 @@ use Rattle.turn_client_api.specs.Connections.{is_connected, is_connecting}
 use Rattle.turn_client_api.specs.Calls.{bound_by, active_channel, allocated_tcp_socket_step, bind_channel_step, bound_to, channel_step, channels_to, connect_step}
 use Rattle.turn_client_api.specs.Calls.{create_permission_step, delete_step, free_number, has_permission, in_allocation, is_allocated, is_closed, is_control, is_in_progress}
 use Rattle.turn_client_api.specs.Calls.{is_local_taken, offer_origin, on_channel, on_connection, permission_step, protocol_error_step, reserved_from}
-use Rattle.turn_client_api.specs.Calls.{send_over, send_to_step, socket_opened, socket_refused, socket_step, tcp_connect_step}
+use Rattle.turn_client_api.specs.Calls.{send_over, send_to_step, socket_opened, socket_refused, socket_step, tcp_connect_step, with_stream}
 use Rattle.turn_client_api.specs.declared.poll.Socket5Tuple.{Socket5Tuple}
 use Rattle.turn_client_api.specs.declared.error.BindChannelError.TheVariants as Bind
 use Rattle.turn_client_api.specs.declared.error.TcpAllocateError.TheVariants as Socket
@@ -33,8 +33,9 @@ use Rattle.turn_client_api.specs.Transmit.{idle_step, queue_step, refreshes_in, 
 use Rattle.turn_client_api.specs.Transmit as T
 use Rattle.turn_client_api.specs.Steps.{Call, state_after, Delete, CreatePermission, BindChannel, TcpConnect, AllocatedTcpSocket, TcpClosed, SendTo, Recv, PollRecv, Poll, PollTransmit, PollEvent, RelayedAddresses, Permissions, HavePermission}
 use Rattle.turn_client_api.specs.Steps.{ProtocolError}
+use Rattle.turn_client_api.specs.LawsHandled.{TakesTurns}
 use Rattle.turn_client_api.specs.LawsStreams.{AreApart, IsEmptyIfBroken}
-use Rattle.turn_client_api.proofs.StreamApartLemmas.{new-apart}
+use Rattle.turn_client_api.proofs.StreamApartLemmas.{Apart, new-apart}
 use Rattle.turn_client_api.proofs.StreamMessageLemmas.{Same, same-cond, same-fold}
 use Rattle.turn_client_api.proofs.StreamStepLemmas.{StayApart, poll_recv-apart, recv-apart, same-apart, tcp_closed-same}
 
@@ -111,31 +112,39 @@ error-same s = same-cond (is_closed s.phase) s s _ refl refl
 
 -- ---- the caller opened a data connection
 
-opened-apart : (id : ℕ) (peer local : SocketAddr) (origin : Origin) (now : ℕ) (s : State) → StayApart s (socket_opened id peer local origin now s)
-opened-apart id peer local OwnConnect now s h = new-apart local s.streams h
-opened-apart id peer local ServerIndication now s h = new-apart local s.streams h
-opened-apart id peer local (ServerRequest request) now s h = new-apart local s.streams h
+-- the streams stay, or one more is there, which waits
+abbrev pub IsOpened : State → State → Type 0
+IsOpened s t = Same s t ⊎ ((local : SocketAddr) × (t.streams ≡ (with_stream local s).streams))
+
+opened-one : (id : ℕ) (peer local : SocketAddr) (origin : Origin) (now : ℕ) (s : State) → (socket_opened id peer local origin now s).streams ≡ (with_stream local s).streams
+opened-one id peer local OwnConnect now s = refl
+opened-one id peer local ServerIndication now s = refl
+opened-one id peer local (ServerRequest request) now s = refl
 
 refused-same : (id : ℕ) (peer : SocketAddr) (origin : Origin) (s : State) → Same s (socket_refused id peer origin s)
 refused-same id peer OwnConnect s = refl
 refused-same id peer ServerIndication s = refl
 refused-same id peer (ServerRequest request) s = refl
 
-either-apart : {A : Type 0} (b : Bool) (s : State) (x y : A × State) → StayApart s x.1 → StayApart s y.1 → StayApart s (cond b x y).1
-either-apart true s x y p q = p
-either-apart false s x y p q = q
+either-opened : {A : Type 0} (b : Bool) (s : State) (x y : A × State) → IsOpened s x.1 → IsOpened s y.1 → IsOpened s (cond b x y).1
+either-opened true s x y p q = p
+either-opened false s x y p q = q
 
-socket-apart : (id : ℕ) (peer : SocketAddr) (local : Option SocketAddr) (origin : Origin) (now : ℕ) (s : State) → StayApart s (socket_step id peer local origin now s).1
-socket-apart id peer None origin now s = same-apart s (socket_refused id peer origin s) (refused-same id peer origin s)
-socket-apart id peer (Some local) origin now s = either-apart (is_local_taken local s) s _ _ (λ h. h) (opened-apart id peer local origin now s)
+socket-opened : (id : ℕ) (peer : SocketAddr) (local : Option SocketAddr) (origin : Origin) (now : ℕ) (s : State) → IsOpened s (socket_step id peer local origin now s).1
+socket-opened id peer None origin now s = inl (refused-same id peer origin s)
+socket-opened id peer (Some local) origin now s = either-opened (is_local_taken local s) s _ _ (inl refl) (inr (local, opened-one id peer local origin now s))
 
-tcp_socket-apart : (id : ℕ) (tuple : Socket5Tuple) (peer : SocketAddr) (local : Option SocketAddr) (now : ℕ) (s : State) → StayApart s (allocated_tcp_socket_step id tuple peer local now s).1
-tcp_socket-apart id tuple peer local now s =
-    either-apart (same_transport s.config.allocation_transport Tcp && is_control tuple s && is_allocated s.phase) s _ _ (by (offer_origin id peer s)) (λ h. h)
+pub tcp_socket-opened : (id : ℕ) (tuple : Socket5Tuple) (peer : SocketAddr) (local : Option SocketAddr) (now : ℕ) (s : State) → IsOpened s (allocated_tcp_socket_step id tuple peer local now s).1
+tcp_socket-opened id tuple peer local now s =
+    either-opened (same_transport s.config.allocation_transport Tcp && is_control tuple s && is_allocated s.phase) s _ _ (by (offer_origin id peer s)) (inl refl)
   where
-    by : (o : Option Origin) → StayApart s (option_map_or (λ origin. socket_step id peer local origin now s) o (Err Socket.NoAllocation, s)).1
-    by None = λ h. h
-    by (Some origin) = socket-apart id peer local origin now s
+    by : (o : Option Origin) → IsOpened s (option_map_or (λ origin. socket_step id peer local origin now s) o (Err Socket.NoAllocation, s)).1
+    by None = inl refl
+    by (Some origin) = socket-opened id peer local origin now s
+
+opened-apart : (s t : State) → IsOpened s t → StayApart s t
+opened-apart s t (inl same) h = same-apart s t same h
+opened-apart s t (inr (local, is)) h = subst Apart (sym is) (new-apart local s.streams h)
 
 -- ---- as time passes
 
@@ -225,7 +234,7 @@ call-apart (Delete now) s = same-apart s (state_after (Delete now) s) (delete-sa
 call-apart (CreatePermission transport peer now) s = same-apart s (state_after (CreatePermission transport peer now) s) (permission-same transport peer now s)
 call-apart (BindChannel transport peer now) s = same-apart s (state_after (BindChannel transport peer now) s) (bind-same transport peer now s)
 call-apart (TcpConnect peer now) s = same-apart s (state_after (TcpConnect peer now) s) (connect-same peer now s)
-call-apart (AllocatedTcpSocket id tuple peer local now) s = tcp_socket-apart id tuple peer local now s
+call-apart (AllocatedTcpSocket id tuple peer local now) s = opened-apart s (state_after (AllocatedTcpSocket id tuple peer local now) s) (tcp_socket-opened id tuple peer local now s)
 call-apart (TcpClosed local remote now) s = same-apart s (state_after (TcpClosed local remote now) s) (tcp_closed-same local remote s)
 call-apart (SendTo transport peer bytes now) s = same-apart s (state_after (SendTo transport peer bytes now) s) (send-same transport peer bytes now s)
 call-apart (Recv packet now) s = recv-apart packet.transport packet.from packet.to packet.payload now s
@@ -237,3 +246,22 @@ call-apart RelayedAddresses s = same-apart s (state_after RelayedAddresses s) re
 call-apart (Permissions transport relayed) s = same-apart s (state_after (Permissions transport relayed) s) refl
 call-apart (HavePermission transport to) s = same-apart s (state_after (HavePermission transport to) s) refl
 call-apart ProtocolError s = same-apart s (state_after ProtocolError s) (error-same s)
+
+-- a call that takes no turns
+pub others-opened : (call : Call) (s : State) → (TakesTurns call → ⊥) → IsOpened s (state_after call s)
+others-opened (Delete now) s other = inl (delete-same now s)
+others-opened (CreatePermission transport peer now) s other = inl (permission-same transport peer now s)
+others-opened (BindChannel transport peer now) s other = inl (bind-same transport peer now s)
+others-opened (TcpConnect peer now) s other = inl (connect-same peer now s)
+others-opened (AllocatedTcpSocket id tuple peer local now) s other = tcp_socket-opened id tuple peer local now s
+others-opened (TcpClosed local remote now) s other = inl (tcp_closed-same local remote s)
+others-opened (SendTo transport peer bytes now) s other = inl (send-same transport peer bytes now s)
+others-opened (Recv packet now) s other = absurd (other tt)
+others-opened (PollRecv now) s other = absurd (other tt)
+others-opened (Poll now) s other = inl (poll-same now s)
+others-opened (PollTransmit now) s other = inl (transmit-same now s)
+others-opened PollEvent s other = inl refl
+others-opened RelayedAddresses s other = inl refl
+others-opened (Permissions transport relayed) s other = inl refl
+others-opened (HavePermission transport to) s other = inl refl
+others-opened ProtocolError s other = inl (error-same s)

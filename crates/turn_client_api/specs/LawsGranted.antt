@@ -1,23 +1,28 @@
 -- What is granted by a signed success of the server alone (RFC 8489, section 9.2.5; RFC 8656, sections 7.3
--- to 12.3).
-use Rattle.std.specs.Prelude.{◌≡◌, ◌≤◌, ℕ, true, List, Some, ⊤}
-use Rattle.std.specs.List.{Contains}
+-- to 12.3; RFC 6062, section 4.3).
+use Rattle.std.specs.Prelude.{◌≡◌, ◌⊎◌, ◌≤◌, ℕ, true, List, Some, None, ⊤}
+use Rattle.std.specs.List.{Contains, list_any}
 use Rattle.turn_stun.specs.Message.{id_of}
 use Rattle.turn_stun.specs.declared.message.header.MessageClass.TheVariants.{Success}
 use Rattle.turn_auth.specs.Validation.{IsValidated, validation_of}
 use Rattle.turn_agent.specs.Agent.{is_outstanding}
-use Rattle.turn_client_api.specs.State.{State, Grant, Allocation, Permission, Channel, Relay, Active, Purpose, ForAllocation, ForRefresh, ForPermission, ForChannel, auth_of, later_by, seconds}
+use Rattle.turn_client_api.specs.State.{State, Grant, Allocation, Permission, Channel, Connection, Relay, Active, Purpose, ForAllocation, ForRefresh, ForPermission, ForChannel, auth_of, later_by, seconds}
 use Rattle.turn_client_api.specs.Grants.{is_of_family, purposes_of, same_ip}
 use Rattle.turn_client_api.specs.Judgement.{class_in, lifetime_in}
+use Rattle.turn_client_api.specs.Payloads.{is_message}
+use Rattle.turn_client_api.specs.Handled.{Turn}
+use Rattle.turn_client_api.specs.LawsBound.{IsConnecting}
+use Rattle.turn_client_api.specs.LawsHandled.{IsDoneBy, IsOverControl}
 use Rattle.turn_client_api.specs.Effect.{channel_lifetime, least_lifetime, permission_lifetime, relayed_in}
 use Rattle.turn_client_api.specs.LawsTurns.{Deed}
 use Rattle.turn_client_api.specs.Steps.{Call, Delete}
 
--- what the server granted: an allocation, and an active permission or channel
+-- what the server granted: an allocation, an active permission or channel, and a connection that is bound
 abbrev pub IsStanding : Grant → Type 0
 IsStanding (Allocation a) = ⊤
 IsStanding (Permission ip (Active expiry)) = ⊤
 IsStanding (Channel number peer (Active expiry)) = ⊤
+IsStanding (Connection c) = c.deadline ≡ None
 IsStanding _ = ⊥
 
 -- the second is the first, granted, and ends at the same moment
@@ -25,25 +30,28 @@ abbrev pub IsKeptAs : Grant → Grant → Type 0
 IsKeptAs (Allocation was) (Allocation is) = (was.relayed ≡ is.relayed) × (was.expiry ≡ is.expiry)
 IsKeptAs (Permission ip (Active was)) (Permission other (Active is)) = (ip ≡ other) × (was ≡ is)
 IsKeptAs (Channel number peer (Active was)) (Channel other to (Active is)) = (number ≡ other) × (peer ≡ to) × (was ≡ is)
+IsKeptAs (Connection was) (Connection is) = (was ≡ is) × (was.deadline ≡ None)
 IsKeptAs _ _ = ⊥
 
 -- it stood already, with this end
 abbrev pub Stood : State → Grant → Type 0
 Stood s g = (was : Grant) × Contains s.grants was × IsKeptAs was g
 
--- what a success that comes now gives for a purpose of its request
-abbrev pub IsGivenFor : Purpose → List ℕ → ℕ → Grant → Type 0
-IsGivenFor ForAllocation message now (Allocation a) =
+-- what a success that comes now, in this state, gives for a purpose of its request: an allocation is of a
+-- family that is asked for
+abbrev pub IsGivenFor : Purpose → List ℕ → ℕ → State → Grant → Type 0
+IsGivenFor ForAllocation message now s (Allocation a) =
     (n : ℕ) × (lifetime_in message ≡ Some n) × (a.expiry ≡ later_by (seconds n) now)
     × Contains (relayed_in message) a.relayed
-IsGivenFor (ForRefresh family lifetime) message now (Allocation a) =
+    × (list_any (λ family. is_of_family family a.relayed) s.families ≡ true)
+IsGivenFor (ForRefresh family lifetime) message now s (Allocation a) =
     (1 ≤ lifetime) × (is_of_family family a.relayed ≡ true)
     × ((n : ℕ) × (lifetime_in message ≡ Some n) × (least_lifetime ≤ n) × (a.expiry ≡ later_by (seconds n) now))
-IsGivenFor (ForPermission ip) message now (Permission other (Active expiry)) =
+IsGivenFor (ForPermission ip) message now s (Permission other (Active expiry)) =
     (same_ip other ip ≡ true) × (expiry ≡ later_by permission_lifetime now)
-IsGivenFor (ForChannel number peer) message now (Channel other to (Active expiry)) =
+IsGivenFor (ForChannel number peer) message now s (Channel other to (Active expiry)) =
     (other ≡ number) × (expiry ≡ later_by channel_lifetime now)
-IsGivenFor _ message now _ = ⊥
+IsGivenFor _ message now s _ = ⊥
 
 -- The message is a success that is signed under the held realm and the client's credentials, it answers
 -- an outstanding request, and this request was made for a purpose that the grant is given for.
@@ -53,14 +61,29 @@ pub record IsGrantedBy (message : List ℕ) (now : ℕ) (s : State) (g : Grant) 
   pub outstanding : is_outstanding (id_of message) s.transactions ≡ true
   pub purpose : Purpose
   pub listed : Contains (purposes_of (id_of message) s) purpose
-  pub given : IsGivenFor purpose message now g
+  pub given : IsGivenFor purpose message now s g
 
 -- the message granted it, with this end
 abbrev pub IsGrant : Grant → Deed
 IsGrant g message now s = (was : Grant) × IsGrantedBy message now s was × IsKeptAs was g
+
+-- The turn is that of a whole message, a datagram or a frame of the control connection, which granted it.
+pub record IsGrantTurn (g : Grant) (one : Turn) : Type 0 where
+  pub over : IsOverControl one
+  pub whole : is_message one.bytes ≡ true
+  pub grant : IsGrant g one.bytes one.moment one.before
+
+-- a connection is bound over itself, and all else is granted over the control connection
+abbrev pub IsGrantedIn : Grant → Turn → Type 0
+IsGrantedIn (Connection c) one = IsConnecting c one
+IsGrantedIn g one = IsGrantTurn g one
 
 -- the caller gives the allocation back, which ends now
 abbrev pub IsEndedNow : Call → State → Grant → Type 0
 IsEndedNow (Delete now) s (Allocation a) =
     (a.expiry ≡ now) × ((was : Relay) × Contains s.grants (Allocation was) × (was.relayed ≡ a.relayed))
 IsEndedNow _ s _ = ⊥
+
+-- why the grant stands after the call: it stood before, it is given back now, or a turn granted it
+abbrev pub HasCause : Call → State → Grant → Type 0
+HasCause call s g = Stood s g ⊎ IsEndedNow call s g ⊎ IsDoneBy (IsGrantedIn g) call s

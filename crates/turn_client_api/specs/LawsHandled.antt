@@ -1,15 +1,29 @@
 -- What a call does is what the turns do that it takes (RFC 8656, section 12.5; RFC 6062, section 4.3).
-use Rattle.std.specs.Prelude.{◌≡◌, ◌⊎◌, ℕ, false, List, [], ◌∷◌, ◌++◌, Some, ⊤}
+use Rattle.std.specs.Prelude.{◌≡◌, ◌⊎◌, ℕ, false, List, [], ◌∷◌, ◌++◌, Option, Some, None, ⊤}
 use Rattle.std.specs.List.{Contains}
 use Rattle.std.specs.declared.net.socket_addr.SocketAddr.{SocketAddr}
-use Rattle.turn_client_api.specs.State.{State, Bound, Broken, Stream}
+use Rattle.turn_client_api.specs.State.{State, Control, Waiting, Bound, Broken, Stream}
 use Rattle.turn_client_api.specs.Answers.{takes_no_memory}
 use Rattle.turn_client_api.specs.Effect.{closed}
-use Rattle.turn_client_api.specs.Payloads.{Outcome, Handled}
+use Rattle.turn_client_api.specs.Payloads.{Outcome, Handled, message_step}
 use Rattle.turn_client_api.specs.Receive.{connection_gone}
-use Rattle.turn_client_api.specs.Streams.{broken_at, owned, with_bytes, without_stream}
+use Rattle.turn_client_api.specs.Streams.{broken_at, frame_step, owned, with_bytes, without_stream}
 use Rattle.turn_client_api.specs.Handled.{Turn, handled, made_of}
 use Rattle.turn_client_api.specs.Steps.{Call, Recv, PollRecv, EndsWithoutMemory, state_after}
+
+-- ---- what streams have to do with messages: nothing
+
+-- with these streams in place of its own the message does the same, and leaves them
+abbrev pub IgnoresStreams : List Stream → List ℕ → ℕ → State → Type 0
+IgnoresStreams streams message now s =
+    message_step message now (record s { streams = streams })
+    ≡ ((message_step message now s).0, record (message_step message now s).1 { streams = streams })
+
+-- with these bytes in the stream at this local end the frame does the same, and leaves them
+abbrev pub IgnoresBytes : SocketAddr → List ℕ → Stream → List ℕ → ℕ → State → Type 0
+IgnoresBytes local bytes stream frame now s =
+    frame_step stream frame now (with_bytes local bytes s)
+    ≡ ((frame_step stream frame now s).0, with_bytes local bytes (frame_step stream frame now s).1)
 
 -- ---- one turn of a stream
 
@@ -90,3 +104,21 @@ MayLeave call s t = (t ≡ state_after call s) ⊎ (AsksForMemory call s × Ends
 -- one of the turns that the call takes did it
 abbrev pub IsDoneBy : (Turn → Type 0) → Call → State → Type 0
 IsDoneBy Did call s = (one : Turn) × Contains (handled call s) one × Did one
+
+-- ---- over what it came
+
+-- it is a datagram, or a frame of the control connection
+abbrev pub IsOverControl : Turn → Type 0
+IsOverControl one = by one.stream
+  where
+    by : Option Stream → Type 0
+    by None = ⊤
+    by (Some stream) = stream.mode ≡ Control
+
+-- it is a frame of the connection from this local end, which waits to be bound
+abbrev pub IsOverWaiting : SocketAddr → Turn → Type 0
+IsOverWaiting local one = by one.stream
+  where
+    by : Option Stream → Type 0
+    by None = ⊥
+    by (Some stream) = (stream.mode ≡ Waiting) × (stream.local ≡ local)

@@ -11,6 +11,7 @@ pub mod Effect
 pub mod Grants
 pub mod Handled
 pub mod Judgement
+pub mod LawsBound
 pub mod LawsDoubles
 pub mod LawsGranted
 pub mod LawsHandled

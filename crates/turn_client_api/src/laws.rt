@@ -1,6 +1,7 @@
 //! Laws of the machine. Their functions do nothing, or give a constant: what they ensure is the law.
 
 mod alarm;
+mod bound;
 mod doubles;
 mod granted;
 mod housed;
@@ -22,6 +23,7 @@ mod turns;
 mod wakeup;
 
 pub use alarm::sleeps_through_nothing;
+pub use bound::only_a_signed_success_binds;
 pub use doubles::grants_are_distinct;
 pub use granted::only_a_signed_success_grants;
 pub use housed::grants_stand_in_allocations;

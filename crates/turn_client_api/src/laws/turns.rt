@@ -1,19 +1,18 @@
 //! What a call does is what the turns do that it takes.
 
-ghost use Rattle.std.specs.Prelude.{◌≡◌, ℕ, false, List};
+ghost use Rattle.std.specs.Prelude.{ℕ, false, List};
 ghost use Rattle.std.specs.declared.net.socket_addr.SocketAddr.{SocketAddr};
 ghost use Rattle.turn_client_api.specs.State.{State, Stream};
-ghost use Rattle.turn_client_api.specs.Payloads.{message_step};
-ghost use Rattle.turn_client_api.specs.Streams.{frame_step, turn, with_bytes};
+ghost use Rattle.turn_client_api.specs.Streams.{turn};
 ghost use Rattle.turn_client_api.specs.Handled.{taken};
 ghost use Rattle.turn_client_api.specs.Steps.{Call, EndsWithoutMemory};
-ghost use Rattle.turn_client_api.specs.LawsHandled.{AsksForMemory, DoesTurns, EndsInTurns, IsTurnOf, TakesTurns};
+ghost use Rattle.turn_client_api.specs.LawsHandled.{AsksForMemory, DoesTurns, EndsInTurns, IgnoresBytes, IgnoresStreams, IsTurnOf, TakesTurns};
 
 /// What a message does has nothing to do with the streams: with others it does the same, and leaves
 /// those. What a frame of any stream does has nothing to do with the bytes that wait.
 pub fn messages_leave_streams()
-    ensures message { (streams : List Stream) (message : List ℕ) (now : ℕ) (s : State) → message_step message now (record s { streams = streams }) ≡ ((message_step message now s).0, record (message_step message now s).1 { streams = streams }) }
-    ensures frame { (local : SocketAddr) (bytes : List ℕ) (stream : Stream) (frame : List ℕ) (now : ℕ) (s : State) → frame_step stream frame now (with_bytes local bytes s) ≡ ((frame_step stream frame now s).0, with_bytes local bytes (frame_step stream frame now s).1) }
+    ensures message { (streams : List Stream) (message : List ℕ) (now : ℕ) (s : State) → IgnoresStreams streams message now s }
+    ensures frame { (local : SocketAddr) (bytes : List ℕ) (stream : Stream) (frame : List ℕ) (now : ℕ) (s : State) → IgnoresBytes local bytes stream frame now s }
 {}
 
 /// The turn of a stream takes at most one frame (RFC 8656, section 12.5): it is the one in front, it is
