@@ -1,19 +1,18 @@
 -- A stream comes to be bound by a signed success on it.
-use Rattle.std.proofs.Common.{◌≡◌, ◌⊎◌, ℕ, Bool, true, false, not, cond, List, [], ◌∷◌, ◌++◌, Option, Some, None, refl, sym, subst, ap, ◌∙◌, inl, inr}
-use Rattle.std.specs.Prelude.{filter, is_some, map}
+use Rattle.std.proofs.Common.{◌≡◌, ◌⊎◌, Bool, true, false, not, cond, List, [], ◌∷◌, Some, refl, sym, subst, ap, ◌∙◌, inl, inr}
+use Rattle.std.specs.Prelude.{filter, is_some}
 use Rattle.std.specs.List.{Contains}
 use Rattle.std.specs.declared.net.socket_addr.SocketAddr.{SocketAddr}
 use Rattle.turn_agent.specs.Agent.{same_address}
-use Rattle.turn_client_api.specs.State.{State, Mode, Waiting, Bound, Stream, Grant, Allocation, Permission, Channel, Connect, Offer, Connection, DataConnection, Pending, Active, Reserved}
-use Rattle.turn_client_api.specs.Calls.{with_stream}
-use Rattle.turn_client_api.specs.Connections.{bind_step, connection_at, with_mode}
+use Rattle.turn_client_api.specs.State.{State, Mode, Waiting, Bound, Stream, Allocation, Permission, Channel, Connect, Offer, Connection, DataConnection, Pending, Active, Reserved}
+use Rattle.turn_client_api.specs.Connections.{bind_step, connection_at}
 use Rattle.turn_client_api.specs.Payloads.{is_message, message_step}
 use Rattle.turn_client_api.specs.Receive.{connection_gone}
 use Rattle.turn_client_api.specs.Handled.{Turn}
 use Rattle.turn_client_api.specs.Steps.{Call, state_after, Delete, CreatePermission, BindChannel, TcpConnect, AllocatedTcpSocket, TcpClosed, SendTo, Recv, PollRecv, Poll, PollTransmit, PollEvent, RelayedAddresses, Permissions, HavePermission, ProtocolError}
-use Rattle.turn_client_api.specs.LawsBound.{IsBindTurn, IsBoundBy, IsBoundConnection, IsConnectedBy, IsConnecting}
+use Rattle.turn_client_api.specs.LawsBound.{IsBindTurn, IsBoundBy, IsBoundConnection, IsConnectedBy}
 use Rattle.turn_client_api.specs.LawsGranted.{IsEndedNow, IsGrantedIn, Stood}
-use Rattle.turn_client_api.specs.LawsHandled.{IsBoundAt, IsDoneBy, MayLeave, TakesTurns}
+use Rattle.turn_client_api.specs.LawsHandled.{IsBoundAt, IsDoneBy, MayLeave}
 use Rattle.turn_client_api.proofs.AddressLemmas.{same_address-true}
 use Rattle.turn_client_api.proofs.HasLemmas.{Has, has-append, has-filter}
 use Rattle.turn_client_api.proofs.StandLemmas.{contains-has, has-contains}

@@ -1,5 +1,5 @@
 -- Which requests are outstanding after a call: those that were, and one of an ID that was drawn.
-use Rattle.std.proofs.Common.{◌≡◌, ◌⊎◌, ℕ, Bool, true, false, not, cond, leb, ◌&&◌, ◌||◌, List, [], ◌∷◌, Option, Some, None, Result, Err, refl, subst, inl, inr, ◌∙◌}
+use Rattle.std.proofs.Common.{◌≡◌, ◌⊎◌, ℕ, Bool, true, false, not, cond, leb, ◌&&◌, ◌||◌, List, [], ◌∷◌, Option, Some, None, Result, Err, refl, inl, inr, ◌∙◌}
 use Rattle.std.specs.Prelude.{is_some, find, reverse, filter_map, flat_map, slice_get}
 use Rattle.std.specs.List.{list_any}
 use Rattle.std.specs.Option.{option_map_or}
@@ -27,11 +27,11 @@ use Rattle.turn_client_api.specs.Receive.{connection_gone, tcp_closed_step}
 use Rattle.turn_client_api.specs.Transmit.{idle_step, queue_step, refreshes_in, transmit_step}
 use Rattle.turn_client_api.specs.Transmit as T
 use Rattle.turn_client_api.specs.LawsReplies.{IsDrawn}
+use Rattle.turn_client_api.specs.LawsHandled.{MayLeave, TakesTurns}
 use Rattle.turn_client_api.specs.LawsTurns.{IsBroughtBy}
-use Rattle.turn_client_api.specs.Steps.{Call, Leaves, state_after, Delete, CreatePermission, BindChannel, TcpConnect, AllocatedTcpSocket, TcpClosed, SendTo, Recv, PollRecv, Poll, PollTransmit, PollEvent, RelayedAddresses, Permissions, HavePermission, ProtocolError}
-use Rattle.turn_client_api.proofs.DrawLemmas.{AsksNothing, Draws, IsOneOf, asks-cond, asks-fold, bind-draws, draws-more, draws-nothing, draws-same, message-draws, outstanding-resent, outstanding-without}
-use Rattle.turn_client_api.proofs.MemoryLemmas.{memory-brings}
-use Rattle.turn_client_api.proofs.TurnLemmas.{IsBringing, poll_recv-brings, recv-brings}
+use Rattle.turn_client_api.specs.Steps.{Call, state_after, Delete, CreatePermission, BindChannel, TcpConnect, AllocatedTcpSocket, TcpClosed, SendTo, Recv, PollRecv, Poll, PollTransmit, PollEvent, RelayedAddresses, Permissions, HavePermission, ProtocolError}
+use Rattle.turn_client_api.proofs.DrawLemmas.{AsksNothing, Draws, asks-cond, asks-fold, bind-draws, draws-more, draws-nothing, draws-same, message-draws, outstanding-resent, outstanding-without}
+use Rattle.turn_client_api.proofs.TurnLemmas.{IsBringing, message-brings}
 
 -- ---- as time passes, nothing is asked for
 
@@ -210,44 +210,36 @@ module _ (id : ℕ) where
   draws-IsBringing : IsBringing (λ t. is_outstanding id t.transactions ≡ true) (λ message now t. id ≡ fresh_id t)
   draws-IsBringing = record {
     streams = λ s streams h. h;
-    did = λ message now s streams e. e;
     message = λ message now s is. message-draws id message now s;
     binds = λ local message now s is. bind-draws id local message now s;
     gone = λ local s h. rw (gone-asks local s) at h;
+    ended = λ u there. there;
   }
 
   -- the ID was outstanding, or is drawn as the next one of the client as it is
-  at_once : (call : Call) (s : State) → Draws id s (state_after call s) → is_outstanding id (state_after call s).transactions ≡ true → IsDrawn call id s ⊎ (is_outstanding id s.transactions ≡ true)
-  at_once call s k h = by (k h)
-    where
-      by : IsOneOf id s.transactions s → IsDrawn call id s ⊎ (is_outstanding id s.transactions ≡ true)
-      by (inl was) = inr was
-      by (inr e) = inl (inl e)
-
-  -- it was outstanding, or is drawn as the next one when the turn of a message comes
-  brought : (call : Call) (s : State) → (is_outstanding id s.transactions ≡ true) ⊎ IsBroughtBy (λ message now t. id ≡ fresh_id t) call s → IsDrawn call id s ⊎ (is_outstanding id s.transactions ≡ true)
-  brought call s (inl was) = inr was
-  brought call s (inr d) = inl (inr d)
-
-  call-draws : (call : Call) (s : State) → is_outstanding id (state_after call s).transactions ≡ true → IsDrawn call id s ⊎ (is_outstanding id s.transactions ≡ true)
-  call-draws (Delete now) s = at_once (Delete now) s (delete-draws now s)
-  call-draws (CreatePermission transport peer now) s = at_once (CreatePermission transport peer now) s (permission-draws transport peer now s)
-  call-draws (BindChannel transport peer now) s = at_once (BindChannel transport peer now) s (bind_channel-draws transport peer now s)
-  call-draws (TcpConnect peer now) s = at_once (TcpConnect peer now) s (connect-draws peer now s)
-  call-draws (AllocatedTcpSocket offer tuple peer local now) s = at_once (AllocatedTcpSocket offer tuple peer local now) s (tcp_socket-draws offer tuple peer local now s)
-  call-draws (TcpClosed local remote now) s = at_once (TcpClosed local remote now) s (draws-nothing id s (tcp_closed_step local remote s) (tcp_closed-asks local remote s))
-  call-draws (SendTo transport peer bytes now) s = at_once (SendTo transport peer bytes now) s (send-draws transport peer bytes now s)
-  call-draws (Recv packet now) s = λ h. brought (Recv packet now) s (recv-brings _ _ draws-IsBringing packet.transport packet.from packet.to packet.payload now s h)
-  call-draws (PollRecv now) s = λ h. brought (PollRecv now) s (poll_recv-brings _ _ draws-IsBringing now s h)
-  call-draws (Poll now) s = at_once (Poll now) s (poll-draws now s)
-  call-draws (PollTransmit now) s = at_once (PollTransmit now) s (transmit-draws now s)
-  call-draws PollEvent s = at_once PollEvent s (draws-same id s)
-  call-draws RelayedAddresses s = at_once RelayedAddresses s (draws-same id s)
-  call-draws (Permissions transport relayed) s = at_once (Permissions transport relayed) s (draws-same id s)
-  call-draws (HavePermission transport to) s = at_once (HavePermission transport to) s (draws-same id s)
-  call-draws ProtocolError s = at_once ProtocolError s (draws-nothing id s (protocol_error_step s) (asks-cond (is_closed s.phase) s s _ refl refl))
+  call-draws : (call : Call) (s : State) → (TakesTurns call → ⊥) → is_outstanding id (state_after call s).transactions ≡ true → (is_outstanding id s.transactions ≡ true) ⊎ (id ≡ fresh_id s)
+  call-draws (Delete now) s other = delete-draws now s
+  call-draws (CreatePermission transport peer now) s other = permission-draws transport peer now s
+  call-draws (BindChannel transport peer now) s other = bind_channel-draws transport peer now s
+  call-draws (TcpConnect peer now) s other = connect-draws peer now s
+  call-draws (AllocatedTcpSocket offer tuple peer local now) s other = tcp_socket-draws offer tuple peer local now s
+  call-draws (TcpClosed local remote now) s other = draws-nothing id s (tcp_closed_step local remote s) (tcp_closed-asks local remote s)
+  call-draws (SendTo transport peer bytes now) s other = send-draws transport peer bytes now s
+  call-draws (Recv packet now) s other = absurd (other tt)
+  call-draws (PollRecv now) s other = absurd (other tt)
+  call-draws (Poll now) s other = poll-draws now s
+  call-draws (PollTransmit now) s other = transmit-draws now s
+  call-draws PollEvent s other = draws-same id s
+  call-draws RelayedAddresses s other = draws-same id s
+  call-draws (Permissions transport relayed) s other = draws-same id s
+  call-draws (HavePermission transport to) s other = draws-same id s
+  call-draws ProtocolError s other = draws-nothing id s (protocol_error_step s) (asks-cond (is_closed s.phase) s s _ refl refl)
 
   -- whether or not the call finds memory
-  pub leaves-draws : (call : Call) (s t : State) → Leaves call s t → is_outstanding id t.transactions ≡ true → IsDrawn call id s ⊎ (is_outstanding id s.transactions ≡ true)
-  leaves-draws call s t (inl e) h = call-draws call s (subst (λ (x : State). is_outstanding id x.transactions ≡ true) e h)
-  leaves-draws call s t (inr end) h = brought call s (memory-brings _ _ draws-IsBringing (λ u there. there) call s t end h)
+  pub leaves-draws : (call : Call) (s t : State) → MayLeave call s t → is_outstanding id t.transactions ≡ true → IsDrawn call id s ⊎ (is_outstanding id s.transactions ≡ true)
+  leaves-draws call s t leaves h =
+      by (message-brings (λ t. is_outstanding id t.transactions ≡ true) (λ message now t. id ≡ fresh_id t) draws-IsBringing (λ call s. id ≡ fresh_id s) call-draws call s t leaves h)
+    where
+      by : (is_outstanding id s.transactions ≡ true) ⊎ (id ≡ fresh_id s) ⊎ IsBroughtBy (λ message now t. id ≡ fresh_id t) call s → IsDrawn call id s ⊎ (is_outstanding id s.transactions ≡ true)
+      by (inl was) = inr was
+      by (inr drawn) = inl drawn

@@ -23,7 +23,7 @@ use Rattle.turn_client_api.specs.Due.{has_event, has_reply, is_paused}
 use Rattle.turn_client_api.specs.Poll.{answer_step, channel_lapsed, given_up_step, given_up_purposes, goes, in_vain, is_lapsed_channel, is_listed_for_allocation, lapsed, lapsed_allocation, lapsed_in, next_offer, offer_step, poll_step, timed_step}
 use Rattle.turn_client_api.specs.Transmit.{idle_step, queue_step, refresh_step, refreshes_in, transmit_step}
 use Rattle.turn_client_api.specs.Transmit as T
-use Rattle.turn_client_api.specs.Steps.{Call, Leaves, state_after, Delete, CreatePermission, BindChannel, TcpConnect, AllocatedTcpSocket, TcpClosed, SendTo, Recv, PollRecv, Poll, PollTransmit, PollEvent, RelayedAddresses, Permissions, HavePermission, ProtocolError}
+use Rattle.turn_client_api.specs.Steps.{Call, state_after, Delete, CreatePermission, BindChannel, TcpConnect, AllocatedTcpSocket, TcpClosed, SendTo, Recv, PollRecv, Poll, PollTransmit, PollEvent, RelayedAddresses, Permissions, HavePermission, ProtocolError}
 use Rattle.turn_client_api.specs.Receive.{connection_gone}
 use Rattle.std.specs.Prelude.{IfSome}
 use Rattle.std.specs.List.{Contains}
@@ -39,10 +39,10 @@ use Rattle.turn_client_api.specs.Connections.{attempt_indicated, attempt_request
 use Rattle.turn_client_api.specs.Payloads.{Outcome, Handled, Ignored, answered_purposes, challenge_step, data_indicated, message_step, response_step, signed_step, wrong_step}
 use Rattle.turn_client_api.specs.Receive.{tcp_closed_step}
 use Rattle.turn_client_api.specs.LawsReplies.{IsAccepted, IsHeeded}
+use Rattle.turn_client_api.specs.LawsHandled.{MayLeave, TakesTurns}
 use Rattle.turn_client_api.specs.LawsTurns.{IsBroughtBy}
 use Rattle.turn_client_api.proofs.StandLemmas.{has-contains}
-use Rattle.turn_client_api.proofs.TurnLemmas.{IsBringing, poll_recv-brings, recv-brings}
-use Rattle.turn_client_api.proofs.MemoryLemmas.{memory-brings}
+use Rattle.turn_client_api.proofs.TurnLemmas.{IsBringing, message-brings}
 
 -- as many challenges were answered as before
 abbrev Counts : State → State → Type 0
@@ -400,47 +400,46 @@ bind_in_phase Allocated local message now s = by (connection_at local u) refl
 bringing : (n : ℕ) → IsBringing (Fewer n) IsHeeded
 bringing n = record {
   streams = λ s streams fewer. fewer;
-  did = λ message now s streams is. is;
   message = λ message now s is. message-heeded n message now s;
   binds = λ local message now s is fewer. let e = bind_in_phase s.phase local message now s in inl (omega (arith, e, fewer));
   gone = λ local s fewer. let e = gone-counts local s in omega (arith, e, fewer);
+  ended = λ s fewer. fewer;
 }
 
 tcp_closed-counts : (local remote : SocketAddr) (s : State) → Counts s (tcp_closed_step local remote s)
 tcp_closed-counts local remote s = counts-cond (same_transport s.transport Tcp && same_address remote s.remote) s _ s (gone-counts local s) refl
 
-call-heeded : (n : ℕ) (call : Call) (s : State) → Fewer n (state_after call s) → Fewer n s ⊎ IsBroughtBy IsHeeded call s
-call-heeded n call s = by call
+-- no call that takes no turns makes it less
+call-same : (n : ℕ) (call : Call) (s : State) → (TakesTurns call → ⊥) → Fewer n (state_after call s) → Fewer n s ⊎ ⊥
+call-same n call s = by call
   where
-    same : (call : Call) → Counts s (state_after call s) → Fewer n (state_after call s) → Fewer n s ⊎ IsBroughtBy IsHeeded call s
+    same : (call : Call) → Counts s (state_after call s) → Fewer n (state_after call s) → Fewer n s ⊎ ⊥
     same call e fewer = inl (omega (arith, e, fewer))
 
-    by : (call : Call) → Fewer n (state_after call s) → Fewer n s ⊎ IsBroughtBy IsHeeded call s
-    by (Delete now) = same (Delete now) (delete-counts now s)
-    by (CreatePermission transport peer now) = same (CreatePermission transport peer now) (permission-counts transport peer now s)
-    by (BindChannel transport peer now) = same (BindChannel transport peer now) (bind-counts transport peer now s)
-    by (TcpConnect peer now) = same (TcpConnect peer now) (connect-counts peer now s)
-    by (AllocatedTcpSocket id tuple peer local now) = same (AllocatedTcpSocket id tuple peer local now) (tcp_socket-counts id tuple peer local now s)
-    by (TcpClosed local remote now) = same (TcpClosed local remote now) (tcp_closed-counts local remote s)
-    by (SendTo transport peer bytes now) = same (SendTo transport peer bytes now) (send-counts transport peer bytes now s)
-    by (Recv packet now) = recv-brings (Fewer n) IsHeeded (bringing n) packet.transport packet.from packet.to packet.payload now s
-    by (PollRecv now) = poll_recv-brings (Fewer n) IsHeeded (bringing n) now s
-    by (Poll now) = same (Poll now) (poll-counts now s)
-    by (PollTransmit now) = same (PollTransmit now) (transmit-counts now s)
-    by PollEvent = same PollEvent refl
-    by RelayedAddresses = same RelayedAddresses refl
-    by (Permissions transport relayed) = same (Permissions transport relayed) refl
-    by (HavePermission transport to) = same (HavePermission transport to) refl
-    by ProtocolError = same ProtocolError (error-counts s)
+    by : (call : Call) → (TakesTurns call → ⊥) → Fewer n (state_after call s) → Fewer n s ⊎ ⊥
+    by (Delete now) other = same (Delete now) (delete-counts now s)
+    by (CreatePermission transport peer now) other = same (CreatePermission transport peer now) (permission-counts transport peer now s)
+    by (BindChannel transport peer now) other = same (BindChannel transport peer now) (bind-counts transport peer now s)
+    by (TcpConnect peer now) other = same (TcpConnect peer now) (connect-counts peer now s)
+    by (AllocatedTcpSocket id tuple peer local now) other = same (AllocatedTcpSocket id tuple peer local now) (tcp_socket-counts id tuple peer local now s)
+    by (TcpClosed local remote now) other = same (TcpClosed local remote now) (tcp_closed-counts local remote s)
+    by (SendTo transport peer bytes now) other = same (SendTo transport peer bytes now) (send-counts transport peer bytes now s)
+    by (Recv packet now) other = absurd (other tt)
+    by (PollRecv now) other = absurd (other tt)
+    by (Poll now) other = same (Poll now) (poll-counts now s)
+    by (PollTransmit now) other = same (PollTransmit now) (transmit-counts now s)
+    by PollEvent other = same PollEvent refl
+    by RelayedAddresses other = same RelayedAddresses refl
+    by (Permissions transport relayed) other = same (Permissions transport relayed) refl
+    by (HavePermission transport to) other = same (HavePermission transport to) refl
+    by ProtocolError other = same ProtocolError (error-counts s)
 
 -- whether or not the call finds memory
-pub leaves-heeded : (call : Call) (s t : State) → Leaves call s t → t.challenges < s.challenges → IsBroughtBy IsHeeded call s
-leaves-heeded call s t leaves fewer = by leaves
+pub leaves-heeded : (call : Call) (s t : State) → MayLeave call s t → t.challenges < s.challenges → IsBroughtBy IsHeeded call s
+leaves-heeded call s t leaves fewer =
+    by (message-brings (Fewer s.challenges) IsHeeded (bringing s.challenges) (λ call s. ⊥) (call-same s.challenges) call s t leaves fewer)
   where
-    brought : Fewer s.challenges s ⊎ IsBroughtBy IsHeeded call s → IsBroughtBy IsHeeded call s
-    brought (inl same) = absurd (omega (arith, same))
-    brought (inr did) = did
-
-    by : Leaves call s t → IsBroughtBy IsHeeded call s
-    by (inl e) = brought (call-heeded s.challenges call s (subst (λ (x : State). x.challenges < s.challenges) e fewer))
-    by (inr none) = brought (memory-brings (Fewer s.challenges) IsHeeded (bringing s.challenges) (λ u k. k) call s t none fewer)
+    by : Fewer s.challenges s ⊎ ⊥ ⊎ IsBroughtBy IsHeeded call s → IsBroughtBy IsHeeded call s
+    by (inl same) = absurd (omega (arith, same))
+    by (inr (inl none)) = absurd none
+    by (inr (inr did)) = did

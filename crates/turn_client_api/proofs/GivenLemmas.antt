@@ -1,6 +1,7 @@
 -- What a success gives for the purposes of its request, list by list.
-use Rattle.std.proofs.Common.{◌≡◌, ℕ, Bool, true, false, cond, eqb, List, [], ◌∷◌, ◌++◌, map, filter, fold, ◌⊎◌, inl, inr, refl, sym}
-use Rattle.turn_client_api.specs.State.{State, Grant, Purpose, Listing}
+use Rattle.std.proofs.Common.{◌≡◌, ℕ, Bool, true, false, cond, eqb, List, [], ◌∷◌, ◌++◌, map, filter, fold, ◌⊎◌, inl, inr, refl, sym, subst}
+use Rattle.std.specs.declared.net.socket_addr.SocketAddr.{SocketAddr}
+use Rattle.turn_client_api.specs.State.{State, Grant, Channel, Progress, Purpose, Listing}
 use Rattle.turn_client_api.specs.Grants.{purposes_of}
 use Rattle.turn_client_api.specs.LawsGranted.{IsStanding, IsKeptAs, IsGivenFor}
 use Rattle.turn_client_api.proofs.HasLemmas.{Has, has-append, has-filter, filter-has, map-has}
@@ -24,16 +25,6 @@ Gives purposes message now before grants later = (g : Grant) → Has g later →
 abbrev pub Within : List Listing → List Listing → Type 0
 Within listed later = (l : Listing) → Has l later → Has l listed
 
--- what a success leaves of a state: nothing is listed anew, and nothing stands but what stood or was given
-abbrev pub Takes : List Purpose → List ℕ → ℕ → State → State → State → Type 0
-Takes purposes message now before s t = Within s.listed t.listed × Gives purposes message now before s.grants t.grants
-
-pub within-same : (listed : List Listing) → Within listed listed
-within-same listed l there = there
-
-pub within-filter : (p : Listing → Bool) (listed : List Listing) → Within listed (filter p listed)
-within-filter p listed l there = (has-filter p l listed there).0
-
 pub has-mapped : {X Y : Type 0} (f : X → Y) (y : Y) (xs : List X) → Has y (map f xs) → (x : X) × Has x xs × (y ≡ f x)
 has-mapped f y [] h = absurd h
 has-mapped f y (x ∷ xs) (inl e) = (x, inl refl, e)
@@ -41,6 +32,49 @@ has-mapped {X = X} f y (x ∷ xs) (inr h) = by (has-mapped f y xs h)
   where
     by : (z : X) × Has z xs × (y ≡ f z) → (z : X) × Has z (x ∷ xs) × (y ≡ f z)
     by (z, there, e) = (z, inr there, e)
+
+-- a channel of this number is among these, for this peer
+abbrev pub IsChannelIn : ℕ → SocketAddr → List Grant → Type 0
+IsChannelIn number peer grants = (progress : Progress) × Has (Channel number peer progress) grants
+
+-- all channels of the second list were in the first
+abbrev pub ChannelsWithin : List Grant → List Grant → Type 0
+ChannelsWithin grants later = (number : ℕ) (peer : SocketAddr) → IsChannelIn number peer later → IsChannelIn number peer grants
+
+-- nothing is listed anew, and no channel is new
+abbrev pub IsWithin : State → State → Type 0
+IsWithin s t = Within s.listed t.listed × ChannelsWithin s.grants t.grants
+
+pub channels-filter : (p : Grant → Bool) (grants : List Grant) → ChannelsWithin grants (filter p grants)
+channels-filter p grants number peer (progress, there) = (progress, (has-filter p (Channel number peer progress) grants there).0)
+
+-- a change of grants that makes no channel of another
+abbrev pub KeepsChannels : (Grant → Grant) → Type 0
+KeepsChannels f = (g : Grant) (number : ℕ) (peer : SocketAddr) (progress : Progress) → Channel number peer progress ≡ f g → (was : Progress) × (g ≡ Channel number peer was)
+
+pub channels-map : (f : Grant → Grant) → KeepsChannels f → (grants : List Grant) → ChannelsWithin grants (map f grants)
+channels-map f keeps grants number peer (progress, there) = by (has-mapped f (Channel number peer progress) grants there)
+  where
+    by : (g : Grant) × Has g grants × (Channel number peer progress ≡ f g) → IsChannelIn number peer grants
+    by (g, here, e) = let (was, is) = keeps g number peer progress e in (was, subst (λ (x : Grant). Has x grants) is here)
+
+pub channels-append : (grants later : List Grant) (one : Grant) → ChannelsWithin grants later → ((number : ℕ) (peer : SocketAddr) (progress : Progress) → Channel number peer progress ≡ one → IsChannelIn number peer grants) → ChannelsWithin grants (later ++ one ∷ [])
+channels-append grants later one within known number peer (progress, there) = by (has-append (Channel number peer progress) later (one ∷ []) there)
+  where
+    by : Has (Channel number peer progress) later ⊎ Has (Channel number peer progress) (one ∷ []) → IsChannelIn number peer grants
+    by (inl here) = within number peer (progress, here)
+    by (inr (inl e)) = known number peer progress e
+    by (inr (inr none)) = absurd none
+
+-- what a success leaves of a state: nothing is listed anew, and nothing stands but what stood or was given
+abbrev pub Takes : List Purpose → List ℕ → ℕ → State → State → State → Type 0
+Takes purposes message now before s t = IsWithin s t × Gives purposes message now before s.grants t.grants
+
+pub within-same : (listed : List Listing) → Within listed listed
+within-same listed l there = there
+
+pub within-filter : (p : Listing → Bool) (listed : List Listing) → Within listed (filter p listed)
+within-filter p listed l there = (has-filter p l listed there).0
 
 module _ (purposes : List Purpose) (message : List ℕ) (now : ℕ) (before : State) where
   given-kept : (g h : Grant) → IsKeptAs g h → IsGiven purposes message now before g → IsGiven purposes message now before h
@@ -82,11 +116,11 @@ module _ (purposes : List Purpose) (message : List ℕ) (now : ℕ) (before : St
   abbrev Is : Grant → Grant → Type 0
   Is was is = IsStanding is → IsKeptAs was is ⊎ IsGivenOf purposes message now before is
 
-  pub gives-map : (f : Grant → Grant) → ((g : Grant) → Is g (f g)) → (grants : List Grant) → Gives purposes message now before grants (map f grants)
-  gives-map f keeps grants g there stands = by (has-mapped f g grants there)
+  pub gives-map : (f : Grant → Grant) (grants : List Grant) → ((g : Grant) → Has g grants → Is g (f g)) → Gives purposes message now before grants (map f grants)
+  gives-map f grants keeps g there stands = by (has-mapped f g grants there)
     where
       by : (x : Grant) × Has x grants × (g ≡ f x) → Covers grants g ⊎ IsGiven purposes message now before g
-      by (x, earlier, e) = at (keeps x (rw (sym e) stands))
+      by (x, earlier, e) = at (keeps x earlier (rw (sym e) stands))
         where
           at : IsKeptAs x (f x) ⊎ IsGivenOf purposes message now before (f x) → Covers grants g ⊎ IsGiven purposes message now before g
           at (inl kept) = inl (x, earlier, rw e kept)
@@ -99,10 +133,10 @@ module _ (purposes : List Purpose) (message : List ℕ) (now : ℕ) (before : St
   Taken s t = Takes purposes message now before s t
 
   pub takes-same : (s : State) → Taken s s
-  takes-same s = (within-same s.listed, gives-left s.grants s.grants (covers-has s.grants))
+  takes-same s = ((within-same s.listed, λ number peer h. h), gives-left s.grants s.grants (covers-has s.grants))
 
   pub takes-trans : (s t u : State) → Taken s t → Taken t u → Taken s u
-  takes-trans s t u first second = (λ l there. first.0 l (second.0 l there), gives-trans s.grants t.grants u.grants first.1 second.1)
+  takes-trans s t u first second = ((λ l there. first.0.0 l (second.0.0 l there), λ number peer h. first.0.1 number peer (second.0.1 number peer h)), gives-trans s.grants t.grants u.grants first.1 second.1)
 
   pub takes-cond : (b : Bool) (s t u : State) → Taken s t → Taken s u → Taken s (cond b t u)
   takes-cond true s t u k l = k
@@ -113,15 +147,15 @@ module _ (purposes : List Purpose) (message : List ℕ) (now : ℕ) (before : St
 
   -- what each purpose changes, wherever no more is listed than at first
   abbrev EachTaken : (State → Purpose → State) → List Purpose → State → Type 0
-  EachTaken f all s = (t : State) (p : Purpose) → Within s.listed t.listed → Has p all → Taken t (f t p)
+  EachTaken f all s = (t : State) (p : Purpose) → IsWithin s t → Has p all → Taken t (f t p)
 
   -- one purpose after the other, none of which lists anything anew
-  pub takes-fold : (f : State → Purpose → State) (s : State) (all : List Purpose) → EachTaken f all s → (some : List Purpose) → Among some all → (t : State) → Within s.listed t.listed → Taken t (fold f t some)
+  pub takes-fold : (f : State → Purpose → State) (s : State) (all : List Purpose) → EachTaken f all s → (some : List Purpose) → Among some all → (t : State) → IsWithin s t → Taken t (fold f t some)
   takes-fold f s all step [] each t within = takes-same t
   takes-fold f s all step (p ∷ some) each t within =
       let one = step t p within (each p (inl refl)) in
       takes-trans t (f t p) (fold f (f t p) some) one
-      (takes-fold f s all step some (λ q there. each q (inr there)) (f t p) (λ l there. within l (one.0 l there)))
+      (takes-fold f s all step some (λ q there. each q (inr there)) (f t p) (λ l there. within.0 l (one.0.0 l there), λ number peer h. within.1 number peer (one.0.1 number peer h)))
 
 -- a purpose of what is listed still was one before
 pub purposes-within : (id : ℕ) (s t : State) → Within s.listed t.listed → (p : Purpose) → Has p (purposes_of id t) → Has p (purposes_of id s)

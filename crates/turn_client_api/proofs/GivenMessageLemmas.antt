@@ -26,7 +26,7 @@ use Rattle.turn_client_api.specs.Payloads.{Outcome, Handled, Ignored, answered_p
 use Rattle.turn_client_api.specs.LawsGranted.{IsGivenFor, IsGrant, IsStanding}
 use Rattle.turn_client_api.proofs.HasLemmas.{Has, has-filter}
 use Rattle.turn_client_api.proofs.StandLemmas.{Covers, Leaves, Left, covers-left, has-contains, leaves-cond, leaves-same, left-one, left-same}
-use Rattle.turn_client_api.proofs.GivenLemmas.{Gives, IsGiven, IsGivenOf, Takes, gives-append, gives-covers, gives-left, has-mapped, purposes-within, takes-fold}
+use Rattle.turn_client_api.proofs.GivenLemmas.{ChannelsWithin, Gives, IsGiven, IsGivenOf, Takes, gives-append, gives-covers, gives-left, has-mapped, purposes-within, takes-fold}
 use Rattle.turn_client_api.proofs.GivenEffectLemmas.{effect-takes}
 
 -- ---- what is judged to be granted
@@ -172,14 +172,14 @@ takes-left message now before grants later gives g there stands = by (gives g th
 abbrev AllAsked : List Purpose → Bool → List ℕ → State → Type 0
 AllAsked purposes is_granted message s = is_granted ≡ true → (p : Purpose) → Has p (asked_for message s) → Has p purposes
 
-reply-takes : (purposes : List Purpose) (is_granted : Bool) (message : List ℕ) (now : ℕ) (before s : State) → AllAsked purposes is_granted message s → Takes purposes message now before s (response_step is_granted message now s).1
-reply-takes purposes is_granted message now before s all =
+reply-takes : (purposes : List Purpose) (is_granted : Bool) (message : List ℕ) (now : ℕ) (before s : State) → ChannelsWithin before.grants s.grants → AllAsked purposes is_granted message s → Takes purposes message now before s (response_step is_granted message now s).1
+reply-takes purposes is_granted message now before s known all =
     takes-fold purposes message now before (effect (id_of message) is_granted message now) s (answered_purposes message s)
     (λ t p within there.
-    effect-takes purposes message now before (id_of message) is_granted t p
+    effect-takes purposes message now before (id_of message) is_granted t p (λ number peer h. known number peer (within.1 number peer h))
     (λ granted. all granted p (has-filter (is_answered (method_in message)) p (asked_for message s) there).0)
-    (λ granted q still. all granted q (purposes-within (id_of message) s t within q still)))
-    (answered_purposes message s) (λ p there. there) (ended (id_of message) s) (λ l there. there)
+    (λ granted q still. all granted q (purposes-within (id_of message) s t within.0 q still)))
+    (answered_purposes message s) (λ p there. there) (ended (id_of message) s) (λ l there. there, λ number peer h. h)
 
 -- what is taken of the addresses was there
 taken-relayed : (families : List AddressFamily) (addresses : List SocketAddr) (a : SocketAddr) → Has a (taken_addresses families addresses) → Has a addresses
@@ -250,13 +250,13 @@ allocate-gives message now before s purposes same one = by (lifetime_in message)
 
 granted-gives : (p : Phase) (message : List ℕ) (now : ℕ) (s : State) → IsForAllocation p message s → Gives (asked_for message s) message now (record s { phase = p }) s.grants (signed_step true message now (record s { phase = p })).1.grants
 granted-gives Authenticating message now s one = allocate-gives message now (record s { phase = Authenticating }) (ended (id_of message) (record s { phase = Authenticating })) (asked_for message s) refl (one refl)
-granted-gives New message now s one = (reply-takes (asked_for message s) true message now (record s { phase = New }) (record s { phase = New }) (λ e p there. there)).1
-granted-gives Requesting message now s one = (reply-takes (asked_for message s) true message now (record s { phase = Requesting }) (record s { phase = Requesting }) (λ e p there. there)).1
-granted-gives Allocated message now s one = (reply-takes (asked_for message s) true message now (record s { phase = Allocated }) (record s { phase = Allocated }) (λ e p there. there)).1
-granted-gives Closed message now s one = (reply-takes (asked_for message s) true message now (record s { phase = Closed }) (record s { phase = Closed }) (λ e p there. there)).1
+granted-gives New message now s one = (reply-takes (asked_for message s) true message now (record s { phase = New }) (record s { phase = New }) (λ number peer h. h) (λ e p there. there)).1
+granted-gives Requesting message now s one = (reply-takes (asked_for message s) true message now (record s { phase = Requesting }) (record s { phase = Requesting }) (λ number peer h. h) (λ e p there. there)).1
+granted-gives Allocated message now s one = (reply-takes (asked_for message s) true message now (record s { phase = Allocated }) (record s { phase = Allocated }) (λ number peer h. h) (λ e p there. there)).1
+granted-gives Closed message now s one = (reply-takes (asked_for message s) true message now (record s { phase = Closed }) (record s { phase = Closed }) (λ number peer h. h) (λ e p there. there)).1
 
 refused-leaves : (message : List ℕ) (now : ℕ) (s : State) → Leaves s (response_step false message now s).1
-refused-leaves message now s = takes-left message now s s.grants _ (reply-takes [] false message now s s (λ e. cc)).1
+refused-leaves message now s = takes-left message now s s.grants _ (reply-takes [] false message now s s (λ number peer h. h) (λ e. cc)).1
 
 denied-leaves : (p : Phase) (message : List ℕ) (now : ℕ) (s : State) → Leaves s (signed_step false message now (record s { phase = p })).1
 denied-leaves Authenticating message now s = leaves-cond (has_code family_not_supported message && leb 2 (length s.families)) s _ _ (leaves-same s) (leaves-same s)

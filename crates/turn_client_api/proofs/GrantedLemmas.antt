@@ -26,7 +26,6 @@ use Rattle.turn_client_api.specs.LawsHandled.{IsDoneBy, IsOverControl, MayLeave,
 use Rattle.turn_client_api.specs.LawsBound.{IsBindTurn}
 use Rattle.turn_client_api.specs.LawsGranted.{HasCause, IsEndedNow, IsGivenFor, IsGrant, IsGrantTurn, IsGrantedBy, IsGrantedIn, IsKeptAs, IsStanding, Stood}
 use Rattle.turn_client_api.specs.Steps.{Call, state_after, Delete, CreatePermission, BindChannel, TcpConnect, AllocatedTcpSocket, TcpClosed, SendTo, Recv, PollRecv, Poll, PollTransmit, PollEvent, RelayedAddresses, Permissions, HavePermission, ProtocolError}
-use Rattle.turn_client_api.specs.Steps as S
 use Rattle.turn_client_api.proofs.HasLemmas.{Has, has-filter}
 use Rattle.turn_client_api.proofs.StandLemmas.{Covers, Leaves, Left, contains-has, covers-has, covers-left, covers-stood, has-contains, kept-same, kept-stood, kept-trans, leaves-cond, leaves-fold, leaves-same, leaves-trans, left-cons, left-filter, left-one, left-same, left-trans}
 use Rattle.turn_client_api.proofs.GivenLemmas.{has-mapped}

@@ -1,6 +1,6 @@
 -- What a call answers of peers are the payloads of what it handles.
-use Rattle.std.proofs.Common.{◌≡◌, ℕ, zero, suc, Bool, true, false, cond, List, [], ◌∷◌, ◌++◌, take, Option, Some, None, refl, sym, ap, ◌∙◌}
-use Rattle.std.specs.Prelude.{find, option_to_list}
+use Rattle.std.proofs.Common.{◌≡◌, ℕ, zero, suc, Bool, true, false, cond, List, [], ◌∷◌, ◌++◌, take, Option, Some, None, refl, sym, subst, ap, ◌∙◌, inl}
+use Rattle.std.specs.Prelude.{find, option_to_list, IfSome, ⊤}
 use Rattle.std.specs.List.{cons_option}
 use Rattle.std.specs.Option.{option_map_or}
 use Rattle.std.proofs.lemmas.List.Elements.{filter_map-append}
@@ -14,9 +14,11 @@ use Rattle.turn_client_api.specs.State.{State, Mode, Control, Waiting, Bound, Br
 use Rattle.turn_client_api.specs.Payloads.{Payload, Outcome, Handled, Ignored, PeerData, PeerIcmp, datagram_step}
 use Rattle.turn_client_api.specs.Streams.{broken_at, framed_by, framed_turn, go_on, is_ready, most_turns, owned, payload_in, poll_recv_step, stream_at, turn, turn_of_first, turned, turns_until_payload, with_bytes}
 use Rattle.turn_client_api.specs.Receive.{first_turn, is_from_server, piece_step, place_kept, recv_step, stream_step, then_all}
-use Rattle.turn_client_api.specs.Steps.{Recv, packet_step}
-use Rattle.turn_client_api.specs.Handled.{Turn, fed, fed_taken, frame_taken, handled, is_front, payloads, piece_turns, poll_recv_turns, recv_turns, stream_turns, taken, taken_first, taken_in, taken_of_len, then_taken, turn_of, turn_payload, turns_taken, unless_given}
-use Rattle.turn_client_api.specs.LawsPeers.{IsLetInTurn}
+use Rattle.turn_client_api.specs.Steps.{Call, PollRecv, Recv, packet_step}
+use Rattle.turn_client_api.specs.Handled.{Turn, fed, fed_taken, frame_taken, handled, is_front, made_of, payloads, piece_turns, poll_recv_turns, recv_turns, stream_turns, taken, taken_first, taken_in, taken_of_len, then_taken, turn_of, turn_payload, turns_taken, unless_given}
+use Rattle.turn_client_api.specs.LawsPeers.{IsGivenBy, IsLetInTurn, IsToldBy}
+use Rattle.turn_client_api.proofs.HasLemmas.{Has, has-filter_map, has-left}
+use Rattle.turn_client_api.proofs.StandLemmas.{has-contains}
 use Rattle.turn_client_api.proofs.PeerLemmas.{datagram-IsLetThrough, frame-IsLetIn}
 
 -- these turns give what the outcome has, and no more
@@ -177,3 +179,119 @@ turn-IsLetIn t = by t.stream t
     by : (o : Option Stream) (t : Turn) → IsLetInTurn (record t { stream = o })
     by None t = datagram-IsLetThrough t.bytes t.moment t.before
     by (Some stream) t = frame-IsLetIn stream t.bytes t.moment t.before
+
+-- ---- by which turn it is given
+
+-- the payload that a list of turns gives, one of them gives
+given-among : (turns : List Turn) (o : Option Payload) → payloads turns ≡ option_to_list o → IfSome o (λ payload. (one : Turn) × Has one turns × (turn_payload one ≡ Some payload))
+given-among turns None e = tt
+given-among turns (Some payload) e = has-filter_map turn_payload payload turns (subst (Has payload) (sym e) (inl refl))
+
+given-by : (call : Call) (s : State) (o : Option Payload) → IfSome o (λ payload. (one : Turn) × Has one (handled call s) × (turn_payload one ≡ Some payload)) → IfSome o (λ payload. IsGivenBy payload call s)
+given-by call s None h = tt
+given-by call s (Some payload) (one, there, gives) = (one, has-contains one (handled call s) there, (gives, turn-IsLetIn one))
+
+pub recv-IsGivenBy : (packet : Transmit (List ℕ)) (now : ℕ) (s : State) → IfSome (payload_in (packet_step packet now s).0) (λ payload. IsGivenBy payload (Recv packet now) s)
+recv-IsGivenBy packet now s =
+    let o = payload_in (packet_step packet now s).0 in
+    given-by (Recv packet now) s o (given-among (handled (Recv packet now) s) o (recv-AreOf packet now s))
+
+pub poll_recv-IsGivenBy : (now : ℕ) (s : State) → IfSome (poll_recv_step now s).0 (λ payload. IsGivenBy payload (PollRecv now) s)
+poll_recv-IsGivenBy now s =
+    let o = (poll_recv_step now s).0 in
+    given-by (PollRecv now) s o (given-among (handled (PollRecv now) s) o (poll_recv-Gives now s))
+
+-- ---- what ICMP tells
+
+abbrev IsIcmp : Outcome → Type 0
+IsIcmp (PeerIcmp transport peer icmp) = ⊤
+IsIcmp _ = ⊥
+
+-- where the outcome is what ICMP told, one of these turns gives it
+abbrev Tells : List Turn → Outcome → Type 0
+Tells turns o = IsIcmp o → (one : Turn) × Has one turns × ((made_of one).0 ≡ o)
+
+tells-kept : (waited : List ℕ) (turns : List Turn) (o : Outcome) → Tells turns o → Tells turns (place_kept waited o)
+tells-kept [] turns o tells = tells
+tells-kept (b ∷ bs) turns (PeerIcmp transport peer icmp) tells = tells
+tells-kept (b ∷ bs) turns (PeerData payload) tells = λ h. absurd h
+tells-kept (b ∷ bs) turns Handled tells = λ h. absurd h
+tells-kept (b ∷ bs) turns Ignored tells = λ h. absurd h
+
+framed-tells : (is_lent : Bool) (stream : Stream) (now : ℕ) (t : State) → Tells (frame_taken is_lent stream now t) (framed_turn stream now t).0
+framed-tells is_lent stream now t = by (begins_no_frame stream.bytes) (frame_len stream.bytes)
+  where
+    by : (b : Bool) (o : Option ℕ) → Tells (cond b [] (taken_of_len is_lent stream now t o)) (cond {A = Outcome × State} b (Handled, broken_at stream.local t) (framed_by stream now t o)).0
+    by true o h = absurd h
+    by false None h = absurd h
+    by false (Some len) h = (turn_of is_lent stream (take len stream.bytes) now t, inl refl, refl)
+
+fed-tells : (stream : Stream) (piece : List ℕ) (now : ℕ) (t : State) → Tells (frame_taken (is_front stream.bytes) (fed stream piece) now t) (place_kept stream.bytes (framed_turn (fed stream piece) now t).0)
+fed-tells stream piece now t = tells-kept stream.bytes _ (framed_turn (fed stream piece) now t).0 (framed-tells (is_front stream.bytes) (fed stream piece) now t)
+
+-- what all streams give is no ICMP
+no-icmp : (o : Option Payload) (p : Outcome) → (IsIcmp p → ⊥) → IsIcmp (option_map_or PeerData o p) → ⊥
+no-icmp None p no_more h = no_more h
+no-icmp (Some payload) p no_more h = h
+
+then_all-tells : (now : ℕ) (front : List Turn) (p : Outcome × State) → Tells front p.0 → Tells (front ++ then_taken now p) (then_all now p).0
+then_all-tells now front (PeerData payload, t) first h = absurd h
+then_all-tells now front (PeerIcmp transport peer icmp, t) first h = let (one, there, is) = first h in (one, has-left one front [] there, is)
+then_all-tells now front (Handled, t) first h = absurd (no-icmp (poll_recv_step now t).0 Handled (λ k. k) h)
+then_all-tells now front (Ignored, t) first h = absurd (no-icmp (poll_recv_step now t).0 Ignored (λ k. k) h)
+
+piece-tells : (m : Mode) (stream : Stream) (piece : List ℕ) (now : ℕ) (s : State) → Tells (piece_turns (record stream { mode = m }) piece now s) (piece_step (record stream { mode = m }) piece now s).0
+piece-tells Control stream piece now s =
+    let u = record stream { mode = Control } in
+    then_all-tells now (fed_taken u piece now s) (first_turn u piece now s) (fed-tells u piece now (with_bytes stream.local [] s))
+piece-tells Waiting stream piece now s = fed-tells (record stream { mode = Waiting }) piece now (with_bytes stream.local [] s)
+piece-tells (Bound peer) stream piece now s = λ h. absurd h
+piece-tells Broken stream piece now s = by (same_address stream.local s.local)
+  where
+    by : (b : Bool) → Tells (cond b (poll_recv_turns now s) []) (cond {A = Outcome × State} b (then_all now (Handled, s)) (Handled, s)).0
+    by true h = absurd (no-icmp (poll_recv_step now s).0 Handled (λ k. k) h)
+    by false h = absurd h
+
+stream-tells : (stream : Stream) (piece : List ℕ) (now : ℕ) (s : State) → Tells (stream_turns stream piece now s) (stream_step stream piece now s).0
+stream-tells stream [] now s h = absurd h
+stream-tells stream (b ∷ bs) now s h = piece-tells stream.mode stream (b ∷ bs) now s h
+
+tells_over : (carrier : TransportType) (transport : TransportType) (from to : SocketAddr) (bytes : List ℕ) (now : ℕ) (s : State) → Tells (recv_turns transport from to bytes now (record s { transport = carrier })) (recv_step transport from to bytes now (record s { transport = carrier })).0
+tells_over Udp transport from to bytes now s = by (is_from_server transport from u) (same_address to s.local)
+  where
+    u : State
+    u = record s { transport = Udp }
+
+    one : Turn
+    one = record { stream = None; bytes = bytes; is_lent = true; moment = now; before = u }
+
+    by : (b c : Bool) → Tells (cond b (cond c (one ∷ []) []) []) (cond {A = Outcome × State} b (cond {A = Outcome × State} c (datagram_step bytes now u) (Ignored, u)) (Ignored, u)).0
+    by true true h = (one, inl refl, refl)
+    by true false h = absurd h
+    by false c h = absurd h
+tells_over Tcp transport from to bytes now s = by (is_from_server transport from u) (stream_at to s)
+  where
+    u : State
+    u = record s { transport = Tcp }
+
+    by_stream : Option Stream → Outcome × State
+    by_stream None = (Ignored, u)
+    by_stream (Some stream) = stream_step stream bytes now u
+
+    turns_by : Option Stream → List Turn
+    turns_by None = []
+    turns_by (Some stream) = stream_turns stream bytes now u
+
+    by : (b : Bool) (o : Option Stream) → Tells (cond b (turns_by o) []) (cond {A = Outcome × State} b (by_stream o) (Ignored, u)).0
+    by true (Some stream) h = stream-tells stream bytes now u h
+    by true None h = absurd h
+    by false o h = absurd h
+
+told : (call : Call) (s : State) (o : Outcome) → Tells (handled call s) o → IsToldBy o call s
+told call s (PeerIcmp transport peer icmp) tells = let (one, there, is) = tells tt in (one, has-contains one (handled call s) there, (is, turn-IsLetIn one))
+told call s (PeerData payload) tells = tt
+told call s Handled tells = tt
+told call s Ignored tells = tt
+
+pub recv-IsToldBy : (packet : Transmit (List ℕ)) (now : ℕ) (s : State) → IsToldBy (packet_step packet now s).0 (Recv packet now) s
+recv-IsToldBy packet now s = told (Recv packet now) s (packet_step packet now s).0 (tells_over s.transport packet.transport packet.from packet.to packet.payload now s)

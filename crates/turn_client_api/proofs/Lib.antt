@@ -47,7 +47,6 @@ pub mod StreamDrainLemmas
 pub mod StreamFewerLemmas
 pub mod StreamMemoryLemmas
 pub mod StreamMessageLemmas
-pub mod StreamPeerLemmas
 pub mod StreamShortLemmas
 pub mod StreamStepLemmas
 pub mod StreamWeightLemmas

@@ -1,10 +1,8 @@
--- What a call leaves that finds no memory: what messages and the end of a client keep is kept, and what
--- there is then, there was, or a message brought it whose turn came.
+-- What a call leaves that finds no memory: what messages and the end of a client keep is kept.
 use Rattle.std.proofs.Common.{◌≡◌, ◌⊎◌, ℕ, Bool, true, false, cond, List, Option, Some, None, refl, subst, sym, inl, inr}
 use Rattle.std.specs.Prelude.{IsSomeAnd, find}
 use Rattle.std.proofs.lemmas.Option.{none-some, same_Some}
 use Rattle.std.specs.declared.net.socket_addr.SocketAddr.{SocketAddr}
-use Rattle.turn_stun.specs.declared.transport.TransportType.{TransportType}
 use Rattle.turn_agent.specs.Agent.{same_address}
 use Rattle.turn_client_api.specs.State.{State, Mode, Control, Waiting, Bound, Broken, Stream}
 use Rattle.turn_client_api.specs.Effect.{closed}
@@ -14,12 +12,15 @@ use Rattle.turn_client_api.specs.Receive.{first_turn}
 use Rattle.turn_client_api.specs.Answers.{EndsAfterTurns, RecvEnds, before_others}
 use Rattle.turn_client_api.specs.Steps.{Call, EndsWithoutMemory, Leaves, state_after}
 use Rattle.turn_client_api.specs.Steps.{Delete, CreatePermission, BindChannel, TcpConnect, AllocatedTcpSocket, TcpClosed, SendTo, Recv, PollRecv, Poll, PollTransmit, PollEvent, RelayedAddresses, Permissions, HavePermission, ProtocolError}
-use Rattle.turn_client_api.specs.LawsTurns.{Deed, IsBroughtBy, IsBroughtIn, IsBroughtInTurn}
 use Rattle.turn_client_api.proofs.RunKeepLemmas.{IsKept, first_turn-kept, turns-kept}
-use Rattle.turn_client_api.proofs.StreamPeerLemmas.{behind}
-use Rattle.turn_client_api.proofs.TurnLemmas.{IsBringing, IsFirst, IsReceived, first-IsReceived, first_turn-brings, turns-bring}
 
 -- ---- before all streams have their turns
+
+-- the state behind a first turn without anything of a peer
+unfoldable pub behind : Outcome × State → Option State
+behind (PeerData payload, t) = None
+behind (PeerIcmp transport peer icmp, t) = None
+behind (_, t) = Some t
 
 -- the control stream at this local end had its first turn, or it is broken and nothing has changed
 abbrev pub IsBehind : SocketAddr → List ℕ → ℕ → State → State → Type 0
@@ -109,61 +110,3 @@ module _ (R : State → State → Type 0) (k : IsKept R) (ends : (s : State) →
   pub leaves-kept : ((call : Call) (s : State) → R s (state_after call s)) → (call : Call) (s t : State) → Leaves call s t → R s t
   leaves-kept after call s t (inl e) = subst (λ (x : State). R s x) (sym e) (after call s)
   leaves-kept after call s t (inr h) = memory-kept call s t h
-
--- ---- what is brought about
-
-module _ (P : State → Type 0) (Did : Deed) (k : IsBringing P Did) (ends : (s : State) → P (closed s) → P s) where
-  closed-brings : (s t : State) → t ≡ closed s → P t → P s
-  closed-brings s t e h = ends s (subst P e h)
-
-  turns_end-brings : (now : ℕ) (s u : State) → EndsAfterTurns now s u → P u → P s ⊎ IsBroughtInTurn Did now s
-  turns_end-brings now s u (t, (n, led), broken) h = by (find is_ready t.streams) broken
-    where
-      there : P t → P s ⊎ IsBroughtInTurn Did now s
-      there here = turns-bring P Did k n now s (subst (λ (p : Option Payload × State). P p.1) (sym led) here)
-
-      by : (o : Option Stream) → IsSomeAnd o (λ stream. u ≡ closed (broken_at stream.local t)) → P s ⊎ IsBroughtInTurn Did now s
-      by None none = absurd none
-      by (Some stream) e = there (k.streams t (broken_at stream.local t).streams (closed-brings (broken_at stream.local t) u e h))
-
-  before-brings : (to : SocketAddr) (piece : List ℕ) (now : ℕ) (s u : State) → IsBehind to piece now s u → P u → IsFirst P Did k to piece now s
-  before-brings to piece now s u (stream, f, inl (mode, e)) h = first_turn-brings P Did k to stream piece now s f (subst P e h)
-  before-brings to piece now s u (stream, f, inr e) h = inl (subst P e h)
-
-  others_end-brings : (to : SocketAddr) (piece : List ℕ) (now : ℕ) (s u t : State)
-      → before_others to piece now s ≡ Some u → EndsAfterTurns now u t → P t → IsReceived P Did k to piece now s
-  others_end-brings to piece now s u t e end h = by (turns_end-brings now u t end h)
-    where
-      by : P u ⊎ IsBroughtInTurn Did now u → IsReceived P Did k to piece now s
-      by (inl here) = first-IsReceived P Did k to piece now s (before-brings to piece now s u (before-IsBehind to piece now s u e) here)
-      by (inr d) = inr (inr (u, e, d))
-
-  recv_end-brings : (to : SocketAddr) (piece : List ℕ) (now : ℕ) (s t : State) → RecvEnds to piece now s t → P t → P s ⊎ IsBroughtIn s.transport Did to piece now s
-  recv_end-brings to piece now s t (inl e) h = inl (k.streams s (broken_at to s).streams (closed-brings (broken_at to s) t e h))
-  recv_end-brings to piece now s t (inr (over, some, later)) h = by (before_others to piece now s) refl later
-    where
-      at : IsReceived P Did k to piece now s → P s ⊎ IsBroughtIn s.transport Did to piece now s
-      at (inl here) = inl here
-      at (inr d) = inr (subst (λ (carrier : TransportType). IsBroughtIn carrier Did to piece now s) (sym over) d)
-
-      by : (o : Option State) → before_others to piece now s ≡ o → IsSomeAnd o (λ u. EndsAfterTurns now u t) → P s ⊎ IsBroughtIn s.transport Did to piece now s
-      by None e none = absurd none
-      by (Some u) e end = at (others_end-brings to piece now s u t e end h)
-
-  pub memory-brings : (call : Call) (s t : State) → EndsWithoutMemory call s t → P t → P s ⊎ IsBroughtBy Did call s
-  memory-brings (Delete now) s t e h = inl (subst P e h)
-  memory-brings (CreatePermission transport peer now) s t e h = inl (subst P e h)
-  memory-brings (BindChannel transport peer now) s t e h = inl (subst P e h)
-  memory-brings (TcpConnect peer now) s t e h = inl (subst P e h)
-  memory-brings (AllocatedTcpSocket id tuple peer local now) s t e h = inl (subst P e h)
-  memory-brings (TcpClosed local remote now) s t e h = inl (subst P e h)
-  memory-brings (SendTo transport peer bytes now) s t none h = absurd none
-  memory-brings (Recv packet now) s t end h = recv_end-brings packet.to packet.payload now s t end h
-  memory-brings (PollRecv now) s t end h = turns_end-brings now s t end h
-  memory-brings (Poll now) s t e h = inl (closed-brings s t e h)
-  memory-brings (PollTransmit now) s t e h = inl (closed-brings s t e h)
-  memory-brings PollEvent s t none h = absurd none
-  memory-brings RelayedAddresses s t none h = absurd none
-  memory-brings (Permissions transport relayed) s t none h = absurd none
-  memory-brings (HavePermission transport to) s t none h = absurd none
-  memory-brings ProtocolError s t e h = inl (closed-brings s t e h)

@@ -32,7 +32,7 @@ use Rattle.turn_client_api.specs.Judgement.{method_in, class_in, by_class, chall
 use Rattle.turn_client_api.specs.Retry.{most_challenges, retried}
 use Rattle.turn_client_api.specs.Connections.{attempt_requested, bind_step}
 use Rattle.turn_client_api.specs.Payloads.{Handled, Ignored, PeerData, PeerIcmp, outcome_for, signed_step, challenge_step, answered_purposes}
-use Rattle.turn_client_api.specs.Payloads.{Outcome, data_indicated, channel_sent, message_step, datagram_step, is_message, is_channel_frame}
+use Rattle.turn_client_api.specs.Payloads.{Outcome, data_indicated, data_of, channel_sent, message_step, datagram_step, is_message, is_channel_frame}
 use Rattle.turn_client_api.specs.Streams.{frame_step, control_frame_step, waiting_frame_step}
 use Rattle.turn_client_api.specs.LawsPeers.{IsIndicated, IsLetThrough, IsLetIn, IsNobodys}
 use Rattle.turn_client_api.proofs.AddressLemmas.{same_ip-true}
@@ -184,32 +184,32 @@ allocated-indication s message = by (class_in message) refl (validation_of (auth
     by Error e (Refused integrity) f = rw (e, f) (λ h. absurd (challenged_or-unlike Unrelated (challenge_in s message) (λ e. cc) h))
     by Error e (ResendRequest algorithm) f = rw (e, f) (λ h. absurd (challenged_or-unlike Unrelated (challenge_in s message) (λ e. cc) h))
 
--- only a DATA indication is judged to be of a peer
-DataIndication-indication : (s : State) (message : List ℕ) → judgement_of s message ≡ DataIndication → is_data_indication message ≡ true
+-- only a DATA indication is judged to be of a peer, and only in this phase
+DataIndication-indication : (s : State) (message : List ℕ) → judgement_of s message ≡ DataIndication → (s.phase ≡ Allocated) × (is_data_indication message ≡ true)
 DataIndication-indication s message = by s.phase refl
   where
-    by : (p : Phase) → s.phase ≡ p → judgement_of s message ≡ DataIndication → is_data_indication message ≡ true
+    by : (p : Phase) → s.phase ≡ p → judgement_of s message ≡ DataIndication → (s.phase ≡ Allocated) × (is_data_indication message ≡ true)
     by New e = rw e (λ h. cc)
     by Requesting e = rw e (λ h. absurd (requesting-unlike s message h))
     by Authenticating e = rw e (λ h. absurd (authenticating-unlike s message h))
-    by Allocated e = rw e (allocated-indication s message)
+    by Allocated e = rw e (λ h. (refl, allocated-indication s message h))
     by Closed e = rw e (λ h. cc)
 
-indicated-IsLetThrough : (message : List ℕ) (s : State) → is_data_indication message ≡ true → IsLetThrough message s (data_indicated s message)
-indicated-IsLetThrough message s is =
+indicated-IsLetThrough : (message : List ℕ) (s : State) → s.phase ≡ Allocated → is_data_indication message ≡ true → IsLetThrough message s (data_indicated s message)
+indicated-IsLetThrough message s phase is =
     by (has_unknown message) refl (last_peer_in message) refl (last_in data_kind message) refl (last_icmp_in message) refl
   where
-    by_permission : (peer : SocketAddr) → last_peer_in message ≡ Some peer → (o : Outcome) → (IsIndicated message peer s → IsLetThrough message s o) → (b : Bool) → is_permitted (socket_ip peer) s ≡ b → IsLetThrough message s (cond b o Ignored)
-    by_permission peer named o then false e = tt
-    by_permission peer named o then true e =
-        then (record { indication = is; named = named; permitted = permitted-in (socket_ip peer) s.grants e })
+    by_permission : (peer : SocketAddr) → has_unknown message ≡ false → last_peer_in message ≡ Some peer → (o : Outcome) → (IsIndicated message peer s → IsLetThrough message s o) → (b : Bool) → is_permitted (socket_ip peer) s ≡ b → IsLetThrough message s (cond b o Ignored)
+    by_permission peer known named o then false e = tt
+    by_permission peer known named o then true e =
+        then (record { phase = phase; indication = is; known = known; named = named; permitted = permitted-in (socket_ip peer) s.grants e })
 
     by : (b : Bool) → has_unknown message ≡ b → (p : Option SocketAddr) → last_peer_in message ≡ p → (a : Option Attribute) → last_in data_kind message ≡ a → (i : Option Icmp) → last_icmp_in message ≡ i → IsLetThrough message s (data_indicated s message)
     by true e p f a g i h = rw e tt
     by false e None f a g i h = rw (e, f) tt
     by false e (Some peer) f None g None h = rw (e, f, g, h) tt
-    by false e (Some peer) f None g (Some icmp) h = rw (e, f, g, h) (by_permission peer f _ (λ is. is) (is_permitted (socket_ip peer) s) refl)
-    by false e (Some peer) f (Some a) g i h = rw (e, f, g) (by_permission peer f _ (λ is. inl is) (is_permitted (socket_ip peer) s) refl)
+    by false e (Some peer) f None g (Some icmp) h = rw (e, f, g, h) (by_permission peer e f (PeerIcmp s.config.allocation_transport peer icmp) (λ is. (is, (g, h, refl))) (is_permitted (socket_ip peer) s) refl)
+    by false e (Some peer) f (Some a) g i h = rw (e, f, g) (by_permission peer e f (data_of s peer a.offset a.value) (λ is. inl (is, (a, g, refl))) (is_permitted (socket_ip peer) s) refl)
 
 message-IsLetThrough : (message : List ℕ) (now : ℕ) (s : State) → IsLetThrough message s (message_step message now s).0
 message-IsLetThrough message now s = by (judgement_of s message) refl
@@ -219,7 +219,7 @@ message-IsLetThrough message now s = by (judgement_of s message) refl
     by (Challenged challenge) e = rw e (nobodys message s _ (challenge_step-nobodys message challenge now s))
     by Fatal e = rw e tt
     by LateResponse e = rw e tt
-    by DataIndication e = rw e (indicated-IsLetThrough message s (DataIndication-indication s message e))
+    by DataIndication e = let (phase, is) = DataIndication-indication s message e in rw e (indicated-IsLetThrough message s phase is)
     by ConnectionAttempt e = rw e (nobodys message s _ (attempt-nobodys (attempt_indicated message s) s))
     by SignedRequest e = rw e (nobodys message s _ (handled-if (eqb (method_in message) connection_attempt_method) (attempt_requested message s) s))
     by SignedSuccess e = rw e (nobodys message s _ (signed_step-nobodys true message now s))
@@ -230,7 +230,7 @@ channel_sent-IsLetThrough frame s = by (first_in (channel_peer (channel_at frame
   where
     by : (o : Option SocketAddr) → first_in (channel_peer (channel_at frame).id) s ≡ o → IsLetThrough frame s (channel_sent s frame)
     by None e = rw e tt
-    by (Some peer) e = rw e (inr (channel-in (channel_at frame).id peer s.grants e))
+    by (Some peer) e = rw e (inr (channel-in (channel_at frame).id peer s.grants e, refl))
 
 pub datagram-IsLetThrough : (bytes : List ℕ) (now : ℕ) (s : State) → IsLetThrough bytes s (datagram_step bytes now s).0
 datagram-IsLetThrough bytes now s = by (is_message bytes) (is_channel_frame bytes)
@@ -264,5 +264,5 @@ frame-IsLetIn stream frame now s = by stream.mode refl
     by : (m : Mode) → stream.mode ≡ m → IsLetIn stream.mode frame s (frame_step stream frame now s).0
     by Control e = rw e (control-IsLetThrough frame now s)
     by Waiting e = rw e (waiting-nobodys stream.local frame now s)
-    by (Bound peer) e = rw e (refl, refl)
+    by (Bound peer) e = rw e refl
     by Broken e = rw e tt

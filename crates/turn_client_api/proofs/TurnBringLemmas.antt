@@ -1,7 +1,5 @@
 -- What the turns of a call bring about, the call brings about.
-use Rattle.std.proofs.Common.{◌≡◌, ◌⊎◌, ℕ, Bool, true, false, not, cond, List, [], ◌∷◌, ◌++◌, Option, Some, None, refl, sym, subst, inl, inr}
-use Rattle.std.specs.Prelude.{⊤}
-use Rattle.std.specs.List.{Contains}
+use Rattle.std.proofs.Common.{◌≡◌, ◌⊎◌, Bool, true, false, not, cond, List, [], ◌∷◌, ◌++◌, Option, Some, None, refl, sym, subst, inl, inr}
 use Rattle.std.specs.declared.net.socket_addr.SocketAddr.{SocketAddr}
 use Rattle.turn_types.specs.Frames.{begins_message}
 use Rattle.turn_client_api.specs.State.{State, Mode, Control, Waiting, Bound, Broken, Stream}
@@ -12,7 +10,7 @@ use Rattle.turn_client_api.specs.Receive.{connection_gone}
 use Rattle.turn_client_api.specs.Streams.{without_stream}
 use Rattle.turn_client_api.specs.Handled.{Turn, handled, made_of}
 use Rattle.turn_client_api.specs.Steps.{Call, EndsWithoutMemory, state_after, Delete, CreatePermission, BindChannel, TcpConnect, AllocatedTcpSocket, TcpClosed, SendTo, Recv, PollRecv, Poll, PollTransmit, PollEvent, RelayedAddresses, Permissions, HavePermission, ProtocolError}
-use Rattle.turn_client_api.specs.LawsHandled.{AsksForMemory, DiffersInStreams, DoesTurns, EndsInTurns, IsDoneBy, IsOverControl, IsStreamEnd, MayLeave, TakesTurns, TurnsLead}
+use Rattle.turn_client_api.specs.LawsHandled.{AsksForMemory, DiffersInStreams, DoesTurns, EndsInTurns, IsDoneBy, IsOverControl, MayLeave, TakesTurns, TurnsLead}
 use Rattle.turn_client_api.proofs.HasLemmas.{Has, has-left}
 use Rattle.turn_client_api.proofs.StandLemmas.{has-contains}
 use Rattle.turn_client_api.proofs.TurnChainLemmas.{calls-do, dropped-differs}

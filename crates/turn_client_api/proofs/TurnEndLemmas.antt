@@ -16,7 +16,7 @@ use Rattle.turn_client_api.specs.Handled.{Turn, fed_taken, handled, piece_turns,
 use Rattle.turn_client_api.specs.Steps.{Call, EndsWithoutMemory, Delete, CreatePermission, BindChannel, TcpConnect, AllocatedTcpSocket, TcpClosed, SendTo, Recv, PollRecv, Poll, PollTransmit, PollEvent, RelayedAddresses, Permissions, HavePermission, ProtocolError}
 use Rattle.turn_client_api.specs.LawsHandled.{AsksForMemory, EndsInTurns, TakesTurns, TurnsLead}
 use Rattle.turn_client_api.proofs.StreamDrainLemmas.{turn-lighter}
-use Rattle.turn_client_api.proofs.StreamPeerLemmas.{behind}
+use Rattle.turn_client_api.proofs.MemoryLemmas.{behind}
 use Rattle.turn_client_api.proofs.StreamWeightLemmas.{weight, weight-le}
 use Rattle.turn_client_api.proofs.TurnChainLemmas.{broken-differs, fed-leads, leads-after, leads-append, turns-lead}
 

@@ -2,11 +2,12 @@
 -- to 12.3; RFC 6062, section 4.3).
 use Rattle.std.specs.Prelude.{◌≡◌, ◌⊎◌, ◌≤◌, ℕ, true, List, Some, None, ⊤}
 use Rattle.std.specs.List.{Contains, list_any}
+use Rattle.std.specs.declared.net.socket_addr.SocketAddr.{SocketAddr}
 use Rattle.turn_stun.specs.Message.{id_of}
 use Rattle.turn_stun.specs.declared.message.header.MessageClass.TheVariants.{Success}
 use Rattle.turn_auth.specs.Validation.{IsValidated, validation_of}
 use Rattle.turn_agent.specs.Agent.{is_outstanding}
-use Rattle.turn_client_api.specs.State.{State, Grant, Allocation, Permission, Channel, Connection, Relay, Active, Purpose, ForAllocation, ForRefresh, ForPermission, ForChannel, auth_of, later_by, seconds}
+use Rattle.turn_client_api.specs.State.{State, Grant, Allocation, Permission, Channel, Connection, Relay, Progress, Active, Purpose, ForAllocation, ForRefresh, ForPermission, ForChannel, auth_of, later_by, seconds}
 use Rattle.turn_client_api.specs.Grants.{is_of_family, purposes_of, same_ip}
 use Rattle.turn_client_api.specs.Judgement.{class_in, lifetime_in}
 use Rattle.turn_client_api.specs.Payloads.{is_message}
@@ -37,8 +38,12 @@ IsKeptAs _ _ = ⊥
 abbrev pub Stood : State → Grant → Type 0
 Stood s g = (was : Grant) × Contains s.grants was × IsKeptAs was g
 
+-- there is a channel of this number, which is for this peer
+abbrev pub HasChannelTo : ℕ → SocketAddr → State → Type 0
+HasChannelTo number peer s = (progress : Progress) × Contains s.grants (Channel number peer progress)
+
 -- what a success that comes now, in this state, gives for a purpose of its request: an allocation is of a
--- family that is asked for
+-- family that is asked for, and a channel has its peer already, with which it was asked for
 abbrev pub IsGivenFor : Purpose → List ℕ → ℕ → State → Grant → Type 0
 IsGivenFor ForAllocation message now s (Allocation a) =
     (n : ℕ) × (lifetime_in message ≡ Some n) × (a.expiry ≡ later_by (seconds n) now)
@@ -50,7 +55,7 @@ IsGivenFor (ForRefresh family lifetime) message now s (Allocation a) =
 IsGivenFor (ForPermission ip) message now s (Permission other (Active expiry)) =
     (same_ip other ip ≡ true) × (expiry ≡ later_by permission_lifetime now)
 IsGivenFor (ForChannel number peer) message now s (Channel other to (Active expiry)) =
-    (other ≡ number) × (expiry ≡ later_by channel_lifetime now)
+    (other ≡ number) × (expiry ≡ later_by channel_lifetime now) × HasChannelTo other to s
 IsGivenFor _ message now s _ = ⊥
 
 -- The message is a success that is signed under the held realm and the client's credentials, it answers

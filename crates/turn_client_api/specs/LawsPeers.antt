@@ -1,18 +1,22 @@
 -- From which peers something comes (RFC 8656, sections 11.6 and 12.6; RFC 6062, section 4.3).
-use Rattle.std.specs.Prelude.{◌≡◌, ◌⊎◌, ℕ, true, List, ◌++◌, take, Option, Some, None, ⊤}
+use Rattle.std.specs.Prelude.{◌≡◌, ◌⊎◌, ℕ, true, false, List, Option, Some, None, ⊤}
 use Rattle.std.specs.List.{Contains}
 use Rattle.std.specs.Net.Socket.{socket_ip}
 use Rattle.std.specs.declared.net.ip_addr.IpAddr.{IpAddr}
 use Rattle.std.specs.declared.net.socket_addr.SocketAddr.{SocketAddr}
+use Rattle.turn_stun.specs.Message.{Attribute}
 use Rattle.turn_stun.specs.declared.transport.TransportType.{TransportType}
-use Rattle.turn_stun.specs.declared.transport.TransportType.TheVariants.{Udp, Tcp}
 use Rattle.turn_types.specs.Channel.{channel_at}
-use Rattle.turn_client_api.specs.State.{State, Permission, Channel, Active, Mode, Control, Waiting, Bound, Broken, Stream}
-use Rattle.turn_client_api.specs.Judgement.{last_peer_in}
-use Rattle.turn_client_api.specs.Answers.{before_others, is_data_indication}
-use Rattle.turn_client_api.specs.Payloads.{Payload, Outcome, Handled, Ignored, PeerData, PeerIcmp}
-use Rattle.turn_client_api.specs.Streams.{stream_at, turns_until_payload}
-use Rattle.turn_client_api.specs.Handled.{Turn, made_of}
+use Rattle.turn_types.specs.Send.{data_kind}
+use Rattle.turn_types.specs.declared.attribute.icmp_report.Icmp.{Icmp}
+use Rattle.turn_client_api.specs.State.{State, Allocated, Permission, Channel, Active, Mode, Control, Waiting, Bound, Broken, Stream}
+use Rattle.turn_client_api.specs.Judgement.{has_unknown, last_icmp_in, last_in, last_peer_in}
+use Rattle.turn_client_api.specs.Answers.{is_data_indication}
+use Rattle.turn_client_api.specs.Payloads.{Payload, Outcome, Handled, Ignored, PeerData, PeerIcmp, data_of}
+use Rattle.turn_client_api.specs.Streams.{all_of, sent_by}
+use Rattle.turn_client_api.specs.Handled.{Turn, made_of, turn_payload}
+use Rattle.turn_client_api.specs.Steps.{Call}
+use Rattle.turn_client_api.specs.LawsHandled.{IsDoneBy}
 
 -- the IP address has an active permission
 abbrev pub HasPermission : IpAddr → State → Type 0
@@ -22,18 +26,36 @@ HasPermission ip s = (expiry : ℕ) × Contains s.grants (Permission ip (Active 
 abbrev pub HasChannel : ℕ → SocketAddr → State → Type 0
 HasChannel number peer s = (expiry : ℕ) × Contains s.grants (Channel number peer (Active expiry))
 
--- the bytes are a DATA indication that names this peer, which has a permission
+-- The client is in `Allocated`, and the bytes are a DATA indication that names this peer, which has a
+-- permission. All that it has to understand it does (RFC 8489, section 6.3.2).
 pub record IsIndicated (bytes : List ℕ) (peer : SocketAddr) (s : State) : Type 0 where
+  pub phase : s.phase ≡ Allocated
   pub indication : is_data_indication bytes ≡ true
+  pub known : has_unknown bytes ≡ false
   pub named : last_peer_in bytes ≡ Some peer
   pub permitted : HasPermission (socket_ip peer) s
+
+-- it is the value of the last DATA attribute, over the allocation's transport, and stands there
+abbrev pub IsDataAttribute : List ℕ → State → Payload → Type 0
+IsDataAttribute bytes s payload =
+    (a : Attribute) × (last_in data_kind bytes ≡ Some a) × (PeerData payload ≡ data_of s payload.peer a.offset a.value)
+
+-- it is all that the channel frame carries, over the allocation's transport, and stands there
+abbrev pub IsChannelPayload : List ℕ → State → Payload → Type 0
+IsChannelPayload bytes s payload = PeerData payload ≡ data_of s payload.peer 0 (channel_at bytes).payload
+
+-- There is no DATA, and the last ICMP attribute tells it, over the allocation's transport.
+abbrev pub IsIcmpAttribute : List ℕ → State → TransportType → Icmp → Type 0
+IsIcmpAttribute bytes s transport icmp =
+    (last_in data_kind bytes ≡ None) × (last_icmp_in bytes ≡ Some icmp) × (transport ≡ s.config.allocation_transport)
 
 -- What a whole message or channel frame gives came from a peer that the server lets through: in a DATA
 -- indication, or over its channel.
 abbrev pub IsLetThrough : List ℕ → State → Outcome → Type 0
 IsLetThrough bytes s (PeerData payload) =
-    IsIndicated bytes payload.peer s ⊎ HasChannel (channel_at bytes).id payload.peer s
-IsLetThrough bytes s (PeerIcmp transport peer icmp) = IsIndicated bytes peer s
+    (IsIndicated bytes payload.peer s × IsDataAttribute bytes s payload)
+    ⊎ (HasChannel (channel_at bytes).id payload.peer s × IsChannelPayload bytes s payload)
+IsLetThrough bytes s (PeerIcmp transport peer icmp) = IsIndicated bytes peer s × IsIcmpAttribute bytes s transport icmp
 IsLetThrough bytes s Handled = ⊤
 IsLetThrough bytes s Ignored = ⊤
 
@@ -43,48 +65,13 @@ IsNobodys Handled = ⊤
 IsNobodys Ignored = ⊤
 IsNobodys _ = ⊥
 
--- these bytes came from this peer
-abbrev pub IsSentBy : SocketAddr → List ℕ → Outcome → Type 0
-IsSentBy peer bytes (PeerData payload) = (payload.peer ≡ peer) × (payload.bytes ≡ bytes)
-IsSentBy peer bytes _ = ⊥
-
--- what a frame of a stream gives, by how the stream's bytes are meant
+-- What a frame of a stream gives, by how the stream's bytes are meant: a bound one gives all of them, over
+-- TCP, as its peer's.
 abbrev pub IsLetIn : Mode → List ℕ → State → Outcome → Type 0
 IsLetIn Control frame s outcome = IsLetThrough frame s outcome
 IsLetIn Waiting frame s outcome = IsNobodys outcome
-IsLetIn (Bound peer) frame s outcome = IsSentBy peer frame outcome
+IsLetIn (Bound peer) frame s outcome = outcome ≡ PeerData (sent_by peer frame (all_of frame))
 IsLetIn Broken frame s outcome = IsNobodys outcome
-
--- what the stream's next bytes give, however many these are
-abbrev pub IsNextOf : Stream → State → Outcome → Type 0
-IsNextOf stream s outcome = (len : ℕ) × IsLetIn stream.mode (take len stream.bytes) s outcome
-
--- the payload is what the next bytes of a stream give, when some turns have given none, in the state
--- that these left
-abbrev pub IsPolled : ℕ → State → Payload → Type 0
-IsPolled now s payload =
-    (n : ℕ) × (stream : Stream) × ((turns_until_payload n now s).0 ≡ None) × Contains (turns_until_payload n now s).1.streams stream
-    × IsNextOf stream (turns_until_payload n now s).1 (PeerData payload)
-
--- what the stream at this local end gives once this piece of it came
-abbrev pub IsNextAt : SocketAddr → List ℕ → State → Outcome → Type 0
-IsNextAt to piece s outcome =
-    (stream : Stream) × (stream_at to s ≡ Some stream)
-    × IsNextOf (record stream { bytes = stream.bytes ++ piece }) s outcome
-
--- what a piece of a stream gives: of this stream, or a payload of any where it sets all of them going
-abbrev pub IsReceived : SocketAddr → List ℕ → ℕ → State → Outcome → Type 0
-IsReceived to piece now s (PeerData payload) =
-    IsNextAt to piece s (PeerData payload)
-    ⊎ ((t : State) × (before_others to piece now s ≡ Some t) × IsPolled now t payload)
-IsReceived to piece now s (PeerIcmp transport peer icmp) = IsNextAt to piece s (PeerIcmp transport peer icmp)
-IsReceived to piece now s Handled = ⊤
-IsReceived to piece now s Ignored = ⊤
-
--- what comes in over UDP is a datagram, and over TCP a piece of a stream
-abbrev pub IsTaken : TransportType → SocketAddr → List ℕ → ℕ → State → Outcome → Type 0
-IsTaken Udp to bytes now s outcome = IsLetThrough bytes s outcome
-IsTaken Tcp to bytes now s outcome = IsReceived to bytes now s outcome
 
 -- what a call handles gives only what the state lets in that stands when its turn comes
 abbrev pub IsLetInTurn : Turn → Type 0
@@ -93,3 +80,13 @@ IsLetInTurn t = by t.stream
     by : Option Stream → Type 0
     by None = IsLetThrough t.bytes t.before (made_of t).0
     by (Some stream) = IsLetIn stream.mode t.bytes t.before (made_of t).0
+
+-- a turn of the call gives the payload, at its place in what the caller handed in, or owned
+abbrev pub IsGivenBy : Payload → Call → State → Type 0
+IsGivenBy payload call s = IsDoneBy (λ one. (turn_payload one ≡ Some payload) × IsLetInTurn one) call s
+
+-- where it tells what ICMP told, a turn of the call gives that
+abbrev pub IsToldBy : Outcome → Call → State → Type 0
+IsToldBy (PeerIcmp transport peer icmp) call s =
+    IsDoneBy (λ one. ((made_of one).0 ≡ PeerIcmp transport peer icmp) × IsLetInTurn one) call s
+IsToldBy _ call s = ⊤

@@ -1,5 +1,5 @@
+use Rattle.turn_client_api.proofs.HandledLemmas.{poll_recv-IsGivenBy, recv-IsGivenBy, recv-IsToldBy}
 use Rattle.turn_client_api.proofs.PeerLemmas.{datagram-IsLetThrough, frame-IsLetIn}
-use Rattle.turn_client_api.proofs.StreamPeerLemmas.{poll_recv-IsPolled, recv-IsTaken}
 use Rattle.turn_client_api.proofs.laws.peers.only_let_in.Goals as goal
 
 pub returns-clause-datagram : goal.returns-clause-datagram
@@ -9,7 +9,10 @@ pub returns-clause-frame : goal.returns-clause-frame
 returns-clause-frame c = frame-IsLetIn
 
 pub returns-clause-poll_recv : goal.returns-clause-poll_recv
-returns-clause-poll_recv c = poll_recv-IsPolled
+returns-clause-poll_recv c = poll_recv-IsGivenBy
 
 pub returns-clause-recv : goal.returns-clause-recv
-returns-clause-recv c = recv-IsTaken
+returns-clause-recv c = recv-IsGivenBy
+
+pub returns-clause-icmp : goal.returns-clause-icmp
+returns-clause-icmp c = recv-IsToldBy
