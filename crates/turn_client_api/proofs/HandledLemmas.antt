@@ -16,7 +16,7 @@ use Rattle.turn_client_api.specs.Streams.{broken_at, framed_by, framed_turn, go_
 use Rattle.turn_client_api.specs.Receive.{first_turn, is_from_server, piece_step, place_kept, recv_step, stream_step, then_all}
 use Rattle.turn_client_api.specs.Steps.{Call, PollRecv, Recv, packet_step}
 use Rattle.turn_client_api.specs.Handled.{Turn, fed, fed_taken, frame_taken, handled, is_front, made_of, payloads, piece_turns, poll_recv_turns, recv_turns, stream_turns, taken, taken_first, taken_in, taken_of_len, then_taken, turn_of, turn_payload, turns_taken, unless_given}
-use Rattle.turn_client_api.specs.LawsPeers.{IsGivenBy, IsLetInTurn, IsToldBy}
+use Rattle.turn_client_api.specs.LawsPeers.{IsGivenInTurn, IsLetInTurn, IsToldBy}
 use Rattle.turn_client_api.proofs.HasLemmas.{Has, has-filter_map, has-left}
 use Rattle.turn_client_api.proofs.StandLemmas.{has-contains}
 use Rattle.turn_client_api.proofs.PeerLemmas.{datagram-IsLetThrough, frame-IsLetIn}
@@ -187,16 +187,16 @@ given-among : (turns : List Turn) (o : Option Payload) → payloads turns ≡ op
 given-among turns None e = tt
 given-among turns (Some payload) e = has-filter_map turn_payload payload turns (subst (Has payload) (sym e) (inl refl))
 
-given-by : (call : Call) (s : State) (o : Option Payload) → IfSome o (λ payload. (one : Turn) × Has one (handled call s) × (turn_payload one ≡ Some payload)) → IfSome o (λ payload. IsGivenBy payload call s)
+given-by : (call : Call) (s : State) (o : Option Payload) → IfSome o (λ payload. (one : Turn) × Has one (handled call s) × (turn_payload one ≡ Some payload)) → IsGivenInTurn o call s
 given-by call s None h = tt
 given-by call s (Some payload) (one, there, gives) = (one, has-contains one (handled call s) there, (gives, turn-IsLetIn one))
 
-pub recv-IsGivenBy : (packet : Transmit (List ℕ)) (now : ℕ) (s : State) → IfSome (payload_in (packet_step packet now s).0) (λ payload. IsGivenBy payload (Recv packet now) s)
+pub recv-IsGivenBy : (packet : Transmit (List ℕ)) (now : ℕ) (s : State) → IsGivenInTurn (payload_in (packet_step packet now s).0) (Recv packet now) s
 recv-IsGivenBy packet now s =
     let o = payload_in (packet_step packet now s).0 in
     given-by (Recv packet now) s o (given-among (handled (Recv packet now) s) o (recv-AreOf packet now s))
 
-pub poll_recv-IsGivenBy : (now : ℕ) (s : State) → IfSome (poll_recv_step now s).0 (λ payload. IsGivenBy payload (PollRecv now) s)
+pub poll_recv-IsGivenBy : (now : ℕ) (s : State) → IsGivenInTurn (poll_recv_step now s).0 (PollRecv now) s
 poll_recv-IsGivenBy now s =
     let o = (poll_recv_step now s).0 in
     given-by (PollRecv now) s o (given-among (handled (PollRecv now) s) o (poll_recv-Gives now s))

@@ -1,5 +1,5 @@
 -- From which peers something comes (RFC 8656, sections 11.6 and 12.6; RFC 6062, section 4.3).
-use Rattle.std.specs.Prelude.{◌≡◌, ◌⊎◌, ℕ, true, false, List, Option, Some, None, ⊤}
+use Rattle.std.specs.Prelude.{◌≡◌, ◌⊎◌, ℕ, true, false, List, Option, Some, None, IfSome, ⊤}
 use Rattle.std.specs.List.{Contains}
 use Rattle.std.specs.Net.Socket.{socket_ip}
 use Rattle.std.specs.declared.net.ip_addr.IpAddr.{IpAddr}
@@ -84,6 +84,10 @@ IsLetInTurn t = by t.stream
 -- a turn of the call gives the payload, at its place in what the caller handed in, or owned
 abbrev pub IsGivenBy : Payload → Call → State → Type 0
 IsGivenBy payload call s = IsDoneBy (λ one. (turn_payload one ≡ Some payload) × IsLetInTurn one) call s
+
+-- where the call gives a payload, a turn gives it
+abbrev pub IsGivenInTurn : Option Payload → Call → State → Type 0
+IsGivenInTurn o call s = IfSome o (λ payload. IsGivenBy payload call s)
 
 -- where it tells what ICMP told, a turn of the call gives that
 abbrev pub IsToldBy : Outcome → Call → State → Type 0

@@ -12,7 +12,7 @@ ghost use Rattle.turn_client_api.specs.LawsHandled.{AsksForMemory, DoesTurns, En
 /// those. What a frame of any stream does has nothing to do with the bytes that wait.
 pub fn messages_leave_streams()
     ensures message { (streams : List Stream) (message : List ℕ) (now : ℕ) (s : State) → IgnoresStreams streams message now s }
-    ensures frame { (local : SocketAddr) (bytes : List ℕ) (stream : Stream) (frame : List ℕ) (now : ℕ) (s : State) → IgnoresBytes local bytes stream frame now s }
+    ensures frame { (local : SocketAddr) (bytes frame : List ℕ) (stream : Stream) (now : ℕ) (s : State) → IgnoresBytes local bytes stream frame now s }
 {}
 
 /// The turn of a stream takes at most one frame (RFC 8656, section 12.5): it is the one in front, it is

@@ -6,4 +6,4 @@ pub returns-clause-message : goal.returns-clause-message
 returns-clause-message c = message-alike
 
 pub returns-clause-frame : goal.returns-clause-frame
-returns-clause-frame c = frame-bytes
+returns-clause-frame c = λ local bytes frame stream now s. frame-bytes local bytes stream frame now s
