@@ -12,6 +12,10 @@ pub mod DoubleLemmas
 pub mod DoubleMessageLemmas
 pub mod DrawLemmas
 pub mod FrameRestLemmas
+pub mod Edits
+pub mod EditsOfCalls
+pub mod EditsOfMessages
+pub mod EditsOfReplies
 pub mod GivenCallLemmas
 pub mod GivenEffectLemmas
 pub mod GivenLemmas

@@ -91,7 +91,7 @@ Challenged-is s message c = by s.phase refl
     by Allocated e = rw e (allocated-is s message c)
     by Closed e = rw e (λ h. cc)
 
-bind-is : (s : State) (local : SocketAddr) (message : List ℕ) (c : Challenge) → bind_judgement s local message ≡ Challenged c → challenge_in s message ≡ Some c
+pub bind-is : (s : State) (local : SocketAddr) (message : List ℕ) (c : Challenge) → bind_judgement s local message ≡ Challenged c → challenge_in s message ≡ Some c
 bind-is s local message c = by (validation_of (auth_of s) message) refl
   where
     by : (v : Validation) → validation_of (auth_of s) message ≡ v → bind_judgement s local message ≡ Challenged c → challenge_in s message ≡ Some c

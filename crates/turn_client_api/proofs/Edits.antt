@@ -1,0 +1,111 @@
+-- The edits of which all calls and messages are made. What a relation says of each of them, it says of
+-- each call: a new law of what calls keep is one record.
+use Rattle.std.proofs.Common.{◌≡◌, ℕ, Bool, true, false, not, List, [], ◌∷◌, ◌++◌, map, filter, length, Option, Some, None, ◌⊎◌, ◌<◌, ◌+◌}
+use Rattle.std.specs.Prelude.{is_some, IsSome}
+use Rattle.std.specs.List.{list_any}
+use Rattle.std.specs.Net.Socket.{socket_ip}
+use Rattle.std.specs.declared.net.ip_addr.IpAddr.{IpAddr}
+use Rattle.std.specs.declared.net.socket_addr.SocketAddr.{SocketAddr}
+use Rattle.turn_stun.specs.declared.transport.TransportType.TheVariants.{Tcp}
+use Rattle.turn_types.specs.declared.family.AddressFamily.{AddressFamily}
+use Rattle.turn_auth.specs.LongTerm.{Challenge}
+use Rattle.turn_agent.specs.Agent.{resent}
+use Rattle.turn_client_api.specs.State.{State, Phase, New, Requesting, Authenticating, Allocated, Closed, Grant, Allocation, Permission, Channel, Connect, Offer, Connection, DataConnection, DataOffer, Relay, Progress, Pending, Active, Reserved, Origin, OwnConnect, ServerIndication, Purpose, ForAllocation, ForConnect, Listing}
+use Rattle.turn_client_api.specs.Grants.{allocation_for, allocation_of, family_of, family_of_ip, is_channel_of, is_connect_to, is_connection_from, is_for, is_of, is_permission_of, permission_for, purposes_of, with_grant, without}
+use Rattle.turn_client_api.specs.Requests.{asked}
+use Rattle.turn_client_api.specs.Judgement.{challenge_in}
+use Rattle.turn_client_api.specs.Effect.{challenges_reset, ended, new_allocation, phase_with, relayed_in, taken_addresses, with_offer}
+use Rattle.turn_client_api.specs.Retry.{most_challenges, phase_after, with_held}
+use Rattle.turn_client_api.specs.Calls.{channel_numbers, offer_origin, offer_taken}
+use Rattle.turn_client_api.specs.Connections.{is_connecting, is_indicated, most_indicated}
+use Rattle.turn_client_api.specs.Transmit.{sent}
+use Rattle.turn_client_api.specs.LawsOrder.{IsUngranted}
+use Rattle.turn_client_api.proofs.HasLemmas.{Has}
+use Rattle.turn_client_api.proofs.HousedLemmas.{Room}
+
+-- ---- what an edit is known by
+
+-- how far a grant has come, without moments
+abbrev pub stage : Progress → Progress
+stage Pending = Pending
+stage (Active expiry) = Active 0
+stage (Reserved until) = Reserved 0
+
+-- what never changes of a grant, without moments and what was told of it
+abbrev pub outline : Grant → Grant
+outline (Allocation a) = Allocation (record { relayed = a.relayed; first_lifetime = 0; expiry = 0; is_expired = false })
+outline (Permission ip progress) = Permission ip (stage progress)
+outline (Channel number peer progress) = Channel number peer (stage progress)
+outline (Connect peer) = Connect peer
+outline (Offer offer) = Offer (record offer { is_told = false })
+outline (Connection c) = Connection (record c { deadline = None })
+
+-- grants of this kind are no allocations
+abbrev pub SparesAllocations : (Grant → Bool) → Type 0
+SparesAllocations which = (a : Relay) → which (Allocation a) ≡ false
+
+-- A request may be listed for this: it asks for an allocation, a grant that it is for is there, or one is
+-- listed for it already.
+abbrev pub IsAskable : State → Purpose → Type 0
+IsAskable s p =
+    (p ≡ ForAllocation) ⊎ ((list_any (is_for p) s.grants ≡ true)
+    ⊎ ((l : Listing) × Has l s.listed × (l.purpose ≡ p)))
+
+-- ---- what calls are made of
+
+pub record KeepsEdits (R : State → State → Type 0) : Type 0 where
+  pub same : (s : State) → R s s
+  pub trans : (s t u : State) → R s t → R t u → R s u
+  -- what waits for the caller or to be sent, the streams and the IDs to come: all as in any other state
+  pub aside : (s t : State) → R s (record s { ids = t.ids; queue = t.queue; events = t.events; closes = t.closes; streams = t.streams })
+  pub families : (families : List AddressFamily) (s : State) → R s (record s { families = families })
+  pub sends : (now : ℕ) (s : State) → R s (sent now s)
+  pub begins : (now : ℕ) (s : State) → s.phase ≡ New → R s (sent now (record s { phase = Requesting }))
+  pub ends : (s : State) → R s (record s { phase = Closed })
+  -- requests
+  pub asks : (id : ℕ) (text : List ℕ) (purposes : List Purpose) (now : ℕ) (s : State) → ((p : Purpose) → Has p purposes → IsAskable s p) → R s (asked id text purposes now s)
+  pub finishes : (id : ℕ) (s : State) → R s (ended id s)
+  pub resends : (id now : ℕ) (s : State) → R s (record s { transactions = resent id now s.transactions })
+  pub unlists : (which : Listing → Bool) (s : State) → R s (record s { listed = filter which s.listed })
+  -- grants go, with the requests that are listed for them
+  pub removes : (which : Grant → Bool) (s : State) → SparesAllocations which → R s (without which s)
+  pub removes_family : (family : AddressFamily) (s : State) → R s (without (is_of family) s)
+  pub takes_offer : (id : ℕ) (peer : SocketAddr) (s : State) → R s (offer_taken id peer s)
+  -- grants last longer, and are told
+  pub reshapes : (grants : List Grant) (s : State) → map outline grants ≡ map outline s.grants → R s (record s { grants = grants })
+  -- what a caller asks for comes
+  pub permission : (ip : IpAddr) (s : State) → s.phase ≡ Allocated → Room s.grants (family_of_ip ip) → list_any (is_permission_of ip) s.grants ≡ false
+      → R s (with_grant (Permission ip Pending) s)
+  pub channel : (number : ℕ) (peer : SocketAddr) (s : State) → s.phase ≡ Allocated → Room s.grants (family_of peer) → list_any (is_channel_of number) s.grants ≡ false
+      → Has number channel_numbers → R s (with_grant (Channel number peer Pending) s)
+  pub connect : (peer : SocketAddr) (s : State) → s.phase ≡ Allocated → Room s.grants (family_of peer) → is_connecting peer s ≡ false
+      → R s (with_grant (Connect peer) s)
+  pub connection : (id : ℕ) (c : DataConnection) (origin : Origin) (s : State) → s.phase ≡ Allocated → offer_origin id c.peer s ≡ Some origin
+      → list_any (is_connection_from c.local) s.grants ≡ false → R s (with_grant (Connection c) (offer_taken id c.peer s))
+  -- a channel takes the place of those of its number
+  pub rebinds : (number : ℕ) (peer : SocketAddr) (was progress : Progress) (s : State) → Has (Channel number peer was) s.grants
+      → R s (with_grant (Channel number peer progress) (without (is_channel_of number) s))
+
+-- ---- what messages are made of, too
+
+pub record KeepsAllEdits (R : State → State → Type 0) : Type 0 where
+  pub edits : KeepsEdits R
+  -- challenges
+  pub holds : (message : List ℕ) (d : Challenge) (s : State) → challenge_in s message ≡ Some d → R s (with_held d s)
+  pub counts : (s : State) → IsSome s.held → s.challenges < most_challenges → R s (record s { phase = phase_after s.phase; challenges = s.challenges + 1 })
+  pub resets : (s : State) → R s (challenges_reset s)
+  -- all grants go
+  pub empties : (s : State) → R s (without (λ g. true) s)
+  -- the server allocates
+  pub allocates : (message : List ℕ) (lifetime now : ℕ) (s : State) → s.phase ≡ Authenticating
+      → let addresses = taken_addresses s.families (relayed_in message) in
+      R s (record s { phase = phase_with addresses; grants = s.grants ++ map (new_allocation lifetime now) addresses })
+  -- what was asked for is granted
+  pub permits : (ip : IpAddr) (expiry : ℕ) (s : State) → permission_for ip s ≡ Some Pending
+      → R s (with_grant (Permission ip (Active expiry)) (without (is_permission_of ip) s))
+  -- where this was to come of a request that was listed when its reply came
+  pub connects : (id connection_id : ℕ) (peer : SocketAddr) (s t : State) → R s t → (IsUngranted s.phase → ⊥) → Has (ForConnect peer) (purposes_of id s)
+      → R t (with_offer connection_id peer OwnConnect (without (is_connect_to peer) t))
+  -- the server asks for a connection
+  pub offers : (id : ℕ) (peer : SocketAddr) (origin : Origin) (s : State) → Room s.grants (family_of peer)
+      → (origin ≡ ServerIndication → length (filter is_indicated s.grants) < most_indicated) → R s (with_offer id peer origin s)
