@@ -5,12 +5,10 @@ use Rattle.std.specs.List.{list_any, IsDistinct, AllByRecursion}
 use Rattle.std.proofs.lemmas.Bool.{or_parts}
 use Rattle.std.specs.declared.net.ip_addr.IpAddr.{IpAddr}
 use Rattle.std.specs.declared.net.socket_addr.SocketAddr.{SocketAddr}
-use Rattle.turn_types.specs.declared.family.AddressFamily.{AddressFamily}
 use Rattle.turn_agent.specs.Agent.{same_address}
 use Rattle.turn_client_api.specs.State.{Grant, Allocation, Permission, Channel, Connect, Offer, Connection, Progress, DataConnection, DataOffer, Relay}
 use Rattle.turn_client_api.specs.Grants.{connection_in, is_channel_of, is_connect_to, is_connection_from, is_permission_of, permission_progress, same_ip}
 use Rattle.turn_client_api.specs.Calls.{without_first}
-use Rattle.turn_client_api.specs.Poll.{told, told_first, untold_in}
 use Rattle.turn_client_api.specs.LawsDoubles.{is_double}
 
 -- no two of them stand for the same
@@ -135,10 +133,6 @@ offer-single offer (Connection c) = refl
 pub alike-offer : (a b : DataOffer) → IsAlike (Offer a) (Offer b)
 alike-offer a b = record { front = λ x. refl; behind = λ x. offer-single a x ∙ sym (offer-single b x) }
 
-pub alike-cond : (b : Bool) (g h : Grant) → IsAlike g h → IsAlike (cond b g h) h
-alike-cond true g h alike = alike
-alike-cond false g h alike = alike-same h
-
 single-mapped : (f : Grant → Grant) → ((g : Grant) → IsAlike (f g) g) → (g : Grant) (gs : List Grant) → IsSingle g gs → IsSingle (f g) (map f gs)
 single-mapped f alike g [] h = h
 single-mapped f alike g (x ∷ gs) h = ((alike g).front (f x) ∙ (alike x).behind g ∙ h.0, single-mapped f alike g gs h.1)
@@ -147,6 +141,15 @@ pub single-map : (f : Grant → Grant) → ((g : Grant) → IsAlike (f g) g) →
 unfolding IsDistinct
 single-map f alike [] h = h
 single-map f alike (g ∷ gs) h = (single-mapped f alike g gs h.0, single-map f alike gs h.1)
+
+single-unmapped : (f : Grant → Grant) → ((g : Grant) → IsAlike (f g) g) → (g : Grant) (gs : List Grant) → IsSingle (f g) (map f gs) → IsSingle g gs
+single-unmapped f alike g [] h = h
+single-unmapped f alike g (x ∷ gs) h = (sym ((alike g).front x) ∙ (sym ((alike x).behind (f g)) ∙ h.0), single-unmapped f alike g gs h.1)
+
+pub single-unmap : (f : Grant → Grant) → ((g : Grant) → IsAlike (f g) g) → (gs : List Grant) → AreSingle (map f gs) → AreSingle gs
+unfolding IsDistinct
+single-unmap f alike [] h = h
+single-unmap f alike (g ∷ gs) h = (single-unmapped f alike g gs h.0, single-unmap f alike gs h.1)
 
 -- ---- one more
 
@@ -162,15 +165,6 @@ pub single-last : (g : Grant) (gs : List Grant) → IsNew g gs → AreSingle gs 
 unfolding IsDistinct
 single-last g [] new h = (tt, tt)
 single-last g (x ∷ gs) new h = (all-last (λ y. is_double x y ≡ false) g gs new.0 h.0, single-last g gs new.1 h.1)
-
-all-two : (P : Grant → Type 0) (g h : Grant) (gs : List Grant) → P g → P h → AllByRecursion P gs → AllByRecursion P (gs ++ g ∷ h ∷ [])
-all-two P g h [] first last k = (first, (last, tt))
-all-two P g h (x ∷ gs) first last k = (k.0, all-two P g h gs first last k.1)
-
-pub single-two : (g h : Grant) (gs : List Grant) → is_double g h ≡ false → IsNew g gs → IsNew h gs → AreSingle gs → AreSingle (gs ++ g ∷ h ∷ [])
-unfolding IsDistinct
-single-two g h [] differ first last k = ((differ, tt), (tt, tt))
-single-two g h (x ∷ gs) differ first last k = (all-two (λ y. is_double x y ≡ false) g h gs first.0 last.0 k.0, single-two g h gs differ first.1 last.1 k.1)
 
 -- no grant of the kind of this one is there
 pub none-IsNew : (which : Grant → Bool) (g : Grant) → ((x : Grant) → is_double x g ≡ which x) → (gs : List Grant) → list_any which gs ≡ false → IsNew g gs
@@ -241,7 +235,7 @@ no-connection local (Channel number peer progress ∷ gs) none = no-connection l
 no-connection local (Connect peer ∷ gs) none = no-connection local gs none
 no-connection local (Offer offer ∷ gs) none = no-connection local gs none
 
--- ---- offers are taken, or told
+-- ---- offers are taken
 
 all-without_first : (P : Grant → Type 0) (which : Grant → Bool) (gs : List Grant) → AllByRecursion P gs → AllByRecursion P (without_first which gs)
 all-without_first P which [] h = h
@@ -270,32 +264,3 @@ none-without_first p which (g ∷ gs) none = by (which g) (none-without_first p 
     by : (b : Bool) → list_any p (without_first which gs) ≡ false → list_any p (cond b gs (g ∷ without_first which gs)) ≡ false
     by true later = parts.1
     by false later = rw (parts.0, later) refl
-
-alike-told : (g : Grant) → IsAlike (told g) g
-alike-told (Offer offer) = alike-offer _ offer
-alike-told (Allocation a) = alike-same (Allocation a)
-alike-told (Permission ip progress) = alike-same (Permission ip progress)
-alike-told (Channel number peer progress) = alike-same (Channel number peer progress)
-alike-told (Connect peer) = alike-same (Connect peer)
-alike-told (Connection c) = alike-same (Connection c)
-
-single-alike : (g h : Grant) → IsAlike g h → (gs : List Grant) → IsSingle h gs → IsSingle g gs
-single-alike g h alike [] k = k
-single-alike g h alike (x ∷ gs) k = (alike.front x ∙ k.0, single-alike g h alike gs k.1)
-
-single-before_told : (family : AddressFamily) (g : Grant) (gs : List Grant) → IsSingle g gs → IsSingle g (told_first family gs)
-single-before_told family g [] h = h
-single-before_told family g (x ∷ gs) h = by (is_some (untold_in family x)) (single-before_told family g gs h.1)
-  where
-    by : (b : Bool) → IsSingle g (told_first family gs) → IsSingle g (cond b (told x ∷ gs) (x ∷ told_first family gs))
-    by true later = ((alike-told x).behind g ∙ h.0, h.1)
-    by false later = (h.0, later)
-
-pub single-told_first : (family : AddressFamily) (gs : List Grant) → AreSingle gs → AreSingle (told_first family gs)
-unfolding IsDistinct
-single-told_first family [] h = h
-single-told_first family (g ∷ gs) h = by (is_some (untold_in family g)) (single-told_first family gs h.1)
-  where
-    by : (b : Bool) → AreSingle (told_first family gs) → AreSingle (cond b (told g ∷ gs) (g ∷ told_first family gs))
-    by true later = (single-alike (told g) g (alike-told g) gs h.0, h.1)
-    by false later = (single-before_told family g gs h.0, later)

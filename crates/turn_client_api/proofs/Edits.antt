@@ -1,17 +1,15 @@
 -- The edits of which all calls and messages are made. What a relation says of each of them, it says of
 -- each call: a new law of what calls keep is one record.
-use Rattle.std.proofs.Common.{◌≡◌, ℕ, Bool, true, false, not, List, [], ◌∷◌, ◌++◌, map, filter, length, Option, Some, None, ◌⊎◌, ◌<◌, ◌+◌}
-use Rattle.std.specs.Prelude.{is_some, IsSome}
+use Rattle.std.proofs.Common.{◌≡◌, ℕ, Bool, true, false, List, ◌++◌, map, filter, length, Some, None, ◌⊎◌, ◌<◌, ◌+◌}
+use Rattle.std.specs.Prelude.{IsSome}
 use Rattle.std.specs.List.{list_any}
-use Rattle.std.specs.Net.Socket.{socket_ip}
 use Rattle.std.specs.declared.net.ip_addr.IpAddr.{IpAddr}
 use Rattle.std.specs.declared.net.socket_addr.SocketAddr.{SocketAddr}
-use Rattle.turn_stun.specs.declared.transport.TransportType.TheVariants.{Tcp}
 use Rattle.turn_types.specs.declared.family.AddressFamily.{AddressFamily}
 use Rattle.turn_auth.specs.LongTerm.{Challenge}
 use Rattle.turn_agent.specs.Agent.{resent}
-use Rattle.turn_client_api.specs.State.{State, Phase, New, Requesting, Authenticating, Allocated, Closed, Grant, Allocation, Permission, Channel, Connect, Offer, Connection, DataConnection, DataOffer, Relay, Progress, Pending, Active, Reserved, Origin, OwnConnect, ServerIndication, Purpose, ForAllocation, ForConnect, Listing}
-use Rattle.turn_client_api.specs.Grants.{allocation_for, allocation_of, family_of, family_of_ip, is_channel_of, is_connect_to, is_connection_from, is_for, is_of, is_permission_of, permission_for, purposes_of, with_grant, without}
+use Rattle.turn_client_api.specs.State.{State, New, Requesting, Authenticating, Allocated, Closed, Grant, Allocation, Permission, Channel, Connect, Offer, Connection, DataConnection, Relay, Progress, Pending, Active, Reserved, Origin, OwnConnect, ServerIndication, Purpose, ForAllocation, ForConnect, Listing}
+use Rattle.turn_client_api.specs.Grants.{family_of, family_of_ip, is_channel_of, is_connect_to, is_connection_from, is_for, is_of, is_permission_of, permission_for, purposes_of, with_grant, without}
 use Rattle.turn_client_api.specs.Requests.{asked}
 use Rattle.turn_client_api.specs.Judgement.{challenge_in}
 use Rattle.turn_client_api.specs.Effect.{challenges_reset, ended, new_allocation, phase_with, relayed_in, taken_addresses, with_offer}

@@ -1,8 +1,7 @@
 -- The edits of which calls are made: what a relation says of each edit, it says of each call.
-use Rattle.std.proofs.Common.{◌≡◌, ℕ, Bool, true, false, not, cond, leb, ltb, eqb, ◌&&◌, ◌||◌, List, [], ◌∷◌, ◌++◌, map, filter, filter_map, Option, Some, None, Result, Ok, Err, ◌⊎◌, refl, inl, inr, sym, subst}
-use Rattle.std.specs.Prelude.{is_some, is_none, drop, find, reverse, flat_map, slice_get}
+use Rattle.std.proofs.Common.{◌≡◌, ℕ, Bool, true, false, not, cond, leb, ltb, ◌&&◌, ◌||◌, List, [], ◌∷◌, map, filter, filter_map, Option, Some, None, Result, Ok, Err, refl, inl, inr, sym, subst}
+use Rattle.std.specs.Prelude.{⊤, is_some, drop, find, reverse, flat_map, slice_get}
 use Rattle.std.specs.List.{list_any}
-use Rattle.std.specs.Option.{option_map_or}
 use Rattle.std.proofs.lemmas.Bool.{and_left, and_parts, and_right, eq-eqb, not-false, not-true, or_parts}
 use Rattle.std.proofs.lemmas.List.{append_assoc}
 use Rattle.std.proofs.lemmas.List.Folds.{list_any-append}
@@ -12,29 +11,25 @@ use Rattle.std.specs.declared.net.socket_addr.SocketAddr.{SocketAddr}
 use Rattle.std.specs.Net.Socket.{socket_ip}
 use Rattle.turn_stun.specs.declared.transport.TransportType.{TransportType}
 use Rattle.turn_stun.specs.declared.transport.TransportType.TheVariants.{Udp, Tcp}
-use Rattle.turn_stun.specs.declared.transport.Transmit.{Transmit}
 use Rattle.turn_types.specs.declared.family.AddressFamily.{AddressFamily}
 use Rattle.turn_agent.specs.Agent.{due, given_up, resent, same_address}
 use Rattle.turn_agent.specs.declared.transaction.Transaction.{Transaction}
-use Rattle.turn_client_api.specs.State.{State, Phase, New, Requesting, Authenticating, Allocated, Closed, Grant, Allocation, Permission, Channel, Connect, Offer, Connection, DataConnection, DataOffer, Relay, Progress, Pending, Active, Reserved, Origin, OwnConnect, ServerRequest, ServerIndication, Purpose, ForAllocation, ForRefresh, ForPermission, ForChannel, ForConnect, ForBind, Queued, agent_of, later_by}
-use Rattle.turn_client_api.specs.Grants.{allocation_for, allocation_in, allocations, changed_allocation, connection_in, family_of, family_of_ip, is_connect, is_connection_from, is_for, is_for_any, is_of, is_of_family, is_past, is_pending_channel, is_pending_permission, is_permission_of, is_permitted, permission_for, same_transport, unlisted, with_grant, with_more_grants, without}
-use Rattle.turn_client_api.specs.Requests.{accepted_reply, asked, asked_lifetime, first_allocate, fresh_id, refused_reply, replied, request_for, requested}
-use Rattle.turn_client_api.specs.Effect.{closed, ended, reserved, reserved_time, without_families}
+use Rattle.turn_client_api.specs.State.{State, Phase, New, Requesting, Authenticating, Allocated, Closed, Grant, Allocation, Permission, Channel, Connect, Offer, Connection, DataConnection, Relay, Progress, Pending, Active, Reserved, Origin, OwnConnect, ServerRequest, ServerIndication, Purpose, ForAllocation, ForRefresh, ForPermission, ForChannel, ForConnect, ForBind, Queued, agent_of, later_by}
+use Rattle.turn_client_api.specs.Grants.{allocation_for, allocation_in, allocations, changed_allocation, connection_in, family_of, family_of_ip, is_connect, is_for, is_for_any, is_of, is_of_family, is_past, is_pending_channel, is_pending_permission, is_permission_of, is_permitted, permission_for, same_transport, with_grant, with_more_grants, without}
+use Rattle.turn_client_api.specs.Requests.{accepted_reply, asked, asked_lifetime, first_allocate, fresh_id, replied, request_for, requested}
+use Rattle.turn_client_api.specs.Effect.{closed, ended, reserved, without_families}
 use Rattle.turn_client_api.specs.Retry.{bind_time}
 use Rattle.turn_client_api.specs.Connections.{connection_at, is_connected, is_connecting}
-use Rattle.turn_client_api.specs.Payloads.{Outcome}
-use Rattle.turn_client_api.specs.Streams.{poll_recv_step}
-use Rattle.turn_client_api.specs.Calls.{active_channel, all_expired, allocated_tcp_socket_step, bind_channel, bind_channel_step, bound_by, bound_to, channel_numbers, channel_step, channels_to, connect_step, create_permission_step, delete_step, delete_text, deleted, free_number, has_permission, in_allocation, is_allocated, is_closed, is_control, is_granted_in, is_in_progress, is_local_taken, is_number_taken, missing_permission, offer_origin, offer_taken, on_channel, on_connection, permission_step, protocol_error_step, reserved_from, send_over, send_to_step, socket_opened, socket_refused, socket_step, tcp_connect_step, with_stream}
+use Rattle.turn_client_api.specs.Calls.{active_channel, all_expired, allocated_tcp_socket_step, bind_channel, bind_channel_step, bound_by, bound_to, channel_numbers, channel_step, channels_to, connect_step, create_permission_step, delete_step, delete_text, deleted, free_number, has_permission, in_allocation, is_allocated, is_closed, is_control, is_granted_in, is_in_progress, is_local_taken, is_number_taken, offer_origin, offer_taken, on_channel, on_connection, permission_step, protocol_error_step, reserved_from, send_over, send_to_step, socket_opened, socket_refused, socket_step, tcp_connect_step, with_stream}
 use Rattle.turn_client_api.specs.declared.poll.Socket5Tuple.{Socket5Tuple}
-use Rattle.turn_client_api.specs.declared.poll.TurnPollRet.{TurnPollRet}
 use Rattle.turn_client_api.specs.declared.error.BindChannelError.TheVariants as Bind
 use Rattle.turn_client_api.specs.Due.{has_event, has_reply, is_paused}
-use Rattle.turn_client_api.specs.Poll.{answer_step, channel_lapsed, connections_unbound, failed, given_up_purposes, given_up_step, goes, in_vain, is_given_offer, is_lapsed_channel, is_lapsed_permission, is_listed_for_allocation, is_over, is_unbound, lapsed, lapsed_allocation, lapsed_in, last_channel_lapsed, next_offer, offer_step, offers_in_vain, permissions_lapsed, poll_step, refreshes_in_vain, silent_step, timed_step}
+use Rattle.turn_client_api.specs.Poll.{answer_step, channel_lapsed, connections_unbound, given_up_purposes, given_up_step, goes, in_vain, is_given_offer, is_lapsed_channel, is_lapsed_permission, is_listed_for_allocation, is_over, is_unbound, lapsed, lapsed_allocation, lapsed_in, last_channel_lapsed, next_offer, offer_step, offers_in_vain, permissions_lapsed, poll_step, refreshes_in_vain, silent_step, timed_step}
 use Rattle.turn_client_api.specs.Receive.{tcp_closed_step}
 use Rattle.turn_client_api.specs.Transmit.{idle_step, is_due_in, queue_step, refresh_purpose, refreshes_in, refreshes_of_rank, sent, transmit_step}
 use Rattle.turn_client_api.specs.Transmit as T
 use Rattle.turn_client_api.specs.Answers.{event_step}
-use Rattle.turn_client_api.specs.Steps.{Call, Leaves, packet_step, state_after, Delete, CreatePermission, BindChannel, TcpConnect, AllocatedTcpSocket, TcpClosed, SendTo, Recv, PollRecv, Poll, PollTransmit, PollEvent, RelayedAddresses, Permissions, HavePermission, ProtocolError}
+use Rattle.turn_client_api.specs.Steps.{Call, Leaves, state_after, Delete, CreatePermission, BindChannel, TcpConnect, AllocatedTcpSocket, TcpClosed, SendTo, Recv, PollRecv, Poll, PollTransmit, PollEvent, RelayedAddresses, Permissions, HavePermission, ProtocolError}
 use Rattle.turn_client_api.proofs.AddressLemmas.{same_address-self}
 use Rattle.turn_client_api.proofs.HasLemmas.{Has, filter-has, has-filter, has-filter_map, has-flat_map, has-found, has-left, has-right, map-has}
 use Rattle.turn_client_api.proofs.HousedLemmas.{Room, has-any, room-more, same_family-self}
@@ -43,7 +38,7 @@ use Rattle.turn_client_api.proofs.GivenLemmas.{has-mapped}
 use Rattle.turn_client_api.proofs.GivenEffectLemmas.{same_ip-same}
 use Rattle.turn_client_api.proofs.LapseLemmas.{has-unreversed}
 use Rattle.turn_client_api.proofs.DoubleLemmas.{no-connection, no-permission}
-use Rattle.turn_client_api.proofs.RunKeepLemmas.{IsKept, poll_recv-kept, recv-kept}
+use Rattle.turn_client_api.proofs.RunKeepLemmas.{poll_recv-kept, recv-kept}
 use Rattle.turn_client_api.proofs.MemoryLemmas.{leaves-kept}
 use Rattle.turn_client_api.proofs.Edits.{IsAskable, KeepsAllEdits, KeepsEdits, SparesAllocations}
 use Rattle.turn_client_api.proofs.EditsOfReplies.{allocations-change, closed-walk, each, either, fail-walk, first-has, found, gone-walk, one-of, removed, requested-walk, asked-walk, reserved-walk, spares-kind, told-outlines, unlisted-walk}
@@ -122,6 +117,12 @@ delete-askable now s p there =
     of a e (Connect peer) reads here = absurd (none-some a reads)
     of a e (Offer offer) reads here = absurd (none-some a reads)
     of a e (Connection c) reads here = absurd (none-some a reads)
+
+-- the calls that handle nothing that comes in
+abbrev pub IsQuiet : Call → Type 0
+IsQuiet (Recv packet now) = ⊥
+IsQuiet (PollRecv now) = ⊥
+IsQuiet _ = ⊤
 
 no-given : (given : Option ℕ) → SparesAllocations (is_given_offer given)
 no-given None a = refl
@@ -454,31 +455,33 @@ module _ (R : State → State → Type 0) (k : KeepsEdits R) where
           let u = record s { transactions = resent t.id now s.transactions } in
           then s u (sent now u) (k.resends t.id now s) (k.sends now u)
 
-  -- ---- calls, where what comes in is given
+  -- ---- the calls that handle nothing
 
-  pub call-walk : ((packet : Transmit (List ℕ)) (now : ℕ) (s : State) → R s (packet_step packet now s).1) → ((now : ℕ) (s : State) → R s (poll_recv_step now s).1)
-      → (call : Call) (s : State) → R s (state_after call s)
-  call-walk packets polls (Delete now) s = delete-walk now s
-  call-walk packets polls (CreatePermission transport peer now) s = permission-walk transport peer now s
-  call-walk packets polls (BindChannel transport peer now) s = bind-walk transport peer now s
-  call-walk packets polls (TcpConnect peer now) s = connect-walk peer now s
-  call-walk packets polls (AllocatedTcpSocket id tuple peer local now) s = tcp_socket-walk id tuple peer local now s
-  call-walk packets polls (TcpClosed local remote now) s = tcp_closed-walk local remote s
-  call-walk packets polls (SendTo transport peer bytes now) s = send-walk transport peer bytes now s
-  call-walk packets polls (Recv packet now) s = packets packet now s
-  call-walk packets polls (PollRecv now) s = polls now s
-  call-walk packets polls (Poll now) s = poll-walk now s
-  call-walk packets polls (PollTransmit now) s = transmit-walk now s
-  call-walk packets polls PollEvent s = k.aside s (event_step s).1
-  call-walk packets polls RelayedAddresses s = k.same s
-  call-walk packets polls (Permissions transport relayed) s = k.same s
-  call-walk packets polls (HavePermission transport to) s = k.same s
-  call-walk packets polls ProtocolError s = error-walk s
+  pub quiet-walk : (call : Call) (s : State) → IsQuiet call → R s (state_after call s)
+  quiet-walk (Delete now) s quiet = delete-walk now s
+  quiet-walk (CreatePermission transport peer now) s quiet = permission-walk transport peer now s
+  quiet-walk (BindChannel transport peer now) s quiet = bind-walk transport peer now s
+  quiet-walk (TcpConnect peer now) s quiet = connect-walk peer now s
+  quiet-walk (AllocatedTcpSocket id tuple peer local now) s quiet = tcp_socket-walk id tuple peer local now s
+  quiet-walk (TcpClosed local remote now) s quiet = tcp_closed-walk local remote s
+  quiet-walk (SendTo transport peer bytes now) s quiet = send-walk transport peer bytes now s
+  quiet-walk (Recv packet now) s none = absurd none
+  quiet-walk (PollRecv now) s none = absurd none
+  quiet-walk (Poll now) s quiet = poll-walk now s
+  quiet-walk (PollTransmit now) s quiet = transmit-walk now s
+  quiet-walk PollEvent s quiet = k.aside s (event_step s).1
+  quiet-walk RelayedAddresses s quiet = k.same s
+  quiet-walk (Permissions transport relayed) s quiet = k.same s
+  quiet-walk (HavePermission transport to) s quiet = k.same s
+  quiet-walk ProtocolError s quiet = error-walk s
 
--- ---- all calls, whether or not they find memory
+-- ---- all calls
 
+pub calls-walk : (R : State → State → Type 0) → KeepsAllEdits R → (call : Call) (s : State) → R s (state_after call s)
+calls-walk R k (Recv packet now) s = recv-kept R (edits-IsKept R k) packet.transport packet.from packet.to packet.payload now s
+calls-walk R k (PollRecv now) s = poll_recv-kept R (edits-IsKept R k) now s
+calls-walk R k call s = quiet-walk R k.edits call s tt
+
+-- whether or not they find memory
 pub leaves-walk : (R : State → State → Type 0) → KeepsAllEdits R → (call : Call) (s t : State) → Leaves call s t → R s t
-leaves-walk R k = leaves-kept R kept (closed-walk R k.edits) (call-walk R k.edits (λ packet now s. recv-kept R kept packet.transport packet.from packet.to packet.payload now s) (poll_recv-kept R kept))
-  where
-    kept : IsKept R
-    kept = edits-IsKept R k
+leaves-walk R k = leaves-kept R (edits-IsKept R k) (closed-walk R k.edits) (calls-walk R k)

@@ -1,27 +1,25 @@
 -- The edits of which messages are made.
-use Rattle.std.proofs.Common.{◌≡◌, ◌+◌, ℕ, Bool, true, false, not, cond, ◌&&◌, ◌||◌, eqb, ltb, leb, List, [], ◌∷◌, ◌++◌, map, filter, filter_map, fold, length, Option, Some, None, ◌⊎◌, inl, inr, refl, sym, ◌∙◌, subst}
+use Rattle.std.proofs.Common.{◌≡◌, ◌+◌, ℕ, Bool, true, false, not, cond, ◌&&◌, ◌||◌, eqb, ltb, leb, List, [], ◌∷◌, filter, filter_map, length, Option, Some, None, inl, inr, refl, sym, subst}
 use Rattle.std.specs.Prelude.{codes, is_some, find, IfSome, ⊤}
 use Rattle.std.specs.List.{list_any}
 use Rattle.std.specs.Option.{option_map_or}
 use Rattle.std.specs.Net.Socket.{socket_ip}
-use Rattle.std.proofs.lemmas.Bool.{and_parts, ltb-true, not-true}
+use Rattle.std.proofs.lemmas.Bool.{and_parts, ltb-true}
 use Rattle.std.proofs.lemmas.Option.{none-some, same_Some}
 use Rattle.std.specs.declared.net.socket_addr.SocketAddr.{SocketAddr}
 use Rattle.turn_stun.specs.Message.{id_of}
-use Rattle.turn_stun.specs.declared.message.header.MessageClass.{MessageClass}
 use Rattle.turn_stun.specs.declared.transport.TransportType.TheVariants.{Tcp}
 use Rattle.turn_types.specs.declared.family.AddressFamily.TheVariants.{IPV4, IPV6}
 use Rattle.turn_auth.specs.LongTerm.{Challenge}
 use Rattle.turn_agent.specs.Agent.{same_address}
 use Rattle.turn_client_api.specs.State.{State, Phase, New, Requesting, Authenticating, Allocated, Closed, Grant, Allocation, Permission, Channel, Connect, Offer, Connection, DataConnection, ServerIndication, ServerRequest, Purpose, ForAllocation, ForRefresh, ForPermission, ForChannel, ForConnect, ForBind, Listing, later_by}
-use Rattle.turn_client_api.specs.Grants.{allocation_for, connection_in, is_connection_from, is_for, is_permitted, purposes_of, unlisted, wait, without}
+use Rattle.turn_client_api.specs.Grants.{allocation_for, connection_in, is_connection_from, is_for, is_permitted, purposes_of, unlisted, wait}
 use Rattle.turn_client_api.specs.Requests.{asked, bad_request, connection_already_exists, connection_attempt_method, connection_bind_method, fresh_id, refused_reply, replied, request_for, requested}
 use Rattle.turn_client_api.specs.Judgement.{Judgement, Unrelated, Challenged, Fatal, LateResponse, DataIndication, ConnectionAttempt, SignedRequest, SignedSuccess, SignedError, answers_one, challenge_in, challenged_or, judgement_of, bind_judgement, is_bind_of, connection_id_in, lifetime_in, method_in, peer_in}
-use Rattle.turn_client_api.specs.Effect.{allocate_denied, allocate_granted, allocated, closed, effect, ended, fail_all, family_not_supported, has_code, in_phase, phase_with, relayed_in, taken_addresses, with_offer}
+use Rattle.turn_client_api.specs.Effect.{allocate_denied, allocate_granted, allocated, closed, ended, fail_all, family_not_supported, has_code, in_phase, phase_with, relayed_in, taken_addresses, with_offer}
 use Rattle.turn_client_api.specs.Retry.{bind_time, most_challenges, phase_after, retried, state_after_retry, with_held}
 use Rattle.turn_client_api.specs.Connections.{attempt_indicated, attempt_requested, bind_again, bind_answered, bind_step, bound, connection_at, is_connected, is_connecting, is_heeded, is_indicated, most_indicated, not_bound, with_deadline}
 use Rattle.turn_client_api.specs.Payloads.{Outcome, Handled, Ignored, answered_purposes, challenge_step, is_answered, message_step, response_step, signed_step, wrong_step}
-use Rattle.turn_client_api.specs.Receive.{connection_gone}
 use Rattle.turn_client_api.specs.declared.event.TurnEvent.TheVariants.{AllocationCreateFailed}
 use Rattle.turn_client_api.specs.LawsOrder.{IsUngranted}
 use Rattle.turn_client_api.proofs.AddressLemmas.{same_address-self, same_address-true}
@@ -29,7 +27,7 @@ use Rattle.turn_client_api.proofs.HasLemmas.{Has, has-filter, has-filter_map, ha
 use Rattle.turn_client_api.proofs.HousedLemmas.{has-any}
 use Rattle.turn_client_api.proofs.HousedMessageLemmas.{allocation-room}
 use Rattle.turn_client_api.proofs.GivenLemmas.{has-mapped}
-use Rattle.turn_client_api.proofs.MessageKeepLemmas.{Challenged-is, bind-is}
+use Rattle.turn_client_api.proofs.ChallengeJudgement.{Challenged-is, bind-is}
 use Rattle.turn_client_api.proofs.RunKeepLemmas.{IsKept}
 use Rattle.turn_client_api.proofs.Edits.{IsAskable, KeepsAllEdits}
 use Rattle.turn_client_api.proofs.EditsOfReplies.{deadline-walk, effects-walk, fail-walk, gone-walk, one-of, removed, requested-walk, unlisted-walk}
@@ -97,11 +95,12 @@ module _ (R : State → State → Type 0) (k : KeepsAllEdits R) where
       let b = ended id a in
       let c = record b { phase = phase_after s.phase; challenges = s.challenges + 1 } in
       let text = request_for c purpose (fresh_id s) in
+      let end = state_after_retry s id purpose d now in
       let f = asked (fresh_id s) text (purposes_of id s) now c in
-      then s a _ (k.holds message d s e)
-      (then a b _ (k.edits.finishes id a)
-      (then b c _ (k.counts b refl (ltb-true s.challenges most_challenges few))
-      (then c f _ (k.edits.asks (fresh_id s) text (purposes_of id s) now c (λ p there. inr (inr (purposes-listed id s p there)))) (k.edits.aside f (state_after_retry s id purpose d now)))))
+      then s a end (k.holds message d s e)
+      (then a b end (k.edits.finishes id a)
+      (then b c end (k.counts b refl (ltb-true s.challenges most_challenges few))
+      (then c f end (k.edits.asks (fresh_id s) text (purposes_of id s) now c (λ p there. inr (inr (purposes-listed id s p there)))) (k.edits.aside f end))))
 
   challenge-walk : (message : List ℕ) (d : Challenge) (now : ℕ) (s : State) → challenge_in s message ≡ Some d → R s (challenge_step message d now s).1
   challenge-walk message d now s e = by (ltb s.challenges most_challenges) refl (retried (purposes_of (id_of message) s)) refl

@@ -1,5 +1,5 @@
 -- The edits of which the effects of a reply are made.
-use Rattle.std.proofs.Common.{◌≡◌, ℕ, Bool, true, false, not, cond, ◌&&◌, ◌||◌, eqb, leb, List, [], ◌∷◌, ◌++◌, map, filter, filter_map, fold, Option, Some, None, ◌⊎◌, inl, inr, refl, sym, subst, ap}
+use Rattle.std.proofs.Common.{◌≡◌, ℕ, Bool, true, false, not, cond, ◌&&◌, ◌||◌, eqb, leb, List, [], ◌∷◌, map, filter_map, fold, Option, Some, None, inl, inr, refl, sym, subst, ap}
 use Rattle.std.specs.Prelude.{is_some, slice_get}
 use Rattle.std.specs.Option.{option_map_or}
 use Rattle.std.proofs.lemmas.Bool.{eqb-true}
@@ -8,17 +8,17 @@ use Rattle.std.specs.declared.net.ip_addr.IpAddr.{IpAddr}
 use Rattle.std.specs.declared.net.socket_addr.SocketAddr.{SocketAddr}
 use Rattle.turn_types.specs.declared.family.AddressFamily.{AddressFamily}
 use Rattle.turn_agent.specs.Agent.{same_address}
-use Rattle.turn_client_api.specs.State.{State, Grant, Allocation, Permission, Channel, Connect, Offer, Connection, DataConnection, Relay, Progress, Pending, Active, Reserved, Purpose, ForAllocation, ForRefresh, ForPermission, ForChannel, ForConnect, ForBind, later_by, seconds}
-use Rattle.turn_client_api.specs.Grants.{allocation_in, changed_allocation, channel_at, first_in, is_channel_of, is_connect_to, is_connection_from, is_for_any, is_of, is_of_family, is_pending_permission, is_permission_of, permission_for, purposes_of, unlisted, with_allocations, without}
+use Rattle.turn_client_api.specs.State.{State, Grant, Allocation, Permission, Channel, Connect, Offer, Connection, Relay, Progress, Pending, Active, Reserved, Purpose, ForAllocation, ForRefresh, ForPermission, ForChannel, ForConnect, ForBind, later_by, seconds}
+use Rattle.turn_client_api.specs.Grants.{allocation_in, changed_allocation, channel_at, first_in, is_channel_of, is_connect_to, is_connection_from, is_of, is_of_family, is_permission_of, permission_for, purposes_of, unlisted, with_allocations, without}
 use Rattle.turn_client_api.specs.Judgement.{connection_id_in, lifetime_in}
 use Rattle.turn_client_api.specs.Connections.{connection_at, deadline_set, with_deadline}
-use Rattle.turn_client_api.specs.Effect.{active_channel_answered, active_permission_answered, all_gone, allocation_mismatch, challenges_reset, channel_answered, channel_lifetime, closed, connect_answered, effect, fail_all, has_code, is_asked_permission, lasting, lasting_if, least_lifetime, listed_permissions_answered, pending_channel_answered, pending_permission_answered, permission_answered, permission_answered_for, permission_lifetime, permission_refused_too, prolonged, refreshed, renewed, reserved}
+use Rattle.turn_client_api.specs.Effect.{active_channel_answered, active_permission_answered, all_gone, allocation_mismatch, challenges_reset, channel_answered, channel_lifetime, closed, connect_answered, effect, fail_all, has_code, is_asked_permission, lasting, lasting_if, least_lifetime, listed_permissions_answered, pending_channel_answered, pending_permission_answered, permission_answered, permission_answered_for, permission_lifetime, prolonged, refreshed, renewed, reserved}
 use Rattle.turn_client_api.specs.Receive.{connection_gone}
 use Rattle.turn_client_api.specs.Requests.{asked, request_for, requested}
 use Rattle.turn_client_api.specs.LawsOrder.{IsUngranted}
 use Rattle.turn_client_api.specs.Poll.{told, told_first, untold_in}
 use Rattle.turn_client_api.proofs.HasLemmas.{Has, filter-has, has-filter_map, has-left, map-has}
-use Rattle.turn_client_api.proofs.Edits.{IsAskable, KeepsAllEdits, KeepsEdits, SparesAllocations, outline, stage}
+use Rattle.turn_client_api.proofs.Edits.{IsAskable, KeepsAllEdits, KeepsEdits, SparesAllocations, outline}
 
 -- ---- grants that change and keep their outlines
 

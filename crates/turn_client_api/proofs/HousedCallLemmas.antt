@@ -181,7 +181,7 @@ connect-houses peer now s = allocation-houses (allocation_for Tcp (socket_ip pee
 
 -- ---- data connections that the caller opens
 
-was-first : (which : Grant → Bool) (g : Grant) (gs : List Grant) → Has g (without_first which gs) → Has g gs
+pub was-first : (which : Grant → Bool) (g : Grant) (gs : List Grant) → Has g (without_first which gs) → Has g gs
 was-first which g [] none = absurd none
 was-first which g (x ∷ xs) there = by (which x) refl (was-first which g xs)
   where
@@ -193,7 +193,7 @@ was-first which g (x ∷ xs) there = by (which x) refl (was-first which g xs)
         of (inl same) = inl same
         of (inr more) = inr (later more)
 
-stays-first : (which : Grant → Bool) (g : Grant) (gs : List Grant) → Has g gs → which g ≡ false → Has g (without_first which gs)
+pub stays-first : (which : Grant → Bool) (g : Grant) (gs : List Grant) → Has g gs → which g ≡ false → Has g (without_first which gs)
 stays-first which g [] none kept = absurd none
 stays-first which g (x ∷ xs) (inl e) kept = rw (rw e at kept) (inl e)
 stays-first which g (x ∷ xs) (inr there) kept = by (which x) refl (stays-first which g xs there kept)
@@ -203,7 +203,7 @@ stays-first which g (x ∷ xs) (inr there) kept = by (which x) refl (stays-first
     by false e later = rw e (inr later)
 
 -- no request is for an offer
-no-offer : (id : ℕ) (peer : SocketAddr) (p : Purpose) (g : Grant) → is_for p g ≡ true → is_offer_of id peer g ≡ false
+pub no-offer : (id : ℕ) (peer : SocketAddr) (p : Purpose) (g : Grant) → is_for p g ≡ true → is_offer_of id peer g ≡ false
 no-offer id peer p (Allocation a) for = refl
 no-offer id peer p (Permission ip progress) for = refl
 no-offer id peer p (Channel number to progress) for = refl

@@ -26,7 +26,7 @@ same_family-self IPV6 IPV6 e = refl
 same_family-self IPV4 IPV6 e = cc
 same_family-self IPV6 IPV4 e = cc
 
-not-both : (b : Bool) → b ≡ true → not b ≡ true → ⊥
+pub not-both : (b : Bool) → b ≡ true → not b ≡ true → ⊥
 not-both true e f = cc
 not-both false e f = cc
 

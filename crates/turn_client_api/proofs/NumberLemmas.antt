@@ -1,17 +1,13 @@
--- Channels keep numbers of their own when grants come and go.
-use Rattle.std.proofs.Common.{◌≡◌, ℕ, Bool, true, false, not, cond, eqb, List, [], ◌∷◌, ◌++◌, map, filter, filter_map, Option, Some, None, refl}
-use Rattle.std.specs.Prelude.{is_some}
+-- Channels keep numbers of their own when grants come and go, and so in all calls.
+use Rattle.std.proofs.Common.{◌≡◌, ℕ, Bool, true, false, not, cond, eqb, List, [], ◌∷◌, ◌++◌, filter, filter_map, Option, Some, None, refl}
 use Rattle.std.specs.List.{list_any, IsDistinct, AllByRecursion}
 use Rattle.std.proofs.lemmas.Bool.{or_parts}
 use Rattle.std.proofs.lemmas.List.{append-nil}
 use Rattle.std.proofs.lemmas.List.Elements.{filter_map-append}
-use Rattle.std.specs.declared.net.ip_addr.IpAddr.{IpAddr}
 use Rattle.std.specs.declared.net.socket_addr.SocketAddr.{SocketAddr}
-use Rattle.turn_types.specs.declared.family.AddressFamily.{AddressFamily}
-use Rattle.turn_client_api.specs.State.{Grant, Allocation, Permission, Channel, Connect, Offer, Connection, Pending}
+use Rattle.turn_client_api.specs.State.{Grant, Allocation, Permission, Channel, Connect, Offer, Connection}
 use Rattle.turn_client_api.specs.Grants.{is_channel_of}
 use Rattle.turn_client_api.specs.Calls.{is_offer_of, without_first}
-use Rattle.turn_client_api.specs.Poll.{told, told_first, untold_in}
 use Rattle.turn_client_api.specs.LawsNumbers.{number_of_channel}
 
 -- the numbers of the channels among these grants
@@ -43,14 +39,6 @@ apart-filter p (g ∷ gs) h = by (number_of_channel g) refl (p g) refl (apart-fi
     by None e false f later = rw f (later (rw e at h))
     by (Some n) e true f later = rw (f, e) (all-filter (λ m. eqb n m ≡ false) p gs (rw e at h).0, later (rw e at h).1)
     by (Some n) e false f later = rw f (later (rw e at h).1)
-
--- a change of each grant that leaves its number
-pub numbers-map : (f : Grant → Grant) → ((g : Grant) → number_of_channel (f g) ≡ number_of_channel g) → (gs : List Grant) → numbers (map f gs) ≡ numbers gs
-numbers-map f same [] = refl
-numbers-map f same (g ∷ gs) = rw (same g, numbers-map f same gs) refl
-
-pub apart-map : (f : Grant → Grant) → ((g : Grant) → number_of_channel (f g) ≡ number_of_channel g) → (gs : List Grant) → AreApart gs → AreApart (map f gs)
-apart-map f same gs h = rw (numbers-map f same gs) h
 
 -- grants that are no channels
 pub apart-others : (gs hs : List Grant) → numbers hs ≡ [] → AreApart gs → AreApart (gs ++ hs)
@@ -89,11 +77,7 @@ none-filter p (x ∷ xs) = by (p x) refl (none-filter p xs)
     by true e later = rw e later
     by false e later = rw (e, e) later
 
-pub numbers-permissions : (ips : List IpAddr) → numbers (map (λ ip. Permission ip Pending) ips) ≡ []
-numbers-permissions [] = refl
-numbers-permissions (ip ∷ ips) = numbers-permissions ips
-
--- an offer is taken, or told
+-- an offer is taken
 pub numbers-without_first : (id : ℕ) (peer : SocketAddr) (gs : List Grant) → numbers (without_first (is_offer_of id peer) gs) ≡ numbers gs
 numbers-without_first id peer [] = refl
 numbers-without_first id peer (Channel number other progress ∷ gs) = rw (numbers-without_first id peer gs) refl
@@ -106,19 +90,3 @@ numbers-without_first id peer (Offer offer ∷ gs) = by (is_offer_of id peer (Of
     by : (b : Bool) → numbers (without_first (is_offer_of id peer) gs) ≡ numbers gs → numbers (cond b gs (Offer offer ∷ without_first (is_offer_of id peer) gs)) ≡ numbers gs
     by true later = refl
     by false later = later
-
-told-number : (g : Grant) → number_of_channel (told g) ≡ number_of_channel g
-told-number (Offer offer) = refl
-told-number (Allocation a) = refl
-told-number (Permission ip progress) = refl
-told-number (Channel number peer progress) = refl
-told-number (Connect peer) = refl
-told-number (Connection c) = refl
-
-pub numbers-told_first : (family : AddressFamily) (gs : List Grant) → numbers (told_first family gs) ≡ numbers gs
-numbers-told_first family [] = refl
-numbers-told_first family (g ∷ gs) = by (is_some (untold_in family g)) (numbers-told_first family gs)
-  where
-    by : (b : Bool) → numbers (told_first family gs) ≡ numbers gs → numbers (cond b (told g ∷ gs) (g ∷ told_first family gs)) ≡ numbers (g ∷ gs)
-    by true later = rw (told-number g) refl
-    by false later = rw later refl

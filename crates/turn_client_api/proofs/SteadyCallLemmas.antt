@@ -13,7 +13,7 @@ use Rattle.turn_client_api.specs.State.{Queued, Relay}
 use Rattle.turn_client_api.specs.Grants.{allocation_for, same_transport}
 use Rattle.turn_client_api.specs.Steps.{Call, Leaves, state_after}
 use Rattle.turn_client_api.specs.LawsOrder.{IsSteady}
-use Rattle.turn_client_api.proofs.CallKeepLemmas.{call-keeps}
+use Rattle.turn_client_api.proofs.PhasesGoOn.{call-keeps}
 use Rattle.std.proofs.Common.{Result}
 use Rattle.turn_types.specs.declared.family.AddressFamily.{AddressFamily}
 use Rattle.turn_client_api.specs.Grants.{family_of_ip, is_past, with_expired}

@@ -34,11 +34,11 @@ use Rattle.turn_client_api.specs.Effect.{allocated}
 use Rattle.turn_client_api.specs.Retry.{state_after_retry}
 use Rattle.turn_client_api.specs.Connections.{attempt_requested}
 use Rattle.turn_client_api.specs.Payloads.{signed_step}
-use Rattle.turn_client_api.proofs.MessageKeepLemmas.{rank-with}
+use Rattle.turn_client_api.proofs.PhasesGoOn.{rank-with}
 use Rattle.turn_client_api.specs.Alarm.{IsOrderly}
 use Rattle.turn_client_api.specs.LawsSteps.{GoesOn, rank}
 use Rattle.turn_client_api.specs.LawsOrder.{IsSteady}
-use Rattle.turn_client_api.proofs.MessageKeepLemmas.{message-keeps, bind-keeps}
+use Rattle.turn_client_api.proofs.PhasesGoOn.{message-keeps, bind-keeps}
 use Rattle.turn_client_api.proofs.RunKeepLemmas.{IsKept}
 
 abbrev pub Steadies : State → State → Type 0

@@ -25,6 +25,7 @@ pub mod LawsPieces
 pub mod LawsReplies
 pub mod LawsRows
 pub mod LawsSockets
+pub mod LawsStates
 pub mod LawsSteps
 pub mod LawsStreams
 pub mod LawsTurns

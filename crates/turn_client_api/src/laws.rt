@@ -17,6 +17,7 @@ mod replies;
 mod rows;
 mod sockets;
 mod standards;
+mod states;
 mod steps;
 mod streams;
 mod turns;
@@ -45,6 +46,10 @@ pub use rows::{
 };
 pub use sockets::{peers_may_connect, sockets_are_taken};
 pub use standards::numbers_are_the_standards;
+pub use states::{
+    challenges_are_held, channel_numbers_are_in_range, indicated_offers_are_few,
+    listings_have_grants, requests_go_to_the_server,
+};
 pub use steps::{challenges_are_counted, phases_go_on, realm_stays, stays_closed};
 pub use streams::{streams_are_drained, streams_stay_apart};
 pub use turns::{calls_are_turns, messages_leave_streams, turns_are_frames};

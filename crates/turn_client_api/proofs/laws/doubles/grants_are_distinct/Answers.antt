@@ -1,5 +1,4 @@
-use Rattle.turn_client_api.proofs.DoubleCallLemmas.{leaves-single}
-use Rattle.turn_client_api.proofs.DoubleKeepLemmas.{initial-single}
+use Rattle.turn_client_api.proofs.DistinctGrants.{initial-single, leaves-single}
 use Rattle.turn_client_api.proofs.laws.doubles.grants_are_distinct.Goals as goal
 
 pub returns-clause-initial : goal.returns-clause-initial

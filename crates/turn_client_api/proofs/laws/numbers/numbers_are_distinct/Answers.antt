@@ -1,5 +1,4 @@
-use Rattle.turn_client_api.proofs.NumberCallLemmas.{leaves-apart}
-use Rattle.turn_client_api.proofs.NumberKeepLemmas.{initial-numbers}
+use Rattle.turn_client_api.proofs.DistinctNumbers.{initial-numbers, leaves-apart}
 use Rattle.turn_client_api.proofs.laws.numbers.numbers_are_distinct.Goals as goal
 
 pub returns-clause-initial : goal.returns-clause-initial

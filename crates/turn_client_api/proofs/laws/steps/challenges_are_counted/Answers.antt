@@ -1,6 +1,6 @@
 use Rattle.turn_client_api.proofs.CountLemmas.{leaves-heeded}
-use Rattle.turn_client_api.proofs.CallKeepLemmas.{leaves-keeps}
-use Rattle.turn_client_api.proofs.MessageKeepLemmas.{challenge-IsCounted}
+use Rattle.turn_client_api.proofs.PhasesGoOn.{leaves-keeps}
+use Rattle.turn_client_api.proofs.PhasesGoOn.{challenge-IsCounted}
 use Rattle.turn_client_api.proofs.laws.steps.challenges_are_counted.Goals as goal
 
 pub returns-clause-stays : goal.returns-clause-stays

@@ -1,4 +1,4 @@
-use Rattle.turn_client_api.proofs.CallKeepLemmas.{leaves-keeps}
+use Rattle.turn_client_api.proofs.PhasesGoOn.{leaves-keeps}
 use Rattle.turn_client_api.proofs.laws.steps.phases_go_on.Goals as goal
 
 pub returns : goal.returns

@@ -1,4 +1,4 @@
-use Rattle.turn_client_api.proofs.CallKeepLemmas.{closed-told, leaves-keeps}
+use Rattle.turn_client_api.proofs.PhasesGoOn.{closed-told, leaves-keeps}
 use Rattle.turn_client_api.proofs.laws.steps.stays_closed.Goals as goal
 
 pub returns-clause-stays : goal.returns-clause-stays

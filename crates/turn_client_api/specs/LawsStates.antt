@@ -1,0 +1,43 @@
+-- Where a client can be, over all calls.
+use Rattle.std.specs.Prelude.{◌≡◌, ◌⊎◌, ◌≤◌, ℕ, true, filter, length, Option, IsSome, All, ⊤}
+use Rattle.std.specs.List.{list_any}
+use Rattle.turn_auth.specs.LongTerm.{Challenge}
+use Rattle.turn_agent.specs.declared.transaction.Transaction.{Transaction}
+use Rattle.turn_client_api.specs.State.{State, Phase, Authenticating, Allocated, ForAllocation, Listing}
+use Rattle.turn_client_api.specs.Grants.{is_for}
+use Rattle.turn_client_api.specs.Connections.{is_indicated, most_indicated}
+use Rattle.turn_client_api.specs.LawsNumbers.{channel_numbers_of}
+
+-- numbers of channels (RFC 8656, section 12)
+abbrev pub IsInRange : ℕ → Type 0
+IsInRange number = (0x4000 ≤ number) × (number ≤ 0x4FFF)
+
+abbrev pub HasNumbersInRange : State → Type 0
+HasNumbersInRange s = All IsInRange (channel_numbers_of s)
+
+-- from the first challenge on, up to the end of the client
+abbrev pub IsHeldIn : Phase → Option Challenge → Type 0
+IsHeldIn Authenticating held = IsSome held
+IsHeldIn Allocated held = IsSome held
+IsHeldIn _ held = ⊤
+
+abbrev pub HoldsChallenge : State → Type 0
+HoldsChallenge s = IsHeldIn s.phase s.held
+
+-- all requests that are outstanding were sent to the server
+abbrev pub IsToServer : State → Transaction → Type 0
+IsToServer s t = t.to ≡ s.remote
+
+abbrev pub AsksServer : State → Type 0
+AsksServer s = All (IsToServer s) s.transactions
+
+-- the request is an ALLOCATE, or a grant is there that it is for
+abbrev pub HasItsGrant : State → Listing → Type 0
+HasItsGrant s l = (l.purpose ≡ ForAllocation) ⊎ (list_any (is_for l.purpose) s.grants ≡ true)
+
+abbrev pub HasGrantsAsked : State → Type 0
+HasGrantsAsked s = All (HasItsGrant s) s.listed
+
+-- indications are not signed, so their offers are few
+abbrev pub HasFewIndicated : State → Type 0
+HasFewIndicated s = length (filter is_indicated s.grants) ≤ most_indicated
