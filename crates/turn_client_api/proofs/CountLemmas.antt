@@ -4,35 +4,13 @@ use Rattle.std.specs.Prelude.{is_some, find}
 use Rattle.std.specs.Option.{option_map_or}
 use Rattle.std.specs.declared.net.socket_addr.SocketAddr.{SocketAddr}
 use Rattle.std.specs.Net.Socket.{socket_ip}
-<<<<<<< HEAD
-use Rattle.turn_stun.specs.declared.transport.TransportType.{TransportType}
-use Rattle.turn_stun.specs.declared.transport.TransportType.TheVariants.{Udp, Tcp}
-use Rattle.turn_types.specs.declared.family.AddressFamily.{AddressFamily}
-use Rattle.turn_agent.specs.Agent.{due, given_up}
-use Rattle.turn_agent.specs.declared.transaction.Transaction.{Transaction}
-use Rattle.turn_client_api.specs.State.{State, Phase, New, Requesting, Authenticating, Allocated, Closed, agent_of}
-use Rattle.turn_client_api.specs.State.{Grant, Allocation, Permission, Channel, Connect, Offer, Connection, DataConnection, Relay, Purpose, Pending, Active, Reserved, Origin, OwnConnect, ServerRequest, ServerIndication}
-use Rattle.turn_client_api.specs.Grants.{allocation_for, allocations, connection_in, family_of, is_of, is_past, is_pending_channel, is_pending_permission, is_permitted, permission_for, same_transport}
-use Rattle.turn_client_api.specs.Effect.{closed, ended}
-use Rattle.turn_client_api.specs.Connections.{connection_at, is_connected, is_connecting}
-use Rattle.turn_client_api.specs.Calls.{bound_by, active_channel, allocated_tcp_socket_step, bind_channel_step, bound_to, channel_step, channels_to, connect_step, create_permission_step, delete_step, free_number, has_permission, in_allocation, is_allocated, is_closed, is_control, is_in_progress, is_local_taken, offer_origin, on_channel, on_connection, permission_step, protocol_error_step, reserved_from, send_over, send_to_step, socket_opened, socket_refused, socket_step, tcp_connect_step}
-use Rattle.turn_client_api.specs.declared.poll.Socket5Tuple.{Socket5Tuple}
-use Rattle.turn_client_api.specs.declared.error.BindChannelError.TheVariants as Bind
-use Rattle.turn_client_api.specs.Due.{has_event, has_reply, is_paused}
-use Rattle.turn_client_api.specs.Poll.{answer_step, channel_lapsed, given_up_step, given_up_purposes, goes, in_vain, is_lapsed_channel, is_listed_for_allocation, lapsed, lapsed_allocation, lapsed_in, next_offer, offer_step, poll_step, timed_step}
-use Rattle.turn_client_api.specs.Transmit.{idle_step, queue_step, refresh_step, refreshes_in, transmit_step}
-use Rattle.turn_client_api.specs.Transmit as T
-use Rattle.turn_client_api.specs.Steps.{Call, state_after, Delete, CreatePermission, BindChannel, TcpConnect, AllocatedTcpSocket, TcpClosed, SendTo, Recv, PollRecv, Poll, PollTransmit, PollEvent, RelayedAddresses, Permissions, HavePermission, ProtocolError}
-use Rattle.turn_client_api.specs.Receive.{connection_gone}
-=======
 use Rattle.turn_stun.specs.declared.transport.TransportType.TheVariants.{Tcp}
 use Rattle.turn_client_api.specs.State.{State, Phase, New, Requesting, Authenticating, Allocated, Closed}
 use Rattle.turn_client_api.specs.State.{DataConnection, Purpose}
 use Rattle.turn_client_api.specs.Grants.{allocation_for}
 use Rattle.turn_client_api.specs.Effect.{ended}
 use Rattle.turn_client_api.specs.Connections.{connection_at, is_connected}
-use Rattle.turn_client_api.specs.Steps.{Call, Leaves, state_after, Recv, PollRecv}
->>>>>>> 4c4ecb7 (turn_client_api: Say where a client can be)
+use Rattle.turn_client_api.specs.Steps.{Call, state_after, Recv, PollRecv}
 use Rattle.std.specs.Prelude.{IfSome}
 use Rattle.std.specs.List.{Contains}
 use Rattle.turn_stun.specs.Message.{id_of}
@@ -48,15 +26,10 @@ use Rattle.turn_client_api.specs.LawsReplies.{IsAccepted, IsHeeded}
 use Rattle.turn_client_api.specs.LawsHandled.{MayLeave, TakesTurns}
 use Rattle.turn_client_api.specs.LawsTurns.{IsBroughtBy}
 use Rattle.turn_client_api.proofs.StandLemmas.{has-contains}
-<<<<<<< HEAD
 use Rattle.turn_client_api.proofs.TurnLemmas.{IsBringing, message-brings}
-=======
-use Rattle.turn_client_api.proofs.TurnLemmas.{IsBringing, poll_recv-brings, recv-brings}
-use Rattle.turn_client_api.proofs.MemoryLemmas.{memory-brings}
 use Rattle.turn_client_api.proofs.Edits.{KeepsEdits}
 use Rattle.turn_client_api.proofs.EditsOfReplies.{gone-walk}
 use Rattle.turn_client_api.proofs.EditsOfCalls.{quiet-walk}
->>>>>>> 4c4ecb7 (turn_client_api: Say where a client can be)
 
 -- as many challenges were answered as before
 abbrev Counts : State → State → Type 0
@@ -263,52 +236,21 @@ bringing n = record {
   streams = λ s streams fewer. fewer;
   message = λ message now s is. message-heeded n message now s;
   binds = λ local message now s is fewer. let e = bind_in_phase s.phase local message now s in inl (omega (arith, e, fewer));
-<<<<<<< HEAD
-  gone = λ local s fewer. let e = gone-counts local s in omega (arith, e, fewer);
+  gone = λ local s fewer. let e = gone-walk Counts Counts-KeepsEdits local s in omega (arith, e, fewer);
   ended = λ s fewer. fewer;
 }
-
-tcp_closed-counts : (local remote : SocketAddr) (s : State) → Counts s (tcp_closed_step local remote s)
-tcp_closed-counts local remote s = counts-cond (same_transport s.transport Tcp && same_address remote s.remote) s _ s (gone-counts local s) refl
 
 -- no call that takes no turns makes it less
 call-same : (n : ℕ) (call : Call) (s : State) → (TakesTurns call → ⊥) → Fewer n (state_after call s) → Fewer n s ⊎ ⊥
 call-same n call s = by call
-=======
-  gone = λ local s fewer. let e = gone-walk Counts Counts-KeepsEdits local s in omega (arith, e, fewer);
-}
-
-call-heeded : (n : ℕ) (call : Call) (s : State) → Fewer n (state_after call s) → Fewer n s ⊎ IsBroughtBy IsHeeded call s
-call-heeded n call s = by call
->>>>>>> 4c4ecb7 (turn_client_api: Say where a client can be)
   where
     same : (call : Call) → Counts s (state_after call s) → Fewer n (state_after call s) → Fewer n s ⊎ ⊥
     same call e fewer = inl (omega (arith, e, fewer))
 
-<<<<<<< HEAD
     by : (call : Call) → (TakesTurns call → ⊥) → Fewer n (state_after call s) → Fewer n s ⊎ ⊥
-    by (Delete now) other = same (Delete now) (delete-counts now s)
-    by (CreatePermission transport peer now) other = same (CreatePermission transport peer now) (permission-counts transport peer now s)
-    by (BindChannel transport peer now) other = same (BindChannel transport peer now) (bind-counts transport peer now s)
-    by (TcpConnect peer now) other = same (TcpConnect peer now) (connect-counts peer now s)
-    by (AllocatedTcpSocket id tuple peer local now) other = same (AllocatedTcpSocket id tuple peer local now) (tcp_socket-counts id tuple peer local now s)
-    by (TcpClosed local remote now) other = same (TcpClosed local remote now) (tcp_closed-counts local remote s)
-    by (SendTo transport peer bytes now) other = same (SendTo transport peer bytes now) (send-counts transport peer bytes now s)
     by (Recv packet now) other = absurd (other tt)
     by (PollRecv now) other = absurd (other tt)
-    by (Poll now) other = same (Poll now) (poll-counts now s)
-    by (PollTransmit now) other = same (PollTransmit now) (transmit-counts now s)
-    by PollEvent other = same PollEvent refl
-    by RelayedAddresses other = same RelayedAddresses refl
-    by (Permissions transport relayed) other = same (Permissions transport relayed) refl
-    by (HavePermission transport to) other = same (HavePermission transport to) refl
-    by ProtocolError other = same ProtocolError (error-counts s)
-=======
-    by : (call : Call) → Fewer n (state_after call s) → Fewer n s ⊎ IsBroughtBy IsHeeded call s
-    by (Recv packet now) = recv-brings (Fewer n) IsHeeded (bringing n) packet.transport packet.from packet.to packet.payload now s
-    by (PollRecv now) = poll_recv-brings (Fewer n) IsHeeded (bringing n) now s
-    by call = same call (quiet-walk Counts Counts-KeepsEdits call s tt)
->>>>>>> 4c4ecb7 (turn_client_api: Say where a client can be)
+    by call other = same call (quiet-walk Counts Counts-KeepsEdits call s tt)
 
 -- whether or not the call finds memory
 pub leaves-heeded : (call : Call) (s t : State) → MayLeave call s t → t.challenges < s.challenges → IsBroughtBy IsHeeded call s

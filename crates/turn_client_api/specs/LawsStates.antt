@@ -1,12 +1,25 @@
 -- Where a client can be, over all calls.
-use Rattle.std.specs.Prelude.{◌≡◌, ◌⊎◌, ◌≤◌, ℕ, true, filter, length, Option, IsSome, All, ⊤}
+use Rattle.std.specs.Prelude.{◌≡◌, ◌⊎◌, ◌≤◌, ℕ, true, List, filter, length, Option, IsSome, All, ⊤}
 use Rattle.std.specs.List.{list_any}
+use Rattle.std.specs.declared.net.socket_addr.SocketAddr.{SocketAddr}
+use Rattle.turn_stun.specs.declared.transport.TransportType.{TransportType}
 use Rattle.turn_auth.specs.LongTerm.{Challenge}
 use Rattle.turn_agent.specs.declared.transaction.Transaction.{Transaction}
-use Rattle.turn_client_api.specs.State.{State, Phase, Authenticating, Allocated, ForAllocation, Listing}
+use Rattle.turn_client_api.specs.Config.{Config}
+use Rattle.turn_client_api.specs.State.{State, initial, Phase, Authenticating, Allocated, ForAllocation, Listing}
 use Rattle.turn_client_api.specs.Grants.{is_for}
 use Rattle.turn_client_api.specs.Connections.{is_indicated, most_indicated}
+use Rattle.turn_client_api.specs.Steps.{Call, Leaves}
 use Rattle.turn_client_api.specs.LawsNumbers.{channel_numbers_of}
+
+-- of each new client
+abbrev pub HoldsAtFirst : (State → Type 0) → Type 0
+HoldsAtFirst P =
+    (transport : TransportType) (local remote : SocketAddr) (config : Config) (seed : List ℕ) → P (initial transport local remote config seed)
+
+-- whatever is called, whether or not the call finds memory
+abbrev pub StaysInCalls : (State → Type 0) → Type 0
+StaysInCalls P = (call : Call) (s t : State) → Leaves call s t → P s → P t
 
 -- numbers of channels (RFC 8656, section 12)
 abbrev pub IsInRange : ℕ → Type 0
