@@ -1,47 +1,40 @@
 -- The edits of which calls are made: what a relation says of each edit, it says of each call.
-use Rattle.std.proofs.Common.{◌≡◌, ℕ, Bool, true, false, not, cond, leb, ltb, ◌&&◌, ◌||◌, List, [], ◌∷◌, map, filter, filter_map, Option, Some, None, Result, Ok, Err, refl, inl, inr, sym, subst}
-use Rattle.std.specs.Prelude.{⊤, is_some, drop, find, reverse, flat_map, slice_get}
+use Rattle.std.proofs.Common.{◌≡◌, ℕ, Bool, true, false, not, leb, ◌&&◌, ◌||◌, List, [], ◌∷◌, map, filter_map, Option, Some, None, Result, Ok, Err, refl, inl, inr, sym, subst}
+use Rattle.std.specs.Prelude.{⊤, is_some, find}
 use Rattle.std.specs.List.{list_any}
-use Rattle.std.proofs.lemmas.Bool.{and_left, and_parts, and_right, eq-eqb, not-false, not-true, or_parts}
+use Rattle.std.proofs.lemmas.Bool.{and_parts, eq-eqb, not-false, not-true, or_parts}
 use Rattle.std.proofs.lemmas.List.{append_assoc}
 use Rattle.std.proofs.lemmas.List.Folds.{list_any-append}
-use Rattle.std.proofs.lemmas.Option.{cond_some, none-some, same_Some}
+use Rattle.std.proofs.lemmas.Option.{none-some, same_Some}
 use Rattle.std.specs.declared.net.ip_addr.IpAddr.{IpAddr}
 use Rattle.std.specs.declared.net.socket_addr.SocketAddr.{SocketAddr}
 use Rattle.std.specs.Net.Socket.{socket_ip}
 use Rattle.turn_stun.specs.declared.transport.TransportType.{TransportType}
 use Rattle.turn_stun.specs.declared.transport.TransportType.TheVariants.{Udp, Tcp}
-use Rattle.turn_types.specs.declared.family.AddressFamily.{AddressFamily}
-use Rattle.turn_agent.specs.Agent.{due, given_up, resent, same_address}
-use Rattle.turn_agent.specs.declared.transaction.Transaction.{Transaction}
-use Rattle.turn_client_api.specs.State.{State, Phase, New, Requesting, Authenticating, Allocated, Closed, Grant, Allocation, Permission, Channel, Connect, Offer, Connection, DataConnection, Relay, Progress, Pending, Active, Reserved, Origin, OwnConnect, ServerRequest, ServerIndication, Purpose, ForAllocation, ForRefresh, ForPermission, ForChannel, ForConnect, ForBind, Queued, agent_of, later_by}
-use Rattle.turn_client_api.specs.Grants.{allocation_for, allocation_in, allocations, changed_allocation, connection_in, family_of, family_of_ip, is_connect, is_for, is_for_any, is_of, is_of_family, is_past, is_pending_channel, is_pending_permission, is_permission_of, is_permitted, permission_for, same_transport, with_grant, with_more_grants, without}
-use Rattle.turn_client_api.specs.Requests.{accepted_reply, asked, asked_lifetime, first_allocate, fresh_id, replied, request_for, requested}
-use Rattle.turn_client_api.specs.Effect.{closed, ended, reserved, without_families}
+use Rattle.turn_agent.specs.Agent.{same_address}
+use Rattle.turn_client_api.specs.State.{State, Phase, New, Requesting, Authenticating, Allocated, Closed, Grant, Allocation, Permission, Channel, Connect, Offer, Connection, DataConnection, Relay, Progress, Pending, Origin, OwnConnect, ServerRequest, ServerIndication, Purpose, ForRefresh, ForPermission, ForChannel, ForConnect, ForBind, Queued, later_by}
+use Rattle.turn_client_api.specs.Grants.{allocation_for, allocation_in, allocations, changed_allocation, connection_in, family_of, family_of_ip, is_for, is_of_family, is_past, is_permission_of, is_permitted, permission_for, same_transport, with_grant, with_more_grants, without}
+use Rattle.turn_client_api.specs.Requests.{accepted_reply, asked, fresh_id, replied, request_for, requested}
 use Rattle.turn_client_api.specs.Retry.{bind_time}
 use Rattle.turn_client_api.specs.Connections.{connection_at, is_connected, is_connecting}
 use Rattle.turn_client_api.specs.Calls.{active_channel, all_expired, allocated_tcp_socket_step, bind_channel, bind_channel_step, bound_by, bound_to, channel_numbers, channel_step, channels_to, connect_step, create_permission_step, delete_step, delete_text, deleted, free_number, has_permission, in_allocation, is_allocated, is_closed, is_control, is_granted_in, is_in_progress, is_local_taken, is_number_taken, offer_origin, offer_taken, on_channel, on_connection, permission_step, protocol_error_step, reserved_from, send_over, send_to_step, socket_opened, socket_refused, socket_step, tcp_connect_step, with_stream}
 use Rattle.turn_client_api.specs.declared.poll.Socket5Tuple.{Socket5Tuple}
 use Rattle.turn_client_api.specs.declared.error.BindChannelError.TheVariants as Bind
-use Rattle.turn_client_api.specs.Due.{has_event, has_reply, is_paused}
-use Rattle.turn_client_api.specs.Poll.{answer_step, channel_lapsed, connections_unbound, given_up_purposes, given_up_step, goes, in_vain, is_given_offer, is_lapsed_channel, is_lapsed_permission, is_listed_for_allocation, is_over, is_unbound, lapsed, lapsed_allocation, lapsed_in, last_channel_lapsed, next_offer, offer_step, offers_in_vain, permissions_lapsed, poll_step, refreshes_in_vain, silent_step, timed_step}
 use Rattle.turn_client_api.specs.Receive.{tcp_closed_step}
-use Rattle.turn_client_api.specs.Transmit.{idle_step, is_due_in, queue_step, refresh_purpose, refreshes_in, refreshes_of_rank, sent, transmit_step}
-use Rattle.turn_client_api.specs.Transmit as T
 use Rattle.turn_client_api.specs.Answers.{event_step}
 use Rattle.turn_client_api.specs.Steps.{Call, Leaves, state_after, Delete, CreatePermission, BindChannel, TcpConnect, AllocatedTcpSocket, TcpClosed, SendTo, Recv, PollRecv, Poll, PollTransmit, PollEvent, RelayedAddresses, Permissions, HavePermission, ProtocolError}
 use Rattle.turn_client_api.proofs.AddressLemmas.{same_address-self}
-use Rattle.turn_client_api.proofs.HasLemmas.{Has, filter-has, has-filter, has-filter_map, has-flat_map, has-found, has-left, has-right, map-has}
-use Rattle.turn_client_api.proofs.HousedLemmas.{Room, has-any, room-more, same_family-self}
+use Rattle.turn_client_api.proofs.HasLemmas.{Has, filter-has, has-filter_map, has-found, has-left, has-right, map-has}
+use Rattle.turn_client_api.proofs.HousedLemmas.{Room, room-more, same_family-self}
 use Rattle.turn_client_api.proofs.HousedMessageLemmas.{allocation-room}
 use Rattle.turn_client_api.proofs.GivenLemmas.{has-mapped}
 use Rattle.turn_client_api.proofs.GivenEffectLemmas.{same_ip-same}
-use Rattle.turn_client_api.proofs.LapseLemmas.{has-unreversed}
 use Rattle.turn_client_api.proofs.DoubleLemmas.{no-connection, no-permission}
 use Rattle.turn_client_api.proofs.RunKeepLemmas.{poll_recv-kept, recv-kept}
 use Rattle.turn_client_api.proofs.MemoryLemmas.{leaves-kept}
-use Rattle.turn_client_api.proofs.Edits.{IsAskable, KeepsAllEdits, KeepsEdits, SparesAllocations}
-use Rattle.turn_client_api.proofs.EditsOfReplies.{allocations-change, closed-walk, each, either, fail-walk, first-has, found, gone-walk, one-of, removed, requested-walk, asked-walk, reserved-walk, spares-kind, told-outlines, unlisted-walk}
+use Rattle.turn_client_api.proofs.Edits.{IsAskable, KeepsAllEdits, KeepsEdits}
+use Rattle.turn_client_api.proofs.EditsOfReplies.{allocations-change, closed-walk, either, fail-walk, found, gone-walk, one-of, requested-walk, asked-walk}
+use Rattle.turn_client_api.proofs.EditsOfTime.{for-there, poll-walk, transmit-walk}
 use Rattle.turn_client_api.proofs.EditsOfMessages.{edits-IsKept}
 
 -- ---- requests are for grants that are there
@@ -53,44 +46,9 @@ is_allocated-true Requesting e = cc
 is_allocated-true Authenticating e = cc
 is_allocated-true Closed e = cc
 
--- the request is for this grant
-for-there : (p : Purpose) (g : Grant) (s : State) → Has g s.grants → is_for p g ≡ true → IsAskable s p
-for-there p g s there is = inr (inl (has-any (is_for p) g s.grants there is))
-
 -- the grant that comes last
 for-last : (p : Purpose) (g : Grant) (s : State) → is_for p g ≡ true → IsAskable (with_grant g s) p
 for-last p g s is = for-there p g (with_grant g s) (has-right g s.grants (g ∷ []) (inl refl)) is
-
--- what is refreshed is there
-refresh-for : (now : ℕ) (p : Purpose) (g : Grant) → refresh_purpose now g ≡ Some p → is_for p g ≡ true
-refresh-for now p (Allocation a) e = subst (λ (x : Purpose). is_for x (Allocation a) ≡ true) (cond_some (leb now a.expiry) (ForRefresh (family_of a.relayed) asked_lifetime) p e).1 (same_family-self (family_of a.relayed) (family_of a.relayed) refl)
-refresh-for now p (Permission ip (Active expiry)) e = subst (λ (x : Purpose). is_for x (Permission ip (Active expiry)) ≡ true) (cond_some (ltb now expiry) (ForPermission ip) p e).1 (same_ip-same ip)
-refresh-for now p (Channel number peer (Active expiry)) e = subst (λ (x : Purpose). is_for x (Channel number peer (Active expiry)) ≡ true) (cond_some (ltb now expiry) (ForChannel number peer) p e).1 (eq-eqb number number refl)
-refresh-for now p (Permission ip Pending) e = absurd (none-some p e)
-refresh-for now p (Permission ip (Reserved until)) e = absurd (none-some p e)
-refresh-for now p (Channel number peer Pending) e = absurd (none-some p e)
-refresh-for now p (Channel number peer (Reserved until)) e = absurd (none-some p e)
-refresh-for now p (Connect peer) e = absurd (none-some p e)
-refresh-for now p (Offer offer) e = absurd (none-some p e)
-refresh-for now p (Connection c) e = absurd (none-some p e)
-
-has-if : {X : Type 0} (b : Bool) (x : X) (xs : List X) → Has x (cond b xs []) → Has x xs
-has-if true x xs there = there
-has-if false x xs none = absurd none
-
-refreshes-askable : (now : ℕ) (s : State) (p : Purpose) → Has p (flat_map (refreshes_in now s) (allocations s)) → IsAskable s p
-refreshes-askable now s p there =
-    let came = has-flat_map (refreshes_in now s) p (allocations s) there in
-    of_one came.from came.gives
-  where
-    of_one : (a : Relay) → Has p (refreshes_in now s a) → IsAskable s p
-    of_one a asked =
-        let came = has-flat_map of_rank p (0 ∷ 1 ∷ 2 ∷ []) (has-if (leb now a.expiry) p (flat_map of_rank (0 ∷ 1 ∷ 2 ∷ [])) asked) in
-        let (g, here, asks) = has-filter_map (refresh_purpose now) p (filter (is_due_in came.from (family_of a.relayed) now s) s.grants) came.gives in
-        for-there p g s (has-filter (is_due_in came.from (family_of a.relayed) now s) g s.grants here).0 (refresh-for now p g asks)
-      where
-        of_rank : ℕ → List Purpose
-        of_rank = refreshes_of_rank now s (family_of a.relayed)
 
 -- all allocations are given back
 delete-askable : (now : ℕ) (s : State) (p : Purpose) → Has p (map (λ (a : Relay). ForRefresh (family_of a.relayed) 0) (allocations s)) → IsAskable (all_expired now (without is_granted_in s)) p
@@ -123,10 +81,6 @@ abbrev pub IsQuiet : Call → Type 0
 IsQuiet (Recv packet now) = ⊥
 IsQuiet (PollRecv now) = ⊥
 IsQuiet _ = ⊤
-
-no-given : (given : Option ℕ) → SparesAllocations (is_given_offer given)
-no-given None a = refl
-no-given (Some id) a = refl
 
 module _ (R : State → State → Type 0) (k : KeepsEdits R) where
   then : (s t u : State) → R s t → R t u → R s u
@@ -318,143 +272,6 @@ module _ (R : State → State → Type 0) (k : KeepsEdits R) where
   error-walk : (s : State) → R s (protocol_error_step s)
   error-walk s = one-of R k (is_closed s.phase) s s _ (k.same s) (fail-walk R k s)
 
-  -- ---- as time passes
-
-  vain-walk : (family : AddressFamily) (purposes : List Purpose) (which : Grant → Bool) (s : State) → SparesAllocations which → R s (in_vain family purposes which s)
-  vain-walk family purposes which s spares =
-      let end = in_vain family purposes which s in
-      removed R k (λ g. is_of family g && which g && is_for_any purposes g) (λ a. and_left (is_of family (Allocation a) && which (Allocation a)) _ (and_right (is_of family (Allocation a)) (which (Allocation a)) (spares a))) s end
-
-  channel_lapsed-walk : (o : Option Grant) (s : State) → ((g : Grant) → o ≡ Some g → Has g s.grants) → R s (channel_lapsed o s)
-  channel_lapsed-walk (Some (Channel number peer (Active expiry))) s there =
-      let t = reserved number peer expiry s in
-      let end = channel_lapsed (Some (Channel number peer (Active expiry))) s in
-      then s t end (reserved-walk R k number peer (Active expiry) expiry s (there (Channel number peer (Active expiry)) refl)) (k.aside t end)
-  channel_lapsed-walk None s there = k.same s
-  channel_lapsed-walk (Some (Channel number peer Pending)) s there = k.same s
-  channel_lapsed-walk (Some (Channel number peer (Reserved until))) s there = k.same s
-  channel_lapsed-walk (Some (Allocation a)) s there = k.same s
-  channel_lapsed-walk (Some (Permission ip progress)) s there = k.same s
-  channel_lapsed-walk (Some (Connect peer)) s there = k.same s
-  channel_lapsed-walk (Some (Offer offer)) s there = k.same s
-  channel_lapsed-walk (Some (Connection c)) s there = k.same s
-
-  -- one after the other, in the order of `lapsed_in`
-  lapsed_in-walk : (family : AddressFamily) (given : Option ℕ) (purposes : List Purpose) (now : ℕ) (s : State) → R s (lapsed_in family given purposes now s)
-  lapsed_in-walk family given purposes now s =
-      let a = in_vain family purposes is_pending_channel s in
-      let b = in_vain family purposes is_pending_permission a in
-      let c = last_channel_lapsed family now b in
-      let d = permissions_lapsed family now c in
-      let e = in_vain family purposes is_connect d in
-      let f = connections_unbound family purposes now e in
-      let g = offers_in_vain family given f in
-      let h = refreshes_in_vain family purposes g in
-      let end = lapsed_in family given purposes now s in
-      let lapses = λ (x : Grant). is_of family x && is_lapsed_channel now x in
-      then s a end (vain-walk family purposes is_pending_channel s (λ r. refl))
-      (then a b end (vain-walk family purposes is_pending_permission a (λ r. refl))
-      (then b c end (channel_lapsed-walk (find lapses (reverse b.grants)) b (λ x found. has-unreversed x b.grants (has-found lapses x (reverse b.grants) found).0))
-      (then c d end (removed R k (λ x. is_of family x && is_lapsed_permission now x) (spares-kind family (is_lapsed_permission now) (λ r. refl)) c d)
-      (then d e end (vain-walk family purposes is_connect d (λ r. refl))
-      (then e f end (removed R k (λ x. is_of family x && is_unbound purposes now x) (spares-kind family (is_unbound purposes now) (λ r. refl)) e f)
-      (then f g end (removed R k (λ x. is_of family x && is_given_offer given x) (spares-kind family (is_given_offer given) (no-given given)) f g)
-      (then g h end (unlisted-walk R k _ g) (k.removes _ h (spares-kind family (is_over now) (λ r. refl))))))))))
-
-  lapsed-walk : (given : Option ℕ) (now : ℕ) (s : State) → R s (lapsed given now s)
-  lapsed-walk given now s = each R k (lapsed_allocation given purposes now) by (allocations s) s
-    where
-      purposes : List Purpose
-      purposes = given_up_purposes given s
-
-      by : (t : State) (a : Relay) → R t (lapsed_allocation given purposes now t a)
-      by t a = one-of R k (goes purposes now t a) t _ _ (k.removes_family (family_of a.relayed) t) (lapsed_in-walk (family_of a.relayed) given purposes now t)
-
-  answer_by : (closes : List SocketAddr) (p : Phase) (given : Option ℕ) (now : ℕ) (s : State) → R (record s { closes = closes; phase = p }) (answer_step given now (record s { closes = closes; phase = p })).1
-  answer_by (local ∷ others) p given now s = k.aside (record s { closes = local ∷ others; phase = p }) (record s { closes = others })
-  answer_by [] New given now s = k.same (record s { closes = []; phase = New })
-  answer_by [] Requesting given now s = k.same (record s { closes = []; phase = Requesting })
-  answer_by [] Authenticating given now s = k.same (record s { closes = []; phase = Authenticating })
-  answer_by [] Closed given now s = k.same (record s { closes = []; phase = Closed })
-  answer_by [] Allocated given now s = by (allocations s) refl
-    where
-      u : State
-      u = record s { closes = []; phase = Allocated }
-
-      by : (l : List Relay) → allocations s ≡ l → R u (answer_step given now u).1
-      by [] e = rw e (k.same u)
-      by (a ∷ others) e = rw e (k.same u)
-
-  answer-walk : (given : Option ℕ) (now : ℕ) (s : State) → R s (answer_step given now s).1
-  answer-walk given now s = answer_by s.closes s.phase given now s
-
-  silent-walk : (s : State) → R s (silent_step s).1
-  silent-walk s =
-      let t = without_families s in
-      let u = record t { events = (silent_step s).1.events } in
-      then s t (closed u) (k.families [] s) (then t u (closed u) (k.aside t u) (closed-walk R k u))
-
-  timed_in_phase : (p : Phase) (given : Option ℕ) (now : ℕ) (s : State) → R (record s { phase = p }) (timed_step p given now (record s { phase = p })).1
-  timed_in_phase New given now s = k.same (record s { phase = New })
-  timed_in_phase Requesting (Some id) now s = silent-walk (record s { phase = Requesting })
-  timed_in_phase Requesting None now s = answer-walk None now (record s { phase = Requesting })
-  timed_in_phase Authenticating (Some id) now s =
-      let u = record s { phase = Authenticating } in
-      let t = cond (is_listed_for_allocation id u) (closed u) u in
-      then u t (answer_step (Some id) now t).1 (one-of R k (is_listed_for_allocation id u) u (closed u) u (closed-walk R k u) (k.same u)) (answer-walk (Some id) now t)
-  timed_in_phase Authenticating None now s = answer-walk None now (record s { phase = Authenticating })
-  timed_in_phase Allocated given now s =
-      let u = record s { phase = Allocated } in
-      then u (lapsed given now u) (answer_step given now (lapsed given now u)).1 (lapsed-walk given now u) (answer-walk given now (lapsed given now u))
-  timed_in_phase Closed given now s = k.same (record s { phase = Closed })
-
-  given_up-walk : (now : ℕ) (s : State) → R s (given_up_step now s).1
-  given_up-walk now s =
-      found R k (λ (t : Transaction). timed_step s.phase (Some t.id) now (ended t.id s)) (given_up (agent_of s) now) s (timed_step s.phase None now s)
-      (λ t e. then s (ended t.id s) _ (k.finishes t.id s) (timed_in_phase s.phase (Some t.id) now (ended t.id s))) (timed_in_phase s.phase None now s)
-
-  poll-walk : (now : ℕ) (s : State) → R s (poll_step now s).1
-  poll-walk now s =
-      either R k (has_event s || has_reply s) s _ _ (λ e. k.same s)
-      (λ e. found R k (λ offer. offer_step offer s) (next_offer s) s (given_up_step now s)
-      (λ offer is. k.reshapes (offer_step offer s).1.grants s (told-outlines (family_of offer.peer) s.grants)) (given_up-walk now s))
-
-  -- ---- what is sent
-
-  idle-walk : (p : Phase) (now : ℕ) (s : State) → R (record s { phase = p }) (idle_step p now (record s { phase = p })).1
-  idle-walk Requesting now s = k.same (record s { phase = Requesting })
-  idle-walk Authenticating now s = k.same (record s { phase = Authenticating })
-  idle-walk Closed now s = k.same (record s { phase = Closed })
-  idle-walk New now s =
-      let u = record s { phase = New } in
-      let t = record s { phase = Requesting; last_send = Some now } in
-      then u t _ (k.begins now u refl) (asked-walk R k (fresh_id u) (first_allocate u (fresh_id u)) ForAllocation now t (inl refl))
-  idle-walk Allocated now s =
-      let u = record s { phase = Allocated } in
-      let wanted = flat_map (refreshes_in now u) (allocations u) in
-      found R k _ (slice_get wanted 0) u (None, u)
-      (λ p e. let text = request_for u p (fresh_id u) in
-      let t = asked (fresh_id u) text (p ∷ []) now u in
-      then u t (sent now t) (asked-walk R k (fresh_id u) text p now u (refreshes-askable now u p (first-has p wanted e))) (k.sends now t)) (k.same u)
-
-  queue-walk : (now : ℕ) (s : State) → R s (queue_step now s).1
-  queue-walk now s = found R k _ (slice_get s.queue 0) s (idle_step s.phase now s) by (idle-walk s.phase now s)
-    where
-      by : (q : Queued) → slice_get s.queue 0 ≡ Some q → R s (sent now (record s { queue = drop 1 s.queue }))
-      by q e =
-          let t = record s { queue = drop 1 s.queue } in
-          then s t (sent now t) (k.aside s t) (k.sends now t)
-
-  transmit-walk : (now : ℕ) (s : State) → R s (transmit_step now s).1
-  transmit-walk now s =
-      found R k _ (due (agent_of s) now) s _ by
-      (either R k (is_paused now s) s (T.reply_step s) (queue_step now s) (λ e. k.aside s (T.reply_step s).1) (λ e. queue-walk now s))
-    where
-      by : (t : Transaction) → due (agent_of s) now ≡ Some t → R s (sent now (record s { transactions = resent t.id now s.transactions }))
-      by t e =
-          let u = record s { transactions = resent t.id now s.transactions } in
-          then s u (sent now u) (k.resends t.id now s) (k.sends now u)
-
   -- ---- the calls that handle nothing
 
   pub quiet-walk : (call : Call) (s : State) → IsQuiet call → R s (state_after call s)
@@ -467,8 +284,8 @@ module _ (R : State → State → Type 0) (k : KeepsEdits R) where
   quiet-walk (SendTo transport peer bytes now) s quiet = send-walk transport peer bytes now s
   quiet-walk (Recv packet now) s none = absurd none
   quiet-walk (PollRecv now) s none = absurd none
-  quiet-walk (Poll now) s quiet = poll-walk now s
-  quiet-walk (PollTransmit now) s quiet = transmit-walk now s
+  quiet-walk (Poll now) s quiet = poll-walk R k now s
+  quiet-walk (PollTransmit now) s quiet = transmit-walk R k now s
   quiet-walk PollEvent s quiet = k.aside s (event_step s).1
   quiet-walk RelayedAddresses s quiet = k.same s
   quiet-walk (Permissions transport relayed) s quiet = k.same s

@@ -16,6 +16,7 @@ pub mod Edits
 pub mod EditsOfCalls
 pub mod EditsOfMessages
 pub mod EditsOfReplies
+pub mod EditsOfTime
 pub mod GivenCallLemmas
 pub mod GivenEffectLemmas
 pub mod GivenLemmas
