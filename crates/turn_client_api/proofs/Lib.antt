@@ -11,6 +11,9 @@ pub mod DistinctGrants
 pub mod DistinctNumbers
 pub mod DoubleLemmas
 pub mod DrawLemmas
+pub mod EarlyLapseLemmas
+pub mod EventBoundLemmas
+pub mod FreeNumberLemmas
 pub mod FrameRestLemmas
 pub mod Edits
 pub mod EditsOfCalls
@@ -37,10 +40,19 @@ pub mod LapseLemmas
 pub mod ListedGrants
 pub mod MemoryLemmas
 pub mod NumberLemmas
+pub mod MoveLemmas
+pub mod MoveCallLemmas
+pub mod MoveMessageLemmas
+pub mod MovePollLemmas
+pub mod MoveReplyLemmas
+pub mod MoveSocketLemmas
+pub mod MoveTurnLemmas
+pub mod OtherStreamLemmas
 pub mod PeerLemmas
 pub mod PhasesGoOn
 pub mod ReadyLemmas
 pub mod ReplyLemmas
+pub mod RestingStreamLemmas
 pub mod RunKeepLemmas
 pub mod SentToServer
 pub mod StandLemmas
@@ -63,3 +75,4 @@ pub mod TurnEndLemmas
 pub mod TurnFrameLemmas
 pub mod TurnLemmas
 pub mod WakeupLemmas
+pub mod WakeupPartLemmas

@@ -82,7 +82,7 @@ mode_by-KeepsHeld local mode = record {
     held true x = refl
     held false x = refl
 
-map-map : (f g : Stream → Stream) (xs : List Stream) → map (λ x. g (f x)) xs ≡ map g (map f xs)
+pub map-map : (f g : Stream → Stream) (xs : List Stream) → map (λ x. g (f x)) xs ≡ map g (map f xs)
 map-map f g [] = refl
 map-map f g (x ∷ xs) = ap (λ ys. g (f x) ∷ ys) (map-map f g xs)
 

@@ -185,7 +185,7 @@ rebound-cond : (b : Bool) (s t u : State) → Rebound s t → Rebound s u → Re
 rebound-cond true s t u k l = k
 rebound-cond false s t u k l = l
 
-again-same : (c : DataConnection) (id : ℕ) (d : Challenge) (now : ℕ) (s : State) → Same s (bind_again c id d now s)
+pub again-same : (c : DataConnection) (id : ℕ) (d : Challenge) (now : ℕ) (s : State) → Same s (bind_again c id d now s)
 again-same c id d now s = by (find (is_bind_of c.local) (purposes_of id s)) refl
   where
     by : (o : Option Purpose) → find (is_bind_of c.local) (purposes_of id s) ≡ o → Same s (bind_again c id d now s)

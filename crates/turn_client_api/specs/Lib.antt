@@ -12,7 +12,9 @@ pub mod Grants
 pub mod Handled
 pub mod Judgement
 pub mod LawsBound
+pub mod LawsBodies
 pub mod LawsDoubles
+pub mod LawsGone
 pub mod LawsGranted
 pub mod LawsHandled
 pub mod LawsHoused
@@ -23,6 +25,7 @@ pub mod LawsOrder
 pub mod LawsPeers
 pub mod LawsPieces
 pub mod LawsReplies
+pub mod LawsRequests
 pub mod LawsRows
 pub mod LawsSockets
 pub mod LawsStates

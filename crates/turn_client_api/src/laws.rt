@@ -1,8 +1,10 @@
 //! Laws of the machine. Their functions do nothing, or give a constant: what they ensure is the law.
 
 mod alarm;
+mod bodies;
 mod bound;
 mod doubles;
+mod gone;
 mod granted;
 mod housed;
 mod ids;
@@ -14,6 +16,7 @@ mod payloads;
 mod peers;
 mod pieces;
 mod replies;
+mod requests;
 mod rows;
 mod sockets;
 mod standards;
@@ -24,8 +27,13 @@ mod turns;
 mod wakeup;
 
 pub use alarm::sleeps_through_nothing;
+pub use bodies::{
+    drained_streams_rest, events_are_bounded, least_free_number_is_bound, least_moment_has_parts,
+    nothing_lapses_early, turns_leave_other_streams,
+};
 pub use bound::only_a_signed_success_binds;
 pub use doubles::grants_are_distinct;
+pub use gone::grants_go_by_kind;
 pub use granted::only_a_signed_success_grants;
 pub use housed::grants_stand_in_allocations;
 pub use ids::drawn_ids_are_free;
@@ -40,6 +48,7 @@ pub use payloads::payloads_are_answered;
 pub use peers::only_let_in;
 pub use pieces::{connections_are_bound, datagrams_are_judged, pieces_are_cut};
 pub use replies::{ids_are_drawn, replies_count_once};
+pub use requests::requests_are_made;
 pub use rows::{
     channel_numbers_count_up, delete_is_one_request, failures_jump, first_allocate_is_spelled,
     moments_are_told, silence_is_timed,

@@ -1,0 +1,197 @@
+-- What all calls ask for and take, those that take turns among them.
+use Rattle.std.proofs.Common.{◌≡◌, ◌⊎◌, ℕ, List, [], ◌∷◌, Option, Some, None, true, refl, sym, subst, ◌∙◌, inl, inr}
+use Rattle.std.specs.List.{Contains}
+use Rattle.turn_agent.specs.declared.transaction.Transaction.{Transaction}
+use Rattle.turn_client_api.specs.State.{State, Grant, Listing, ForBind, Stream}
+use Rattle.turn_client_api.specs.Grants.{is_connection_from}
+use Rattle.turn_client_api.specs.Streams.{most_turns}
+use Rattle.turn_client_api.specs.Handled.{Turn, handled, made_of}
+use Rattle.turn_client_api.specs.Steps.{Call, state_after, Delete, CreatePermission, BindChannel, TcpConnect, AllocatedTcpSocket, TcpClosed, SendTo, Recv, PollRecv, Poll, PollTransmit, PollEvent, RelayedAddresses, Permissions, HavePermission, ProtocolError}
+use Rattle.turn_client_api.specs.LawsHandled.{DiffersInStreams, DoesTurns, IsStreamEnd, TakesTurns, TurnsLead}
+use Rattle.turn_client_api.specs.LawsRequests.{IsListedInTurn, IsListingOf, IsMadeInTurn, IsRequestOf}
+use Rattle.turn_client_api.specs.LawsGone.{IsOverItself, IsStillThere, IsTakenBy, IsTakenInTurn}
+use Rattle.turn_client_api.proofs.HasLemmas.{Has}
+use Rattle.turn_client_api.proofs.MoveCallLemmas.{channel-does, connect-does, does-same, does-settled, permission-does}
+use Rattle.turn_client_api.proofs.MoveLemmas.{IsOfBare, Moves, Remains, Settles, remains-here, settles-same}
+use Rattle.turn_client_api.proofs.MoveMessageLemmas.{turn-turns}
+use Rattle.turn_client_api.proofs.MovePollLemmas.{poll-does, transmit-does}
+use Rattle.turn_client_api.proofs.MoveReplyLemmas.{is_for-whole}
+use Rattle.turn_client_api.proofs.MoveSocketLemmas.{closed-does, delete-does, error-does, gone-settles, send-does, taken-does}
+use Rattle.turn_client_api.proofs.StandLemmas.{contains-has, has-contains}
+use Rattle.turn_client_api.proofs.TurnChainLemmas.{calls-do, turns-lead}
+
+-- ---- turns one after the other
+
+-- one of these turns did it
+abbrev Among : (Turn → Type 0) → List Turn → Type 0
+Among Did turns = (one : Turn) × Has one turns × Did one
+
+later-among : (Did : Turn → Type 0) (one : Turn) (turns : List Turn) → Among Did turns → Among Did (one ∷ turns)
+later-among Did one turns (x, there, did) = (x, inr there, did)
+
+-- what holds behind the turns held before them, or came by one of them
+leads-back : (P : State → Type 0) (Did : Turn → Type 0) → ((s t : State) → DiffersInStreams s t → P t → P s) → ((one : Turn) → P (made_of one).1 → P one.before ⊎ Did one) → (turns : List Turn) (s t : State) → TurnsLead turns s t → P t → P s ⊎ Among Did turns
+leads-back P Did alike step [] s t differs h = inl (alike s t differs h)
+leads-back P Did alike step (one ∷ turns) s t (differs, lead) h = by (leads-back P Did alike step turns (made_of one).1 t lead h)
+  where
+    at : P one.before ⊎ Did one → P s ⊎ Among Did (one ∷ turns)
+    at (inl before) = inl (alike s one.before differs before)
+    at (inr did) = inr (one, inl refl, did)
+
+    by : P (made_of one).1 ⊎ Among Did turns → P s ⊎ Among Did (one ∷ turns)
+    by (inl here) = at (step one here)
+    by (inr among) = inr (later-among Did one turns among)
+
+-- what held before the turns holds behind them, or one of them ended it
+leads-on : (P : State → Type 0) (Did : Turn → Type 0) → ((s t : State) → DiffersInStreams s t → P s → P t) → ((one : Turn) → P one.before → P (made_of one).1 ⊎ Did one) → (turns : List Turn) (s t : State) → TurnsLead turns s t → P s → P t ⊎ Among Did turns
+leads-on P Did alike step [] s t differs h = inl (alike s t differs h)
+leads-on P Did alike step (one ∷ turns) s t (differs, lead) h =
+    by (step one (alike s one.before differs h)) (λ here. leads-on P Did alike step turns (made_of one).1 t lead here)
+  where
+    further : P t ⊎ Among Did turns → P t ⊎ Among Did (one ∷ turns)
+    further (inl there) = inl there
+    further (inr among) = inr (later-among Did one turns among)
+
+    by : P (made_of one).1 ⊎ Did one → (P (made_of one).1 → P t ⊎ Among Did turns) → P t ⊎ Among Did (one ∷ turns)
+    by (inl here) more = further (more here)
+    by (inr did) more = inr (one, inl refl, did)
+
+-- ---- what a turn takes, it takes however far that has come
+
+taken-whole : (one : Turn) → IsOfBare (λ g. IsTakenInTurn g one)
+taken-whole one g is same (inl (accepted, (p, answers, inl h))) = inl (accepted, (p, answers, inl (is_for-whole p g is same h)))
+taken-whole one g is same (inl (accepted, (p, answers, inr back))) = inl (accepted, (p, answers, inr back))
+taken-whole one g is same (inr over) = inr (by one.stream over)
+  where
+    by : (o : Option Stream) → IsOverItself o is → IsOverItself o g
+    by None over = over
+    by (Some stream) (mode, h) = (mode, is_for-whole (ForBind stream.local stream.local 0) g is same h)
+
+-- ---- a call that takes turns
+
+module _ (turns : List Turn) (s t : State) (lead : TurnsLead turns s t) where
+  lead-transactions : (x : Transaction) → Has x t.transactions → Has x s.transactions ⊎ Among (IsMadeInTurn x) turns
+  lead-transactions x h =
+      leads-back (λ u. Has x u.transactions) (IsMadeInTurn x)
+      (λ u v differs there. subst (λ (w : State). Has x w.transactions) differs.others there)
+      (λ one there. (turn-turns one).0 x there) turns s t lead h
+
+  lead-listed : (l : Listing) → Has l t.listed → Has l s.listed ⊎ Among (IsListedInTurn l) turns
+  lead-listed l h =
+      leads-back (λ u. Has l u.listed) (IsListedInTurn l)
+      (λ u v differs there. subst (λ (w : State). Has l w.listed) differs.others there)
+      (λ one there. (turn-turns one).1 l there) turns s t lead h
+
+  lead-grants : (g : Grant) → Has g s.grants → Remains g t.grants ⊎ Among (IsTakenInTurn g) turns
+  lead-grants g h =
+      leads-on (λ u. Remains g u.grants) (IsTakenInTurn g)
+      (λ u v differs there. subst (λ (w : State). Remains g w.grants) (sym differs.others) there)
+      step turns s t lead (remains-here g s.grants h)
+    where
+      step : (one : Turn) → Remains g one.before.grants → Remains g (made_of one).1.grants ⊎ IsTakenInTurn g one
+      step one (is, there, same) = by ((turn-turns one).2 is there)
+        where
+          by : Remains is (made_of one).1.grants ⊎ IsTakenInTurn is one → Remains g (made_of one).1.grants ⊎ IsTakenInTurn g one
+          by (inl (last, here, e)) = inl (last, here, same ∙ e)
+          by (inr taken) = inr (taken-whole one g is same taken)
+
+-- ---- the law
+
+-- a call leaves this
+abbrev Obeys : Call → State → Type 0
+Obeys call s = Moves (IsRequestOf call s) (IsListingOf call s) (IsTakenBy call s) s (state_after call s)
+
+-- one of them is among what the call handles
+among-done : (Did : Turn → Type 0) (call : Call) (s : State) → Among Did (handled call s) → (one : Turn) × Contains (handled call s) one × Did one
+among-done Did call s (one, there, did) = (one, has-contains one (handled call s) there, did)
+
+-- the same, or by a turn
+or-done : {X : Type 0} (Did : Turn → Type 0) (call : Call) (s : State) → X ⊎ Among Did (handled call s) → X ⊎ ((one : Turn) × Contains (handled call s) one × Did one)
+or-done Did call s (inl x) = inl x
+or-done Did call s (inr among) = inr (among-done Did call s among)
+
+-- the end of a stream takes its connection
+end-settles : (call : Call) (s t : State) (end : IsStreamEnd call s t) → Settles (λ g. is_connection_from end.local g ≡ true) s t
+end-settles call s t end = subst (λ u. Settles (λ g. is_connection_from end.local g ≡ true) s u) (sym end.gone) (gone-settles end.local s)
+
+recv-obeys : (call : Call) (s : State) → TakesTurns call → (Other : Grant → Type 0) → ((end : IsStreamEnd call s (state_after call s)) (g : Grant) → is_connection_from end.local g ≡ true → Other g) → Moves (λ x. (one : Turn) × Contains (handled call s) one × IsMadeInTurn x one) (λ l. (one : Turn) × Contains (handled call s) one × IsListedInTurn l one) (λ g. ((one : Turn) × Contains (handled call s) one × IsTakenInTurn g one) ⊎ Other g) s (state_after call s)
+recv-obeys call s takes Other ends = by (calls-do call s takes)
+  where
+    t : State
+    t = state_after call s
+
+    gone : (end : IsStreamEnd call s t) → Settles (λ g. is_connection_from end.local g ≡ true) s t
+    gone end = end-settles call s t end
+
+    by : DoesTurns call s → Moves (λ x. (one : Turn) × Contains (handled call s) one × IsMadeInTurn x one) (λ l. (one : Turn) × Contains (handled call s) one × IsListedInTurn l one) (λ g. ((one : Turn) × Contains (handled call s) one × IsTakenInTurn g one) ⊎ Other g) s t
+    by (inl lead) = (
+      λ x h. or-done (IsMadeInTurn x) call s (lead-transactions (handled call s) s t lead x h),
+      λ l h. or-done (IsListedInTurn l) call s (lead-listed (handled call s) s t lead l h),
+      λ g h. left g (lead-grants (handled call s) s t lead g h),
+    )
+      where
+        left : (g : Grant) → Remains g t.grants ⊎ Among (IsTakenInTurn g) (handled call s) → Remains g t.grants ⊎ ((one : Turn) × Contains (handled call s) one × IsTakenInTurn g one) ⊎ Other g
+        left g (inl remains) = inl remains
+        left g (inr among) = inr (inl (among-done (IsTakenInTurn g) call s among))
+    by (inr end) = (
+      λ x h. never s.transactions x ((gone end).0 x h),
+      λ l h. never s.listed l ((gone end).1 l h),
+      λ g h. taken g ((gone end).2 g h),
+    )
+      where
+        never : {X Y : Type 0} (xs : List X) (x : X) → Has x xs ⊎ ⊥ → Has x xs ⊎ Y
+        never xs x (inl there) = inl there
+        never xs x (inr none) = absurd none
+
+        taken : (g : Grant) → Remains g t.grants ⊎ (is_connection_from end.local g ≡ true) → Remains g t.grants ⊎ ((one : Turn) × Contains (handled call s) one × IsTakenInTurn g one) ⊎ Other g
+        taken g (inl remains) = inl remains
+        taken g (inr is) = inr (inr (ends end g is))
+
+poll_recv-obeys : (now : ℕ) (s : State) → Obeys (PollRecv now) s
+poll_recv-obeys now s =
+    let call = PollRecv now in
+    let t = state_after call s in
+    let lead = turns-lead (most_turns s) now s in (
+      λ x h. or-done (IsMadeInTurn x) call s (lead-transactions (handled call s) s t lead x h),
+      λ l h. or-done (IsListedInTurn l) call s (lead-listed (handled call s) s t lead l h),
+      λ g h. or-done (IsTakenInTurn g) call s (lead-grants (handled call s) s t lead g h),
+    )
+
+all-obey : (call : Call) (s : State) → Obeys call s
+all-obey (Delete now) s = delete-does now s
+all-obey (CreatePermission transport ip now) s = permission-does transport ip now s
+all-obey (BindChannel transport peer now) s = channel-does transport peer now s
+all-obey (TcpConnect peer now) s = connect-does peer now s
+all-obey (AllocatedTcpSocket id tuple peer local now) s = taken-does id tuple peer now s local
+all-obey (TcpClosed local remote now) s = closed-does local remote now s
+all-obey (SendTo transport peer bytes now) s = send-does transport peer bytes now s
+all-obey (Recv packet now) s = recv-obeys (Recv packet now) s tt _ (λ end g is. (end, is))
+all-obey (PollRecv now) s = poll_recv-obeys now s
+all-obey (Poll now) s = poll-does now s
+all-obey (PollTransmit now) s = transmit-does now s
+all-obey PollEvent s = does-settled PollEvent s (state_after PollEvent s) (settles-same (IsTakenBy PollEvent s) s)
+all-obey RelayedAddresses s = does-same RelayedAddresses s
+all-obey (Permissions transport relayed) s = does-same (Permissions transport relayed) s
+all-obey (HavePermission transport to) s = does-same (HavePermission transport to) s
+all-obey ProtocolError s = error-does s
+
+pub requests-made : (call : Call) (s : State) (x : Transaction) → Contains (state_after call s).transactions x → Contains s.transactions x ⊎ IsRequestOf call s x
+requests-made call s x there = by ((all-obey call s).0 x (contains-has x (state_after call s).transactions there))
+  where
+    by : Has x s.transactions ⊎ IsRequestOf call s x → Contains s.transactions x ⊎ IsRequestOf call s x
+    by (inl h) = inl (has-contains x s.transactions h)
+    by (inr is) = inr is
+
+pub listings-made : (call : Call) (s : State) (l : Listing) → Contains (state_after call s).listed l → Contains s.listed l ⊎ IsListingOf call s l
+listings-made call s l there = by ((all-obey call s).1 l (contains-has l (state_after call s).listed there))
+  where
+    by : Has l s.listed ⊎ IsListingOf call s l → Contains s.listed l ⊎ IsListingOf call s l
+    by (inl h) = inl (has-contains l s.listed h)
+    by (inr is) = inr is
+
+pub grants-taken : (call : Call) (s : State) (g : Grant) → Contains s.grants g → IsStillThere (state_after call s) g ⊎ IsTakenBy call s g
+grants-taken call s g there = by ((all-obey call s).2 g (contains-has g s.grants there))
+  where
+    by : Remains g (state_after call s).grants ⊎ IsTakenBy call s g → IsStillThere (state_after call s) g ⊎ IsTakenBy call s g
+    by (inl (is, h, same)) = inl (is, has-contains is (state_after call s).grants h, same)
+    by (inr taken) = inr taken

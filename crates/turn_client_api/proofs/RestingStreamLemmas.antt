@@ -1,0 +1,50 @@
+-- Where no stream is ready, nothing is handled.
+use Rattle.std.proofs.Common.{◌≡◌, ℕ, zero, suc, Bool, true, false, cond, List, [], length, take, drop, Option, Some, None, refl, sym}
+use Rattle.std.specs.Prelude.{All, find}
+use Rattle.std.proofs.lemmas.List.{take-append-drop}
+use Rattle.turn_types.specs.Frames.{begins_no_frame, frame_len}
+use Rattle.turn_types.proofs.FrameLemmas.{frame_len-IsWhole}
+use Rattle.turn_types.proofs.SplitLemmas.{IsWhole-IsFrame}
+use Rattle.turn_client_api.specs.State.{State, Mode, Control, Waiting, Bound, Broken, Stream}
+use Rattle.turn_client_api.specs.Streams.{is_ready, most_turns, poll_recv_step, ready_len, turns_until_payload}
+use Rattle.turn_client_api.specs.Handled.{poll_recv_turns, turns_taken}
+use Rattle.turn_client_api.specs.LawsStreams.{HasNoFrame, IsDrained}
+use Rattle.turn_client_api.proofs.HasLemmas.{find-none, has-all}
+
+no_frame-waits : (bytes : List ℕ) → HasNoFrame bytes → cond (begins_no_frame bytes) (Some (length bytes)) (frame_len bytes) ≡ None
+no_frame-waits bytes h = by (begins_no_frame bytes) (frame_len bytes) h.0 refl
+  where
+    by : (b : Bool) (o : Option ℕ) → b ≡ false → frame_len bytes ≡ o → cond b (Some (length bytes)) o ≡ None
+    by true o e f = cc
+    by false None e f = refl
+    by false (Some k) e f =
+        let is = frame_len-IsWhole bytes k f in
+        absurd (h.1 (take k bytes) (drop k bytes) (sym (take-append-drop k bytes)) (IsWhole-IsFrame bytes k is))
+
+waits-in : (mode : Mode) (stream : Stream) → IsDrained (record stream { mode = mode }) → ready_len (record stream { mode = mode }) ≡ None
+waits-in Control stream h = no_frame-waits stream.bytes h
+waits-in Waiting stream h = no_frame-waits stream.bytes h
+waits-in (Bound peer) stream h = rw h refl
+waits-in Broken stream h = refl
+
+drained-waits : (stream : Stream) → IsDrained stream → is_ready stream ≡ false
+drained-waits stream h = rw (waits-in stream.mode stream h) refl
+
+none-ready : (s : State) → All IsDrained s.streams → find is_ready s.streams ≡ None
+none-ready s all = find-none is_ready s.streams (λ stream h. drained-waits stream (has-all IsDrained stream s.streams all h))
+
+turns-rest : (n now : ℕ) (s : State) → find is_ready s.streams ≡ None → turns_until_payload n now s ≡ (None, s)
+unfolding turns_until_payload
+turns-rest zero now s e = refl
+turns-rest (suc n) now s e = rw e refl
+
+taken-rest : (n now : ℕ) (s : State) → find is_ready s.streams ≡ None → turns_taken n now s ≡ []
+unfolding turns_taken
+taken-rest zero now s e = refl
+taken-rest (suc n) now s e = rw e refl
+
+pub poll_recv-rests : (now : ℕ) (s : State) → All IsDrained s.streams → poll_recv_step now s ≡ (None, s)
+poll_recv-rests now s all = turns-rest (most_turns s) now s (none-ready s all)
+
+pub poll_recv-handles_nothing : (now : ℕ) (s : State) → All IsDrained s.streams → poll_recv_turns now s ≡ []
+poll_recv-handles_nothing now s all = taken-rest (most_turns s) now s (none-ready s all)

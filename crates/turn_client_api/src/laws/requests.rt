@@ -1,0 +1,19 @@
+//! Which requests a call makes.
+
+ghost use Rattle.std.specs.Prelude.{◌⊎◌};
+ghost use Rattle.std.specs.List.{Contains};
+ghost use Rattle.turn_agent.specs.declared.transaction.Transaction.{Transaction};
+ghost use Rattle.turn_client_api.specs.State.{State, Listing};
+ghost use Rattle.turn_client_api.specs.Steps.{Call, state_after};
+ghost use Rattle.turn_client_api.specs.LawsRequests.{IsListingOf, IsOldOrMade};
+
+/// What is outstanding or listed after a call was so before, or the call made the request, which is outstanding
+/// then: under the ID that was the next one, to the server, and with the bytes that ask for its purpose. A call
+/// of the caller asks for what its name says, `poll_transmit` for the first ALLOCATE or for the first grant
+/// that is to be refreshed, and it sends requests again. In `recv` and `poll_recv` a message whose turn comes
+/// brings it: the new request has a purpose of the request that the message answers, and is listed for
+/// purposes of that one alone (RFC 8489, section 9.2.5; RFC 8656, section 7.4). No other call makes one.
+pub fn requests_are_made()
+    ensures request { (call : Call) (s : State) (x : Transaction) → Contains (state_after call s).transactions x → IsOldOrMade call s x }
+    ensures listing { (call : Call) (s : State) (l : Listing) → Contains (state_after call s).listed l → Contains s.listed l ⊎ IsListingOf call s l }
+{}
