@@ -1,0 +1,31 @@
+-- One stream, and what changes it.
+use Rattle.std.specs.Prelude.{ℕ, List, [], take, drop, if◌then◌else◌, Option, option_map}
+use Rattle.std.specs.Option.{option_map_or}
+use Rattle.turn_types.specs.Frames.{begins_no_frame, frame_len}
+use Rattle.turn_client_api.specs.declared.state.Mode.{Mode}
+use Rattle.turn_client_api.specs.declared.state.Mode.TheVariants.{Broken}
+use Rattle.turn_client_api.specs.declared.state.Stream.{Stream}
+
+-- the stream with these bytes
+abbrev pub holding : List ℕ → Stream → Stream
+holding bytes stream = record stream { bytes = bytes }
+
+-- its bytes are meant so
+abbrev pub meant : Mode → Stream → Stream
+meant mode stream = record stream { mode = mode }
+
+-- nothing more comes of it, and what waits is dropped
+abbrev pub broken : Stream → Stream
+broken stream = record stream { mode = Broken; bytes = [] }
+
+-- the frame in front, where the whole of it is there (RFC 8656, section 12.5)
+abbrev pub front_of : Stream → Option (List ℕ)
+front_of stream = option_map (λ len. take len stream.bytes) (frame_len stream.bytes)
+
+-- that frame is gone
+abbrev pub passed : Stream → Stream
+passed stream = option_map_or (λ len. holding (drop len stream.bytes) stream) (frame_len stream.bytes) stream
+
+-- that frame is gone, and what no frame begins with breaks the stream
+abbrev pub without_front : Stream → Stream
+without_front stream = if begins_no_frame stream.bytes then broken stream else passed stream

@@ -1,0 +1,20 @@
+-- The streams of a client, and the state of a client that has them.
+use Rattle.std.specs.Prelude.{List, [], map, Option, Some, None}
+use Rattle.std.specs.List.{IsDistinct}
+use Rattle.turn_agent.specs.Agent.{same_address}
+use Rattle.turn_client_api.specs.State.{State}
+use Rattle.turn_client_api.specs.Streams.{with_bytes}
+use Rattle.turn_client_api.specs.declared.state.Stream.{Stream}
+
+-- the client with these streams
+abbrev pub with_streams : List Stream → State → State
+with_streams streams s = record s { streams = streams }
+
+-- a stream that is out holds nothing in the list
+abbrev pub taken_out : Option Stream → State → State
+taken_out None s = s
+taken_out (Some stream) s = with_bytes stream.local [] s
+
+-- no two streams have one local end: each connection is a TCP connection of its own (RFC 6062, section 4.3)
+abbrev pub HasOwnEnds : List Stream → Type 0
+HasOwnEnds streams = IsDistinct same_address (map (λ stream. stream.local) streams)

@@ -1,0 +1,162 @@
+//! The list of a client's streams.
+
+ghost use Rattle.std.specs.Prelude.{◌≡◌, find, OnOk, OnErr, IfOk, IsOk, option_copied};
+ghost use Rattle.std.specs.List.{position};
+ghost use Rattle.turn_agent.specs.Agent.{same_address};
+ghost use Rattle.turn_stun.specs.declared.transport.TransportType.TheVariants.{Udp};
+ghost use Rattle.turn_client_api.specs.Calls.{with_stream};
+ghost use Rattle.turn_client_api.specs.Connections.{with_mode};
+ghost use Rattle.turn_client_api.specs.State.{State, first_streams};
+ghost use Rattle.turn_client_api.specs.Streams.{broken_at, is_ready, stream_at, with_bytes, without_stream};
+ghost use Rattle.turn_client_streams.specs.Held.{taken_out, with_streams};
+
+use crate::buffered::BufferedStream;
+use std::alloc::{AllocError, Global};
+use std::marker::Model;
+use std::net::SocketAddr;
+use turn_client_api::Mode;
+use turn_stun::transport::TransportType;
+
+/// The streams of a client, in the order of their opening, which is that of their turns. No two have one
+/// local end. A client over UDP has none.
+///
+/// A stream whose turn it is is taken out, and put back without the frame that was handled: meanwhile the
+/// list has it with no bytes, and another call may change how they are meant.
+#[derive(Debug, Drop)]
+pub struct Streams {
+    alloc: Global,
+    list: Vec<BufferedStream>,
+}
+
+impl Model for Streams {
+    ghost use Rattle.std.specs.Prelude.{List};
+    ghost use Rattle.turn_client_api.specs.declared.state.Stream.{Stream};
+    ghost use Rattle.turn_client_streams.specs.Held.{HasOwnEnds};
+
+    ghost Value = { List Stream };
+
+    ghost view = { λ s. s.list.items };
+
+    ghost invariant = { λ s. HasOwnEnds s.list.items };
+}
+
+/// Where the first stream stands that can have its turn.
+fn ready_place(list: &[BufferedStream]) -> Option<usize>
+    ensures { result ≡ position is_ready list.now }
+{
+    list.iter().position(|stream| stream.is_ready())
+}
+
+/// Where the stream at this local end stands.
+fn place_at(list: &[BufferedStream], local: SocketAddr) -> Option<usize>
+    ensures { result ≡ position (λ stream. same_address stream.local local) list.now }
+{
+    list.iter().position(|stream| stream.local() == local)
+}
+
+impl Streams {
+    /// The streams of a new client: over TCP that of its control connection, and over UDP none.
+    ///
+    /// # Errors
+    ///
+    /// `AllocError` where there is no memory. Over UDP none is wanted.
+    pub fn new(
+        alloc: Global,
+        transport: TransportType,
+        local: SocketAddr,
+    ) -> Result<Streams, AllocError>
+        ensures first { IfOk result (λ streams. streams ≡ first_streams transport local) }
+        ensures udp { transport ≡ Udp → IsOk result }
+    {
+        let mut list = Vec::new(alloc);
+        if transport == TransportType::Tcp {
+            list.push(BufferedStream::new(alloc, local, Mode::Control))?;
+        }
+        Ok(Streams { alloc, list })
+    }
+
+    /// The stream at this local end.
+    pub fn get(&self, local: SocketAddr) -> Option<&BufferedStream>
+        ensures { (s : State) → option_copied result ≡ stream_at local (with_streams self.now s) }
+    {
+        let Some(place) = place_at(self.list.as_slice(), local) else {
+            return None;
+        };
+        Some(&self.list[place])
+    }
+
+    /// Takes out the first stream that can have its turn.
+    pub fn take_ready(&mut self) -> Option<BufferedStream>
+        ensures stream { result ≡ find is_ready self.old }
+        ensures after { (s : State) → with_streams self.new s ≡ taken_out result (with_streams self.old s) }
+    {
+        let Some(place) = ready_place(self.list.as_slice()) else {
+            return None;
+        };
+        Some(self.list[place].take_out())
+    }
+
+    /// Takes out the stream at this local end.
+    pub fn take_at(&mut self, local: SocketAddr) -> Option<BufferedStream>
+        ensures stream { (s : State) → result ≡ stream_at local (with_streams self.old s) }
+        ensures after { (s : State) → with_streams self.new s ≡ taken_out result (with_streams self.old s) }
+    {
+        let Some(place) = place_at(self.list.as_slice(), local) else {
+            return None;
+        };
+        Some(self.list[place].take_out())
+    }
+
+    /// Gives the stream at the same local end the bytes of this one, which was taken out. It is meant as
+    /// the list says by now, and where it is gone from there the bytes are dropped.
+    pub fn put(&mut self, stream: BufferedStream)
+        ensures { (s : State) → with_streams self.new s ≡ with_bytes stream.local stream.bytes (with_streams self.old s) }
+    {
+        if let Some(place) = place_at(self.list.as_slice(), stream.local()) {
+            self.list[place].hold(stream);
+        }
+    }
+
+    /// Breaks the stream at this local end: what waits there is dropped, and nothing more comes of it.
+    pub fn break_at(&mut self, local: SocketAddr)
+        ensures { (s : State) → with_streams self.new s ≡ broken_at local (with_streams self.old s) }
+    {
+        if let Some(place) = place_at(self.list.as_slice(), local) {
+            self.list[place].break_off();
+        }
+    }
+
+    /// From now on the bytes of the stream at this local end are meant so, also those that wait: once the
+    /// server has bound a data connection, they are its peer's (RFC 6062, section 4.3).
+    pub fn set_mode(&mut self, local: SocketAddr, mode: Mode)
+        ensures { (s : State) → with_streams self.new s ≡ with_mode local mode (with_streams self.old s) }
+    {
+        if let Some(place) = place_at(self.list.as_slice(), local) {
+            self.list[place].set_mode(mode);
+        }
+    }
+
+    /// Lets the stream at this local end go, with what waits there.
+    pub fn remove(&mut self, local: SocketAddr)
+        ensures { (s : State) → with_streams self.new s ≡ without_stream local (with_streams self.old s) }
+    {
+        self.list.retain(|stream| stream.local() != local);
+    }
+
+    /// Opens the stream of a data connection that waits to be bound, behind all others and in place of any
+    /// at this local end (RFC 6062, section 4.3).
+    ///
+    /// # Errors
+    ///
+    /// `AllocError` where there is no memory. All stays as it was.
+    pub fn open(&mut self, local: SocketAddr) -> Result<(), AllocError>
+        ensures ok { OnOk result ((s : State) → with_streams self.new s ≡ with_stream local (with_streams self.old s)) }
+        ensures err { OnErr result (self.new ≡ self.old) }
+    {
+        self.list.reserve(1)?;
+        self.list.retain(|stream| stream.local() != local);
+        self.list
+            .push_reserved(BufferedStream::new(self.alloc, local, Mode::Waiting));
+        Ok(())
+    }
+}
