@@ -1,0 +1,11 @@
+use Rattle.std.proofs.Common.{refl}
+use Rattle.turn_auth.proofs.SignLemmas.{begun_is_unsigned}
+use Rattle.turn_client_requests.proofs.request.delete_request.Goals as goal
+
+pub signed-requires-clause-unsigned : goal.signed-requires-clause-unsigned
+signed-requires-clause-unsigned c =
+    c.in_ok-add.ensures.plain refl (begun_is_unsigned _ _ _ c.in_ok-message.ensures.message)
+
+pub returns : goal.returns
+returns c = λ s same next.
+    rw (c.in_ok-text.ensures, c.in_ok-add.ensures.text, c.in_ok-message.ensures.text, c.new.ensures.seconds, ← same, ← next) refl

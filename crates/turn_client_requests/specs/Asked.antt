@@ -1,0 +1,25 @@
+-- What a client asks for.
+use Rattle.std.specs.Prelude.{◌≡◌, ℕ, List}
+use Rattle.turn_stun.specs.Message.{id_of}
+use Rattle.turn_stun.specs.declared.transport.TransportType.{TransportType}
+use Rattle.turn_types.specs.declared.family.AddressFamily.{AddressFamily}
+use Rattle.turn_auth.specs.LongTerm.{ClientAuth}
+use Rattle.turn_auth.specs.Signature.{AddsAll}
+use Rattle.turn_client_api.specs.Requests.{asked_attributes, request_for}
+use Rattle.turn_client_api.specs.State.{State, auth_of}
+use Rattle.turn_client_api.specs.declared.grant.Purpose.{Purpose}
+
+-- the client where it asks for addresses of these families that relay over this transport
+abbrev pub asking : TransportType → List AddressFamily → State → State
+asking transport families s =
+    record s { config = record s.config { allocation_transport = transport }; families = families }
+
+-- the new message is the old one with what is asked for the purpose, whatever else the client's state is
+abbrev pub AddsAsked : TransportType → List AddressFamily → Purpose → List ℕ → List ℕ → Type 0
+AddsAsked transport families purpose old new =
+    (s : State) → AddsAll old new (asked_attributes (asking transport families s) purpose (id_of old))
+
+-- the text is the request for the purpose, of every client that signs so
+abbrev pub IsRequestFor : ClientAuth → TransportType → List AddressFamily → Purpose → ℕ → List ℕ → Type 0
+IsRequestFor auth transport families purpose id text =
+    (s : State) → auth_of s ≡ auth → text ≡ request_for (asking transport families s) purpose id

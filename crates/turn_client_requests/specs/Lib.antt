@@ -1,0 +1,3 @@
+pub mod Asked
+pub mod Refused
+pub mod Written

@@ -1,0 +1,18 @@
+//! The bytes of each message that a TURN client sends to its server: its requests, and its replies to the
+//! server's own requests (RFC 8656, sections 7 to 12, and RFC 6062, section 4). No IO.
+//!
+//! Begin with `request_for`, the signed request for a `Purpose`. The first ALLOCATE is not signed, and
+//! `request_under` signs as a challenge asks that the client does not hold yet. Which request is made and
+//! when it goes out is left to the crates above.
+#![tactic(auto)]
+
+mod asked;
+mod reply;
+mod request;
+mod write;
+
+pub use reply::{AttemptRefusal, accepted_reply, refused_reply};
+pub use request::{delete_request, first_allocate, request_for, request_under};
+
+#[cfg(test)]
+mod tests;

@@ -1,0 +1,94 @@
+//! The replies of a client to the server's CONNECTION_ATTEMPT requests.
+
+ghost use Rattle.std.specs.Prelude.{◌≡◌, ◌≤◌, length, IfOk, IsSome};
+ghost use Rattle.turn_client_api.specs.Requests.{accepted_reply, refused_reply};
+ghost use Rattle.turn_client_api.specs.State.{State, auth_of};
+ghost use Rattle.turn_client_requests.specs.Refused.{code_of, reason_of};
+
+use crate::write::{add, signed};
+use std::alloc::{AllocError, Global};
+use turn_auth::long_term::LongTermClientAuth;
+use turn_stun::attribute::error_code::ErrorCode;
+use turn_stun::data::Data;
+use turn_stun::message::write::MessageWriteVec;
+use turn_stun::transaction::TransactionId;
+use turn_types::message::CONNECTION_ATTEMPT;
+
+/// Why a connection that the server tells of is refused (RFC 8489, section 14.8, and RFC 6062, section
+/// 6.3).
+#[derive(Clone, Copy, Debug, PartialEq, Eq)]
+pub enum AttemptRefusal {
+    /// 400: no connection ID, no peer, or no allocation over TCP for that peer.
+    BadRequest,
+    /// 446: there is a connection to this peer, or one comes.
+    ConnectionAlreadyExists,
+    /// 447: the caller could not open the data connection.
+    ConnectionTimeoutOrFailure,
+}
+
+impl AttemptRefusal {
+    fn code(self) -> u16
+        ensures value { result ≡ code_of self }
+        ensures least { 300 ≤ result }
+        ensures greatest { result ≤ 699 }
+    {
+        match self {
+            AttemptRefusal::BadRequest => ErrorCode::BAD_REQUEST,
+            AttemptRefusal::ConnectionAlreadyExists => ErrorCode::CONNECTION_ALREADY_EXISTS,
+            AttemptRefusal::ConnectionTimeoutOrFailure => ErrorCode::CONNECTION_TIMEOUT_OR_FAILURE,
+        }
+    }
+
+    fn reason(self) -> &'static [u8]
+        ensures text { result.now ≡ reason_of self }
+        ensures short { length result.now ≤ 127 }
+    {
+        match self {
+            AttemptRefusal::BadRequest => b"Bad Request",
+            AttemptRefusal::ConnectionAlreadyExists => b"Connection Already Exists",
+            AttemptRefusal::ConnectionTimeoutOrFailure => b"Connection Timeout or Failure",
+        }
+    }
+}
+
+/// The success response to the server's request of this ID: the data connection is open. It carries the
+/// integrity alone (RFC 8489, section 9.2.4).
+///
+/// # Errors
+///
+/// `AllocError` where there is no memory.
+pub fn accepted_reply(
+    alloc: Global,
+    auth: &LongTermClientAuth,
+    id: TransactionId,
+) -> Result<Data, AllocError>
+    requires { IsSome auth.now.held }
+    ensures { (s : State) → auth_of s ≡ auth.now → IfOk result (λ text. text ≡ accepted_reply s id) }
+{
+    let message = MessageWriteVec::builder_success(alloc, CONNECTION_ATTEMPT, id)?;
+    let text = signed(auth, message)?;
+    Ok(text)
+}
+
+/// The error response to the server's request of this ID.
+///
+/// # Errors
+///
+/// `AllocError` where there is no memory.
+pub fn refused_reply(
+    alloc: Global,
+    auth: &LongTermClientAuth,
+    refusal: AttemptRefusal,
+    id: TransactionId,
+) -> Result<Data, AllocError>
+    requires { IsSome auth.now.held }
+    ensures { (s : State) → auth_of s ≡ auth.now → IfOk result (λ text. text ≡ refused_reply (code_of refusal) (reason_of refusal) s id) }
+{
+    let mut message = MessageWriteVec::builder_error(alloc, CONNECTION_ATTEMPT, id)?;
+    add(
+        &mut message,
+        &ErrorCode::new(refusal.code(), refusal.reason()),
+    )?;
+    let text = signed(auth, message)?;
+    Ok(text)
+}

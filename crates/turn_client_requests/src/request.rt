@@ -1,0 +1,110 @@
+//! The requests of a client.
+
+ghost use Rattle.std.specs.Prelude.{◌≡◌, IfOk, IsSome};
+ghost use Rattle.turn_auth.specs.LongTerm.{holding};
+ghost use Rattle.turn_client_api.specs.Calls.{delete_text};
+ghost use Rattle.turn_client_api.specs.Requests.{first_allocate, fresh_id};
+ghost use Rattle.turn_client_api.specs.State.{State, auth_of};
+ghost use Rattle.turn_client_requests.specs.Asked.{IsRequestFor, asking};
+
+use crate::asked::{LIFETIME_SECONDS, add_asked, add_families, method_for};
+use crate::write::{add, signed, signed_under};
+use std::alloc::{AllocError, Global};
+use turn_auth::long_term::LongTermClientAuth;
+use turn_auth::server_challenge::ServerChallenge;
+use turn_client_api::Purpose;
+use turn_stun::data::Data;
+use turn_stun::message::write::MessageWriteVec;
+use turn_stun::transaction::TransactionId;
+use turn_stun::transport::TransportType;
+use turn_types::AddressFamily;
+use turn_types::attribute::{DontFragment, Lifetime, RequestedTransport};
+use turn_types::message::{ALLOCATE, REFRESH};
+
+/// The first ALLOCATE, for addresses of these families that relay over this transport. It is not signed,
+/// since the server has named no realm yet (RFC 8489, section 9.2.3.1).
+///
+/// # Errors
+///
+/// `AllocError` where there is no memory.
+pub fn first_allocate(
+    alloc: Global,
+    transport: TransportType,
+    families: &[AddressFamily],
+    id: TransactionId,
+) -> Result<Data, AllocError>
+    ensures { (s : State) → IfOk result (λ text. text ≡ first_allocate (asking transport families.now s) id) }
+{
+    let mut message = MessageWriteVec::builder_request(alloc, ALLOCATE, id)?;
+    add(&mut message, &Lifetime::new(LIFETIME_SECONDS))?;
+    add(&mut message, &RequestedTransport::new(transport))?;
+    add(&mut message, &DontFragment)?;
+    add_families(&mut message, families)?;
+    Ok(Data::from(message.finish()))
+}
+
+/// The request for this purpose, signed by what the client holds. Where it is an ALLOCATE, it asks for
+/// addresses of these families that relay over this transport.
+///
+/// # Errors
+///
+/// `AllocError` where there is no memory.
+pub fn request_for(
+    alloc: Global,
+    auth: &LongTermClientAuth,
+    transport: TransportType,
+    families: &[AddressFamily],
+    purpose: &Purpose,
+    id: TransactionId,
+) -> Result<Data, AllocError>
+    requires { IsSome auth.now.held }
+    ensures { IfOk result (IsRequestFor auth.now transport families.now purpose.now id) }
+{
+    let mut message = MessageWriteVec::builder_request(alloc, method_for(purpose), id)?;
+    add_asked(&mut message, transport, families, purpose)?;
+    let text = signed(auth, message)?;
+    Ok(text)
+}
+
+/// The request for this purpose, as `request_for` gives it once the client holds this challenge.
+///
+/// # Errors
+///
+/// `AllocError` where there is no memory.
+pub fn request_under(
+    alloc: Global,
+    auth: &LongTermClientAuth,
+    challenge: &ServerChallenge,
+    transport: TransportType,
+    families: &[AddressFamily],
+    purpose: &Purpose,
+    id: TransactionId,
+) -> Result<Data, AllocError>
+    requires { IsSome auth.now.credentials }
+    ensures { IfOk result (IsRequestFor (holding challenge.now auth.now) transport families.now purpose.now id) }
+{
+    let mut message = MessageWriteVec::builder_request(alloc, method_for(purpose), id)?;
+    add_asked(&mut message, transport, families, purpose)?;
+    let text = signed_under(auth, challenge, message)?;
+    Ok(text)
+}
+
+/// The REFRESH that gives all allocations back, with a lifetime of 0 (RFC 8656, section 8). `id` is the
+/// client's next transaction ID.
+///
+/// # Errors
+///
+/// `AllocError` where there is no memory.
+pub fn delete_request(
+    alloc: Global,
+    auth: &LongTermClientAuth,
+    id: TransactionId,
+) -> Result<Data, AllocError>
+    requires { IsSome auth.now.held }
+    ensures { (s : State) → auth_of s ≡ auth.now → fresh_id s ≡ id → IfOk result (λ text. text ≡ delete_text s) }
+{
+    let mut message = MessageWriteVec::builder_request(alloc, REFRESH, id)?;
+    add(&mut message, &Lifetime::new(0))?;
+    let text = signed(auth, message)?;
+    Ok(text)
+}

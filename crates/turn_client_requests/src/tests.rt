@@ -1,0 +1,132 @@
+//! Each message against one that was made elsewhere. Where there is no memory, none is given.
+
+ghost use Rattle.std.specs.Prelude.{IfOk, IsSome};
+ghost use Rattle.turn_auth.specs.Challenge.{MayTake};
+
+mod vectors;
+
+use crate::{
+    AttemptRefusal, accepted_reply, delete_request, first_allocate, refused_reply, request_for,
+    request_under,
+};
+use std::alloc::{AllocError, Global};
+use std::convert::AsSlice;
+use std::net::{IpAddr, Ipv4Addr, SocketAddr, SocketAddrV4};
+use std::process::Abort;
+use std::test::Fail;
+use turn_auth::{LongTermClientAuth, ServerChallenge, TurnCredentials};
+use turn_client_api::{Data, Purpose};
+use turn_stun::message::Message;
+use turn_stun::transaction::TransactionId;
+use turn_stun::transport::TransportType;
+use turn_types::AddressFamily;
+
+/// An ALLOCATE for UDP and IPv4, of the first ID of the zero seed, without integrity.
+const FIRST_ALLOCATE: &[u8] =
+    b"\x00\x03\x00\x14\x21\x12\xa4\x42\x76\xb8\xe0\xad\xa0\xf1\x3d\x90\x40\x5d\x6a\xe5\
+    \x00\x0d\x00\x04\x00\x00\x07\x08\x00\x19\x00\x04\x11\x00\x00\x00\x00\x1a\x00\x00";
+
+const IPV4: &[AddressFamily] = &[AddressFamily::IPV4];
+
+fn id() -> TransactionId {
+    TransactionId::from_bytes(vectors::ID)
+}
+
+fn peer() -> SocketAddr {
+    SocketAddr::V4(SocketAddrV4::new(Ipv4Addr::new(10, 0, 0, 3), 9000))
+}
+
+/// The same bytes, where there was memory for them.
+fn is_text(rt: &impl Abort, found: Result<Data, AllocError>, want: &[u8]) {
+    if let Ok(text) = found {
+        assert_eq!(rt; text.as_slice(), want);
+    }
+}
+
+#[test]
+fn the_first_allocate_is_not_signed(rt: HostRuntime) {
+    let id = TransactionId::from_bytes(*b"\x76\xb8\xe0\xad\xa0\xf1\x3d\x90\x40\x5d\x6a\xe5");
+    let text = first_allocate(rt.alloc(), TransportType::Udp, IPV4, id);
+    is_text(&rt, text, FIRST_ALLOCATE);
+}
+
+/// A client with the credentials `user` and `pass`, and what the challenge gives it.
+fn challenged(alloc: Global) -> Result<(LongTermClientAuth, ServerChallenge), Fail>
+    ensures known { IfOk result (λ found. IsSome found.0.credentials) }
+    ensures fits { IfOk result (λ found. MayTake found.0 found.1) }
+{
+    let mut auth = LongTermClientAuth::new(alloc);
+    auth.set_credentials(TurnCredentials::new(alloc, b"user", b"pass")?);
+    let message = Message::from_bytes(vectors::CHALLENGE)?;
+    let Some(challenge) = auth.challenge_in(&message)? else {
+        return Err(Fail::from("no challenge"));
+    };
+    Ok((auth, challenge))
+}
+
+/// What a client asks for that holds the challenge.
+fn asks(rt: &impl Abort, alloc: Global, auth: &LongTermClientAuth, purpose: Purpose, want: &[u8])
+    requires { IsSome auth.now.held }
+{
+    let text = request_for(alloc, auth, TransportType::Udp, IPV4, &purpose, id());
+    is_text(rt, text, want);
+}
+
+fn asks_for_each(rt: &impl Abort, alloc: Global, auth: &LongTermClientAuth)
+    requires { IsSome auth.now.held }
+{
+    let refresh = Purpose::ForRefresh(AddressFamily::IPV4, 1_800);
+    let permission = Purpose::ForPermission(IpAddr::V4(Ipv4Addr::new(10, 0, 0, 3)));
+    for (purpose, want) in [
+        (Purpose::ForAllocation, vectors::ALLOCATE),
+        (refresh, vectors::REFRESH),
+        (permission, vectors::CREATE_PERMISSION),
+        (Purpose::ForChannel(0x4000, peer()), vectors::CHANNEL_BIND),
+        (Purpose::ForConnect(peer()), vectors::CONNECT),
+        (
+            Purpose::ForBind(peer(), peer(), 9),
+            vectors::CONNECTION_BIND,
+        ),
+    ] {
+        asks(rt, alloc, auth, purpose, want);
+    }
+    is_text(rt, delete_request(alloc, auth, id()), vectors::DELETE);
+}
+
+fn replies(rt: &impl Abort, alloc: Global, auth: &LongTermClientAuth)
+    requires { IsSome auth.now.held }
+{
+    is_text(rt, accepted_reply(alloc, auth, id()), vectors::ACCEPTED);
+    for (refusal, want) in [
+        (AttemptRefusal::BadRequest, vectors::BAD_REQUEST),
+        (
+            AttemptRefusal::ConnectionAlreadyExists,
+            vectors::ALREADY_EXISTS,
+        ),
+        (
+            AttemptRefusal::ConnectionTimeoutOrFailure,
+            vectors::TIMED_OUT,
+        ),
+    ] {
+        is_text(rt, refused_reply(alloc, auth, refusal, id()), want);
+    }
+}
+
+#[test]
+fn each_request_and_reply_is_signed(rt: HostRuntime) -> Result<(), Fail> {
+    let (mut auth, challenge) = challenged(rt.alloc())?;
+    let under = request_under(
+        rt.alloc(),
+        &auth,
+        &challenge,
+        TransportType::Udp,
+        IPV4,
+        &Purpose::ForAllocation,
+        id(),
+    );
+    is_text(&rt, under, vectors::ALLOCATE);
+    auth.accept(challenge);
+    asks_for_each(&rt, rt.alloc(), &auth);
+    replies(&rt, rt.alloc(), &auth);
+    Ok(())
+}

@@ -1,0 +1,68 @@
+//! Messages that are written and signed.
+
+ghost use Rattle.std.specs.Prelude.{◌≡◌, ◌≤◌, ◌+◌, length, true, IfOk, OnOk, IsSome};
+ghost use Rattle.turn_stun.specs.Message.{attributes_of, id_of};
+ghost use Rattle.turn_stun.specs.Writer.{AddsAttribute, with_attribute};
+ghost use Rattle.turn_auth.specs.LongTerm.{holding};
+ghost use Rattle.turn_auth.specs.Signature.{is_unsigned, signed_text, written_len};
+ghost use Rattle.turn_client_requests.specs.Written.{StaysUnsigned};
+
+use std::alloc::AllocError;
+use turn_auth::long_term::LongTermClientAuth;
+use turn_auth::server_challenge::ServerChallenge;
+use turn_stun::attribute::typed::AttributeWrite;
+use turn_stun::data::Data;
+use turn_stun::error::WriteError;
+use turn_stun::message::write::MessageWriteVec;
+
+/// Adds an attribute for which there is room in a message.
+pub(crate) fn add<A: AttributeWrite>(
+    message: &mut MessageWriteVec,
+    attribute: &A,
+) -> Result<(), AllocError>
+    requires room { length message.old + written_len (A.encoded attribute.now (id_of message.old)) ≤ 65552 }
+    ensures text { OnOk result (message.new ≡ with_attribute (A.written_kind attribute.now) (A.encoded attribute.now (id_of message.old)) message.old) }
+    ensures added { OnOk result (AddsAttribute message.old message.new (A.written_kind attribute.now) (A.encoded attribute.now (id_of message.old))) }
+    ensures plain { OnOk result (StaysUnsigned (A.written_kind attribute.now) message.old message.new) }
+    ensures len { OnOk result (length message.new ≡ length message.old + written_len (A.encoded attribute.now (id_of message.old))) }
+{
+    let _ = message.as_bytes();
+    match message.add_attribute(attribute) {
+        Ok(()) => Ok(()),
+        Err(WriteError::OutOfMemory) => Err(AllocError),
+        Err(WriteError::TooLong) => unreachable!(),
+    }
+}
+
+/// The message, signed by what is held of a challenge (RFC 8489, section 9.2.4).
+pub(crate) fn signed(
+    auth: &LongTermClientAuth,
+    message: MessageWriteVec,
+) -> Result<Data, AllocError>
+    requires held { IsSome auth.now.held }
+    requires unsigned { is_unsigned (attributes_of message) ≡ true }
+    requires short { length message ≤ 2000 }
+    ensures { IfOk result (λ text. text ≡ signed_text auth.now message) }
+{
+    let mut message = message;
+    let _room = auth.message_signature_bytes();
+    auth.sign_outgoing_message(&mut message)?;
+    Ok(Data::from(message.finish()))
+}
+
+/// The message, signed as this challenge asks (RFC 8489, section 9.2.5).
+pub(crate) fn signed_under(
+    auth: &LongTermClientAuth,
+    challenge: &ServerChallenge,
+    message: MessageWriteVec,
+) -> Result<Data, AllocError>
+    requires known { IsSome auth.now.credentials }
+    requires unsigned { is_unsigned (attributes_of message) ≡ true }
+    requires short { length message ≤ 2000 }
+    ensures { IfOk result (λ text. text ≡ signed_text (holding challenge.now auth.now) message) }
+{
+    let mut message = message;
+    let _room = auth.signature_bytes_under(challenge);
+    auth.sign_under(challenge, &mut message)?;
+    Ok(Data::from(message.finish()))
+}
