@@ -3,6 +3,7 @@ pub mod ChangeLemmas
 pub mod LapseLemmas
 pub mod ListLemmas
 pub mod NumberLemmas
+pub mod OfferLemmas
 pub mod PushLemmas
 pub mod RangeLemmas
 pub mod RefreshLemmas

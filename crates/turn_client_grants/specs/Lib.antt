@@ -1,4 +1,5 @@
 pub mod Answered
+pub mod Asked
 pub mod Due
 pub mod Failures
 pub mod Lapsed

@@ -1,7 +1,8 @@
 -- What is read off a list of grants and a list of requests, as the definitions over a client's state
 -- read it off the same lists.
-use Rattle.std.specs.Prelude.{List, ◌++◌, option_to_list, find, filter_map, slice_get, Option}
+use Rattle.std.specs.Prelude.{ℕ, ◌≡◌, ◌<◌, ◌+◌, ◌++◌, Bool, List, drop, find, filter_map, length, option_to_list, slice_get, take, Option}
 use Rattle.turn_types.specs.declared.family.AddressFamily.{AddressFamily}
+use Rattle.turn_client_api.specs.Calls.{without_first}
 use Rattle.turn_client_api.specs.Config.{same_family}
 use Rattle.turn_client_api.specs.Grants.{allocation_in, family_of}
 use Rattle.turn_client_api.specs.State.{State}
@@ -22,3 +23,7 @@ allocation_among family grants = find (λ a. same_family (family_of a.relayed) f
 -- the first two of a list
 abbrev pub both_of : List Relay → List Relay
 both_of relays = option_to_list (slice_get relays 0) ++ option_to_list (slice_get relays 1)
+
+-- the first of these stands at this place
+abbrev pub IsFirstAt : (Grant → Bool) → List Grant → ℕ → Type 0
+IsFirstAt which grants i = (i < length grants) × (without_first which grants ≡ take i grants ++ drop (i + 1) grants)

@@ -1,13 +1,16 @@
 //! How lists of grants and of requests change.
 
 ghost use Rattle.std.specs.Prelude.{◌≡◌, ◌≤◌, ◌<◌, ◌+◌, ◌++◌, ◌∷◌, [], true, filter, length, map, not, option_to_list, vec_capacity, vec_len};
-ghost use Rattle.turn_client_api.specs.Effect.{lasting};
-ghost use Rattle.turn_client_api.specs.Grants.{is_for_allocation, is_of_family};
-ghost use Rattle.turn_client_grants.specs.Table.{changed, listings, on_allocation, unlisted, with_deadline_at};
+ghost use Rattle.turn_client_api.specs.Connections.{deadline_set};
+ghost use Rattle.turn_client_api.specs.Effect.{lasting, new_allocation};
+ghost use Rattle.turn_client_api.specs.Grants.{changed_allocation, is_for_allocation, is_of_family};
+ghost use Rattle.turn_client_api.specs.Requests.{listings};
+ghost use Rattle.turn_client_grants.specs.Table.{changed, unlisted};
 ghost use Rattle.turn_client_grants.specs.Which.{holds, purposes_in};
 
 use crate::kind::is_of_family;
 use crate::listed::is_for_one;
+use crate::moment::{NANOS_PER_SECOND, later};
 use crate::purposes::Purposes;
 use crate::which::Which;
 use std::net::SocketAddr;
@@ -54,7 +57,7 @@ impl Change {
 
 /// The grant, where the allocation of this family is expired.
 fn expired(family: AddressFamily, grant: &Grant) -> Grant
-    ensures { result ≡ on_allocation (λ a. is_of_family family a.relayed) (λ a. record a { is_expired = true }) grant.now }
+    ensures { result ≡ changed_allocation (λ a. is_of_family family a.relayed) (λ a. record a { is_expired = true }) grant.now }
 {
     match grant {
         Grant::Allocation(relay) => Grant::Allocation(Relay {
@@ -67,7 +70,7 @@ fn expired(family: AddressFamily, grant: &Grant) -> Grant
 
 /// The grant, where all allocations are expired and end now.
 fn ended(now: Instant, grant: &Grant) -> Grant
-    ensures { result ≡ on_allocation (λ a. true) (λ a. record a { expiry = now; is_expired = true }) grant.now }
+    ensures { result ≡ changed_allocation (λ a. true) (λ a. record a { expiry = now; is_expired = true }) grant.now }
 {
     match grant {
         Grant::Allocation(relay) => Grant::Allocation(Relay {
@@ -81,7 +84,7 @@ fn ended(now: Instant, grant: &Grant) -> Grant
 
 /// The grant, where the allocation of this family ends at this moment.
 fn prolonged(family: AddressFamily, expiry: Instant, grant: &Grant) -> Grant
-    ensures { result ≡ on_allocation (λ a. is_of_family family a.relayed) (λ a. record a { expiry = expiry }) grant.now }
+    ensures { result ≡ changed_allocation (λ a. is_of_family family a.relayed) (λ a. record a { expiry = expiry }) grant.now }
 {
     let Grant::Allocation(relay) = grant else {
         return *grant;
@@ -110,7 +113,7 @@ fn renewed(expiry: Instant, grant: &Grant) -> Grant
 
 /// The grant, where the data connection from this local end has this deadline.
 fn with_deadline(local: SocketAddr, deadline: Option<Instant>, grant: &Grant) -> Grant
-    ensures { result ≡ with_deadline_at local deadline grant.now }
+    ensures { result ≡ deadline_set local deadline grant.now }
 {
     let Grant::Connection(connection) = grant else {
         return *grant;
@@ -150,6 +153,45 @@ pub(crate) fn add(grants: &mut Vec<Grant>, grant: &Grant)
     ensures len { vec_len grants.new ≡ vec_len grants.old + 1 }
 {
     let _ = grants.extend_from_slice(&[*grant]);
+}
+
+/// Adds grants after all others, for which there is room.
+pub(crate) fn add_all(grants: &mut Vec<Grant>, more: &[Grant])
+    requires { vec_len grants.old + length more.now ≤ vec_capacity grants.old }
+    ensures items { grants.new.items ≡ grants.old.items ++ more.now }
+    ensures capacity { vec_capacity grants.old ≤ vec_capacity grants.new }
+    ensures len { vec_len grants.new ≡ vec_len grants.old + length more.now }
+{
+    let _ = grants.extend_from_slice(more);
+}
+
+/// The allocation of this address, which the server granted for so many seconds.
+fn new_allocation(relayed: SocketAddr, lifetime: u32, now: Instant) -> Grant
+    ensures { result ≡ new_allocation lifetime now relayed }
+{
+    Grant::Allocation(Relay {
+        relayed,
+        first_lifetime: u64::from(lifetime) * NANOS_PER_SECOND,
+        expiry: later(now, u64::from(lifetime)),
+        is_expired: false,
+    })
+}
+
+/// Adds the allocations of these addresses after all other grants, for which there is room.
+pub(crate) fn add_allocations(
+    grants: &mut Vec<Grant>,
+    addresses: &[SocketAddr],
+    lifetime: u32,
+    now: Instant,
+)
+    requires { vec_len grants.old + length addresses.now ≤ vec_capacity grants.old }
+    ensures items { grants.new.items ≡ grants.old.items ++ map (new_allocation lifetime now) addresses.now }
+    ensures capacity { vec_capacity grants.old ≤ vec_capacity grants.new }
+    ensures len { vec_len grants.new ≡ vec_len grants.old + length addresses.now }
+{
+    for address in addresses {
+        add(grants, &new_allocation(*address, lifetime, now));
+    }
 }
 
 /// Takes away these grants.

@@ -3,11 +3,12 @@
 ghost use Rattle.std.specs.Prelude.{◌≡◌, is_some};
 ghost use Rattle.turn_client_api.specs.Config.{same_family};
 ghost use Rattle.turn_client_api.specs.Calls.{is_granted_in};
-ghost use Rattle.turn_client_api.specs.Grants.{allocation_in, family_of, family_of_grant, family_of_ip, is_channel_of, is_connect, is_connect_to, is_connection_from, is_for, is_of, is_of_family, is_of_request, is_pending_channel, is_pending_permission, is_permission_of};
+ghost use Rattle.turn_client_api.specs.Grants.{allocation_in, family_of, family_of_grant, family_of_ip, is_channel_of, is_connect, is_connect_to, is_connection_from, is_for, is_of, is_of_family, is_of_request, is_pending_channel, is_pending_permission, is_permission_of, same_transport};
 
 use std::net::{IpAddr, SocketAddr};
 use turn_client_api::{Grant, Origin, Progress, Purpose};
 use turn_stun::transaction::TransactionId;
+use turn_stun::transport::TransportType;
 use turn_types::AddressFamily;
 
 /// The family of an IP address.
@@ -25,6 +26,13 @@ pub(crate) fn family_of(address: SocketAddr) -> AddressFamily
     ensures { result ≡ family_of address }
 {
     family_of_ip(address.ip())
+}
+
+/// Whether both are one transport.
+pub(crate) fn is_same_transport(a: TransportType, b: TransportType) -> bool
+    ensures { result ≡ same_transport a b }
+{
+    a == b
 }
 
 /// Whether both are one family.

@@ -2,7 +2,7 @@
 
 ghost use Rattle.std.specs.Prelude.{◌≡◌, ◌≤◌, ◌<◌, ◌+◌, ◌∷◌, ◌++◌, [], true, OnOk};
 ghost use Rattle.turn_client_api.specs.Effect.{renewed};
-ghost use Rattle.turn_client_api.specs.Grants.{failures_among, jump, unlisted, wait, with_grant, without};
+ghost use Rattle.turn_client_api.specs.Grants.{allocation_for, failures_among, jump, unlisted, wait, with_grant, without};
 ghost use Rattle.turn_client_api.specs.Poll.{failed};
 ghost use Rattle.turn_client_api.specs.State.{State};
 ghost use Rattle.turn_client_grants.specs.Ledger.{IsApart, SameRoomBut, changed_by, on};
@@ -10,19 +10,22 @@ ghost use Rattle.turn_client_grants.specs.Table.{is_numbered};
 ghost use Rattle.turn_client_grants.specs.Which.{holds};
 
 use crate::changes::Change;
+use crate::kind::{family_of_ip, is_same_transport};
 use crate::table::GrantTable;
 use crate::which::Which;
 use std::alloc::{AllocError, Global};
 use std::collections::VecDeque;
 use std::marker::Model;
-use std::net::SocketAddr;
-use turn_client_api::{Grant, TurnEvent};
+use std::net::{IpAddr, SocketAddr};
+use turn_client_api::{Grant, Relay, TurnEvent};
 use turn_stun::instant::Instant;
 use turn_stun::transport::TransportType;
 
+mod allocate;
 mod answer;
 mod ask;
 mod connect;
+mod data;
 mod lapse;
 mod poll;
 
@@ -86,6 +89,17 @@ impl GrantLedger {
         self.transport
     }
 
+    /// The allocation that relays over this transport to this IP address, expired or not.
+    pub fn allocation_for(&self, transport: TransportType, ip: IpAddr) -> Option<Relay>
+        ensures { (s : State) → result ≡ allocation_for transport ip (on self.now s) }
+    {
+        let is_relayed = is_same_transport(transport, self.transport);
+        if is_relayed {
+            return self.table.allocation_of(family_of_ip(ip));
+        }
+        None
+    }
+
     /// The grants and the requests, to be read.
     pub fn table(&self) -> &GrantTable
         ensures grants { result.now.grants ≡ self.now.grants }
@@ -94,12 +108,12 @@ impl GrantLedger {
         &self.table
     }
 
-    /// Makes room for so many grants, listings and events more, and sets aside what may come of the
-    /// grants.
+    /// Makes room for so many grants, for so many listings, and for so many events beside those that may
+    /// come of the grants.
     ///
     /// # Errors
     ///
-    /// `AllocError` where there is no memory. All stays as it was.
+    /// `AllocError` where there is no memory. All stays as it was, and no room is lost.
     pub fn reserve(
         &mut self,
         grants: usize,
@@ -109,8 +123,9 @@ impl GrantLedger {
         ensures same { (s : State) → on self.new s ≡ on self.old s }
         ensures grant_room { OnOk result (grants ≤ self.new.grant_room) }
         ensures listing_room { OnOk result (listings ≤ self.new.listing_room) }
-        ensures event_room { OnOk result (events ≤ self.new.event_room) }
+        ensures event_room { OnOk result (grants + grants + events ≤ self.new.event_room) }
         ensures close_room { OnOk result (grants ≤ self.new.close_room) }
+        ensures room { SameRoomBut 0 0 self.old self.new }
     {
         let Some(closes) = self.table.count().checked_add(grants) else {
             return Err(AllocError);

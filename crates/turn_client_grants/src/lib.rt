@@ -14,10 +14,13 @@ mod kind;
 mod lapsed;
 mod ledger;
 mod listed;
+mod moment;
+mod offers;
 mod purposes;
 mod reads;
 mod refresh;
 mod table;
+mod told;
 mod which;
 
 pub use ledger::GrantLedger;

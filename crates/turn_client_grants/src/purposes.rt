@@ -1,10 +1,12 @@
 //! What one request was made for.
 
-ghost use Rattle.std.specs.Prelude.{◌≡◌, ◌<◌, ◌++◌, ◌∷◌, [], length, option_to_list};
+ghost use Rattle.std.specs.Prelude.{◌≡◌, ◌<◌, ◌++◌, ◌∷◌, [], find, length, option_to_list};
 ghost use Rattle.turn_client_api.specs.Grants.{is_for_any};
+ghost use Rattle.turn_client_api.specs.Judgement.{is_bind_of};
 ghost use Rattle.turn_client_grants.specs.Which.{purposes_in};
 
 use crate::kind::is_for;
+use std::net::SocketAddr;
 use turn_client_api::{Grant, Purpose};
 
 /// What one request was made for. There are at most two purposes: a CHANNEL_BIND is for a channel and
@@ -63,11 +65,33 @@ impl Purposes {
         }
     }
 
+    /// The first of them that is to bind the data connection from this local end.
+    pub(crate) fn bind_of(self, local: SocketAddr) -> Option<Purpose>
+        ensures { result ≡ find (is_bind_of local) (purposes_in self) }
+    {
+        if let Some(first) = self.first {
+            if is_bind_of(local, &first) {
+                return Some(first);
+            }
+        }
+        self.second.filter(|second| is_bind_of(local, second))
+    }
+
     /// Whether a request for these is for the grant.
     pub(crate) fn are_for(&self, grant: &Grant) -> bool
         ensures { result ≡ is_for_any (purposes_in self.now) grant.now }
     {
         is_purpose_for(&self.first, grant) || is_purpose_for(&self.second, grant)
+    }
+}
+
+/// Whether the purpose is to bind the data connection from this local end.
+fn is_bind_of(local: SocketAddr, purpose: &Purpose) -> bool
+    ensures { result ≡ is_bind_of local purpose.now }
+{
+    match purpose {
+        Purpose::ForBind(other, _, _) => *other == local,
+        _ => false,
     }
 }
 

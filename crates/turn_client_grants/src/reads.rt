@@ -1,6 +1,6 @@
 //! What is read off a list of grants: allocations, permissions and channels.
 
-ghost use Rattle.std.specs.Prelude.{◌≡◌, ◌+◌, ◌<◌, ◌^◌, ◌&&◌, filter, filter_map, find, not, option_map, reverse, slice_get};
+ghost use Rattle.std.specs.Prelude.{◌≡◌, ◌+◌, ◌<◌, ◌≤◌, ◌^◌, ◌&&◌, false, filter, filter_map, find, nat_le, nat_lt, not, option_map, reverse, slice_get, true, IfSome};
 ghost use Rattle.std.specs.List.{list_any, range_with_len};
 ghost use Rattle.turn_agent.specs.Agent.{same_address};
 ghost use Rattle.turn_client_api.specs.Calls.{active_channel, channel_numbers, progress_to, is_in_progress, reserved_from};
@@ -156,7 +156,9 @@ pub(crate) fn is_number_taken(grants: &[Grant], number: u16) -> bool
 /// The least of so many numbers from the first on that no channel has.
 fn first_free(grants: &[Grant], first: u16, count: u16) -> Option<u16>
     requires { first + count < 2 ^ 16 }
-    ensures { result ≡ find (λ number. not (list_any (is_channel_of number) grants.now)) (range_with_len first count) }
+    ensures found { result ≡ find (λ number. not (list_any (is_channel_of number) grants.now)) (range_with_len first count) }
+    ensures range { IfSome result (λ number. (first ≤ number) × (number < first + count)) }
+    ensures free { IfSome result (λ number. list_any (is_channel_of number) grants.now ≡ false) }
 {
     for number in first..first + count {
         if !is_number_taken(grants, number) {
@@ -169,7 +171,9 @@ fn first_free(grants: &[Grant], first: u16, count: u16) -> Option<u16>
 /// The least number that no channel has, whatever its allocation and however far it has come.
 #[tactic(auto, unfolding(turn_client_api::specs::Calls::channel_numbers))]
 pub(crate) fn free_number(grants: &[Grant]) -> Option<u16>
-    ensures { result ≡ find (λ number. not (list_any (is_channel_of number) grants.now)) channel_numbers }
+    ensures found { result ≡ find (λ number. not (list_any (is_channel_of number) grants.now)) channel_numbers }
+    ensures numbered { IfSome result (λ number. (nat_le 0x4000 number && nat_lt number 0x5000) ≡ true) }
+    ensures free { IfSome result (λ number. list_any (is_channel_of number) grants.now ≡ false) }
 {
     first_free(grants, FIRST_NUMBER, NUMBER_COUNT)
 }

@@ -1,15 +1,20 @@
 //! The table of grants.
 
 ghost use Rattle.std.specs.Prelude.{◌≡◌, ◌≤◌, ◌<◌, ◌+◌, ◌++◌, ◌∷◌, ◌==◌, [], false, true, None, filter, filter_map, length, map, not, reverse, OnOk};
-ghost use Rattle.std.specs.List.{list_any};
+ghost use Rattle.std.specs.List.{list_all, list_any};
 ghost use Rattle.std.specs.VecDeque.{deque_capacity, deque_len};
+ghost use Rattle.turn_client_api.specs.Calls.{is_offer_of, without_first};
+ghost use Rattle.turn_client_api.specs.Effect.{new_allocation};
 ghost use Rattle.turn_client_api.specs.Grants.{allocation_in, is_for_allocation};
+ghost use Rattle.turn_client_api.specs.Poll.{told_first};
+ghost use Rattle.turn_client_api.specs.Requests.{listings};
 ghost use Rattle.turn_client_grants.specs.Failures.{close_in, failure_in};
-ghost use Rattle.turn_client_grants.specs.Table.{changed, is_new, is_numbered, listings, unlisted};
+ghost use Rattle.turn_client_grants.specs.Table.{are_new, changed, is_new, is_numbered, unlisted};
 ghost use Rattle.turn_client_grants.specs.Which.{holds, purposes_in};
 
 use crate::changes::{self, Change};
 use crate::failures::{push_closes_back, push_failures_back, push_failures_front};
+use crate::offers;
 use crate::purposes::Purposes;
 use crate::which::Which;
 use std::alloc::{AllocError, Global};
@@ -17,8 +22,10 @@ use std::collections::VecDeque;
 use std::marker::Model;
 use std::net::SocketAddr;
 use turn_client_api::{Grant, Listing, TurnEvent};
+use turn_stun::instant::Instant;
 use turn_stun::transaction::TransactionId;
 use turn_stun::transport::TransportType;
+use turn_types::AddressFamily;
 
 mod read;
 
@@ -66,12 +73,15 @@ impl GrantTable {
     ///
     /// # Errors
     ///
-    /// `AllocError` where there is no memory. Nothing is in the table then that was not before.
+    /// `AllocError` where there is no memory. Nothing is in the table then that was not before, and no
+    /// room is lost.
     pub(crate) fn reserve(&mut self, grants: usize, listings: usize) -> Result<(), AllocError>
         ensures grants { self.new.grants ≡ self.old.grants }
         ensures listed { self.new.listed ≡ self.old.listed }
         ensures grant_room { OnOk result (grants ≤ self.new.grant_room) }
         ensures listing_room { OnOk result (listings ≤ self.new.listing_room) }
+        ensures grants_left { self.old.grant_room ≤ self.new.grant_room }
+        ensures listings_left { self.old.listing_room ≤ self.new.listing_room }
     {
         self.grants.reserve(grants)?;
         self.listed.reserve(listings)?;
@@ -89,6 +99,31 @@ impl GrantTable {
         ensures listing_room { self.new.listing_room ≡ self.old.listing_room }
     {
         changes::add(&mut self.grants, grant);
+    }
+
+    /// Adds grants, after all others, that are none of those that are there, and differ.
+    pub(crate) fn push_all(&mut self, more: &[Grant])
+        requires room { length more.now ≤ self.old.grant_room }
+        requires numbered { list_all is_numbered more.now ≡ true }
+        requires new { are_new self.old.grants more.now ≡ true }
+        ensures grants { self.new.grants ≡ self.old.grants ++ more.now }
+        ensures listed { self.new.listed ≡ self.old.listed }
+        ensures grant_room { self.old.grant_room ≤ self.new.grant_room + length more.now }
+        ensures listing_room { self.new.listing_room ≡ self.old.listing_room }
+    {
+        changes::add_all(&mut self.grants, more);
+    }
+
+    /// Adds the allocations of these addresses, after all other grants, for so many seconds from now on.
+    pub(crate) fn push_allocations(&mut self, addresses: &[SocketAddr], lifetime: u32, now: Instant)
+        requires room { length addresses.now ≤ self.old.grant_room }
+        requires new { are_new self.old.grants (map (new_allocation lifetime now) addresses.now) ≡ true }
+        ensures grants { self.new.grants ≡ self.old.grants ++ map (new_allocation lifetime now) addresses.now }
+        ensures listed { self.new.listed ≡ self.old.listed }
+        ensures grant_room { self.old.grant_room ≤ self.new.grant_room + length addresses.now }
+        ensures listing_room { self.new.listing_room ≡ self.old.listing_room }
+    {
+        changes::add_allocations(&mut self.grants, addresses, lifetime, now);
     }
 
     /// Lists a new request, after all others, that was made for these purposes.
@@ -172,6 +207,26 @@ impl GrantTable {
     {
         changes::unlist(&mut self.listed, self.grants.as_slice(), which);
         changes::remove(&mut self.grants, which);
+    }
+
+    /// The caller is told of the first offer of this family that it was not told of.
+    pub(crate) fn tell_offer(&mut self, family: AddressFamily)
+        ensures grants { self.new.grants ≡ told_first family self.old.grants }
+        ensures listed { self.new.listed ≡ self.old.listed }
+        ensures grant_room { self.new.grant_room ≡ self.old.grant_room }
+        ensures listing_room { self.new.listing_room ≡ self.old.listing_room }
+    {
+        offers::tell_first(&mut self.grants, family);
+    }
+
+    /// Takes away the first offer of this number and this peer.
+    pub(crate) fn take_offer(&mut self, id: u32, peer: SocketAddr)
+        ensures grants { self.new.grants ≡ without_first (is_offer_of id peer) self.old.grants }
+        ensures listed { self.new.listed ≡ self.old.listed }
+        ensures grant_room { self.old.grant_room ≤ self.new.grant_room }
+        ensures listing_room { self.new.listing_room ≡ self.old.listing_room }
+    {
+        offers::take(&mut self.grants, id, peer);
     }
 
     /// Puts one grant, which is no allocation, after all others in the place of these.

@@ -3,15 +3,15 @@
 
 ghost use Rattle.std.specs.Prelude.{ℕ, ◌≡◌, ◌≤◌, false, fold, option_to_list, true};
 ghost use Rattle.turn_client_api.specs.Effect.{active_channel_answered, active_permission_answered, channel_answered, connect_answered, pending_channel_answered, pending_permission_answered, permission_answered, permission_answered_for, listed_permissions_answered};
-ghost use Rattle.turn_client_api.specs.State.{State, later_by, seconds};
+ghost use Rattle.turn_client_api.specs.State.{State};
 ghost use Rattle.turn_client_grants.specs.Answered.{permission_granted};
 ghost use Rattle.turn_client_grants.specs.Ledger.{SameRoomBut, on};
 ghost use Rattle.turn_client_grants.specs.Table.{is_numbered};
 
 use crate::ledger::GrantLedger;
+use crate::moment::later;
 use crate::which::Which;
 use std::net::{IpAddr, SocketAddr};
-use std::time::Duration;
 use turn_client_api::{Grant, Progress, Purpose, TurnEvent};
 use turn_stun::instant::Instant;
 use turn_stun::transaction::TransactionId;
@@ -25,13 +25,6 @@ const CHANNEL_SECONDS: u64 = 600;
 /// How long neither the number nor the peer of a channel that is over is bound again, in seconds
 /// (RFC 8656, section 12).
 pub(crate) const RESERVED_SECONDS: u64 = 300;
-
-/// The moment so many seconds later, or the greatest moment if that is earlier.
-pub(crate) fn later(moment: Instant, secs: u64) -> Instant
-    ensures { result ≡ later_by (seconds secs) moment }
-{
-    moment.plus(Duration::from_secs(secs))
-}
 
 impl GrantLedger {
     /// The server answered for the permission for this IP address.

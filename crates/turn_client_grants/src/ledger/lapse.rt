@@ -12,7 +12,8 @@ ghost use Rattle.turn_client_grants.specs.Which.{holds, purposes_in};
 
 use crate::kind::family_of;
 use crate::ledger::GrantLedger;
-use crate::ledger::answer::{RESERVED_SECONDS, later};
+use crate::ledger::answer::RESERVED_SECONDS;
+use crate::moment::later;
 use crate::purposes::Purposes;
 use crate::which::Which;
 use std::net::SocketAddr;

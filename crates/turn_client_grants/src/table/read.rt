@@ -1,15 +1,18 @@
 //! What is read off a table.
 
-ghost use Rattle.std.specs.Prelude.{◌≡◌, ◌==◌, ◌&&◌, map, filter, filter_map, find, fold, length, min, nat_le, nat_lt, option_map, reverse, slice_get, true, IfSome};
+ghost use Rattle.std.specs.Prelude.{◌≡◌, ◌==◌, ◌&&◌, map, filter, filter_map, find, fold, length, min, nat_le, nat_lt, option_map, reverse, slice_get, false, true, IfSome};
 ghost use Rattle.std.specs.List.{list_all, list_any};
+ghost use Rattle.turn_agent.specs.Agent.{same_address};
 ghost use Rattle.turn_client_api.specs.Addresses.{permitted_left, permitted_in_use, relayed_left, relayed_in_use};
 ghost use Rattle.turn_client_api.specs.Calls.{active_channel, bound_to, channels_to, free_number, is_in_progress, offer_origin, reserved_from};
-ghost use Rattle.turn_client_api.specs.Connections.{connection_at, is_connected, is_connecting, is_indicated};
-ghost use Rattle.turn_client_api.specs.Grants.{allocation_of, allocations, channel_at, channel_peer, allocation_in, connection_in, first_in, is_for, is_of, is_listed, permission_progress};
-ghost use Rattle.turn_client_api.specs.Poll.{is_lapsed_channel};
+ghost use Rattle.turn_client_api.specs.Connections.{is_connected, is_indicated};
+ghost use Rattle.turn_client_api.specs.Grants.{allocation_of, allocations, channel_at, channel_peer, allocation_in, connection_in, first_in, is_channel_of, is_connect_to, is_for, is_of, is_listed, permission_progress, purposes_of};
+ghost use Rattle.turn_client_api.specs.Judgement.{is_bind_of};
+ghost use Rattle.turn_client_api.specs.Poll.{is_lapsed_channel, next_offer};
 ghost use Rattle.turn_client_api.specs.State.{State};
 ghost use Rattle.turn_client_api.specs.declared.grant.Grant.TheVariants.{Channel};
 ghost use Rattle.turn_client_api.specs.declared.grant.Progress.TheVariants.{Pending};
+ghost use Rattle.turn_client_api.specs.declared.state.Phase.TheVariants.{Allocated};
 ghost use Rattle.turn_client_grants.specs.Due.{all_moments};
 ghost use Rattle.turn_client_grants.specs.Lists.{both_of, first_among};
 ghost use Rattle.turn_client_grants.specs.Refresh.{first_refresh};
@@ -18,10 +21,10 @@ ghost use Rattle.turn_client_grants.specs.Which.{purposes_in};
 
 use crate::purposes::Purposes;
 use crate::table::GrantTable;
-use crate::{connections, due, listed, reads, refresh};
+use crate::{connections, due, listed, offers, reads, refresh};
 use std::net::{IpAddr, SocketAddr};
 use turn_client_api::{
-    DataConnection, Grant, Origin, PermissionAddressesIter, Progress, Purpose, Relay,
+    DataConnection, DataOffer, Grant, Origin, PermissionAddressesIter, Progress, Purpose, Relay,
     RelayedAddressesIter,
 };
 use turn_stun::instant::Instant;
@@ -139,16 +142,18 @@ impl GrantTable {
     }
 
     /// The least channel number that no channel has, also none that is pending or reserved, in any
-    /// allocation.
+    /// allocation. It is one that a client may bind (RFC 8656, section 12).
     pub fn free_number(&self) -> Option<u16>
-        ensures { (s : State) → result ≡ free_number (with_table self.now s) }
+        ensures found { (s : State) → result ≡ free_number (with_table self.now s) }
+        ensures numbered { IfSome result (λ number. (nat_le 0x4000 number && nat_lt number 0x5000) ≡ true) }
+        ensures free { IfSome result (λ number. list_any (is_channel_of number) self.now.grants ≡ false) }
     {
         reads::free_number(self.grants.as_slice())
     }
 
     /// The data connection from this local end.
     pub fn connection_at(&self, local: SocketAddr) -> Option<DataConnection>
-        ensures { (s : State) → result ≡ connection_at local (with_table self.now s) }
+        ensures { result ≡ find (λ c. same_address c.local local) (filter_map connection_in self.now.grants) }
     {
         connections::connection_at(self.grants.as_slice(), local)
     }
@@ -169,7 +174,7 @@ impl GrantTable {
 
     /// Whether a data connection to the peer is asked for.
     pub fn is_connecting(&self, peer: SocketAddr) -> bool
-        ensures { (s : State) → result ≡ is_connecting peer (with_table self.now s) }
+        ensures { result ≡ list_any (is_connect_to peer) self.now.grants }
     {
         connections::is_connecting(self.grants.as_slice(), peer)
     }
@@ -181,6 +186,14 @@ impl GrantTable {
         connections::offer_origin(self.grants.as_slice(), id, peer)
     }
 
+    /// The offer that the caller is told of next, allocation by allocation in the order in which the
+    /// server granted them.
+    pub fn next_offer(&self) -> Option<DataOffer>
+        ensures { (s : State) → result ≡ next_offer (with_table self.now (record s { phase = Allocated })) }
+    {
+        offers::next_offer(self.grants.as_slice())
+    }
+
     /// How many offers there are that the server told of in indications.
     pub fn indicated_count(&self) -> usize
         ensures { result ≡ length (filter is_indicated self.now.grants) }
@@ -188,11 +201,34 @@ impl GrantTable {
         connections::indicated_count(self.grants.as_slice())
     }
 
+    /// For which purpose the request of this ID is to bind the data connection from this local end, if it
+    /// was made for that.
+    pub fn bind_purpose(&self, id: TransactionId, local: SocketAddr) -> Option<Purpose>
+        ensures { (s : State) → result ≡ find (is_bind_of local) (purposes_of id (with_table self.now s)) }
+    {
+        self.purposes_of(id).bind_of(local)
+    }
+
     /// What the request of this ID was made for.
     pub fn purposes_of(&self, id: TransactionId) -> Purposes
         ensures { purposes_in result ≡ map (λ l. l.purpose) (filter (λ l. l.id == id) self.now.listed) }
     {
         listed::purposes_of(self.listed.as_slice(), id)
+    }
+
+    /// How many purposes are listed. With the outstanding requests and the grants they bound how many
+    /// transaction IDs are taken.
+    pub fn listing_count(&self) -> usize
+        ensures { result ≡ length self.now.listed }
+    {
+        self.listed.len()
+    }
+
+    /// Whether a request of this ID is listed.
+    pub fn is_asked(&self, id: TransactionId) -> bool
+        ensures { result ≡ list_any (λ l. l.id == id) self.now.listed }
+    {
+        listed::has_id(self.listed.as_slice(), id)
     }
 
     /// Whether a request of this ID is listed, or one of the server that is to be answered has it.
