@@ -1,4 +1,7 @@
-//! Worked rows that are the table's alone.
+//! Worked rows that are the table's alone, and random changes.
+
+mod plain;
+mod random;
 
 use crate::due::least_of;
 use crate::reads::free_number;
