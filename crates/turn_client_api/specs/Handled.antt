@@ -139,3 +139,7 @@ abbrev pub handled : Call → State → List Turn
 handled (Recv packet now) s = recv_turns packet.transport packet.from packet.to packet.payload now s
 handled (PollRecv now) s = poll_recv_turns now s
 handled _ s = []
+
+-- the payloads of all that the call handles
+abbrev pub payloads_by : Call → State → List Payload
+payloads_by call s = payloads (handled call s)

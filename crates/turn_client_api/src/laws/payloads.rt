@@ -5,7 +5,7 @@ ghost use Rattle.turn_stun.specs.declared.transport.Transmit.{Transmit};
 ghost use Rattle.turn_client_api.specs.State.{State};
 ghost use Rattle.turn_client_api.specs.Streams.{payload_in, poll_recv_step};
 ghost use Rattle.turn_client_api.specs.Steps.{Recv, PollRecv, packet_step};
-ghost use Rattle.turn_client_api.specs.Handled.{Turn, handled, payloads};
+ghost use Rattle.turn_client_api.specs.Handled.{Turn, payloads_by};
 ghost use Rattle.turn_client_api.specs.LawsPeers.{IsLetInTurn};
 
 /// `recv` and `poll_recv` answer the payloads of what they handle and no others: of a datagram, of a
@@ -13,7 +13,7 @@ ghost use Rattle.turn_client_api.specs.LawsPeers.{IsLetInTurn};
 /// 11.6 and 12.6; RFC 6062, section 4.3). Each has the place at which it stands in what the caller handed
 /// in, or is owned, and was let in by the state that stood when its turn came.
 pub fn payloads_are_answered()
-    ensures recv { (packet : Transmit (List ℕ)) (now : ℕ) (s : State) → payloads (handled (Recv packet now) s) ≡ option_to_list (payload_in (packet_step packet now s).0) }
-    ensures poll_recv { (now : ℕ) (s : State) → payloads (handled (PollRecv now) s) ≡ option_to_list (poll_recv_step now s).0 }
+    ensures recv { (packet : Transmit (List ℕ)) (now : ℕ) (s : State) → payloads_by (Recv packet now) s ≡ option_to_list (payload_in (packet_step packet now s).0) }
+    ensures poll_recv { (now : ℕ) (s : State) → payloads_by (PollRecv now) s ≡ option_to_list (poll_recv_step now s).0 }
     ensures let_in { (t : Turn) → IsLetInTurn t }
 {}

@@ -1,14 +1,11 @@
 //! What waits in the streams of a client over TCP.
 
 ghost use Rattle.std.specs.Prelude.{◌≡◌, ◌≢◌, ℕ, ◌<◌, ◌≤◌, length, List, All, None, IsSome};
-ghost use Rattle.std.specs.declared.net.socket_addr.SocketAddr.{SocketAddr};
-ghost use Rattle.turn_stun.specs.declared.transport.TransportType.{TransportType};
-ghost use Rattle.turn_client_api.specs.Config.{Config};
-ghost use Rattle.turn_client_api.specs.State.{State, Stream, Control, Broken, initial};
+ghost use Rattle.turn_client_api.specs.State.{State, Stream, Control, Broken};
 ghost use Rattle.turn_client_api.specs.Streams.{most_turns, poll_recv_step, turns_until_payload};
 ghost use Rattle.turn_client_api.specs.Receive.{piece_step};
-ghost use Rattle.turn_client_api.specs.Steps.{Call, Leaves};
 ghost use Rattle.turn_client_api.specs.LawsStreams.{AreApart, DrainsOrGives, IsDrained};
+ghost use Rattle.turn_client_api.specs.LawsStates.{HoldsAtFirst, StaysInCalls};
 
 /// `poll_recv` leaves nothing behind (RFC 8656, section 12.5): where it gives no payload, no stream
 /// holds a whole frame, nor a bound one any byte, and each that is not broken holds less than the
@@ -28,6 +25,6 @@ pub fn streams_are_drained()
 /// its own), and a broken stream holds nothing. So it is from the first, and stays so whatever is called,
 /// whether or not a call finds memory.
 pub fn streams_stay_apart()
-    ensures initial { (transport : TransportType) (local remote : SocketAddr) (config : Config) (seed : List ℕ) → AreApart (initial transport local remote config seed) }
-    ensures kept { (call : Call) (s t : State) → Leaves call s t → AreApart s → AreApart t }
+    ensures initial { HoldsAtFirst AreApart }
+    ensures kept { StaysInCalls AreApart }
 {}
