@@ -10,7 +10,7 @@ use Rattle.turn_types.specs.declared.family.AddressFamily.{AddressFamily}
 use Rattle.turn_client_api.specs.State.{State, Grant, Allocation, Permission, Channel, Connect, Offer, Connection, DataConnection, Relay, Pending, Active, Reserved, Purpose}
 use Rattle.turn_client_api.specs.Grants.{allocation_in, allocations, connection_in, failures_among, family_of, has_request, in_turn, is_connect, is_for, is_of, is_past, is_pending_channel, is_pending_permission, failure_of, unlisted, without}
 use Rattle.turn_client_api.specs.Poll.{connections_unbound, failed, goes, in_vain, is_lapsed_channel, is_lapsed_permission, is_over, is_unbound, lapsed, lapsed_allocation, lapsed_in, last_channel_lapsed, offers_in_vain, permissions_lapsed, refreshes_in_vain, set_free, unbound}
-use Rattle.turn_client_api.specs.LawsBodies.{lapse_of, lapses}
+use Rattle.turn_client_api.specs.LawsBodies.{lapse_of, lapse_moments}
 use Rattle.turn_client_api.specs.declared.event.TurnEvent.{TurnEvent}
 use Rattle.turn_client_api.proofs.HasLemmas.{Has, filter-none, filter_map-has, find-none, has-all, has-filter_map}
 use Rattle.turn_client_api.proofs.LapseLemmas.{has-unreversed}
@@ -196,11 +196,11 @@ module _ (now : ℕ) (s : State) (early : (g : Grant) → Has g s.grants → IsE
     ),
   )
 
-pub lapsed-none : (now : ℕ) (s : State) → All (λ moment. now < moment) (lapses s) → lapsed None now s ≡ s
+pub lapsed-none : (now : ℕ) (s : State) → All (λ moment. now < moment) (lapse_moments s) → lapsed None now s ≡ s
 lapsed-none now s all = fold-rest (lapsed_allocation None [] now) (allocations s) s by
   where
     early : (g : Grant) → Has g s.grants → IsEarly now s g
-    early g h moment e = has-all (λ m. now < m) moment (lapses s) all (filter_map-has (lapse_of s) g moment s.grants h e)
+    early g h moment e = has-all (λ m. now < m) moment (lapse_moments s) all (filter_map-has (lapse_of s) g moment s.grants h e)
 
     is-allocation : (g : Grant) (a : Relay) → allocation_in g ≡ Some a → IsEarly now s g → IsEarly now s (Allocation a)
     is-allocation (Allocation b) a e is = rw (← same_Some b a e) is

@@ -15,7 +15,7 @@ use Rattle.turn_client_api.specs.Due.{has_event, has_reply, is_paused}
 use Rattle.turn_client_api.specs.Poll.{answer_by, answer_step, channel_lapsed, connections_unbound, given_up_purposes, given_up_step, goes, in_vain, is_lapsed_channel, is_listed_for_allocation, lapsed, lapsed_allocation, lapsed_in, last_channel_lapsed, next_offer, offer_step, offers_in_vain, permissions_lapsed, poll_step, refreshes_in_vain, set_free, timed_step, told, told_first, untold_in}
 use Rattle.turn_client_api.specs.Transmit.{idle_step, queue_step, refreshes_in, reply_step, sent, sent_at_once, transmit_step}
 use Rattle.turn_client_api.specs.Steps.{Call, Poll, PollTransmit}
-use Rattle.turn_client_api.specs.LawsBodies.{lapses}
+use Rattle.turn_client_api.specs.LawsBodies.{lapse_moments}
 use Rattle.turn_client_api.specs.LawsRequests.{AsksFor, IsMade}
 use Rattle.turn_client_api.specs.LawsGone.{IsTakenBy, IsTimeUp, bare}
 use Rattle.turn_client_api.proofs.EarlyLapseLemmas.{lapsed-none}
@@ -155,9 +155,9 @@ module _ (now : ℕ) (s : State) where
   none-ends Requesting e = answer-ends None s same-ends
   none-ends Authenticating e = answer-ends None s same-ends
   none-ends Closed e = same-ends
-  none-ends Allocated e = answer-ends None (lapsed None now s) (by (early-or now (lapses s)))
+  none-ends Allocated e = answer-ends None (lapsed None now s) (by (early-or now (lapse_moments s)))
     where
-      by : All (λ m. now < m) (lapses s) ⊎ ((m : ℕ) × Contains (lapses s) m × (m ≤ now)) → Ends (lapsed None now s)
+      by : All (λ m. now < m) (lapse_moments s) ⊎ ((m : ℕ) × Contains (lapse_moments s) m × (m ≤ now)) → Ends (lapsed None now s)
       by (inl early) = rw (lapsed-none now s early) same-ends
       by (inr come) = (
         subst (λ ts. Adds Never s.transactions ts) (sym (lapsed-shrinks None now s).transactions) (adds-same Never s.transactions),

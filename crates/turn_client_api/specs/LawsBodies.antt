@@ -20,8 +20,8 @@ lapse_of s (Channel number peer (Reserved until)) = Some (until + 1)
 lapse_of s (Connection c) = c.deadline
 lapse_of s _ = None
 
-abbrev pub lapses : State → List ℕ
-lapses s = filter_map (lapse_of s) s.grants
+abbrev pub lapse_moments : State → List ℕ
+lapse_moments s = filter_map (lapse_of s) s.grants
 
 -- ---- events
 

@@ -9,7 +9,7 @@ use Rattle.turn_client_api.specs.Calls.{is_granted_in, is_offer_of}
 use Rattle.turn_client_api.specs.Handled.{Turn}
 use Rattle.turn_client_api.specs.Steps.{Call, state_after, Delete, AllocatedTcpSocket, TcpClosed, Recv, PollRecv, Poll}
 use Rattle.turn_client_api.specs.LawsHandled.{IsDoneBy, IsStreamEnd}
-use Rattle.turn_client_api.specs.LawsBodies.{lapses}
+use Rattle.turn_client_api.specs.LawsBodies.{lapse_moments}
 use Rattle.turn_client_api.specs.LawsReplies.{IsAccepted}
 use Rattle.turn_client_api.specs.LawsRequests.{IsAnswer}
 
@@ -57,7 +57,7 @@ IsClosedWith call s g = (end : IsStreamEnd call s (state_after call s)) × (is_c
 abbrev pub IsTimeUp : ℕ → State → Type 0
 IsTimeUp now s =
     IsSome (given_up (agent_of s) now)
-    ⊎ ((s.phase ≡ Allocated) × ((moment : ℕ) × Contains (lapses s) moment × (moment ≤ now)))
+    ⊎ ((s.phase ≡ Allocated) × ((moment : ℕ) × Contains (lapse_moments s) moment × (moment ≤ now)))
 
 -- ---- by a call
 

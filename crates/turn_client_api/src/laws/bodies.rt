@@ -8,14 +8,14 @@ ghost use Rattle.turn_client_api.specs.Poll.{lapsed, poll_step};
 ghost use Rattle.turn_client_api.specs.Streams.{frame_step, poll_recv_step, turn};
 ghost use Rattle.turn_client_api.specs.Handled.{poll_recv_turns};
 ghost use Rattle.turn_client_api.specs.LawsStreams.{IsDrained};
-ghost use Rattle.turn_client_api.specs.LawsBodies.{AreTakenUpTo, IsAsideFrom, IsLeastFree, TellsOfFailed, lapses, most_failures, soonest};
+ghost use Rattle.turn_client_api.specs.LawsBodies.{AreTakenUpTo, IsAsideFrom, IsLeastFree, TellsOfFailed, lapse_moments, most_failures, soonest};
 
 /// Before the least moment at which a grant lapses, time changes nothing where no transaction was given
 /// up. These moments are the ends of allocations, permissions and channels (RFC 8656, sections 8, 9 and
 /// 12), the deadlines of data connections that wait to be bound (RFC 6062, section 4.3), and those behind
 /// the time for which a channel is reserved. An expired allocation has none while it is asked for.
 pub fn nothing_lapses_early()
-    ensures { (now : ℕ) (s : State) → All (λ moment. now < moment) (lapses s) → lapsed None now s ≡ s }
+    ensures { (now : ℕ) (s : State) → All (λ moment. now < moment) (lapse_moments s) → lapsed None now s ≡ s }
 {}
 
 /// For each event that a `poll` makes there is one grant fewer that can fail: so it makes at most as many
