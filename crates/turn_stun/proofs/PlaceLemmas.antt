@@ -1,7 +1,8 @@
--- The attributes of a message stand within it.
-use Rattle.std.proofs.Common.{◌≡◌, ℕ, ◌+◌, ◌≤◌, Bool, true, false, cond, List, [], ◌∷◌, length, drop, Some, find, subst, arith, length-drop}
+-- The attributes of a message stand within it, and it holds their values there.
+use Rattle.std.proofs.Common.{◌≡◌, ℕ, ◌+◌, ◌-◌, ◌≤◌, Bool, true, false, cond, List, [], ◌∷◌, ◌++◌, length, drop, Some, find, refl, subst, sym, ◌∙◌, arith, append_assoc, length-drop}
+use Rattle.std.proofs.lemmas.List.{drop-drop, drop_at, length-append, take_at}
 use Rattle.std.specs.List.{AllByRecursion}
-use Rattle.turn_stun.specs.Message.{Attribute, AreAttributes, IsMessage, IsWithin, attributes_of, type_of, id_of, padded_len}
+use Rattle.turn_stun.specs.Message.{Attribute, AreAttributes, HoldsValue, IsAttributeThen, IsMessage, IsWithin, attributes_of, type_of, id_of, padded_len}
 use Rattle.turn_stun.specs.Attributes.{is_seen, seen_after, seen_of}
 use Rattle.turn_stun.proofs.WriteLemmas.{size_of_attribute}
 
@@ -19,6 +20,31 @@ AreAttributes-within (a ∷ later) at bytes are =
       weaken (at + (4 + padded_len (length a.value))) _ at (at + length bytes) later (omega arith) (omega (arith, size))
           (AreAttributes-within later (at + (4 + padded_len (length a.value))) are.0 are.2),
     )
+
+module _ (message : List ℕ) (at : ℕ) (a : Attribute) (rest : List ℕ) (is : IsAttributeThen at (drop at message) a rest) where
+  behind_header : drop (a.offset + 4) message ≡ a.value ++ (is.padding ++ rest)
+  behind_header = rw (is.placed, ← drop-drop 4 at message, is.spelled) (drop_at is.header _ 4 is.four_bytes)
+
+  value_held : HoldsValue message a
+  value_held = rw behind_header (take_at a.value _ (a.offset + 4 + length a.value - (a.offset + 4)) (omega arith))
+
+  attribute_len : length (is.header ++ (a.value ++ is.padding)) ≡ 4 + padded_len (length a.value)
+  attribute_len = omega (arith, length-append is.header (a.value ++ is.padding), length-append a.value is.padding, is.four_bytes, is.padded)
+
+  rest_is : drop (at + (4 + padded_len (length a.value))) message ≡ rest
+  rest_is =
+      let spelled : drop at message ≡ (is.header ++ (a.value ++ is.padding)) ++ rest =
+      is.spelled ∙ rw (append_assoc is.header (a.value ++ is.padding) rest, append_assoc a.value is.padding rest) refl in
+      rw (← drop-drop (4 + padded_len (length a.value)) at message, spelled)
+      (drop_at (is.header ++ (a.value ++ is.padding)) rest (4 + padded_len (length a.value)) attribute_len)
+
+AreAttributes-values : (message : List ℕ) (attributes : List Attribute) (at : ℕ) → AreAttributes at (drop at message) attributes → AllByRecursion (HoldsValue message) attributes
+AreAttributes-values message [] at are = tt
+AreAttributes-values message (a ∷ later) at are = (
+  value_held message at a are.0 are.1,
+  AreAttributes-values message later (at + (4 + padded_len (length a.value)))
+      (subst (λ bytes. AreAttributes (at + (4 + padded_len (length a.value))) bytes later) (sym (rest_is message at a are.0 are.1)) are.2),
+)
 
 module _ (P : Attribute → Type 0) where
   seen_one : (seen : Bool) (a : Attribute) (others : List Attribute) → P a → AllByRecursion P others → AllByRecursion P (cond seen (a ∷ others) others)
@@ -45,3 +71,9 @@ seen_of-within message is =
     let within = AreAttributes-within (attributes_of message) 20 (drop 20 message) is.has_attributes in
     let all = weaken 20 _ 20 (length message) (attributes_of message) (omega arith) (omega (arith, is.whole, length-drop 20 message)) within in
     seen_after-all P (attributes_of message) false false all
+
+-- the message holds the values of its seen attributes
+pub seen_of-values : (message : List ℕ) → IsMessage message (type_of message) (id_of message) (attributes_of message) → AllByRecursion (HoldsValue message) (seen_of message)
+seen_of-values message is =
+    let all = AreAttributes-values message (attributes_of message) 20 is.has_attributes in
+    seen_after-all (HoldsValue message) (attributes_of message) false false all

@@ -1,10 +1,10 @@
 -- What writing an attribute does to the bytes of a message.
 use Rattle.std.proofs.Common.{◌≡◌, ℕ, ◌+◌, ◌-◌, ◌*◌, ◌^◌, ◌<◌, ◌≤◌, List, [], ◌∷◌, ◌++◌, length, take, drop, replicate, refl, subst, sym, ap, ◌∙◌, arith, append_assoc, lit≤}
-use Rattle.std.proofs.lemmas.List.{take-take, take_at, drop_at, drop-drop, drop-append-le, take-append-le, length-append, length-take, length-drop, get_or-drop, append-nil, length-replicate}
+use Rattle.std.proofs.lemmas.List.{take-take, take_at, take_all, take-append-drop, drop_at, drop-drop, drop-append-le, take-append-le, length-append, length-take, length-drop, get_or-drop, append-nil, length-replicate}
 use Rattle.std.specs.Int.{w16, to_be_bytes}
 use Rattle.turn_stun.specs.Number.{big_endian, u16_at, u32_at}
 use Rattle.turn_stun.specs.Message.{Attribute, AreAttributes, IsAttributeThen, IsMessage, type_of, length_of, cookie_of, id_of, attributes_of, padded_len}
-use Rattle.turn_stun.specs.Writer.{AddsAttribute, IsWritten, header_of, with_length, with_attribute, attribute_bytes}
+use Rattle.turn_stun.specs.Writer.{AddsAttribute, Extends, IsWritten, header_of, with_length, with_attribute, attribute_bytes}
 use Rattle.turn_stun.proofs.FaultLemmas.{fault_of-none, no_fault-IsFaultless, IsMessage-no_fault, attributes_of-is}
 use Rattle.turn_stun.proofs.GrammarLemmas.{padded_len-ge, u16_at-append, u16_at-take}
 
@@ -41,6 +41,68 @@ module _ (n : ℕ) (bytes : List ℕ) (long : 4 ≤ length bytes) where
 
   pub length-with_length : length (with_length n bytes) ≡ length bytes
   length-with_length = omega (arith, length-append (take 2 bytes) (to_be_bytes w16 n ++ drop 4 bytes), front_two, length-drop 4 bytes)
+
+pub with_length-append : (n : ℕ) (message more : List ℕ) → 4 ≤ length message → with_length n (message ++ more) ≡ with_length n message ++ more
+with_length-append n message more header =
+    let two : 2 ≤ length message = omega arith in
+    rw (take-append-le 2 message more two, drop-append-le 4 message more header, append_assoc, append_assoc) refl
+
+pub with_length-twice : (n m : ℕ) (message : List ℕ) → 4 ≤ length message → with_length n (with_length m message) ≡ with_length n message
+with_length-twice n m message header = rw (take_2-with_length m message header, drop_4-with_length m message header) refl
+
+-- ---- what stands in front
+
+-- the front of a message whose length field was set
+take-with_length-append : (n k : ℕ) (front more : List ℕ) → 4 ≤ length front → length front ≡ k → take k (with_length n (front ++ more)) ≡ with_length n front
+take-with_length-append n k front more header len =
+    ap (take k) (with_length-append n front more header)
+    ∙ take_at (with_length n front) more k (length-with_length n front header ∙ len)
+
+take-with_length : (n k : ℕ) (message : List ℕ) → 4 ≤ k → k ≤ length message → take k (with_length n message) ≡ with_length n (take k message)
+take-with_length n k message header within =
+    let len : length (take k message) ≡ k = rw length-take (omega arith) in
+    ap (λ m. take k (with_length n m)) (sym (take-append-drop k message))
+    ∙ take-with_length-append n k (take k message) (drop k message) (omega (arith, len)) len
+
+-- a message that is written begins with itself
+pub Extends-itself : (message : List ℕ) → IsWritten message → Extends message message
+Extends-itself message is = record {
+  header = is.faultless.long;
+  len = omega arith;
+  cut = ap (with_length (length message - 20)) (take_all (length message) message (omega arith)) ∙ is.told;
+}
+
+pub Extends-twice : (old middle new : List ℕ) → Extends old middle → Extends middle new → Extends old new
+Extends-twice old middle new first second =
+    let n = length middle - 20 in
+    let k = length old in
+    let header : 4 ≤ k = omega (arith, first.header) in
+    let shorter : take k (take (length middle) new) ≡ take k new = take-take k (length middle) new first.len in
+    let long : 4 ≤ length (take k new) = rw length-take (omega (arith, first.header, first.len, second.len)) in
+    let within : k ≤ length (take (length middle) new) = rw length-take (omega (arith, first.len, second.len)) in
+    let front : take k middle ≡ with_length n (take k new) =
+    ap (take k) (sym second.cut)
+    ∙ (take-with_length n k (take (length middle) new) header within ∙ ap (with_length n) shorter) in
+    record {
+      header = first.header;
+      len = omega (arith, first.len, second.len);
+      cut = sym (with_length-twice (k - 20) n (take k new) long)
+          ∙ (ap (with_length (k - 20)) (sym front) ∙ first.cut);
+    }
+
+pub with_attribute-Extends : (kind : ℕ) (value message : List ℕ) → IsWritten message → Extends message (with_attribute kind value message)
+unfolding with_attribute
+with_attribute-Extends kind value message is =
+    let n = length message - 20 + (4 + padded_len (length value)) in
+    let header : 4 ≤ length message = omega (arith, is.faultless.long) in
+    let long : 4 ≤ length (message ++ attribute_bytes kind value) = omega (arith, length-append message (attribute_bytes kind value)) in
+    let len = length-with_length n (message ++ attribute_bytes kind value) long ∙ length-append message (attribute_bytes kind value) in
+    record {
+      header = is.faultless.long;
+      len = omega (arith, len);
+      cut = ap (with_length (length message - 20)) (take-with_length-append n (length message) message (attribute_bytes kind value) header refl)
+          ∙ (with_length-twice (length message - 20) n message header ∙ is.told);
+    }
 
 -- ---- one attribute more
 
@@ -185,6 +247,15 @@ with_attribute-IsMessage kind value message is k room =
 pub IsWritten-IsMessage : (message : List ℕ) → IsWritten message → IsMessage message (type_of message) (id_of message) (attributes_of message)
 IsWritten-IsMessage message is = fault_of-none message is.faultless.none
 
+with_attribute-told : (kind : ℕ) (value message : List ℕ) → kind < 2 ^ 16 → length value < 2 ^ 16 → 20 ≤ length message → with_length (length (with_attribute kind value message) - 20) (with_attribute kind value message) ≡ with_attribute kind value message
+unfolding with_attribute
+with_attribute-told kind value message k short twenty =
+    let longer = message ++ attribute_bytes kind value in
+    let n = length message - 20 + (4 + padded_len (length value)) in
+    let long : 4 ≤ length longer = omega (arith, length-append message (attribute_bytes kind value)) in
+    let same : length (with_length n longer) - 20 ≡ n = omega (arith, length-with_attribute kind value message k short twenty) in
+    ap (λ m. with_length m (with_length n longer)) same ∙ with_length-twice n n longer long
+
 -- a writer keeps what it keeps when it adds an attribute
 pub with_attribute-IsWritten : (kind : ℕ) (value message : List ℕ) → IsWritten message → kind < 2 ^ 16 → length message + (4 + padded_len (length value)) ≤ 65552 → IsWritten (with_attribute kind value message)
 with_attribute-IsWritten kind value message is k room =
@@ -193,6 +264,7 @@ with_attribute-IsWritten kind value message is k room =
     record {
       faultless = no_fault-IsFaultless _ (IsMessage-no_fault _ _ _ _ new);
       short = rw (length-with_attribute kind value message k (omega (arith, padded_len-ge (length value))) is.faultless.long) room;
+      told = with_attribute-told kind value message k (omega (arith, padded_len-ge (length value))) is.faultless.long;
     }
 
 pub with_attribute-AddsAttribute : (kind : ℕ) (value message : List ℕ) → IsWritten message → kind < 2 ^ 16 → length message + (4 + padded_len (length value)) ≤ 65552 → AddsAttribute message (with_attribute kind value message) kind value
@@ -215,6 +287,7 @@ pub header_of-IsWritten : (type id : ℕ) → type < 2 ^ 14 → id < 2 ^ 96 → 
 header_of-IsWritten type id t i = record {
   faultless = no_fault-IsFaultless _ (IsMessage-no_fault _ _ _ _ (header_of-IsMessage type id t i));
   short = lit≤ tt;
+  told = refl;
 }
 
 -- a message whose length is set behind an attribute that was appended

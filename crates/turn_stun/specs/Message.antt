@@ -1,5 +1,6 @@
 -- What a message is (RFC 8489, sections 5 and 14).
 use Rattle.std.specs.Prelude.{◌≡◌, ℕ, zero, suc, ◌+◌, ◌-◌, ◌*◌, ◌/◌, ◌%◌, ◌^◌, ◌<◌, ◌≤◌, ◌==◌, ◌&&◌, Bool, nat_lt, not, if◌then◌else◌, List, [], ◌∷◌, ◌++◌, length, take, drop, Option, Some, None, is_none, unwrap_or}
+use Rattle.std.specs.List.{slice_range}
 use Rattle.std.specs.Option.{option_map}
 use Rattle.turn_stun.specs.Number.{big_endian, u16_at, u32_at}
 use Rattle.turn_stun.specs.declared.error.ParseError.{ParseError}
@@ -65,6 +66,10 @@ pub record IsMessage (bytes : List ℕ) (type id : ℕ) (attributes : List Attri
 -- the attribute stands in the bytes from this place up to that one, padding included
 abbrev pub IsWithin : ℕ → ℕ → Attribute → Type 0
 IsWithin start end a = (start ≤ a.offset) × (a.offset + (4 + padded_len (length a.value)) ≤ end)
+
+-- the bytes hold its value where its offset says, behind its type and its length
+abbrev pub HoldsValue : List ℕ → Attribute → Type 0
+HoldsValue bytes a = slice_range bytes (a.offset + 4) (a.offset + 4 + length a.value) ≡ a.value
 
 -- the attribute at the front of the bytes, which begin at this offset
 abbrev pub attribute_at : ℕ → List ℕ → Attribute

@@ -30,7 +30,20 @@ pub record AddsAttribute (old new : List ℕ) (kind : ℕ) (value : List ℕ) : 
   pub id : id_of new ≡ id_of old
   pub attributes : attributes_of new ≡ attributes_of old ++ record { offset = length old; kind = kind; value = value } ∷ []
 
--- what a writer keeps: its bytes are a message, of at most 65,532 bytes behind the header
+-- the message with only those of its attributes that stand within its first n bytes
+abbrev pub cut_to : ℕ → List ℕ → List ℕ
+cut_to n message = with_length (n - 20) (take n message)
+
+-- The new message begins with the old one: without the attributes behind that one it is the old one,
+-- byte for byte.
+pub record Extends (old new : List ℕ) : Type 0 where
+  pub header : 20 ≤ length old
+  pub len : length old ≤ length new
+  pub cut : cut_to (length old) new ≡ old
+
+-- What a writer keeps: its bytes are a message, of at most 65,532 bytes behind the header, and its length
+-- field is what those give.
 pub record IsWritten (bytes : List ℕ) : Type 0 where
   pub faultless : IsFaultless bytes
   pub short : length bytes ≤ 65552
+  pub told : with_length (length bytes - 20) bytes ≡ bytes

@@ -12,8 +12,6 @@ pub mod data;
 pub mod error;
 pub mod instant;
 pub mod message;
-#[cfg(test)]
-mod tests;
 pub mod transaction;
 pub mod transport;
 

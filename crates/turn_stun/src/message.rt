@@ -3,7 +3,7 @@
 ghost use Rattle.std.specs.Prelude.{◌≡◌, ℕ, ◌+◌, ◌≤◌, ◌↔◌, List, length, All, IsTrue, IsOk, IsSome, IfOk, IfErr, IfSome, MatchOption, MatchResult, Some, None};
 ghost use Rattle.std.specs.List.{AllByRecursion};
 ghost use Rattle.std.specs.Option.{option_map};
-ghost use Rattle.turn_stun.specs.Message.{Attribute, IsMessage, IsWithin, fault_of, type_of, id_of, attributes_of};
+ghost use Rattle.turn_stun.specs.Message.{Attribute, HoldsValue, IsMessage, IsWithin, fault_of, type_of, id_of, attributes_of};
 ghost use Rattle.turn_stun.specs.MessageType.{method_of, class_of, IsResponse};
 ghost use Rattle.turn_stun.specs.Attributes.{seen_of, first_of, nth_of};
 ghost use Rattle.turn_stun.specs.Iterator.{attributes_left, placed};
@@ -127,6 +127,7 @@ impl<'a> Message<'a> {
     pub fn iter_attributes(&self) -> MessageAttributesIter<'a>
         ensures seen { attributes_left result ≡ seen_of self.now }
         ensures within { AllByRecursion (IsWithin 20 (length self.now)) (seen_of self.now) }
+        ensures values { AllByRecursion (HoldsValue self.now) (seen_of self.now) }
     {
         MessageAttributesIter::new(&self.bytes[20..], 20)
     }

@@ -4,7 +4,7 @@ ghost use Rattle.std.specs.Prelude.{◌≡◌, ℕ, ◌+◌, ◌-◌, ◌^◌, �
 ghost use Rattle.std.specs.Int.{w16, to_be_bytes};
 ghost use Rattle.turn_stun.specs.Message.{IsMessage, padded_len, type_of, id_of, attributes_of};
 ghost use Rattle.turn_stun.specs.MessageType.{type_number, method_of, class_of};
-ghost use Rattle.turn_stun.specs.Writer.{AddsAttribute, IsWritten, header_of, with_length, with_attribute, attribute_bytes};
+ghost use Rattle.turn_stun.specs.Writer.{AddsAttribute, Extends, IsWritten, cut_to, header_of, with_length, with_attribute, attribute_bytes};
 ghost use Rattle.turn_stun.specs.declared.message.header.MessageClass.TheVariants.{Request, Success, Error};
 
 use crate::attribute::padded_len;
@@ -24,7 +24,8 @@ const HEADER_LEN: usize = 20;
 /// The most bytes that attributes take: the greatest multiple of four that the length field holds.
 const MAX_ATTRIBUTES_LEN: usize = 65_532;
 
-/// Room for a signed request of TURN, so that most messages are written without growing again.
+/// Room for a signed request of TURN, so that most messages are written without growing again where the
+/// caller names no length.
 const USUAL_LEN: usize = 256;
 
 /// A message that is being written. Contracts see it as its bytes, which are a message at any time.
@@ -115,6 +116,7 @@ fn extend<A: AttributeWrite>(
     ensures ok { OnOk result (message.new.items ≡ with_attribute (A.written_kind attribute.now) (A.encoded attribute.now id) message.old.items) }
     ensures added { OnOk result (AddsAttribute message.old.items message.new.items (A.written_kind attribute.now) (A.encoded attribute.now id)) }
     ensures err { OnErr result (message.new.items ≡ message.old.items) }
+    ensures kept { Extends message.old.items message.new.items }
     ensures written { IsWritten message.new.items }
 {
     let before = message.len();
@@ -141,7 +143,25 @@ impl MessageWriteVec {
         ensures text { IfOk result (λ message. message ≡ header_of (type_number message_type.method.value message_type.class) id) }
         ensures message { IfOk result (λ message. IsMessage message (type_number message_type.method.value message_type.class) id []) }
     {
-        let mut bytes = Vec::with_capacity(alloc, USUAL_LEN)?;
+        MessageWriteVec::builder_with_capacity(alloc, message_type, id, USUAL_LEN)
+    }
+
+    /// The same with room for `capacity` bytes in all, the 20 of the header among them. Where the message
+    /// comes to no more, memory is asked for this once.
+    ///
+    /// # Errors
+    ///
+    /// `AllocError` where there is no memory.
+    pub fn builder_with_capacity(
+        alloc: Global,
+        message_type: MessageType,
+        id: TransactionId,
+        capacity: usize,
+    ) -> Result<MessageWriteVec, AllocError>
+        ensures text { IfOk result (λ message. message ≡ header_of (type_number message_type.method.value message_type.class) id) }
+        ensures message { IfOk result (λ message. IsMessage message (type_number message_type.method.value message_type.class) id []) }
+    {
+        let mut bytes = Vec::with_capacity(alloc, capacity.max(HEADER_LEN))?;
         bytes.extend_from_slice(&header_of(message_type, id))?;
         Ok(MessageWriteVec { bytes })
     }
@@ -189,6 +209,7 @@ impl MessageWriteVec {
     pub fn as_bytes(&self) -> &[u8]
         ensures bytes { result.now ≡ self.now }
         ensures message { IsMessage self.now (type_of self.now) (id_of self.now) (attributes_of self.now) }
+        ensures written { IsWritten self.now }
         ensures short { length self.now ≤ 65552 }
     {
         self.bytes.as_slice()
@@ -209,6 +230,29 @@ impl MessageWriteVec {
         MessageType::from_number(u16_at(self.bytes.as_slice(), 0))
     }
 
+    /// Makes room for `additional` bytes behind those that are there. While the message grows by no more,
+    /// no memory is asked for.
+    ///
+    /// # Errors
+    ///
+    /// `AllocError` where there is no memory.
+    pub fn reserve(&mut self, additional: usize) -> Result<(), AllocError>
+        ensures { self.new ≡ self.old }
+    {
+        self.bytes.reserve_exact(additional)
+    }
+
+    /// Takes the attributes off that stand behind the first `len` bytes. What is left has to be a message:
+    /// so it is where the message was of that length before, whatever was added since. It wants no memory.
+    pub fn truncate(&mut self, len: usize)
+        requires within { len ≤ length self.old }
+        requires whole { IsWritten (cut_to len self.old) }
+        ensures { self.new ≡ cut_to len self.old }
+    {
+        self.bytes.truncate(len);
+        set_length(&mut self.bytes, (len - HEADER_LEN) as u16);
+    }
+
     /// Adds an attribute at the end, with padding of zeros.
     ///
     /// # Errors
@@ -220,6 +264,7 @@ impl MessageWriteVec {
         ensures added { OnOk result (AddsAttribute self.old self.new (A.written_kind attribute.now) (A.encoded attribute.now (id_of self.old))) }
         ensures too_long { IsErrOf result WriteError.TooLong ↔ (65552 < length self.old + (4 + padded_len (length (A.encoded attribute.now (id_of self.old))))) }
         ensures err { OnErr result (self.new ≡ self.old) }
+        ensures kept { Extends self.old self.new }
     {
         let len = attribute.value_len();
         let before = self.bytes.len();

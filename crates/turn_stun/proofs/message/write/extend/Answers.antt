@@ -1,6 +1,6 @@
 use Rattle.std.proofs.Common.{◌≡◌, ◌-◌, ◌^◌, ◌<◌, length, ◌∙◌, arith, rules}
 use Rattle.turn_stun.proofs.GrammarLemmas.{padded_len-ge}
-use Rattle.turn_stun.proofs.WriteLemmas.{with_attribute-made, with_attribute-IsWritten, with_attribute-AddsAttribute}
+use Rattle.turn_stun.proofs.WriteLemmas.{with_attribute-made, with_attribute-IsWritten, with_attribute-AddsAttribute, with_attribute-Extends}
 use Rattle.turn_stun.proofs.message.write.extend.Goals as goal
 
 pub returns-in-Ok-clause-ok : goal.returns-in-Ok-clause-ok
@@ -18,3 +18,7 @@ returns-in-Ok-clause-added g c =
 pub returns-in-Ok-clause-written : goal.returns-in-Ok-clause-written
 returns-in-Ok-clause-written g c =
     rw (returns-in-Ok-clause-ok g c) (with_attribute-IsWritten _ _ _ c.requires.written c.in-Ok.ensures.kind c.requires.room)
+
+pub returns-in-Ok-clause-kept : goal.returns-in-Ok-clause-kept
+returns-in-Ok-clause-kept g c =
+    rw (returns-in-Ok-clause-ok g c) (with_attribute-Extends _ _ _ c.requires.written)

@@ -1,5 +1,5 @@
 use Rattle.turn_stun.proofs.WriteLemmas.{header_of-IsMessage, header_of-IsWritten}
-use Rattle.turn_stun.proofs.message.write.MessageWriteVec.builder.Goals as goal
+use Rattle.turn_stun.proofs.message.write.MessageWriteVec.builder_with_capacity.Goals as goal
 
 pub invariant_of-result : goal.invariant_of-result
 invariant_of-result c =
