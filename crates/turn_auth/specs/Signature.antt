@@ -1,10 +1,10 @@
 -- What signing adds to a message (RFC 8489, sections 9.2.4, 14.5 and 14.6).
-use Rattle.std.specs.Prelude.{◌≡◌, ℕ, ◌+◌, Bool, true, not, ◌||◌, List, [], ◌∷◌, map, length, Option, Some, None}
+use Rattle.std.specs.Prelude.{◌≡◌, ℕ, ◌+◌, Bool, true, not, ◌||◌, List, [], ◌∷◌, length, Option, Some, None}
 use Rattle.std.specs.List.{list_all}
-use Rattle.turn_stun.specs.Attributes.{is_sha1, is_sha256, seen_of}
+use Rattle.turn_stun.specs.Attributes.{is_sha1, is_sha256}
 use Rattle.turn_stun.specs.Message.{Attribute, padded_len, type_of, id_of, attributes_of}
 use Rattle.turn_stun.specs.MessageType.{class_of}
-use Rattle.turn_stun.specs.Writer.{header_of, with_attribute}
+use Rattle.turn_stun.specs.Writer.{with_attribute}
 use Rattle.turn_stun.specs.declared.message.header.MessageClass.{MessageClass}
 use Rattle.turn_stun.specs.declared.message.header.MessageClass.TheVariants.{Request, Indication, Success, Error}
 use Rattle.turn_auth.specs.Credentials.{Credentials}
@@ -26,16 +26,6 @@ pub record Addition : Type 0 where
 abbrev pub with_additions : List Addition → List ℕ → List ℕ
 with_additions [] message = message
 with_additions (a ∷ later) message = with_additions later (with_attribute a.kind a.value message)
-
--- an attribute of a message, to be written again
-abbrev pub addition_of : Attribute → Addition
-addition_of attribute = record { kind = attribute.kind; value = attribute.value }
-
--- the message written anew: with its type, its transaction ID and the attributes that are seen, in
--- their order, and zeros for padding
-abbrev pub rewritten : List ℕ → List ℕ
-rewritten message =
-    with_additions (map addition_of (seen_of message)) (header_of (type_of message) (id_of message))
 
 -- how many bytes an attribute with this value takes
 abbrev pub written_len : List ℕ → ℕ
@@ -80,11 +70,11 @@ additions_for Error anonymous credentials held = []
 abbrev pub signed_by : Option Credentials → Option Challenge → Feature → List ℕ → List ℕ
 signed_by (Some credentials) (Some held) anonymous message =
     with_integrity held.algorithm (held_key credentials held)
-    (with_additions (additions_for (class_of (type_of message)) anonymous credentials held) (rewritten message))
+    (with_additions (additions_for (class_of (type_of message)) anonymous credentials held) message)
 signed_by (Some credentials) None anonymous message = message
 signed_by None _ anonymous message = message
 
--- the message, signed by the client
+-- the message, signed by the client: what was there stays, and this stands behind it
 abbrev pub signed_text : ClientAuth → List ℕ → List ℕ
 signed_text auth message = signed_by auth.credentials auth.held auth.anonymous_username message
 

@@ -11,8 +11,6 @@ mod key;
 pub mod long_term;
 pub mod server_challenge;
 mod signature;
-#[cfg(test)]
-mod tests;
 pub mod validation;
 
 pub use credentials::{CredentialsError, TurnCredentials};

@@ -1,13 +1,13 @@
 //! The client's side of the long-term credential mechanism (RFC 8489, section 9.2).
 
-ghost use Rattle.std.specs.Prelude.{◌≡◌, ◌≤◌, length, true, [], ◌∷◌, Some, None, option_map, ◌↔◌, IsTrue, IsSome, IsNone, IsSomeAnd, IfOk, IfSome, OnOk, OnErr};
+ghost use Rattle.std.specs.Prelude.{◌≡◌, ◌≤◌, length, true, [], ◌∷◌, Some, None, is_some, option_map, ◌↔◌, IsTrue, IsSome, IsNone, IsSomeAnd, IfOk, IfSome, OnOk, OnErr};
 ghost use Rattle.turn_auth.specs.LongTerm.{Challenge, holding, with_algorithm};
 ghost use Rattle.turn_auth.specs.Challenge.{IsChallenge, value_in, MayTake, chosen, held_after, challenge_of};
 ghost use Rattle.turn_auth.specs.Validation.{IsResendRequest, IsSigned, IsValidated, validation_of};
 ghost use Rattle.turn_auth.specs.Signature.{is_unsigned, signature_len, signed_len, signed_text};
 ghost use Rattle.turn_stun.specs.Message.{type_of, id_of, attributes_of};
 ghost use Rattle.turn_stun.specs.declared.message.header.MessageClass.{MessageClass};
-ghost use Rattle.turn_stun.specs.declared.message.header.MessageClass.TheVariants.{Request};
+ghost use Rattle.turn_stun.specs.declared.message.header.MessageClass.TheVariants.{Request, Success, Error};
 
 use crate::challenge::{Denial, offered_in, picked, supports};
 use crate::credentials::TurnCredentials;
@@ -15,7 +15,7 @@ use crate::feature::Feature;
 use crate::held::Held;
 use crate::integrity::IntegrityAlgorithm;
 use crate::server_challenge::ServerChallenge;
-use crate::signature::signed_copy;
+use crate::signature::sign;
 use crate::validation::Validation;
 use smallvec::SmallVec;
 use std::alloc::{AllocError, Global};
@@ -23,6 +23,7 @@ use std::fmt;
 use std::marker::Model;
 use turn_stun::attribute::error_code::ErrorCode;
 use turn_stun::message::Message;
+use turn_stun::message::header::MessageClass;
 use turn_stun::message::write::MessageWriteVec;
 
 /// A client that signs its requests with a user name and a password, and judges what comes back
@@ -135,6 +136,13 @@ impl LongTermClientAuth {
         }
     }
 
+    /// Whether the message is a challenge. It computes no digest and takes no memory.
+    pub fn is_challenge(&self, message: &Message<'_>) -> bool
+        ensures { result ≡ is_some (challenge_of self.now message.now) }
+    {
+        self.denial_in(message).is_some()
+    }
+
     /// Takes what a challenge gives: the nonce, and where nothing is held yet the realm and the
     /// algorithm, which never change then.
     ///
@@ -208,8 +216,8 @@ impl LongTermClientAuth {
 
     /// Signs the message. To a request it adds who asks, the realm, the nonce, with SHA-256 the
     /// password algorithms, and the integrity, in this order; to any other message the
-    /// integrity alone (RFC 8489, section 9.2.4). The attributes that were there are written anew, with zeros for
-    /// padding.
+    /// integrity alone (RFC 8489, section 9.2.4). What was there stays. A message that has room for it,
+    /// as `message_signature_bytes` and `reply_signature_bytes` tell, wants no memory.
     ///
     /// # Errors
     ///
@@ -228,15 +236,13 @@ impl LongTermClientAuth {
         let (Some(credentials), Some(held)) = (&self.credentials, &self.held) else {
             unreachable!();
         };
-        *message = signed_copy(
-            self.alloc,
+        sign(
             message,
             self.anonymous_username,
             credentials,
             &held.challenge,
             &held.key,
-        )?;
-        Ok(())
+        )
     }
 
     /// Signs the message as the client would once it accepted the challenge.
@@ -263,15 +269,13 @@ impl LongTermClientAuth {
             unreachable!();
         };
         let key = challenge.key(credentials);
-        *message = signed_copy(
-            self.alloc,
+        sign(
             message,
             self.anonymous_username,
             credentials,
             challenge,
             &key,
-        )?;
-        Ok(())
+        )
     }
 
     /// How many bytes signing adds to a request, and 0 while no realm is held.
@@ -281,9 +285,22 @@ impl LongTermClientAuth {
     {
         match (&self.credentials, &self.held) {
             (Some(credentials), Some(held)) => {
-                held.challenge
-                    .signature_len(credentials, self.anonymous_username)
+                let anonymous = self.anonymous_username;
+                let class = MessageClass::Request;
+                held.challenge.signature_len(credentials, anonymous, class)
             }
+            _ => 0,
+        }
+    }
+
+    /// How many bytes signing adds to a response, and 0 while no realm is held.
+    pub fn reply_signature_bytes(&self) -> usize
+        ensures success { result ≡ signature_len self.now Success }
+        ensures error { result ≡ signature_len self.now Error }
+        ensures short { result ≤ 36 }
+    {
+        match (&self.credentials, &self.held) {
+            (Some(_), Some(held)) => held.challenge.integrity_attribute_len(),
             _ => 0,
         }
     }
@@ -294,7 +311,10 @@ impl LongTermClientAuth {
         ensures short { (class : MessageClass) → signature_len (holding challenge.now self.now) class ≤ 2160 }
     {
         match &self.credentials {
-            Some(credentials) => challenge.signature_len(credentials, self.anonymous_username),
+            Some(credentials) => {
+                let class = MessageClass::Request;
+                challenge.signature_len(credentials, self.anonymous_username, class)
+            }
             None => 0,
         }
     }

@@ -5,6 +5,7 @@ ghost use Rattle.turn_stun.specs.Message.{attributes_from, padded_len};
 ghost use Rattle.turn_stun.specs.declared.message.header.MessageClass.{MessageClass};
 ghost use Rattle.turn_stun.specs.declared.message.header.MessageClass.TheVariants.{Request};
 ghost use Rattle.turn_auth.specs.Signature.{algorithm_len, signature_len_by, user_addition};
+ghost use Rattle.turn_auth.specs.Integrity.{integrity_len};
 ghost use Rattle.turn_auth.specs.Kept.{IsKeyOf};
 ghost use Rattle.turn_auth.specs.Challenge.{picked, sent_back, held_after};
 
@@ -18,6 +19,7 @@ use std::alloc::{AllocError, Global};
 use std::fmt;
 use std::marker::Model;
 use turn_stun::attribute::nonce::Nonce;
+use turn_stun::message::header::MessageClass;
 
 /// A challenge as a client takes it (RFC 8489, section 9.2.5): its realm, its nonce, the algorithm
 /// that was picked, and with SHA-256 the PASSWORD-ALGORITHMS that it was picked by.
@@ -121,8 +123,38 @@ impl ServerChallenge {
         SigningKey::new(credentials, self.realm.as_slice(), self.algorithm)
     }
 
-    /// How many bytes signing adds to a request. To other messages it adds fewer.
-    pub(crate) fn signature_len(&self, credentials: &TurnCredentials, anonymous: Feature) -> usize
+    /// How many bytes signing adds to a message of that class: to one that is no request, the integrity
+    /// alone.
+    pub(crate) fn signature_len(
+        &self,
+        credentials: &TurnCredentials,
+        anonymous: Feature,
+        class: MessageClass,
+    ) -> usize
+        ensures value { result ≡ signature_len_by (Some credentials.now) (Some self.now) anonymous class }
+        ensures short { (class : MessageClass) → signature_len_by (Some credentials.now) (Some self.now) anonymous class ≤ 2160 }
+    {
+        let in_request = self.request_signature_len(credentials, anonymous);
+        match class {
+            MessageClass::Request => in_request,
+            MessageClass::Indication | MessageClass::Success | MessageClass::Error => {
+                self.integrity_attribute_len()
+            }
+        }
+    }
+
+    /// How many bytes the integrity attribute takes.
+    pub(crate) fn integrity_attribute_len(&self) -> usize
+        ensures value { result ≡ 4 + integrity_len self.now.algorithm }
+        ensures short { result ≤ 36 }
+    {
+        match self.algorithm {
+            IntegrityAlgorithm::Sha1 => 24,
+            IntegrityAlgorithm::Sha256 => 36,
+        }
+    }
+
+    fn request_signature_len(&self, credentials: &TurnCredentials, anonymous: Feature) -> usize
         ensures value { result ≡ signature_len_by (Some credentials.now) (Some self.now) anonymous Request }
         ensures short { (class : MessageClass) → signature_len_by (Some credentials.now) (Some self.now) anonymous class ≤ 2160 }
     {

@@ -1,10 +1,10 @@
 //! What signing adds to a message (RFC 8489, sections 9.2.4, 14.5 and 14.6).
 
-ghost use Rattle.std.specs.Prelude.{◌≡◌, ◌+◌, ◌≤◌, ℕ, List, length, OnOk, IfOk, Some, true, is_some, [], ◌∷◌};
+ghost use Rattle.std.specs.Prelude.{◌≡◌, ◌+◌, ◌≤◌, ℕ, List, length, OnOk, OnErr, Some, true, is_some, [], ◌∷◌};
 ghost use Rattle.turn_stun.specs.Message.{attributes_from, type_of, id_of, attributes_of};
-ghost use Rattle.turn_stun.specs.MessageType.{class_of, type_number};
-ghost use Rattle.turn_stun.specs.Writer.{with_attribute, AddsAttribute};
-ghost use Rattle.turn_auth.specs.Signature.{AddsAll, additions_for, rewritten, signed_by, signature_len_by, additions_len, written_len, is_plain, is_unsigned, request_additions, user_addition, algorithm_additions, with_integrity};
+ghost use Rattle.turn_stun.specs.MessageType.{class_of};
+ghost use Rattle.turn_stun.specs.Writer.{with_attribute, AddsAttribute, Extends};
+ghost use Rattle.turn_auth.specs.Signature.{AddsAll, additions_for, signed_by, signature_len_by, additions_len, written_len, is_plain, is_unsigned, request_additions, user_addition, algorithm_additions, with_integrity};
 ghost use Rattle.turn_auth.specs.Integrity.{IntegrityHolds, integrity_len};
 ghost use Rattle.turn_auth.specs.Keyed.{HoldsKey, HoldsSha1, HoldsSha256, algorithm_of};
 ghost use Rattle.turn_auth.specs.Validation.{held_key};
@@ -17,7 +17,7 @@ use crate::hmac::{HmacSha1, HmacSha256};
 use crate::integrity::{IntegrityAlgorithm, sha1_value, sha256_value};
 use crate::key::{SigningKey, userhash};
 use crate::server_challenge::ServerChallenge;
-use std::alloc::{AllocError, Global};
+use std::alloc::AllocError;
 use turn_stun::attribute::nonce::Nonce;
 use turn_stun::attribute::password_algorithms::PasswordAlgorithms;
 use turn_stun::attribute::realm::Realm;
@@ -26,62 +26,58 @@ use turn_stun::attribute::userhash::Userhash;
 use turn_stun::attribute::username::Username;
 use turn_stun::attribute::{AttributeType, RawAttribute};
 use turn_stun::error::WriteError;
-use turn_stun::message::Message;
-use turn_stun::message::header::{MessageClass, MessageType};
+use turn_stun::message::header::MessageClass;
 use turn_stun::message::write::MessageWriteVec;
 
-/// The message, signed. The one that is given stays as it is.
-pub(crate) fn signed_copy(
-    alloc: Global,
-    message: &MessageWriteVec,
+/// Signs the message where it stands. Memory is asked for once, before anything is added, where the
+/// message has no room for its signature. On an error it is as before.
+pub(crate) fn sign(
+    message: &mut MessageWriteVec,
     anonymous: Feature,
     credentials: &TurnCredentials,
     challenge: &ServerChallenge,
     key: &SigningKey,
-) -> Result<MessageWriteVec, AllocError>
+) -> Result<(), AllocError>
     requires key { IsKeyOf credentials.now challenge.now key.now }
-    requires unsigned { is_unsigned (attributes_of message.now) ≡ true }
-    requires room { length message.now + signature_len_by (Some credentials.now) (Some challenge.now) anonymous (class_of (type_of message.now)) ≤ 65552 }
-    ensures text { IfOk result (λ signed. signed ≡ signed_by (Some credentials.now) (Some challenge.now) anonymous message.now) }
-    ensures holds { IfOk result (λ signed. IntegrityHolds signed challenge.now.algorithm (held_key credentials.now challenge.now)) }
-    ensures len { IfOk result (λ signed. length signed ≡ length message.now + signature_len_by (Some credentials.now) (Some challenge.now) anonymous (class_of (type_of message.now))) }
-    ensures same_type { IfOk result (λ signed. type_of signed ≡ type_of message.now) }
-    ensures same_id { IfOk result (λ signed. id_of signed ≡ id_of message.now) }
+    requires unsigned { is_unsigned (attributes_of message.old) ≡ true }
+    requires room { length message.old + signature_len_by (Some credentials.now) (Some challenge.now) anonymous (class_of (type_of message.old)) ≤ 65552 }
+    ensures text { OnOk result (message.new ≡ signed_by (Some credentials.now) (Some challenge.now) anonymous message.old) }
+    ensures holds { OnOk result (IntegrityHolds message.new challenge.now.algorithm (held_key credentials.now challenge.now)) }
+    ensures len { OnOk result (length message.new ≡ length message.old + signature_len_by (Some credentials.now) (Some challenge.now) anonymous (class_of (type_of message.old))) }
+    ensures same_type { OnOk result (type_of message.new ≡ type_of message.old) }
+    ensures same_id { OnOk result (id_of message.new ≡ id_of message.old) }
+    ensures err { OnErr result (message.new ≡ message.old) }
 {
-    let mut signed = copy_of(alloc, message)?;
-    add_attributes(&mut signed, anonymous, credentials, challenge)?;
-    add_integrity(&mut signed, key)?;
-    Ok(signed)
-}
-
-/// The message written anew, so that the first one stays as it is until the second is signed.
-pub(crate) fn copy_of(
-    alloc: Global,
-    message: &MessageWriteVec,
-) -> Result<MessageWriteVec, AllocError>
-    requires unsigned { is_unsigned (attributes_of message.now) ≡ true }
-    ensures text { IfOk result (λ copy. copy ≡ rewritten message.now) }
-    ensures len { IfOk result (λ copy. length copy ≡ length message.now) }
-    ensures same_type { IfOk result (λ copy. type_of copy ≡ type_of message.now) }
-    ensures same_id { IfOk result (λ copy. id_of copy ≡ id_of message.now) }
-    ensures unsigned { IfOk result (λ copy. is_unsigned (attributes_of copy) ≡ true) }
-{
-    let mut copy = MessageWriteVec::builder(alloc, type_of(message), message.transaction_id())?;
-    let Ok(parsed) = Message::from_bytes(message.as_bytes()) else {
-        unreachable!();
-    };
-    for (_, raw) in parsed.iter_attributes() {
-        add(&mut copy, &raw)?;
+    let before = message.as_bytes().len();
+    let class = message.message_type().class;
+    message.reserve(challenge.signature_len(credentials, anonymous, class))?;
+    let added = add_signature(message, anonymous, credentials, challenge, key);
+    if added.is_err() {
+        message.truncate(before);
     }
-    Ok(copy)
+    added
 }
 
-/// The method and class of the message.
-fn type_of(message: &MessageWriteVec) -> MessageType
-    ensures { type_number result.method.value result.class ≡ type_of message.now }
+/// Adds what signing adds. On an error some of it may stand behind what was there.
+fn add_signature(
+    message: &mut MessageWriteVec,
+    anonymous: Feature,
+    credentials: &TurnCredentials,
+    challenge: &ServerChallenge,
+    key: &SigningKey,
+) -> Result<(), AllocError>
+    requires key { IsKeyOf credentials.now challenge.now key.now }
+    requires unsigned { is_unsigned (attributes_of message.old) ≡ true }
+    requires room { length message.old + signature_len_by (Some credentials.now) (Some challenge.now) anonymous (class_of (type_of message.old)) ≤ 65552 }
+    ensures text { OnOk result (message.new ≡ signed_by (Some credentials.now) (Some challenge.now) anonymous message.old) }
+    ensures holds { OnOk result (IntegrityHolds message.new challenge.now.algorithm (held_key credentials.now challenge.now)) }
+    ensures len { OnOk result (length message.new ≡ length message.old + signature_len_by (Some credentials.now) (Some challenge.now) anonymous (class_of (type_of message.old))) }
+    ensures same_type { OnOk result (type_of message.new ≡ type_of message.old) }
+    ensures same_id { OnOk result (id_of message.new ≡ id_of message.old) }
+    ensures kept { Extends message.old message.new }
 {
-    let bytes = message.as_bytes();
-    MessageType::from_number(u16::from_be_bytes([bytes[0], bytes[1]]))
+    add_attributes(message, anonymous, credentials, challenge)?;
+    add_integrity(message, key)
 }
 
 /// Adds what stands in front of the integrity: nothing in a response (RFC 8489, section 9.2.4).
@@ -92,8 +88,10 @@ fn add_attributes(
     challenge: &ServerChallenge,
 ) -> Result<(), AllocError>
     requires room { length message.old + additions_len (additions_for (class_of (type_of message.old)) anonymous credentials.now challenge.now) ≤ 65552 }
-    ensures { OnOk result (AddsAll message.old message.new (additions_for (class_of (type_of message.old)) anonymous credentials.now challenge.now)) }
+    ensures all { OnOk result (AddsAll message.old message.new (additions_for (class_of (type_of message.old)) anonymous credentials.now challenge.now)) }
+    ensures kept { Extends message.old message.new }
 {
+    let _ = message.as_bytes();
     match message.message_type().class {
         MessageClass::Request => add_request_attributes(message, anonymous, credentials, challenge),
         _ => Ok(()),
@@ -109,7 +107,8 @@ pub(crate) fn add_request_attributes(
     challenge: &ServerChallenge,
 ) -> Result<(), AllocError>
     requires room { length message.old + additions_len (request_additions anonymous credentials.now challenge.now) ≤ 65552 }
-    ensures { OnOk result (AddsAll message.old message.new (request_additions anonymous credentials.now challenge.now)) }
+    ensures all { OnOk result (AddsAll message.old message.new (request_additions anonymous credentials.now challenge.now)) }
+    ensures kept { Extends message.old message.new }
 {
     add_user(message, anonymous, credentials, challenge.realm())?;
     add(message, &Realm::new(challenge.realm()))?;
@@ -131,7 +130,8 @@ fn add_user(
     realm: &[u8],
 ) -> Result<(), AllocError>
     requires room { length message.old + written_len (user_addition anonymous credentials.now realm.now).value ≤ 65552 }
-    ensures { OnOk result (AddsAll message.old message.new (user_addition anonymous credentials.now realm.now ∷ [])) }
+    ensures all { OnOk result (AddsAll message.old message.new (user_addition anonymous credentials.now realm.now ∷ [])) }
+    ensures kept { Extends message.old message.new }
 {
     match anonymous {
         Feature::Required => {
@@ -149,7 +149,8 @@ fn add_user(
 fn add_algorithms(message: &mut MessageWriteVec, offered: &[u8]) -> Result<(), AllocError>
     requires whole { is_some (attributes_from 0 0 offered.now) ≡ true }
     requires room { length message.old + additions_len (algorithm_additions Sha256 offered.now) ≤ 65552 }
-    ensures { OnOk result (AddsAll message.old message.new (algorithm_additions Sha256 offered.now)) }
+    ensures all { OnOk result (AddsAll message.old message.new (algorithm_additions Sha256 offered.now)) }
+    ensures kept { Extends message.old message.new }
 {
     add(message, &PasswordAlgorithms::from_bytes(offered).unwrap())?;
     let sha256 = RawAttribute {
@@ -172,6 +173,7 @@ pub(crate) fn add_integrity(
     ensures holds { (k : List ℕ) → HoldsKey key.now k → OnOk result (IntegrityHolds message.new (algorithm_of key.now) k) }
     ensures same_type { OnOk result (type_of message.new ≡ type_of message.old) }
     ensures same_id { OnOk result (id_of message.new ≡ id_of message.old) }
+    ensures kept { Extends message.old message.new }
 {
     match key {
         SigningKey::Sha1(mac) => add_sha1(message, mac),
@@ -188,6 +190,7 @@ fn add_sha1(message: &mut MessageWriteVec, mac: &HmacSha1) -> Result<(), AllocEr
     ensures holds { (k : List ℕ) → HoldsSha1 mac.now k [] → OnOk result (IntegrityHolds message.new IntegrityAlgorithm.Sha1 k) }
     ensures same_type { OnOk result (type_of message.new ≡ type_of message.old) }
     ensures same_id { OnOk result (id_of message.new ≡ id_of message.old) }
+    ensures kept { Extends message.old message.new }
 {
     let bytes = message.as_bytes();
     let value = sha1_value(mac, bytes, bytes.len());
@@ -208,6 +211,7 @@ fn add_sha256(message: &mut MessageWriteVec, mac: &HmacSha256) -> Result<(), All
     ensures holds { (k : List ℕ) → HoldsSha256 mac.now k [] → OnOk result (IntegrityHolds message.new IntegrityAlgorithm.Sha256 k) }
     ensures same_type { OnOk result (type_of message.new ≡ type_of message.old) }
     ensures same_id { OnOk result (id_of message.new ≡ id_of message.old) }
+    ensures kept { Extends message.old message.new }
 {
     let bytes = message.as_bytes();
     let value = sha256_value(mac, bytes, bytes.len());
@@ -229,6 +233,7 @@ pub(crate) fn add<A: AttributeWrite>(
     ensures added { OnOk result (AddsAttribute message.old message.new (A.written_kind attribute.now) (A.encoded attribute.now (id_of message.old))) }
     ensures plain { OnOk result (is_plain (A.written_kind attribute.now) ≡ true → is_unsigned (attributes_of message.old) ≡ true → is_unsigned (attributes_of message.new) ≡ true) }
     ensures len { OnOk result (length message.new ≡ length message.old + written_len (A.encoded attribute.now (id_of message.old))) }
+    ensures kept { Extends message.old message.new }
 {
     let _ = message.as_bytes();
     match message.add_attribute(attribute) {
