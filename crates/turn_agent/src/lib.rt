@@ -10,8 +10,6 @@
 pub mod agent;
 pub mod number_source;
 pub mod schedule;
-#[cfg(test)]
-mod tests;
 pub mod transaction;
 
 pub use agent::{StunAgent, StunAgentBuilder, StunAgentPollRet, Transmit};

@@ -18,6 +18,3 @@ pub mod transmit;
 pub use family::AddressFamily;
 pub use turn_stun as stun;
 pub use turn_stun::transport::TransportType;
-
-#[cfg(test)]
-mod tests;

@@ -19,6 +19,3 @@ pub use incoming::{IncomingTcp, StoredTcp};
 pub use laws::{
     calls_give_frames, frames_are_found, frames_are_unique, same_for_any_cut, turns_are_steps,
 };
-
-#[cfg(test)]
-mod tests;

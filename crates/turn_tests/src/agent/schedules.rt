@@ -1,0 +1,147 @@
+//! Worked schedules: when a request is sent, and when it is given up.
+
+use crate::agent::fixture::{agent_with, local, server};
+use crate::agent::steps::{due, sends};
+use crate::fixture::same;
+use std::alloc::Global;
+use std::process::Abort;
+use std::slice::Iter;
+use turn_agent::agent::{StunAgent, StunAgentPollRet};
+use turn_stun::instant::Instant;
+use turn_stun::transport::TransportType;
+
+const MS: u64 = 1_000_000;
+
+const SECOND: u64 = 1_000_000_000;
+
+/// The timers (the first wait, the greatest, how many sends, the last wait), the transport, when the
+/// request is sent, and when it is given up.
+type Schedule = (u64, u64, u32, u64, TransportType, &'static [u64], u64);
+
+static SCHEDULES: [Schedule; 6] = [
+    (
+        600 * MS,
+        SECOND,
+        3,
+        3 * SECOND,
+        TransportType::Tcp,
+        &[0],
+        4_600 * MS,
+    ),
+    (
+        600 * MS,
+        SECOND,
+        3,
+        3 * SECOND,
+        TransportType::Udp,
+        &[0, 600 * MS, 1_600 * MS],
+        4_600 * MS,
+    ),
+    (
+        MS,
+        u64::MAX,
+        7,
+        2 * SECOND,
+        TransportType::Udp,
+        &[0],
+        2 * SECOND,
+    ),
+    (
+        2 * MS,
+        SECOND,
+        3,
+        5 * MS,
+        TransportType::Udp,
+        &[0, 2 * MS, 6 * MS],
+        11 * MS,
+    ),
+    (
+        SECOND,
+        SECOND,
+        u32::MAX,
+        0,
+        TransportType::Tcp,
+        &[0],
+        4_294_967_294_000_000_000,
+    ),
+    (
+        u64::MAX,
+        u64::MAX,
+        2,
+        0,
+        TransportType::Udp,
+        &[0, 0x7fff_ffff_ffff_ffff],
+        0x7fff_ffff_ffff_ffff,
+    ),
+];
+
+/// The moment of the next step after this one, or `None` where the request is given up at this one.
+fn step_after(agent: &mut StunAgent, now: Instant) -> Option<Instant> {
+    match agent.poll(now) {
+        StunAgentPollRet::WaitUntil(moment) => Some(now.max(moment)),
+        StunAgentPollRet::TransactionTimedOut(_) => None,
+    }
+}
+
+/// Does what the agent tells at the moments that it tells, where a request is due at these: when it
+/// was given up, in at most 40 steps.
+fn end_of(rt: &impl Abort, agent: &mut StunAgent, moments: &mut Iter<u64>) -> Option<u64> {
+    let mut now = Instant::ZERO;
+    for _ in 0..40 {
+        let Some(moment) = step_after(agent, now) else {
+            return Some(now.as_nanos());
+        };
+        now = moment;
+        if due(rt, agent, now.as_nanos()).0.is_some() {
+            same(rt, moments.next().copied(), Some(now.as_nanos()));
+        }
+    }
+    None
+}
+
+/// The agent sends a request at these moments, the first of which is 0, and gives it up at that one.
+fn follows(rt: &impl Abort, mut agent: StunAgent, moments: &[u64], end: u64) {
+    let mut wanted = moments.iter();
+    sends(rt, &mut agent, 1, 0);
+    same(rt, wanted.next().copied(), Some(0));
+    same(rt, end_of(rt, &mut agent, &mut wanted), Some(end));
+    same(rt, wanted.len(), 0);
+}
+
+fn follows_schedule(rt: &impl Abort, alloc: Global, it: &Schedule) {
+    let agent = agent_with(alloc, it.4, it.0, it.1, it.2, it.3);
+    follows(rt, agent, it.5, it.6);
+}
+
+#[test]
+fn requests_follow_their_schedule(rt: HostRuntime) {
+    for schedule in &SCHEDULES {
+        follows_schedule(&rt, rt.alloc(), schedule);
+    }
+}
+
+/// When a request of the default timers is sent.
+static DEFAULT_MOMENTS: [u64; 7] = [
+    0,
+    500_000_000,
+    1_500_000_000,
+    3_500_000_000,
+    7_500_000_000,
+    15_500_000_000,
+    31_500_000_000,
+];
+
+#[test]
+fn default_schedule_takes_39_seconds_and_a_half(rt: HostRuntime) {
+    let agent = StunAgent::builder(rt.alloc(), TransportType::Udp, local()).build();
+    follows(&rt, agent, &DEFAULT_MOMENTS, 39_500_000_000);
+}
+
+#[test]
+fn an_agent_tells_what_it_is_for(rt: HostRuntime) {
+    let agent = StunAgent::builder(rt.alloc(), TransportType::Udp, local())
+        .remote_addr(server())
+        .build();
+    let told = (agent.local_addr(), agent.remote_addr(), agent.transport());
+    same(&rt, told, (local(), Some(server()), TransportType::Udp));
+}

@@ -1,0 +1,92 @@
+//! Calls of an agent as rows of data. Moments are in nanoseconds, and each request carries its number.
+
+use crate::agent::fixture::{at, id, server};
+use crate::fixture::same;
+use std::process::Abort;
+use turn_agent::agent::{StunAgent, StunAgentPollRet};
+
+/// A call of an agent, and what it answers.
+#[derive(Clone, Copy)]
+pub enum Step {
+    /// A request of this number is sent at that moment.
+    Sends(u32, u64),
+    /// At this moment the agent tells that one.
+    Waits(u64, u64),
+    /// At this moment the request of that number is sent again.
+    Resends(u64, u32),
+    /// At this moment no request is due.
+    SendsNothing(u64),
+    /// At this moment the request of that number is given up.
+    GivesUp(u64, u32),
+    /// The request of this number is ended, and whether it was outstanding.
+    Ends(u32, bool),
+    /// So many requests are outstanding.
+    Outstanding(usize),
+    /// For a caller with this moment the least one is that.
+    Earliest(u64, u64),
+}
+
+/// Sends a request, and whether there was memory for it.
+pub fn is_sent(rt: &impl Abort, agent: &mut StunAgent, n: u32, now: u64) -> bool {
+    let id = id(n);
+    assert!(rt; !agent.is_outstanding(id));
+    agent
+        .send_request(id, n.to_be_bytes(), server(), at(now))
+        .is_ok()
+}
+
+pub fn sends(rt: &impl Abort, agent: &mut StunAgent, n: u32, now: u64) {
+    same(rt, is_sent(rt, agent, n, now), true);
+}
+
+/// The number of the request that is due, and whether there was memory for it.
+pub fn due(rt: &impl Abort, agent: &mut StunAgent, now: u64) -> (Option<u32>, bool) {
+    match agent.poll_transmit(at(now)) {
+        Ok(Some(packet)) => {
+            let number = <[u8; 4]>::try_from(packet.payload.as_bytes());
+            (
+                Some(u32::from_be_bytes(number.expect(rt, "four bytes"))),
+                true,
+            )
+        }
+        Ok(None) => (None, true),
+        Err(_) => (None, false),
+    }
+}
+
+pub fn resends(rt: &impl Abort, agent: &mut StunAgent, now: u64, n: u32) {
+    same(rt, (now, due(rt, agent, now)), (now, (Some(n), true)));
+}
+
+fn tells(rt: &impl Abort, agent: &mut StunAgent, now: u64, want: StunAgentPollRet) {
+    same(rt, (now, agent.poll(at(now))), (now, want));
+}
+
+pub fn waits(rt: &impl Abort, agent: &mut StunAgent, now: u64, until: u64) {
+    tells(rt, agent, now, StunAgentPollRet::WaitUntil(at(until)));
+}
+
+pub fn gives_up(rt: &impl Abort, agent: &mut StunAgent, now: u64, n: u32) {
+    tells(rt, agent, now, StunAgentPollRet::TransactionTimedOut(id(n)));
+}
+
+/// The step goes as it says.
+pub fn follow(rt: &impl Abort, agent: &mut StunAgent, step: Step) {
+    match step {
+        Step::Sends(n, now) => sends(rt, agent, n, now),
+        Step::Waits(now, until) => waits(rt, agent, now, until),
+        Step::Resends(now, n) => resends(rt, agent, now, n),
+        Step::SendsNothing(now) => same(rt, (now, due(rt, agent, now)), (now, (None, true))),
+        Step::GivesUp(now, n) => gives_up(rt, agent, now, n),
+        Step::Ends(n, want) => same(rt, agent.end(id(n)), want),
+        Step::Outstanding(want) => same(rt, agent.outstanding(), want),
+        Step::Earliest(moment, want) => same(rt, agent.earliest(at(moment)), at(want)),
+    }
+}
+
+/// Each step goes as it says.
+pub fn follow_all(rt: &impl Abort, agent: &mut StunAgent, steps: &[Step]) {
+    for step in steps {
+        follow(rt, agent, *step);
+    }
+}

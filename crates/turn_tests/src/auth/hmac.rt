@@ -1,0 +1,102 @@
+//! HMAC against the vectors of the standards.
+
+use crate::fixture::same_bytes;
+use turn_auth::hmac::{hmac_sha1, hmac_sha256};
+
+/// The bytes 1 to 25.
+const COUNTED: &[u8] = b"\x01\x02\x03\x04\x05\x06\x07\x08\x09\x0a\x0b\x0c\x0d\x0e\x0f\x10\
+    \x11\x12\x13\x14\x15\x16\x17\x18\x19";
+
+/// Key, text and HMAC-SHA1 of RFC 2202, section 3.
+const RFC_2202: [(&[u8], &[u8], &[u8]); 7] = [
+    (
+        &[0x0b; 20],
+        b"Hi There",
+        b"\xb6\x17\x31\x86\x55\x05\x72\x64\xe2\x8b\xc0\xb6\xfb\x37\x8c\x8e\xf1\x46\xbe\x00",
+    ),
+    (
+        b"Jefe",
+        b"what do ya want for nothing?",
+        b"\xef\xfc\xdf\x6a\xe5\xeb\x2f\xa2\xd2\x74\x16\xd5\xf1\x84\xdf\x9c\x25\x9a\x7c\x79",
+    ),
+    (
+        &[0xaa; 20],
+        &[0xdd; 50],
+        b"\x12\x5d\x73\x42\xb9\xac\x11\xcd\x91\xa3\x9a\xf4\x8a\xa1\x7b\x4f\x63\xf1\x75\xd3",
+    ),
+    (
+        COUNTED,
+        &[0xcd; 50],
+        b"\x4c\x90\x07\xf4\x02\x62\x50\xc6\xbc\x84\x14\xf9\xbf\x50\xc8\x6c\x2d\x72\x35\xda",
+    ),
+    (
+        &[0x0c; 20],
+        b"Test With Truncation",
+        b"\x4c\x1a\x03\x42\x4b\x55\xe0\x7f\xe7\xf2\x7b\xe1\xd5\x8b\xb9\x32\x4a\x9a\x5a\x04",
+    ),
+    (
+        &[0xaa; 80],
+        b"Test Using Larger Than Block-Size Key - Hash Key First",
+        b"\xaa\x4a\xe5\xe1\x52\x72\xd0\x0e\x95\x70\x56\x37\xce\x8a\x3b\x55\xed\x40\x21\x12",
+    ),
+    (
+        &[0xaa; 80],
+        b"Test Using Larger Than Block-Size Key and Larger Than One Block-Size Data",
+        b"\xe8\xe9\x9d\x0f\x45\x23\x7d\x78\x6d\x6b\xba\xa7\x96\x5c\x78\x08\xbb\xff\x1a\x91",
+    ),
+];
+
+/// Key, text and HMAC-SHA256 of RFC 4231, section 4. The fifth is told by its first half alone.
+const RFC_4231: [(&[u8], &[u8], &[u8]); 7] = [
+    (
+        &[0x0b; 20],
+        b"Hi There",
+        b"\xb0\x34\x4c\x61\xd8\xdb\x38\x53\x5c\xa8\xaf\xce\xaf\x0b\xf1\x2b\x88\x1d\xc2\x00\xc9\x83\x3d\xa7\x26\xe9\x37\x6c\x2e\x32\xcf\xf7",
+    ),
+    (
+        b"Jefe",
+        b"what do ya want for nothing?",
+        b"\x5b\xdc\xc1\x46\xbf\x60\x75\x4e\x6a\x04\x24\x26\x08\x95\x75\xc7\x5a\x00\x3f\x08\x9d\x27\x39\x83\x9d\xec\x58\xb9\x64\xec\x38\x43",
+    ),
+    (
+        &[0xaa; 20],
+        &[0xdd; 50],
+        b"\x77\x3e\xa9\x1e\x36\x80\x0e\x46\x85\x4d\xb8\xeb\xd0\x91\x81\xa7\x29\x59\x09\x8b\x3e\xf8\xc1\x22\xd9\x63\x55\x14\xce\xd5\x65\xfe",
+    ),
+    (
+        COUNTED,
+        &[0xcd; 50],
+        b"\x82\x55\x8a\x38\x9a\x44\x3c\x0e\xa4\xcc\x81\x98\x99\xf2\x08\x3a\x85\xf0\xfa\xa3\xe5\x78\xf8\x07\x7a\x2e\x3f\xf4\x67\x29\x66\x5b",
+    ),
+    (
+        &[0x0c; 20],
+        b"Test With Truncation",
+        b"\xa3\xb6\x16\x74\x73\x10\x0e\xe0\x6e\x0c\x79\x6c\x29\x55\x55\x2b",
+    ),
+    (
+        &[0xaa; 131],
+        b"Test Using Larger Than Block-Size Key - Hash Key First",
+        b"\x60\xe4\x31\x59\x1e\xe0\xb6\x7f\x0d\x8a\x26\xaa\xcb\xf5\xb7\x7f\x8e\x0b\xc6\x21\x37\x28\xc5\x14\x05\x46\x04\x0f\x0e\xe3\x7f\x54",
+    ),
+    (
+        &[0xaa; 131],
+        b"This is a test using a larger than block-size key and a larger than block-size data. The key needs to be hashed before being used by the HMAC algorithm.",
+        b"\x9b\x09\xff\xa7\x1b\x94\x2f\xcb\x27\x63\x5f\xbc\xd5\xb0\xe9\x44\xbf\xdc\x63\x64\x4f\x07\x13\x93\x8a\x7f\x51\x53\x5c\x3a\x35\xe2",
+    ),
+];
+
+#[test]
+fn hmac_sha1_is_that_of_the_standard(rt: HostRuntime) {
+    for (key, text, expected) in RFC_2202 {
+        same_bytes(&rt, hmac_sha1(key, text).as_slice(), expected);
+    }
+}
+
+#[test]
+fn hmac_sha256_is_that_of_the_standard(rt: HostRuntime) {
+    for (key, text, expected) in RFC_4231 {
+        let found = hmac_sha256(key, text);
+        let told = expected.len().min(found.len());
+        same_bytes(&rt, &found[..told], expected);
+    }
+}

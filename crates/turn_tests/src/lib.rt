@@ -1,0 +1,16 @@
+//! The tests of `turn_stun`, `turn_types`, `turn_auth` and `turn_agent`, by what these make public.
+//!
+//! The gate proves a crate that has tests twice, with them and without. So the tests stand here, a module for each
+//! crate, and the crates that they test are proved once.
+#![tactic(auto)]
+
+#[cfg(test)]
+mod agent;
+#[cfg(test)]
+mod auth;
+#[cfg(test)]
+mod fixture;
+#[cfg(test)]
+mod stun;
+#[cfg(test)]
+mod types;
