@@ -17,8 +17,8 @@ use Rattle.turn_client_api.specs.LawsBound.{IsBindTurn}
 use Rattle.turn_client_api.proofs.AddressLemmas.{same_address-true}
 use Rattle.turn_client_api.proofs.HasLemmas.{Has, has-found}
 use Rattle.turn_client_api.proofs.StandLemmas.{has-contains}
-use Rattle.turn_client_api.proofs.GivenMessageLemmas.{IsSignedSuccess, &&-second, by_class-granted, challenged_or-granted, cond-granted, validated}
-use Rattle.turn_client_api.proofs.GivenCallLemmas.{Binds}
+use Rattle.turn_client_api.proofs.GrantOriginMessageLemmas.{IsSignedSuccess, &&-second, by_class-granted, challenged_or-granted, cond-granted, validated}
+use Rattle.turn_client_api.proofs.GrantOriginCallLemmas.{Binds}
 
 -- ---- how it is judged
 

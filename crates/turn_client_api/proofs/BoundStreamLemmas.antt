@@ -9,20 +9,20 @@ use Rattle.turn_client_api.specs.Connections.{bind_step, connection_at}
 use Rattle.turn_client_api.specs.Payloads.{is_message, message_step}
 use Rattle.turn_client_api.specs.Receive.{connection_gone}
 use Rattle.turn_client_api.specs.Handled.{Turn}
-use Rattle.turn_client_api.specs.Steps.{Call, state_after, Delete, CreatePermission, BindChannel, TcpConnect, AllocatedTcpSocket, TcpClosed, SendTo, Recv, PollRecv, Poll, PollTransmit, PollEvent, RelayedAddresses, Permissions, HavePermission, ProtocolError}
+use Rattle.turn_client_api.specs.Steps.{Call, Leaves, state_after, Delete, CreatePermission, BindChannel, TcpConnect, AllocatedTcpSocket, TcpClosed, SendTo, Recv, PollRecv, Poll, PollTransmit, PollEvent, RelayedAddresses, Permissions, HavePermission, ProtocolError}
 use Rattle.turn_client_api.specs.LawsBound.{IsBindTurn, IsBoundBy, IsBoundConnection, IsConnectedBy}
 use Rattle.turn_client_api.specs.LawsGranted.{IsEndedNow, IsGrantedIn, Stood}
-use Rattle.turn_client_api.specs.LawsHandled.{IsBoundAt, IsDoneBy, MayLeave}
+use Rattle.turn_client_api.specs.LawsHandled.{IsBoundAt, IsDoneBy}
 use Rattle.turn_client_api.proofs.AddressLemmas.{same_address-true}
 use Rattle.turn_client_api.proofs.HasLemmas.{Has, has-append, has-filter}
 use Rattle.turn_client_api.proofs.StandLemmas.{contains-has, has-contains}
-use Rattle.turn_client_api.proofs.GivenLemmas.{has-mapped}
-use Rattle.turn_client_api.proofs.GivenCallLemmas.{Binds, BindsOrLeaves, bind-leaves}
+use Rattle.turn_client_api.proofs.GrantOriginLemmas.{has-mapped}
+use Rattle.turn_client_api.proofs.GrantOriginCallLemmas.{Binds, BindsOrLeaves, bind-leaves}
 use Rattle.turn_client_api.proofs.GrantedLemmas.{leaves-grants}
 use Rattle.turn_client_api.proofs.BoundLemmas.{binds-turn, found-local}
 use Rattle.turn_client_api.proofs.StreamCallLemmas.{IsOpened, others-opened}
 use Rattle.turn_client_api.proofs.StreamMessageLemmas.{message-same, same-cond}
-use Rattle.turn_client_api.proofs.TurnBringLemmas.{IsBrought, may-bring}
+use Rattle.turn_client_api.proofs.TurnBringLemmas.{IsBrought, leaves-bring}
 
 -- ---- streams
 
@@ -96,9 +96,9 @@ module _ (local peer : SocketAddr) where
       by (inr (inl e)) = absurd (unlike (sym (ap (λ (z : Stream). z.mode) e) ∙ mode))
       by (inr (inr h)) = absurd h
 
-  pub leaves-bound : (call : Call) (s t : State) → MayLeave call s t → IsBoundAt local peer t → IsBoundBy local peer call s
+  pub leaves-bound : (call : Call) (s t : State) → Leaves call s t → IsBoundAt local peer t → IsBoundBy local peer call s
   leaves-bound call s t leaves h =
-      by (may-bring (IsBoundAt local peer) (IsBindTurn local peer) bringing (λ call s. ⊥) (λ call s other there. inl (opened-bound s (state_after call s) (others-opened call s other) there)) call s t leaves h)
+      by (leaves-bring (IsBoundAt local peer) (IsBindTurn local peer) bringing (λ call s. ⊥) (λ call s other there. inl (opened-bound s (state_after call s) (others-opened call s other) there)) call s t leaves h)
     where
       by : IsBoundAt local peer s ⊎ ⊥ ⊎ IsDoneBy (IsBindTurn local peer) call s → IsBoundAt local peer s ⊎ IsDoneBy (IsBindTurn local peer) call s
       by (inl there) = inl there
@@ -107,7 +107,7 @@ module _ (local peer : SocketAddr) where
 
 -- ---- connections
 
-pub leaves-connection : (call : Call) (s t : State) (c : DataConnection) → MayLeave call s t → IsBoundConnection c t → IsConnectedBy c call s
+pub leaves-connection : (call : Call) (s t : State) (c : DataConnection) → Leaves call s t → IsBoundConnection c t → IsConnectedBy c call s
 leaves-connection call s t c leaves (there, none) = by (leaves-grants call s t (Connection c) leaves there none)
   where
     stood : Stood s (Connection c) → Contains s.grants (Connection c)

@@ -13,8 +13,8 @@ use Rattle.turn_client_api.specs.Steps.{Call, Leaves}
 use Rattle.turn_client_api.specs.LawsNumbers.{number_of_channel}
 use Rattle.turn_client_api.specs.LawsStates.{HasNumbersInRange, IsInRange}
 use Rattle.turn_client_api.proofs.HasLemmas.{Has, all-has, filter_map-has, has-all, has-append, has-filter, has-filter_map}
-use Rattle.turn_client_api.proofs.GivenLemmas.{has-mapped}
-use Rattle.turn_client_api.proofs.HousedCallLemmas.{was-first}
+use Rattle.turn_client_api.proofs.GrantOriginLemmas.{has-mapped}
+use Rattle.turn_client_api.proofs.TakenOfferLemmas.{was-first}
 use Rattle.turn_client_api.proofs.Edits.{outline}
 use Rattle.turn_client_api.proofs.GrantEdits.{KeepsGrants, grants-KeepsAllEdits}
 use Rattle.turn_client_api.proofs.EditsOfCalls.{leaves-walk}
@@ -116,4 +116,4 @@ initial-HasNumbersInRange transport local remote config seed = all-has IsInRange
 
 pub leaves-HasNumbersInRange : (call : Call) (s t : State) → Leaves call s t → HasNumbersInRange s → HasNumbersInRange t
 leaves-HasNumbersInRange call s t leaves h =
-    fits-range t (leaves-walk (λ s t. AllFit s.grants → AllFit t.grants) (grants-KeepsAllEdits AllFit AllFit-KeepsGrants) call s t leaves (range-fits s h))
+    fits-range t (leaves-walk (λ s t. AllFit s.grants → AllFit t.grants) (grants-KeepsAllEdits AllFit AllFit-KeepsGrants) (λ s streams h. h) call s t leaves (range-fits s h))

@@ -10,7 +10,7 @@ use Rattle.turn_stun.specs.declared.transport.TransportType.{TransportType}
 use Rattle.turn_types.specs.declared.family.AddressFamily.{AddressFamily}
 use Rattle.turn_types.specs.declared.family.AddressFamily.TheVariants.{IPV4, IPV6}
 use Rattle.turn_client_api.specs.Config.{Config, same_family}
-use Rattle.turn_client_api.specs.State.{State, initial, Phase, New, Requesting, Authenticating, Allocated, Closed, Grant, Allocation, Permission, Channel, Connect, Offer, Connection, Progress, Pending, Active}
+use Rattle.turn_client_api.specs.State.{State, initial, Phase, New, Requesting, Authenticating, Allocated, Closed, Grant, Allocation, Permission, Channel, Connect, Offer, Connection, Progress, Pending, Active, Reserved}
 use Rattle.turn_client_api.specs.Grants.{family_of, is_channel_of, is_connect_to, is_connection_from, is_of, is_of_family, is_permission_of, permission_for, permission_progress, with_grant, without}
 use Rattle.turn_client_api.specs.Effect.{new_allocation, phase_with, relayed_in, taken_addresses}
 use Rattle.turn_client_api.specs.Retry.{phase_after}
@@ -19,11 +19,12 @@ use Rattle.turn_client_api.specs.Steps.{Call, Leaves}
 use Rattle.turn_client_api.specs.LawsDoubles.{HasNoDoubles, is_double}
 use Rattle.turn_client_api.specs.LawsOrder.{IsSteady, IsUngranted}
 use Rattle.turn_client_api.proofs.HasLemmas.{Has}
-use Rattle.turn_client_api.proofs.HousedLemmas.{Room}
+use Rattle.turn_client_api.proofs.InAllocationLemmas.{Room}
 use Rattle.turn_client_api.proofs.NumberLemmas.{none-filter}
 use Rattle.turn_client_api.proofs.DoubleLemmas.{AreSingle, IsAlike, IsNew, IsSingle, alike-allocation, alike-channel, alike-connection, alike-offer, alike-permission, alike-same, channel-which, connect-which, connection-which, none-IsNew, none-without_first, offer-IsNew, permission-which, single-filter, single-last, single-map, single-unmap, single-without_first}
-use Rattle.turn_client_api.proofs.Edits.{KeepsAllEdits, KeepsEdits, outline, stage}
+use Rattle.turn_client_api.proofs.Edits.{aged-outlines, KeepsAllEdits, KeepsEdits, outline, stage}
 use Rattle.turn_client_api.proofs.EditsOfCalls.{leaves-walk}
+use Rattle.turn_client_api.proofs.EditsOfMessages.{granted-with}
 
 -- ---- the first allocations
 
@@ -142,10 +143,6 @@ ungranted-after Authenticating u = tt
 ungranted-after Allocated u = u
 ungranted-after Closed u = u
 
-granted-with : (addresses : List SocketAddr) → IsUngranted (phase_with addresses) → ⊥
-granted-with [] u = u
-granted-with (a ∷ others) u = u
-
 allocates-tidy : (message : List ℕ) (lifetime now : ℕ) (s : State) → s.phase ≡ Authenticating
     → StayTidy s (record s { phase = phase_with (taken_addresses s.families (relayed_in message)); grants = s.grants ++ map (new_allocation lifetime now) (taken_addresses s.families (relayed_in message)) })
 allocates-tidy message lifetime now s e = (λ u. absurd (granted-with addresses u), λ h. record { none = λ u. absurd (granted-with addresses u); single = by h })
@@ -162,52 +159,63 @@ allocates-tidy message lifetime now s e = (λ u. absurd (granted-with addresses 
 begins-tidy : (now : ℕ) (s : State) → s.phase ≡ New → StayTidy s (record s { phase = Requesting; last_send = Some now })
 begins-tidy now s e = (λ u. subst IsUngranted (sym e) tt, λ h. record { none = λ u. h.none (subst IsUngranted (sym e) tt); single = h.single })
 
+reshaped-tidy : (grants : List Grant) (s : State) → map outline grants ≡ map outline s.grants → StayTidy s (record s { grants = grants })
+reshaped-tidy grants s e =
+    (λ u. u, λ h. record { none = λ u. empty-outline grants (e ∙ ap (map outline) (h.none u)); single = single-outline s.grants grants e h.single })
+
+rebound-tidy : (number : ℕ) (peer : SocketAddr) (was progress : Progress) (s : State) → Has (Channel number peer was) s.grants
+    → StayTidy s (with_grant (Channel number peer progress) (without (is_channel_of number) s))
+rebound-tidy number peer was progress s there =
+    replaced (is_channel_of number) (Channel number peer progress) (channel-which number peer progress) s (there-granted (Channel number peer was) s there)
+
 StayTidy-KeepsEdits : KeepsEdits StayTidy
 StayTidy-KeepsEdits = record {
   same = λ s. (λ u. u, λ h. h);
   trans = λ s t u first second. (λ x. first.0 (second.0 x), λ h. second.1 (first.1 h));
   aside = λ s t. (λ u. u, λ h. h);
-  families = λ families s. (λ u. u, λ h. h);
-  sends = λ now s. (λ u. u, λ h. h);
+  queues = λ queue s begun. (λ u. u, λ h. h);
+  dequeues = λ queue s fewer. (λ u. u, λ h. h);
+  families = λ families s may. (λ u. u, λ h. h);
+  sends = λ now s waits. (λ u. u, λ h. h);
   begins = begins-tidy;
-  ends = λ s. (λ u. absurd u, λ h. record { none = λ u. absurd u; single = h.single });
-  asks = λ id text purposes now s askable. (λ u. u, λ h. h);
+  ends = λ s none. (λ u. absurd u, λ h. record { none = λ u. absurd u; single = h.single });
+  asks = λ id text purposes now s begun askable spelled. (λ u. u, λ h. h);
   finishes = λ id s. (λ u. u, λ h. h);
   resends = λ id now s. (λ u. u, λ h. h);
   unlists = λ which s. (λ u. u, λ h. h);
   removes = λ which s spares. (λ u. u, filtered (λ g. not (which g)) s.phase s.grants);
   removes_family = λ family s. (λ u. u, filtered (λ g. not (is_of family g)) s.phase s.grants);
   takes_offer = λ id peer s. (λ u. u, taken id peer s.phase s.grants);
-  reshapes = λ grants s e.
-      (λ u. u, λ h. record { none = λ u. empty-outline grants (e ∙ ap (map outline) (h.none u)); single = single-outline s.grants grants e h.single });
+  ages = λ grants s e. reshaped-tidy grants s (aged-outlines grants s.grants e);
   permission = λ ip s phase room none.
       (λ u. u, more (Permission ip Pending) s.phase s.grants (granted s.phase phase) (none-IsNew (is_permission_of ip) (Permission ip Pending) (permission-which ip Pending) s.grants none));
   channel = λ number peer s phase room none within.
       (λ u. u, more (Channel number peer Pending) s.phase s.grants (granted s.phase phase) (none-IsNew (is_channel_of number) (Channel number peer Pending) (channel-which number peer Pending) s.grants none));
   connect = λ peer s phase room none.
       (λ u. u, more (Connect peer) s.phase s.grants (granted s.phase phase) (none-IsNew (is_connect_to peer) (Connect peer) (connect-which peer) s.grants none));
-  connection = λ id c origin s phase offer none. (
+  connection = λ id c origin s phase offer none waits. (
     λ u. u,
     λ h. more (Connection c) s.phase (offer_taken id c.peer s).grants (granted s.phase phase)
         (none-IsNew (is_connection_from c.local) (Connection c) (connection-which c) (offer_taken id c.peer s).grants (none-without_first (is_connection_from c.local) (is_offer_of id c.peer) s.grants none))
         (taken id c.peer s.phase s.grants h),
   );
-  rebinds = λ number peer was progress s there.
-      replaced (is_channel_of number) (Channel number peer progress) (channel-which number peer progress) s (there-granted (Channel number peer was) s there);
+  reserves = λ number peer was until s there. rebound-tidy number peer was (Reserved until) s there;
 }
 
 StayTidy-KeepsAllEdits : KeepsAllEdits StayTidy
 StayTidy-KeepsAllEdits = record {
   edits = StayTidy-KeepsEdits;
+  reshapes = reshaped-tidy;
+  rebinds = rebound-tidy;
   holds = λ message d s e. (λ u. u, λ h. h);
   counts = λ s held few. (ungranted-after s.phase, λ h. record { none = λ u. h.none (ungranted-after s.phase u); single = h.single });
-  resets = λ s. (λ u. u, λ h. h);
+  resets = λ heeded s. (λ u. u, λ h. h);
   empties = λ s. (λ u. u, filtered (λ g. not true) s.phase s.grants);
-  allocates = allocates-tidy;
+  allocates = λ message lifetime now s e none. allocates-tidy message lifetime now s e;
   permits = λ ip expiry s is.
       replaced (is_permission_of ip) (Permission ip (Active expiry)) (permission-which ip (Active expiry)) s (permission-granted ip Pending s is);
-  connects = λ id connection_id peer s t since granted listed.
-      (λ u. u, λ h. more _ t.phase (without (is_connect_to peer) t).grants (λ u. granted (since.0 u)) (offer-IsNew _ (without (is_connect_to peer) t).grants) (filtered (λ g. not (is_connect_to peer g)) t.phase t.grants h));
+  connects = λ id connection_id peer s t since stay granted listed.
+      (since.0, λ h. more _ t.phase (without (is_connect_to peer) t).grants (λ u. granted (since.0 u)) (offer-IsNew _ (without (is_connect_to peer) t).grants) (filtered (λ g. not (is_connect_to peer g)) t.phase t.grants (since.1 h)));
   offers = λ id peer origin s room few.
       (λ u. u, λ h. more _ s.phase s.grants (room-granted (family_of peer) s room h) (offer-IsNew _ s.grants) h);
 }
@@ -218,4 +226,4 @@ initial-single transport local remote config seed = tt
 
 -- whether or not the call finds memory
 pub leaves-single : (call : Call) (s t : State) → Leaves call s t → IsSteady s → HasNoDoubles s → HasNoDoubles t
-leaves-single call s t leaves steady h = ((leaves-walk StayTidy StayTidy-KeepsAllEdits call s t leaves).1 (record { none = steady.3; single = h })).single
+leaves-single call s t leaves steady h = ((leaves-walk StayTidy StayTidy-KeepsAllEdits (λ s streams. (λ u. u, λ h. h)) call s t leaves).1 (record { none = steady.3; single = h })).single

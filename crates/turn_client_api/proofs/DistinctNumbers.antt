@@ -22,7 +22,7 @@ numbers-allocations : (lifetime now : ℕ) (addresses : List SocketAddr) → num
 numbers-allocations lifetime now [] = refl
 numbers-allocations lifetime now (a ∷ others) = numbers-allocations lifetime now others
 
-AreApart-KeepsGrants : KeepsGrants AreApart
+pub AreApart-KeepsGrants : KeepsGrants AreApart
 AreApart-KeepsGrants = record {
   filters = apart-filter;
   takes_offer = λ id peer gs. subst (λ (ns : List ℕ). IsDistinct eqb ns) (sym (numbers-without_first id peer gs));
@@ -38,4 +38,4 @@ AreApart-KeepsGrants = record {
 }
 
 pub leaves-apart : (call : Call) (s t : State) → Leaves call s t → HasDistinctNumbers s → HasDistinctNumbers t
-leaves-apart = leaves-walk (λ s t. AreApart s.grants → AreApart t.grants) (grants-KeepsAllEdits AreApart AreApart-KeepsGrants)
+leaves-apart = leaves-walk (λ s t. AreApart s.grants → AreApart t.grants) (grants-KeepsAllEdits AreApart AreApart-KeepsGrants) (λ s streams h. h)

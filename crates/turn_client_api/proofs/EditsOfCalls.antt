@@ -1,8 +1,8 @@
 -- The edits of which calls are made: what a relation says of each edit, it says of each call.
-use Rattle.std.proofs.Common.{◌≡◌, ℕ, Bool, true, false, not, leb, ◌&&◌, ◌||◌, List, [], ◌∷◌, map, filter_map, Option, Some, None, Result, Ok, Err, refl, inl, inr, sym, subst}
+use Rattle.std.proofs.Common.{◌≡◌, ℕ, Bool, true, false, not, leb, ◌&&◌, ◌||◌, List, [], ◌∷◌, map, filter_map, Option, Some, None, Result, Ok, Err, refl, inl, inr, sym, subst, ◌∙◌}
 use Rattle.std.specs.Prelude.{⊤, is_some, find}
 use Rattle.std.specs.List.{list_any}
-use Rattle.std.proofs.lemmas.Bool.{and_parts, eq-eqb, not-false, not-true, or_parts}
+use Rattle.std.proofs.lemmas.Bool.{and_parts, not-false, not-true, or_parts}
 use Rattle.std.proofs.lemmas.List.{append_assoc}
 use Rattle.std.proofs.lemmas.List.Folds.{list_any-append}
 use Rattle.std.proofs.lemmas.Option.{none-some, same_Some}
@@ -12,8 +12,8 @@ use Rattle.std.specs.Net.Socket.{socket_ip}
 use Rattle.turn_stun.specs.declared.transport.TransportType.{TransportType}
 use Rattle.turn_stun.specs.declared.transport.TransportType.TheVariants.{Udp, Tcp}
 use Rattle.turn_agent.specs.Agent.{same_address}
-use Rattle.turn_client_api.specs.State.{State, Phase, New, Requesting, Authenticating, Allocated, Closed, Grant, Allocation, Permission, Channel, Connect, Offer, Connection, DataConnection, Relay, Progress, Pending, Origin, OwnConnect, ServerRequest, ServerIndication, Purpose, ForRefresh, ForPermission, ForChannel, ForConnect, ForBind, Queued, later_by}
-use Rattle.turn_client_api.specs.Grants.{allocation_for, allocation_in, allocations, changed_allocation, connection_in, family_of, family_of_ip, is_for, is_of_family, is_past, is_permission_of, is_permitted, permission_for, same_transport, with_grant, with_more_grants, without}
+use Rattle.turn_client_api.specs.State.{State, Phase, New, Requesting, Authenticating, Allocated, Closed, Grant, Allocation, Permission, Channel, Connect, Offer, Connection, DataConnection, Relay, Progress, Pending, Origin, OwnConnect, ServerRequest, ServerIndication, Purpose, ForAllocation, ForRefresh, ForPermission, ForChannel, ForConnect, ForBind, Queued, later_by}
+use Rattle.turn_client_api.specs.Grants.{allocation_for, allocation_in, allocations, changed_allocation, connection_in, family_of, family_of_ip, is_past, is_permission_of, is_permitted, permission_for, same_transport, with_expired, with_grant, with_more_grants, without}
 use Rattle.turn_client_api.specs.Requests.{accepted_reply, asked, fresh_id, replied, request_for, requested}
 use Rattle.turn_client_api.specs.Retry.{bind_time}
 use Rattle.turn_client_api.specs.Connections.{connection_at, is_connected, is_connecting}
@@ -22,19 +22,20 @@ use Rattle.turn_client_api.specs.declared.poll.Socket5Tuple.{Socket5Tuple}
 use Rattle.turn_client_api.specs.declared.error.BindChannelError.TheVariants as Bind
 use Rattle.turn_client_api.specs.Receive.{tcp_closed_step}
 use Rattle.turn_client_api.specs.Answers.{event_step}
+use Rattle.turn_client_api.specs.LawsOrder.{IsBegun}
 use Rattle.turn_client_api.specs.Steps.{Call, Leaves, state_after, Delete, CreatePermission, BindChannel, TcpConnect, AllocatedTcpSocket, TcpClosed, SendTo, Recv, PollRecv, Poll, PollTransmit, PollEvent, RelayedAddresses, Permissions, HavePermission, ProtocolError}
+use Rattle.turn_client_api.specs.LawsStates.{is_asked_by}
 use Rattle.turn_client_api.proofs.AddressLemmas.{same_address-self}
 use Rattle.turn_client_api.proofs.HasLemmas.{Has, filter-has, has-filter_map, has-found, has-left, has-right, map-has}
-use Rattle.turn_client_api.proofs.HousedLemmas.{Room, room-more, same_family-self}
-use Rattle.turn_client_api.proofs.HousedMessageLemmas.{allocation-room}
-use Rattle.turn_client_api.proofs.GivenLemmas.{has-mapped}
-use Rattle.turn_client_api.proofs.GivenEffectLemmas.{same_ip-same}
+use Rattle.turn_client_api.proofs.InAllocationLemmas.{allocation-room, Room, room-more, same_family-self}
+use Rattle.turn_client_api.proofs.GrantOriginLemmas.{has-mapped}
+use Rattle.turn_client_api.proofs.GrantOriginEffectLemmas.{same_ip-same}
 use Rattle.turn_client_api.proofs.DoubleLemmas.{no-connection, no-permission}
 use Rattle.turn_client_api.proofs.RunKeepLemmas.{poll_recv-kept, recv-kept}
 use Rattle.turn_client_api.proofs.MemoryLemmas.{leaves-kept}
-use Rattle.turn_client_api.proofs.Edits.{IsAskable, KeepsAllEdits, KeepsEdits}
-use Rattle.turn_client_api.proofs.EditsOfReplies.{allocations-change, closed-walk, either, fail-walk, found, gone-walk, one-of, requested-walk, asked-walk}
-use Rattle.turn_client_api.proofs.EditsOfTime.{for-there, poll-walk, transmit-walk}
+use Rattle.turn_client_api.proofs.Edits.{IsAskable, KeepsAllEdits, KeepsEdits, IgnoresAll, KeepsHeeded}
+use Rattle.turn_client_api.proofs.EditsOfReplies.{allocations-change, closed-walk, either, fail-walk, found, gone-walk, one-of, requested-walk, asked-walk, spelled-else, expired-alike}
+use Rattle.turn_client_api.proofs.EditsOfTime.{channel-asked, for-there, poll-walk, transmit-walk}
 use Rattle.turn_client_api.proofs.EditsOfMessages.{edits-IsKept}
 
 -- ---- requests are for grants that are there
@@ -46,8 +47,11 @@ is_allocated-true Requesting e = cc
 is_allocated-true Authenticating e = cc
 is_allocated-true Closed e = cc
 
+allocated-begun : (p : Phase) → is_allocated p ≡ true → IsBegun p
+allocated-begun p e = rw (is_allocated-true p e) tt
+
 -- the grant that comes last
-for-last : (p : Purpose) (g : Grant) (s : State) → is_for p g ≡ true → IsAskable (with_grant g s) p
+for-last : (p : Purpose) (g : Grant) (s : State) → is_asked_by p g ≡ true → IsAskable (with_grant g s) p
 for-last p g s is = for-there p g (with_grant g s) (has-right g s.grants (g ∷ []) (inl refl)) is
 
 -- all allocations are given back
@@ -76,8 +80,17 @@ delete-askable now s p there =
     of a e (Offer offer) reads here = absurd (none-some a reads)
     of a e (Connection c) reads here = absurd (none-some a reads)
 
--- the calls that handle nothing that comes in
+-- by a REFRESH
+delete-other : (s : State) (p : Purpose) → Has p (map (λ (a : Relay). ForRefresh (family_of a.relayed) 0) (allocations s)) → p ≡ ForAllocation → ⊥
+delete-other s p there f =
+    let (a, listed, e) = has-mapped (λ (a : Relay). ForRefresh (family_of a.relayed) 0) p (allocations s) there in
+    let no : ForRefresh (family_of a.relayed) 0 ≡ ForAllocation = sym e ∙ f in
+    cc
+
+-- the calls that handle nothing that comes in, open no stream, and give nothing back
 abbrev pub IsQuiet : Call → Type 0
+IsQuiet (Delete now) = ⊥
+IsQuiet (AllocatedTcpSocket id tuple peer local now) = ⊥
 IsQuiet (Recv packet now) = ⊥
 IsQuiet (PollRecv now) = ⊥
 IsQuiet _ = ⊤
@@ -86,26 +99,31 @@ module _ (R : State → State → Type 0) (k : KeepsEdits R) where
   then : (s t u : State) → R s t → R t u → R s u
   then s t u = k.trans s t u
 
+  -- allocations are given back
+  abbrev Expires : Type 0
+  Expires = (now : ℕ) (s : State) → R s (all_expired now s)
+
   -- ---- what the caller asks for
 
   allocation-walk : {E : Type 0} (o : Option Relay) (ip : IpAddr) (now : ℕ) (refusal : E) (s : State) (otherwise : Result Unit E × State) → (is_some o ≡ true → R s otherwise.1) → R s (in_allocation o ip now refusal s otherwise).1
   allocation-walk None ip now refusal s otherwise r = k.same s
   allocation-walk (Some a) ip now refusal s otherwise r =
-      either R k (is_past now a) s _ otherwise (λ e. allocations-change R k (λ b. is_of_family (family_of_ip ip) b.relayed) (λ b. record b { is_expired = true }) (λ b. refl) s) (λ e. r refl)
+      either R k (is_past now a) s _ otherwise (λ e. k.ages (with_expired (family_of_ip ip) s).grants s (expired-alike (family_of_ip ip) s)) (λ e. r refl)
 
-  deleted-walk : (now : ℕ) (s : State) → R s (deleted now s)
-  deleted-walk now s =
+  deleted-walk : Expires → (now : ℕ) (s : State) → s.phase ≡ Allocated → R s (deleted now s)
+  deleted-walk expires now s there =
+      let begun : IsBegun s.phase = rw there tt in
       let a = without is_granted_in s in
       let b = all_expired now a in
       let purposes = map (λ (r : Relay). ForRefresh (family_of r.relayed) 0) (allocations s) in
       let c = asked (fresh_id s) (delete_text s) purposes now b in
       let end = deleted now s in
       then s a end (k.removes is_granted_in s (λ r. refl))
-      (then a b end (allocations-change R k (λ r. true) (λ r. record r { expiry = now; is_expired = true }) (λ r. refl) a)
-      (then b c end (k.asks (fresh_id s) (delete_text s) purposes now b (delete-askable now s)) (k.aside c end)))
+      (then a b end (expires now a)
+      (then b c end (k.asks (fresh_id s) (delete_text s) purposes now b begun (delete-askable now s) (inl (there, delete-other s))) (k.queues end.queue c begun)))
 
-  delete-walk : (now : ℕ) (s : State) → R s (delete_step now s).1
-  delete-walk now s = either R k (is_allocated s.phase) s (Ok tt, deleted now s) _ (λ e. deleted-walk now s) (λ e. k.same s)
+  pub delete-walk : Expires → (now : ℕ) (s : State) → R s (delete_step now s).1
+  delete-walk expires now s = either R k (is_allocated s.phase) s (Ok tt, deleted now s) _ (λ e. deleted-walk expires now s (is_allocated-true s.phase e)) (λ e. k.same s)
 
   permission-walk : (transport : TransportType) (ip : IpAddr) (now : ℕ) (s : State) → R s (create_permission_step transport ip now s).1
   permission-walk transport ip now s = allocation-walk (allocation_for transport ip s) ip now _ s (permission_step ip now s) by
@@ -118,12 +136,15 @@ module _ (R : State → State → Type 0) (k : KeepsEdits R) where
           either R k (is_some (permission_for ip s)) s _ _ (λ e. k.same s)
           (λ none. either R k (not (is_allocated s.phase)) s _ _ (λ e. k.same s)
           (λ there. then s t _ (k.permission ip s (is_allocated-true s.phase (not-false (is_allocated s.phase) there)) (allocation-room transport ip s room) (no-permission ip s.grants none))
-          (requested-walk R k (fresh_id s) (ForPermission ip) now t (for-last (ForPermission ip) (Permission ip Pending) s (same_ip-same ip)))))
+          (requested-walk R k (fresh_id s) (ForPermission ip) now t (allocated-begun s.phase (not-false (is_allocated s.phase) there)) (for-last (ForPermission ip) (Permission ip Pending) s (same_ip-same ip)) (spelled-else (fresh_id s) (request_for t (ForPermission ip) (fresh_id s)) (ForPermission ip) t (is_allocated-true s.phase (not-false (is_allocated s.phase) there)) (λ f. cc)))))
 
   -- the number that is asked for is free
   bind_channel-walk : (number : ℕ) (peer : SocketAddr) (now : ℕ) (s : State) → s.phase ≡ Allocated → Room s.grants (family_of peer) → free_number s ≡ Some number → R s (bind_channel number peer now s)
   bind_channel-walk number peer now s there room free = by (permission_for (socket_ip peer) s) refl
     where
+      begun : IsBegun s.phase
+      begun = rw there tt
+
       ip : IpAddr
       ip = socket_ip peer
 
@@ -157,20 +178,25 @@ module _ (R : State → State → Type 0) (k : KeepsEdits R) where
       text = request_for s (ForChannel number peer) (fresh_id s)
 
       of_channel : (t : State) → Has channel t.grants → IsAskable t (ForChannel number peer)
-      of_channel t here = for-there (ForChannel number peer) channel t here (eq-eqb number number refl)
+      of_channel t here = for-there (ForChannel number peer) channel t here (channel-asked number peer Pending)
 
       of_both : (p : Purpose) → Has p (ForChannel number peer ∷ ForPermission ip ∷ []) → IsAskable b p
       of_both p (inl e) = subst (IsAskable b) (sym e) (of_channel b (has-right channel s.grants (channel ∷ permission ∷ []) (inl refl)))
       of_both p (inr (inl e)) = subst (IsAskable b) (sym e) (for-there (ForPermission ip) permission b (has-right permission s.grants (channel ∷ permission ∷ []) (inr (inl refl))) (same_ip-same ip))
       of_both p (inr (inr none)) = absurd none
 
+      both-other : (p : Purpose) → Has p (ForChannel number peer ∷ ForPermission ip ∷ []) → p ≡ ForAllocation → ⊥
+      both-other p (inl e) f = let no : ForChannel number peer ≡ ForAllocation = sym e ∙ f in cc
+      both-other p (inr (inl e)) f = let no : ForPermission ip ≡ ForAllocation = sym e ∙ f in cc
+      both-other p (inr (inr none)) f = absurd none
+
       by : (o : Option Progress) → permission_for ip s ≡ o → R s (bind_channel number peer now s)
       by None e =
           let c = asked (fresh_id s) text (ForChannel number peer ∷ ForPermission ip ∷ []) now b in
-          rw e (then s b _ (both (no-permission ip s.grants (rw e refl))) (then b c _ (k.asks (fresh_id s) text (ForChannel number peer ∷ ForPermission ip ∷ []) now b of_both) (k.aside c (bind_channel number peer now s))))
+          rw e (then s b _ (both (no-permission ip s.grants (rw e refl))) (then b c _ (k.asks (fresh_id s) text (ForChannel number peer ∷ ForPermission ip ∷ []) now b begun of_both (inl (there, both-other))) (k.queues (bind_channel number peer now s).queue c begun)))
       by (Some progress) e =
           let c = asked (fresh_id s) text (ForChannel number peer ∷ []) now a in
-          rw e (then s a _ first (then a c _ (asked-walk R k (fresh_id s) text (ForChannel number peer) now a (of_channel a (has-right channel s.grants (channel ∷ []) (inl refl)))) (k.aside c (bind_channel number peer now s))))
+          rw e (then s a _ first (then a c _ (asked-walk R k (fresh_id s) text (ForChannel number peer) now a begun (of_channel a (has-right channel s.grants (channel ∷ []) (inl refl))) (spelled-else (fresh_id s) text (ForChannel number peer) a there (λ f. cc))) (k.queues (bind_channel number peer now s).queue c begun)))
 
   bound_by-walk : (peer : SocketAddr) (now : ℕ) (s : State) → Room s.grants (family_of peer) → (l : List ℕ) (b : Bool) → is_allocated s.phase ≡ b → (o : Option ℕ) → free_number s ≡ o → R s (bound_by peer now s l b o).1
   bound_by-walk peer now s room (until ∷ others) b e o free = k.same s
@@ -201,10 +227,10 @@ module _ (R : State → State → Type 0) (k : KeepsEdits R) where
           (λ there. either R k (not (is_permitted (socket_ip peer) s)) s _ _ (λ e. k.same s)
           (λ permitted. either R k (is_connected peer s || is_connecting peer s) s _ _ (λ e. k.same s)
           (λ free. then s t _ (k.connect peer s (is_allocated-true s.phase (not-false (is_allocated s.phase) there)) (allocation-room Tcp (socket_ip peer) s room) (or_parts (is_connected peer s) (is_connecting peer s) free).1)
-          (requested-walk R k (fresh_id s) (ForConnect peer) now t (for-last (ForConnect peer) (Connect peer) s (same_address-self peer))))))
+          (requested-walk R k (fresh_id s) (ForConnect peer) now t (allocated-begun s.phase (not-false (is_allocated s.phase) there)) (for-last (ForConnect peer) (Connect peer) s (same_address-self peer)) (spelled-else (fresh_id s) (request_for t (ForConnect peer) (fresh_id s)) (ForConnect peer) t (is_allocated-true s.phase (not-false (is_allocated s.phase) there)) (λ f. cc))))))
 
-  opened-walk : (id : ℕ) (peer local : SocketAddr) (origin : Origin) (now : ℕ) (s : State) → s.phase ≡ Allocated → offer_origin id peer s ≡ Some origin → is_some (connection_at local s) ≡ false → R s (socket_opened id peer local origin now s)
-  opened-walk id peer local origin now s there offer none = by origin
+  opened-walk : IgnoresAll R → (id : ℕ) (peer local : SocketAddr) (origin : Origin) (now : ℕ) (s : State) → s.phase ≡ Allocated → offer_origin id peer s ≡ Some origin → is_some (connection_at local s) ≡ false → R s (socket_opened id peer local origin now s)
+  opened-walk streams id peer local origin now s there offer none = by origin
     where
       c : DataConnection
       c = record { local = local; peer = peer; deadline = Some (later_by bind_time now) }
@@ -212,42 +238,46 @@ module _ (R : State → State → Type 0) (k : KeepsEdits R) where
       a : State
       a = with_grant (Connection c) (offer_taken id peer s)
 
+      begun : IsBegun s.phase
+      begun = rw there tt
+
       -- whatever is queued
       opened : (queue : List Queued) → R s (with_stream local (requested (fresh_id s) (ForBind local peer id) now (record a { queue = queue })))
       opened queue =
           let b = record a { queue = queue } in
           let t = requested (fresh_id s) (ForBind local peer id) now b in
           let end = with_stream local t in
-          then s a end (k.connection id c origin s there offer (no-connection local s.grants none))
-          (then a b end (k.aside a b)
-          (then b t end (requested-walk R k (fresh_id s) (ForBind local peer id) now b
-          (for-there (ForBind local peer id) (Connection c) b (has-right (Connection c) (offer_taken id peer s).grants (Connection c ∷ []) (inl refl)) (same_address-self local)))
-          (k.aside t end)))
+          then s a end (k.connection id c origin s there offer (no-connection local s.grants none) refl)
+          (then a b end (k.queues queue a begun)
+          (then b t end (requested-walk R k (fresh_id s) (ForBind local peer id) now b begun
+          (for-there (ForBind local peer id) (Connection c) b (has-right (Connection c) (offer_taken id peer s).grants (Connection c ∷ []) (inl refl)) (same_address-self local))
+          (spelled-else (fresh_id s) (request_for b (ForBind local peer id) (fresh_id s)) (ForBind local peer id) b there (λ f. cc)))
+          (streams t end.streams)))
 
       by : (from : Origin) → R s (socket_opened id peer local from now s)
       by OwnConnect = opened s.queue
       by ServerIndication = opened s.queue
       by (ServerRequest request) = opened (replied (accepted_reply s request) s).queue
 
-  refused-walk : (id : ℕ) (peer : SocketAddr) (origin : Origin) (s : State) → R s (socket_refused id peer origin s)
-  refused-walk id peer OwnConnect s = k.takes_offer id peer s
-  refused-walk id peer ServerIndication s = k.takes_offer id peer s
-  refused-walk id peer (ServerRequest request) s =
+  refused-walk : (id : ℕ) (peer : SocketAddr) (origin : Origin) (s : State) → IsBegun s.phase → R s (socket_refused id peer origin s)
+  refused-walk id peer OwnConnect s begun = k.takes_offer id peer s
+  refused-walk id peer ServerIndication s begun = k.takes_offer id peer s
+  refused-walk id peer (ServerRequest request) s begun =
       let t = offer_taken id peer s in
       let end = socket_refused id peer (ServerRequest request) s in
-      then s t end (k.takes_offer id peer s) (k.aside t end)
+      then s t end (k.takes_offer id peer s) (k.queues end.queue t begun)
 
-  socket-walk : (id : ℕ) (peer : SocketAddr) (local : Option SocketAddr) (origin : Origin) (now : ℕ) (s : State) → s.phase ≡ Allocated → offer_origin id peer s ≡ Some origin → R s (socket_step id peer local origin now s).1
-  socket-walk id peer None origin now s there offer = refused-walk id peer origin s
-  socket-walk id peer (Some local) origin now s there offer =
+  socket-walk : IgnoresAll R → (id : ℕ) (peer : SocketAddr) (local : Option SocketAddr) (origin : Origin) (now : ℕ) (s : State) → s.phase ≡ Allocated → offer_origin id peer s ≡ Some origin → R s (socket_step id peer local origin now s).1
+  socket-walk streams id peer None origin now s there offer = refused-walk id peer origin s (rw there tt)
+  socket-walk streams id peer (Some local) origin now s there offer =
       either R k (is_local_taken local s) s _ _ (λ e. k.same s)
-      (λ free. opened-walk id peer local origin now s there offer (or_parts (same_address local s.local) (is_some (connection_at local s)) free).1)
+      (λ free. opened-walk streams id peer local origin now s there offer (or_parts (same_address local s.local) (is_some (connection_at local s)) free).1)
 
-  tcp_socket-walk : (id : ℕ) (tuple : Socket5Tuple) (peer : SocketAddr) (local : Option SocketAddr) (now : ℕ) (s : State) → R s (allocated_tcp_socket_step id tuple peer local now s).1
-  tcp_socket-walk id tuple peer local now s =
+  pub tcp_socket-walk : IgnoresAll R → (id : ℕ) (tuple : Socket5Tuple) (peer : SocketAddr) (local : Option SocketAddr) (now : ℕ) (s : State) → R s (allocated_tcp_socket_step id tuple peer local now s).1
+  tcp_socket-walk streams id tuple peer local now s =
       either R k (same_transport s.config.allocation_transport Tcp && is_control tuple s && is_allocated s.phase) s _ _
       (λ e. found R k (λ origin. socket_step id peer local origin now s) (offer_origin id peer s) s _
-      (λ origin offer. socket-walk id peer local origin now s (is_allocated-true s.phase (and_parts (same_transport s.config.allocation_transport Tcp && is_control tuple s) (is_allocated s.phase) e).1) offer) (k.same s))
+      (λ origin offer. socket-walk streams id peer local origin now s (is_allocated-true s.phase (and_parts (same_transport s.config.allocation_transport Tcp && is_control tuple s) (is_allocated s.phase) e).1) offer) (k.same s))
       (λ e. k.same s)
 
   channel_data-walk : (channels : List (ℕ × ℕ)) (peer : SocketAddr) (bytes : List ℕ) (now : ℕ) (s : State) → R s (on_channel channels peer bytes now s).1
@@ -275,11 +305,11 @@ module _ (R : State → State → Type 0) (k : KeepsEdits R) where
   -- ---- the calls that handle nothing
 
   pub quiet-walk : (call : Call) (s : State) → IsQuiet call → R s (state_after call s)
-  quiet-walk (Delete now) s quiet = delete-walk now s
+  quiet-walk (Delete now) s none = absurd none
   quiet-walk (CreatePermission transport peer now) s quiet = permission-walk transport peer now s
   quiet-walk (BindChannel transport peer now) s quiet = bind-walk transport peer now s
   quiet-walk (TcpConnect peer now) s quiet = connect-walk peer now s
-  quiet-walk (AllocatedTcpSocket id tuple peer local now) s quiet = tcp_socket-walk id tuple peer local now s
+  quiet-walk (AllocatedTcpSocket id tuple peer local now) s none = absurd none
   quiet-walk (TcpClosed local remote now) s quiet = tcp_closed-walk local remote s
   quiet-walk (SendTo transport peer bytes now) s quiet = send-walk transport peer bytes now s
   quiet-walk (Recv packet now) s none = absurd none
@@ -294,11 +324,16 @@ module _ (R : State → State → Type 0) (k : KeepsEdits R) where
 
 -- ---- all calls
 
-pub calls-walk : (R : State → State → Type 0) → KeepsAllEdits R → (call : Call) (s : State) → R s (state_after call s)
-calls-walk R k (Recv packet now) s = recv-kept R (edits-IsKept R k) packet.transport packet.from packet.to packet.payload now s
-calls-walk R k (PollRecv now) s = poll_recv-kept R (edits-IsKept R k) now s
-calls-walk R k call s = quiet-walk R k.edits call s tt
+pub expires-walk : (Heeded : Type 0) (R : State → State → Type 0) → KeepsHeeded Heeded R → (now : ℕ) (s : State) → R s (all_expired now s)
+expires-walk Heeded R k now s = allocations-change Heeded R k (λ r. true) (λ r. record r { expiry = now; is_expired = true }) (λ r. refl) s
+
+pub calls-walk : (R : State → State → Type 0) → KeepsAllEdits R → IgnoresAll R → (call : Call) (s : State) → R s (state_after call s)
+calls-walk R k streams (Recv packet now) s = recv-kept R (edits-IsKept R k streams) packet.transport packet.from packet.to packet.payload now s
+calls-walk R k streams (PollRecv now) s = poll_recv-kept R (edits-IsKept R k streams) now s
+calls-walk R k streams (Delete now) s = delete-walk R k.edits (expires-walk ⊤ R k) now s
+calls-walk R k streams (AllocatedTcpSocket id tuple peer local now) s = tcp_socket-walk R k.edits streams id tuple peer local now s
+calls-walk R k streams call s = quiet-walk R k.edits call s tt
 
 -- whether or not they find memory
-pub leaves-walk : (R : State → State → Type 0) → KeepsAllEdits R → (call : Call) (s t : State) → Leaves call s t → R s t
-leaves-walk R k = leaves-kept R (edits-IsKept R k) (closed-walk R k.edits) (calls-walk R k)
+pub leaves-walk : (R : State → State → Type 0) → KeepsAllEdits R → IgnoresAll R → (call : Call) (s t : State) → Leaves call s t → R s t
+leaves-walk R k streams = leaves-kept R (edits-IsKept R k streams) (closed-walk R k.edits) (calls-walk R k streams)

@@ -1,38 +1,45 @@
 -- The edits that time makes, and those of what is sent.
-use Rattle.std.proofs.Common.{◌≡◌, ℕ, Bool, true, false, cond, leb, ltb, ◌&&◌, ◌||◌, List, [], ◌∷◌, filter, Option, Some, None, refl, inl, inr, subst}
+use Rattle.std.proofs.Common.{◌≡◌, ℕ, Bool, true, false, cond, eqb, leb, ltb, ◌&&◌, ◌||◌, List, [], ◌∷◌, filter, Option, Some, None, refl, inl, inr, sym, subst, ◌∙◌}
 use Rattle.std.specs.Prelude.{drop, find, reverse, flat_map, slice_get}
-use Rattle.std.proofs.lemmas.Bool.{and_left, and_right, eq-eqb}
+use Rattle.std.specs.List.{list_any}
+use Rattle.std.proofs.lemmas.Bool.{and_from, and_left, and_right, eq-eqb}
 use Rattle.std.proofs.lemmas.Option.{cond_some, none-some}
 use Rattle.std.specs.declared.net.socket_addr.SocketAddr.{SocketAddr}
 use Rattle.turn_types.specs.declared.family.AddressFamily.{AddressFamily}
-use Rattle.turn_agent.specs.Agent.{due, given_up, resent}
+use Rattle.turn_agent.specs.Agent.{due, given_up, resent, same_address}
 use Rattle.turn_agent.specs.declared.transaction.Transaction.{Transaction}
-use Rattle.turn_client_api.specs.State.{State, Phase, New, Requesting, Authenticating, Allocated, Closed, Grant, Allocation, Permission, Channel, Connect, Offer, Connection, Relay, Pending, Active, Reserved, Purpose, ForAllocation, ForRefresh, ForPermission, ForChannel, Queued, agent_of}
-use Rattle.turn_client_api.specs.Grants.{allocations, family_of, is_connect, is_for, is_for_any, is_of, is_pending_channel, is_pending_permission}
+use Rattle.turn_client_api.specs.State.{State, Phase, New, Requesting, Authenticating, Allocated, Closed, Grant, Allocation, Permission, Channel, Connect, Offer, Connection, Relay, Progress, Pending, Active, Reserved, Purpose, ForAllocation, ForRefresh, ForPermission, ForChannel, Queued, agent_of}
+use Rattle.turn_client_api.specs.Grants.{allocations, family_of, is_connect, is_for_any, is_of, is_pending_channel, is_pending_permission}
 use Rattle.turn_client_api.specs.Requests.{asked, asked_lifetime, first_allocate, fresh_id, request_for}
-use Rattle.turn_client_api.specs.Effect.{closed, ended, reserved, without_families}
+use Rattle.turn_client_api.specs.Effect.{closed, ended, reserved}
 use Rattle.turn_client_api.specs.Due.{has_event, has_reply, is_paused}
 use Rattle.turn_client_api.specs.Poll.{answer_step, channel_lapsed, connections_unbound, given_up_purposes, given_up_step, goes, in_vain, is_given_offer, is_lapsed_channel, is_lapsed_permission, is_listed_for_allocation, is_over, is_unbound, lapsed, lapsed_allocation, lapsed_in, last_channel_lapsed, next_offer, offer_step, offers_in_vain, permissions_lapsed, poll_step, refreshes_in_vain, silent_step, timed_step}
 use Rattle.turn_client_api.specs.Transmit.{idle_step, is_due_in, queue_step, refresh_purpose, refreshes_in, refreshes_of_rank, sent, transmit_step}
 use Rattle.turn_client_api.specs.Transmit as T
+use Rattle.turn_client_api.specs.LawsStates.{is_asked_by}
+use Rattle.turn_client_api.proofs.AddressLemmas.{same_address-self}
 use Rattle.turn_client_api.proofs.HasLemmas.{Has, has-filter, has-filter_map, has-flat_map, has-found}
-use Rattle.turn_client_api.proofs.HousedLemmas.{has-any, same_family-self}
-use Rattle.turn_client_api.proofs.GivenEffectLemmas.{same_ip-same}
+use Rattle.turn_client_api.proofs.InAllocationLemmas.{has-any, same_family-self}
+use Rattle.turn_client_api.proofs.GrantOriginEffectLemmas.{same_ip-same}
 use Rattle.turn_client_api.proofs.LapseLemmas.{has-unreversed}
 use Rattle.turn_client_api.proofs.Edits.{IsAskable, KeepsEdits, SparesAllocations}
-use Rattle.turn_client_api.proofs.EditsOfReplies.{closed-walk, each, either, first-has, found, one-of, removed, asked-walk, reserved-walk, spares-kind, told-outlines, unlisted-walk}
+use Rattle.turn_client_api.proofs.EditsOfReplies.{closed-walk, each, either, first-has, found, one-of, removed, asked-walk, reserved-walk, spares-kind, spelled-else, unlisted-walk, told-alike}
 
 -- ---- what is refreshed is there
 
 -- the request is for this grant
-pub for-there : (p : Purpose) (g : Grant) (s : State) → Has g s.grants → is_for p g ≡ true → IsAskable s p
-for-there p g s there is = inr (inl (has-any (is_for p) g s.grants there is))
+pub for-there : (p : Purpose) (g : Grant) (s : State) → Has g s.grants → is_asked_by p g ≡ true → IsAskable s p
+for-there p g s there is = inr (inl (has-any (is_asked_by p) g s.grants there is))
+
+-- a channel by its number and its peer
+pub channel-asked : (number : ℕ) (peer : SocketAddr) (progress : Progress) → is_asked_by (ForChannel number peer) (Channel number peer progress) ≡ true
+channel-asked number peer progress = and_from (eqb number number) (same_address peer peer) (eq-eqb number number refl) (same_address-self peer)
 
 -- a request is for the grant that it refreshes
-refresh-for : (now : ℕ) (p : Purpose) (g : Grant) → refresh_purpose now g ≡ Some p → is_for p g ≡ true
-refresh-for now p (Allocation a) e = subst (λ (x : Purpose). is_for x (Allocation a) ≡ true) (cond_some (leb now a.expiry) (ForRefresh (family_of a.relayed) asked_lifetime) p e).1 (same_family-self (family_of a.relayed) (family_of a.relayed) refl)
-refresh-for now p (Permission ip (Active expiry)) e = subst (λ (x : Purpose). is_for x (Permission ip (Active expiry)) ≡ true) (cond_some (ltb now expiry) (ForPermission ip) p e).1 (same_ip-same ip)
-refresh-for now p (Channel number peer (Active expiry)) e = subst (λ (x : Purpose). is_for x (Channel number peer (Active expiry)) ≡ true) (cond_some (ltb now expiry) (ForChannel number peer) p e).1 (eq-eqb number number refl)
+refresh-for : (now : ℕ) (p : Purpose) (g : Grant) → refresh_purpose now g ≡ Some p → is_asked_by p g ≡ true
+refresh-for now p (Allocation a) e = subst (λ (x : Purpose). is_asked_by x (Allocation a) ≡ true) (cond_some (leb now a.expiry) (ForRefresh (family_of a.relayed) asked_lifetime) p e).1 (same_family-self (family_of a.relayed) (family_of a.relayed) refl)
+refresh-for now p (Permission ip (Active expiry)) e = subst (λ (x : Purpose). is_asked_by x (Permission ip (Active expiry)) ≡ true) (cond_some (ltb now expiry) (ForPermission ip) p e).1 (same_ip-same ip)
+refresh-for now p (Channel number peer (Active expiry)) e = subst (λ (x : Purpose). is_asked_by x (Channel number peer (Active expiry)) ≡ true) (cond_some (ltb now expiry) (ForChannel number peer) p e).1 (channel-asked number peer (Active expiry))
 refresh-for now p (Permission ip Pending) e = absurd (none-some p e)
 refresh-for now p (Permission ip (Reserved until)) e = absurd (none-some p e)
 refresh-for now p (Channel number peer Pending) e = absurd (none-some p e)
@@ -45,19 +52,56 @@ has-if : {X : Type 0} (b : Bool) (x : X) (xs : List X) → Has x (cond b xs []) 
 has-if true x xs there = there
 has-if false x xs none = absurd none
 
-refreshes-askable : (now : ℕ) (s : State) (p : Purpose) → Has p (flat_map (refreshes_in now s) (allocations s)) → IsAskable s p
-refreshes-askable now s p there =
+refreshes-there : (now : ℕ) (s : State) (p : Purpose) → Has p (flat_map (refreshes_in now s) (allocations s)) → list_any (is_asked_by p) s.grants ≡ true
+refreshes-there now s p there =
     let came = has-flat_map (refreshes_in now s) p (allocations s) there in
     of_one came.from came.gives
   where
-    of_one : (a : Relay) → Has p (refreshes_in now s a) → IsAskable s p
+    of_one : (a : Relay) → Has p (refreshes_in now s a) → list_any (is_asked_by p) s.grants ≡ true
     of_one a asked =
         let came = has-flat_map of_rank p (0 ∷ 1 ∷ 2 ∷ []) (has-if (leb now a.expiry) p (flat_map of_rank (0 ∷ 1 ∷ 2 ∷ [])) asked) in
         let (g, here, asks) = has-filter_map (refresh_purpose now) p (filter (is_due_in came.from (family_of a.relayed) now s) s.grants) came.gives in
-        for-there p g s (has-filter (is_due_in came.from (family_of a.relayed) now s) g s.grants here).0 (refresh-for now p g asks)
+        has-any (is_asked_by p) g s.grants (has-filter (is_due_in came.from (family_of a.relayed) now s) g s.grants here).0 (refresh-for now p g asks)
       where
         of_rank : ℕ → List Purpose
         of_rank = refreshes_of_rank now s (family_of a.relayed)
+
+-- no grant is asked for by an ALLOCATE
+none-allocates : (gs : List Grant) → list_any (is_asked_by ForAllocation) gs ≡ false
+none-allocates [] = refl
+none-allocates (g ∷ gs) = none-allocates gs
+
+-- a refresh is no ALLOCATE
+refresh-other : (now : ℕ) (s : State) (p : Purpose) → Has p (flat_map (refreshes_in now s) (allocations s)) → p ≡ ForAllocation → ⊥
+refresh-other now s p there e =
+    let some : list_any (is_asked_by ForAllocation) s.grants ≡ true = subst (λ (q : Purpose). list_any (is_asked_by q) s.grants ≡ true) e (refreshes-there now s p there) in
+    let no : true ≡ false = sym some ∙ none-allocates s.grants in
+    cc
+
+allocate-alone : (p : Purpose) → Has p (ForAllocation ∷ []) → p ≡ ForAllocation
+allocate-alone p (inl e) = e
+allocate-alone p (inr none) = absurd none
+
+-- ---- packets that wait
+
+has-dropped : (queue : List Queued) (q : Queued) → Has q (drop 1 queue) → Has q queue
+has-dropped [] q there = there
+has-dropped (first ∷ queue) q there = inr there
+
+has-unreplied : (q : Queued) (queue : List Queued) → Has q (T.without_first_reply queue) → Has q queue
+has-unreplied q [] there = there
+has-unreplied q (first ∷ queue) there = by first.is_request there (has-unreplied q queue)
+  where
+    Further : Type 0
+    Further = Has q (T.without_first_reply queue) → Has q queue
+
+    further : Has q (first ∷ T.without_first_reply queue) → Further → Has q (first ∷ queue)
+    further (inl e) more = inl e
+    further (inr later) more = inr (more later)
+
+    by : (b : Bool) → Has q (cond b (first ∷ T.without_first_reply queue) queue) → Further → Has q (first ∷ queue)
+    by true here more = further here more
+    by false later more = inr later
 
 -- ---- as time passes
 
@@ -139,9 +183,10 @@ module _ (R : State → State → Type 0) (k : KeepsEdits R) where
 
   silent-walk : (s : State) → R s (silent_step s).1
   silent-walk s =
-      let t = without_families s in
-      let u = record t { events = (silent_step s).1.events } in
-      then s t (closed u) (k.families [] s) (then t u (closed u) (k.aside t u) (closed-walk R k u))
+      let t = closed s in
+      let u = record t { families = [] } in
+      let end = (silent_step s).1 in
+      then s t end (closed-walk R k s) (then t u end (k.families [] t (inl (λ none. none))) (k.aside u end))
 
   timed_in_phase : (p : Phase) (given : Option ℕ) (now : ℕ) (s : State) → R (record s { phase = p }) (timed_step p given now (record s { phase = p })).1
   timed_in_phase New given now s = k.same (record s { phase = New })
@@ -166,7 +211,7 @@ module _ (R : State → State → Type 0) (k : KeepsEdits R) where
   poll-walk now s =
       either R k (has_event s || has_reply s) s _ _ (λ e. k.same s)
       (λ e. found R k (λ offer. offer_step offer s) (next_offer s) s (given_up_step now s)
-      (λ offer is. k.reshapes (offer_step offer s).1.grants s (told-outlines (family_of offer.peer) s.grants)) (given_up-walk now s))
+      (λ offer is. k.ages (offer_step offer s).1.grants s (told-alike (family_of offer.peer) s.grants)) (given_up-walk now s))
 
   -- ---- what is sent
 
@@ -177,29 +222,29 @@ module _ (R : State → State → Type 0) (k : KeepsEdits R) where
   idle-walk New now s =
       let u = record s { phase = New } in
       let t = record s { phase = Requesting; last_send = Some now } in
-      then u t _ (k.begins now u refl) (asked-walk R k (fresh_id u) (first_allocate u (fresh_id u)) ForAllocation now t (inl refl))
+      then u t _ (k.begins now u refl) (asked-walk R k (fresh_id u) (first_allocate u (fresh_id u)) ForAllocation now t tt (inl refl) (inr (inl (tt, allocate-alone, inl refl))))
   idle-walk Allocated now s =
       let u = record s { phase = Allocated } in
       let wanted = flat_map (refreshes_in now u) (allocations u) in
       found R k _ (slice_get wanted 0) u (None, u)
       (λ p e. let text = request_for u p (fresh_id u) in
       let t = asked (fresh_id u) text (p ∷ []) now u in
-      then u t (sent now t) (asked-walk R k (fresh_id u) text p now u (refreshes-askable now u p (first-has p wanted e))) (k.sends now t)) (k.same u)
+      then u t (sent now t) (asked-walk R k (fresh_id u) text p now u tt (inr (inl (refreshes-there now u p (first-has p wanted e)))) (spelled-else (fresh_id u) text p u refl (refresh-other now u p (first-has p wanted e)))) (k.sends now t (λ new. cc))) (k.same u)
 
   queue-walk : (now : ℕ) (s : State) → R s (queue_step now s).1
   queue-walk now s = found R k _ (slice_get s.queue 0) s (idle_step s.phase now s) by (idle-walk s.phase now s)
     where
       by : (q : Queued) → slice_get s.queue 0 ≡ Some q → R s (sent now (record s { queue = drop 1 s.queue }))
       by q e =
-          let t = record s { queue = drop 1 s.queue } in
-          then s t (sent now t) (k.aside s t) (k.sends now t)
+          let t = sent now s in
+          then s t (record t { queue = drop 1 s.queue }) (k.sends now s (λ new none. absurd (rw none at (first-has q s.queue e)))) (k.dequeues (drop 1 s.queue) t (has-dropped s.queue))
 
   pub transmit-walk : (now : ℕ) (s : State) → R s (transmit_step now s).1
   transmit-walk now s =
       found R k _ (due (agent_of s) now) s _ by
-      (either R k (is_paused now s) s (T.reply_step s) (queue_step now s) (λ e. k.aside s (T.reply_step s).1) (λ e. queue-walk now s))
+      (either R k (is_paused now s) s (T.reply_step s) (queue_step now s) (λ e. k.dequeues (T.without_first_reply s.queue) s (λ q. has-unreplied q s.queue)) (λ e. queue-walk now s))
     where
       by : (t : Transaction) → due (agent_of s) now ≡ Some t → R s (sent now (record s { transactions = resent t.id now s.transactions }))
       by t e =
-          let u = record s { transactions = resent t.id now s.transactions } in
-          then s u (sent now u) (k.resends t.id now s) (k.sends now u)
+          let u = sent now s in
+          then s u (record u { transactions = resent t.id now s.transactions }) (k.sends now s (λ new queue none. absurd (rw none at (has-found _ t s.transactions e).0))) (k.resends t.id now u)

@@ -4,7 +4,7 @@ use Rattle.std.specs.List.{list_any}
 use Rattle.std.specs.declared.net.ip_addr.IpAddr.{IpAddr}
 use Rattle.std.specs.declared.net.socket_addr.SocketAddr.{SocketAddr}
 use Rattle.turn_types.specs.declared.family.AddressFamily.{AddressFamily}
-use Rattle.turn_client_api.specs.State.{State, Grant, Permission, Channel, Connect, Offer, Connection, DataConnection, DataOffer, Progress, Pending, Active, Origin, OwnConnect, ServerIndication}
+use Rattle.turn_client_api.specs.State.{State, Grant, Permission, Channel, Connect, Offer, Connection, DataConnection, DataOffer, Progress, Pending, Active, Reserved, Origin, OwnConnect, ServerIndication}
 use Rattle.turn_client_api.specs.Grants.{is_channel_of, is_connect_to, is_connection_from, is_of, is_permission_of, without}
 use Rattle.turn_client_api.specs.Effect.{new_allocation, relayed_in, taken_addresses}
 use Rattle.turn_client_api.specs.Calls.{channel_numbers, is_offer_of, offer_taken, without_first}
@@ -12,7 +12,7 @@ use Rattle.turn_client_api.specs.Connections.{is_indicated, most_indicated}
 use Rattle.turn_client_api.proofs.HasLemmas.{Has}
 use Rattle.turn_client_api.proofs.NumberLemmas.{none-filter}
 use Rattle.turn_client_api.proofs.DoubleLemmas.{none-without_first}
-use Rattle.turn_client_api.proofs.Edits.{KeepsAllEdits, KeepsEdits, outline}
+use Rattle.turn_client_api.proofs.Edits.{KeepsAllEdits, KeepsEdits, aged-outlines, outline}
 
 pub record KeepsGrants (P : List Grant → Type 0) : Type 0 where
   -- grants go
@@ -41,24 +41,26 @@ module _ (P : List Grant → Type 0) (k : KeepsGrants P) where
     same = λ s h. h;
     trans = λ s t u first second h. second (first h);
     aside = λ s t h. h;
-    families = λ families s h. h;
-    sends = λ now s h. h;
+    queues = λ queue s begun h. h;
+    dequeues = λ queue s fewer h. h;
+    families = λ families s may h. h;
+    sends = λ now s waits h. h;
     begins = λ now s new h. h;
-    ends = λ s h. h;
-    asks = λ id text purposes now s askable h. h;
+    ends = λ s none h. h;
+    asks = λ id text purposes now s begun askable spelled h. h;
     finishes = λ id s h. h;
     resends = λ id now s h. h;
     unlists = λ which s h. h;
     removes = λ which s spares h. k.filters (λ g. not (which g)) s.grants h;
     removes_family = λ family s h. k.filters (λ g. not (is_of family g)) s.grants h;
     takes_offer = λ id peer s h. k.takes_offer id peer s.grants h;
-    reshapes = λ grants s e h. k.reshapes s.grants grants e h;
+    ages = λ grants s e h. k.reshapes s.grants grants (aged-outlines grants s.grants e) h;
     permission = λ ip s phase room none h. k.permission ip Pending s.grants none h;
     channel = λ number peer s phase room none within h. k.channel number peer s.grants none within h;
     connect = λ peer s phase room none h. k.connect peer s.grants none h;
-    connection = λ id c origin s phase offer none h.
+    connection = λ id c origin s phase offer none waits h.
         k.connection c (offer_taken id c.peer s).grants (none-without_first (is_connection_from c.local) (is_offer_of id c.peer) s.grants none) (k.takes_offer id c.peer s.grants h);
-    rebinds = λ number peer was progress s there h. k.rebinds number peer was progress s.grants there h;
+    reserves = λ number peer was until s there h. k.rebinds number peer was (Reserved until) s.grants there h;
   }
 
   -- the offer that comes
@@ -72,14 +74,16 @@ module _ (P : List Grant → Type 0) (k : KeepsGrants P) where
   pub grants-KeepsAllEdits : KeepsAllEdits Stays
   grants-KeepsAllEdits = record {
     edits = grants-KeepsEdits;
+    reshapes = λ grants s e h. k.reshapes s.grants grants e h;
+    rebinds = λ number peer was progress s there h. k.rebinds number peer was progress s.grants there h;
     holds = λ message d s e h. h;
     counts = λ s held few h. h;
-    resets = λ s h. h;
+    resets = λ heeded s h. h;
     empties = λ s h. k.filters (λ g. not true) s.grants h;
-    allocates = λ message lifetime now s phase h. k.allocates lifetime now s.families (relayed_in message) s.grants h;
+    allocates = λ message lifetime now s phase none h. k.allocates lifetime now s.families (relayed_in message) s.grants h;
     permits = λ ip expiry s is h.
         k.permission ip (Active expiry) (without (is_permission_of ip) s).grants (none-filter (is_permission_of ip) s.grants) (k.filters (λ g. not (is_permission_of ip g)) s.grants h);
-    connects = λ id connection_id peer s t since granted listed h.
-        k.offers (offer connection_id peer OwnConnect) (without (is_connect_to peer) t).grants (λ e. absurd (own e)) (k.filters (λ g. not (is_connect_to peer g)) t.grants h);
+    connects = λ id connection_id peer s t since stay granted listed h.
+        k.offers (offer connection_id peer OwnConnect) (without (is_connect_to peer) t).grants (λ e. absurd (own e)) (k.filters (λ g. not (is_connect_to peer g)) t.grants (since h));
     offers = λ id peer origin s room few h. k.offers (offer id peer origin) s.grants few h;
   }

@@ -1,156 +1,32 @@
 -- What all calls leave standing: a signed success alone grants more.
-use Rattle.std.proofs.Common.{◌≡◌, ℕ, Bool, true, false, not, cond, ◌&&◌, ◌||◌, List, [], ◌∷◌, filter, Option, Some, None, Result, Ok, Err, refl, subst, sym, ap, ◌∙◌, inl, inr, ◌⊎◌}
-use Rattle.std.specs.Prelude.{is_some, find, reverse, flat_map, slice_get}
+use Rattle.std.proofs.Common.{◌≡◌, ℕ, Bool, true, false, not, cond, List, filter, Some, None, Result, Ok, Err, refl, subst, sym, ap, ◌∙◌, inl, inr, ◌⊎◌}
 use Rattle.std.specs.List.{Contains}
-use Rattle.turn_types.specs.declared.family.AddressFamily.{AddressFamily}
-use Rattle.turn_agent.specs.Agent.{due, given_up}
-use Rattle.turn_agent.specs.declared.transaction.Transaction.{Transaction}
-use Rattle.turn_client_api.specs.State.{State, Phase, New, Requesting, Authenticating, Allocated, Closed, agent_of}
+use Rattle.turn_client_api.specs.State.{State}
 use Rattle.std.specs.declared.net.socket_addr.SocketAddr.{SocketAddr}
-use Rattle.turn_client_api.specs.State.{Grant, Allocation, Permission, Channel, Connect, Offer, Connection, DataConnection, Relay, Purpose, ForAllocation, ForRefresh, ForPermission, ForChannel, ForConnect, ForBind, Waiting, Pending, Active, Reserved, Stream, later_by}
-use Rattle.turn_client_api.specs.Grants.{changed_allocation, allocations, family_of, is_channel_of, is_connect, is_of, is_pending_channel, is_pending_permission, without}
-use Rattle.turn_client_api.specs.Effect.{closed, ended, reserved_time}
+use Rattle.turn_client_api.specs.State.{Grant, Allocation, Permission, Channel, Connect, Offer, Connection, DataConnection, Purpose, ForAllocation, ForRefresh, ForPermission, ForChannel, ForConnect, ForBind, Waiting, Pending, Active, Reserved, Stream}
+use Rattle.turn_client_api.specs.Grants.{changed_allocation}
 use Rattle.turn_client_api.specs.declared.error.DeleteError.{DeleteError}
 use Rattle.turn_client_api.specs.declared.error.DeleteError.TheVariants as No
 use Rattle.turn_client_api.specs.Connections.{bind_step, deadline_set}
 use Rattle.turn_agent.specs.Agent.{same_address}
 use Rattle.turn_client_api.specs.Receive.{connection_gone}
-use Rattle.turn_client_api.specs.Due.{has_event, has_reply, is_paused}
 use Rattle.turn_client_api.specs.Calls.{deleted, is_allocated, is_granted_in}
-use Rattle.turn_client_api.specs.Poll.{answer_step, channel_lapsed, connections_unbound, given_up_step, given_up_purposes, goes, in_vain, is_lapsed_channel, is_listed_for_allocation, lapsed, lapsed_allocation, lapsed_in, last_channel_lapsed, next_offer, offer_step, offers_in_vain, permissions_lapsed, poll_step, refreshes_in_vain, set_free, timed_step, told, told_first, untold_in}
-use Rattle.turn_client_api.specs.Transmit.{idle_step, queue_step, refreshes_in, transmit_step}
-use Rattle.turn_client_api.specs.Transmit as T
 use Rattle.turn_client_api.specs.Handled.{Turn}
 use Rattle.turn_client_api.specs.Payloads.{is_message, message_step}
-use Rattle.turn_client_api.specs.LawsHandled.{IsDoneBy, IsOverControl, MayLeave, TakesTurns}
+use Rattle.turn_client_api.specs.LawsHandled.{IsDoneBy, IsOverControl, TakesTurns}
 use Rattle.turn_client_api.specs.LawsBound.{IsBindTurn}
 use Rattle.turn_client_api.specs.LawsGranted.{HasCause, IsEndedNow, IsGivenFor, IsGrant, IsGrantTurn, IsGrantedBy, IsGrantedIn, IsKeptAs, IsStanding, Stood}
 use Rattle.turn_client_api.specs.Steps.{Call, state_after, Delete, CreatePermission, BindChannel, TcpConnect, AllocatedTcpSocket, TcpClosed, SendTo, Recv, PollRecv, Poll, PollTransmit, PollEvent, RelayedAddresses, Permissions, HavePermission, ProtocolError}
+use Rattle.turn_client_api.specs.Steps as S
 use Rattle.turn_client_api.proofs.HasLemmas.{Has, has-filter}
-use Rattle.turn_client_api.proofs.StandLemmas.{Covers, Leaves, Left, contains-has, covers-has, covers-left, covers-stood, has-contains, kept-same, kept-stood, kept-trans, leaves-cond, leaves-fold, leaves-same, leaves-trans, left-cons, left-filter, left-one, left-same, left-trans}
-use Rattle.turn_client_api.proofs.GivenLemmas.{has-mapped}
-use Rattle.turn_client_api.proofs.GivenMessageLemmas.{message-brings}
-use Rattle.turn_client_api.proofs.GivenCallLemmas.{Binds, BindsOrLeaves, bind-leaves, bind_channel-leaves, connect-leaves, either, error-leaves, found, gone-leaves, permission-leaves, send-leaves, tcp_closed-leaves, tcp_socket-leaves, without-leaves}
+use Rattle.turn_client_api.proofs.StandLemmas.{Covers, Leaves, contains-has, covers-has, covers-left, covers-stood, has-contains, kept-stood, kept-trans, leaves-same}
+use Rattle.turn_client_api.proofs.GrantOriginLemmas.{has-mapped}
+use Rattle.turn_client_api.proofs.GrantOriginMessageLemmas.{message-brings}
+use Rattle.turn_client_api.proofs.GrantOriginCallLemmas.{Binds, BindsOrLeaves, Leaves-KeepsEdits, bind-leaves, gone-leaves}
+use Rattle.turn_client_api.proofs.EditsOfCalls.{quiet-walk, tcp_socket-walk}
 use Rattle.turn_client_api.proofs.AddressLemmas.{same_address-true}
 use Rattle.turn_client_api.proofs.BoundLemmas.{binds-turn, found-local}
-use Rattle.turn_client_api.proofs.TurnBringLemmas.{IsBrought, may-bring}
-
--- ---- as time passes
-
--- a channel that lapsed is reserved, and does not stand
-channel_lapsed-leaves : (o : Option Grant) (s : State) → Leaves s (channel_lapsed o s)
-channel_lapsed-leaves None s = leaves-same s
-channel_lapsed-leaves (Some (Channel number peer (Active expiry))) s =
-    let less = without (is_channel_of number) s in
-    left-trans s.grants less.grants _ (without-leaves (is_channel_of number) s)
-    (left-one less.grants (Channel number peer (Reserved (later_by reserved_time expiry))) (λ stands. stands))
-channel_lapsed-leaves (Some (Channel number peer Pending)) s = leaves-same s
-channel_lapsed-leaves (Some (Channel number peer (Reserved until))) s = leaves-same s
-channel_lapsed-leaves (Some (Allocation a)) s = leaves-same s
-channel_lapsed-leaves (Some (Permission ip progress)) s = leaves-same s
-channel_lapsed-leaves (Some (Connect peer)) s = leaves-same s
-channel_lapsed-leaves (Some (Offer offer)) s = leaves-same s
-channel_lapsed-leaves (Some (Connection c)) s = leaves-same s
-
-lapsed_in-leaves : (family : AddressFamily) (given : Option ℕ) (purposes : List Purpose) (now : ℕ) (s : State) → Leaves s (lapsed_in family given purposes now s)
-lapsed_in-leaves family given purposes now s =
-    let a = in_vain family purposes is_pending_channel s in
-    let b = in_vain family purposes is_pending_permission a in
-    let c = last_channel_lapsed family now b in
-    let d = permissions_lapsed family now c in
-    let e = in_vain family purposes is_connect d in
-    let f = connections_unbound family purposes now e in
-    let g = offers_in_vain family given f in
-    let h = refreshes_in_vain family purposes g in
-    leaves-trans s a (set_free family now h) (left-filter _ s.grants)
-    (leaves-trans a b (set_free family now h) (left-filter _ a.grants)
-    (leaves-trans b c (set_free family now h) (channel_lapsed-leaves (find (λ g. is_of family g && is_lapsed_channel now g) (reverse b.grants)) b)
-    (leaves-trans c d (set_free family now h) (left-filter _ c.grants)
-    (leaves-trans d e (set_free family now h) (left-filter _ d.grants)
-    (leaves-trans e f (set_free family now h) (left-filter _ e.grants)
-    (leaves-trans f g (set_free family now h) (left-filter _ f.grants)
-    (left-filter _ h.grants)))))))
-
-lapsed-leaves : (given : Option ℕ) (now : ℕ) (s : State) → Leaves s (lapsed given now s)
-lapsed-leaves given now s = leaves-fold (lapsed_allocation given purposes now) by (allocations s) s
-  where
-    purposes : List Purpose
-    purposes = given_up_purposes given s
-
-    by : (t : State) (a : Relay) → Leaves t (lapsed_allocation given purposes now t a)
-    by t a = leaves-cond (goes purposes now t a) t _ _ (left-filter _ t.grants) (lapsed_in-leaves (family_of a.relayed) given purposes now t)
-
-answer_by : (closes : List SocketAddr) (p : Phase) (given : Option ℕ) (now : ℕ) (s : State) → Leaves (record s { closes = closes; phase = p }) (answer_step given now (record s { closes = closes; phase = p })).1
-answer_by (local ∷ others) p given now s = leaves-same s
-answer_by [] New given now s = leaves-same s
-answer_by [] Requesting given now s = leaves-same s
-answer_by [] Authenticating given now s = leaves-same s
-answer_by [] Closed given now s = leaves-same s
-answer_by [] Allocated given now s = by (allocations s) refl
-  where
-    u : State
-    u = record s { closes = []; phase = Allocated }
-
-    by : (l : List Relay) → allocations s ≡ l → Leaves u (answer_step given now u).1
-    by [] e = rw e (leaves-same u)
-    by (a ∷ others) e = rw e (leaves-same u)
-
-answer-leaves : (given : Option ℕ) (now : ℕ) (s : State) → Leaves s (answer_step given now s).1
-answer-leaves given now s = answer_by s.closes s.phase given now s
-
-timed_in_phase : (p : Phase) (given : Option ℕ) (now : ℕ) (s : State) → Leaves (record s { phase = p }) (timed_step p given now (record s { phase = p })).1
-timed_in_phase New given now s = leaves-same s
-timed_in_phase Requesting (Some id) now s = leaves-same s
-timed_in_phase Requesting None now s = answer-leaves None now (record s { phase = Requesting })
-timed_in_phase Authenticating (Some id) now s =
-    let u = record s { phase = Authenticating } in
-    let t = cond (is_listed_for_allocation id u) (closed u) u in
-    leaves-trans u t (answer_step (Some id) now t).1 (leaves-cond (is_listed_for_allocation id u) u (closed u) u (leaves-same u) (leaves-same u)) (answer-leaves (Some id) now t)
-timed_in_phase Authenticating None now s = answer-leaves None now (record s { phase = Authenticating })
-timed_in_phase Allocated given now s =
-    let u = record s { phase = Allocated } in
-    leaves-trans u (lapsed given now u) (answer_step given now (lapsed given now u)).1 (lapsed-leaves given now u) (answer-leaves given now (lapsed given now u))
-timed_in_phase Closed given now s = leaves-same s
-
-told-kept : (g : Grant) → IsStanding (told g) → IsKeptAs g (told g)
-told-kept (Allocation a) = kept-same (Allocation a)
-told-kept (Permission ip progress) = kept-same (Permission ip progress)
-told-kept (Channel number peer progress) = kept-same (Channel number peer progress)
-told-kept (Connect peer) = kept-same (Connect peer)
-told-kept (Offer offer) = λ stands. absurd stands
-told-kept (Connection c) = kept-same (Connection c)
-
-told-left : (family : AddressFamily) (grants : List Grant) → Left grants (told_first family grants)
-told-left family [] = left-same []
-told-left family (g ∷ others) = by (is_some (untold_in family g)) (told-left family others)
-  where
-    by : (b : Bool) → Left others (told_first family others) → Left (g ∷ others) (cond b (told g ∷ others) (g ∷ told_first family others))
-    by true later = left-cons g (told g) others others (told-kept g) (left-same others)
-    by false later = left-cons g g others (told_first family others) (kept-same g) later
-
-poll-leaves : (now : ℕ) (s : State) → Leaves s (poll_step now s).1
-poll-leaves now s =
-    either (has_event s || has_reply s) s _ _ (leaves-same s)
-    (found (λ offer. offer_step offer s) (next_offer s) s (given_up_step now s) (λ offer. told-left (family_of offer.peer) s.grants)
-    (found (λ (t : Transaction). timed_step s.phase (Some t.id) now (ended t.id s)) (given_up (agent_of s) now) s (timed_step s.phase None now s)
-    (λ t. timed_in_phase s.phase (Some t.id) now (ended t.id s)) (timed_in_phase s.phase None now s)))
-
--- ---- what is sent
-
-idle-leaves : (p : Phase) (now : ℕ) (s : State) → Leaves (record s { phase = p }) (idle_step p now (record s { phase = p })).1
-idle-leaves New now s = leaves-same s
-idle-leaves Requesting now s = leaves-same s
-idle-leaves Authenticating now s = leaves-same s
-idle-leaves Closed now s = leaves-same s
-idle-leaves Allocated now s =
-    let u = record s { phase = Allocated } in
-    found _ (slice_get (flat_map (refreshes_in now u) (allocations u)) 0) u (None, u) (λ purpose. leaves-same u) (leaves-same u)
-
-transmit-leaves : (now : ℕ) (s : State) → Leaves s (transmit_step now s).1
-transmit-leaves now s =
-    found _ (due (agent_of s) now) s _ (λ t. leaves-same s)
-    (either (is_paused now s) s (T.reply_step s) (queue_step now s) (leaves-same s)
-    (found _ (slice_get s.queue 0) s (idle_step s.phase now s) (λ q. leaves-same s) (idle-leaves s.phase now s)))
+use Rattle.turn_client_api.proofs.TurnBringLemmas.{IsBrought, leaves-bring}
 
 -- ---- all of them
 
@@ -300,26 +176,16 @@ module _ (s : State) (g : Grant) where
       by (inr e) = inr (ended is g e kept)
 
   call-grants : (call : Call) → (TakesTurns call → ⊥) → Covers (state_after call s).grants g → Before call
-  call-grants (Delete now) other covers = deleted-covers now covers
-  call-grants (CreatePermission transport peer now) other covers = left (CreatePermission transport peer now) (permission-leaves transport peer now s) covers
-  call-grants (BindChannel transport peer now) other covers = left (BindChannel transport peer now) (bind_channel-leaves transport peer now s) covers
-  call-grants (TcpConnect peer now) other covers = left (TcpConnect peer now) (connect-leaves peer now s) covers
-  call-grants (AllocatedTcpSocket id tuple peer local now) other covers = left (AllocatedTcpSocket id tuple peer local now) (tcp_socket-leaves id tuple peer local now s) covers
-  call-grants (TcpClosed local remote now) other covers = left (TcpClosed local remote now) (tcp_closed-leaves local remote s) covers
-  call-grants (SendTo transport peer bytes now) other covers = left (SendTo transport peer bytes now) (send-leaves transport peer bytes now s) covers
   call-grants (Recv packet now) other covers = absurd (other tt)
   call-grants (PollRecv now) other covers = absurd (other tt)
-  call-grants (Poll now) other covers = left (Poll now) (poll-leaves now s) covers
-  call-grants (PollTransmit now) other covers = left (PollTransmit now) (transmit-leaves now s) covers
-  call-grants PollEvent other covers = left PollEvent (leaves-same s) covers
-  call-grants RelayedAddresses other covers = left RelayedAddresses (leaves-same s) covers
-  call-grants (Permissions transport relayed) other covers = left (Permissions transport relayed) (leaves-same s) covers
-  call-grants (HavePermission transport to) other covers = left (HavePermission transport to) (leaves-same s) covers
-  call-grants ProtocolError other covers = left ProtocolError (error-leaves s) covers
+  call-grants (Delete now) other covers = deleted-covers now covers
+  call-grants (AllocatedTcpSocket id tuple peer local now) other covers =
+      left (AllocatedTcpSocket id tuple peer local now) (tcp_socket-walk Leaves Leaves-KeepsEdits (λ s streams. leaves-same s) id tuple peer local now s) covers
+  call-grants call other covers = left call (quiet-walk Leaves Leaves-KeepsEdits call s tt) covers
 
-pub leaves-grants : (call : Call) (s t : State) (g : Grant) → MayLeave call s t → Contains t.grants g → IsStanding g → HasCause call s g
+pub leaves-grants : (call : Call) (s t : State) (g : Grant) → S.Leaves call s t → Contains t.grants g → IsStanding g → HasCause call s g
 leaves-grants call s t g leaves there stands =
-    by (may-bring (λ u. Covers u.grants g) (IsGrantedIn g) (bringing g) (λ call s. IsEndedNow call s g) (λ call s. call-grants s g call) call s t leaves (covers-has t.grants g (contains-has g t.grants there) stands))
+    by (leaves-bring (λ u. Covers u.grants g) (IsGrantedIn g) (bringing g) (λ call s. IsEndedNow call s g) (λ call s. call-grants s g call) call s t leaves (covers-has t.grants g (contains-has g t.grants there) stands))
   where
     by : Covers s.grants g ⊎ IsEndedNow call s g ⊎ IsDoneBy (IsGrantedIn g) call s → Stood s g ⊎ IsEndedNow call s g ⊎ IsDoneBy (IsGrantedIn g) call s
     by (inl covers) = inl (covers-stood s g covers)

@@ -32,35 +32,39 @@ StayHeld-KeepsEdits = record {
   same = λ s h. h;
   trans = λ s t u first second h. second (first h);
   aside = λ s t h. h;
-  families = λ families s h. h;
-  sends = λ now s h. h;
+  queues = λ queue s begun h. h;
+  dequeues = λ queue s fewer h. h;
+  families = λ families s may h. h;
+  sends = λ now s waits h. h;
   begins = λ now s new h. tt;
-  ends = λ s h. tt;
-  asks = λ id text purposes now s askable h. h;
+  ends = λ s none h. tt;
+  asks = λ id text purposes now s begun askable spelled h. h;
   finishes = λ id s h. h;
   resends = λ id now s h. h;
   unlists = λ which s h. h;
   removes = λ which s spares h. h;
   removes_family = λ family s h. h;
   takes_offer = λ id peer s h. h;
-  reshapes = λ grants s e h. h;
+  ages = λ grants s e h. h;
   permission = λ ip s phase room none h. h;
   channel = λ number peer s phase room none within h. h;
   connect = λ peer s phase room none h. h;
-  connection = λ id c origin s phase offer none h. h;
-  rebinds = λ number peer was progress s there h. h;
+  connection = λ id c origin s phase offer none waits h. h;
+  reserves = λ number peer was until s there h. h;
 }
 
 StayHeld-KeepsAllEdits : KeepsAllEdits StayHeld
 StayHeld-KeepsAllEdits = record {
   edits = StayHeld-KeepsEdits;
+  reshapes = λ grants s e h. h;
+  rebinds = λ number peer was progress s there h. h;
   holds = λ message d s e h. held-any s.phase (Some d) refl;
   counts = λ s held few h. held-any (phase_after s.phase) s.held held;
-  resets = λ s h. h;
+  resets = λ heeded s h. h;
   empties = λ s h. h;
-  allocates = λ message lifetime now s e h. held-with (taken_addresses s.families (relayed_in message)) s.held (subst (λ (p : Phase). IsHeldIn p s.held) e h);
+  allocates = λ message lifetime now s e none h. held-with (taken_addresses s.families (relayed_in message)) s.held (subst (λ (p : Phase). IsHeldIn p s.held) e h);
   permits = λ ip expiry s is h. h;
-  connects = λ id connection_id peer s t since granted listed h. h;
+  connects = λ id connection_id peer s t since stay granted listed. since;
   offers = λ id peer origin s room few h. h;
 }
 
@@ -68,4 +72,4 @@ pub initial-HoldsChallenge : (transport : TransportType) (local remote : SocketA
 initial-HoldsChallenge transport local remote config seed = tt
 
 pub leaves-HoldsChallenge : (call : Call) (s t : State) → Leaves call s t → HoldsChallenge s → HoldsChallenge t
-leaves-HoldsChallenge = leaves-walk StayHeld StayHeld-KeepsAllEdits
+leaves-HoldsChallenge = leaves-walk StayHeld StayHeld-KeepsAllEdits (λ s streams h. h)

@@ -100,4 +100,4 @@ pub initial-HasFewIndicated : (transport : TransportType) (local remote : Socket
 initial-HasFewIndicated transport local remote config seed = omega arith
 
 pub leaves-HasFewIndicated : (call : Call) (s t : State) → Leaves call s t → HasFewIndicated s → HasFewIndicated t
-leaves-HasFewIndicated = leaves-walk (λ s t. AreFew s.grants → AreFew t.grants) (grants-KeepsAllEdits AreFew AreFew-KeepsGrants)
+leaves-HasFewIndicated = leaves-walk (λ s t. AreFew s.grants → AreFew t.grants) (grants-KeepsAllEdits AreFew AreFew-KeepsGrants) (λ s streams h. h)

@@ -96,7 +96,7 @@ module _ (R : State → State → Type 0) (k : IsKept R) (ends : (s : State) →
   memory-kept (AllocatedTcpSocket id tuple peer local now) s t e = same-kept s t e
   memory-kept (TcpClosed local remote now) s t e = same-kept s t e
   memory-kept (SendTo transport peer bytes now) s t none = absurd none
-  memory-kept (Recv packet now) s t h = recv_end-kept packet.to packet.payload now s t h
+  memory-kept (Recv packet now) s t (asks, end) = recv_end-kept packet.to packet.payload now s t end
   memory-kept (PollRecv now) s t h = turns_end-kept now s t h
   memory-kept (Poll now) s t e = closed-kept s s t (k.same s) e
   memory-kept (PollTransmit now) s t e = closed-kept s s t (k.same s) e

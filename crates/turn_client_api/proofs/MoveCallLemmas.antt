@@ -22,7 +22,7 @@ use Rattle.turn_client_api.specs.LawsGone.{IsTakenBy, bare}
 use Rattle.turn_client_api.proofs.HasLemmas.{Has, has-right}
 use Rattle.turn_client_api.proofs.MoveLemmas.{Moves, Never, Settles, adds-more, adds-one, adds-same, adds-wider, by_test, loses-map, loses-more, loses-same, settles-moves, settles-same}
 use Rattle.turn_client_api.proofs.MoveMessageLemmas.{request_made, requested-made}
-use Rattle.turn_client_api.proofs.MoveReplyLemmas.{unmapped}
+use Rattle.turn_client_api.proofs.GrantOriginLemmas.{has-mapped}
 use Rattle.turn_client_api.proofs.StandLemmas.{has-contains}
 
 -- what the call makes, if it leaves this state
@@ -109,7 +109,7 @@ module _ (transport : TransportType) (peer : SocketAddr) (now : ℕ) (s : State)
   -- a permission comes with the channel
   listed-with : (number : ℕ) (ips : List IpAddr) (b : Bool) → ips ≡ cond b (socket_ip peer ∷ []) [] → (p : Purpose) → Has p (ForChannel number peer ∷ map ForPermission ips) → IsListedFor (ForChannel number peer) p
   listed-with number ips b e p (inl is) = inl is
-  listed-with number ips b e p (inr h) = by (unmapped ForPermission p ips h)
+  listed-with number ips b e p (inr h) = by (has-mapped ForPermission p ips h)
     where
       one : (c : Bool) (ip : IpAddr) → Has ip (cond c (socket_ip peer ∷ []) []) → ip ≡ socket_ip peer
       one true ip (inl is) = is
@@ -146,7 +146,7 @@ module _ (transport : TransportType) (peer : SocketAddr) (now : ℕ) (s : State)
       }
 
       listed : (l : Listing) → Has l (listings (fresh_id s) (purpose ∷ map ForPermission (missing_permission peer s))) → ListedAt binding s t l
-      listed l there = by (unmapped (λ (p : Purpose). record { id = fresh_id s; purpose = p }) l (purpose ∷ map ForPermission (missing_permission peer s)) there)
+      listed l there = by (has-mapped (λ (p : Purpose). record { id = fresh_id s; purpose = p }) l (purpose ∷ map ForPermission (missing_permission peer s)) there)
         where
           by : (p : Purpose) × Has p (purpose ∷ map ForPermission (missing_permission peer s)) × (l ≡ record { id = fresh_id s; purpose = p }) → ListedAt binding s t l
           by (p, h, e) = rw e (purpose, now, asks, listed-with number (missing_permission peer s) (is_none (permission_for (socket_ip peer) s)) refl p h, (made, refl))

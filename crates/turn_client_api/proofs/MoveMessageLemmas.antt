@@ -21,7 +21,7 @@ use Rattle.turn_client_api.specs.Grants.{allocation_for, connection_in, is_conne
 use Rattle.turn_client_api.specs.Requests.{connection_attempt_method, connection_bind_method, fresh_id, listings, request_for, requested}
 use Rattle.turn_client_api.specs.Judgement.{Judgement, Unrelated, Challenged, Fatal, LateResponse, DataIndication, ConnectionAttempt, SignedRequest, SignedSuccess, SignedError, answers_allocate, authenticating_judgement, bind_judgement, class_in, connection_id_in, is_bind_of, judgement_of, lifetime_in, method_in, peer_in}
 use Rattle.turn_client_api.specs.Effect.{allocate_denied, allocate_granted, ended, family_not_supported, has_code, in_phase}
-use Rattle.turn_client_api.specs.Retry.{first_or, is_allocate_or_connect, is_channel_bind, is_create_permission, is_refresh, bind_time, most_challenges, retried, state_after_retry, with_held}
+use Rattle.turn_client_api.specs.Retry.{bind_time, most_challenges, retried, state_after_retry, with_held}
 use Rattle.turn_client_api.specs.Connections.{attempt_indicated, attempt_requested, bind_again, bind_answered, bind_step, connection_at, deadline_set, is_connected, is_heeded, bound, not_bound, with_deadline}
 use Rattle.turn_client_api.specs.Payloads.{Outcome, Handled, Ignored, challenge_step, channel_sent, datagram_step, is_channel_frame, is_message, message_step, response_step, signed_step, wrong_step}
 use Rattle.turn_client_api.specs.Streams.{frame_step}
@@ -29,9 +29,11 @@ use Rattle.turn_client_api.specs.LawsReplies.{IsAccepted}
 use Rattle.turn_client_api.specs.LawsRequests.{IsAnswer, IsListedAgain, IsMade, IsMadeAgain}
 use Rattle.turn_client_api.specs.LawsGone.{GivesBack, IsOverItself, IsTakenByReply, IsTakenInTurn, bare}
 use Rattle.turn_client_api.proofs.AddressLemmas.{same_address-true}
+use Rattle.turn_client_api.proofs.EditsOfMessages.{found-has, retried-has}
 use Rattle.turn_client_api.proofs.HasLemmas.{Has, has-found, has-right}
 use Rattle.turn_client_api.proofs.MoveLemmas.{Moves, Never, Settles, adds-filter, adds-more, adds-one, adds-same, by_test, loses-filter, loses-map, loses-more, loses-same, loses-wider, on_test, settles-moves, settles-same, settles-wider}
-use Rattle.turn_client_api.proofs.MoveReplyLemmas.{IsFor, response-fits, unmapped}
+use Rattle.turn_client_api.proofs.MoveReplyLemmas.{IsFor, response-fits}
+use Rattle.turn_client_api.proofs.GrantOriginLemmas.{has-mapped}
 use Rattle.turn_client_api.proofs.StandLemmas.{has-contains}
 
 -- the message asks for this, and takes grants so
@@ -44,29 +46,13 @@ turns-settled Taken message now s t settles = settles-moves (IsMadeAgain message
 pub turns-same : (Taken : Grant → Type 0) (message : List ℕ) (now : ℕ) (s : State) → Turns Taken message now s s
 turns-same Taken message now s = turns-settled Taken message now s s (settles-same Taken s)
 
--- ---- for what a request is made again
-
-first-either : (P : Purpose → Type 0) (a b : Option Purpose) → ((p : Purpose) → a ≡ Some p → P p) → ((p : Purpose) → b ≡ Some p → P p) → (p : Purpose) → first_or a b ≡ Some p → P p
-first-either P None b of_a of_b p e = of_b p e
-first-either P (Some q) b of_a of_b p e = of_a p e
-
-found-has : (which : Purpose → Bool) (all : List Purpose) (p : Purpose) → find which all ≡ Some p → Has p all
-found-has which all p e = (has-found which p all e).0
-
-retried-has : (all : List Purpose) (p : Purpose) → retried all ≡ Some p → Has p all
-retried-has all p e =
-    first-either (λ q. Has q all) (find is_refresh all) _ (found-has is_refresh all)
-    (first-either (λ q. Has q all) (find is_channel_bind all) _ (found-has is_channel_bind all)
-    (first-either (λ q. Has q all) (find is_create_permission all) (find is_allocate_or_connect all) (found-has is_create_permission all) (found-has is_allocate_or_connect all)))
-    p e
-
 -- the request is made for one purpose, and listed for some
 module _ (message : List ℕ) (now : ℕ) (s t : State) (purpose : Purpose) (answers : Has purpose (purposes_of (id_of message) s)) (made : IsMade purpose now s t) where
   made-again : IsMadeAgain message now s t (first_sent (fresh_id s) t.remote now made.text)
   made-again = (purpose, has-contains purpose (purposes_of (id_of message) s) answers, (made, refl))
 
   listed-again : (some : List Purpose) → ((p : Purpose) → Has p some → Has p (purposes_of (id_of message) s)) → (l : Listing) → Has l (listings (fresh_id s) some) → IsListedAgain message now s t l
-  listed-again some each l there = by (unmapped (λ (p : Purpose). record { id = fresh_id s; purpose = p }) l some there)
+  listed-again some each l there = by (has-mapped (λ (p : Purpose). record { id = fresh_id s; purpose = p }) l some there)
     where
       by : (p : Purpose) × Has p some × (l ≡ record { id = fresh_id s; purpose = p }) → IsListedAgain message now s t l
       by (p, h, e) = rw e (

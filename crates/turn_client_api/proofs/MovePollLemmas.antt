@@ -23,7 +23,7 @@ use Rattle.turn_client_api.proofs.HasLemmas.{Has, all-has, has-found, has-right}
 use Rattle.turn_client_api.proofs.LapseLemmas.{lapsed-shrinks}
 use Rattle.turn_client_api.proofs.MoveCallLemmas.{Does, ListedAt, MadeAt, does-same, does-settled}
 use Rattle.turn_client_api.proofs.MoveLemmas.{Adds, Loses, Never, Remains, Settles, adds-filter, adds-one, adds-same, adds-then, by_test, loses-same, on_test, settles-same}
-use Rattle.turn_client_api.proofs.MoveReplyLemmas.{unmapped}
+use Rattle.turn_client_api.proofs.GrantOriginLemmas.{has-mapped}
 use Rattle.turn_client_api.proofs.MoveSocketLemmas.{by_found}
 use Rattle.turn_client_api.proofs.StandLemmas.{has-contains}
 
@@ -193,7 +193,7 @@ module _ (now : ℕ) (s : State) where
         up-loses up (lapsed (Some x.id) now u).grants,
       )
 
-told-loses : (Taken : Grant → Type 0) (family : AddressFamily) (gs : List Grant) → Loses Taken gs (told_first family gs)
+pub told-loses : (Taken : Grant → Type 0) (family : AddressFamily) (gs : List Grant) → Loses Taken gs (told_first family gs)
 told-loses Taken family [] g h = absurd h
 told-loses Taken family (x ∷ gs) g h = by (is_some (untold_in family x)) h (told-loses Taken family gs g)
   where
@@ -242,7 +242,7 @@ module _ (now : ℕ) (s : State) where
       t = sent now (record s { transactions = resent x.id now s.transactions })
 
       again : Adds (MadeAt sending s t) s.transactions t.transactions
-      again y h = by (unmapped (λ (z : Transaction). cond (eqb z.id x.id) (sent_again now z) z) y s.transactions h)
+      again y h = by (has-mapped (λ (z : Transaction). cond (eqb z.id x.id) (sent_again now z) z) y s.transactions h)
         where
           by : (z : Transaction) × Has z s.transactions × (y ≡ cond (eqb z.id x.id) (sent_again now z) z) → Has y s.transactions ⊎ MadeAt sending s t y
           by (z, there, e) = at (eqb z.id x.id) e

@@ -1,5 +1,5 @@
 -- What signed replies take: grants that their requests were made for.
-use Rattle.std.proofs.Common.{◌≡◌, ◌⊎◌, ℕ, eqb, leb, Bool, true, false, cond, ◌||◌, List, [], ◌∷◌, ◌++◌, map, filter, fold, Option, Some, None, refl, sym, ap, ◌∙◌, inl, inr}
+use Rattle.std.proofs.Common.{◌≡◌, ◌⊎◌, ℕ, eqb, leb, Bool, true, false, cond, ◌||◌, List, [], ◌∷◌, ◌++◌, filter, fold, Option, Some, None, refl, sym, ap, ◌∙◌, inl, inr}
 use Rattle.std.specs.Option.{option_map_or}
 use Rattle.std.proofs.lemmas.Bool.{and_parts, eqb-true}
 use Rattle.std.specs.declared.net.ip_addr.IpAddr.{IpAddr}
@@ -12,6 +12,7 @@ use Rattle.turn_client_api.specs.Judgement.{connection_id_in, lifetime_in}
 use Rattle.turn_client_api.specs.Effect.{all_gone, allocation_mismatch, channel_answered, connect_answered, effect, ended, given_back, has_code, is_asked_permission, lasting, lasting_if, least_lifetime, listed_permissions_answered, pending_channel_answered, permission_answered, permission_answered_for, prolonged, refreshed, renewed}
 use Rattle.turn_client_api.specs.Payloads.{answered_purposes, response_step}
 use Rattle.turn_client_api.specs.LawsGone.{GivesBack, bare}
+use Rattle.turn_client_api.proofs.GrantOriginLemmas.{has-mapped}
 use Rattle.turn_client_api.proofs.HasLemmas.{Has, filter-has, has-filter, map-has}
 use Rattle.turn_client_api.proofs.MoveLemmas.{Adds, IsOfBare, Never, Settles, adds-filter, adds-same, loses-filter, loses-map, loses-more, loses-same, on_test, settles-same, settles-then}
 
@@ -44,16 +45,8 @@ IsFor-whole all g is same (p, there, inr back) = (p, there, inr back)
 
 -- ---- listings that stay are of the same purposes
 
-pub unmapped : {X Y : Type 0} (f : X → Y) (y : Y) (xs : List X) → Has y (map f xs) → (x : X) × Has x xs × (y ≡ f x)
-unmapped f y [] h = absurd h
-unmapped f y (x ∷ xs) (inl e) = (x, inl refl, e)
-unmapped {X = X} f y (x ∷ xs) (inr h) = by (unmapped f y xs h)
-  where
-    by : (z : X) × Has z xs × (y ≡ f z) → (z : X) × Has z (x ∷ xs) × (y ≡ f z)
-    by (z, there, e) = (z, inr there, e)
-
 pub purposes-stay : (id : ℕ) (s t : State) → Adds Never s.listed t.listed → (p : Purpose) → Has p (purposes_of id t) → Has p (purposes_of id s)
-purposes-stay id s t within p there = by (unmapped (λ (l : Listing). l.purpose) p (filter mine t.listed) there)
+purposes-stay id s t within p there = by (has-mapped (λ (l : Listing). l.purpose) p (filter mine t.listed) there)
   where
     mine : Listing → Bool
     mine l = eqb l.id id

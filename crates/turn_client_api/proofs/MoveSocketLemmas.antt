@@ -26,7 +26,7 @@ use Rattle.turn_client_api.proofs.HasLemmas.{Has, has-right}
 use Rattle.turn_client_api.proofs.MoveLemmas.{Loses, Never, Remains, Settles, adds-filter, adds-more, adds-one, adds-same, by_test, loses-filter, loses-map, loses-more, loses-same, on_test, remains-here, settles-same}
 use Rattle.turn_client_api.proofs.MoveCallLemmas.{Does, ListedAt, MadeAt, does-same, does-settled}
 use Rattle.turn_client_api.proofs.MoveMessageLemmas.{request_made, requested-made}
-use Rattle.turn_client_api.proofs.MoveReplyLemmas.{unmapped}
+use Rattle.turn_client_api.proofs.GrantOriginLemmas.{has-mapped}
 use Rattle.turn_client_api.proofs.StandLemmas.{has-contains}
 
 -- a pair by what is found
@@ -190,13 +190,13 @@ module _ (now : ℕ) (s : State) where
       refresh_of a = ForRefresh (family_of a.relayed) 0
 
       listed : (l : Listing) → Has l (listings (fresh_id s) (map refresh_of (allocations s))) → ListedAt (Delete now) s t l
-      listed l there = by (unmapped (λ (p : Purpose). record { id = fresh_id s; purpose = p }) l (map refresh_of (allocations s)) there)
+      listed l there = by (has-mapped (λ (p : Purpose). record { id = fresh_id s; purpose = p }) l (map refresh_of (allocations s)) there)
         where
           of : (p : Purpose) → (a : Relay) × Has a (allocations s) × (p ≡ refresh_of a) → ListedAt (Delete now) s t (record { id = fresh_id s; purpose = p })
           of p (a, h, e) = rw e (refresh_of a, now, (refl, (family_of a.relayed, refl)), inl refl, (made (family_of a.relayed), refl))
 
           by : (p : Purpose) × Has p (map refresh_of (allocations s)) × (l ≡ record { id = fresh_id s; purpose = p }) → ListedAt (Delete now) s t l
-          by (p, h, e) = rw e (of p (unmapped refresh_of p (allocations s) h))
+          by (p, h, e) = rw e (of p (has-mapped refresh_of p (allocations s) h))
 
   pub delete-does : Does (Delete now) s (delete_step now s).1
   delete-does = by_test (Does (Delete now) s) (is_allocated s.phase) _ _ deleted-does (does-same (Delete now) s)

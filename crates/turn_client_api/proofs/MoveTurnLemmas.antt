@@ -1,24 +1,26 @@
 -- What all calls ask for and take, those that take turns among them.
-use Rattle.std.proofs.Common.{◌≡◌, ◌⊎◌, ℕ, List, [], ◌∷◌, Option, Some, None, true, refl, sym, subst, ◌∙◌, inl, inr}
+use Rattle.std.proofs.Common.{◌≡◌, ◌⊎◌, ℕ, List, [], ◌∷◌, ◌++◌, Option, Some, None, true, refl, sym, subst, ◌∙◌, inl, inr}
 use Rattle.std.specs.List.{Contains}
 use Rattle.turn_agent.specs.declared.transaction.Transaction.{Transaction}
 use Rattle.turn_client_api.specs.State.{State, Grant, Listing, ForBind, Stream}
 use Rattle.turn_client_api.specs.Grants.{is_connection_from}
 use Rattle.turn_client_api.specs.Streams.{most_turns}
 use Rattle.turn_client_api.specs.Handled.{Turn, handled, made_of}
-use Rattle.turn_client_api.specs.Steps.{Call, state_after, Delete, CreatePermission, BindChannel, TcpConnect, AllocatedTcpSocket, TcpClosed, SendTo, Recv, PollRecv, Poll, PollTransmit, PollEvent, RelayedAddresses, Permissions, HavePermission, ProtocolError}
-use Rattle.turn_client_api.specs.LawsHandled.{DiffersInStreams, DoesTurns, IsStreamEnd, TakesTurns, TurnsLead}
+use Rattle.turn_client_api.specs.Effect.{closed}
+use Rattle.turn_client_api.specs.Steps.{Call, EndsWithoutMemory, Leaves, state_after, Delete, CreatePermission, BindChannel, TcpConnect, AllocatedTcpSocket, TcpClosed, SendTo, Recv, PollRecv, Poll, PollTransmit, PollEvent, RelayedAddresses, Permissions, HavePermission, ProtocolError}
+use Rattle.turn_client_api.specs.LawsHandled.{DiffersInStreams, DoesTurns, EndsInTurns, IsDoneBy, IsStreamEnd, TakesTurns, TurnsLead}
 use Rattle.turn_client_api.specs.LawsRequests.{IsListedInTurn, IsListingOf, IsMadeInTurn, IsRequestOf}
 use Rattle.turn_client_api.specs.LawsGone.{IsOverItself, IsStillThere, IsTakenBy, IsTakenInTurn}
-use Rattle.turn_client_api.proofs.HasLemmas.{Has}
+use Rattle.turn_client_api.proofs.HasLemmas.{Has, has-filter, has-left}
 use Rattle.turn_client_api.proofs.MoveCallLemmas.{channel-does, connect-does, does-same, does-settled, permission-does}
-use Rattle.turn_client_api.proofs.MoveLemmas.{IsOfBare, Moves, Remains, Settles, remains-here, settles-same}
+use Rattle.turn_client_api.proofs.MoveLemmas.{IsOfBare, Moves, Remains, Settles, adds-filter, adds-same, loses-same, loses-wider, moves-same, remains-here, settles-same}
 use Rattle.turn_client_api.proofs.MoveMessageLemmas.{turn-turns}
 use Rattle.turn_client_api.proofs.MovePollLemmas.{poll-does, transmit-does}
 use Rattle.turn_client_api.proofs.MoveReplyLemmas.{is_for-whole}
 use Rattle.turn_client_api.proofs.MoveSocketLemmas.{closed-does, delete-does, error-does, gone-settles, send-does, taken-does}
 use Rattle.turn_client_api.proofs.StandLemmas.{contains-has, has-contains}
 use Rattle.turn_client_api.proofs.TurnChainLemmas.{calls-do, turns-lead}
+use Rattle.turn_client_api.proofs.TurnEndLemmas.{calls-end}
 
 -- ---- turns one after the other
 
@@ -175,23 +177,75 @@ all-obey (Permissions transport relayed) s = does-same (Permissions transport re
 all-obey (HavePermission transport to) s = does-same (HavePermission transport to) s
 all-obey ProtocolError s = error-does s
 
-pub requests-made : (call : Call) (s : State) (x : Transaction) → Contains (state_after call s).transactions x → Contains s.transactions x ⊎ IsRequestOf call s x
-requests-made call s x there = by ((all-obey call s).0 x (contains-has x (state_after call s).transactions there))
+-- ---- without memory
+
+-- the turns that were taken are among those of the call
+front-among : (Did : Turn → Type 0) (call : Call) (s : State) (front later : List Turn) → handled call s ≡ front ++ later → Among Did front → Among Did (handled call s)
+front-among Did call s front later all (one, there, did) = (one, subst (Has one) (sym all) (has-left one front later there), did)
+
+end-obeys : (call : Call) (s t : State) → EndsInTurns call s t → Moves (λ x. IsDoneBy (IsMadeInTurn x) call s) (λ l. IsDoneBy (IsListedInTurn l) call s) (λ g. IsDoneBy (IsTakenInTurn g) call s) s t
+end-obeys call s t end = subst (λ (u : State). Moves (λ x. IsDoneBy (IsMadeInTurn x) call s) (λ l. IsDoneBy (IsListedInTurn l) call s) (λ g. IsDoneBy (IsTakenInTurn g) call s) s u) (sym end.ended) (
+  λ x h. done (IsMadeInTurn x) (lead-transactions end.front s end.last end.lead x h),
+  λ l h. done (IsListedInTurn l) (lead-listed end.front s end.last end.lead l (has-filter _ l end.last.listed h).0),
+  λ g h. done (IsTakenInTurn g) (lead-grants end.front s end.last end.lead g h),
+)
+  where
+    done : {X : Type 0} (Did : Turn → Type 0) → X ⊎ Among Did end.front → X ⊎ IsDoneBy Did call s
+    done Did (inl x) = inl x
+    done Did (inr among) = inr (among-done Did call s (front-among Did call s end.front end.later end.all among))
+
+-- a call that leaves this
+abbrev ObeysTo : Call → State → State → Type 0
+ObeysTo call s t = Moves (IsRequestOf call s) (IsListingOf call s) (IsTakenBy call s) s t
+
+same-obeys : (call : Call) (s t : State) → t ≡ s → ObeysTo call s t
+same-obeys call s t e = subst (ObeysTo call s) (sym e) (moves-same (IsRequestOf call s) (IsListingOf call s) (IsTakenBy call s) s)
+
+closed-obeys : (call : Call) (s t : State) → t ≡ closed s → ObeysTo call s t
+closed-obeys call s t e = subst (ObeysTo call s) (sym e) (adds-same (IsRequestOf call s) s.transactions, adds-filter (IsListingOf call s) _ s.listed, loses-same (IsTakenBy call s) s.grants)
+
+none-obeys : (call : Call) (s t : State) → EndsWithoutMemory call s t → ObeysTo call s t
+none-obeys (Recv packet now) s t end =
+    let (made, listed, lost) = end-obeys (Recv packet now) s t (calls-end (Recv packet now) s t tt end) in
+    (made, listed, loses-wider (λ g. IsDoneBy (IsTakenInTurn g) (Recv packet now) s) (IsTakenBy (Recv packet now) s) s.grants t.grants (λ g h. inl h) lost)
+none-obeys (PollRecv now) s t end = end-obeys (PollRecv now) s t (calls-end (PollRecv now) s t tt end)
+none-obeys (Delete now) s t e = same-obeys (Delete now) s t e
+none-obeys (CreatePermission transport peer now) s t e = same-obeys (CreatePermission transport peer now) s t e
+none-obeys (BindChannel transport peer now) s t e = same-obeys (BindChannel transport peer now) s t e
+none-obeys (TcpConnect peer now) s t e = same-obeys (TcpConnect peer now) s t e
+none-obeys (AllocatedTcpSocket id tuple peer local now) s t e = same-obeys (AllocatedTcpSocket id tuple peer local now) s t e
+none-obeys (TcpClosed local remote now) s t e = same-obeys (TcpClosed local remote now) s t e
+none-obeys (SendTo transport peer bytes now) s t none = absurd none
+none-obeys (Poll now) s t e = closed-obeys (Poll now) s t e
+none-obeys (PollTransmit now) s t e = closed-obeys (PollTransmit now) s t e
+none-obeys PollEvent s t none = absurd none
+none-obeys RelayedAddresses s t none = absurd none
+none-obeys (Permissions transport relayed) s t none = absurd none
+none-obeys (HavePermission transport to) s t none = absurd none
+none-obeys ProtocolError s t e = closed-obeys ProtocolError s t e
+
+-- whether or not the call finds memory
+leaves-obeys : (call : Call) (s t : State) → Leaves call s t → ObeysTo call s t
+leaves-obeys call s t (inl e) = subst (ObeysTo call s) (sym e) (all-obey call s)
+leaves-obeys call s t (inr end) = none-obeys call s t end
+
+pub requests-made : (call : Call) (s t : State) (x : Transaction) → Leaves call s t → Contains t.transactions x → Contains s.transactions x ⊎ IsRequestOf call s x
+requests-made call s t x leaves there = by ((leaves-obeys call s t leaves).0 x (contains-has x t.transactions there))
   where
     by : Has x s.transactions ⊎ IsRequestOf call s x → Contains s.transactions x ⊎ IsRequestOf call s x
     by (inl h) = inl (has-contains x s.transactions h)
     by (inr is) = inr is
 
-pub listings-made : (call : Call) (s : State) (l : Listing) → Contains (state_after call s).listed l → Contains s.listed l ⊎ IsListingOf call s l
-listings-made call s l there = by ((all-obey call s).1 l (contains-has l (state_after call s).listed there))
+pub listings-made : (call : Call) (s t : State) (l : Listing) → Leaves call s t → Contains t.listed l → Contains s.listed l ⊎ IsListingOf call s l
+listings-made call s t l leaves there = by ((leaves-obeys call s t leaves).1 l (contains-has l t.listed there))
   where
     by : Has l s.listed ⊎ IsListingOf call s l → Contains s.listed l ⊎ IsListingOf call s l
     by (inl h) = inl (has-contains l s.listed h)
     by (inr is) = inr is
 
-pub grants-taken : (call : Call) (s : State) (g : Grant) → Contains s.grants g → IsStillThere (state_after call s) g ⊎ IsTakenBy call s g
-grants-taken call s g there = by ((all-obey call s).2 g (contains-has g s.grants there))
+pub grants-taken : (call : Call) (s t : State) (g : Grant) → Leaves call s t → Contains s.grants g → IsStillThere t g ⊎ IsTakenBy call s g
+grants-taken call s t g leaves there = by ((leaves-obeys call s t leaves).2 g (contains-has g s.grants there))
   where
-    by : Remains g (state_after call s).grants ⊎ IsTakenBy call s g → IsStillThere (state_after call s) g ⊎ IsTakenBy call s g
-    by (inl (is, h, same)) = inl (is, has-contains is (state_after call s).grants h, same)
+    by : Remains g t.grants ⊎ IsTakenBy call s g → IsStillThere t g ⊎ IsTakenBy call s g
+    by (inl (is, h, same)) = inl (is, has-contains is t.grants h, same)
     by (inr taken) = inr taken

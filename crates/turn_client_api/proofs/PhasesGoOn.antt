@@ -102,57 +102,61 @@ allocates-keeps addresses Requesting s e = cc
 allocates-keeps addresses Allocated s e = cc
 allocates-keeps addresses Closed s e = cc
 
-Keeps-KeepsEdits : KeepsEdits Keeps
+pub Keeps-KeepsEdits : KeepsEdits Keeps
 Keeps-KeepsEdits = record {
   same = keeps-same;
   trans = keeps-trans;
   aside = λ s t. keeps-same s;
-  families = λ families s. keeps-same s;
-  sends = λ now s. (λ h. h, λ h. h, (keeps-same s).2, (omega arith, λ h. refl));
+  queues = λ queue s begun. keeps-same s;
+  dequeues = λ queue s fewer. keeps-same s;
+  families = λ families s may. keeps-same s;
+  sends = λ now s waits. (λ h. h, λ h. h, (keeps-same s).2, (omega arith, λ h. refl));
   begins = λ now s new. begins-keeps s.phase now s new;
-  ends = λ s. (λ h. refl, λ h. h, (keeps-same s).2, (rank-le s.phase, λ h. h));
-  asks = λ id text purposes now s askable. keeps-same s;
+  ends = λ s none. (λ h. refl, λ h. h, (keeps-same s).2, (rank-le s.phase, λ h. h));
+  asks = λ id text purposes now s begun askable spelled. keeps-same s;
   finishes = λ id s. keeps-same s;
   resends = λ id now s. keeps-same s;
   unlists = λ which s. keeps-same s;
   removes = λ which s spares. keeps-same s;
   removes_family = λ family s. keeps-same s;
   takes_offer = λ id peer s. keeps-same s;
-  reshapes = λ grants s e. keeps-same s;
+  ages = λ grants s e. keeps-same s;
   permission = λ ip s phase room none. keeps-same s;
   channel = λ number peer s phase room none within. keeps-same s;
   connect = λ peer s phase room none. keeps-same s;
-  connection = λ id c origin s phase offer none. keeps-same s;
-  rebinds = λ number peer was progress s there. keeps-same s;
+  connection = λ id c origin s phase offer none waits. keeps-same s;
+  reserves = λ number peer was until s there. keeps-same s;
 }
 
-Keeps-KeepsAllEdits : KeepsAllEdits Keeps
+pub Keeps-KeepsAllEdits : KeepsAllEdits Keeps
 Keeps-KeepsAllEdits = record {
   edits = Keeps-KeepsEdits;
+  reshapes = λ grants s e. keeps-same s;
+  rebinds = λ number peer was progress s there. keeps-same s;
   holds = λ message d s e. (λ h. h, λ h. h, takes-realm s message d e, (keeps-same s).3);
   counts = λ s held few. (λ h. ap phase_after h, λ h. omega (arith, few), (keeps-same s).2, (rank-after s.phase, λ h. h));
-  resets = λ s. (λ h. h, λ h. omega arith, (keeps-same s).2, (keeps-same s).3);
+  resets = λ heeded s. (λ h. h, λ h. omega arith, (keeps-same s).2, (keeps-same s).3);
   empties = λ s. keeps-same s;
-  allocates = λ message lifetime now s e. allocates-keeps (taken_addresses s.families (relayed_in message)) s.phase s e;
+  allocates = λ message lifetime now s e none. allocates-keeps (taken_addresses s.families (relayed_in message)) s.phase s e;
   permits = λ ip expiry s is. keeps-same s;
-  connects = λ id connection_id peer s t since granted listed. keeps-same t;
+  connects = λ id connection_id peer s t since stay granted listed. since;
   offers = λ id peer origin s room few. keeps-same s;
 }
 
 -- ---- all of them
 
 pub message-keeps : (message : List ℕ) (now : ℕ) (s : State) → Keeps s (message_step message now s).1
-message-keeps = (edits-IsKept Keeps Keeps-KeepsAllEdits).message
+message-keeps = (edits-IsKept Keeps Keeps-KeepsAllEdits (λ s streams. keeps-same s)).message
 
 pub bind-keeps : (local : SocketAddr) (message : List ℕ) (now : ℕ) (s : State) → Keeps s (bind_step local message now s)
-bind-keeps = (edits-IsKept Keeps Keeps-KeepsAllEdits).binds
+bind-keeps = (edits-IsKept Keeps Keeps-KeepsAllEdits (λ s streams. keeps-same s)).binds
 
 pub call-keeps : (call : Call) (s : State) → Keeps s (state_after call s)
-call-keeps = calls-walk Keeps Keeps-KeepsAllEdits
+call-keeps = calls-walk Keeps Keeps-KeepsAllEdits (λ s streams. keeps-same s)
 
 -- whether or not the call finds memory
 pub leaves-keeps : (call : Call) (s t : State) → Leaves call s t → Keeps s t
-leaves-keeps = leaves-walk Keeps Keeps-KeepsAllEdits
+leaves-keeps = leaves-walk Keeps Keeps-KeepsAllEdits (λ s streams. keeps-same s)
 
 -- a client that has ended says so when nothing waits
 told_of : (p : Phase) (events : List TurnEvent) (now : ℕ) (s : State) → p ≡ Closed → events ≡ [] → has_reply s ≡ false → (poll_step now (record s { phase = p; events = events })).0 ≡ Do.Closed

@@ -110,7 +110,7 @@ module _ (R : State → State → Type 0) (k : IsKept R) where
       k.trans s t (without_stream stream.local t) (k.gone stream.local s) (k.streams t (without_stream stream.local t).streams)
   stream-kept stream (b ∷ bs) now s = piece_in_mode stream.mode stream (b ∷ bs) now s
 
-  datagram-kept : (bytes : List ℕ) (now : ℕ) (s : State) → R s (datagram_step bytes now s).1
+  pub datagram-kept : (bytes : List ℕ) (now : ℕ) (s : State) → R s (datagram_step bytes now s).1
   datagram-kept bytes now s =
       kept-cond (is_message bytes) s (message_step bytes now s) _ (k.message bytes now s)
       (kept-cond (is_channel_frame bytes) s (channel_sent s bytes, s) (Ignored, s) (k.same s) (k.same s))

@@ -9,7 +9,7 @@ use Rattle.turn_client_api.specs.State.{State, initial}
 use Rattle.turn_client_api.specs.Steps.{Call, Leaves}
 use Rattle.turn_client_api.specs.LawsStates.{AsksServer, IsToServer}
 use Rattle.turn_client_api.proofs.HasLemmas.{Has, all-has, has-all, has-append, has-filter}
-use Rattle.turn_client_api.proofs.GivenLemmas.{has-mapped}
+use Rattle.turn_client_api.proofs.GrantOriginLemmas.{has-mapped}
 use Rattle.turn_client_api.proofs.Edits.{KeepsAllEdits, KeepsEdits}
 use Rattle.turn_client_api.proofs.EditsOfCalls.{leaves-walk}
 
@@ -45,35 +45,39 @@ StayTo-KeepsEdits = record {
   same = λ s h. h;
   trans = λ s t u first second h. second (first h);
   aside = λ s t h. h;
-  families = λ families s h. h;
-  sends = λ now s h. h;
+  queues = λ queue s begun h. h;
+  dequeues = λ queue s fewer h. h;
+  families = λ families s may h. h;
+  sends = λ now s waits h. h;
   begins = λ now s new h. h;
-  ends = λ s h. h;
-  asks = λ id text purposes now s askable h. to-append s.remote s.transactions (first_sent id s.remote now text) refl h;
+  ends = λ s none h. h;
+  asks = λ id text purposes now s begun askable spelled h. to-append s.remote s.transactions (first_sent id s.remote now text) refl h;
   finishes = λ id s h t there. h t (has-filter (λ (x : Transaction). not (eqb x.id id)) t s.transactions there).0;
   resends = λ id now s h. to-resent s.remote id now s.transactions h;
   unlists = λ which s h. h;
   removes = λ which s spares h. h;
   removes_family = λ family s h. h;
   takes_offer = λ id peer s h. h;
-  reshapes = λ grants s e h. h;
+  ages = λ grants s e h. h;
   permission = λ ip s phase room none h. h;
   channel = λ number peer s phase room none within h. h;
   connect = λ peer s phase room none h. h;
-  connection = λ id c origin s phase offer none h. h;
-  rebinds = λ number peer was progress s there h. h;
+  connection = λ id c origin s phase offer none waits h. h;
+  reserves = λ number peer was until s there h. h;
 }
 
 StayTo-KeepsAllEdits : KeepsAllEdits StayTo
 StayTo-KeepsAllEdits = record {
   edits = StayTo-KeepsEdits;
+  reshapes = λ grants s e h. h;
+  rebinds = λ number peer was progress s there h. h;
   holds = λ message d s e h. h;
   counts = λ s held few h. h;
-  resets = λ s h. h;
+  resets = λ heeded s h. h;
   empties = λ s h. h;
-  allocates = λ message lifetime now s e h. h;
+  allocates = λ message lifetime now s e none h. h;
   permits = λ ip expiry s is h. h;
-  connects = λ id connection_id peer s t since granted listed h. h;
+  connects = λ id connection_id peer s t since stay granted listed. since;
   offers = λ id peer origin s room few h. h;
 }
 
@@ -82,4 +86,4 @@ initial-AsksServer transport local remote config seed = all-has (IsToServer (ini
 
 pub leaves-AsksServer : (call : Call) (s t : State) → Leaves call s t → AsksServer s → AsksServer t
 leaves-AsksServer call s t leaves h =
-    all-has (IsToServer t) t.transactions (leaves-walk StayTo StayTo-KeepsAllEdits call s t leaves (λ x there. has-all (IsToServer s) x s.transactions h there))
+    all-has (IsToServer t) t.transactions (leaves-walk StayTo StayTo-KeepsAllEdits (λ s streams h. h) call s t leaves (λ x there. has-all (IsToServer s) x s.transactions h there))

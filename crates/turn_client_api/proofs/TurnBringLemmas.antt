@@ -9,8 +9,8 @@ use Rattle.turn_client_api.specs.Payloads.{Outcome, Handled, Ignored, channel_se
 use Rattle.turn_client_api.specs.Receive.{connection_gone}
 use Rattle.turn_client_api.specs.Streams.{without_stream}
 use Rattle.turn_client_api.specs.Handled.{Turn, handled, made_of}
-use Rattle.turn_client_api.specs.Steps.{Call, EndsWithoutMemory, state_after, Delete, CreatePermission, BindChannel, TcpConnect, AllocatedTcpSocket, TcpClosed, SendTo, Recv, PollRecv, Poll, PollTransmit, PollEvent, RelayedAddresses, Permissions, HavePermission, ProtocolError}
-use Rattle.turn_client_api.specs.LawsHandled.{AsksForMemory, DiffersInStreams, DoesTurns, EndsInTurns, IsDoneBy, IsOverControl, MayLeave, TakesTurns, TurnsLead}
+use Rattle.turn_client_api.specs.Steps.{Call, EndsWithoutMemory, Leaves, state_after, Delete, CreatePermission, BindChannel, TcpConnect, AllocatedTcpSocket, TcpClosed, SendTo, Recv, PollRecv, Poll, PollTransmit, PollEvent, RelayedAddresses, Permissions, HavePermission, ProtocolError}
+use Rattle.turn_client_api.specs.LawsHandled.{DiffersInStreams, DoesTurns, EndsInTurns, IsDoneBy, IsOverControl, TakesTurns, TurnsLead}
 use Rattle.turn_client_api.proofs.HasLemmas.{Has, has-left}
 use Rattle.turn_client_api.proofs.StandLemmas.{has-contains}
 use Rattle.turn_client_api.proofs.TurnChainLemmas.{calls-do, dropped-differs}
@@ -144,24 +144,24 @@ module _ (P : State → Type 0) (Did : Turn → Type 0) (k : IsBrought P Did) wh
     ended-brings s t e h = k.ended s (subst P e h)
 
     -- it finds no memory
-    none-brings : (call : Call) (s t : State) → AsksForMemory call s → EndsWithoutMemory call s t → P t → Brought call s
-    none-brings (Recv packet now) s t asks end h = by-turn (Recv packet now) s (end-brings (Recv packet now) s t (calls-end (Recv packet now) s t tt asks end) h)
-    none-brings (PollRecv now) s t asks end h = by-turn (PollRecv now) s (end-brings (PollRecv now) s t (calls-end (PollRecv now) s t tt asks end) h)
-    none-brings (Delete now) s t asks e h = inl (subst P e h)
-    none-brings (CreatePermission transport peer now) s t asks e h = inl (subst P e h)
-    none-brings (BindChannel transport peer now) s t asks e h = inl (subst P e h)
-    none-brings (TcpConnect peer now) s t asks e h = inl (subst P e h)
-    none-brings (AllocatedTcpSocket id tuple peer local now) s t asks e h = inl (subst P e h)
-    none-brings (TcpClosed local remote now) s t asks e h = inl (subst P e h)
-    none-brings (SendTo transport peer bytes now) s t asks none h = absurd none
-    none-brings (Poll now) s t asks e h = inl (ended-brings s t e h)
-    none-brings (PollTransmit now) s t asks e h = inl (ended-brings s t e h)
-    none-brings PollEvent s t asks none h = absurd none
-    none-brings RelayedAddresses s t asks none h = absurd none
-    none-brings (Permissions transport relayed) s t asks none h = absurd none
-    none-brings (HavePermission transport to) s t asks none h = absurd none
-    none-brings ProtocolError s t asks e h = inl (ended-brings s t e h)
+    none-brings : (call : Call) (s t : State) → EndsWithoutMemory call s t → P t → Brought call s
+    none-brings (Recv packet now) s t end h = by-turn (Recv packet now) s (end-brings (Recv packet now) s t (calls-end (Recv packet now) s t tt end) h)
+    none-brings (PollRecv now) s t end h = by-turn (PollRecv now) s (end-brings (PollRecv now) s t (calls-end (PollRecv now) s t tt end) h)
+    none-brings (Delete now) s t e h = inl (subst P e h)
+    none-brings (CreatePermission transport peer now) s t e h = inl (subst P e h)
+    none-brings (BindChannel transport peer now) s t e h = inl (subst P e h)
+    none-brings (TcpConnect peer now) s t e h = inl (subst P e h)
+    none-brings (AllocatedTcpSocket id tuple peer local now) s t e h = inl (subst P e h)
+    none-brings (TcpClosed local remote now) s t e h = inl (subst P e h)
+    none-brings (SendTo transport peer bytes now) s t none h = absurd none
+    none-brings (Poll now) s t e h = inl (ended-brings s t e h)
+    none-brings (PollTransmit now) s t e h = inl (ended-brings s t e h)
+    none-brings PollEvent s t none h = absurd none
+    none-brings RelayedAddresses s t none h = absurd none
+    none-brings (Permissions transport relayed) s t none h = absurd none
+    none-brings (HavePermission transport to) s t none h = absurd none
+    none-brings ProtocolError s t e h = inl (ended-brings s t e h)
 
-    pub may-bring : (call : Call) (s t : State) → MayLeave call s t → P t → Brought call s
-    may-bring call s t (inl e) h = found-brings call s (subst P e h)
-    may-bring call s t (inr (asks, end)) h = none-brings call s t asks end h
+    pub leaves-bring : (call : Call) (s t : State) → Leaves call s t → P t → Brought call s
+    leaves-bring call s t (inl e) h = found-brings call s (subst P e h)
+    leaves-bring call s t (inr end) h = none-brings call s t end h

@@ -15,7 +15,7 @@ use Rattle.turn_client_api.specs.Handled.{Turn, fed, fed_taken, frame_taken, han
 use Rattle.turn_client_api.specs.Steps.{Call, packet_step, Delete, CreatePermission, BindChannel, TcpConnect, AllocatedTcpSocket, TcpClosed, SendTo, Recv, PollRecv, Poll, PollTransmit, PollEvent, RelayedAddresses, Permissions, HavePermission, ProtocolError}
 use Rattle.turn_client_api.specs.LawsHandled.{DiffersInStreams, DoesTurns, IsBoundAt, TakesTurns, TurnsLead}
 use Rattle.turn_client_api.proofs.HasLemmas.{Has, has-filter}
-use Rattle.turn_client_api.proofs.GivenLemmas.{has-mapped}
+use Rattle.turn_client_api.proofs.GrantOriginLemmas.{has-mapped}
 use Rattle.turn_client_api.proofs.StandLemmas.{contains-has, has-contains}
 
 -- ---- streams

@@ -14,7 +14,7 @@ use Rattle.turn_client_api.specs.Streams.{broken_at, is_ready, most_turns, paylo
 use Rattle.turn_client_api.specs.Receive.{first_turn, is_from_server}
 use Rattle.turn_client_api.specs.Handled.{Turn, fed_taken, handled, piece_turns, poll_recv_turns, recv_turns, stream_turns, taken, taken_first, then_taken, turns_taken, unless_given}
 use Rattle.turn_client_api.specs.Steps.{Call, EndsWithoutMemory, Delete, CreatePermission, BindChannel, TcpConnect, AllocatedTcpSocket, TcpClosed, SendTo, Recv, PollRecv, Poll, PollTransmit, PollEvent, RelayedAddresses, Permissions, HavePermission, ProtocolError}
-use Rattle.turn_client_api.specs.LawsHandled.{AsksForMemory, EndsInTurns, TakesTurns, TurnsLead}
+use Rattle.turn_client_api.specs.LawsHandled.{EndsInTurns, TakesTurns, TurnsLead}
 use Rattle.turn_client_api.proofs.StreamDrainLemmas.{turn-lighter}
 use Rattle.turn_client_api.proofs.MemoryLemmas.{behind}
 use Rattle.turn_client_api.proofs.StreamWeightLemmas.{weight, weight-le}
@@ -134,20 +134,20 @@ ends-in call s t (front, (later, e), (last, lead, ended)) = record {
   ended = ended;
 }
 
-pub calls-end : (call : Call) (s t : State) → TakesTurns call → AsksForMemory call s → EndsWithoutMemory call s t → EndsInTurns call s t
-calls-end (Recv packet now) s t is asks end = ends-in (Recv packet now) s t (recv_over s.transport packet.transport packet.from packet.to packet.payload now s t asks end)
-calls-end (PollRecv now) s t is asks end = ends-in (PollRecv now) s t (turns-end now s t end)
-calls-end (Delete now) s t is asks end = absurd is
-calls-end (CreatePermission transport peer now) s t is asks end = absurd is
-calls-end (BindChannel transport peer now) s t is asks end = absurd is
-calls-end (TcpConnect peer now) s t is asks end = absurd is
-calls-end (AllocatedTcpSocket id tuple peer local now) s t is asks end = absurd is
-calls-end (TcpClosed local remote now) s t is asks end = absurd is
-calls-end (SendTo transport peer bytes now) s t is asks end = absurd is
-calls-end (Poll now) s t is asks end = absurd is
-calls-end (PollTransmit now) s t is asks end = absurd is
-calls-end PollEvent s t is asks end = absurd is
-calls-end RelayedAddresses s t is asks end = absurd is
-calls-end (Permissions transport relayed) s t is asks end = absurd is
-calls-end (HavePermission transport to) s t is asks end = absurd is
-calls-end ProtocolError s t is asks end = absurd is
+pub calls-end : (call : Call) (s t : State) → TakesTurns call → EndsWithoutMemory call s t → EndsInTurns call s t
+calls-end (Recv packet now) s t is (asks, end) = ends-in (Recv packet now) s t (recv_over s.transport packet.transport packet.from packet.to packet.payload now s t asks end)
+calls-end (PollRecv now) s t is end = ends-in (PollRecv now) s t (turns-end now s t end)
+calls-end (Delete now) s t is end = absurd is
+calls-end (CreatePermission transport peer now) s t is end = absurd is
+calls-end (BindChannel transport peer now) s t is end = absurd is
+calls-end (TcpConnect peer now) s t is end = absurd is
+calls-end (AllocatedTcpSocket id tuple peer local now) s t is end = absurd is
+calls-end (TcpClosed local remote now) s t is end = absurd is
+calls-end (SendTo transport peer bytes now) s t is end = absurd is
+calls-end (Poll now) s t is end = absurd is
+calls-end (PollTransmit now) s t is end = absurd is
+calls-end PollEvent s t is end = absurd is
+calls-end RelayedAddresses s t is end = absurd is
+calls-end (Permissions transport relayed) s t is end = absurd is
+calls-end (HavePermission transport to) s t is end = absurd is
+calls-end ProtocolError s t is end = absurd is

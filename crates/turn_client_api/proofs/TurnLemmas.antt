@@ -7,10 +7,10 @@ use Rattle.turn_client_api.specs.Effect.{closed}
 use Rattle.turn_client_api.specs.Payloads.{is_message, message_step}
 use Rattle.turn_client_api.specs.Receive.{connection_gone}
 use Rattle.turn_client_api.specs.Handled.{Turn}
-use Rattle.turn_client_api.specs.Steps.{Call, state_after}
-use Rattle.turn_client_api.specs.LawsHandled.{MayLeave, TakesTurns}
+use Rattle.turn_client_api.specs.Steps.{Call, Leaves, state_after}
+use Rattle.turn_client_api.specs.LawsHandled.{TakesTurns}
 use Rattle.turn_client_api.specs.LawsTurns.{Deed, IsBroughtBy}
-use Rattle.turn_client_api.proofs.TurnBringLemmas.{IsBrought, may-bring}
+use Rattle.turn_client_api.proofs.TurnBringLemmas.{IsBrought, leaves-bring}
 
 -- Of a claim on states and what a message does: streams do not count, and where the claim holds after a
 -- message and did not before it, the message did it. The end of a connection, or of the client, brings nothing.
@@ -40,5 +40,5 @@ module _ (P : State → Type 0) (Did : Deed) (k : IsBringing P Did) where
   }
 
   pub message-brings : (Other : Call → State → Type 0) → ((call : Call) (s : State) → (TakesTurns call → ⊥) → P (state_after call s) → P s ⊎ Other call s)
-      → (call : Call) (s t : State) → MayLeave call s t → P t → P s ⊎ Other call s ⊎ IsBroughtBy Did call s
-  message-brings Other others call s t leaves h = may-bring P DidIn brought Other others call s t leaves h
+      → (call : Call) (s t : State) → Leaves call s t → P t → P s ⊎ Other call s ⊎ IsBroughtBy Did call s
+  message-brings Other others call s t leaves h = leaves-bring P DidIn brought Other others call s t leaves h

@@ -1,9 +1,11 @@
 -- By which call a grant goes, by its kind (RFC 8656, sections 7 to 12; RFC 6062, section 4).
-use Rattle.std.specs.Prelude.{◌≡◌, ◌⊎◌, ◌≤◌, ℕ, true, false, List, None, Some, Option, IsSome}
+use Rattle.std.specs.Prelude.{◌≡◌, ◌⊎◌, ◌<◌, ◌≤◌, ℕ, true, false, List, None, Some, Option, IsSome}
 use Rattle.std.specs.List.{Contains}
 use Rattle.turn_agent.specs.Agent.{given_up}
-use Rattle.turn_client_api.specs.State.{State, Grant, Allocation, Permission, Channel, Connect, Offer, Connection, Pending, Purpose, ForRefresh, Stream, Waiting, Allocated, agent_of}
-use Rattle.turn_client_api.specs.Grants.{is_connection_from, is_for}
+use Rattle.turn_agent.specs.declared.transaction.Transaction.{Transaction}
+use Rattle.turn_client_api.specs.State.{State, Grant, Allocation, Permission, Channel, Connect, Offer, Connection, Pending, Active, Reserved, Relay, Purpose, ForRefresh, Stream, Waiting, Allocated, agent_of, later_by}
+use Rattle.turn_client_api.specs.Grants.{family_of, family_of_grant, is_connection_from, is_for, is_for_any, is_of_request, purposes_of}
+use Rattle.turn_client_api.specs.Effect.{reserved_time}
 use Rattle.turn_client_api.specs.Judgement.{judgement_of}
 use Rattle.turn_client_api.specs.Calls.{is_granted_in, is_offer_of}
 use Rattle.turn_client_api.specs.Handled.{Turn}
@@ -58,6 +60,39 @@ abbrev pub IsTimeUp : ℕ → State → Type 0
 IsTimeUp now s =
     IsSome (given_up (agent_of s) now)
     ⊎ ((s.phase ≡ Allocated) × ((moment : ℕ) × Contains (lapse_moments s) moment × (moment ≤ now)))
+
+-- the request that is given up now was made for the grant
+abbrev pub IsGivenUp : ℕ → State → Grant → Type 0
+IsGivenUp now s g =
+    (x : Transaction) × (given_up (agent_of s) now ≡ Some x) × (is_for_any (purposes_of x.id s) g ≡ true)
+
+-- Its own time is over, or it was asked for in vain. A channel that ends is reserved for a while and stays
+-- there so long, and an offer goes with the server's request for it.
+abbrev pub IsSpent : ℕ → State → Grant → Type 0
+IsSpent now s (Permission ip (Active expiry)) = expiry ≤ now
+IsSpent now s (Permission ip Pending) = IsGivenUp now s (Permission ip Pending)
+IsSpent now s (Channel number peer (Active expiry)) = later_by reserved_time expiry < now
+IsSpent now s (Channel number peer (Reserved until)) = until < now
+IsSpent now s (Channel number peer Pending) = IsGivenUp now s (Channel number peer Pending)
+IsSpent now s (Connect peer) = IsGivenUp now s (Connect peer)
+IsSpent now s (Offer offer) =
+    (x : Transaction) × (given_up (agent_of s) now ≡ Some x) × (is_of_request x.id (Offer offer) ≡ true)
+IsSpent now s (Connection c) =
+    (deadline : ℕ) × (c.deadline ≡ Some deadline) × ((deadline ≤ now) ⊎ IsGivenUp now s (Connection c))
+IsSpent now s _ = ⊥
+
+-- an allocation that is past its end takes all that stands in it
+abbrev pub IsPastWith : ℕ → State → Grant → Type 0
+IsPastWith now s g =
+    (a : Relay) × Contains s.grants (Allocation a) × (family_of_grant g ≡ family_of a.relayed) × (a.expiry ≤ now)
+
+-- the time of the grant is over, or that of its allocation
+abbrev pub IsOver : ℕ → State → Grant → Type 0
+IsOver now s g = (s.phase ≡ Allocated) × (IsSpent now s g ⊎ IsPastWith now s g)
+
+-- it is there after the `poll`, or its time is over
+abbrev pub IsThereOrOver : ℕ → State → State → Grant → Type 0
+IsThereOrOver now s t g = IsStillThere t g ⊎ IsOver now s g
 
 -- ---- by a call
 

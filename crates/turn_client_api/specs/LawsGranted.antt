@@ -92,3 +92,20 @@ IsEndedNow _ s _ = ⊥
 -- why the grant stands after the call: it stood before, it is given back now, or a turn granted it
 abbrev pub HasCause : Call → State → Grant → Type 0
 HasCause call s g = Stood s g ⊎ IsEndedNow call s g ⊎ IsDoneBy (IsGrantedIn g) call s
+
+-- ---- a channel's peer
+
+-- the turn granted the channel, in answer to the request for its number and its peer
+abbrev pub IsChannelTurn : ℕ → SocketAddr → ℕ → Turn → Type 0
+IsChannelTurn number peer expiry one =
+    (turn : IsGrantTurn (Channel number peer (Active expiry)) one) × (turn.grant.1.purpose ≡ ForChannel number peer)
+
+-- why the channel is active after the call: it was before, with this end, or a turn granted it
+abbrev pub HasChannelCause : ℕ → SocketAddr → ℕ → Call → State → Type 0
+HasChannelCause number peer expiry call s =
+    Contains s.grants (Channel number peer (Active expiry)) ⊎ IsDoneBy (IsChannelTurn number peer expiry) call s
+
+-- each channel that the call leaves active has the peer of its request
+abbrev pub GrantsToPeers : Call → State → State → Type 0
+GrantsToPeers call s t =
+    (number : ℕ) (peer : SocketAddr) (expiry : ℕ) → Contains t.grants (Channel number peer (Active expiry)) → HasChannelCause number peer expiry call s

@@ -1,15 +1,14 @@
 -- What a call does is what the turns do that it takes (RFC 8656, section 12.5; RFC 6062, section 4.3).
-use Rattle.std.specs.Prelude.{◌≡◌, ◌⊎◌, ℕ, false, List, [], ◌∷◌, ◌++◌, Option, Some, None, ⊤}
+use Rattle.std.specs.Prelude.{◌≡◌, ◌⊎◌, ℕ, List, [], ◌∷◌, ◌++◌, Option, Some, None, ⊤}
 use Rattle.std.specs.List.{Contains}
 use Rattle.std.specs.declared.net.socket_addr.SocketAddr.{SocketAddr}
 use Rattle.turn_client_api.specs.State.{State, Control, Waiting, Bound, Broken, Stream}
-use Rattle.turn_client_api.specs.Answers.{takes_no_memory}
 use Rattle.turn_client_api.specs.Effect.{closed}
 use Rattle.turn_client_api.specs.Payloads.{Outcome, Handled, message_step}
 use Rattle.turn_client_api.specs.Receive.{connection_gone}
 use Rattle.turn_client_api.specs.Streams.{broken_at, frame_step, owned, with_bytes, without_stream}
 use Rattle.turn_client_api.specs.Handled.{Turn, handled, made_of}
-use Rattle.turn_client_api.specs.Steps.{Call, Recv, PollRecv, EndsWithoutMemory, state_after}
+use Rattle.turn_client_api.specs.Steps.{Call, Recv, PollRecv, state_after}
 
 -- ---- what streams have to do with messages: nothing
 
@@ -83,11 +82,6 @@ pub record IsStreamEnd (call : Call) (s t : State) : Type 0 where
 abbrev pub DoesTurns : Call → State → Type 0
 DoesTurns call s = TurnsLead (handled call s) s (state_after call s) ⊎ IsStreamEnd call s (state_after call s)
 
--- a call that asks for no memory finds it
-abbrev pub AsksForMemory : Call → State → Type 0
-AsksForMemory (Recv packet now) s = takes_no_memory packet.transport packet.from packet.to packet.payload s ≡ false
-AsksForMemory _ s = ⊤
-
 -- it found none for the next turn: it took the first ones of these turns, and then ended the client
 pub record EndsInTurns (call : Call) (s t : State) : Type 0 where
   pub front : List Turn
@@ -96,10 +90,6 @@ pub record EndsInTurns (call : Call) (s t : State) : Type 0 where
   pub last : State
   pub lead : TurnsLead front s last
   pub ended : t ≡ closed last
-
--- a state that the call of a client may leave
-abbrev pub MayLeave : Call → State → State → Type 0
-MayLeave call s t = (t ≡ state_after call s) ⊎ (AsksForMemory call s × EndsWithoutMemory call s t)
 
 -- one of the turns that the call takes did it
 abbrev pub IsDoneBy : (Turn → Type 0) → Call → State → Type 0

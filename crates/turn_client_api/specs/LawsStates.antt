@@ -1,12 +1,13 @@
 -- Where a client can be, over all calls.
-use Rattle.std.specs.Prelude.{◌≡◌, ◌⊎◌, ◌≤◌, ℕ, true, List, filter, length, Option, IsSome, All, ⊤}
+use Rattle.std.specs.Prelude.{◌≡◌, ◌⊎◌, ◌==◌, ◌&&◌, ◌≤◌, ℕ, Bool, true, List, filter, length, Option, IsSome, All, ⊤}
 use Rattle.std.specs.List.{list_any}
 use Rattle.std.specs.declared.net.socket_addr.SocketAddr.{SocketAddr}
 use Rattle.turn_stun.specs.declared.transport.TransportType.{TransportType}
 use Rattle.turn_auth.specs.LongTerm.{Challenge}
+use Rattle.turn_agent.specs.Agent.{same_address}
 use Rattle.turn_agent.specs.declared.transaction.Transaction.{Transaction}
 use Rattle.turn_client_api.specs.Config.{Config}
-use Rattle.turn_client_api.specs.State.{State, initial, Phase, Authenticating, Allocated, ForAllocation, Listing}
+use Rattle.turn_client_api.specs.State.{State, initial, Phase, Authenticating, Allocated, Grant, Channel, Purpose, ForAllocation, ForChannel, Listing}
 use Rattle.turn_client_api.specs.Grants.{is_for}
 use Rattle.turn_client_api.specs.Connections.{is_indicated, most_indicated}
 use Rattle.turn_client_api.specs.Steps.{Call, Leaves}
@@ -44,9 +45,14 @@ IsToServer s t = t.to ≡ s.remote
 abbrev pub AsksServer : State → Type 0
 AsksServer s = All (IsToServer s) s.transactions
 
--- the request is an ALLOCATE, or a grant is there that it is for
+-- the request asks for this grant, a channel with its number and its peer
+abbrev pub is_asked_by : Purpose → Grant → Bool
+is_asked_by (ForChannel number peer) (Channel other to progress) = (other == number) && same_address to peer
+is_asked_by purpose grant = is_for purpose grant
+
+-- the request is an ALLOCATE, or a grant is there that it asks for
 abbrev pub HasItsGrant : State → Listing → Type 0
-HasItsGrant s l = (l.purpose ≡ ForAllocation) ⊎ (list_any (is_for l.purpose) s.grants ≡ true)
+HasItsGrant s l = (l.purpose ≡ ForAllocation) ⊎ (list_any (is_asked_by l.purpose) s.grants ≡ true)
 
 abbrev pub HasGrantsAsked : State → Type 0
 HasGrantsAsked s = All (HasItsGrant s) s.listed

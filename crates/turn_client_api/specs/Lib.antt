@@ -11,6 +11,7 @@ pub mod Effect
 pub mod Grants
 pub mod Handled
 pub mod Judgement
+pub mod LawsAllocates
 pub mod LawsBound
 pub mod LawsBodies
 pub mod LawsDoubles
@@ -24,6 +25,7 @@ pub mod LawsNumbers
 pub mod LawsOrder
 pub mod LawsPeers
 pub mod LawsPieces
+pub mod LawsPurposes
 pub mod LawsReplies
 pub mod LawsRequests
 pub mod LawsRows

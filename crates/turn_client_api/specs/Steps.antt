@@ -1,5 +1,5 @@
 -- Each call of a client, and the state after it.
-use Rattle.std.specs.Prelude.{◌≡◌, ◌⊎◌, ℕ, List}
+use Rattle.std.specs.Prelude.{◌≡◌, ◌⊎◌, ℕ, false, List}
 use Rattle.turn_stun.specs.declared.transport.Transmit.{Transmit}
 use Rattle.turn_client_api.specs.Payloads.{Outcome}
 use Rattle.turn_client_api.specs.State.{State}
@@ -9,7 +9,7 @@ use Rattle.turn_client_api.specs.Receive.{recv_step, tcp_closed_step}
 use Rattle.turn_client_api.specs.Calls.{allocated_tcp_socket_step, bind_channel_step, create_permission_step, delete_step, protocol_error_step, send_to_step, tcp_connect_step}
 use Rattle.turn_client_api.specs.Poll.{poll_step}
 use Rattle.turn_client_api.specs.Transmit.{transmit_step}
-use Rattle.turn_client_api.specs.Answers.{EndsAfterTurns, RecvEnds, event_step}
+use Rattle.turn_client_api.specs.Answers.{EndsAfterTurns, RecvEnds, event_step, takes_no_memory}
 pub use Rattle.turn_client_api.specs.declared.call.Call.{Call}
 pub use Rattle.turn_client_api.specs.declared.call.Call.TheVariants.{Delete, CreatePermission, BindChannel, TcpConnect, AllocatedTcpSocket, TcpClosed, SendTo, Recv, PollRecv, Poll, PollTransmit, PollEvent, ProtocolError, RelayedAddresses, Permissions, HavePermission}
 
@@ -39,7 +39,8 @@ state_after (HavePermission transport to) s = s
 -- the states that the call may leave where it finds no memory; most calls change nothing then, and those
 -- that take none always find it
 abbrev pub EndsWithoutMemory : Call → State → State → Type 0
-EndsWithoutMemory (Recv packet now) s t = RecvEnds packet.to packet.payload now s t
+EndsWithoutMemory (Recv packet now) s t =
+    (takes_no_memory packet.transport packet.from packet.to packet.payload s ≡ false) × RecvEnds packet.to packet.payload now s t
 EndsWithoutMemory (PollRecv now) s t = EndsAfterTurns now s t
 EndsWithoutMemory (Poll now) s t = t ≡ closed s
 EndsWithoutMemory (PollTransmit now) s t = t ≡ closed s

@@ -1,6 +1,7 @@
 //! Laws of the machine. Their functions do nothing, or give a constant: what they ensure is the law.
 
 mod alarm;
+mod allocates;
 mod bodies;
 mod bound;
 mod doubles;
@@ -15,6 +16,7 @@ mod order;
 mod payloads;
 mod peers;
 mod pieces;
+mod purposes;
 mod replies;
 mod requests;
 mod rows;
@@ -27,6 +29,7 @@ mod turns;
 mod wakeup;
 
 pub use alarm::sleeps_through_nothing;
+pub use allocates::allocates_ask_for_families;
 pub use bodies::{
     drained_streams_rest, events_are_bounded, least_free_number_is_bound, least_moment_has_parts,
     nothing_lapses_early, turns_leave_other_streams,
@@ -47,6 +50,7 @@ pub use order::clients_stay_in_order;
 pub use payloads::payloads_are_answered;
 pub use peers::only_let_in;
 pub use pieces::{connections_are_bound, datagrams_are_judged, pieces_are_cut};
+pub use purposes::requests_have_two_purposes;
 pub use replies::{ids_are_drawn, replies_count_once};
 pub use requests::requests_are_made;
 pub use rows::{

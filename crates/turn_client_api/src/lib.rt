@@ -46,6 +46,3 @@ pub use turn_agent::schedule::RequestTimers;
 pub use turn_stun::data::Data;
 pub use turn_stun::transport::Transmit;
 pub use turn_types::transmit::TransmitBuild;
-
-#[cfg(test)]
-mod tests;

@@ -2,8 +2,8 @@
 
 ghost use Rattle.std.specs.declared.net.socket_addr.SocketAddr.{SocketAddr};
 ghost use Rattle.turn_client_api.specs.State.{State, DataConnection};
-ghost use Rattle.turn_client_api.specs.Steps.{Call};
-ghost use Rattle.turn_client_api.specs.LawsHandled.{IsBoundAt, MayLeave};
+ghost use Rattle.turn_client_api.specs.Steps.{Call, Leaves};
+ghost use Rattle.turn_client_api.specs.LawsHandled.{IsBoundAt};
 ghost use Rattle.turn_client_api.specs.LawsBound.{IsBoundBy, IsBoundConnection, IsConnectedBy};
 
 /// A data connection, and its stream, are bound only by a turn that the call takes, whether or not it finds
@@ -12,6 +12,6 @@ ghost use Rattle.turn_client_api.specs.LawsBound.{IsBoundBy, IsBoundConnection, 
 /// CONNECTION_BIND that was made for the connection (RFC 6062, section 4.3). What follows on the stream is
 /// of the connection's peer.
 pub fn only_a_signed_success_binds()
-    ensures stream { (call : Call) (s t : State) (local peer : SocketAddr) → MayLeave call s t → IsBoundAt local peer t → IsBoundBy local peer call s }
-    ensures connection { (call : Call) (s t : State) (c : DataConnection) → MayLeave call s t → IsBoundConnection c t → IsConnectedBy c call s }
+    ensures stream { (call : Call) (s t : State) (local peer : SocketAddr) → Leaves call s t → IsBoundAt local peer t → IsBoundBy local peer call s }
+    ensures connection { (call : Call) (s t : State) (c : DataConnection) → Leaves call s t → IsBoundConnection c t → IsConnectedBy c call s }
 {}

@@ -2,9 +2,10 @@
 
 ghost use Rattle.std.specs.List.{Contains};
 ghost use Rattle.turn_client_api.specs.State.{State, Grant};
-ghost use Rattle.turn_client_api.specs.Steps.{Call};
-ghost use Rattle.turn_client_api.specs.LawsHandled.{MayLeave};
-ghost use Rattle.turn_client_api.specs.LawsGranted.{HasCause, IsStanding};
+ghost use Rattle.turn_client_api.specs.Steps.{Call, Leaves};
+ghost use Rattle.turn_client_api.specs.LawsGranted.{GrantsToPeers, HasCause, IsStanding};
+ghost use Rattle.turn_client_api.specs.LawsNumbers.{HasDistinctNumbers};
+ghost use Rattle.turn_client_api.specs.LawsStates.{HasGrantsAsked};
 
 /// An allocation, an active permission or channel, or a bound data connection is granted, or gets another
 /// end, only by a turn that the call takes, whether or not it finds memory: that of a whole message, a
@@ -14,7 +15,10 @@ ghost use Rattle.turn_client_api.specs.LawsGranted.{HasCause, IsStanding};
 /// end is exactly the moment of that turn and the lifetime: 300 s for a permission, 600 s for a channel, and
 /// for an allocation the LIFETIME that is seen first (RFC 8656, sections 7.3, 9 and 12); a new allocation is
 /// of a family that is asked for. Else the grant stood before with the same end, or `delete` gave the
-/// allocation back, which ends now.
+/// allocation back, which ends now. A channel is granted to the peer of the CHANNEL_BIND that is answered,
+/// as what is asked for has its grant and no two channels have one number (`listings_have_grants`,
+/// `numbers_are_distinct`).
 pub fn only_a_signed_success_grants()
-    ensures { (call : Call) (s t : State) (g : Grant) → MayLeave call s t → Contains t.grants g → IsStanding g → HasCause call s g }
+    ensures cause { (call : Call) (s t : State) (g : Grant) → Leaves call s t → Contains t.grants g → IsStanding g → HasCause call s g }
+    ensures channel { (call : Call) (s t : State) → Leaves call s t → HasGrantsAsked s → HasDistinctNumbers s → GrantsToPeers call s t }
 {}

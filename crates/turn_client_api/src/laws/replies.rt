@@ -4,8 +4,7 @@ ghost use Rattle.std.specs.Prelude.{ℕ, List};
 ghost use Rattle.std.specs.declared.net.socket_addr.SocketAddr.{SocketAddr};
 ghost use Rattle.turn_client_api.specs.State.{State, DataConnection};
 ghost use Rattle.turn_client_api.specs.Judgement.{bind_judgement, judgement_of};
-ghost use Rattle.turn_client_api.specs.Steps.{Call};
-ghost use Rattle.turn_client_api.specs.LawsHandled.{MayLeave};
+ghost use Rattle.turn_client_api.specs.Steps.{Call, Leaves};
 ghost use Rattle.turn_client_api.specs.LawsReplies.{BindsNothing, DrawsNewOnes, EndsBind, EndsForGood, EndsRequest, GrantsNothing, IsAccepted, IsAwaited};
 
 /// A reply counts once (RFC 8489, section 6.3): one that is accepted is to a request that is
@@ -26,5 +25,5 @@ pub fn replies_count_once()
 /// No call makes a request outstanding but under an ID that it draws for it (RFC 8489, section 5: each
 /// request has an ID of its own), whether or not the call finds memory.
 pub fn ids_are_drawn()
-    ensures { (call : Call) (s t : State) → MayLeave call s t → DrawsNewOnes call s t }
+    ensures { (call : Call) (s t : State) → Leaves call s t → DrawsNewOnes call s t }
 {}

@@ -23,8 +23,8 @@ pub fn requests_go_to_the_server()
     ensures kept { StaysInCalls AsksServer }
 {}
 
-/// Whatever a request is listed for, but for an ALLOCATE, has its grant: with the grant the listing goes
-/// too. So it is from the first, and whatever is called, whether or not a call finds memory.
+/// Whatever a request is listed for, but for an ALLOCATE, has its grant, a channel with the number and the
+/// peer that are asked for: with the grant the listing goes too. So it is from the first, and whatever is called, whether or not a call finds memory.
 pub fn listings_have_grants()
     ensures initial { HoldsAtFirst HasGrantsAsked }
     ensures kept { StaysInCalls HasGrantsAsked }

@@ -6,7 +6,7 @@ ghost use Rattle.turn_client_api.specs.State.{State, Stream};
 ghost use Rattle.turn_client_api.specs.Streams.{turn};
 ghost use Rattle.turn_client_api.specs.Handled.{taken};
 ghost use Rattle.turn_client_api.specs.Steps.{Call, EndsWithoutMemory};
-ghost use Rattle.turn_client_api.specs.LawsHandled.{AsksForMemory, DoesTurns, EndsInTurns, IgnoresBytes, IgnoresStreams, IsTurnOf, TakesTurns};
+ghost use Rattle.turn_client_api.specs.LawsHandled.{DoesTurns, EndsInTurns, IgnoresBytes, IgnoresStreams, IsTurnOf, TakesTurns};
 
 /// What a message does has nothing to do with the streams: with others it does the same, and leaves
 /// those. What a frame of any stream does has nothing to do with the bytes that wait.
@@ -26,5 +26,5 @@ pub fn turns_are_frames()
 /// finds no memory, it took the first ones of these turns and then ended the client.
 pub fn calls_are_turns()
     ensures found { (call : Call) (s : State) → TakesTurns call → DoesTurns call s }
-    ensures none { (call : Call) (s t : State) → TakesTurns call → AsksForMemory call s → EndsWithoutMemory call s t → EndsInTurns call s t }
+    ensures none { (call : Call) (s t : State) → TakesTurns call → EndsWithoutMemory call s t → EndsInTurns call s t }
 {}

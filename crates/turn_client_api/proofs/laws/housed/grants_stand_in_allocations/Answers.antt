@@ -1,4 +1,4 @@
-use Rattle.turn_client_api.proofs.HousedPollLemmas.{initial-IsHoused, leaves-IsHoused, IsHoused-AllStandIn}
+use Rattle.turn_client_api.proofs.InAllocation.{initial-IsHoused, leaves-IsHoused, IsHoused-AllStandIn}
 use Rattle.turn_client_api.proofs.laws.housed.grants_stand_in_allocations.Goals as goal
 
 pub returns-clause-initial : goal.returns-clause-initial

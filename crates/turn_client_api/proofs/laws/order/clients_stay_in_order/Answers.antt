@@ -1,5 +1,4 @@
-use Rattle.turn_client_api.proofs.SteadyCallLemmas.{leaves-steadies}
-use Rattle.turn_client_api.proofs.SteadyLemmas.{initial-steady, steady-IsOrderly}
+use Rattle.turn_client_api.proofs.SendOrderLemmas.{initial-steady, leaves-steadies, steady-IsOrderly}
 use Rattle.turn_client_api.proofs.laws.order.clients_stay_in_order.Goals as goal
 
 pub returns-clause-initial : goal.returns-clause-initial

@@ -1,4 +1,4 @@
-use Rattle.turn_client_api.proofs.CallDrawLemmas.{leaves-draws}
+use Rattle.turn_client_api.proofs.NewIdCallLemmas.{leaves-draws}
 use Rattle.turn_client_api.proofs.laws.replies.ids_are_drawn.Goals as goal
 
 pub returns : goal.returns

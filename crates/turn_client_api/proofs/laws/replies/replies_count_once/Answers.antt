@@ -1,5 +1,5 @@
-use Rattle.turn_client_api.proofs.ReplyLemmas.{accepted-ended, accepted-gone, accepted-outstanding, bind-ended, bind-outstanding}
-use Rattle.turn_client_api.proofs.StrayLemmas.{stray-binds, stray-grants}
+use Rattle.turn_client_api.proofs.AcceptedReplyLemmas.{accepted-ended, accepted-gone, accepted-outstanding, bind-ended, bind-outstanding}
+use Rattle.turn_client_api.proofs.LateReplyLemmas.{stray-binds, stray-grants}
 use Rattle.turn_client_api.proofs.laws.replies.replies_count_once.Goals as goal
 
 pub returns-clause-outstanding : goal.returns-clause-outstanding

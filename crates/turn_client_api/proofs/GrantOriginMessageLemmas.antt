@@ -26,8 +26,8 @@ use Rattle.turn_client_api.specs.Payloads.{Outcome, Handled, Ignored, answered_p
 use Rattle.turn_client_api.specs.LawsGranted.{IsGivenFor, IsGrant, IsStanding}
 use Rattle.turn_client_api.proofs.HasLemmas.{Has, has-filter}
 use Rattle.turn_client_api.proofs.StandLemmas.{Covers, Leaves, Left, covers-left, has-contains, leaves-cond, leaves-same, left-one, left-same}
-use Rattle.turn_client_api.proofs.GivenLemmas.{ChannelsWithin, Gives, IsGiven, IsGivenOf, Takes, gives-append, gives-covers, gives-left, has-mapped, purposes-within, takes-fold}
-use Rattle.turn_client_api.proofs.GivenEffectLemmas.{effect-takes}
+use Rattle.turn_client_api.proofs.GrantOriginLemmas.{ChannelsWithin, Gives, IsGiven, IsGivenOf, Takes, gives-append, gives-covers, gives-left, has-mapped, purposes-within, takes-fold}
+use Rattle.turn_client_api.proofs.GrantOriginEffectLemmas.{effect-takes}
 
 -- ---- what is judged to be granted
 

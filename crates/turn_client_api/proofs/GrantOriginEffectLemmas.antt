@@ -17,7 +17,7 @@ use Rattle.turn_client_api.specs.Effect.{lasting, lasting_if, all_gone, allocati
 use Rattle.turn_client_api.specs.LawsGranted.{HasChannelTo, IsStanding, IsKeptAs}
 use Rattle.turn_client_api.proofs.HasLemmas.{Has}
 use Rattle.turn_client_api.proofs.StandLemmas.{has-contains, kept-same, left-filter}
-use Rattle.turn_client_api.proofs.GivenLemmas.{ChannelsWithin, IsChannelIn, IsGivenOf, KeepsChannels, Takes, channels-append, channels-filter, channels-map, gives-left, gives-map, gives-one, gives-trans, takes-cond, takes-fold, takes-same, takes-trans, within-filter}
+use Rattle.turn_client_api.proofs.GrantOriginLemmas.{ChannelsWithin, IsChannelIn, IsGivenOf, KeepsChannels, Takes, channels-append, channels-filter, channels-map, gives-left, gives-map, gives-one, gives-trans, takes-cond, takes-fold, takes-same, takes-trans, within-filter}
 
 pub same_ip-same : (ip : IpAddr) → same_ip ip ip ≡ true
 same_ip-same (V4 a) = nat_list_eq_equiv.refl (ipv4_octets a)

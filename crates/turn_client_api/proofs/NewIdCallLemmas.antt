@@ -27,10 +27,10 @@ use Rattle.turn_client_api.specs.Receive.{connection_gone, tcp_closed_step}
 use Rattle.turn_client_api.specs.Transmit.{idle_step, queue_step, refreshes_in, transmit_step}
 use Rattle.turn_client_api.specs.Transmit as T
 use Rattle.turn_client_api.specs.LawsReplies.{IsDrawn}
-use Rattle.turn_client_api.specs.LawsHandled.{MayLeave, TakesTurns}
+use Rattle.turn_client_api.specs.LawsHandled.{TakesTurns}
 use Rattle.turn_client_api.specs.LawsTurns.{IsBroughtBy}
-use Rattle.turn_client_api.specs.Steps.{Call, state_after, Delete, CreatePermission, BindChannel, TcpConnect, AllocatedTcpSocket, TcpClosed, SendTo, Recv, PollRecv, Poll, PollTransmit, PollEvent, RelayedAddresses, Permissions, HavePermission, ProtocolError}
-use Rattle.turn_client_api.proofs.DrawLemmas.{AsksNothing, Draws, asks-cond, asks-fold, bind-draws, draws-more, draws-nothing, draws-same, message-draws, outstanding-resent, outstanding-without}
+use Rattle.turn_client_api.specs.Steps.{Call, Leaves, state_after, Delete, CreatePermission, BindChannel, TcpConnect, AllocatedTcpSocket, TcpClosed, SendTo, Recv, PollRecv, Poll, PollTransmit, PollEvent, RelayedAddresses, Permissions, HavePermission, ProtocolError}
+use Rattle.turn_client_api.proofs.NewIdMessageLemmas.{AsksNothing, Draws, asks-cond, asks-fold, bind-draws, draws-more, draws-nothing, draws-same, message-draws, outstanding-resent, outstanding-without}
 use Rattle.turn_client_api.proofs.TurnLemmas.{IsBringing, message-brings}
 
 -- ---- as time passes, nothing is asked for
@@ -236,7 +236,7 @@ module _ (id : ℕ) where
   call-draws ProtocolError s other = draws-nothing id s (protocol_error_step s) (asks-cond (is_closed s.phase) s s _ refl refl)
 
   -- whether or not the call finds memory
-  pub leaves-draws : (call : Call) (s t : State) → MayLeave call s t → is_outstanding id t.transactions ≡ true → IsDrawn call id s ⊎ (is_outstanding id s.transactions ≡ true)
+  pub leaves-draws : (call : Call) (s t : State) → Leaves call s t → is_outstanding id t.transactions ≡ true → IsDrawn call id s ⊎ (is_outstanding id s.transactions ≡ true)
   leaves-draws call s t leaves h =
       by (message-brings (λ t. is_outstanding id t.transactions ≡ true) (λ message now t. id ≡ fresh_id t) draws-IsBringing (λ call s. id ≡ fresh_id s) call-draws call s t leaves h)
     where

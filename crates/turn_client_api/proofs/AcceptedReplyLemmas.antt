@@ -19,8 +19,8 @@ use Rattle.turn_client_api.specs.Judgement.{Judgement, Unrelated, Challenged, Fa
 use Rattle.turn_client_api.specs.Connections.{bind_answered}
 use Rattle.turn_client_api.specs.Payloads.{message_step}
 use Rattle.turn_client_api.specs.LawsReplies.{IsAccepted}
-use Rattle.turn_client_api.proofs.DrawLemmas.{IsOneOf, signed-one}
-use Rattle.turn_client_api.proofs.IdLemmas.{fresh-free}
+use Rattle.turn_client_api.proofs.NewIdMessageLemmas.{IsOneOf, signed-one}
+use Rattle.turn_client_api.proofs.NewIdLemmas.{fresh-free}
 
 -- ---- which replies are accepted
 

@@ -1,13 +1,15 @@
 -- Grants that stand in allocations: what happens to lists of grants and of listings.
-use Rattle.std.proofs.Common.{◌≡◌, ℕ, Bool, true, false, not, ◌&&◌, List, [], ◌∷◌, ◌++◌, map, filter, find, Option, Some, None, ◌⊎◌, inl, inr, refl, sym, subst, ap, ◌∙◌}
+use Rattle.std.proofs.Common.{◌≡◌, ℕ, Bool, true, false, not, cond, ◌&&◌, List, [], ◌∷◌, ◌++◌, map, filter, find, Option, Some, None, ◌⊎◌, inl, inr, refl, sym, subst, ap, ◌∙◌}
 use Rattle.std.specs.Prelude.{is_some}
 use Rattle.std.specs.List.{list_any}
 use Rattle.std.proofs.lemmas.Bool.{and_from, not_from_false, or_left, or_right}
+use Rattle.std.specs.declared.net.ip_addr.IpAddr.{IpAddr}
+use Rattle.turn_stun.specs.declared.transport.TransportType.{TransportType}
 use Rattle.turn_types.specs.declared.family.AddressFamily.{AddressFamily}
 use Rattle.turn_types.specs.declared.family.AddressFamily.TheVariants.{IPV4, IPV6}
 use Rattle.turn_client_api.specs.Config.{same_family}
 use Rattle.turn_client_api.specs.State.{State, Grant, Allocation, Permission, Channel, Connect, Offer, Connection, Relay, Pending, OwnConnect, Purpose, ForAllocation, ForRefresh, ForPermission, ForChannel, ForConnect, ForBind, Listing}
-use Rattle.turn_client_api.specs.Grants.{allocation_in, allocation_of, allocations, family_of, family_of_grant, is_for}
+use Rattle.turn_client_api.specs.Grants.{allocation_for, allocation_in, allocation_of, allocations, family_of, family_of_grant, family_of_ip, is_for, same_transport}
 use Rattle.turn_client_api.specs.Requests.{listings}
 use Rattle.turn_client_api.specs.LawsHoused.{asked_family}
 use Rattle.turn_client_api.proofs.HasLemmas.{Has, has-left, has-append, has-filter, filter-has, map-has, filter_map-has, has-filter_map, has-found}
@@ -83,6 +85,14 @@ room-of family s = by (allocation_of family s) refl
         the (Connect peer) e = cc
         the (Offer offer) e = cc
         the (Connection c) e = cc
+
+-- an allocation that relays to this address
+pub allocation-room : (transport : TransportType) (ip : IpAddr) (s : State) → is_some (allocation_for transport ip s) ≡ true → Room s.grants (family_of_ip ip)
+allocation-room transport ip s e = room-of (family_of_ip ip) s (by (same_transport transport s.config.allocation_transport) (allocation_of (family_of_ip ip) s) e)
+  where
+    by : (b : Bool) (o : Option Relay) → is_some (cond b o None) ≡ true → is_some o ≡ true
+    by true o e = e
+    by false o e = cc
 
 find-some : {X : Type 0} (p : X → Bool) (x : X) (xs : List X) → Has x xs → p x ≡ true → is_some (find p xs) ≡ true
 find-some p x [] h passes = absurd h

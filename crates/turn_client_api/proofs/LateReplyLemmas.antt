@@ -1,5 +1,5 @@
 -- A response to no request that is outstanding changes no grant, and binds no connection.
-use Rattle.std.proofs.Common.{◌≡◌, ℕ, zero, suc, Bool, true, false, cond, eqb, ltb, List, [], ◌∷◌, Option, Some, None, ◌⊎◌, inl, inr, refl, sym, ◌∙◌, ap, arith}
+use Rattle.std.proofs.Common.{◌≡◌, ℕ, Bool, true, false, cond, eqb, ltb, List, [], ◌∷◌, Option, Some, None, ◌⊎◌, inl, inr, refl, sym, ◌∙◌, ap}
 use Rattle.std.specs.Prelude.{◌&&◌, find, ⊤}
 use Rattle.std.specs.List.{Contains, list_any}
 use Rattle.std.proofs.lemmas.Option.{none-some}
@@ -20,7 +20,7 @@ use Rattle.turn_client_api.specs.Retry.{bind_time, most_challenges, retried}
 use Rattle.turn_client_api.specs.Connections.{bind_again, bind_answered, bind_step, connection_at, with_deadline}
 use Rattle.turn_client_api.specs.Payloads.{challenge_step, message_step, wrong_step}
 use Rattle.turn_client_api.proofs.HasLemmas.{Has, has-filter}
-use Rattle.turn_client_api.proofs.PeerLemmas.{Contains-here, Contains-later}
+use Rattle.turn_client_api.proofs.StandLemmas.{contains-has, has-contains}
 
 -- no request of the ID of the message is outstanding
 abbrev IsUnasked : List ℕ → State → Type 0
@@ -195,16 +195,6 @@ bind_in_phase Allocated c local message now s unasked none = by (connection_at l
     by None e = rw e (λ h. h)
     by (Some d) e = rw e (about d (eqb (method_in message) connection_bind_method))
 
-Contains-Has : {X : Type 0} (x : X) (xs : List X) → Contains xs x → Has x xs
-Contains-Has x [] (k, within, is) = absurd (omega (arith, within))
-Contains-Has x (y ∷ ys) (zero, within, is) = inl (sym is)
-Contains-Has x (y ∷ ys) (suc k, within, is) = inr (Contains-Has x ys (k, omega (arith, within), is))
-
-Has-Contains : {X : Type 0} (x : X) (xs : List X) → Has x xs → Contains xs x
-Has-Contains x [] h = absurd h
-Has-Contains x (y ∷ ys) (inl e) = rw e (Contains-here y ys)
-Has-Contains x (y ∷ ys) (inr h) = Contains-later x y ys (Has-Contains x ys h)
-
 pub stray-binds : (local : SocketAddr) (message : List ℕ) (now : ℕ) (s : State) (c : DataConnection) → IsUnasked message s → Contains (bind_step local message now s).grants (Connection c) → c.deadline ≡ None → Contains s.grants (Connection c)
 stray-binds local message now s c unasked there none =
-    Has-Contains (Connection c) s.grants (bind_in_phase s.phase c local message now s unasked none (Contains-Has (Connection c) _ there))
+    has-contains (Connection c) s.grants (bind_in_phase s.phase c local message now s unasked none (contains-has (Connection c) _ there))
