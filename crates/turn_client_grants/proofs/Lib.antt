@@ -9,3 +9,4 @@ pub mod RangeLemmas
 pub mod RefreshLemmas
 pub mod RoomLemmas
 pub mod TableLemmas
+pub mod ThereLemmas

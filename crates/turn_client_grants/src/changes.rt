@@ -8,7 +8,7 @@ ghost use Rattle.turn_client_api.specs.Requests.{listings};
 ghost use Rattle.turn_client_grants.specs.Table.{changed, unlisted};
 ghost use Rattle.turn_client_grants.specs.Which.{holds, purposes_in};
 
-use crate::kind::is_of_family;
+use crate::kind::{is_for_allocation, is_of_family};
 use crate::listed::is_for_one;
 use crate::moment::{NANOS_PER_SECOND, later};
 use crate::purposes::Purposes;
@@ -219,13 +219,6 @@ pub(crate) fn unlist_allocates(listed: &mut Vec<Listing>)
     ensures len { vec_len listed.new ≤ vec_len listed.old }
 {
     listed.retain(|listing| !is_for_allocation(&listing.purpose));
-}
-
-/// Whether a request for this is an ALLOCATE.
-fn is_for_allocation(purpose: &Purpose) -> bool
-    ensures { result ≡ is_for_allocation purpose.now }
-{
-    matches!(purpose, Purpose::ForAllocation)
 }
 
 /// Lists a purpose, where there is one.

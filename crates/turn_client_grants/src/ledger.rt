@@ -1,5 +1,6 @@
 //! The grants, with the events and the closes that come of them.
 
+ghost use Rattle.std.specs.List.{list_any};
 ghost use Rattle.std.specs.Prelude.{◌≡◌, ◌≤◌, ◌<◌, ◌+◌, ◌∷◌, ◌++◌, [], true, OnOk};
 ghost use Rattle.turn_client_api.specs.Effect.{renewed};
 ghost use Rattle.turn_client_api.specs.Grants.{allocation_for, failures_among, jump, unlisted, wait, with_grant, without};
@@ -28,6 +29,7 @@ mod connect;
 mod data;
 mod lapse;
 mod poll;
+mod read;
 
 /// The grants of a client, what its requests were made for, the events that wait to be polled, and the
 /// local ends of the data connections that the caller is to close.
@@ -215,14 +217,15 @@ impl GrantLedger {
         self.table.change(&Change::Renew(*which, expiry));
     }
 
-    /// Puts one grant after all others in the place of these.
+    /// Puts one grant after all others in the place of these, of which there is one at least. It takes no
+    /// room for grants.
     fn replace(&mut self, which: &Which, grant: &Grant)
         requires numbered { is_numbered grant.now ≡ true }
         requires apart { IsApart grant.now }
-        requires room { 0 < self.old.grant_room }
+        requires there { list_any (holds which.now) self.old.grants ≡ true }
         requires aside { 2 ≤ self.old.event_room }
         ensures state { (s : State) → on self.new s ≡ with_grant grant.now (without (holds which.now) (on self.old s)) }
-        ensures room { SameRoomBut 1 2 self.old self.new }
+        ensures room { SameRoomBut 0 2 self.old self.new }
     {
         self.table.replace(which, grant);
     }

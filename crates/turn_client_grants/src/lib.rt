@@ -23,6 +23,7 @@ mod table;
 mod told;
 mod which;
 
+pub use kind::{family_of, family_of_ip};
 pub use ledger::GrantLedger;
 pub use purposes::Purposes;
 pub use table::GrantTable;

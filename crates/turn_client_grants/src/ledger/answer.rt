@@ -1,8 +1,10 @@
 //! What the server's signed reply to a request changes (RFC 8656, sections 8.3, 10.3 and 12.3; RFC 6062,
 //! section 4.3).
 
+ghost use Rattle.std.specs.List.{list_any};
 ghost use Rattle.std.specs.Prelude.{ℕ, ◌≡◌, ◌≤◌, false, fold, option_to_list, true};
 ghost use Rattle.turn_client_api.specs.Effect.{active_channel_answered, active_permission_answered, channel_answered, connect_answered, pending_channel_answered, pending_permission_answered, permission_answered, permission_answered_for, listed_permissions_answered};
+ghost use Rattle.turn_client_api.specs.Grants.{is_channel_of, is_permission_of};
 ghost use Rattle.turn_client_api.specs.State.{State};
 ghost use Rattle.turn_client_grants.specs.Answered.{permission_granted};
 ghost use Rattle.turn_client_grants.specs.Ledger.{SameRoomBut, on};
@@ -27,12 +29,12 @@ const CHANNEL_SECONDS: u64 = 600;
 pub(crate) const RESERVED_SECONDS: u64 = 300;
 
 impl GrantLedger {
-    /// The server answered for the permission for this IP address.
+    /// The server answered for the permission for this IP address. `reserve` makes room for the event:
+    /// what is granted takes the place of what was asked for.
     pub fn permission_answered(&mut self, ip: IpAddr, is_granted: bool, now: Instant)
-        requires grant_room { 1 ≤ self.old.grant_room }
-        requires event_room { 3 ≤ self.old.event_room }
+        requires { 3 ≤ self.old.event_room }
         ensures state { (s : State) → on self.new s ≡ permission_answered ip is_granted now (on self.old s) }
-        ensures room { SameRoomBut 1 3 self.old self.new }
+        ensures room { SameRoomBut 0 3 self.old self.new }
     {
         let Some(progress) = self.table.permission_for(ip) else {
             return;
@@ -46,10 +48,10 @@ impl GrantLedger {
 
     /// The server answered for a permission that was asked for.
     fn pending_permission_answered(&mut self, ip: IpAddr, is_granted: bool, now: Instant)
-        requires grant_room { 1 ≤ self.old.grant_room }
+        requires there { list_any (is_permission_of ip) self.old.grants ≡ true }
         requires event_room { 3 ≤ self.old.event_room }
         ensures state { (s : State) → on self.new s ≡ pending_permission_answered ip is_granted now (on self.old s) }
-        ensures room { SameRoomBut 1 3 self.old self.new }
+        ensures room { SameRoomBut 0 3 self.old self.new }
     {
         let transport = self.transport();
         if is_granted {
@@ -61,10 +63,10 @@ impl GrantLedger {
 
     /// A permission that was asked for stands from now on, after all other grants.
     fn permission_granted(&mut self, ip: IpAddr, expiry: Instant)
-        requires grant_room { 1 ≤ self.old.grant_room }
+        requires there { list_any (is_permission_of ip) self.old.grants ≡ true }
         requires event_room { 3 ≤ self.old.event_room }
         ensures state { (s : State) → on self.new s ≡ permission_granted ip expiry (on self.old s) }
-        ensures room { SameRoomBut 1 3 self.old self.new }
+        ensures room { SameRoomBut 0 3 self.old self.new }
     {
         let transport = self.transport();
         self.replace(
@@ -76,9 +78,9 @@ impl GrantLedger {
 
     /// The server answered for a permission that was to be refreshed.
     fn active_permission_answered(&mut self, ip: IpAddr, is_granted: bool, now: Instant)
-        requires event_room { 3 ≤ self.old.event_room }
+        requires { 3 ≤ self.old.event_room }
         ensures state { (s : State) → on self.new s ≡ active_permission_answered ip is_granted now (on self.old s) }
-        ensures room { SameRoomBut 1 3 self.old self.new }
+        ensures room { SameRoomBut 0 3 self.old self.new }
     {
         let transport = self.transport();
         if is_granted {
@@ -90,10 +92,9 @@ impl GrantLedger {
 
     /// The server answered for the permission that the purpose names, if it names one.
     fn permission_answered_for(&mut self, purpose: &Purpose, is_granted: bool, now: Instant)
-        requires grant_room { 1 ≤ self.old.grant_room }
-        requires event_room { 3 ≤ self.old.event_room }
+        requires { 3 ≤ self.old.event_room }
         ensures state { (s : State) → on self.new s ≡ permission_answered_for is_granted now (on self.old s) purpose.now }
-        ensures room { SameRoomBut 1 3 self.old self.new }
+        ensures room { SameRoomBut 0 3 self.old self.new }
     {
         match purpose {
             Purpose::ForPermission(ip) => self.permission_answered(*ip, is_granted, now),
@@ -112,10 +113,9 @@ impl GrantLedger {
         is_granted: bool,
         now: Instant,
     )
-        requires grant_room { 1 ≤ self.old.grant_room }
-        requires event_room { 3 ≤ self.old.event_room }
+        requires { 3 ≤ self.old.event_room }
         ensures state { (s : State) → on self.new s ≡ fold (permission_answered_for is_granted now) (on self.old s) (option_to_list purpose.now) }
-        ensures room { SameRoomBut 1 3 self.old self.new }
+        ensures room { SameRoomBut 0 3 self.old self.new }
     {
         match purpose {
             Some(purpose) => self.permission_answered_for(purpose, is_granted, now),
@@ -125,10 +125,9 @@ impl GrantLedger {
 
     /// The server answered for the permissions that the request of this ID was made for.
     fn permissions_answered(&mut self, id: TransactionId, is_granted: bool, now: Instant)
-        requires grant_room { 2 ≤ self.old.grant_room }
-        requires event_room { 6 ≤ self.old.event_room }
+        requires { 6 ≤ self.old.event_room }
         ensures state { (s : State) → on self.new s ≡ listed_permissions_answered id is_granted now (on self.old s) }
-        ensures room { SameRoomBut 2 6 self.old self.new }
+        ensures room { SameRoomBut 0 6 self.old self.new }
     {
         let purposes = self.table.purposes_of(id);
         self.permission_answered_for_one(&purposes.first, is_granted, now);
@@ -144,10 +143,9 @@ impl GrantLedger {
         is_granted: bool,
         now: Instant,
     )
-        requires grant_room { 3 ≤ self.old.grant_room }
-        requires event_room { 9 ≤ self.old.event_room }
+        requires { 9 ≤ self.old.event_room }
         ensures state { (s : State) → on self.new s ≡ channel_answered number id is_granted now (on self.old s) }
-        ensures room { SameRoomBut 3 9 self.old self.new }
+        ensures room { SameRoomBut 0 9 self.old self.new }
     {
         let Some(peer) = self.table.channel_owner(number) else {
             return;
@@ -173,11 +171,11 @@ impl GrantLedger {
         is_granted: bool,
         now: Instant,
     )
+        requires there { list_any (is_channel_of number) self.old.grants ≡ true }
         requires numbered { is_numbered (Grant.Channel number peer Progress.Pending) ≡ true }
-        requires grant_room { 3 ≤ self.old.grant_room }
         requires event_room { 9 ≤ self.old.event_room }
         ensures state { (s : State) → on self.new s ≡ pending_channel_answered number peer id is_granted now (on self.old s) }
-        ensures room { SameRoomBut 3 9 self.old self.new }
+        ensures room { SameRoomBut 0 9 self.old self.new }
     {
         if is_granted {
             return self.channel_granted(number, peer, id, now);
@@ -187,11 +185,11 @@ impl GrantLedger {
 
     /// A channel that was asked for stands from now on, after all other grants, and its permission too.
     fn channel_granted(&mut self, number: u16, peer: SocketAddr, id: TransactionId, now: Instant)
+        requires there { list_any (is_channel_of number) self.old.grants ≡ true }
         requires numbered { is_numbered (Grant.Channel number peer Progress.Pending) ≡ true }
-        requires grant_room { 3 ≤ self.old.grant_room }
         requires event_room { 9 ≤ self.old.event_room }
         ensures state { (s : State) → on self.new s ≡ pending_channel_answered number peer id true now (on self.old s) }
-        ensures room { SameRoomBut 3 9 self.old self.new }
+        ensures room { SameRoomBut 0 9 self.old self.new }
     {
         let transport = self.transport();
         self.permissions_answered(id, true, now);
@@ -204,9 +202,9 @@ impl GrantLedger {
 
     /// A channel that was asked for is refused, and so is the permission that was to come with it.
     fn channel_refused(&mut self, number: u16, peer: SocketAddr, id: TransactionId)
-        requires event_room { 9 ≤ self.old.event_room }
+        requires { 9 ≤ self.old.event_room }
         ensures state { (s : State) (now : ℕ) → on self.new s ≡ pending_channel_answered number peer id false now (on self.old s) }
-        ensures room { SameRoomBut 3 9 self.old self.new }
+        ensures room { SameRoomBut 0 9 self.old self.new }
     {
         let transport = self.transport();
         let purposes = self.table.purposes_of(id);
@@ -224,11 +222,11 @@ impl GrantLedger {
         is_granted: bool,
         now: Instant,
     )
+        requires there { list_any (is_channel_of number) self.old.grants ≡ true }
         requires numbered { is_numbered (Grant.Channel number peer Progress.Pending) ≡ true }
-        requires grant_room { 3 ≤ self.old.grant_room }
         requires event_room { 9 ≤ self.old.event_room }
         ensures state { (s : State) → on self.new s ≡ active_channel_answered number peer expiry is_granted now (on self.old s) }
-        ensures room { SameRoomBut 3 9 self.old self.new }
+        ensures room { SameRoomBut 0 9 self.old self.new }
     {
         let transport = self.transport();
         if is_granted {

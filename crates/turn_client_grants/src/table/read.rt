@@ -1,12 +1,12 @@
 //! What is read off a table.
 
-ghost use Rattle.std.specs.Prelude.{◌≡◌, ◌==◌, ◌&&◌, map, filter, filter_map, find, fold, length, min, nat_le, nat_lt, option_map, reverse, slice_get, false, true, IfSome};
+ghost use Rattle.std.specs.Prelude.{◌≡◌, ◌==◌, ◌&&◌, map, filter, filter_map, find, fold, length, min, nat_le, nat_lt, not, option_map, reverse, slice_get, false, true, IfSome};
 ghost use Rattle.std.specs.List.{list_all, list_any};
 ghost use Rattle.turn_agent.specs.Agent.{same_address};
 ghost use Rattle.turn_client_api.specs.Addresses.{permitted_left, permitted_in_use, relayed_left, relayed_in_use};
 ghost use Rattle.turn_client_api.specs.Calls.{active_channel, bound_to, channels_to, free_number, is_in_progress, offer_origin, reserved_from};
 ghost use Rattle.turn_client_api.specs.Connections.{is_connected, is_indicated};
-ghost use Rattle.turn_client_api.specs.Grants.{allocation_of, allocations, channel_at, channel_peer, allocation_in, connection_in, first_in, is_channel_of, is_connect_to, is_for, is_of, is_listed, permission_progress, purposes_of};
+ghost use Rattle.turn_client_api.specs.Grants.{allocation_of, allocations, channel_at, channel_peer, allocation_in, connection_in, first_in, is_channel_of, is_connect_to, is_for, is_of, is_listed, is_permitted, permission_progress, purposes_of};
 ghost use Rattle.turn_client_api.specs.Judgement.{is_bind_of};
 ghost use Rattle.turn_client_api.specs.Poll.{is_lapsed_channel, next_offer};
 ghost use Rattle.turn_client_api.specs.State.{State};
@@ -42,11 +42,18 @@ impl GrantTable {
 
     /// The allocation at this place, 0 or 1, in the order in which the server granted them. There are at
     /// most two, one of each address family.
-    pub(crate) fn allocation_at(&self, place: usize) -> Option<Relay>
+    pub fn allocation_at(&self, place: usize) -> Option<Relay>
         ensures found { result ≡ slice_get (filter_map allocation_in self.now.grants) place }
         ensures both { filter_map allocation_in self.now.grants ≡ both_of (filter_map allocation_in self.now.grants) }
     {
         reads::allocation_at(self.grants.as_slice(), place)
+    }
+
+    /// Whether an allocation that is not expired has this relayed address.
+    pub fn has_relayed(&self, relayed: SocketAddr) -> bool
+        ensures { result ≡ list_any (λ a. same_address a.relayed relayed) (filter (λ a. not a.is_expired) (filter_map allocation_in self.now.grants)) }
+    {
+        reads::has_relayed(self.grants.as_slice(), relayed)
     }
 
     /// The last channel of this family that is active up to this moment or an earlier one.
@@ -92,6 +99,17 @@ impl GrantTable {
         ensures { result ≡ first_among (permission_progress ip) self.now.grants }
     {
         reads::permission_for(self.grants.as_slice(), ip)
+    }
+
+    /// Whether the server lets this IP address through: the permission for it is active (RFC 8656,
+    /// section 9).
+    pub fn is_permitted(&self, ip: IpAddr) -> bool
+        ensures { (s : State) → result ≡ is_permitted ip (with_table self.now s) }
+    {
+        match self.permission_for(ip) {
+            Some(Progress::Active(_)) => true,
+            Some(Progress::Pending | Progress::Reserved(_)) | None => false,
+        }
     }
 
     /// The peer of the channel of this number, however far it has come. The number is one that a client

@@ -8,6 +8,10 @@ use Rattle.turn_client_grants.specs.Which.{holds}
 use Rattle.turn_client_grants.proofs.AnswerLemmas.{told}
 use Rattle.turn_client_grants.proofs.ledger.GrantLedger.active_channel_answered.Goals as goal
 
+pub replace-requires-clause-there : goal.replace-requires-clause-there
+unfolding holds
+replace-requires-clause-there c = c.requires.there
+
 pub returns-then-is_granted-clause-state : goal.returns-then-is_granted-clause-state
 unfolding holds
 returns-then-is_granted-clause-state c = λ s. rw c.if-is_granted.true (rw c.later.ensures at (c.renew.ensures.state s))

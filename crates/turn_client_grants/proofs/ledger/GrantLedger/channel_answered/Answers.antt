@@ -4,7 +4,16 @@ use Rattle.turn_client_api.specs.declared.grant.Progress.TheVariants.{Active, Pe
 use Rattle.turn_client_grants.specs.Ledger.{on}
 use Rattle.turn_client_grants.specs.Lists.{first_among}
 use Rattle.turn_client_grants.proofs.AnswerLemmas.{active-channel, both-found, pending-channel}
+use Rattle.turn_client_grants.proofs.ThereLemmas.{channel-there}
 use Rattle.turn_client_grants.proofs.ledger.GrantLedger.channel_answered.Goals as goal
+
+pub pending_channel_answered-requires-clause-there : goal.pending_channel_answered-requires-clause-there
+pending_channel_answered-requires-clause-there c =
+    rw (← c.self.view_is) (channel-there c.args.number c.self.inside.table.grants c.in-Some.peer (sym c.channel_owner.ensures.found ∙ c.in-Some.is))
+
+pub active_channel_answered-requires-clause-there : goal.active_channel_answered-requires-clause-there
+active_channel_answered-requires-clause-there c =
+    rw (← c.self.view_is) (channel-there c.args.number c.self.inside.table.grants c.in-Some.peer (sym c.channel_owner.ensures.found ∙ c.in-Some.is))
 
 pub returns-in-Pending-clause-state : goal.returns-in-Pending-clause-state
 returns-in-Pending-clause-state c = λ s.

@@ -3,6 +3,10 @@ use Rattle.turn_client_grants.specs.Which.{holds}
 use Rattle.turn_client_grants.proofs.AnswerLemmas.{told}
 use Rattle.turn_client_grants.proofs.ledger.GrantLedger.permission_granted.Goals as goal
 
+pub replace-requires-clause-there : goal.replace-requires-clause-there
+unfolding holds
+replace-requires-clause-there c = c.requires.there
+
 pub returns-clause-state : goal.returns-clause-state
 unfolding holds
 returns-clause-state c = λ s.

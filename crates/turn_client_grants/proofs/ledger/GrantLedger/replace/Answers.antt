@@ -1,13 +1,14 @@
-use Rattle.std.proofs.Common.{◌≤◌, ◌+◌, ◌∷◌, [], arith, filter, not, refl}
+use Rattle.std.proofs.Common.{◌≡◌, ◌≤◌, ◌+◌, ◌∷◌, [], arith, filter, length, not, refl}
+use Rattle.std.proofs.lemmas.List.{length-append}
 use Rattle.turn_client_grants.specs.Failures.{closes_aside, set_aside}
 use Rattle.turn_client_grants.specs.Which.{holds}
-use Rattle.turn_client_grants.proofs.PushLemmas.{few-of}
 use Rattle.turn_client_grants.proofs.RoomLemmas.{closes-added, closes-filtered, events_of-most, set_aside-append, set_aside-filtered}
+use Rattle.turn_client_grants.proofs.ThereLemmas.{fewer-of}
 use Rattle.turn_client_grants.proofs.ledger.GrantLedger.replace.Goals as goal
 
 pub replace-requires-clause-room : goal.replace-requires-clause-room
 replace-requires-clause-room c =
-    omega (arith, few-of (λ g. not (holds c.args.which.now g)) c.self.inside.table.grants, (rw (← c.self.view_is) at c.requires.room))
+    omega (arith, fewer-of (holds c.args.which.now) c.self.inside.table.grants (rw (← c.self.view_is) at c.requires.there))
 
 pub returns-clause-state : goal.returns-clause-state
 returns-clause-state c = λ s. rw (c.replace.ensures.grants, c.replace.ensures.listed, ← c.self.view_is) refl
@@ -16,6 +17,8 @@ pub returns-clause-room : goal.returns-clause-room
 returns-clause-room c =
     let was = c.self.inside.table.grants in
     let left = filter (λ g. not (holds c.args.which.now g)) was in
+    let fewer = fewer-of (holds c.args.which.now) was (rw (← c.self.view_is) at c.requires.there) in
+    let count : length c.replace.new.self.grants ≡ length left + 1 = rw (c.replace.ensures.grants, length-append left (c.args.grant.now ∷ [])) (omega arith) in
     let events : set_aside c.replace.new.self.grants ≤ set_aside was + 2 =
     rw (c.replace.ensures.grants, set_aside-append left (c.args.grant.now ∷ []))
     (omega (arith, set_aside-filtered (λ g. not (holds c.args.which.now g)) was, events_of-most c.args.grant.now)) in
@@ -24,7 +27,7 @@ returns-clause-room c =
     (closes-filtered (λ g. not (holds c.args.which.now g)) was) in
     rw (← c.self.view_is)
     (record {
-      grants_left = omega (arith, c.replace.ensures.grant_room);
+      grants_left = omega (arith, c.replace.ensures.all_room, count, fewer);
       listings_left = omega (arith, c.replace.ensures.listing_room);
       events_left = omega (arith, events);
       closes_left = omega (arith, closes);
