@@ -1,39 +1,165 @@
-//! What a ledger should hold, as plain lists, one a kind of grant.
+//! What a ledger should hold, as plain lists that are kept by hand.
 
+pub(crate) mod answers;
+pub(crate) mod lapses;
+pub(crate) mod reads;
+
+use crate::tests::random::Draw;
 use std::alloc::{AllocError, Global};
 use std::collections::VecDeque;
-use std::net::{IpAddr, Ipv4Addr, SocketAddr};
-use turn_client_api::{Origin, Progress, Purpose, TurnEvent};
+use std::net::{IpAddr, Ipv4Addr, Ipv6Addr, SocketAddr};
+use turn_client_api::{Purpose, TurnEvent};
 use turn_stun::instant::Instant;
 use turn_stun::transaction::TransactionId;
 use turn_stun::transport::TransportType;
+use turn_types::AddressFamily;
 
-/// One of four addresses.
-pub(crate) fn peer(n: u64) -> SocketAddr {
-    SocketAddr::new(IpAddr::V4(Ipv4Addr::new(192, 0, 2, (n % 4) as u8)), 4_000)
+/// What the ledger of the test relays over.
+pub(crate) const TRANSPORT: TransportType = TransportType::Tcp;
+
+/// How many nanoseconds a second has.
+pub(crate) const SECOND: u64 = 1_000_000_000;
+
+/// One of eight addresses, the first four of IPv4.
+pub(crate) fn address(n: u8) -> SocketAddr {
+    let ip = if is_ipv6(n) {
+        IpAddr::V6(Ipv6Addr::new(0x2001, 0xdb8, 0, 0, 0, 0, 0, u16::from(n)))
+    } else {
+        IpAddr::V4(Ipv4Addr::new(192, 0, 2, n))
+    };
+    SocketAddr::new(ip, 4_000)
 }
 
-/// One of 32 transaction IDs.
-pub(crate) fn id(n: u64) -> TransactionId {
-    TransactionId::from_bytes([(n % 32) as u8; 12])
+/// Whether the address of this number is one of IPv6.
+pub(crate) fn is_ipv6(n: u8) -> bool {
+    n % 8 >= 4
 }
 
-/// So many seconds after the first moment.
-pub(crate) fn seconds(count: u64) -> Instant {
-    Instant::from_nanos(count.saturating_mul(1_000_000_000))
+/// The family of the address of this number.
+pub(crate) fn family(n: u8) -> AddressFamily {
+    if is_ipv6(n) {
+        AddressFamily::IPV6
+    } else {
+        AddressFamily::IPV4
+    }
+}
+
+/// The number of an address by which a row is known.
+pub(crate) fn byte_of(key: u32) -> u8 {
+    (key % 256) as u8
+}
+
+/// The number of a channel by which a row is known.
+pub(crate) fn number_of(key: u32) -> u16 {
+    (key % 0x1_0000) as u16
+}
+
+/// One of 16 transaction IDs.
+pub(crate) fn id(n: u8) -> TransactionId {
+    TransactionId::from_bytes([n % 16; 12])
+}
+
+/// So many nanoseconds after the first moment.
+pub(crate) fn at(nanos: u64) -> Instant {
+    Instant::from_nanos(nanos)
+}
+
+/// What a row stands for, or what a request is for.
+#[derive(Clone, Copy, PartialEq, Eq)]
+pub(crate) enum Kind {
+    Allocate,
+    Allocation,
+    Permission,
+    Channel,
+    Connect,
+    Offer,
+    Connection,
+}
+
+/// How far a row has come. A connection that waits to be bound is pending.
+#[derive(Clone, Copy, PartialEq, Eq)]
+pub(crate) enum Stage {
+    Pending,
+    Active,
+    Reserved,
+}
+
+/// Why there is an offer.
+#[derive(Clone, Copy, PartialEq, Eq)]
+pub(crate) enum Reason {
+    Own,
+    Request(u8),
+    Indication,
+}
+
+/// One grant. Addresses are numbers, moments nanoseconds; what a kind has no use for stays as it is made.
+#[derive(Clone, Copy)]
+pub(crate) struct Row {
+    pub(crate) kind: Kind,
+    /// What the row is known by among those of its kind.
+    pub(crate) key: u32,
+    /// The peer, or the relayed address.
+    pub(crate) peer: u8,
+    pub(crate) stage: Stage,
+    pub(crate) until: u64,
+    /// The first lifetime of an allocation.
+    pub(crate) lifetime: u64,
+    /// An allocation is expired, an offer was told.
+    pub(crate) is_marked: bool,
+    pub(crate) reason: Reason,
+    /// It is on its way out.
+    pub(crate) goes: bool,
+}
+
+impl Row {
+    /// A row that was just asked for.
+    pub(crate) fn new(kind: Kind, key: u32, peer: u8) -> Row {
+        Row {
+            kind,
+            key,
+            peer,
+            stage: Stage::Pending,
+            until: 0,
+            lifetime: 0,
+            is_marked: false,
+            reason: Reason::Own,
+            goes: false,
+        }
+    }
+
+    /// Whether it is the one of this kind and key.
+    pub(crate) fn is(&self, kind: Kind, key: u32) -> bool {
+        self.kind == kind && self.key == key
+    }
+
+    /// Whether it is of this kind, and has come so far.
+    pub(crate) fn is_at(&self, kind: Kind, stage: Stage) -> bool {
+        self.kind == kind && self.stage == stage
+    }
+}
+
+/// What one request is for, beside the kind and key of the row.
+#[derive(Clone, Copy)]
+pub(crate) struct Asked {
+    pub(crate) id: u8,
+    pub(crate) kind: Kind,
+    pub(crate) key: u32,
+    pub(crate) purpose: Purpose,
+}
+
+/// Where a failure is told, if it is.
+#[derive(Clone, Copy, PartialEq, Eq)]
+pub(crate) enum Told {
+    First,
+    Last,
+    Never,
 }
 
 /// The lists, each in the order of the ledger.
-#[derive(Debug, Drop)]
+#[derive(Drop)]
 pub(crate) struct Plain {
-    /// `None` is pending.
-    pub(crate) permissions: Vec<(IpAddr, Option<Instant>)>,
-    pub(crate) connects: Vec<SocketAddr>,
-    /// Number, peer, and why.
-    pub(crate) offers: Vec<(u32, SocketAddr, Origin)>,
-    /// Local end and peer.
-    pub(crate) connections: Vec<(SocketAddr, SocketAddr)>,
-    pub(crate) listed: Vec<(TransactionId, Purpose)>,
+    pub(crate) rows: Vec<Row>,
+    pub(crate) asked: Vec<Asked>,
     pub(crate) events: VecDeque<TurnEvent>,
     pub(crate) closes: VecDeque<SocketAddr>,
 }
@@ -41,193 +167,133 @@ pub(crate) struct Plain {
 impl Plain {
     pub(crate) fn new(alloc: Global) -> Plain {
         Plain {
-            permissions: Vec::new(alloc),
-            connects: Vec::new(alloc),
-            offers: Vec::new(alloc),
-            connections: Vec::new(alloc),
-            listed: Vec::new(alloc),
+            rows: Vec::new(alloc),
+            asked: Vec::new(alloc),
             events: VecDeque::new(alloc),
             closes: VecDeque::new(alloc),
         }
     }
 
-    pub(crate) fn count(&self) -> usize {
-        self.permissions
-            .len()
-            .saturating_add(self.connects.len())
-            .saturating_add(self.offers.len())
-            .saturating_add(self.connections.len())
-    }
-
-    pub(crate) fn permission_for(&self, ip: IpAddr) -> Option<Progress> {
-        for (other, expiry) in &self.permissions {
-            if *other == ip {
-                return match expiry {
-                    Some(expiry) => Some(Progress::Active(*expiry)),
-                    None => Some(Progress::Pending),
-                };
+    /// The first row of this kind and key.
+    pub(crate) fn find(&self, kind: Kind, key: u32) -> Option<Row> {
+        for row in &self.rows {
+            if row.is(kind, key) {
+                return Some(*row);
             }
         }
         None
     }
 
-    pub(crate) fn is_connecting(&self, peer: SocketAddr) -> bool {
-        self.connects.iter().any(|other| *other == peer)
-    }
-
-    pub(crate) fn is_connected(&self, peer: SocketAddr) -> bool {
-        self.connections.iter().any(|(_, other)| *other == peer)
-            || self.offers.iter().any(|(_, other, _)| *other == peer)
-    }
-
-    pub(crate) fn has_local(&self, local: SocketAddr) -> bool {
-        self.connections.iter().any(|(other, _)| *other == local)
-    }
-
-    pub(crate) fn origin(&self, number: u32, peer: SocketAddr) -> Option<Origin> {
-        for (other, offered, origin) in &self.offers {
-            if *other == number && *offered == peer {
-                return Some(*origin);
-            }
-        }
-        None
-    }
-
-    pub(crate) fn is_asked(&self, id: TransactionId) -> bool {
-        self.listed.iter().any(|(other, _)| *other == id)
-    }
-
-    pub(crate) fn first_purpose(&self, id: TransactionId) -> Option<Purpose> {
-        for (other, purpose) in &self.listed {
-            if *other == id {
-                return Some(*purpose);
-            }
-        }
-        None
-    }
-
-    fn unlist(&mut self, purpose: Purpose) {
-        self.listed.retain(|(_, other)| *other != purpose);
-    }
-
-    /// The permission goes.
-    fn drop_permission(&mut self, ip: IpAddr) {
-        self.permissions.retain(|(other, _)| *other != ip);
-        self.unlist(Purpose::ForPermission(ip));
-    }
-
-    pub(crate) fn permission_answered(
-        &mut self,
-        ip: IpAddr,
-        is_granted: bool,
-        secs: u64,
-    ) -> Result<(), AllocError> {
-        match self.permission_for(ip) {
-            Some(Progress::Pending) => self.pending_answered(ip, is_granted, secs),
-            Some(_) => self.active_answered(ip, is_granted, secs),
-            None => Ok(()),
-        }
-    }
-
-    fn pending_answered(
-        &mut self,
-        ip: IpAddr,
-        is_granted: bool,
-        secs: u64,
-    ) -> Result<(), AllocError> {
-        let transport = TransportType::Tcp;
-        self.drop_permission(ip);
-        if is_granted {
-            self.permissions
-                .push((ip, Some(seconds(secs.saturating_add(300)))))?;
-            self.events
-                .push_back(TurnEvent::PermissionCreated(transport, ip))?;
-            return Ok(());
-        }
-        self.events
-            .push_back(TurnEvent::PermissionCreateFailed(transport, ip))?;
-        Ok(())
-    }
-
-    fn active_answered(
-        &mut self,
-        ip: IpAddr,
-        is_granted: bool,
-        secs: u64,
-    ) -> Result<(), AllocError> {
-        if is_granted {
-            for permission in self.permissions.iter_mut() {
-                if permission.0 == ip {
-                    permission.1 = Some(seconds(secs.saturating_add(300)));
-                }
-            }
-            self.unlist(Purpose::ForPermission(ip));
-            return Ok(());
-        }
-        self.drop_permission(ip);
-        self.events
-            .push_front(TurnEvent::PermissionCreateFailed(TransportType::Tcp, ip))?;
-        Ok(())
-    }
-
-    pub(crate) fn connect_answered(
-        &mut self,
-        peer: SocketAddr,
-        number: Option<u32>,
-    ) -> Result<(), AllocError> {
-        if self.is_connecting(peer) {
-            self.connects.retain(|other| *other != peer);
-            self.unlist(Purpose::ForConnect(peer));
-        }
-        match number {
-            Some(number) => self.offers.push((number, peer, Origin::OwnConnect))?,
-            None => self.events.push_back(TurnEvent::TcpConnectFailed(peer))?,
-        }
-        Ok(())
-    }
-
-    /// All that the one ID is listed for. The requests of this test have one purpose.
-    pub(crate) fn asked_again(
-        &mut self,
-        id: TransactionId,
-        fresh: TransactionId,
-    ) -> Result<(), AllocError> {
-        if let Some(purpose) = self.first_purpose(id) {
-            self.listed.push((fresh, purpose))?;
-        }
-        Ok(())
-    }
-
-    pub(crate) fn opened(
-        &mut self,
-        number: u32,
-        peer: SocketAddr,
-        local: SocketAddr,
-        id: TransactionId,
-    ) -> Result<(), AllocError> {
-        let place = self
-            .offers
-            .iter()
-            .position(|(other, offered, _)| *other == number && *offered == peer);
-        if let Some(place) = place {
-            let _taken = self.offers.remove(place);
-        }
-        self.connections.push((local, peer))?;
-        self.listed
-            .push((id, Purpose::ForBind(local, peer, number)))?;
-        Ok(())
-    }
-
-    pub(crate) fn gone(&mut self, local: SocketAddr) -> Result<(), AllocError> {
-        if !self.has_local(local) {
-            return Ok(());
-        }
-        self.connections.retain(|(other, _)| *other != local);
-        self.listed.retain(|(
-            _,
+    /// A request of this ID is for the row.
+    pub(crate) fn list(&mut self, id: u8, row: &Row, purpose: Purpose) -> Result<(), AllocError> {
+        self.asked.push(Asked {
+            id: id % 16,
+            kind: row.kind,
+            key: row.key,
             purpose,
-        )| !matches!(purpose, Purpose::ForBind(other, _, _) if *other == local));
-        self.closes.push_front(local)?;
+        })?;
         Ok(())
+    }
+
+    /// No request is for the row any more.
+    pub(crate) fn unlist(&mut self, kind: Kind, key: u32) {
+        drop_listed(&mut self.asked, &Row::new(kind, key, 0));
+    }
+
+    /// A grant was asked for by a request of this draw.
+    pub(crate) fn asks(
+        &mut self,
+        kind: Kind,
+        key: u32,
+        draw: &Draw,
+        purpose: Purpose,
+    ) -> Result<(), AllocError> {
+        let row = Row::new(kind, key, draw.n % 8);
+        self.add(&row)?;
+        self.list(draw.m, &row, purpose)
+    }
+
+    /// The row of this kind and key is as this one from now on, where it stands.
+    pub(crate) fn put(&mut self, changed: &Row) {
+        for row in self.rows.iter_mut() {
+            if row.is(changed.kind, changed.key) {
+                *row = *changed;
+            }
+        }
+    }
+
+    /// An event waits after all others.
+    pub(crate) fn wait(&mut self, event: TurnEvent) -> Result<(), AllocError> {
+        self.events.push_back(event)?;
+        Ok(())
+    }
+
+    /// An event jumps before all others.
+    pub(crate) fn jump(&mut self, event: TurnEvent) -> Result<(), AllocError> {
+        self.events.push_front(event)?;
+        Ok(())
+    }
+
+    /// A row comes after all others.
+    pub(crate) fn add(&mut self, row: &Row) -> Result<(), AllocError> {
+        self.rows.push(*row)?;
+        Ok(())
+    }
+
+    /// The rows that are on their way out go, and what is listed for them.
+    pub(crate) fn sweep(&mut self, told: Told) -> Result<(), AllocError> {
+        for row in &self.rows {
+            if row.goes {
+                drop_listed(&mut self.asked, row);
+                tell_failure(&mut self.events, row, told)?;
+            }
+        }
+        self.rows.retain(|row| !row.goes);
+        Ok(())
+    }
+
+    /// All rows go, and nobody is told.
+    pub(crate) fn clear(&mut self) -> Result<(), AllocError> {
+        for row in self.rows.iter_mut() {
+            row.goes = true;
+        }
+        self.sweep(Told::Never)
+    }
+
+    /// The row of this kind and key goes.
+    pub(crate) fn drop_row(&mut self, kind: Kind, key: u32, told: Told) -> Result<(), AllocError> {
+        for row in self.rows.iter_mut() {
+            row.goes = row.is(kind, key);
+        }
+        self.sweep(told)
+    }
+}
+
+/// No request is for the row any more.
+pub(crate) fn drop_listed(asked: &mut Vec<Asked>, row: &Row) {
+    asked.retain(|one| !row.is(one.kind, one.key));
+}
+
+/// The failure of the row is told, if it is.
+fn tell_failure(events: &mut VecDeque<TurnEvent>, row: &Row, told: Told) -> Result<(), AllocError> {
+    let Some(event) = failure(row) else {
+        return Ok(());
+    };
+    match told {
+        Told::First => events.push_front(event)?,
+        Told::Last => events.push_back(event)?,
+        Told::Never => {}
+    }
+    Ok(())
+}
+
+/// What is told of a row that failed.
+fn failure(row: &Row) -> Option<TurnEvent> {
+    let peer = address(row.peer);
+    match row.kind {
+        Kind::Allocate | Kind::Allocation => None,
+        Kind::Permission => Some(TurnEvent::PermissionCreateFailed(TRANSPORT, peer.ip())),
+        Kind::Channel => Some(TurnEvent::ChannelCreateFailed(TRANSPORT, peer)),
+        Kind::Connect | Kind::Offer | Kind::Connection => Some(TurnEvent::TcpConnectFailed(peer)),
     }
 }

@@ -1,0 +1,258 @@
+//! What is read off plain lists.
+
+use crate::tests::plain::answers::offer_key;
+use crate::tests::plain::{
+    Kind, Plain, Reason, Row, Stage, address, at, byte_of, id, is_ipv6, number_of,
+};
+use turn_client_api::{DataConnection, DataOffer, Origin, Progress, Purpose, Relay};
+use turn_stun::instant::Instant;
+
+impl Row {
+    /// How far it has come.
+    fn progress(&self) -> Progress {
+        match self.stage {
+            Stage::Pending => Progress::Pending,
+            Stage::Active => Progress::Active(at(self.until)),
+            Stage::Reserved => Progress::Reserved(at(self.until)),
+        }
+    }
+
+    /// The allocation for which it stands.
+    pub(crate) fn relay(&self) -> Relay {
+        Relay {
+            relayed: address(self.peer),
+            first_lifetime: self.lifetime,
+            expiry: at(self.until),
+            is_expired: self.is_marked,
+        }
+    }
+
+    /// The data connection for which it stands.
+    fn connection(&self) -> DataConnection {
+        let deadline = match self.stage {
+            Stage::Pending => Some(at(self.until)),
+            _ => None,
+        };
+        DataConnection {
+            local: address(byte_of(self.key)),
+            peer: address(self.peer),
+            deadline,
+        }
+    }
+
+    /// Why it is offered.
+    fn origin(&self) -> Origin {
+        match self.reason {
+            Reason::Own => Origin::OwnConnect,
+            Reason::Request(request) => Origin::ServerRequest(id(request)),
+            Reason::Indication => Origin::ServerIndication,
+        }
+    }
+
+    /// Whether it is of this kind, and this peer's.
+    fn is_to(&self, kind: Kind, peer: u8) -> bool {
+        self.kind == kind && self.peer == peer
+    }
+}
+
+impl Plain {
+    /// The row at this place, counted around.
+    pub(crate) fn row_of(&self, n: u8) -> Option<Row> {
+        let count = self.rows.len();
+        if count == 0 {
+            return None;
+        }
+        self.rows.get(usize::from(n) % count).map(|row| *row)
+    }
+
+    /// Whether few offers stand, so that the test takes no longer than it has to.
+    pub(crate) fn has_few_offers(&self) -> bool {
+        let mut count = 0usize;
+        for row in &self.rows {
+            if row.kind == Kind::Offer {
+                count = count.saturating_add(1);
+            }
+        }
+        count < 4
+    }
+
+    /// Whether an allocation that is not expired has this address.
+    pub(crate) fn has_relayed(&self, n: u8) -> bool {
+        self.rows
+            .iter()
+            .any(|row| row.is_to(Kind::Allocation, n) && !row.is_marked)
+    }
+
+    pub(crate) fn relay(&self, n: u8) -> Option<Relay> {
+        self.find(Kind::Allocation, u32::from(is_ipv6(n)))
+            .map(|row| row.relay())
+    }
+
+    pub(crate) fn permission(&self, peer: u8) -> Option<Progress> {
+        self.find(Kind::Permission, u32::from(peer))
+            .map(|row| row.progress())
+    }
+
+    pub(crate) fn channel(&self, number: u16) -> Option<Progress> {
+        self.find(Kind::Channel, u32::from(number))
+            .map(|row| row.progress())
+    }
+
+    /// Whether a channel to the peer is pending or active.
+    pub(crate) fn has_channel(&self, peer: u8) -> bool {
+        self.rows.iter().any(|row| row.is_to(Kind::Channel, peer) && row.stage != Stage::Reserved)
+    }
+
+    /// The number of the first active channel to the peer, and how long it lasts.
+    pub(crate) fn active_channel(&self, peer: u8) -> Option<(u16, Instant)> {
+        for row in &self.rows {
+            if row.is_to(Kind::Channel, peer) && row.stage == Stage::Active {
+                return Some((number_of(row.key), at(row.until)));
+            }
+        }
+        None
+    }
+
+    /// Up to when a reserved channel keeps the peer from being bound.
+    pub(crate) fn reserved_until(&self, peer: u8, now: u64) -> Option<Instant> {
+        for row in &self.rows {
+            if row.is_to(Kind::Channel, peer) && row.stage == Stage::Reserved && now <= row.until {
+                return Some(at(row.until));
+            }
+        }
+        None
+    }
+
+    /// The least number that no channel has.
+    pub(crate) fn free_number(&self) -> Option<u16> {
+        for number in 0x4000..0x5000u16 {
+            if self.find(Kind::Channel, u32::from(number)).is_none() {
+                return Some(number);
+            }
+        }
+        None
+    }
+
+    pub(crate) fn connection(&self, local: u8) -> Option<DataConnection> {
+        self.find(Kind::Connection, u32::from(local))
+            .map(|row| row.connection())
+    }
+
+    /// The first connection to the peer that is bound.
+    pub(crate) fn bound_connection(&self, peer: u8) -> Option<DataConnection> {
+        for row in &self.rows {
+            if row.is_to(Kind::Connection, peer) && row.stage == Stage::Active {
+                return Some(row.connection());
+            }
+        }
+        None
+    }
+
+    pub(crate) fn is_connected(&self, peer: u8) -> bool {
+        self.rows.iter().any(|row| row.is_to(Kind::Connection, peer)
+            || row.is_to(Kind::Offer, peer))
+    }
+
+    pub(crate) fn is_connecting(&self, peer: u8) -> bool {
+        self.find(Kind::Connect, u32::from(peer)).is_some()
+    }
+
+    pub(crate) fn origin(&self, number: u32, peer: u8) -> Option<Origin> {
+        self.find(Kind::Offer, offer_key(number, peer))
+            .map(|row| row.origin())
+    }
+
+    /// The offer that the caller is told of next.
+    pub(crate) fn next_offer(&self) -> Option<Row> {
+        let Some(first) = self.first_allocation() else {
+            return None;
+        };
+        if let Some(offer) = self.untold(is_ipv6(first.peer)) {
+            return Some(offer);
+        }
+        if self.find(Kind::Allocation, 1 - first.key.min(1)).is_none() {
+            return None;
+        }
+        self.untold(!is_ipv6(first.peer))
+    }
+
+    /// The first offer over IPv6, or over IPv4, that the caller was not told of.
+    fn untold(&self, over_ipv6: bool) -> Option<Row> {
+        for row in &self.rows {
+            if row.kind == Kind::Offer && !row.is_marked && is_ipv6(row.peer) == over_ipv6 {
+                return Some(*row);
+            }
+        }
+        None
+    }
+
+    /// The caller is told of the offer that is next.
+    pub(crate) fn told(&mut self) {
+        let Some(next) = self.next_offer() else {
+            return;
+        };
+        let mut is_told = false;
+        for row in self.rows.iter_mut() {
+            if !is_told && !row.is_marked && row.is(Kind::Offer, next.key) {
+                row.is_marked = true;
+                is_told = true;
+            }
+        }
+    }
+
+    pub(crate) fn indicated_count(&self) -> usize {
+        let mut count = 0usize;
+        for row in &self.rows {
+            if row.kind == Kind::Offer && row.reason == Reason::Indication {
+                count = count.saturating_add(1);
+            }
+        }
+        count
+    }
+
+    /// Whether a request of this ID is listed.
+    pub(crate) fn is_asked(&self, id: u8) -> bool {
+        self.asked.iter().any(|asked| asked.id == id % 16)
+    }
+
+    /// The ID of the first request that is to bind the connection from this local end.
+    pub(crate) fn binds_by(&self, local: u8) -> Option<u8> {
+        for asked in &self.asked {
+            if asked.kind == Kind::Connection && asked.key == u32::from(local) {
+                return Some(asked.id);
+            }
+        }
+        None
+    }
+
+    /// Whether one is, or the server made one of this ID.
+    pub(crate) fn is_listed(&self, id: u8) -> bool {
+        self.is_asked(id)
+            || self.rows.iter().any(|row| row.kind == Kind::Offer
+                && row.reason == Reason::Request(id % 16))
+    }
+
+    /// The purpose at this place of those that the request of this ID was made for.
+    pub(crate) fn purpose(&self, id: u8, place: usize) -> Option<Purpose> {
+        let mut left = place;
+        for asked in &self.asked {
+            if asked.id == id % 16 {
+                if left == 0 {
+                    return Some(asked.purpose);
+                }
+                left = left.saturating_sub(1);
+            }
+        }
+        None
+    }
+}
+
+/// The offer for which the row stands.
+pub(crate) fn offer_of(row: &Row) -> DataOffer {
+    DataOffer {
+        connection_id: row.key / 8,
+        peer: address(row.peer),
+        is_told: row.is_marked,
+        origin: row.origin(),
+    }
+}

@@ -1,0 +1,128 @@
+//! What the server answers, and what ends as time passes.
+
+use crate::tests::plain::{Kind, Plain, address, at, family, id};
+use crate::tests::random::Draw;
+use crate::{GrantLedger, family_of};
+use std::alloc::AllocError;
+use turn_types::AddressFamily;
+
+/// So many of ten answers are successes.
+fn is_granted(draw: &Draw) -> bool {
+    draw.m % 10 < 7
+}
+
+/// An allocation, of a family that has none.
+pub(crate) fn allocation(
+    ledger: &mut GrantLedger,
+    plain: &mut Plain,
+    draw: &Draw,
+) -> Result<(), AllocError> {
+    let relayed = address(draw.n % 8);
+    let lifetime = u32::from(draw.m).saturating_mul(10);
+    ledger.reserve(1, 0, 3)?;
+    if ledger.table().allocation_of(family_of(relayed)).is_some() {
+        return Ok(());
+    }
+    let families = [AddressFamily::IPV4, AddressFamily::IPV6];
+    ledger.allocated(lifetime, &[relayed], &families, at(draw.now));
+    plain.allocated(draw.n % 8, lifetime, draw.now)
+}
+
+/// No allocation is asked for any more.
+pub(crate) fn no_allocation(ledger: &mut GrantLedger, plain: &mut Plain) -> Result<(), AllocError> {
+    ledger.unlist_allocates();
+    Ok(plain.unlist(Kind::Allocate, 0))
+}
+
+pub(crate) fn permission(
+    ledger: &mut GrantLedger,
+    plain: &mut Plain,
+    draw: &Draw,
+) -> Result<(), AllocError> {
+    let ip = address(draw.n % 8).ip();
+    ledger.reserve(0, 0, 3)?;
+    ledger.permission_answered(ip, is_granted(draw), at(draw.now));
+    plain.permission_answered(draw.n % 8, is_granted(draw), draw.now)
+}
+
+pub(crate) fn channel(
+    ledger: &mut GrantLedger,
+    plain: &mut Plain,
+    draw: &Draw,
+) -> Result<(), AllocError> {
+    let number = 0x4000u16 | u16::from(draw.n % 8);
+    ledger.reserve(0, 0, 9)?;
+    ledger.channel_answered(number, id(draw.m), is_granted(draw), at(draw.now));
+    plain.channel_answered(number, draw.m, is_granted(draw), draw.now)
+}
+
+pub(crate) fn connect(
+    ledger: &mut GrantLedger,
+    plain: &mut Plain,
+    draw: &Draw,
+) -> Result<(), AllocError> {
+    ledger.reserve(1, 0, 2)?;
+    let number = if is_granted(draw) && plain.has_few_offers() {
+        Some(u32::from(draw.m % 3))
+    } else {
+        None
+    };
+    ledger.connect_answered(address(draw.n % 8), &number);
+    plain.connect_answered(draw.n % 8, number)
+}
+
+/// A REFRESH of an allocation succeeded.
+pub(crate) fn refresh(
+    ledger: &mut GrantLedger,
+    plain: &mut Plain,
+    draw: &Draw,
+) -> Result<(), AllocError> {
+    ledger.prolong(family(draw.n % 8), 600, at(draw.now));
+    Ok(plain.prolonged(draw.n % 8, 600, draw.now))
+}
+
+/// A call found an allocation past its end.
+pub(crate) fn expired(
+    ledger: &mut GrantLedger,
+    plain: &mut Plain,
+    draw: &Draw,
+) -> Result<(), AllocError> {
+    if draw.m % 16 == 0 {
+        ledger.expire(family(draw.n % 8));
+        plain.expired(draw.n % 8);
+    }
+    Ok(())
+}
+
+/// The server took all allocations back.
+pub(crate) fn given_back(
+    ledger: &mut GrantLedger,
+    plain: &mut Plain,
+    draw: &Draw,
+) -> Result<(), AllocError> {
+    if draw.m % 32 != 0 {
+        return Ok(());
+    }
+    ledger.clear();
+    plain.clear()
+}
+
+/// What ends up to now, without a request that was given up.
+pub(crate) fn lapse(
+    ledger: &mut GrantLedger,
+    plain: &mut Plain,
+    draw: &Draw,
+) -> Result<(), AllocError> {
+    ledger.lapse(None, at(draw.now));
+    plain.lapse(None, draw.now)
+}
+
+/// What ends up to now, and what the request that is given up was made for.
+pub(crate) fn lapse_given_up(
+    ledger: &mut GrantLedger,
+    plain: &mut Plain,
+    draw: &Draw,
+) -> Result<(), AllocError> {
+    ledger.lapse(Some(id(draw.m)), at(draw.now));
+    plain.lapse(Some(draw.m), draw.now)
+}

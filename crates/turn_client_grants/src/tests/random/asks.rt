@@ -1,0 +1,198 @@
+//! What a client asks for, and what it gives back.
+
+use crate::tests::plain::{Kind, Plain, Row, Stage, address, at, family, id, number_of};
+use crate::tests::random::Draw;
+use crate::{GrantLedger, Purposes};
+use std::alloc::AllocError;
+use turn_client_api::{Grant, Progress, Purpose};
+
+/// A permission, where there is none.
+pub(crate) fn permission(
+    ledger: &mut GrantLedger,
+    plain: &mut Plain,
+    draw: &Draw,
+) -> Result<(), AllocError> {
+    let ip = address(draw.n % 8).ip();
+    let request = id(draw.m);
+    ledger.reserve(1, 2, 0)?;
+    if ledger.table().permission_for(ip).is_some() {
+        return Ok(());
+    }
+    if ledger.table().is_asked(request) {
+        return Ok(());
+    }
+    let purpose = Purpose::ForPermission(ip);
+    ledger.ask(
+        request,
+        &[Grant::Permission(ip, Progress::Pending)],
+        &Purposes::one(purpose),
+    );
+    plain.asks(Kind::Permission, u32::from(draw.n % 8), draw, purpose)
+}
+
+/// A channel, where none is.
+pub(crate) fn channel(
+    ledger: &mut GrantLedger,
+    plain: &mut Plain,
+    draw: &Draw,
+) -> Result<(), AllocError> {
+    let peer = address(draw.n % 8);
+    let request = id(draw.m);
+    ledger.reserve(1, 2, 0)?;
+    if ledger.table().has_channel(peer) {
+        return Ok(());
+    }
+    if ledger.table().is_asked(request) {
+        return Ok(());
+    }
+    let Some(number) = ledger.table().free_number() else {
+        return Ok(());
+    };
+    let purpose = Purpose::ForChannel(number, peer);
+    ledger.ask(
+        request,
+        &[Grant::Channel(number, peer, Progress::Pending)],
+        &Purposes::one(purpose),
+    );
+    plain.asks(Kind::Channel, u32::from(number), draw, purpose)
+}
+
+/// A channel with its permission, where neither is.
+pub(crate) fn channel_with_permission(
+    ledger: &mut GrantLedger,
+    plain: &mut Plain,
+    draw: &Draw,
+) -> Result<(), AllocError> {
+    let peer = address(draw.n % 8);
+    let ip = peer.ip();
+    let request = id(draw.m);
+    ledger.reserve(2, 2, 0)?;
+    if ledger.table().has_channel(peer) {
+        return Ok(());
+    }
+    if ledger.table().permission_for(ip).is_some() {
+        return Ok(());
+    }
+    if ledger.table().is_asked(request) {
+        return Ok(());
+    }
+    let Some(number) = ledger.table().free_number() else {
+        return Ok(());
+    };
+    let purpose = Purpose::ForChannel(number, peer);
+    let other = Purpose::ForPermission(ip);
+    ledger.ask(
+        request,
+        &[
+            Grant::Channel(number, peer, Progress::Pending),
+            Grant::Permission(ip, Progress::Pending),
+        ],
+        &Purposes::two(purpose, other),
+    );
+    plain.asks(Kind::Channel, u32::from(number), draw, purpose)?;
+    plain.asks(Kind::Permission, u32::from(draw.n % 8), draw, other)
+}
+
+/// A data connection, where none is asked for.
+pub(crate) fn connect(
+    ledger: &mut GrantLedger,
+    plain: &mut Plain,
+    draw: &Draw,
+) -> Result<(), AllocError> {
+    let peer = address(draw.n % 8);
+    let request = id(draw.m);
+    ledger.reserve(1, 2, 0)?;
+    if ledger.table().is_connecting(peer) {
+        return Ok(());
+    }
+    if ledger.table().is_asked(request) {
+        return Ok(());
+    }
+    let purpose = Purpose::ForConnect(peer);
+    ledger.ask(request, &[Grant::Connect(peer)], &Purposes::one(purpose));
+    plain.asks(Kind::Connect, u32::from(draw.n % 8), draw, purpose)
+}
+
+/// Allocations.
+pub(crate) fn allocation(
+    ledger: &mut GrantLedger,
+    plain: &mut Plain,
+    draw: &Draw,
+) -> Result<(), AllocError> {
+    asks_only(
+        ledger,
+        plain,
+        draw,
+        &Row::new(Kind::Allocate, 0, 0),
+        Purpose::ForAllocation,
+    )
+}
+
+/// A request of this purpose, which brings no grant.
+fn asks_only(
+    ledger: &mut GrantLedger,
+    plain: &mut Plain,
+    draw: &Draw,
+    row: &Row,
+    purpose: Purpose,
+) -> Result<(), AllocError> {
+    let request = id(draw.m);
+    ledger.reserve(0, 2, 0)?;
+    if ledger.table().is_asked(request) {
+        return Ok(());
+    }
+    ledger.ask(request, &[], &Purposes::one(purpose));
+    plain.list(draw.m, row, purpose)
+}
+
+/// What is active already, for longer.
+pub(crate) fn refresh(
+    ledger: &mut GrantLedger,
+    plain: &mut Plain,
+    draw: &Draw,
+) -> Result<(), AllocError> {
+    let Some(row) = plain.row_of(draw.n) else {
+        return Ok(());
+    };
+    let peer = address(row.peer);
+    let purpose = match row.kind {
+        Kind::Allocation => Purpose::ForRefresh(family(row.peer), 1_800),
+        Kind::Permission if row.stage == Stage::Active => Purpose::ForPermission(peer.ip()),
+        Kind::Channel if row.stage == Stage::Active => Purpose::ForChannel(
+            number_of(row.key),
+            peer,
+        ),
+        _ => return Ok(()),
+    };
+    asks_only(ledger, plain, draw, &row, purpose)
+}
+
+/// The same request again, under another ID.
+pub(crate) fn again(
+    ledger: &mut GrantLedger,
+    plain: &mut Plain,
+    draw: &Draw,
+) -> Result<(), AllocError> {
+    ledger.reserve(0, 2, 0)?;
+    let fresh = id(draw.n);
+    if ledger.table().is_asked(fresh) {
+        return Ok(());
+    }
+    ledger.ask_again(id(draw.m), fresh);
+    plain.asked_again(draw.m, draw.n)
+}
+
+/// All allocations are given back.
+pub(crate) fn gives_back(
+    ledger: &mut GrantLedger,
+    plain: &mut Plain,
+    draw: &Draw,
+) -> Result<(), AllocError> {
+    let request = id(draw.m);
+    ledger.reserve(0, 2, 0)?;
+    if draw.n % 16 != 0 || ledger.table().is_asked(request) {
+        return Ok(());
+    }
+    ledger.give_back(request, at(draw.now));
+    plain.given_back(draw.m, draw.now)
+}
