@@ -4,7 +4,7 @@ use Rattle.turn_stun.specs.Message.{id_of}
 use Rattle.turn_stun.specs.declared.transport.TransportType.{TransportType}
 use Rattle.turn_types.specs.declared.family.AddressFamily.{AddressFamily}
 use Rattle.turn_auth.specs.LongTerm.{ClientAuth}
-use Rattle.turn_auth.specs.Signature.{AddsAll}
+use Rattle.turn_auth.specs.Signature.{AddsAll, additions_len}
 use Rattle.turn_client_api.specs.Requests.{asked_attributes, request_for}
 use Rattle.turn_client_api.specs.State.{State, auth_of}
 use Rattle.turn_client_api.specs.declared.grant.Purpose.{Purpose}
@@ -18,6 +18,11 @@ asking transport families s =
 abbrev pub AddsAsked : TransportType → List AddressFamily → Purpose → List ℕ → List ℕ → Type 0
 AddsAsked transport families purpose old new =
     (s : State) → AddsAll old new (asked_attributes (asking transport families s) purpose (id_of old))
+
+-- what is asked for the purpose takes this many bytes, whatever else the client's state is
+abbrev pub IsAskedLen : TransportType → List AddressFamily → Purpose → ℕ → Type 0
+IsAskedLen transport families purpose len =
+    (s : State) (id : ℕ) → additions_len (asked_attributes (asking transport families s) purpose id) ≡ len
 
 -- the text is the request for the purpose, of every client that signs so
 abbrev pub IsRequestFor : ClientAuth → TransportType → List AddressFamily → Purpose → ℕ → List ℕ → Type 0

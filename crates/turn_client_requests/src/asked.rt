@@ -2,11 +2,11 @@
 
 ghost use Rattle.std.specs.Prelude.{◌≡◌, ◌≤◌, ◌+◌, length, true, OnOk};
 ghost use Rattle.turn_stun.specs.Message.{attributes_of};
-ghost use Rattle.turn_auth.specs.Signature.{AddsAll, is_unsigned};
+ghost use Rattle.turn_auth.specs.Signature.{AddsAll, additions_len, is_unsigned};
 ghost use Rattle.turn_client_api.specs.Requests.{family_attributes, method_for, without_port};
-ghost use Rattle.turn_client_requests.specs.Asked.{AddsAsked};
+ghost use Rattle.turn_client_requests.specs.Asked.{AddsAsked, IsAskedLen};
 
-use crate::write::add;
+use crate::write::{add, len_of};
 use std::alloc::AllocError;
 use std::net::{IpAddr, SocketAddr, SocketAddrV4, SocketAddrV6};
 use turn_client_api::Purpose;
@@ -66,6 +66,43 @@ pub(crate) fn add_asked(
         }
         Purpose::ForConnect(peer) => add(message, &XorPeerAddress::new(peer)),
         Purpose::ForBind(_, _, connection_id) => add(message, &ConnectionId::new(connection_id)),
+    }
+}
+
+/// How many bytes `add_asked` adds for these.
+pub(crate) fn asked_len(
+    transport: TransportType,
+    families: &[AddressFamily],
+    purpose: &Purpose,
+) -> usize
+    ensures exact { IsAskedLen transport families.now purpose.now result }
+    ensures short { result ≤ 100 }
+{
+    match *purpose {
+        Purpose::ForAllocation => {
+            len_of(&RequestedTransport::new(transport))
+                + len_of(&Lifetime::new(LIFETIME_SECONDS))
+                + families_len(families)
+        }
+        Purpose::ForRefresh(_, lifetime) => len_of(&Lifetime::new(lifetime)),
+        Purpose::ForPermission(ip) => len_of(&XorPeerAddress::new(without_port(ip))),
+        Purpose::ForChannel(number, peer) => {
+            len_of(&ChannelNumber::new(number)) + len_of(&XorPeerAddress::new(peer))
+        }
+        Purpose::ForConnect(peer) => len_of(&XorPeerAddress::new(peer)),
+        Purpose::ForBind(_, _, connection_id) => len_of(&ConnectionId::new(connection_id)),
+    }
+}
+
+/// How many bytes `add_families` adds for these.
+pub(crate) fn families_len(families: &[AddressFamily]) -> usize
+    ensures exact { additions_len (family_attributes families.now) ≡ result }
+    ensures short { result ≤ 8 }
+{
+    match families {
+        [AddressFamily::IPV6] => len_of(&RequestedAddressFamily::new(AddressFamily::IPV6)),
+        [_, _, ..] => len_of(&AdditionalAddressFamily::new(AddressFamily::IPV6)),
+        _ => 0,
     }
 }
 

@@ -13,6 +13,3 @@ mod write;
 
 pub use reply::{AttemptRefusal, accepted_reply, refused_reply};
 pub use request::{delete_request, first_allocate, request_for, request_under};
-
-#[cfg(test)]
-mod tests;

@@ -5,12 +5,12 @@ ghost use Rattle.turn_client_api.specs.Requests.{accepted_reply, refused_reply};
 ghost use Rattle.turn_client_api.specs.State.{State, auth_of};
 ghost use Rattle.turn_client_requests.specs.Refused.{code_of, reason_of};
 
-use crate::write::{add, signed};
+use crate::write::{HEADER_LEN, add, begun, len_of, signed};
 use std::alloc::{AllocError, Global};
 use turn_auth::long_term::LongTermClientAuth;
 use turn_stun::attribute::error_code::ErrorCode;
 use turn_stun::data::Data;
-use turn_stun::message::write::MessageWriteVec;
+use turn_stun::message::header::MessageClass;
 use turn_stun::transaction::TransactionId;
 use turn_types::message::CONNECTION_ATTEMPT;
 
@@ -65,8 +65,10 @@ pub fn accepted_reply(
     requires { IsSome auth.now.held }
     ensures { (s : State) → auth_of s ≡ auth.now → IfOk result (λ text. text ≡ accepted_reply s id) }
 {
-    let message = MessageWriteVec::builder_success(alloc, CONNECTION_ATTEMPT, id)?;
+    let len = HEADER_LEN + auth.reply_signature_bytes();
+    let message = begun(alloc, MessageClass::Success, CONNECTION_ATTEMPT, id, len)?;
     let text = signed(auth, message)?;
+    prove!(text.as_bytes().len() == len);
     Ok(text)
 }
 
@@ -84,11 +86,11 @@ pub fn refused_reply(
     requires { IsSome auth.now.held }
     ensures { (s : State) → auth_of s ≡ auth.now → IfOk result (λ text. text ≡ refused_reply (code_of refusal) (reason_of refusal) s id) }
 {
-    let mut message = MessageWriteVec::builder_error(alloc, CONNECTION_ATTEMPT, id)?;
-    add(
-        &mut message,
-        &ErrorCode::new(refusal.code(), refusal.reason()),
-    )?;
+    let error = ErrorCode::new(refusal.code(), refusal.reason());
+    let len = HEADER_LEN + len_of(&error) + auth.reply_signature_bytes();
+    let mut message = begun(alloc, MessageClass::Error, CONNECTION_ATTEMPT, id, len)?;
+    add(&mut message, &error)?;
     let text = signed(auth, message)?;
+    prove!(text.as_bytes().len() == len);
     Ok(text)
 }

@@ -7,14 +7,16 @@ ghost use Rattle.turn_client_api.specs.Requests.{first_allocate, fresh_id};
 ghost use Rattle.turn_client_api.specs.State.{State, auth_of};
 ghost use Rattle.turn_client_requests.specs.Asked.{IsRequestFor, asking};
 
-use crate::asked::{LIFETIME_SECONDS, add_asked, add_families, method_for};
-use crate::write::{add, signed, signed_under};
+use crate::asked::{
+    LIFETIME_SECONDS, add_asked, add_families, asked_len, families_len, method_for,
+};
+use crate::write::{HEADER_LEN, add, begun, len_of, signed, signed_under};
 use std::alloc::{AllocError, Global};
 use turn_auth::long_term::LongTermClientAuth;
 use turn_auth::server_challenge::ServerChallenge;
 use turn_client_api::Purpose;
 use turn_stun::data::Data;
-use turn_stun::message::write::MessageWriteVec;
+use turn_stun::message::header::MessageClass;
 use turn_stun::transaction::TransactionId;
 use turn_stun::transport::TransportType;
 use turn_types::AddressFamily;
@@ -35,11 +37,16 @@ pub fn first_allocate(
 ) -> Result<Data, AllocError>
     ensures { (s : State) → IfOk result (λ text. text ≡ first_allocate (asking transport families.now s) id) }
 {
-    let mut message = MessageWriteVec::builder_request(alloc, ALLOCATE, id)?;
-    add(&mut message, &Lifetime::new(LIFETIME_SECONDS))?;
-    add(&mut message, &RequestedTransport::new(transport))?;
+    let lifetime = Lifetime::new(LIFETIME_SECONDS);
+    let transport = RequestedTransport::new(transport);
+    let plain = len_of(&lifetime) + len_of(&transport) + len_of(&DontFragment);
+    let len = HEADER_LEN + plain + families_len(families);
+    let mut message = begun(alloc, MessageClass::Request, ALLOCATE, id, len)?;
+    add(&mut message, &lifetime)?;
+    add(&mut message, &transport)?;
     add(&mut message, &DontFragment)?;
     add_families(&mut message, families)?;
+    prove!(message.as_bytes().len() == len);
     Ok(Data::from(message.finish()))
 }
 
@@ -60,9 +67,12 @@ pub fn request_for(
     requires { IsSome auth.now.held }
     ensures { IfOk result (IsRequestFor auth.now transport families.now purpose.now id) }
 {
-    let mut message = MessageWriteVec::builder_request(alloc, method_for(purpose), id)?;
+    let asked = HEADER_LEN + asked_len(transport, families, purpose);
+    let len = asked + auth.message_signature_bytes();
+    let mut message = begun(alloc, MessageClass::Request, method_for(purpose), id, len)?;
     add_asked(&mut message, transport, families, purpose)?;
     let text = signed(auth, message)?;
+    prove!(text.as_bytes().len() == len);
     Ok(text)
 }
 
@@ -83,9 +93,12 @@ pub fn request_under(
     requires { IsSome auth.now.credentials }
     ensures { IfOk result (IsRequestFor (holding challenge.now auth.now) transport families.now purpose.now id) }
 {
-    let mut message = MessageWriteVec::builder_request(alloc, method_for(purpose), id)?;
+    let asked = HEADER_LEN + asked_len(transport, families, purpose);
+    let len = asked + auth.signature_bytes_under(challenge);
+    let mut message = begun(alloc, MessageClass::Request, method_for(purpose), id, len)?;
     add_asked(&mut message, transport, families, purpose)?;
     let text = signed_under(auth, challenge, message)?;
+    prove!(text.as_bytes().len() == len);
     Ok(text)
 }
 
@@ -103,8 +116,11 @@ pub fn delete_request(
     requires { IsSome auth.now.held }
     ensures { (s : State) → auth_of s ≡ auth.now → fresh_id s ≡ id → IfOk result (λ text. text ≡ delete_text s) }
 {
-    let mut message = MessageWriteVec::builder_request(alloc, REFRESH, id)?;
-    add(&mut message, &Lifetime::new(0))?;
+    let lifetime = Lifetime::new(0);
+    let len = HEADER_LEN + len_of(&lifetime) + auth.message_signature_bytes();
+    let mut message = begun(alloc, MessageClass::Request, REFRESH, id, len)?;
+    add(&mut message, &lifetime)?;
     let text = signed(auth, message)?;
+    prove!(text.as_bytes().len() == len);
     Ok(text)
 }

@@ -1,19 +1,51 @@
 //! Messages that are written and signed.
 
-ghost use Rattle.std.specs.Prelude.{◌≡◌, ◌≤◌, ◌+◌, length, true, IfOk, OnOk, IsSome};
-ghost use Rattle.turn_stun.specs.Message.{attributes_of, id_of};
-ghost use Rattle.turn_stun.specs.Writer.{AddsAttribute, with_attribute};
+ghost use Rattle.std.specs.Prelude.{◌≡◌, ℕ, ◌<◌, ◌≤◌, ◌+◌, ◌^◌, [], length, true, IfOk, OnOk, IsSome};
+ghost use Rattle.turn_stun.specs.Message.{IsMessage, attributes_of, id_of};
+ghost use Rattle.turn_stun.specs.MessageType.{type_number};
+ghost use Rattle.turn_stun.specs.Writer.{AddsAttribute, header_of, with_attribute};
 ghost use Rattle.turn_auth.specs.LongTerm.{holding};
-ghost use Rattle.turn_auth.specs.Signature.{is_unsigned, signed_text, written_len};
+ghost use Rattle.turn_auth.specs.Signature.{is_unsigned, signed_len, signed_text, written_len};
 ghost use Rattle.turn_client_requests.specs.Written.{StaysUnsigned};
 
-use std::alloc::AllocError;
+use std::alloc::{AllocError, Global};
 use turn_auth::long_term::LongTermClientAuth;
 use turn_auth::server_challenge::ServerChallenge;
 use turn_stun::attribute::typed::AttributeWrite;
 use turn_stun::data::Data;
 use turn_stun::error::WriteError;
+use turn_stun::message::header::{MessageClass, MessageType};
+use turn_stun::message::method::Method;
 use turn_stun::message::write::MessageWriteVec;
+use turn_stun::transaction::TransactionId;
+
+/// The bytes of a header (RFC 8489, section 5).
+pub(crate) const HEADER_LEN: usize = 20;
+
+/// How many bytes an attribute takes: its type, its length, and its value up to a multiple of four bytes
+/// (RFC 8489, section 14).
+pub(crate) fn len_of<A: AttributeWrite>(attribute: &A) -> usize
+    requires { length (A.encoded attribute.now 0) < 2 ^ 16 }
+    ensures value { result ≡ written_len (A.encoded attribute.now 0) }
+    ensures any { (id : ℕ) → written_len (A.encoded attribute.now id) ≡ result }
+{
+    4 + (attribute.value_len() + 3) / 4 * 4
+}
+
+/// A message with no attributes, and with room for `len` bytes in all: where that is its length in the end,
+/// memory is asked for this once.
+pub(crate) fn begun(
+    alloc: Global,
+    class: MessageClass,
+    method: Method,
+    id: TransactionId,
+    len: usize,
+) -> Result<MessageWriteVec, AllocError>
+    ensures text { IfOk result (λ message. message ≡ header_of (type_number method.value class) id) }
+    ensures message { IfOk result (λ message. IsMessage message (type_number method.value class) id []) }
+{
+    MessageWriteVec::builder_with_capacity(alloc, MessageType { method, class }, id, len)
+}
 
 /// Adds an attribute for which there is room in a message.
 pub(crate) fn add<A: AttributeWrite>(
@@ -42,7 +74,8 @@ pub(crate) fn signed(
     requires held { IsSome auth.now.held }
     requires unsigned { is_unsigned (attributes_of message) ≡ true }
     requires short { length message ≤ 2000 }
-    ensures { IfOk result (λ text. text ≡ signed_text auth.now message) }
+    ensures text { IfOk result (λ text. text ≡ signed_text auth.now message) }
+    ensures len { IfOk result (λ text. length text ≡ signed_len auth.now message) }
 {
     let mut message = message;
     let _room = auth.message_signature_bytes();
@@ -59,7 +92,8 @@ pub(crate) fn signed_under(
     requires known { IsSome auth.now.credentials }
     requires unsigned { is_unsigned (attributes_of message) ≡ true }
     requires short { length message ≤ 2000 }
-    ensures { IfOk result (λ text. text ≡ signed_text (holding challenge.now auth.now) message) }
+    ensures text { IfOk result (λ text. text ≡ signed_text (holding challenge.now auth.now) message) }
+    ensures len { IfOk result (λ text. length text ≡ signed_len (holding challenge.now auth.now) message) }
 {
     let mut message = message;
     let _room = auth.signature_bytes_under(challenge);

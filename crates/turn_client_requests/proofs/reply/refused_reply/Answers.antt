@@ -9,11 +9,11 @@ signed-requires-clause-unsigned c =
 pub returns : goal.returns
 returns c = λ s same.
     rw (
-      c.in_ok-text.ensures,
+      c.in_ok-text.ensures.text,
       c.in_ok-add.ensures.text,
       c.in_ok-message.ensures.text,
-      c.new.ensures.code,
-      c.new.ensures.reason,
+      c.new-error.ensures.code,
+      c.new-error.ensures.reason,
       c.code.ensures.value,
       c.reason.ensures.text,
       ← same,

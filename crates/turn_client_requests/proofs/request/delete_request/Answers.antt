@@ -8,4 +8,4 @@ signed-requires-clause-unsigned c =
 
 pub returns : goal.returns
 returns c = λ s same next.
-    rw (c.in_ok-text.ensures, c.in_ok-add.ensures.text, c.in_ok-message.ensures.text, c.new.ensures.seconds, ← same, ← next) refl
+    rw (c.in_ok-text.ensures.text, c.in_ok-add.ensures.text, c.in_ok-message.ensures.text, c.new-lifetime.ensures.seconds, ← same, ← next) refl

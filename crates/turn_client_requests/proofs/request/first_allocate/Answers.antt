@@ -11,6 +11,6 @@ returns c = λ s.
       c.in_ok-add-2.ensures.text,
       c.in_ok-add.ensures.text,
       c.in_ok-message.ensures.text,
-      c.new-2.ensures.transport,
-      c.new.ensures.seconds,
+      c.new-transport.ensures.transport,
+      c.new-lifetime.ensures.seconds,
     ) refl
