@@ -15,8 +15,6 @@ mod protocol;
 mod request;
 pub mod runs;
 pub mod stun;
-#[cfg(test)]
-mod tests;
 pub mod types;
 pub mod udp;
 

@@ -1,24 +1,24 @@
 //! What is printed.
 
-use crate::tests::config;
-use crate::{
-    BindChannelError, CreatePermissionError, DeleteError, SendError, TcpAllocateError,
-    TcpConnectError,
-};
+use crate::api::boxed_config;
+use crate::fixture::{check, same};
 use std::alloc::Global;
 use std::error::Error;
 use std::process::Abort;
-use std::test::Fail;
+use turn_client_api::{
+    BindChannelError, CreatePermissionError, DeleteError, SendError, TcpAllocateError,
+    TcpConnectError,
+};
 use turn_stun::instant::Instant;
 
 /// Compares the text of an error.
-fn says(rt: &impl Abort, alloc: Global, error: &impl Error, want: &str) -> Result<(), Fail> {
-    assert_eq!(rt; format!(in alloc; "{error}")?.as_str(), want);
-    Ok(())
+fn says(rt: &impl Abort, alloc: Global, error: &impl Error, want: &str) {
+    let text = format!(in alloc; "{error}").expect(rt, "memory");
+    same(rt, text.as_str(), want);
 }
 
 #[test]
-fn errors_of_bind_channel_say_what_is_wrong(rt: HostRuntime) -> Result<(), Fail> {
+fn errors_of_bind_channel_say_what_is_wrong(rt: HostRuntime) {
     let until = Instant::from_nanos(900_100_000_000);
     for (error, want) in [
         (
@@ -35,13 +35,12 @@ fn errors_of_bind_channel_say_what_is_wrong(rt: HostRuntime) -> Result<(), Fail>
         ),
         (BindChannelError::OutOfMemory, "out of memory"),
     ] {
-        says(&rt, rt.alloc(), &error, want)?;
+        says(&rt, rt.alloc(), &error, want);
     }
-    Ok(())
 }
 
 #[test]
-fn errors_of_create_permission_say_what_is_wrong(rt: HostRuntime) -> Result<(), Fail> {
+fn errors_of_create_permission_say_what_is_wrong(rt: HostRuntime) {
     for (error, want) in [
         (
             CreatePermissionError::AlreadyExists,
@@ -53,13 +52,12 @@ fn errors_of_create_permission_say_what_is_wrong(rt: HostRuntime) -> Result<(), 
         ),
         (CreatePermissionError::OutOfMemory, "out of memory"),
     ] {
-        says(&rt, rt.alloc(), &error, want)?;
+        says(&rt, rt.alloc(), &error, want);
     }
-    Ok(())
 }
 
 #[test]
-fn errors_of_delete_say_what_is_wrong(rt: HostRuntime) -> Result<(), Fail> {
+fn errors_of_delete_say_what_is_wrong(rt: HostRuntime) {
     for (error, want) in [
         (
             DeleteError::NoAllocation,
@@ -67,13 +65,12 @@ fn errors_of_delete_say_what_is_wrong(rt: HostRuntime) -> Result<(), Fail> {
         ),
         (DeleteError::OutOfMemory, "out of memory"),
     ] {
-        says(&rt, rt.alloc(), &error, want)?;
+        says(&rt, rt.alloc(), &error, want);
     }
-    Ok(())
 }
 
 #[test]
-fn errors_of_send_to_say_what_is_wrong(rt: HostRuntime) -> Result<(), Fail> {
+fn errors_of_send_to_say_what_is_wrong(rt: HostRuntime) {
     for (error, want) in [
         (
             SendError::NoAllocation,
@@ -89,13 +86,12 @@ fn errors_of_send_to_say_what_is_wrong(rt: HostRuntime) -> Result<(), Fail> {
         ),
         (SendError::OutOfMemory, "out of memory"),
     ] {
-        says(&rt, rt.alloc(), &error, want)?;
+        says(&rt, rt.alloc(), &error, want);
     }
-    Ok(())
 }
 
 #[test]
-fn errors_of_tcp_connect_say_what_is_wrong(rt: HostRuntime) -> Result<(), Fail> {
+fn errors_of_tcp_connect_say_what_is_wrong(rt: HostRuntime) {
     for (error, want) in [
         (
             TcpConnectError::AlreadyExists,
@@ -111,13 +107,12 @@ fn errors_of_tcp_connect_say_what_is_wrong(rt: HostRuntime) -> Result<(), Fail> 
         ),
         (TcpConnectError::OutOfMemory, "out of memory"),
     ] {
-        says(&rt, rt.alloc(), &error, want)?;
+        says(&rt, rt.alloc(), &error, want);
     }
-    Ok(())
 }
 
 #[test]
-fn errors_of_tcp_allocate_say_what_is_wrong(rt: HostRuntime) -> Result<(), Fail> {
+fn errors_of_tcp_allocate_say_what_is_wrong(rt: HostRuntime) {
     for (error, want) in [
         (
             TcpAllocateError::AlreadyExists,
@@ -129,22 +124,20 @@ fn errors_of_tcp_allocate_say_what_is_wrong(rt: HostRuntime) -> Result<(), Fail>
         ),
         (TcpAllocateError::OutOfMemory, "out of memory"),
     ] {
-        says(&rt, rt.alloc(), &error, want)?;
+        says(&rt, rt.alloc(), &error, want);
     }
-    Ok(())
 }
 
 /// The bytes of `user`, and not those of `pass`.
 fn is_without_password(rt: &impl Abort, text: &str) {
-    assert!(rt; text.contains("[117, 115, 101, 114]"));
-    assert!(rt; !text.contains("[112, 97, 115, 115]"));
-    assert!(rt; !text.contains("pass"));
+    check(rt, text.contains("[117, 115, 101, 114]"));
+    check(rt, !text.contains("[112, 97, 115, 115]"));
+    check(rt, !text.contains("pass"));
 }
 
 #[test]
-fn no_password_is_printed(rt: HostRuntime) -> Result<(), Fail> {
-    let config = config(rt.alloc())?;
-    let text = format!(in rt.alloc(); "{config:?}")?;
+fn no_password_is_printed(rt: HostRuntime) {
+    let config = boxed_config(rt.alloc()).expect(&rt, "memory");
+    let text = format!(in rt.alloc(); "{config:?}").expect(&rt, "memory");
     is_without_password(&rt, text.as_str());
-    Ok(())
 }

@@ -1,15 +1,15 @@
 //! Configurations.
 
-use crate::TurnConfig;
-use crate::tests::config;
-use std::alloc::{AllocError, Global};
+use crate::api::{boxed, boxed_config};
+use crate::fixture::{check, same, same_bytes};
+use std::alloc::Global;
 use std::process::Abort;
-use std::test::Fail;
 use std::time::Duration;
 use turn_agent::schedule::RequestTimers;
 use turn_auth::credentials::TurnCredentials;
 use turn_auth::feature::Feature;
 use turn_auth::integrity::IntegrityAlgorithm;
+use turn_client_api::TurnConfig;
 use turn_types::{AddressFamily, TransportType};
 
 /// Compares what is asked for.
@@ -19,9 +19,9 @@ fn asks_for(
     transport: TransportType,
     families: &[AddressFamily],
 ) {
-    assert_eq!(rt; config.allocation_transport(), transport);
-    assert_eq!(rt; config.address_families(), families);
-    assert_eq!(rt; config.credentials().user(), b"user".as_slice());
+    same(rt, config.allocation_transport(), transport);
+    same(rt, config.address_families(), families);
+    same_bytes(rt, config.credentials().user(), b"user");
 }
 
 /// Compares how requests are signed.
@@ -31,17 +31,16 @@ fn signs_by(
     algorithms: &[IntegrityAlgorithm],
     anonymous_username: Feature,
 ) {
-    assert_eq!(rt; config.supported_integrity(), algorithms);
-    assert_eq!(rt; config.anonymous_username(), anonymous_username);
+    same(rt, config.supported_integrity(), algorithms);
+    same(rt, config.anonymous_username(), anonymous_username);
 }
 
 #[test]
-fn a_new_configuration_asks_for_ipv4_over_udp(rt: HostRuntime) -> Result<(), Fail> {
-    let config = config(rt.alloc())?;
+fn a_new_configuration_asks_for_ipv4_over_udp(rt: HostRuntime) {
+    let config = boxed_config(rt.alloc()).expect(&rt, "memory");
     asks_for(&rt, &config, TransportType::Udp, &[AddressFamily::IPV4]);
     signs_by(&rt, &config, &[IntegrityAlgorithm::Sha1], Feature::Auto);
-    assert_eq!(rt; config.request_timers(), RequestTimers::default());
-    Ok(())
+    same(&rt, config.request_timers(), RequestTimers::default());
 }
 
 /// Sets each setting to what it is not by default.
@@ -61,12 +60,12 @@ fn waits(rt: &impl Abort, config: &TurnConfig) {
         3,
         Duration::from_secs(3),
     );
-    assert_eq!(rt; config.request_timers(), timers);
+    same(rt, config.request_timers(), timers);
 }
 
 #[test]
-fn each_setting_is_set(rt: HostRuntime) -> Result<(), Fail> {
-    let mut config = config(rt.alloc())?;
+fn each_setting_is_set(rt: HostRuntime) {
+    let mut config = boxed_config(rt.alloc()).expect(&rt, "memory");
     set_all(&mut config);
     asks_for(&rt, &config, TransportType::Tcp, &[AddressFamily::IPV6]);
     signs_by(
@@ -76,7 +75,6 @@ fn each_setting_is_set(rt: HostRuntime) -> Result<(), Fail> {
         Feature::Required,
     );
     waits(&rt, &config);
-    Ok(())
 }
 
 /// Names families and algorithms twice.
@@ -90,38 +88,42 @@ fn add_twice(config: &mut TurnConfig) {
 }
 
 #[test]
-fn what_is_named_twice_is_there_once(rt: HostRuntime) -> Result<(), Fail> {
+fn what_is_named_twice_is_there_once(rt: HostRuntime) {
     let families = [AddressFamily::IPV6, AddressFamily::IPV4];
     let algorithms = [IntegrityAlgorithm::Sha1, IntegrityAlgorithm::Sha256];
-    let mut config = config(rt.alloc())?;
+    let mut config = boxed_config(rt.alloc()).expect(&rt, "memory");
     add_twice(&mut config);
     asks_for(&rt, &config, TransportType::Udp, &families);
     signs_by(&rt, &config, &algorithms, Feature::Auto);
-    Ok(())
+}
+
+fn copy(rt: &impl Abort, alloc: Global, first: &TurnConfig) -> Box<TurnConfig> {
+    let copy = first.clone().expect(rt, "memory");
+    boxed(alloc, copy).expect(rt, "memory")
 }
 
 /// A family that is there already changes nothing, and another does.
-fn differs_by_a_new_family(rt: &impl Abort, first: &TurnConfig) -> Result<(), AllocError> {
-    let mut copy = first.clone()?;
-    assert!(rt; copy == *first);
+fn differs_by_a_new_family(rt: &impl Abort, first: &TurnConfig, copy: &mut TurnConfig) {
+    check(rt, *copy == *first);
     copy.add_address_family(AddressFamily::IPV4);
-    assert!(rt; copy == *first);
+    check(rt, *copy == *first);
     copy.add_address_family(AddressFamily::IPV6);
-    assert!(rt; copy != *first);
-    Ok(())
+    check(rt, *copy != *first);
 }
 
-fn differs_by_the_password(rt: &impl Abort, alloc: Global, first: &TurnConfig) -> Result<(), Fail> {
-    let other = TurnCredentials::new(alloc, b"user", b"word")?;
-    assert!(rt; TurnConfig::new(alloc, other) != *first);
-    Ok(())
+/// The configuration of `user` with the password `word`.
+fn with_another_password(rt: &impl Abort, alloc: Global) -> Box<TurnConfig> {
+    let credentials = TurnCredentials::new(alloc, b"user", b"word").expect(rt, "memory");
+    boxed(alloc, TurnConfig::new(alloc, credentials)).expect(rt, "memory")
 }
 
 #[test]
-fn configurations_are_equal_by_their_settings(rt: HostRuntime) -> Result<(), Fail> {
-    let first = config(rt.alloc())?;
-    differs_by_a_new_family(&rt, &first)?;
-    differs_by_the_password(&rt, rt.alloc(), &first)
+fn configurations_are_equal_by_their_settings(rt: HostRuntime) {
+    let first = boxed_config(rt.alloc()).expect(&rt, "memory");
+    let mut second = copy(&rt, rt.alloc(), &first);
+    differs_by_a_new_family(&rt, &first, &mut second);
+    let other = with_another_password(&rt, rt.alloc());
+    check(&rt, *other != *first);
 }
 
 /// Sets the times that hold where none are set.
@@ -142,21 +144,20 @@ fn are_told_apart(
     again: &mut TurnConfig,
 ) {
     set_default_times(set);
-    assert_eq!(rt; set.request_timers(), first.request_timers());
-    assert!(rt; *set != *first);
+    same(rt, set.request_timers(), first.request_timers());
+    check(rt, *set != *first);
     set_times(again);
-    assert!(rt; *set != *again);
+    check(rt, *set != *again);
     set_times(set);
-    assert!(rt; *set == *again);
+    check(rt, *set == *again);
 }
 
 #[test]
-fn times_that_were_never_set_differ_from_the_same_times(rt: HostRuntime) -> Result<(), Fail> {
-    let first = config(rt.alloc())?;
-    let mut set = first.clone()?;
-    let mut again = first.clone()?;
+fn times_that_were_never_set_differ_from_the_same_times(rt: HostRuntime) {
+    let first = boxed_config(rt.alloc()).expect(&rt, "memory");
+    let mut set = copy(&rt, rt.alloc(), &first);
+    let mut again = copy(&rt, rt.alloc(), &first);
     are_told_apart(&rt, &first, &mut set, &mut again);
-    Ok(())
 }
 
 fn set_times(config: &mut TurnConfig) {

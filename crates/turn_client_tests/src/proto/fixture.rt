@@ -2,16 +2,17 @@
 
 ghost use Rattle.std.specs.Prelude.{◌≡◌, IfOk};
 
-use crate::api::TurnClientApi;
-use crate::runs::{Call, Reply, replay};
-use crate::udp::TurnClientUdp;
+use crate::fixture::{check, config, same};
 use std::alloc::{AllocError, Global};
 use std::net::{IpAddr, Ipv4Addr, SocketAddr};
 use std::process::Abort;
 use std::test::Fail;
 use std::time::Duration;
-use turn_auth::credentials::{CredentialsError, TurnCredentials};
+use turn_auth::credentials::CredentialsError;
 use turn_client_api::{TurnConfig, TurnEvent, TurnPollRet, TurnRecvRet};
+use turn_client_proto::api::TurnClientApi;
+use turn_client_proto::runs::{Call, Reply, replay};
+use turn_client_proto::udp::TurnClientUdp;
 use turn_stun::data::Data;
 use turn_stun::instant::Instant;
 use turn_stun::transport::{Transmit, TransportType};
@@ -43,14 +44,6 @@ pub fn server() -> SocketAddr {
 
 pub fn at(nanos: u64) -> Instant {
     Instant::from_nanos(nanos)
-}
-
-/// The configuration of `user` with the password `pass`, for an IPv4 address over UDP.
-pub fn config(alloc: Global) -> Result<TurnConfig, CredentialsError>
-    ensures { IfOk result (λ config. config.allocation_transport ≡ TransportType.Udp) }
-{
-    let credentials = TurnCredentials::new(alloc, b"user", b"pass")?;
-    Ok(TurnConfig::new(alloc, credentials))
 }
 
 /// What a client asks for, and how long it waits.
@@ -109,11 +102,6 @@ pub fn client_for(alloc: Global, setup: Setup) -> Result<TurnClientUdp, Credenti
 }
 
 // A client comes as a type parameter: a proof then opens none of its parts, and ends far sooner.
-
-/// Compares what a call answered, which is to be so.
-pub fn check(rt: &impl Abort, is_so: bool) {
-    assert!(rt; is_so);
-}
 
 /// Whether a packet takes these bytes to the server.
 fn sends(packet: &Transmit<Data>, bytes: &[u8]) -> bool {
@@ -254,7 +242,7 @@ fn first_unwanted(replies: &[Reply], rows: &[Row<'_>]) -> Option<usize> {
 
 fn are_wanted(rt: &impl Abort, replies: &[Reply], rows: &[Row<'_>]) {
     check(rt, replies.len() == rows.len());
-    assert_eq!(rt; first_unwanted(replies, rows), None);
+    same(rt, first_unwanted(replies, rows), None);
 }
 
 /// Makes the calls on a new client of the seed of zeros with that setup, and compares each answer.

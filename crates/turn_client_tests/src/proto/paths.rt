@@ -1,14 +1,15 @@
 //! The paths by which users of the original crate name things.
 
-use crate::api::TurnPollRet;
-use crate::stun::auth::{Feature, LongTermClientAuth};
-use crate::stun::instant::Instant;
-use crate::tests::fixture::{FIRST_ALLOCATE, config, local, server};
-use crate::types::stun::message::Message;
-use crate::types::{TransportType, TurnCredentials};
-use crate::{Call, Replayed, Reply, replay};
+use crate::fixture::{check, config, same};
+use crate::proto::fixture::{FIRST_ALLOCATE, local, server};
 use std::alloc::Global;
 use std::test::Fail;
+use turn_client_proto::api::TurnPollRet;
+use turn_client_proto::stun::auth::{Feature, LongTermClientAuth};
+use turn_client_proto::stun::instant::Instant;
+use turn_client_proto::types::stun::message::Message;
+use turn_client_proto::types::{TransportType, TurnCredentials};
+use turn_client_proto::{Call, Replayed, Reply, replay};
 
 /// Polls a new client once.
 fn polled(alloc: Global) -> Result<Replayed, Fail> {
@@ -37,9 +38,9 @@ fn is_now(reply: &Reply) -> bool {
 fn runs_are_named_at_the_root(rt: HostRuntime) -> Result<(), Fail> {
     let replayed = polled(rt.alloc())?;
     let replies = replayed.replies.as_slice();
-    assert_eq!(rt; replies.len(), 1);
+    same(&rt, replies.len(), 1);
     for reply in replies {
-        assert!(rt; is_now(reply));
+        check(&rt, is_now(reply));
     }
     Ok(())
 }
@@ -49,7 +50,7 @@ fn credentials_are_named_by_types_and_auth(rt: HostRuntime) -> Result<(), Fail> 
     let mut auth = LongTermClientAuth::new(rt.alloc());
     auth.set_anonymous_username(Feature::Required);
     auth.set_credentials(TurnCredentials::new(rt.alloc(), b"user", b"pass")?);
-    assert!(rt; auth.credentials().is_some());
-    assert!(rt; Message::from_bytes(FIRST_ALLOCATE).is_ok());
+    check(&rt, auth.credentials().is_some());
+    check(&rt, Message::from_bytes(FIRST_ALLOCATE).is_ok());
     Ok(())
 }

@@ -1,15 +1,16 @@
 //! Each refusal for memory is an answer here, and what stands after it is asserted. So these pass
 //! whichever request for memory is refused.
 
-use crate::tests::{HELLO, config, is_hello, peer};
-use crate::{
+use crate::api::{HELLO, boxed_config, is_hello};
+use crate::fixture::{check, peer, same, same_bytes};
+use std::alloc::{AllocError, Global};
+use std::fmt::Debug;
+use std::process::Abort;
+use turn_client_api::{
     BindChannelError, CreatePermissionError, DataRange, DataRangeOrOwned,
     DelayedMessageOrChannelSend, DelayedTransmit, DeleteError, SendError, TcpAllocateError,
     TcpConnectError, TurnConfig, TurnPeerData,
 };
-use std::alloc::{AllocError, Global};
-use std::fmt::Debug;
-use std::process::Abort;
 use turn_types::TransportType;
 use turn_types::transmit::DelayedTransmitBuild;
 
@@ -44,14 +45,15 @@ fn is_owned_at_once(rt: &impl Abort, alloc: Global, bytes: Vec<u8>) {
     let owned = DataRangeOrOwned::Owned(bytes);
     let payload: TurnPeerData<Vec<u8>> = TurnPeerData::new(TransportType::Udp, peer(), owned);
     match payload.into_owned(alloc) {
-        Ok(owned) => assert_eq!(rt; owned.data(), HELLO.as_slice()),
-        Err(_) => assert!(rt; false, "memory was asked for"),
+        Ok(owned) => same_bytes(rt, owned.data(), &HELLO),
+        // memory was asked for
+        Err(_) => check(rt, false),
     }
 }
 
 fn is_built_at_once(rt: &impl Abort, alloc: Global, bytes: Vec<u8>) {
     let send: DelayedMessageOrChannelSend<Vec<u8>> = DelayedMessageOrChannelSend::OwnedData(bytes);
-    assert!(rt; send.build(alloc).is_ok());
+    check(rt, send.build(alloc).is_ok());
 }
 
 #[test]
@@ -66,14 +68,14 @@ fn owned_bytes_take_no_memory(rt: HostRuntime) {
 
 fn is_copied_or_stays(rt: &impl Abort, first: &TurnConfig) {
     match first.clone() {
-        Ok(copy) => assert!(rt; copy == *first),
-        Err(AllocError) => assert_eq!(rt; first.credentials().user(), b"user".as_slice()),
+        Ok(copy) => check(rt, copy == *first),
+        Err(AllocError) => same_bytes(rt, first.credentials().user(), b"user"),
     }
 }
 
 #[test]
 fn a_configuration_without_memory_stays(rt: HostRuntime) {
-    if let Ok(first) = config(rt.alloc()) {
+    if let Ok(first) = boxed_config(rt.alloc()) {
         is_copied_or_stays(&rt, &first);
     }
 }
@@ -81,7 +83,7 @@ fn a_configuration_without_memory_stays(rt: HostRuntime) {
 /// Where a packet is built, it is these bytes.
 fn builds_if_at_all<T: DelayedTransmitBuild>(rt: &impl Abort, alloc: Global, send: T, want: &[u8]) {
     if let Ok(built) = send.build(alloc) {
-        assert_eq!(rt; built.as_slice(), want);
+        same_bytes(rt, built.as_slice(), want);
     }
 }
 
@@ -107,5 +109,5 @@ fn a_refusal_is_each_error(rt: HostRuntime) {
 }
 
 fn is_error<E: From<AllocError> + PartialEq + Debug + Drop>(rt: &impl Abort, want: E) {
-    assert_eq!(rt; E::from(AllocError), want);
+    same(rt, E::from(AllocError), want);
 }

@@ -1,14 +1,15 @@
 //! The calls of each client through the trait.
 
-use crate::client::TurnClient;
-use crate::prelude::TurnClientApi;
-use crate::tests::fixture::{
-    BAD_REQUEST, at, check, client, is_closed, is_first_request, local, refuse, server,
+use crate::fixture::check;
+use crate::proto::fixture::{
+    BAD_REQUEST, at, client, is_closed, is_first_request, local, refuse, server,
 };
 use std::net::SocketAddr;
 use std::process::Abort;
 use std::test::Fail;
 use turn_client_api::{TurnEvent, TurnPollRet, TurnRecvRet};
+use turn_client_proto::client::TurnClient;
+use turn_client_proto::prelude::TurnClientApi;
 use turn_stun::transport::{Transmit, TransportType};
 use turn_types::AddressFamily;
 

@@ -5,17 +5,17 @@ ghost use Rattle.turn_auth.specs.Challenge.{MayTake};
 
 mod vectors;
 
-use crate::{
-    AttemptRefusal, accepted_reply, delete_request, first_allocate, refused_reply, request_for,
-    request_under,
-};
+use crate::fixture::{peer, same_bytes};
 use std::alloc::{AllocError, Global};
-use std::convert::AsSlice;
-use std::net::{IpAddr, Ipv4Addr, SocketAddr, SocketAddrV4};
+use std::net::{IpAddr, Ipv4Addr};
 use std::process::Abort;
 use std::test::Fail;
 use turn_auth::{LongTermClientAuth, ServerChallenge, TurnCredentials};
 use turn_client_api::{Data, Purpose};
+use turn_client_requests::{
+    AttemptRefusal, accepted_reply, delete_request, first_allocate, refused_reply, request_for,
+    request_under,
+};
 use turn_stun::message::Message;
 use turn_stun::transaction::TransactionId;
 use turn_stun::transport::TransportType;
@@ -32,14 +32,13 @@ fn id() -> TransactionId {
     TransactionId::from_bytes(vectors::ID)
 }
 
-fn peer() -> SocketAddr {
-    SocketAddr::V4(SocketAddrV4::new(Ipv4Addr::new(10, 0, 0, 3), 9000))
-}
-
-/// The same bytes, where there was memory for them.
+/// The same bytes, where there was memory for them, in a vector that never grew: it would have twice its
+/// room then.
 fn is_text(rt: &impl Abort, found: Result<Data, AllocError>, want: &[u8]) {
     if let Ok(text) = found {
-        assert_eq!(rt; text.as_slice(), want);
+        let bytes = text.into_bytes();
+        same_bytes(rt, bytes.as_slice(), want);
+        assert!(rt; bytes.capacity() == want.len());
     }
 }
 

@@ -3,15 +3,15 @@
 //! Each test takes the refusal as an answer. `rt try --test --fail-alloc N` makes the Nth allocation
 //! fail.
 
-use crate::api::TurnClientApi;
-use crate::runs::{Call, Reply};
-use crate::tests::fixture::{
-    MS, Setup, at, check, client, client_for, config, is_closed, is_first_request, refuse,
-    replies_of,
+use crate::fixture::{check, config};
+use crate::proto::fixture::{
+    MS, Setup, at, client, client_for, is_closed, is_first_request, refuse, replies_of,
 };
 use std::process::Abort;
 use std::test::Fail;
 use turn_client_api::{TurnEvent, TurnPollRet};
+use turn_client_proto::api::TurnClientApi;
+use turn_client_proto::runs::{Call, Reply};
 use turn_types::AddressFamily;
 
 fn sends_or_ends<C: TurnClientApi>(rt: &impl Abort, mut client: C) -> Result<(), Fail> {

@@ -3,12 +3,12 @@
 ghost use Rattle.std.specs.Prelude.{◌≡◌, IfOk};
 ghost use Rattle.turn_client_api.specs.Addresses.{relayed_in_use, permitted_in_use};
 
-use crate::tests::{peer, relayed, relayed_ipv6};
-use crate::{Grant, PermissionAddressesIter, Progress, Relay, RelayedAddressesIter};
+use crate::api::{relayed, relayed_ipv6};
+use crate::fixture::{peer, same};
 use std::alloc::{AllocError, Global};
 use std::net::{IpAddr, SocketAddr};
 use std::process::Abort;
-use std::test::Fail;
+use turn_client_api::{Grant, PermissionAddressesIter, Progress, Relay, RelayedAddressesIter};
 use turn_stun::instant::Instant;
 use turn_types::{AddressFamily, TransportType};
 
@@ -76,7 +76,7 @@ fn both_are_listed(rt: &impl Abort, alloc: Global, grants: &[Grant]) {
         (TransportType::Udp, relayed()),
         (TransportType::Udp, relayed_ipv6()),
     ];
-    assert_eq!(rt; all.as_slice(), both.as_slice());
+    same(rt, all.as_slice(), both.as_slice());
 }
 
 #[test]
@@ -106,12 +106,24 @@ fn expired_allocations_are_passed_over(rt: HostRuntime) {
 #[test]
 fn an_iterator_stays_at_its_end(rt: HostRuntime) {
     let mut none = RelayedAddressesIter::new(TransportType::Tcp, &[]);
-    assert_eq!(rt; none.next(), None);
-    assert_eq!(rt; none.next(), None);
+    same(&rt, none.next(), None);
+    same(&rt, none.next(), None);
+}
+
+/// The addresses with a permission of this family among the grants are these.
+fn are_permitted(
+    rt: &impl Abort,
+    alloc: Global,
+    family: AddressFamily,
+    grants: &[Grant],
+    want: &[IpAddr],
+) {
+    let all = all_permitted(alloc, family, grants).expect(rt, "memory");
+    same(rt, all.as_slice(), want);
 }
 
 #[test]
-fn permissions_are_listed_in_order(rt: HostRuntime) -> Result<(), Fail> {
+fn permissions_are_listed_in_order(rt: HostRuntime) {
     let grants = [
         permission(peer()),
         permission(relayed_ipv6()),
@@ -119,20 +131,18 @@ fn permissions_are_listed_in_order(rt: HostRuntime) -> Result<(), Fail> {
         Grant::Channel(0x4000, peer(), Progress::Pending),
         permission(relayed()),
     ];
-    let ipv4 = all_permitted(rt.alloc(), AddressFamily::IPV4, &grants)?;
-    assert_eq!(rt; ipv4.as_slice(), [peer().ip(), relayed().ip()].as_slice());
-    let ipv6 = all_permitted(rt.alloc(), AddressFamily::IPV6, &grants)?;
-    assert_eq!(rt; ipv6.as_slice(), [relayed_ipv6().ip()].as_slice());
+    let ipv4 = [peer().ip(), relayed().ip()];
+    are_permitted(&rt, rt.alloc(), AddressFamily::IPV4, &grants, &ipv4);
+    let ipv6 = [relayed_ipv6().ip()];
+    are_permitted(&rt, rt.alloc(), AddressFamily::IPV6, &grants, &ipv6);
     let mut none = PermissionAddressesIter::new(AddressFamily::IPV4, &[]);
-    assert_eq!(rt; none.next(), None);
-    assert_eq!(rt; none.next(), None);
-    Ok(())
+    same(&rt, none.next(), None);
+    same(&rt, none.next(), None);
 }
 
 #[test]
-fn pending_permissions_are_passed_over(rt: HostRuntime) -> Result<(), Fail> {
+fn pending_permissions_are_passed_over(rt: HostRuntime) {
     let grants = [asked(), permission(relayed())];
-    let all = all_permitted(rt.alloc(), AddressFamily::IPV4, &grants)?;
-    assert_eq!(rt; all.as_slice(), [relayed().ip()].as_slice());
-    Ok(())
+    let ipv4 = [relayed().ip()];
+    are_permitted(&rt, rt.alloc(), AddressFamily::IPV4, &grants, &ipv4);
 }

@@ -1,6 +1,6 @@
 //! Whole runs with outside values: the messages of the RFCs, and waits that were added up by hand.
 
-use crate::tests::fixture::{
+use crate::proto::fixture::{
     Ask, BAD_REQUEST, FIRST_ALLOCATE, IPV4, MS, Row, Setup, Waits, Want, follow,
 };
 use std::alloc::Global;

@@ -1,7 +1,7 @@
 use Rattle.std.proofs.lemmas.Iterator.{items_from_collect}
 use Rattle.std.proofs.lemmas.Iterator.Consumers.{YieldsList-from_first}
 use Rattle.turn_client_api.specs.Addresses.{permitted_left}
-use Rattle.turn_client_api.proofs.tests.addresses.all_permitted.Goals as goal
+use Rattle.turn_client_tests.proofs.api.addresses.all_permitted.Goals as goal
 
 pub returns : goal.returns
 returns c =

@@ -1,0 +1,14 @@
+//! The tests of `turn_client_api`, `turn_client_requests` and `turn_client_proto`, by what these make public.
+//!
+//! The gate proves a crate that has tests twice, with them and without. So the tests stand here, a module for each
+//! crate, and the crates that they test are proved once.
+#![tactic(auto)]
+
+#[cfg(test)]
+mod api;
+#[cfg(test)]
+mod fixture;
+#[cfg(test)]
+mod proto;
+#[cfg(test)]
+mod requests;
