@@ -1,0 +1,135 @@
+-- The addresses that are taken, one after the other.
+use Rattle.std.proofs.Common.{◌≡◌, ℕ, Bool, true, false, cond, if◌then◌else◌, not, map, ◌&&◌, ◌||◌, List, [], ◌∷◌, ◌++◌, filter, refl, sym, ap, ◌∙◌, append_assoc}
+use Rattle.std.proofs.lemmas.List.Folds.{list_any-append}
+use Rattle.std.specs.List.{list_all, list_any}
+use Rattle.std.specs.declared.net.socket_addr.SocketAddr.{SocketAddr}
+use Rattle.turn_types.specs.declared.family.AddressFamily.{AddressFamily}
+use Rattle.turn_types.specs.declared.family.AddressFamily.TheVariants.{IPV4, IPV6}
+use Rattle.turn_client_api.specs.Config.{same_family}
+use Rattle.turn_client_api.specs.Effect.{new_allocation, taken_addresses}
+use Rattle.turn_client_api.specs.declared.grant.Grant.{Grant}
+use Rattle.turn_client_api.proofs.NumberLemmas.{none-filter}
+use Rattle.turn_client_grants.specs.Table.{are_apart, are_new, is_new}
+use Rattle.turn_client_api.specs.Grants.{family_of, is_of_family}
+use Rattle.turn_client_core.specs.Allocated.{IsRead, missing}
+
+module _ {X : Type 0} (p q : X → Bool) where
+  -- a test among those that pass another
+  pub any-filter : (xs : List X) → list_any p (filter q xs) ≡ list_any (λ x. q x && p x) xs
+  any-filter [] = refl
+  any-filter (x ∷ xs) = by (q x) (any-filter xs)
+    where
+      by : (b : Bool) → list_any p (filter q xs) ≡ list_any (λ y. q y && p y) xs → list_any p (cond b (x ∷ filter q xs) (filter q xs)) ≡ ((b && p x) || list_any (λ y. q y && p y) xs)
+      by true later = ap (λ b. p x || b) later
+      by false later = later
+
+  -- two tests, one after the other
+  filter-filter : (xs : List X) → filter p (filter q xs) ≡ filter (λ x. q x && p x) xs
+  filter-filter [] = refl
+  filter-filter (x ∷ xs) = by (q x) (filter-filter xs)
+    where
+      both : List X
+      both = filter (λ y. q y && p y) xs
+
+      by : (b : Bool) → filter p (filter q xs) ≡ both → filter p (cond b (x ∷ filter q xs) (filter q xs)) ≡ cond (b && p x) (x ∷ both) both
+      by true later = ap (λ ys. cond (p x) (x ∷ ys) ys) later
+      by false later = later
+
+not-or : (a b : Bool) → not (a || (b || false)) ≡ (not a && not b)
+not-or true b = refl
+not-or false true = refl
+not-or false false = refl
+
+-- before any is taken
+pub missing-none : (families : List AddressFamily) → missing [] families ≡ families
+missing-none [] = refl
+missing-none (family ∷ others) = ap (λ later. family ∷ later) (missing-none others)
+
+module _ (address : SocketAddr) (taken : List SocketAddr) (families : List AddressFamily) where
+  -- a family of which an address is taken is missing no more
+  missing-more : missing (taken ++ (address ∷ [])) families ≡ filter (λ family. not (is_of_family family address)) (missing taken families)
+  missing-more =
+      let among = λ (family : AddressFamily). ap not (list_any-append (is_of_family family) taken (address ∷ []))
+      ∙ not-or (list_any (is_of_family family) taken) (is_of_family family address) in
+      ap (λ test. filter test families) (λ i family. among family i)
+      ∙ sym (filter-filter (λ family. not (is_of_family family address)) (λ family. not (list_any (is_of_family family) taken)) families)
+
+  -- whether the address is taken
+  abbrev pub wanted : Bool
+  wanted = list_any (λ family. not (list_any (is_of_family family) taken) && is_of_family family address) families
+
+  wanted-is : list_any (λ family. is_of_family family address) (missing taken families) ≡ wanted
+  wanted-is = any-filter (λ family. is_of_family family address) (λ family. not (list_any (is_of_family family) taken)) families
+
+  pub taken-more : wanted ≡ true → IsRead address families taken (taken ++ (address ∷ []))
+  taken-more is = λ later. rw (missing-more, wanted-is, is) (append_assoc taken (address ∷ []) _)
+
+  pub taken-same : wanted ≡ false → IsRead address families taken taken
+  taken-same is = λ later. rw (wanted-is, is) refl
+
+-- ---- what is granted is new
+
+same-family : (a b family : AddressFamily) → same_family a b ≡ true → same_family a family ≡ same_family b family
+same-family IPV4 IPV4 family is = refl
+same-family IPV4 IPV6 family is = cc
+same-family IPV6 IPV4 family is = cc
+same-family IPV6 IPV6 family is = refl
+
+both-false : (a b : Bool) → (a || b) ≡ false → (a ≡ false) × (b ≡ false)
+both-false true b none = cc
+both-false false b none = (refl, none)
+
+none-left : {X : Type 0} (p q : X → Bool) (xs : List X) → list_any p xs ≡ false → list_any p (filter q xs) ≡ false
+none-left p q [] none = refl
+none-left p q (x ∷ xs) none = by (q x) (both-false (p x) (list_any p xs) none) (none-left p q xs)
+  where
+    by : (kept : Bool) → (p x ≡ false) × (list_any p xs ≡ false) → (list_any p xs ≡ false → list_any p (filter q xs) ≡ false) → list_any p (cond kept (x ∷ filter q xs) (filter q xs)) ≡ false
+    by true parts later = rw (parts.0, later parts.1) refl
+    by false parts later = later parts.1
+
+module _ (lifetime now : ℕ) where
+  abbrev grants_of : List SocketAddr → List Grant
+  grants_of addresses = map (new_allocation lifetime now) addresses
+
+  all-new : (addresses : List SocketAddr) → list_all (is_new []) (grants_of addresses) ≡ true
+  all-new [] = refl
+  all-new (a ∷ others) = all-new others
+
+  -- an address of a family that is no longer asked for is not taken again
+  apart-from : (a : SocketAddr) (families : List AddressFamily) (addresses : List SocketAddr) → list_any (λ family. is_of_family family a) families ≡ false → list_all (is_new (new_allocation lifetime now a ∷ [])) (grants_of (taken_addresses families addresses)) ≡ true
+  apart-from a families [] none = refl
+  apart-from a families (b ∷ later) none = by (list_any (λ family. is_of_family family b) families) refl (apart-from a families later none) (apart-from a rest later (none-left _ _ families none))
+    where
+      rest : List AddressFamily
+      rest = filter (λ family. not (is_of_family family b)) families
+
+      other : list_any (λ family. is_of_family family b) families ≡ true → (same : Bool) → same_family (family_of a) (family_of b) ≡ same → same ≡ false
+      other wanted false is = refl
+      other wanted true is =
+          let alike = ap (λ test. list_any test families) (λ i family. same-family (family_of a) (family_of b) family is i) in
+          sym wanted ∙ (sym alike ∙ none)
+
+      not-same : list_any (λ family. is_of_family family b) families ≡ true → same_family (family_of a) (family_of b) ≡ false
+      not-same wanted = let same = same_family (family_of a) (family_of b) in refl ∙ other wanted same refl
+
+      by : (wanted : Bool) → list_any (λ family. is_of_family family b) families ≡ wanted
+          → list_all (is_new (new_allocation lifetime now a ∷ [])) (grants_of (taken_addresses families later)) ≡ true
+          → list_all (is_new (new_allocation lifetime now a ∷ [])) (grants_of (taken_addresses rest later)) ≡ true
+          → list_all (is_new (new_allocation lifetime now a ∷ [])) (grants_of (if wanted then b ∷ taken_addresses rest later else taken_addresses families later)) ≡ true
+      by true is unwanted wanted = rw (not-same is) wanted
+      by false is unwanted wanted = unwanted
+
+  apart : (families : List AddressFamily) (addresses : List SocketAddr) → are_apart (grants_of (taken_addresses families addresses)) ≡ true
+  apart families [] = refl
+  apart families (a ∷ later) = by (list_any (λ family. is_of_family family a) families) (apart families later) (apart rest later)
+    where
+      rest : List AddressFamily
+      rest = filter (λ family. not (is_of_family family a)) families
+
+      by : (wanted : Bool) → are_apart (grants_of (taken_addresses families later)) ≡ true → are_apart (grants_of (taken_addresses rest later)) ≡ true
+          → are_apart (grants_of (if wanted then a ∷ taken_addresses rest later else taken_addresses families later)) ≡ true
+      by true unwanted wanted = rw (apart-from a rest later (none-filter (λ family. is_of_family family a) families)) wanted
+      by false unwanted wanted = unwanted
+
+  pub taken-new : (families : List AddressFamily) (addresses : List SocketAddr) → are_new [] (grants_of (taken_addresses families addresses)) ≡ true
+  taken-new families addresses = rw (all-new (taken_addresses families addresses)) (apart families addresses)

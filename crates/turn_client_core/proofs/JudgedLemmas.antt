@@ -1,0 +1,145 @@
+-- What the machine makes of a message, by what it is judged to be.
+use Rattle.std.proofs.Common.{◌≡◌, ◌∙◌, ℕ, Bool, true, false, List, Option, Some, None, ap, cond, refl, sym}
+use Rattle.turn_auth.specs.LongTerm.{Challenge}
+use Rattle.turn_auth.specs.Validation.{validation_of}
+use Rattle.turn_auth.specs.declared.validation.Validation.{Validation}
+use Rattle.turn_auth.specs.declared.validation.Validation.TheVariants.{Validated, ResendRequest, Refused}
+use Rattle.turn_agent.specs.Agent.{is_outstanding}
+use Rattle.turn_stun.specs.Message.{id_of}
+use Rattle.turn_stun.specs.declared.message.header.MessageClass.{MessageClass}
+use Rattle.turn_stun.specs.declared.message.header.MessageClass.TheVariants.{Request, Indication, Success, Error}
+use Rattle.turn_client_api.specs.Judgement as J
+use Rattle.turn_client_api.specs.Judgement.{Judgement, answers_allocate, answers_one, authenticating_judgement, by_class, challenge_in, challenged_or, class_in, judgement_of}
+use Rattle.turn_client_api.specs.State.{State, auth_of}
+use Rattle.turn_client_api.specs.declared.state.Phase.{Phase}
+use Rattle.turn_client_api.specs.declared.state.Phase.TheVariants.{New, Requesting, Authenticating, Allocated, Closed}
+use Rattle.turn_client_api.specs.Effect.{allocate_denied, allocate_granted, ended}
+use Rattle.turn_client_api.specs.Payloads.{Handled, response_step, signed_step}
+use Rattle.turn_client_api.specs.Requests.{fresh_id}
+use Rattle.turn_client_core.specs.Attempts.{CanSign}
+use Rattle.turn_client_core.specs.Judged.{kind_of}
+use Rattle.turn_client_core.specs.Replies.{is_authenticating}
+use Rattle.turn_client_core.specs.declared.protocol.judge.Judged.{Judged}
+use Rattle.turn_client_core.specs.declared.protocol.judge.Judged.TheVariants.{Unrelated, Challenged, Fatal, LateResponse, DataIndication, ConnectionAttempt, SignedRequest, SignedSuccess, SignedError}
+
+-- ---- the judgement, by its kind
+
+-- one that gives nothing more than its kind
+abbrev pub plain : Judged → Judgement
+plain Unrelated = J.Unrelated
+plain Challenged = J.Unrelated
+plain Fatal = J.Fatal
+plain LateResponse = J.LateResponse
+plain DataIndication = J.DataIndication
+plain ConnectionAttempt = J.ConnectionAttempt
+plain SignedRequest = J.SignedRequest
+plain SignedSuccess = J.SignedSuccess
+plain SignedError = J.SignedError
+
+-- a kind that gives nothing more
+abbrev pub IsPlain : Judged → Type 0
+IsPlain Challenged = ⊥
+IsPlain _ = Unit {0}
+
+plain-is : (j : Judgement) → IsPlain (kind_of j) → j ≡ plain (kind_of j)
+plain-is J.Unrelated h = refl
+plain-is (J.Challenged challenge) h = absurd h
+plain-is J.Fatal h = refl
+plain-is J.LateResponse h = refl
+plain-is J.DataIndication h = refl
+plain-is J.ConnectionAttempt h = refl
+plain-is J.SignedRequest h = refl
+plain-is J.SignedSuccess h = refl
+plain-is J.SignedError h = refl
+
+pub judged-is : (j : Judgement) (kind : Judged) → kind_of j ≡ kind → IsPlain kind → j ≡ plain kind
+judged-is j kind e h = plain-is j (rw e h) ∙ ap plain e
+
+pub challenged-is : (j : Judgement) → kind_of j ≡ Challenged → (challenge : Challenge) × (j ≡ J.Challenged challenge)
+challenged-is J.Unrelated e = cc
+challenged-is (J.Challenged challenge) e = (challenge, refl)
+challenged-is J.Fatal e = cc
+challenged-is J.LateResponse e = cc
+challenged-is J.DataIndication e = cc
+challenged-is J.ConnectionAttempt e = cc
+challenged-is J.SignedRequest e = cc
+challenged-is J.SignedSuccess e = cc
+challenged-is J.SignedError e = cc
+
+-- ---- what else is true of one that is signed
+
+challenged_or-plain : (j : Judgement) (o : Option Challenge) (k : Judgement) → ((challenge : Challenge) → J.Challenged challenge ≡ k → ⊥) → challenged_or j o ≡ k → j ≡ k
+challenged_or-plain j None k plain e = e
+challenged_or-plain j (Some challenge) k plain e = absurd (plain challenge e)
+
+cond-first : (b : Bool) (j l k : Judgement) → (l ≡ k → ⊥) → cond b j l ≡ k → (b ≡ true) × (j ≡ k)
+cond-first true j l k other e = (refl, e)
+cond-first false j l k other e = absurd (other e)
+
+-- before anything is held nothing is signed
+pub request-signs : (s : State) (message : List ℕ) → judgement_of s message ≡ J.SignedRequest → CanSign s.phase
+request-signs s message = by s.phase refl
+  where
+    by : (p : Phase) → s.phase ≡ p → judgement_of s message ≡ J.SignedRequest → CanSign s.phase
+    by New e = rw e (λ h. cc)
+    by Requesting e = rw e (λ h. let no : J.Fatal ≡ J.SignedRequest = challenged_or-plain J.Fatal (challenge_in s message) J.SignedRequest (λ c e. cc) (cond-first (answers_one s message) _ J.Unrelated J.SignedRequest (λ e. cc) h).1 in cc)
+    by Authenticating e = rw e (λ h. tt)
+    by Allocated e = rw e (λ h. tt)
+    by Closed e = rw e (λ h. cc)
+
+-- a signed error to an ALLOCATE answers one that is outstanding
+authenticating-outstanding : (s : State) (message : List ℕ) → authenticating_judgement s message ≡ J.SignedError → is_outstanding (id_of message) s.transactions ≡ true
+authenticating-outstanding s message = by (validation_of (auth_of s) message) refl
+  where
+    once : (j : Judgement) → cond (answers_allocate s message) (challenged_or j (challenge_in s message)) J.Unrelated ≡ J.SignedError → j ≡ J.SignedError
+    once j h =
+        challenged_or-plain j (challenge_in s message) J.SignedError (λ c e. cc)
+        (cond-first (answers_allocate s message) (challenged_or j (challenge_in s message)) J.Unrelated J.SignedError (λ e. cc) h).1
+
+    by : (v : Validation) → validation_of (auth_of s) message ≡ v → authenticating_judgement s message ≡ J.SignedError → is_outstanding (id_of message) s.transactions ≡ true
+    by (Validated algorithm) e = rw e (λ h. (cond-first (is_outstanding (id_of message) s.transactions) (by_class (class_in message)) J.LateResponse J.SignedError (λ e. cc) (once _ h)).0)
+    by (Refused true) e = rw e (λ h. let no : J.Fatal ≡ J.SignedError = once J.Fatal h in cc)
+    by (Refused false) e = rw e (λ h. let no : J.Unrelated ≡ J.SignedError = once J.Unrelated h in cc)
+    by (ResendRequest algorithm) e = rw e (λ h. let no : J.Unrelated ≡ J.SignedError = once J.Unrelated h in cc)
+
+pub error-answers : (s : State) (message : List ℕ) → judgement_of s message ≡ J.SignedError → s.phase ≡ Authenticating → is_outstanding (id_of message) s.transactions ≡ true
+error-answers s message h e = authenticating-outstanding s message (rw e at h)
+
+-- ---- signed replies, by what the client waits for
+
+pub granted-step : (message : List ℕ) (now : ℕ) (s : State) → is_authenticating s.phase ≡ true → signed_step true message now s ≡ (Handled, allocate_granted message now (ended (id_of message) s))
+granted-step message now s = by s.phase refl
+  where
+    by : (p : Phase) → s.phase ≡ p → is_authenticating s.phase ≡ true → signed_step true message now s ≡ (Handled, allocate_granted message now (ended (id_of message) s))
+    by New e = rw e (λ h. cc)
+    by Requesting e = rw e (λ h. cc)
+    by Authenticating e = rw e (λ h. refl)
+    by Allocated e = rw e (λ h. cc)
+    by Closed e = rw e (λ h. cc)
+
+pub denied-step : (message : List ℕ) (now : ℕ) (s : State) → is_authenticating s.phase ≡ true → signed_step false message now s ≡ (Handled, allocate_denied (fresh_id s) message now (ended (id_of message) s))
+denied-step message now s = by s.phase refl
+  where
+    by : (p : Phase) → s.phase ≡ p → is_authenticating s.phase ≡ true → signed_step false message now s ≡ (Handled, allocate_denied (fresh_id s) message now (ended (id_of message) s))
+    by New e = rw e (λ h. cc)
+    by Requesting e = rw e (λ h. cc)
+    by Authenticating e = rw e (λ h. refl)
+    by Allocated e = rw e (λ h. cc)
+    by Closed e = rw e (λ h. cc)
+
+pub other-step : (is_granted : Bool) (message : List ℕ) (now : ℕ) (s : State) → is_authenticating s.phase ≡ false → signed_step is_granted message now s ≡ response_step is_granted message now s
+other-step is_granted message now s = by s.phase refl
+  where
+    by : (p : Phase) → s.phase ≡ p → is_authenticating s.phase ≡ false → signed_step is_granted message now s ≡ response_step is_granted message now s
+    by New e = rw e (λ h. refl)
+    by Requesting e = rw e (λ h. refl)
+    by Authenticating e = rw e (λ h. cc)
+    by Allocated e = rw e (λ h. refl)
+    by Closed e = rw e (λ h. refl)
+
+pub authenticating-is : (phase : Phase) → is_authenticating phase ≡ true → phase ≡ Authenticating
+authenticating-is New h = cc
+authenticating-is Requesting h = cc
+authenticating-is Authenticating h = refl
+authenticating-is Allocated h = cc
+authenticating-is Closed h = cc

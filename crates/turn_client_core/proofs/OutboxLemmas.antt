@@ -1,0 +1,19 @@
+-- What waits to be sent.
+use Rattle.std.proofs.Common.{◌≡◌, ℕ, List, [], ◌∷◌, ◌++◌, false, None, refl}
+use Rattle.std.proofs.lemmas.Cmp.{nat_eq_equiv}
+use Rattle.std.proofs.lemmas.List.{append-nil}
+use Rattle.std.proofs.lemmas.List.Elements.{filter-append}
+use Rattle.std.specs.Prelude.{◌==◌, not}
+use Rattle.std.specs.declared.net.socket_addr.SocketAddr.{SocketAddr}
+use Rattle.turn_agent.proofs.TransactionLemmas.{without-none}
+use Rattle.turn_agent.specs.Agent.{first_sent, is_outstanding, without}
+use Rattle.turn_agent.specs.declared.transaction.Transaction.{Transaction}
+use Rattle.turn_client_core.specs.Outgoing.{Outgoing, answering}
+
+pub answering_none : (o : Outgoing) → answering None o ≡ o
+answering_none o = rw (append-nil o.queue) refl
+
+-- a request that is let go again was never made
+pub without_begun : (id : ℕ) (to : SocketAddr) (now : ℕ) (text : List ℕ) (ts : List Transaction) → is_outstanding id ts ≡ false → without id (ts ++ first_sent id to now text ∷ []) ≡ ts
+without_begun id to now text ts new =
+    rw (filter-append (λ (t : Transaction). not (t.id == id)) ts (first_sent id to now text ∷ []), without-none id ts new, nat_eq_equiv.refl id, append-nil ts) refl

@@ -1,0 +1,98 @@
+-- What `poll` does, step by step.
+use Rattle.std.proofs.Common.{◌≡◌, ◌∙◌, ℕ, ◌+◌, Bool, true, false, List, [], ◌∷◌, ◌++◌, Option, Some, None, map, drop, fold, length, min, refl, suc, sym, ap, arith}
+use Rattle.std.specs.Prelude.{◌&&◌, find, flat_map, if◌then◌else◌, is_none, is_some, slice_get}
+use Rattle.std.proofs.lemmas.List.Sums.{fold-append}
+use Rattle.std.specs.declared.net.socket_addr.SocketAddr.{SocketAddr}
+use Rattle.turn_agent.specs.Agent.{is_given_up, next_moment}
+use Rattle.turn_agent.specs.declared.transaction.Transaction.{Transaction}
+use Rattle.turn_client_api.specs.Calls.{is_allocated}
+use Rattle.turn_client_api.specs.Config.{timers_of}
+use Rattle.turn_client_api.specs.Due.{has_queued_request, least_due, longest_sleep, next_wakeup, pause_end}
+use Rattle.turn_client_api.specs.Grants.{allocations}
+use Rattle.turn_client_api.specs.Poll.{answer_by, answer_step, given_up_step, silent_step, timed_step}
+use Rattle.turn_client_api.specs.State.{State, greatest_moment, later_by}
+use Rattle.turn_client_api.specs.declared.grant.Relay.{Relay}
+use Rattle.turn_client_api.specs.declared.state.Phase.{Phase}
+use Rattle.turn_client_api.specs.declared.state.Phase.TheVariants.{New, Requesting, Authenticating, Allocated, Closed}
+use Rattle.turn_client_api.specs.declared.poll.TurnPollRet.{TurnPollRet}
+use Rattle.turn_client_api.specs.declared.poll.TurnPollRet.TheVariants as Do
+use Rattle.turn_client_grants.specs.Due.{moments_of}
+use Rattle.turn_client_core.specs.Outgoing.{Outgoing}
+use Rattle.turn_client_core.specs.Polled.{is_let_go}
+use Rattle.turn_client_core.specs.Sending.{give_up_step}
+use Rattle.turn_client_core.proofs.AskLemmas.{with_outbox}
+
+abbrev Answer : Type 0
+Answer = TurnPollRet × State
+
+-- ---- the next wakeup
+
+pub least_due-is : (now : ℕ) (s : State) → fold min (fold min (fold min greatest_moment (later_by longest_sleep now ∷ (if has_queued_request s then pause_end s ∷ [] else []))) (map (next_moment (timers_of s.config) s.transport) s.transactions)) (flat_map (moments_of now (pause_end s) s) s.grants) ≡ least_due now s
+least_due-is now s =
+    let queued : List ℕ = if has_queued_request s then pause_end s ∷ [] else [] in
+    let sends = map (next_moment (timers_of s.config) s.transport) s.transactions in
+    let ends = flat_map (moments_of now (pause_end s) s) s.grants in
+    let first = min greatest_moment (later_by longest_sleep now) in
+    sym (fold-append min first (queued ++ sends) ends ∙ ap (λ n. fold min n ends) (fold-append min first queued sends))
+
+-- ---- what is given up
+
+abbrev Given : Type 0
+Given = Option ℕ × Outgoing
+
+pub given_up-is : (now : ℕ) (s : State) (o p : Outgoing) (given : Option ℕ) → o.timers ≡ timers_of s.config → (given, p) ≡ give_up_step now o → given_up_step now (with_outbox o s) ≡ timed_step s.phase given now (with_outbox p s)
+given_up-is now s o p given times step = by (find (is_given_up o.timers o.transport now) o.transactions) refl step
+  where
+    by : (found : Option Transaction) → find (is_given_up o.timers o.transport now) o.transactions ≡ found → (given, p) ≡ give_up_step now o → given_up_step now (with_outbox o s) ≡ timed_step s.phase given now (with_outbox p s)
+    by None e step = rw (← times, e) (ap (λ (r : Given). timed_step s.phase r.0 now (with_outbox r.1 s)) (sym (rw e at step)))
+    by (Some t) e step = rw (← times, e) (ap (λ (r : Given). timed_step s.phase r.0 now (with_outbox r.1 s)) (sym (rw e at step)))
+
+-- while the first ALLOCATE awaits its response
+pub requesting-waits : (now : ℕ) (s : State) (o p : Outgoing) → s.phase ≡ Requesting → o.timers ≡ timers_of s.config → (None, p) ≡ give_up_step now o → answer_step None now (with_outbox p s) ≡ given_up_step now (with_outbox o s)
+requesting-waits now s o p requesting times step =
+    ap (λ (phase : Phase). timed_step phase None now (with_outbox p s)) (sym requesting) ∙ sym (given_up-is now s o p None times step)
+
+pub requesting-ends : (now : ℕ) (s : State) (o p : Outgoing) (id : ℕ) → s.phase ≡ Requesting → o.timers ≡ timers_of s.config → (Some id, p) ≡ give_up_step now o → silent_step (with_outbox p s) ≡ given_up_step now (with_outbox o s)
+requesting-ends now s o p id requesting times step =
+    ap (λ (phase : Phase). timed_step phase (Some id) now (with_outbox p s)) (sym requesting) ∙ sym (given_up-is now s o p (Some id) times step)
+
+-- ---- what the caller is to do
+
+pub close-is : (given : Option ℕ) (now : ℕ) (s : State) (local : SocketAddr) (others : List SocketAddr) → s.closes ≡ local ∷ others → ◌≡◌ {A = Answer} (Do.TcpClose local s.remote, record s { closes = drop 1 s.closes }) (answer_step given now s)
+close-is given now s local others e = rw e refl
+
+dropped_none : {X : Type 0} (xs : List X) → xs ≡ drop 1 xs → xs ≡ []
+dropped_none [] e = refl
+dropped_none (x ∷ xs) e = let longer : suc (length xs) ≡ length xs = ap length e in absurd (omega (arith, longer))
+
+-- none was to be closed, and nothing changed
+pub none_closed : (s t : State) → s.closes ≡ t.closes → t ≡ record s { closes = drop 1 s.closes } → (s.closes ≡ []) × (t ≡ s)
+none_closed s t same after =
+    let dropped : s.closes ≡ drop 1 s.closes = same ∙ ap (λ (u : State). u.closes) after in
+    (dropped_none s.closes dropped, after ∙ ap (λ (closes : List SocketAddr). record s { closes = closes }) (sym dropped))
+
+let_go-by : (p : Phase) (relays : List Relay) (given : Option ℕ) (now : ℕ) (s : State) → (is_allocated p && is_none (slice_get relays 0)) ≡ true → ◌≡◌ {A = Answer} (Do.Closed, s) (answer_by [] p relays given now s)
+let_go-by Allocated [] given now s e = refl
+let_go-by Allocated (a ∷ relays) given now s e = cc
+let_go-by New relays given now s e = cc
+let_go-by Requesting relays given now s e = cc
+let_go-by Authenticating relays given now s e = cc
+let_go-by Closed relays given now s e = cc
+
+pub let_go-is : (given : Option ℕ) (now : ℕ) (s : State) → s.closes ≡ [] → is_let_go s ≡ true → ◌≡◌ {A = Answer} (Do.Closed, s) (answer_step given now s)
+let_go-is given now s none gone =
+    let_go-by s.phase (allocations s) given now s gone
+    ∙ ap (λ (closes : List SocketAddr). answer_by closes s.phase (allocations s) given now s) (sym none)
+
+waits-by : (p : Phase) (relays : List Relay) (given : Option ℕ) (now : ℕ) (s : State) → (is_allocated p && is_none (slice_get relays 0)) ≡ false → ◌≡◌ {A = Answer} (Do.WaitUntil (next_wakeup (is_some given) now s), s) (answer_by [] p relays given now s)
+waits-by Allocated [] given now s e = cc
+waits-by Allocated (a ∷ relays) given now s e = refl
+waits-by New relays given now s e = refl
+waits-by Requesting relays given now s e = refl
+waits-by Authenticating relays given now s e = refl
+waits-by Closed relays given now s e = refl
+
+pub waits-is : (given : Option ℕ) (now : ℕ) (s : State) → s.closes ≡ [] → is_let_go s ≡ false → ◌≡◌ {A = Answer} (Do.WaitUntil (next_wakeup (is_some given) now s), s) (answer_step given now s)
+waits-is given now s none stays =
+    waits-by s.phase (allocations s) given now s stays
+    ∙ ap (λ (closes : List SocketAddr). answer_by closes s.phase (allocations s) given now s) (sym none)

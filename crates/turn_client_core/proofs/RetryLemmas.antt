@@ -1,0 +1,100 @@
+-- Requests that are made in the place of another one.
+use Rattle.std.proofs.Common.{◌≡◌, ◌∙◌, ℕ, Bool, true, false, List, [], ◌∷◌, ◌++◌, Option, Some, None, ap, refl, sym, map}
+use Rattle.std.proofs.lemmas.Bool.{eqb-true, lt-ltb}
+use Rattle.std.specs.List.{list_any}
+use Rattle.std.specs.Prelude.{◌==◌, ◌+◌, ◌<◌, filter, not}
+use Rattle.std.specs.declared.net.socket_addr.SocketAddr.{SocketAddr}
+use Rattle.turn_agent.specs.Agent.{is_outstanding, without}
+use Rattle.turn_agent.specs.declared.transaction.Transaction.{Transaction}
+use Rattle.turn_auth.specs.LongTerm.{Challenge}
+use Rattle.turn_client_api.specs.Effect.{ended}
+use Rattle.turn_client_api.specs.Grants.{purposes_of}
+use Rattle.turn_client_api.specs.Payloads.{Handled, Ignored, challenge_step}
+use Rattle.turn_client_api.specs.Requests.{asked, fresh_id, queued, request_for, requested}
+use Rattle.turn_client_api.specs.Retry.{phase_after, retried, state_after_retry, with_held}
+use Rattle.turn_client_api.specs.State.{State}
+use Rattle.turn_client_api.specs.declared.grant.Listing.{Listing}
+use Rattle.turn_client_api.specs.declared.grant.Purpose.{Purpose}
+use Rattle.turn_client_api.specs.declared.grant.Purpose.TheVariants.{ForAllocation}
+use Rattle.turn_stun.specs.Message.{id_of}
+
+-- the old one is outstanding no longer, whether it ends before the new one is made or after it
+pub without-other : (id : ℕ) (t : Transaction) (transactions : List Transaction) → (t.id == id) ≡ false → without id (transactions ++ t ∷ []) ≡ without id transactions ++ t ∷ []
+without-other id t [] other = rw other refl
+without-other id t (u ∷ others) other = by (u.id == id) refl (without-other id t others other)
+  where
+    by : (b : Bool) → (u.id == id) ≡ b → without id (others ++ t ∷ []) ≡ without id others ++ t ∷ [] → without id ((u ∷ others) ++ t ∷ []) ≡ without id (u ∷ others) ++ t ∷ []
+    by true e rest = rw e rest
+    by false e rest = rw e (ap (λ ts. u ∷ ts) rest)
+
+-- the client once the challenge of its request is taken
+abbrev pub taken : State → ℕ → Challenge → State
+taken s id challenge = with_held challenge (record (ended id s) { phase = phase_after s.phase; challenges = s.challenges + 1 })
+
+pub again-is : (s : State) (id fresh : ℕ) (from : SocketAddr) (text : List ℕ) (purpose : Purpose) (challenge : Challenge) (now : ℕ) → text ≡ request_for (taken s id challenge) purpose fresh → from ≡ s.local → fresh ≡ fresh_id s
+    → queued true from text (asked fresh text (purposes_of id s) now (taken s id challenge)) ≡ state_after_retry s id purpose challenge now
+again-is s id fresh from text purpose challenge now is sent next = rw (is, sent, next) refl
+
+-- ---- the new ID is another one
+
+none-found : {A : Type 0} (p : A → Bool) (xs : List A) → list_any p xs ≡ false → filter p xs ≡ []
+none-found p [] none = refl
+none-found p (x ∷ xs) none = by (p x) refl (none-found p xs)
+  where
+    by : (b : Bool) → p x ≡ b → (list_any p xs ≡ false → filter p xs ≡ []) → filter p (x ∷ xs) ≡ []
+    by true e rest = let no : true ≡ false = rw e at none in cc
+    by false e rest = rw e (rest (rw e at none))
+
+pub none-filtered : {A : Type 0} (p q : A → Bool) (xs : List A) → list_any p xs ≡ false → list_any p (filter q xs) ≡ false
+none-filtered p q [] none = refl
+none-filtered p q (x ∷ xs) none = by (p x) (q x) refl refl (none-filtered p q xs)
+  where
+    by : (a b : Bool) → p x ≡ a → q x ≡ b → (list_any p xs ≡ false → list_any p (filter q xs) ≡ false) → list_any p (filter q (x ∷ xs)) ≡ false
+    by true b e f rest = let no : true ≡ false = rw e at none in cc
+    by false true e f rest = rw (f, e) (rest (rw e at none))
+    by false false e f rest = rw f (rest (rw e at none))
+
+-- one that is asked for again is listed, and a fresh one is not
+pub asked-other : (id fresh : ℕ) (listed : List Listing) (purpose : Purpose) → list_any (λ l. l.id == fresh) listed ≡ false → retried (map (λ l. l.purpose) (filter (λ l. l.id == id) listed)) ≡ Some purpose → (fresh == id) ≡ false
+asked-other id fresh listed purpose unlisted asked = by (fresh == id) refl
+  where
+    by : (b : Bool) → (fresh == id) ≡ b → (fresh == id) ≡ false
+    by false e = e
+    by true e =
+        let same : fresh ≡ id = eqb-true fresh id e in
+        let none : list_any (λ l. l.id == id) listed ≡ false = rw same at unlisted in
+        let no : None ≡ Some purpose = rw (none-found (λ l. l.id == id) listed none) at asked in
+        cc
+
+-- one that is answered is outstanding, and a fresh one is not
+pub answered-other : (id fresh : ℕ) (transactions : List Transaction) → is_outstanding fresh transactions ≡ false → is_outstanding id transactions ≡ true → (fresh == id) ≡ false
+answered-other id fresh transactions unsent outstanding = by (fresh == id) refl
+  where
+    by : (b : Bool) → (fresh == id) ≡ b → (fresh == id) ≡ false
+    by false e = e
+    by true e =
+        let same : fresh ≡ id = eqb-true fresh id e in
+        let no : true ≡ false = sym outstanding ∙ (rw same at unsent) in
+        cc
+
+-- ---- a challenge is answered, or is about nothing
+
+pub answered-is : (s : State) (message : List ℕ) (challenge : Challenge) (now : ℕ) (purpose : Purpose) → s.challenges < 9 → retried (purposes_of (id_of message) s) ≡ Some purpose
+    → challenge_step message challenge now s ≡ (Handled, state_after_retry s (id_of message) purpose challenge now)
+answered-is s message challenge now purpose few found = rw (lt-ltb s.challenges 9 few, found) refl
+
+pub unknown-is : (s : State) (message : List ℕ) (challenge : Challenge) (now : ℕ) → s.challenges < 9 → retried (purposes_of (id_of message) s) ≡ None → challenge_step message challenge now s ≡ (Ignored, s)
+unknown-is s message challenge now few found = rw (lt-ltb s.challenges 9 few, found) refl
+
+-- ---- an ALLOCATE is made again
+
+pub first-is : (s : State) (fresh : ℕ) (from : SocketAddr) (text : List ℕ) (now : ℕ) → text ≡ request_for s ForAllocation fresh → from ≡ s.local
+    → queued true from text (asked fresh text (ForAllocation ∷ []) now s) ≡ requested fresh ForAllocation now s
+first-is s fresh from text now is sent = rw (is, sent) refl
+
+-- ---- what a request was made for, by the table
+
+pub purposes-are : (s t : State) (message : List ℕ) (id : ℕ) (listed : List Listing) (purposes : List Purpose) → purposes ≡ map (λ l. l.purpose) (filter (λ l. l.id == id) listed) → listed ≡ s.listed → id ≡ id_of message → s ≡ t
+    → purposes ≡ purposes_of (id_of message) t
+purposes-are s t message id listed purposes read all same is =
+    read ∙ (ap (λ ls. map (λ l. l.purpose) (filter (λ l. l.id == id) ls)) all ∙ (ap (λ i. purposes_of i s) same ∙ ap (λ u. purposes_of (id_of message) u) is))

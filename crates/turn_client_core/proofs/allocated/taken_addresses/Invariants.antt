@@ -1,0 +1,12 @@
+use Rattle.std.proofs.Common.{◌≡◌, ◌++◌}
+use Rattle.turn_stun.specs.Iterator.{attributes_left}
+use Rattle.turn_stun.specs.Message.{id_of}
+use Rattle.turn_client_api.specs.Effect.{relayed_among, relayed_in, taken_addresses}
+use Rattle.turn_client_core.specs.Allocated.{missing}
+use Rattle.turn_client_core.proofs.allocated.taken_addresses.Given as goal
+
+-- those that are taken, and what is taken of the addresses that are left
+abbrev pub invariant-loop-raw : goal.invariant-loop-raw
+invariant-loop-raw l =
+    l.taken.items ++ taken_addresses (missing l.taken.items l.families) (relayed_among (id_of l.message) (attributes_left l.raw-iterator))
+    ≡ taken_addresses l.families (relayed_in l.message)

@@ -1,0 +1,63 @@
+use Rattle.std.proofs.Common.{◌≡◌, ◌∙◌, false, true, ap, refl, sym}
+use Rattle.std.specs.Prelude.{◌==◌, ◌∷◌, [], ◌++◌, not}
+use Rattle.std.specs.List.{list_any}
+use Rattle.std.proofs.lemmas.List.{append-nil}
+use Rattle.turn_agent.specs.Agent.{first_sent, without}
+use Rattle.turn_client_api.specs.Effect.{ended, in_phase}
+use Rattle.turn_client_api.specs.Grants.{is_for_allocation, wait}
+use Rattle.turn_client_api.specs.Requests.{asked, drawn, fresh_id, queued, request_for}
+use Rattle.turn_client_api.specs.declared.event.TurnEvent.TheVariants.{AllocationCreateFailed}
+use Rattle.turn_client_api.specs.declared.grant.Purpose.TheVariants.{ForAllocation}
+use Rattle.turn_client_requests.specs.Asked.{asking}
+use Rattle.turn_client_grants.specs.Ledger.{on}
+use Rattle.turn_stun.specs.Message.{id_of}
+use Rattle.turn_types.specs.declared.family.AddressFamily.TheVariants.{IPV4, IPV6}
+use Rattle.turn_client_core.specs.Replies.{asks_ipv6}
+use Rattle.turn_client_core.specs.Outgoing.{Outgoing}
+use Rattle.turn_client_core.specs.contracts.protocol.TurnClientProtocol.{the_view}
+use Rattle.turn_client_core.proofs.AskLemmas.{with_outbox}
+use Rattle.turn_client_core.proofs.AuthLemmas.{auth-is}
+use Rattle.turn_client_core.proofs.ResultLemmas.{on-err}
+use Rattle.turn_client_core.proofs.RetryLemmas.{answered-other, first-is, none-filtered, without-other}
+use Rattle.turn_client_core.proofs.protocol.TurnClientProtocol.ask_ipv6.Goals as goal
+
+pub returns-in_err-reserve-clause-err : goal.returns-in_err-reserve-clause-err
+returns-in_err-reserve-clause-err c = on-err _ (c.reserve.ensures.same (the_view c.self.inside) ∙ c.self.view_is)
+
+pub returns-in_err-ask-clause-err : goal.returns-in_err-ask-clause-err
+returns-in_err-ask-clause-err c =
+    rw c.in_err-ask.ensures.err (on-err _ (c.reserve.ensures.same (the_view c.self.inside) ∙ c.self.view_is))
+
+pub ask-requires-2-clause-new_id : goal.ask-requires-2-clause-new_id
+ask-requires-2-clause-new_id c =
+    let s = the_view c.self.inside in
+    let fresh = c.fresh_id-fresh.result in
+    let unlisted : list_any (λ l. l.id == fresh) s.listed ≡ false = ap (λ u. list_any (λ l. l.id == fresh) u.listed) c.self.view_is ∙ c.fresh_id-fresh.ensures.unlisted in
+    let listed = ap (λ u. u.listed) (c.tell.ensures.state s ∙ ap (wait (AllocationCreateFailed IPV4 ∷ [])) (c.unlist_allocates.ensures.state s s.phase ∙ ap (in_phase s.phase) (c.reserve.ensures.same s))) in
+    rw listed (none-filtered (λ l. l.id == fresh) (λ l. not (is_for_allocation l.purpose)) s.listed unlisted)
+
+pub returns-clause-ok : goal.returns-clause-ok
+returns-clause-ok c =
+    let s = the_view c.self.inside in
+    let id = c.transaction_id.result in
+    let fresh = c.fresh_id-fresh.result in
+    let from = c.local_addr-from.result in
+    let text = c.in_ok-text.text in
+    let now = c.args.now in
+    let v = record (ended id s) { families = IPV6 ∷ [] } in
+    let u = wait (AllocationCreateFailed IPV4 ∷ []) (record (in_phase s.phase (ended id s)) { families = IPV6 ∷ [] }) in
+    let new = first_sent fresh s.remote now text in
+    let own = sym (auth-is s c.self.inside.auth c.self.invariant.credentials c.self.invariant.supported c.self.invariant.anonymous refl) in
+    let other : (fresh == id) ≡ false = rw c.transaction_id.ensures (answered-other (id_of c.args.message.now) fresh c.args.self.now.transactions c.fresh_id-fresh.ensures.unsent c.requires.outstanding) in
+    let all : asking c.transport.result (IPV6 ∷ []) u ≡ u = rw c.transport.ensures refl in
+    let written : text ≡ request_for u ForAllocation fresh = c.in_ok-text.ensures u (sym own) ∙ ap (λ w. request_for w ForAllocation fresh) all in
+    let told : on c.tell.new.self v ≡ u = c.tell.ensures.state v ∙ ap (wait (AllocationCreateFailed IPV4 ∷ [])) (c.unlist_allocates.ensures.state v v.phase ∙ ap (in_phase v.phase) (c.reserve.ensures.same v)) in
+    let more : record (on c.tell.new.self v) { grants = c.tell.new.self.grants ++ [] } ≡ u = ap (λ gs. record (on c.tell.new.self v) { grants = gs }) (append-nil c.tell.new.self.grants) ∙ told in
+    rw c.only_ipv6-families.ensures
+    (ap (λ o. on c.ask-2.new.self (with_outbox o v)) (c.end.ensures ∙ ap (λ (o : Outgoing). record o { transactions = without id o.transactions }) c.in_ok-ask.ensures.ok)
+    ∙ (ap (λ ts. queued true from text (on c.ask-2.new.self (record (drawn v) { transactions = ts }))) (without-other id new s.transactions other)
+    ∙ (ap (queued true from text) ((rw c.one.ensures at (c.ask-2.ensures.state v text now)) ∙ ap (λ w. asked fresh text (ForAllocation ∷ []) now w) more)
+    ∙ (first-is u fresh from text now written c.local_addr-from.ensures
+    ∙ (ap (λ i. asks_ipv6 i now (ended id s)) (c.fresh_id-fresh.ensures.id)
+    ∙ (ap (λ i. asks_ipv6 (fresh_id c.args.self.now) now (ended i s)) c.transaction_id.ensures
+    ∙ ap (λ w. asks_ipv6 (fresh_id c.args.self.now) now (ended (id_of c.args.message.now) w)) c.self.view_is))))))

@@ -1,0 +1,14 @@
+use Rattle.std.proofs.Common.{◌≡◌, ◌∙◌, ap}
+use Rattle.turn_client_api.specs.Effect.{fail_all}
+use Rattle.turn_client_core.specs.contracts.protocol.TurnClientProtocol.{the_view}
+use Rattle.turn_client_core.proofs.ResultLemmas.{on-err}
+use Rattle.turn_client_core.proofs.protocol.TurnClientProtocol.fail_all.Goals as goal
+
+pub returns-in_err-reserve-clause-err : goal.returns-in_err-reserve-clause-err
+returns-in_err-reserve-clause-err c = on-err _ (c.reserve.ensures.same (the_view c.self.inside) ∙ c.self.view_is)
+
+pub returns-clause-ok : goal.returns-clause-ok
+returns-clause-ok c =
+    let s = the_view c.self.inside in
+    rw (c.clear.ensures.items, ← c.self.view_is)
+    (c.fail_families.ensures.state s ∙ ap fail_all (rw c.as_slice.ensures (c.reserve.ensures.same s)))

@@ -1,0 +1,27 @@
+use Rattle.std.proofs.Common.{◌∙◌, ap, false, subst, sym, true}
+use Rattle.std.specs.Prelude.{◌≡◌, IfOk, OnOk}
+use Rattle.turn_client_api.specs.Payloads.{Outcome}
+use Rattle.turn_client_api.specs.State.{State}
+use Rattle.turn_client_core.specs.Told.{outcome_in}
+use Rattle.turn_client_core.proofs.JudgedLemmas.{authenticating-is, denied-step, other-step}
+use Rattle.turn_client_core.proofs.protocol.TurnClientProtocol.failed.Goals as goal
+
+pub returns-then-is_authenticating-clause-answer : goal.returns-then-is_authenticating-clause-answer
+returns-then-is_authenticating-clause-answer c = sym (ap (λ p. p.0) (denied-step c.args.message.now c.args.now c.args.self.now (sym c.is_authenticating.ensures ∙ c.if-is_authenticating.true)))
+
+pub returns-then-is_authenticating-clause-after : goal.returns-then-is_authenticating-clause-after
+returns-then-is_authenticating-clause-after c = c.in_ok-allocate_denied.ensures.ok ∙ sym (ap (λ p. p.1) (denied-step c.args.message.now c.args.now c.args.self.now (sym c.is_authenticating.ensures ∙ c.if-is_authenticating.true)))
+
+pub returns-clause-answer : goal.returns-clause-answer
+returns-clause-answer c =
+    subst (λ (p : Outcome × State). IfOk c.respond.result (λ told. outcome_in c.args.message.now told ≡ p.0)) (sym (other-step false c.args.message.now c.args.now c.args.self.now (sym c.is_authenticating.ensures ∙ c.if-is_authenticating.false))) c.respond.ensures.answer
+
+pub returns-clause-after : goal.returns-clause-after
+returns-clause-after c =
+    subst (λ (p : Outcome × State). OnOk c.respond.result (c.respond.new.self ≡ p.1)) (sym (other-step false c.args.message.now c.args.now c.args.self.now (sym c.is_authenticating.ensures ∙ c.if-is_authenticating.false))) c.respond.ensures.after
+
+pub allocate_denied-requires-clause-phase : goal.allocate_denied-requires-clause-phase
+allocate_denied-requires-clause-phase c = authenticating-is c.args.self.now.phase (sym c.is_authenticating.ensures ∙ c.if-is_authenticating.true)
+
+pub allocate_denied-requires-clause-outstanding : goal.allocate_denied-requires-clause-outstanding
+allocate_denied-requires-clause-outstanding c = c.requires (authenticating-is c.args.self.now.phase (sym c.is_authenticating.ensures ∙ c.if-is_authenticating.true))

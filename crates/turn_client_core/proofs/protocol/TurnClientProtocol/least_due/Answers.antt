@@ -1,0 +1,11 @@
+use Rattle.std.proofs.Common.{◌∙◌}
+use Rattle.turn_client_core.specs.contracts.protocol.TurnClientProtocol.{the_view}
+use Rattle.turn_client_core.proofs.PollLemmas.{least_due-is}
+use Rattle.turn_client_core.proofs.protocol.TurnClientProtocol.least_due.Goals as goal
+
+pub returns : goal.returns
+returns c =
+    let s = the_view c.self.inside in
+    rw (← c.self.view_is)
+    (c.soonest.ensures s
+    ∙ rw (c.table.ensures.grants, c.table.ensures.listed, c.earliest-second.ensures, c.self.invariant.times, rw (← c.self.view_is) at c.first_due-first.ensures, c.pause_end-pause.ensures) (least_due-is c.args.now s))

@@ -1,0 +1,44 @@
+use Rattle.std.proofs.Common.{◌≡◌, ◌∙◌, ap, List, refl, sym, ℕ}
+use Rattle.std.specs.Prelude.{IsSome}
+use Rattle.turn_client_api.specs.Requests.{request_for}
+use Rattle.turn_client_api.specs.State.{State}
+use Rattle.turn_client_api.specs.Transmit.{refresh_step, sent_at_once}
+use Rattle.turn_client_core.proofs.ResultLemmas.{on-err}
+use Rattle.turn_client_core.proofs.TransmitLemmas.{refresh-none, refresh-some}
+use Rattle.turn_client_core.proofs.protocol.TurnClientProtocol.refresh.Goals as goal
+
+pub returns-in_default-clause-step : goal.returns-in_default-clause-step
+returns-in_default-clause-step c =
+    let s = c.args.self.now in
+    let grants = c.table.ensures.grants ∙ ap (λ (t : State). t.grants) c.self.view_is in
+    let listed = c.table.ensures.listed ∙ ap (λ (t : State). t.listed) c.self.view_is in
+    refresh-none c.args.now s (rw (grants, listed) at (sym (c.first_refresh.ensures s) ∙ c.in_default.is))
+
+pub returns-clause-step : goal.returns-clause-step
+returns-clause-step c =
+    let s = c.args.self.now in
+    let purpose = c.in-Some.purpose in
+    let grants = c.table.ensures.grants ∙ ap (λ (t : State). t.grants) c.self.view_is in
+    let listed = c.table.ensures.listed ∙ ap (λ (t : State). t.listed) c.self.view_is in
+    let found = rw (grants, listed) at (sym (c.first_refresh.ensures s) ∙ c.in-Some.is) in
+    let text = c.in_ok-text.ensures ∙ ap (λ (n : ℕ). request_for s purpose n) c.fresh_id-id.ensures.id in
+    c.in_ok-packet.ensures.step
+    ∙ (ap (λ (t : List ℕ). sent_at_once t purpose c.args.now s) text ∙ sym (refresh-some c.args.now s purpose found))
+
+pub returns-in_err-text-clause-free : goal.returns-in_err-text-clause-free
+returns-in_err-text-clause-free c =
+    let s = c.args.self.now in
+    let grants = c.table.ensures.grants ∙ ap (λ (t : State). t.grants) c.self.view_is in
+    let listed = c.table.ensures.listed ∙ ap (λ (t : State). t.listed) c.self.view_is in
+    let found = rw (grants, listed) at (sym (c.first_refresh.ensures s) ∙ c.in-Some.is) in
+    let wanted : IsSome (refresh_step c.args.now s).0 = rw (refresh-some c.args.now s c.in-Some.purpose found) refl in
+    on-err _ wanted
+
+pub returns-in_err-packet-clause-free : goal.returns-in_err-packet-clause-free
+returns-in_err-packet-clause-free c =
+    let s = c.args.self.now in
+    let grants = c.table.ensures.grants ∙ ap (λ (t : State). t.grants) c.self.view_is in
+    let listed = c.table.ensures.listed ∙ ap (λ (t : State). t.listed) c.self.view_is in
+    let found = rw (grants, listed) at (sym (c.first_refresh.ensures s) ∙ c.in-Some.is) in
+    let wanted : IsSome (refresh_step c.args.now s).0 = rw (refresh-some c.args.now s c.in-Some.purpose found) refl in
+    on-err _ wanted

@@ -1,0 +1,9 @@
+use Rattle.std.proofs.Common.{subst, sym}
+use Rattle.turn_client_api.specs.State.{State}
+use Rattle.turn_client_core.specs.Attempts.{CanSign}
+use Rattle.turn_client_core.proofs.SignLemmas.{can-sign}
+use Rattle.turn_client_core.proofs.protocol.TurnClientProtocol.refuse_attempt.Goals as goal
+
+pub refused_reply-requires : goal.refused_reply-requires
+refused_reply-requires c =
+    can-sign c.self.inside.phase c.self.inside.auth.held (subst (λ (s : State). CanSign s.phase) (sym c.self.view_is) c.requires) c.self.invariant.held

@@ -1,0 +1,42 @@
+use Rattle.std.proofs.Common.{◌∙◌, ap, filter, fold}
+use Rattle.turn_client_api.specs.Effect.{effect, ended}
+use Rattle.turn_client_api.specs.Judgement.{method_in}
+use Rattle.turn_client_api.specs.Payloads.{answered_purposes, is_answered, outcome_for}
+use Rattle.turn_client_core.specs.Effects.{after}
+use Rattle.turn_client_grants.specs.Ledger.{on}
+use Rattle.turn_client_grants.specs.Which.{purposes_in}
+use Rattle.turn_stun.specs.Message.{id_of}
+use Rattle.turn_client_core.specs.contracts.protocol.TurnClientProtocol.{the_view}
+use Rattle.turn_client_core.proofs.AskLemmas.{with_outbox}
+use Rattle.turn_client_core.proofs.ResultLemmas.{on-err}
+use Rattle.turn_client_core.proofs.RetryLemmas.{purposes-are}
+use Rattle.turn_client_core.proofs.protocol.TurnClientProtocol.respond.Goals as goal
+
+pub returns-in_err-reserve-clause-err : goal.returns-in_err-reserve-clause-err
+returns-in_err-reserve-clause-err c = on-err _ (c.reserve.ensures.same (the_view c.self.inside) ∙ c.self.view_is)
+
+pub returns-clause-answer : goal.returns-clause-answer
+returns-clause-answer c =
+    let read = c.answered-purposes.ensures
+    ∙ (ap (λ n. filter (is_answered n) (purposes_in c.purposes_of.result)) c.method.ensures
+    ∙ ap (filter (is_answered (method_in c.args.message.now))) (purposes-are (the_view c.self.inside) c.args.self.now c.args.message.now c.transaction_id-id.result c.table.result.now.listed (purposes_in c.purposes_of.result) c.purposes_of.ensures c.table.ensures.listed c.transaction_id-id.ensures c.self.view_is)) in
+    c.told_of.ensures.outcome ∙ ap (outcome_for c.args.message.now) read
+
+pub returns-clause-after : goal.returns-clause-after
+returns-clause-after c =
+    let read = c.answered-purposes.ensures
+    ∙ (ap (λ n. filter (is_answered n) (purposes_in c.purposes_of.result)) c.method.ensures
+    ∙ ap (filter (is_answered (method_in c.args.message.now))) (purposes-are (the_view c.self.inside) c.args.self.now c.args.message.now c.transaction_id-id.result c.table.result.now.listed (purposes_in c.purposes_of.result) c.purposes_of.ensures c.table.ensures.listed c.transaction_id-id.ensures c.self.view_is)) in
+    let s = the_view c.self.inside in
+    let id = c.transaction_id-id.result in
+    let m = c.args.message.now in
+    let ps = purposes_in c.answered-purposes.result in
+    let f = effect (id_of m) c.args.is_granted m c.args.now in
+    let given = c.answer_all-effect.result in
+    c.heed.ensures
+    ∙ (ap (λ o. after given (on c.answer_all-effect.new.ledger (with_outbox o s))) c.end.ensures
+    ∙ (c.answer_all-effect.ensures (ended id s)
+    ∙ (ap (λ u. fold f u ps) (c.reserve.ensures.same (ended id s))
+    ∙ (ap (λ qs. fold f (ended id s) qs) read
+    ∙ (ap (λ i. fold f (ended i s) (answered_purposes m c.args.self.now)) c.transaction_id-id.ensures
+    ∙ ap (λ u. fold f (ended (id_of m) u) (answered_purposes m c.args.self.now)) c.self.view_is)))))

@@ -1,0 +1,15 @@
+pub mod Allocated
+pub mod Asked
+pub mod Attempts
+pub mod Effects
+pub mod Indication
+pub mod Judged
+pub mod Kept
+pub mod Kinds
+pub mod Opened
+pub mod Outgoing
+pub mod Polled
+pub mod Replies
+pub mod Sending
+pub mod Sent
+pub mod Told

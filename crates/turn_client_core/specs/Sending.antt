@@ -1,0 +1,33 @@
+-- What is sent next, and which requests are given up.
+use Rattle.std.specs.Prelude.{ℕ, if◌then◌else◌, List, Option, Some, None, drop, filter_map, find, slice_get}
+use Rattle.std.specs.Option.{option_map_or}
+use Rattle.turn_stun.specs.declared.transport.Transmit.{Transmit}
+use Rattle.turn_agent.specs.Agent.{is_due, is_given_up, resent, without}
+use Rattle.turn_client_api.specs.Due.{is_paused}
+use Rattle.turn_client_api.specs.State.{State}
+use Rattle.turn_client_api.specs.Transmit.{queue_step, reply_in, reply_step, without_first_reply}
+use Rattle.turn_client_core.specs.Outgoing.{Outgoing, packet_of}
+
+-- the oldest request that is due is sent again, to where it went
+abbrev pub resend_step : ℕ → Outgoing → Option (Transmit (List ℕ)) × Outgoing
+resend_step now o =
+    option_map_or (λ t. (Some (record (packet_of o o.local t.request) { to = t.to }), record o { transactions = resent t.id now o.transactions; last_send = Some now }))
+    (find (is_due o.timers o.transport now) o.transactions) (None, o)
+
+-- the first reply that waits goes out, which does not prolong the pause
+abbrev pub first_reply_step : Outgoing → Option (Transmit (List ℕ)) × Outgoing
+first_reply_step o = (slice_get (filter_map reply_in o.queue) 0, record o { queue = without_first_reply o.queue })
+
+-- what waits in front goes out
+abbrev pub front_step : ℕ → Outgoing → Option (Transmit (List ℕ)) × Outgoing
+front_step now o =
+    option_map_or (λ q. (Some q.packet, record o { queue = drop 1 o.queue; last_send = Some now })) (slice_get o.queue 0) (None, o)
+
+-- the oldest request whose last wait is over is given up
+abbrev pub give_up_step : ℕ → Outgoing → Option ℕ × Outgoing
+give_up_step now o =
+    option_map_or (λ t. (Some t.id, record o { transactions = without t.id o.transactions })) (find (is_given_up o.timers o.transport now) o.transactions) (None, o)
+
+-- where no request is due again: within the pause a reply alone, and else what comes next
+abbrev pub waiting_step : ℕ → State → Option (Transmit (List ℕ)) × State
+waiting_step now s = if is_paused now s then reply_step s else queue_step now s

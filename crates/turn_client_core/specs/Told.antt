@@ -1,0 +1,22 @@
+-- What came of the bytes of a message or a channel frame.
+use Rattle.std.specs.Prelude.{◌≡◌, ◌≤◌, ℕ, List, length, slice_range, Some, ⊤}
+use Rattle.turn_client_api.specs.Payloads.{Outcome, Handled, Ignored, PeerData, PeerIcmp}
+use Rattle.turn_client_api.specs.State.{State}
+use Rattle.turn_client_core.specs.declared.told.Told.{Told}
+use Rattle.turn_client_core.specs.declared.told.Told.TheVariants as T
+
+abbrev pub outcome_in : List ℕ → Told → Outcome
+outcome_in bytes T.Handled = Handled
+outcome_in bytes T.Ignored = Ignored
+outcome_in bytes (T.PeerData transport peer range) = PeerData (record {
+  transport = transport;
+  peer = peer;
+  bytes = slice_range bytes range.start range.end;
+  place = Some range;
+})
+outcome_in bytes (T.PeerIcmp transport peer icmp) = PeerIcmp transport peer icmp
+
+-- data is a part of what came, and changes nothing
+abbrev pub IsPart : List ℕ → State → State → Told → Type 0
+IsPart bytes was s (T.PeerData transport peer range) = (range.start ≤ range.end) × (range.end ≤ length bytes) × (s ≡ was)
+IsPart bytes was s _ = ⊤

@@ -1,0 +1,84 @@
+//! Which addresses the server allocated (RFC 8656, section 7.3).
+
+ghost use Rattle.std.specs.Prelude.{◌≡◌, ◌&&◌, not, List, IfOk, OnOk};
+ghost use Rattle.std.specs.List.{list_any};
+ghost use Rattle.turn_client_api.specs.Effect.{relayed_in, taken_addresses};
+ghost use Rattle.turn_client_api.specs.Grants.{is_of_family};
+ghost use Rattle.turn_client_core.specs.Allocated.{IsRead, missing};
+
+use std::alloc::{AllocError, Global};
+use std::net::{IpAddr, SocketAddr};
+use turn_stun::attribute::typed::AttributeFromRaw;
+use turn_stun::message::Message;
+use turn_types::AddressFamily;
+use turn_types::attribute::XorRelayedAddress;
+
+/// The addresses that a success response allocates to a client that asks for these families: the first of each
+/// family, up to the first address that is malformed.
+///
+/// # Errors
+///
+/// `AllocError` where there is no memory for the list.
+pub(crate) fn taken_addresses(
+    message: &Message,
+    families: &[AddressFamily],
+    alloc: Global,
+) -> Result<Vec<SocketAddr>, AllocError>
+    ensures { IfOk result (λ taken. taken.items ≡ taken_addresses families.now (relayed_in message.now)) }
+{
+    let mut taken = Vec::new(alloc);
+    for (_, raw) in message.iter_attributes() {
+        if raw.attribute_type == XorRelayedAddress::TYPE {
+            match XorRelayedAddress::from_value(raw.value, message.transaction_id()) {
+                Some(relayed) => take(&mut taken, families, relayed.addr())?,
+                None => return Ok(taken),
+            }
+        }
+    }
+    Ok(taken)
+}
+
+/// Takes the address where it is the first of a family that is asked for.
+///
+/// # Errors
+///
+/// `AllocError` where there is no memory for it. Nothing is taken then.
+fn take(
+    taken: &mut Vec<SocketAddr>,
+    families: &[AddressFamily],
+    address: SocketAddr,
+) -> Result<(), AllocError>
+    ensures { OnOk result (IsRead address families.now taken.old.items taken.new.items) }
+{
+    if is_wanted(taken, families, address) {
+        taken.push(address)?;
+    }
+    Ok(())
+}
+
+/// Whether the address is of a family that is asked for, and of which none of these is.
+fn is_wanted(taken: &[SocketAddr], families: &[AddressFamily], address: SocketAddr) -> bool
+    ensures { result ≡ list_any (λ family. not (list_any (is_of_family family) taken.now) && is_of_family family address) families.now }
+{
+    families.iter().any(|family| !has_address(taken, *family) && is_of_family(*family, address))
+}
+
+/// Whether one of the addresses is of this family.
+fn has_address(addresses: &[SocketAddr], family: AddressFamily) -> bool
+    ensures { result ≡ list_any (is_of_family family) addresses.now }
+{
+    addresses
+        .iter()
+        .any(|address| is_of_family(family, *address))
+}
+
+/// Whether the address is of this family.
+fn is_of_family(family: AddressFamily, address: SocketAddr) -> bool
+    ensures { result ≡ is_of_family family address }
+{
+    let found = match address.ip() {
+        IpAddr::V4(_) => AddressFamily::IPV4,
+        IpAddr::V6(_) => AddressFamily::IPV6,
+    };
+    found == family
+}

@@ -1,0 +1,201 @@
+//! What the server's signed reply to a request changes (RFC 8656, sections 8.3, 10.3 and 12.3; RFC 6062,
+//! section 4.3).
+
+ghost use Rattle.std.specs.Prelude.{◌≡◌, ◌≤◌, ◌||◌, fold, if◌then◌else◌, option_to_list};
+ghost use Rattle.turn_client_api.specs.Effect.{allocation_mismatch, challenges_reset, connect_answered, effect, given_back, has_code, prolonged, refreshed};
+ghost use Rattle.turn_client_api.specs.Judgement.{connection_id_in};
+ghost use Rattle.turn_client_api.specs.State.{State};
+ghost use Rattle.turn_client_core.specs.Effects.{after};
+ghost use Rattle.turn_client_grants.specs.Ledger.{LessRoom, SameRoomBut, on};
+ghost use Rattle.turn_client_grants.specs.Which.{purposes_in};
+ghost use Rattle.turn_stun.specs.Message.{id_of};
+
+use crate::reply::{connection_id_in, has_code, lifetime_in};
+use std::net::SocketAddr;
+use turn_client_api::Purpose;
+use turn_client_grants::{GrantLedger, Purposes};
+use turn_stun::attribute::error_code::ErrorCode;
+use turn_stun::instant::Instant;
+use turn_stun::message::Message;
+use turn_types::AddressFamily;
+
+/// A shorter lifetime in reply to a REFRESH is not taken, in seconds (RFC 8656, section 7.2: a server gives
+/// at least the default of 600).
+const LEAST_LIFETIME: u32 = 600;
+
+/// What a reply changes of the client beside its grants.
+#[derive(Clone, Copy, Debug, PartialEq, Eq)]
+pub(crate) enum Effect {
+    /// Nothing.
+    Nothing,
+    /// The server took a request: challenges are counted anew.
+    Taken,
+    /// The server took back all allocations: challenges are counted anew, and the client ends.
+    GivenBack,
+}
+
+impl Effect {
+    /// This one and then the other.
+    fn then(self, other: Effect) -> Effect
+        ensures { (s : State) → after result s ≡ after other (after self s) }
+    {
+        match self {
+            Effect::Nothing => other,
+            Effect::Taken => match other {
+                Effect::Nothing => Effect::Taken,
+                Effect::Taken => Effect::Taken,
+                Effect::GivenBack => Effect::GivenBack,
+            },
+            Effect::GivenBack => Effect::GivenBack,
+        }
+    }
+}
+
+/// What the reply changes for all of these purposes, one after the other.
+pub(crate) fn answer_all(
+    ledger: &mut GrantLedger,
+    purposes: &Purposes,
+    message: &Message<'_>,
+    is_granted: bool,
+    now: Instant,
+) -> Effect
+    requires grant_room { 6 ≤ ledger.old.grant_room }
+    requires event_room { 18 ≤ ledger.old.event_room }
+    requires close_room { 2 ≤ ledger.old.close_room }
+    ensures { (s : State) → after result (on ledger.new s) ≡ fold (effect (id_of message.now) is_granted message.now now) (on ledger.old s) (purposes_in purposes.now) }
+{
+    let first = answer_one(ledger, &purposes.first, message, is_granted, now);
+    let second = answer_one(ledger, &purposes.second, message, is_granted, now);
+    first.then(second)
+}
+
+/// What the reply changes for the purpose, if there is one.
+fn answer_one(
+    ledger: &mut GrantLedger,
+    purpose: &Option<Purpose>,
+    message: &Message<'_>,
+    is_granted: bool,
+    now: Instant,
+) -> Effect
+    requires grant_room { 3 ≤ ledger.old.grant_room }
+    requires event_room { 9 ≤ ledger.old.event_room }
+    requires close_room { 1 ≤ ledger.old.close_room }
+    ensures state { (s : State) → after result (on ledger.new s) ≡ fold (effect (id_of message.now) is_granted message.now now) (on ledger.old s) (option_to_list purpose.now) }
+    ensures room { LessRoom 3 0 9 1 ledger.old ledger.new }
+{
+    match purpose {
+        Some(purpose) => answer(ledger, purpose, message, is_granted, now),
+        None => Effect::Nothing,
+    }
+}
+
+/// What the reply changes for the purpose.
+fn answer(
+    ledger: &mut GrantLedger,
+    purpose: &Purpose,
+    message: &Message<'_>,
+    is_granted: bool,
+    now: Instant,
+) -> Effect
+    requires grant_room { 3 ≤ ledger.old.grant_room }
+    requires event_room { 9 ≤ ledger.old.event_room }
+    requires close_room { 1 ≤ ledger.old.close_room }
+    ensures state { (s : State) → after result (on ledger.new s) ≡ effect (id_of message.now) is_granted message.now now (on ledger.old s) purpose.now }
+    ensures room { LessRoom 3 0 9 1 ledger.old ledger.new }
+{
+    match purpose {
+        Purpose::ForAllocation => Effect::Nothing,
+        Purpose::ForRefresh(family, lifetime) => {
+            refreshed(ledger, *family, *lifetime, message, is_granted, now)
+        }
+        Purpose::ForPermission(ip) => {
+            ledger.permission_answered(*ip, is_granted, now);
+            Effect::Taken
+        }
+        Purpose::ForChannel(number, _) => {
+            ledger.channel_answered(*number, message.transaction_id(), is_granted, now);
+            Effect::Taken
+        }
+        Purpose::ForConnect(peer) => connected(ledger, *peer, message, is_granted),
+        Purpose::ForBind(_, _, _) => Effect::Nothing,
+    }
+}
+
+/// What the reply to a REFRESH of so many seconds changes.
+fn refreshed(
+    ledger: &mut GrantLedger,
+    family: AddressFamily,
+    lifetime: u32,
+    message: &Message<'_>,
+    is_granted: bool,
+    now: Instant,
+) -> Effect
+    ensures state { (s : State) → after result (on ledger.new s) ≡ refreshed family lifetime is_granted message.now now (on ledger.old s) }
+    ensures room { SameRoomBut 0 0 ledger.old ledger.new }
+{
+    if lifetime == 0 {
+        return given_back(ledger, message, is_granted);
+    }
+    if !is_granted {
+        return Effect::Nothing;
+    }
+    match lifetime_in(message) {
+        Some(granted) => prolonged(ledger, family, granted, now),
+        None => Effect::Nothing,
+    }
+}
+
+/// What was to be given back is gone once the server says so, or that it never was there (RFC 8656,
+/// section 8.3).
+fn given_back(ledger: &mut GrantLedger, message: &Message<'_>, is_granted: bool) -> Effect
+    ensures state { (s : State) → after result (on ledger.new s) ≡ given_back is_granted message.now (on ledger.old s) }
+    ensures room { SameRoomBut 0 0 ledger.old ledger.new }
+{
+    if is_gone(message, is_granted) {
+        ledger.clear();
+        ledger.unlist_allocates();
+        return Effect::GivenBack;
+    }
+    Effect::Nothing
+}
+
+/// Whether the server took the allocations back, or knows of none.
+fn is_gone(message: &Message<'_>, is_granted: bool) -> bool
+    ensures { result ≡ (is_granted || has_code allocation_mismatch message.now) }
+{
+    is_granted || has_code(message, ErrorCode::ALLOCATION_MISMATCH)
+}
+
+/// What was asked for longer lasts as long as the server says.
+fn prolonged(ledger: &mut GrantLedger, family: AddressFamily, lifetime: u32, now: Instant) -> Effect
+    ensures state { (s : State) → after result (on ledger.new s) ≡ prolonged family lifetime now (on ledger.old s) }
+    ensures room { SameRoomBut 0 0 ledger.old ledger.new }
+{
+    if lifetime < LEAST_LIFETIME {
+        return Effect::Nothing;
+    }
+    ledger.prolong(family, lifetime, now);
+    Effect::Taken
+}
+
+/// What the reply to a CONNECT changes.
+fn connected(
+    ledger: &mut GrantLedger,
+    peer: SocketAddr,
+    message: &Message<'_>,
+    is_granted: bool,
+) -> Effect
+    requires grant_room { 1 ≤ ledger.old.grant_room }
+    requires event_room { 2 ≤ ledger.old.event_room }
+    requires close_room { 1 ≤ ledger.old.close_room }
+    ensures state { (s : State) → after result (on ledger.new s) ≡ challenges_reset (connect_answered peer (if is_granted then connection_id_in message.now else None) (on ledger.old s)) }
+    ensures room { LessRoom 1 0 2 1 ledger.old ledger.new }
+{
+    let connection_id = if is_granted {
+        connection_id_in(message)
+    } else {
+        None
+    };
+    ledger.connect_answered(peer, &connection_id);
+    Effect::Taken
+}

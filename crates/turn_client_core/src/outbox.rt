@@ -1,0 +1,311 @@
+//! What goes to the server.
+
+ghost use Rattle.std.specs.Prelude.{◌≡◌, ◌≤◌, ◌<◌, [], None, false, true, length, IfOk, OnOk, OnErr};
+ghost use Rattle.turn_agent.specs.Agent.{is_outstanding, without};
+ghost use Rattle.turn_agent.specs.TransactionIds.{next_id};
+ghost use Rattle.turn_client_core.specs.Outgoing.{answering, asked, asked_over, begun, drawn, packet_of, waiting, with_room};
+ghost use Rattle.turn_client_api.specs.Calls.{with_stream};
+ghost use Rattle.turn_client_api.specs.State.{State};
+ghost use Rattle.turn_client_streams.specs.Held.{with_streams};
+
+mod due;
+mod send;
+
+use std::alloc::{AllocError, Global};
+use std::collections::VecDeque;
+use std::marker::Model;
+use std::net::SocketAddr;
+use turn_agent::agent::StunAgent;
+use turn_agent::number_source::NumberSource;
+use turn_client_api::{Queued, RequestTimers};
+use turn_client_streams::Streams;
+use turn_stun::data::Data;
+use turn_stun::instant::Instant;
+use turn_stun::transaction::TransactionId;
+use turn_stun::transport::{Transmit, TransportType};
+
+/// What waits to be sent to the server, the requests that await their responses, and the transaction IDs
+/// of those to come.
+#[derive(Debug, Drop)]
+pub(crate) struct Outbox {
+    remote: SocketAddr,
+    agent: StunAgent,
+    ids: NumberSource,
+    queue: VecDeque<Queued>,
+    /// When a request was last sent, first or again: the pause between two requests begins there.
+    last_send: Option<Instant>,
+}
+
+impl Model for Outbox {
+    ghost use Rattle.std.specs.Prelude.{◌-◌};
+    ghost use Rattle.std.specs.VecDeque.{deque_capacity, deque_len};
+    ghost use Rattle.turn_client_core.specs.Outgoing.{Outgoing};
+
+    ghost Value = { Outgoing };
+
+    ghost view = { λ o. record {
+      transport = o.agent.transport;
+      local = o.agent.local;
+      remote = o.remote;
+      timers = o.agent.timers;
+      ids = o.ids;
+      transactions = o.agent.transactions;
+      queue = o.queue.items;
+      room = deque_capacity o.queue - deque_len o.queue;
+      last_send = o.last_send;
+    } };
+}
+
+impl Outbox {
+    /// An outbox in which nothing waits. It takes no memory yet.
+    pub(crate) fn new(
+        alloc: Global,
+        transport: TransportType,
+        local: SocketAddr,
+        remote: SocketAddr,
+        timers: RequestTimers,
+        seed: [u8; 32],
+    ) -> Outbox
+        ensures { result ≡ record {
+          transport = transport;
+          local = local;
+          remote = remote;
+          timers = timers;
+          ids = record { seed = seed; place = 0 };
+          transactions = [];
+          queue = [];
+          room = result.room;
+          last_send = None;
+        } }
+    {
+        Outbox {
+            remote,
+            agent: StunAgent::builder(alloc, transport, local)
+                .remote_addr(remote)
+                .request_timers(timers)
+                .build(),
+            ids: NumberSource::from_seed(seed),
+            queue: VecDeque::new(alloc),
+            last_send: None,
+        }
+    }
+
+    /// What carries the packets.
+    pub(crate) fn transport(&self) -> TransportType
+        ensures { result ≡ self.now.transport }
+    {
+        self.agent.transport()
+    }
+
+    /// The client's end of the control connection.
+    pub(crate) fn local_addr(&self) -> SocketAddr
+        ensures { result ≡ self.now.local }
+    {
+        self.agent.local_addr()
+    }
+
+    /// The server's address.
+    pub(crate) fn remote_addr(&self) -> SocketAddr
+        ensures { result ≡ self.now.remote }
+    {
+        self.remote
+    }
+
+    /// Whether a request of this ID awaits its response.
+    pub(crate) fn is_outstanding(&self, id: TransactionId) -> bool
+        ensures { result ≡ is_outstanding id self.now.transactions }
+    {
+        self.agent.is_outstanding(id)
+    }
+
+    /// How many requests await their responses.
+    pub(crate) fn outstanding(&self) -> usize
+        ensures { result ≡ length self.now.transactions }
+    {
+        self.agent.outstanding()
+    }
+
+    /// The ID that the seed gives next, whether or not it is taken.
+    pub(crate) fn candidate(&self) -> TransactionId
+        ensures { result ≡ next_id self.now.ids }
+    {
+        self.ids.candidate()
+    }
+
+    /// Makes room for so many packets to wait.
+    ///
+    /// # Errors
+    ///
+    /// `AllocError` where there is no memory. Nothing changes then.
+    pub(crate) fn reserve(&mut self, packets: usize) -> Result<(), AllocError>
+        ensures same { self.new ≡ with_room self.new.room self.old }
+        ensures room { OnOk result (packets ≤ self.new.room) }
+    {
+        self.queue.reserve(packets)
+    }
+
+    /// Counts the first send of a request of this ID at `now`, and gives its packet, which goes from this
+    /// local end.
+    ///
+    /// # Errors
+    ///
+    /// `AllocError` where there is no memory. Nothing changes then.
+    pub(crate) fn begin(
+        &mut self,
+        id: TransactionId,
+        text: Data,
+        from: SocketAddr,
+        now: Instant,
+    ) -> Result<Transmit<Data>, AllocError>
+        requires { is_outstanding id self.old.transactions ≡ false }
+        ensures packet { IfOk result (λ packet. packet ≡ packet_of self.old from text) }
+        ensures ok { OnOk result (self.new ≡ begun id text now self.old) }
+        ensures err { OnErr result (self.new ≡ self.old) }
+    {
+        let mut packet = self.agent.send_request(id, text, self.remote, now)?;
+        packet.from = from;
+        Ok(packet)
+    }
+
+    /// Lets the request of this ID go. It awaits no response any more.
+    pub(crate) fn end(&mut self, id: TransactionId)
+        ensures { self.new ≡ record self.old { transactions = without id self.old.transactions } }
+    {
+        let _was_outstanding = self.agent.end(id);
+    }
+
+    /// Takes the next ID of the seed.
+    pub(crate) fn draw(&mut self)
+        ensures { self.new ≡ drawn self.old }
+    {
+        let _drawn = self.ids.draw();
+    }
+
+    /// Lets the packet wait, after all that wait. `reserve` makes room.
+    pub(crate) fn wait(&mut self, packet: Transmit<Data>, is_request: bool)
+        requires { 0 < self.old.room }
+        ensures { self.new ≡ with_room self.new.room (waiting packet is_request self.old) }
+    {
+        self.queue.push_back_reserved(Queued { packet, is_request });
+    }
+}
+
+impl Outbox {
+    /// A request of this ID, the next one, waits to be sent from this local end, and awaits its response.
+    ///
+    /// # Errors
+    ///
+    /// `AllocError` where there is no memory. Nothing but room changes then.
+    pub(crate) fn ask(
+        &mut self,
+        id: TransactionId,
+        text: Data,
+        from: SocketAddr,
+        now: Instant,
+    ) -> Result<(), AllocError>
+        requires { is_outstanding id self.old.transactions ≡ false }
+        ensures ok { OnOk result (self.new ≡ with_room self.new.room (asked id from text now self.old)) }
+        ensures err { OnErr result (self.new ≡ with_room self.new.room self.old) }
+    {
+        self.reserve(1)?;
+        let packet = self.begin(id, text, from, now)?;
+        self.draw();
+        self.wait(packet, true);
+        Ok(())
+    }
+
+    /// A reply waits to be sent over the control connection.
+    ///
+    /// # Errors
+    ///
+    /// `AllocError` where there is no memory. Nothing changes then.
+    pub(crate) fn reply(&mut self, text: Data) -> Result<(), AllocError>
+        ensures ok { OnOk result (self.new ≡ with_room self.new.room (waiting (packet_of self.old self.old.local text) false self.old)) }
+        ensures err { OnErr result (self.new ≡ with_room self.new.room self.old) }
+    {
+        self.reserve(1)?;
+        let packet = self.packet(text);
+        self.wait(packet, false);
+        Ok(())
+    }
+
+    /// The packet to the server over the control connection.
+    pub(crate) fn packet(&self, text: Data) -> Transmit<Data>
+        ensures { result ≡ packet_of self.now self.now.local text }
+    {
+        Transmit::new(text, self.transport(), self.local_addr(), self.remote)
+    }
+}
+
+impl Outbox {
+    /// A request of this ID, the next one, waits to be sent over a new stream from this local end, after the
+    /// reply over the control connection, if there is one.
+    ///
+    /// # Errors
+    ///
+    /// `AllocError` where there is no memory. Nothing but room changes then.
+    pub(crate) fn ask_over(
+        &mut self,
+        streams: &mut Streams,
+        reply: Option<Data>,
+        id: TransactionId,
+        text: Data,
+        local: SocketAddr,
+        now: Instant,
+    ) -> Result<(), AllocError>
+        requires { is_outstanding id self.old.transactions ≡ false }
+        ensures sent { OnOk result (self.new ≡ with_room self.new.room (asked_over reply id local text now self.old)) }
+        ensures opened { OnOk result ((s : State) → with_streams streams.new s ≡ with_stream local (with_streams streams.old s)) }
+        ensures err { OnErr result (self.new ≡ with_room self.new.room self.old) }
+        ensures kept { OnErr result (streams.new ≡ streams.old) }
+    {
+        self.reserve(2)?;
+        let packet = self.begin(id, text, local, now)?;
+        match streams.open(local) {
+            Ok(()) => {
+                self.draw();
+                self.wait_both(reply, packet);
+                Ok(())
+            }
+            Err(error) => {
+                self.end(id);
+                Err(error)
+            }
+        }
+    }
+
+    /// The reply waits to be sent over the control connection, if there is one, and then the request does.
+    /// `reserve` makes room.
+    #[tactic(auto, using(crate::proofs::OutboxLemmas::answering_none))]
+    fn wait_both(&mut self, reply: Option<Data>, request: Transmit<Data>)
+        requires { 2 ≤ self.old.room }
+        ensures { self.new ≡ with_room self.new.room (waiting request true (answering reply self.old)) }
+    {
+        match reply {
+            Some(text) => {
+                let packet = self.packet(text);
+                let is_request = false;
+                self.queue.push_back_reserved(Queued { packet, is_request });
+                self.wait(request, true);
+            }
+            None => self.wait(request, true),
+        }
+    }
+
+    /// The reply waits to be sent over the control connection, if there is one.
+    ///
+    /// # Errors
+    ///
+    /// `AllocError` where there is no memory. Nothing but room changes then, and where there is no reply,
+    /// none is wanted.
+    #[tactic(auto, using(crate::proofs::OutboxLemmas::answering_none))]
+    pub(crate) fn answer(&mut self, reply: Option<Data>) -> Result<(), AllocError>
+        ensures ok { OnOk result (self.new ≡ with_room self.new.room (answering reply self.old)) }
+        ensures err { OnErr result (self.new ≡ with_room self.new.room self.old) }
+    {
+        match reply {
+            Some(text) => self.reply(text),
+            None => Ok(()),
+        }
+    }
+}

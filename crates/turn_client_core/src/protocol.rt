@@ -1,0 +1,80 @@
+//! A client, whatever carries its packets.
+
+mod allocation;
+mod attempt;
+mod challenge;
+mod channel;
+mod connect;
+mod data;
+mod delete;
+mod event;
+mod fatal;
+mod granted;
+mod judge;
+mod message;
+mod new;
+mod permission;
+mod poll;
+mod read;
+mod request;
+mod respond;
+mod send;
+mod socket;
+mod transmit;
+mod wakeup;
+
+use crate::outbox::Outbox;
+use smallvec::SmallVec;
+use std::alloc::Global;
+use std::marker::Model;
+use turn_auth::long_term::LongTermClientAuth;
+use turn_client_api::{Phase, TurnConfig};
+use turn_client_grants::GrantLedger;
+use turn_client_streams::Streams;
+use turn_types::AddressFamily;
+
+/// A client, whatever carries its packets: it takes whole messages and the bytes of streams, and gives
+/// packets, events and the next moment to call again. Contracts see its `State`.
+#[derive(Debug, Drop)]
+pub struct TurnClientProtocol {
+    alloc: Global,
+    config: TurnConfig,
+    phase: Phase,
+    /// The families of which an address is still asked for.
+    families: SmallVec<AddressFamily, 2>,
+    auth: LongTermClientAuth,
+    ledger: GrantLedger,
+    outbox: Outbox,
+    /// Challenges answered since the server last took a request. It stops a server that always challenges.
+    challenges: u32,
+    streams: Streams,
+}
+
+impl Model for TurnClientProtocol {
+    ghost use Rattle.turn_client_api.specs.State.{State};
+    ghost use Rattle.turn_client_core.specs.Kept.{IsWhole};
+
+    ghost Value = { State };
+
+    ghost view = { λ c. record {
+      config = record c.config { allocation_transport = c.ledger.transport };
+      transport = c.outbox.transport;
+      local = c.outbox.local;
+      remote = c.outbox.remote;
+      ids = c.outbox.ids;
+      phase = c.phase;
+      families = c.families.items;
+      held = c.auth.held;
+      grants = c.ledger.grants;
+      listed = c.ledger.listed;
+      transactions = c.outbox.transactions;
+      queue = c.outbox.queue;
+      last_send = c.outbox.last_send;
+      challenges = c.challenges;
+      events = c.ledger.events;
+      closes = c.ledger.closes;
+      streams = c.streams;
+    } };
+
+    ghost invariant = { λ c. IsWhole c.config c.auth c.outbox.timers c.phase };
+}

@@ -1,0 +1,27 @@
+//! The allocation in which a call asks for something.
+
+ghost use Rattle.std.specs.Prelude.{◌≡◌};
+ghost use Rattle.turn_client_api.specs.Grants.{allocation_for, family_of_ip, with_expired};
+
+use crate::protocol::TurnClientProtocol;
+use std::net::IpAddr;
+use turn_client_api::Relay;
+use turn_client_grants::family_of_ip;
+use turn_stun::transport::TransportType;
+
+impl TurnClientProtocol {
+    /// The allocation that relays over this transport to this IP address, expired or not.
+    pub(super) fn allocation_for(&self, transport: TransportType, ip: IpAddr) -> Option<Relay>
+        ensures { result ≡ allocation_for transport ip self.now }
+    {
+        self.ledger.allocation_for(transport, ip)
+    }
+
+    /// The allocation that relays to this IP address is used no more for sending: a call found it past its
+    /// end.
+    pub(super) fn expire(&mut self, ip: IpAddr)
+        ensures { self.new ≡ with_expired (family_of_ip ip) self.old }
+    {
+        self.ledger.expire(family_of_ip(ip));
+    }
+}

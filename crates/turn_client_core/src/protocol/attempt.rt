@@ -1,0 +1,135 @@
+//! The server tells of a peer that connected to the relayed address (RFC 6062, section 4.4).
+
+ghost use Rattle.std.specs.Prelude.{◌≡◌, IfOk, OnErr, OnOk};
+ghost use Rattle.turn_client_api.specs.Connections.{attempt_requested, is_heeded};
+ghost use Rattle.turn_client_api.specs.Effect.{with_offer};
+ghost use Rattle.turn_client_api.specs.Requests.{refused_reply, replied};
+ghost use Rattle.turn_client_core.specs.Attempts.{CanSign, attempt_step};
+ghost use Rattle.turn_client_core.specs.Told.{IsPart, outcome_in};
+ghost use Rattle.turn_client_requests.specs.Refused.{code_of, reason_of};
+ghost use Rattle.turn_stun.specs.Message.{id_of};
+
+use crate::protocol::TurnClientProtocol;
+use crate::reply::{connection_id_in, peer_in};
+use crate::told::Told;
+use std::alloc::AllocError;
+use std::net::SocketAddr;
+use turn_client_api::Origin;
+use turn_client_requests::{AttemptRefusal, refused_reply};
+use turn_stun::message::Message;
+use turn_stun::transaction::TransactionId;
+use turn_stun::transport::TransportType;
+
+/// So many offers by indications stand at most, since these are not signed (our choice).
+const MOST_INDICATED: usize = 64;
+
+impl TurnClientProtocol {
+    /// A request of the server makes an offer to the caller, or is refused: it is always answered (our choice:
+    /// RFC 6062 has an indication alone).
+    ///
+    /// # Errors
+    ///
+    /// There is no memory. Nothing changes then.
+    pub(super) fn attempt_requested(&mut self, message: &Message<'_>) -> Result<(), AllocError>
+        requires { CanSign self.old.phase }
+        ensures ok { OnOk result (self.new ≡ attempt_requested message.now self.old) }
+        ensures err { OnErr result (self.new ≡ self.old) }
+    {
+        let id = message.transaction_id();
+        let Some(connection_id) = connection_id_in(message) else {
+            return self.refuse_attempt(AttemptRefusal::BadRequest, id);
+        };
+        let Some(peer) = peer_in(message) else {
+            return self.refuse_attempt(AttemptRefusal::BadRequest, id);
+        };
+        let relay = self.allocation_for(TransportType::Tcp, peer.ip());
+        if relay.is_none() {
+            return self.refuse_attempt(AttemptRefusal::BadRequest, id);
+        }
+        if self.is_connected(peer) {
+            return self.refuse_attempt(AttemptRefusal::ConnectionAlreadyExists, id);
+        }
+        self.offer(connection_id, peer, Origin::ServerRequest(id))
+    }
+
+    /// An indication makes an offer to the caller where it is heeded, and is ignored elsewhere.
+    ///
+    /// # Errors
+    ///
+    /// There is no memory. Nothing changes then.
+    pub(super) fn attempt_indicated(&mut self, message: &Message<'_>) -> Result<Told, AllocError>
+        ensures answer { IfOk result (λ told. outcome_in message.now told ≡ (attempt_step message.now self.old).0) }
+        ensures part { IfOk result (IsPart message.now self.old self.new) }
+        ensures after { OnOk result (self.new ≡ (attempt_step message.now self.old).1) }
+        ensures err { OnErr result (self.new ≡ self.old) }
+    {
+        let Some(connection_id) = connection_id_in(message) else {
+            return Ok(Told::Ignored);
+        };
+        let Some(peer) = peer_in(message) else {
+            return Ok(Told::Ignored);
+        };
+        if !self.is_heeded(peer) {
+            return Ok(Told::Ignored);
+        }
+        self.offer(connection_id, peer, Origin::ServerIndication)?;
+        Ok(Told::Handled)
+    }
+
+    /// Whether an indication that tells of this peer makes an offer: only for a peer with a permission, as
+    /// RFC 6062, section 4.4, has it, and where no other connection to it is there or comes.
+    fn is_heeded(&self, peer: SocketAddr) -> bool
+        ensures { result ≡ is_heeded peer self.now }
+    {
+        if self.allocation_for(TransportType::Tcp, peer.ip()).is_none() {
+            return false;
+        }
+        if !self.is_permitted(peer.ip()) {
+            return false;
+        }
+        if self.is_connected(peer) {
+            return false;
+        }
+        if self.is_connecting(peer) {
+            return false;
+        }
+        self.ledger.table().indicated_count() < MOST_INDICATED
+    }
+
+    /// The caller is to open a data connection to the peer, by the server's number of it.
+    ///
+    /// # Errors
+    ///
+    /// There is no memory. Nothing changes then.
+    fn offer(
+        &mut self,
+        connection_id: u32,
+        peer: SocketAddr,
+        origin: Origin,
+    ) -> Result<(), AllocError>
+        ensures ok { OnOk result (self.new ≡ with_offer connection_id peer origin self.old) }
+        ensures err { OnErr result (self.new ≡ self.old) }
+    {
+        self.ledger.reserve(1, 0, 0)?;
+        self.ledger.offer(connection_id, peer, origin);
+        Ok(())
+    }
+
+    /// The server's request of this ID is refused.
+    ///
+    /// # Errors
+    ///
+    /// There is no memory. Nothing changes then.
+    fn refuse_attempt(
+        &mut self,
+        refusal: AttemptRefusal,
+        id: TransactionId,
+    ) -> Result<(), AllocError>
+        requires { CanSign self.old.phase }
+        ensures ok { OnOk result (self.new ≡ replied (refused_reply (code_of refusal) (reason_of refusal) self.old id) self.old) }
+        ensures err { OnErr result (self.new ≡ self.old) }
+    {
+        let text = refused_reply(self.alloc, &self.auth, refusal, id)?;
+        self.outbox.reply(text)
+    }
+}

@@ -1,0 +1,127 @@
+//! A challenge is answered: the request is made again, signed as the server asks (RFC 8489, section 9.2.5).
+
+ghost use Rattle.std.specs.Prelude.{◌≡◌, ◌<◌, IfOk, IsSome, OnErr, OnOk, Some};
+ghost use Rattle.turn_auth.specs.LongTerm.{Challenge};
+ghost use Rattle.turn_client_api.specs.Grants.{purposes_of};
+ghost use Rattle.turn_client_api.specs.Judgement.{challenge_in};
+ghost use Rattle.turn_client_api.specs.Payloads.{challenge_step};
+ghost use Rattle.turn_client_api.specs.Retry.{phase_after, retried, state_after_retry};
+ghost use Rattle.turn_client_core.specs.Told.{IsPart, outcome_in};
+ghost use Rattle.turn_stun.specs.Message.{id_of};
+
+use crate::asked::retried;
+use crate::protocol::TurnClientProtocol;
+use crate::told::Told;
+use std::alloc::AllocError;
+use turn_client_api::{Phase, Purpose};
+use turn_client_requests::request_under;
+use turn_stun::instant::Instant;
+use turn_stun::message::Message;
+
+/// So many challenges are answered one after the other: a server that always asks for another nonce ends the
+/// client (our choice).
+const MOST_CHALLENGES: u32 = 9;
+
+impl TurnClientProtocol {
+    /// Answers the challenge, or ends the client where it is one too many. One that is about nothing is not
+    /// taken.
+    ///
+    /// # Errors
+    ///
+    /// There is no memory. Nothing changes then, and what is held of earlier challenges stays.
+    pub(super) fn challenged(
+        &mut self,
+        message: &Message<'_>,
+        now: Instant,
+    ) -> Result<Told, AllocError>
+        requires { IsSome (challenge_in self.old message.now) }
+        ensures answer { (challenge : Challenge) → challenge_in self.old message.now ≡ Some challenge → IfOk result (λ told. outcome_in message.now told ≡ (challenge_step message.now challenge now self.old).0) }
+        ensures part { IfOk result (IsPart message.now self.old self.new) }
+        ensures after { (challenge : Challenge) → challenge_in self.old message.now ≡ Some challenge → OnOk result (self.new ≡ (challenge_step message.now challenge now self.old).1) }
+        ensures err { OnErr result (self.new ≡ self.old) }
+    {
+        if self.challenges < MOST_CHALLENGES {
+            return self.answer_challenge(message, now);
+        }
+        self.fail()?;
+        Ok(Told::Handled)
+    }
+
+    /// Answers the challenge where its ID is listed for something that is asked for over the control
+    /// connection.
+    ///
+    /// # Errors
+    ///
+    /// There is no memory. Nothing changes then.
+    fn answer_challenge(&mut self, message: &Message<'_>, now: Instant) -> Result<Told, AllocError>
+        requires challenge { IsSome (challenge_in self.old message.now) }
+        requires few { self.old.challenges < 9 }
+        ensures answer { (challenge : Challenge) → challenge_in self.old message.now ≡ Some challenge → IfOk result (λ told. outcome_in message.now told ≡ (challenge_step message.now challenge now self.old).0) }
+        ensures part { IfOk result (IsPart message.now self.old self.new) }
+        ensures after { (challenge : Challenge) → challenge_in self.old message.now ≡ Some challenge → OnOk result (self.new ≡ (challenge_step message.now challenge now self.old).1) }
+        ensures err { OnErr result (self.new ≡ self.old) }
+    {
+        let purposes = self.ledger.table().purposes_of(message.transaction_id());
+        let Some(purpose) = retried(&purposes) else {
+            return Ok(Told::Ignored);
+        };
+        self.ask_again(message, &purpose, now)?;
+        Ok(Told::Handled)
+    }
+
+    /// Takes what the challenge gives, and makes the request of its ID again for this purpose. The old one
+    /// awaits no response any more.
+    ///
+    /// # Errors
+    ///
+    /// There is no memory. Nothing changes then.
+    fn ask_again(
+        &mut self,
+        message: &Message<'_>,
+        purpose: &Purpose,
+        now: Instant,
+    ) -> Result<(), AllocError>
+        requires challenge { IsSome (challenge_in self.old message.now) }
+        requires few { self.old.challenges < 9 }
+        requires asked { retried (purposes_of (id_of message.now) self.old) ≡ Some purpose.now }
+        ensures ok { (challenge : Challenge) → challenge_in self.old message.now ≡ Some challenge → OnOk result (self.new ≡ state_after_retry self.old (id_of message.now) purpose.now challenge now) }
+        ensures err { OnErr result (self.new ≡ self.old) }
+    {
+        let Some(challenge) = self.auth.challenge_in(message)? else {
+            unreachable!();
+        };
+        let id = message.transaction_id();
+        let fresh = self.fresh_id();
+        let text = request_under(
+            self.alloc,
+            &self.auth,
+            &challenge,
+            self.ledger.transport(),
+            self.families.as_slice(),
+            purpose,
+            fresh,
+        )?;
+        self.ledger.reserve(0, 2, 0)?;
+        let from = self.outbox.local_addr();
+        self.outbox.ask(fresh, text, from, now)?;
+        self.outbox.end(id);
+        self.ledger.ask_again(id, fresh);
+        self.auth.accept(challenge);
+        self.phase = after_challenge(self.phase);
+        self.challenges += 1;
+        Ok(())
+    }
+}
+
+/// Once it is answered, the first ALLOCATE is a signed one.
+fn after_challenge(phase: Phase) -> Phase
+    ensures { result ≡ phase_after phase }
+{
+    match phase {
+        Phase::Requesting => Phase::Authenticating,
+        Phase::New => Phase::New,
+        Phase::Authenticating => Phase::Authenticating,
+        Phase::Allocated => Phase::Allocated,
+        Phase::Closed => Phase::Closed,
+    }
+}

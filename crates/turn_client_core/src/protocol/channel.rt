@@ -1,0 +1,90 @@
+//! Channels (RFC 8656, section 12).
+
+ghost use Rattle.std.specs.List.{list_any};
+ghost use Rattle.std.specs.Prelude.{◌≡◌, ◌&&◌, false, nat_le, nat_lt, true, IsSome, OnErr, OnOk};
+ghost use Rattle.turn_client_api.specs.Answers.{BindsChannel};
+ghost use Rattle.turn_client_api.specs.Calls.{bind_channel, bind_channel_step, channel_step, channels_to, is_in_progress, is_number_taken};
+ghost use Rattle.turn_client_api.specs.State.{State};
+
+use crate::protocol::TurnClientProtocol;
+use std::alloc::AllocError;
+use std::net::SocketAddr;
+use turn_client_api::{BindChannelError, Grant, Progress, Purpose};
+use turn_client_grants::Purposes;
+use turn_stun::instant::Instant;
+use turn_stun::transport::TransportType;
+
+impl TurnClientProtocol {
+    /// Asks the server to bind a channel to this peer: a CHANNEL_BIND is queued (RFC 8656, section 12.1).
+    /// Where no permission for the peer is there or asked for, one comes with it.
+    ///
+    /// # Errors
+    ///
+    /// In this order: `NoAllocation` as for `create_permission`; `AlreadyExists` where the peer has a
+    /// channel, or one is asked for; `ExpiredChannelExists` where it had one that is still reserved, with
+    /// the moment up to which the first of these is; `NoAllocation` where the client has ended;
+    /// `AlreadyExists` where all numbers are taken; `OutOfMemory`. Nothing else changes then.
+    pub fn bind_channel(
+        &mut self,
+        transport: TransportType,
+        peer_addr: SocketAddr,
+        now: Instant,
+    ) -> Result<(), BindChannelError>
+        ensures step { BindsChannel result self.old self.new (bind_channel_step transport peer_addr now self.old) }
+    {
+        let ip = peer_addr.ip();
+        let Some(relay) = self.allocation_for(transport, ip) else {
+            return Err(BindChannelError::NoAllocation);
+        };
+        if relay.expiry <= now {
+            self.expire(ip);
+            return Err(BindChannelError::NoAllocation);
+        }
+        self.ask_channel(peer_addr, now)
+    }
+
+    /// The same in an allocation that can be used.
+    fn ask_channel(&mut self, peer: SocketAddr, now: Instant) -> Result<(), BindChannelError>
+        ensures step { BindsChannel result self.old self.new (channel_step peer now self.old) }
+    {
+        if self.has_channel(peer) {
+            return Err(BindChannelError::AlreadyExists);
+        }
+        if let Some(until) = self.reserved_until(peer, now) {
+            return Err(BindChannelError::ExpiredChannelExists(until));
+        }
+        if !self.is_allocated() {
+            return Err(BindChannelError::NoAllocation);
+        }
+        let Some(number) = self.free_number() else {
+            return Err(BindChannelError::AlreadyExists);
+        };
+        match self.ask_number(number, peer, now) {
+            Ok(()) => Ok(()),
+            Err(_) => Err(BindChannelError::OutOfMemory),
+        }
+    }
+
+    /// Asks for the channel of this number, and for a permission where none is there or asked for.
+    ///
+    /// # Errors
+    ///
+    /// `AllocError` where there is no memory. Nothing changes then.
+    fn ask_number(&mut self, number: u16, peer: SocketAddr, now: Instant) -> Result<(), AllocError>
+        requires held { IsSome self.old.held }
+        requires numbered { (nat_le 0x4000 number && nat_lt number 0x5000) ≡ true }
+        requires free { is_number_taken number self.old ≡ false }
+        requires new { list_any is_in_progress (channels_to peer self.old) ≡ false }
+        ensures ok { OnOk result (self.new ≡ bind_channel number peer now self.old) }
+        ensures err { OnErr result (self.new ≡ self.old) }
+    {
+        let channel = Purpose::ForChannel(number, peer);
+        let grant = Grant::Channel(number, peer, Progress::Pending);
+        if self.permission_for(peer.ip()).is_some() {
+            return self.ask(&channel, &Purposes::one(channel), &[grant], now);
+        }
+        let permission = Grant::Permission(peer.ip(), Progress::Pending);
+        let purposes = Purposes::two(channel, Purpose::ForPermission(peer.ip()));
+        self.ask(&channel, &purposes, &[grant, permission], now)
+    }
+}

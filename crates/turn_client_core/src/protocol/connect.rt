@@ -1,0 +1,64 @@
+//! Data connections that a client asks for (RFC 6062, section 4.3).
+
+ghost use Rattle.turn_client_api.specs.Answers.{Connects};
+ghost use Rattle.turn_client_api.specs.Calls.{connect_step, tcp_connect_step};
+
+use crate::protocol::TurnClientProtocol;
+use std::net::SocketAddr;
+use turn_client_api::{Grant, Purpose, TcpConnectError};
+use turn_client_grants::Purposes;
+use turn_stun::instant::Instant;
+use turn_stun::transport::TransportType;
+
+impl TurnClientProtocol {
+    /// Asks the server to connect to this peer: a CONNECT is queued (RFC 6062, section 4.3).
+    ///
+    /// # Errors
+    ///
+    /// In this order: `NoAllocation` where no allocation relays over TCP to addresses of this IP version,
+    /// or where it is past its end, and it is expired then; `NoAllocation` where the client has ended;
+    /// `NoPermission` where the peer has none; `AlreadyExists` where a connection to the peer is there, is
+    /// asked for, or waits for the caller's socket; `OutOfMemory`. Nothing else changes then.
+    pub fn tcp_connect(
+        &mut self,
+        peer_addr: SocketAddr,
+        now: Instant,
+    ) -> Result<(), TcpConnectError>
+        ensures step { Connects result self.old self.new (tcp_connect_step peer_addr now self.old) }
+    {
+        let ip = peer_addr.ip();
+        let Some(relay) = self.allocation_for(TransportType::Tcp, ip) else {
+            return Err(TcpConnectError::NoAllocation);
+        };
+        if relay.expiry <= now {
+            self.expire(ip);
+            return Err(TcpConnectError::NoAllocation);
+        }
+        self.ask_connection(peer_addr, now)
+    }
+
+    /// The same in an allocation that can be used.
+    fn ask_connection(&mut self, peer: SocketAddr, now: Instant) -> Result<(), TcpConnectError>
+        ensures step { Connects result self.old self.new (connect_step peer now self.old) }
+    {
+        if !self.is_allocated() {
+            return Err(TcpConnectError::NoAllocation);
+        }
+        if !self.is_permitted(peer.ip()) {
+            return Err(TcpConnectError::NoPermission);
+        }
+        if self.has_connection(peer) {
+            return Err(TcpConnectError::AlreadyExists);
+        }
+        let purpose = Purpose::ForConnect(peer);
+        match self.ask(
+            &purpose,
+            &Purposes::one(purpose),
+            &[Grant::Connect(peer)],
+            now,
+        ) {
+            Ok(()) => Ok(()),
+            Err(_) => Err(TcpConnectError::OutOfMemory),
+        }
+    }
+}

@@ -1,0 +1,78 @@
+//! What peers send: DATA indications and channel frames (RFC 8656, sections 11.6 and 12.6).
+
+ghost use Rattle.std.specs.Prelude.{◌≡◌, ◌≤◌, ◌+◌, length};
+ghost use Rattle.std.specs.Net.Socket.{socket_ip};
+ghost use Rattle.std.specs.Option.{option_map_or};
+ghost use Rattle.turn_client_api.specs.Grants.{is_permitted};
+ghost use Rattle.turn_client_api.specs.Payloads.{channel_sent, data_indicated};
+ghost use Rattle.turn_client_core.specs.Indication.{let_in};
+ghost use Rattle.turn_client_core.specs.Told.{IsPart, outcome_in};
+ghost use Rattle.turn_client_core.specs.declared.told.Told.TheVariants.{Ignored, PeerIcmp};
+ghost use Rattle.turn_types.specs.Channel.{channel_at};
+
+use crate::indication::Indication;
+use crate::protocol::TurnClientProtocol;
+use crate::told::Told;
+use std::net::SocketAddr;
+use turn_stun::message::Message;
+use turn_types::attribute::Icmp;
+use turn_types::channel::ChannelData;
+
+impl TurnClientProtocol {
+    /// What a DATA indication gives: data of a peer whose IP address has a permission, whether or not its
+    /// allocation is expired, or where there is no data an ICMP error. Takes no memory.
+    pub(super) fn data_indicated(&self, message: &Message<'_>) -> Told
+        ensures outcome { outcome_in message.now result ≡ data_indicated self.now message.now }
+        ensures part { IsPart message.now self.now self.now result }
+    {
+        let found = Indication::of(message);
+        if found.has_unknown() {
+            return Told::Ignored;
+        }
+        let Some(peer) = found.peer(message.transaction_id()) else {
+            return Told::Ignored;
+        };
+        match found.data_place(message.as_bytes()) {
+            Some(place) => {
+                self.let_in(peer, Told::PeerData(self.ledger.transport(), peer, place))
+            }
+            None => self.icmp_indicated(peer, &found.icmp(message.transaction_id())),
+        }
+    }
+
+    /// What a DATA indication without data gives.
+    fn icmp_indicated(&self, peer: SocketAddr, icmp: &Option<Icmp>) -> Told
+        ensures { result ≡ option_map_or (λ icmp. let_in (is_permitted (socket_ip peer) self.now) (PeerIcmp self.now.config.allocation_transport peer icmp)) icmp.now Ignored }
+    {
+        match icmp {
+            Some(icmp) => {
+                self.let_in(peer, Told::PeerIcmp(self.ledger.transport(), peer, *icmp))
+            }
+            None => Told::Ignored,
+        }
+    }
+
+    /// What a channel frame gives, which these bytes begin with: data of the peer whose active channel has the
+    /// number, in any phase. Takes no memory.
+    pub(super) fn channel_sent(&self, bytes: &[u8], frame: &ChannelData<'_>) -> Told
+        requires frame { frame.now ≡ channel_at bytes.now }
+        requires whole { 4 + length frame.now.payload ≤ length bytes.now }
+        ensures outcome { outcome_in bytes.now result ≡ channel_sent self.now bytes.now }
+        ensures part { IsPart bytes.now self.now self.now result }
+    {
+        match self.ledger.table().channel_peer(frame.id()) {
+            Some(peer) => Told::PeerData(self.ledger.transport(), peer, 4..4 + frame.data().len()),
+            None => Told::Ignored,
+        }
+    }
+
+    /// This, which came from the peer, where the server lets the peer's IP address through.
+    fn let_in(&self, peer: SocketAddr, told: Told) -> Told
+        ensures { result ≡ let_in (is_permitted (socket_ip peer) self.now) told }
+    {
+        if self.is_permitted(peer.ip()) {
+            return told;
+        }
+        Told::Ignored
+    }
+}

@@ -1,0 +1,67 @@
+//! How a client gives its allocations back (RFC 8656, section 8).
+
+ghost use Rattle.std.specs.Prelude.{◌≡◌, IfOk, IsSome, OnErr, OnOk};
+ghost use Rattle.turn_client_api.specs.Answers.{Deletes};
+ghost use Rattle.turn_client_api.specs.Calls.{delete_step, delete_text, deleted};
+ghost use Rattle.turn_client_api.specs.Requests.{fresh_id};
+
+use crate::protocol::TurnClientProtocol;
+use std::alloc::AllocError;
+use turn_client_api::DeleteError;
+use turn_client_requests::delete_request;
+use turn_stun::data::Data;
+use turn_stun::instant::Instant;
+use turn_stun::transaction::TransactionId;
+
+impl TurnClientProtocol {
+    /// Gives all allocations back: a REFRESH with a lifetime of 0 is queued (RFC 8656, section 8.1).
+    /// Permissions and channels are gone at once. What is asked for may still be granted.
+    ///
+    /// # Errors
+    ///
+    /// `NoAllocation` where the client has not been granted any, or has ended. `OutOfMemory`. Nothing
+    /// changes then.
+    pub fn delete(&mut self, now: Instant) -> Result<(), DeleteError>
+        ensures step { Deletes result self.old self.new (delete_step now self.old) }
+    {
+        if !self.is_allocated() {
+            return Err(DeleteError::NoAllocation);
+        }
+        match self.give_back(now) {
+            Ok(()) => Ok(()),
+            Err(_) => Err(DeleteError::OutOfMemory),
+        }
+    }
+
+    /// One REFRESH gives all allocations back.
+    ///
+    /// # Errors
+    ///
+    /// `AllocError` where there is no memory. Nothing changes then.
+    fn give_back(&mut self, now: Instant) -> Result<(), AllocError>
+        requires { IsSome self.old.held }
+        ensures ok { OnOk result (self.new ≡ deleted now self.old) }
+        ensures err { OnErr result (self.new ≡ self.old) }
+    {
+        let id = self.fresh_id();
+        let from = self.local_addr();
+        let text = self.delete_text(id)?;
+        self.ledger.reserve(0, 2, 0)?;
+        self.outbox.ask(id, text, from, now)?;
+        self.ledger.give_back(id, now);
+        Ok(())
+    }
+
+    /// The REFRESH that gives all allocations back. `id` is the client's next transaction ID.
+    ///
+    /// # Errors
+    ///
+    /// `AllocError` where there is no memory.
+    fn delete_text(&self, id: TransactionId) -> Result<Data, AllocError>
+        requires held { IsSome self.now.held }
+        requires next { id ≡ fresh_id self.now }
+        ensures { IfOk result (λ text. text ≡ delete_text self.now) }
+    {
+        delete_request(self.alloc, &self.auth, id)
+    }
+}

@@ -1,0 +1,120 @@
+//! A whole message of the server (RFC 8656, sections 7 to 12; RFC 6062, section 4).
+
+ghost use Rattle.std.specs.Prelude.{◌≡◌, [], IfOk, OnErr, OnOk, false, true};
+ghost use Rattle.turn_agent.specs.Agent.{is_outstanding};
+ghost use Rattle.turn_client_api.specs.Payloads.{message_step, signed_step};
+ghost use Rattle.turn_client_core.specs.Attempts.{CanSign, request_step};
+ghost use Rattle.turn_client_core.specs.Replies.{is_authenticating};
+ghost use Rattle.turn_client_core.specs.Told.{IsPart, outcome_in};
+ghost use Rattle.turn_stun.specs.Message.{id_of};
+
+use crate::protocol::TurnClientProtocol;
+use crate::protocol::judge::Judged;
+use crate::told::Told;
+use std::alloc::AllocError;
+use turn_client_api::Phase;
+use turn_stun::instant::Instant;
+use turn_stun::message::Message;
+use turn_types::message::CONNECTION_ATTEMPT;
+
+impl TurnClientProtocol {
+    /// Takes a message of the control connection, or over UDP a datagram that is one.
+    ///
+    /// # Errors
+    ///
+    /// There is no memory. Nothing changes then.
+    pub(super) fn message(
+        &mut self,
+        message: &Message<'_>,
+        now: Instant,
+    ) -> Result<Told, AllocError>
+        requires before { self.old.phase ≡ Phase.Authenticating → self.old.grants ≡ [] }
+        ensures answer { IfOk result (λ told. outcome_in message.now told ≡ (message_step message.now now self.old).0) }
+        ensures part { IfOk result (IsPart message.now self.old self.new) }
+        ensures after { OnOk result (self.new ≡ (message_step message.now now self.old).1) }
+        ensures err { OnErr result (self.new ≡ self.old) }
+    {
+        let judged = self.judge(message);
+        match judged {
+            Judged::Unrelated => Ok(Told::Ignored),
+            Judged::Challenged => self.challenged(message, now),
+            Judged::Fatal => self.fatal(message),
+            Judged::LateResponse => Ok(Told::Handled),
+            Judged::DataIndication => Ok(self.data_indicated(message)),
+            Judged::ConnectionAttempt => self.attempt_indicated(message),
+            Judged::SignedRequest => self.requested(message),
+            Judged::SignedSuccess => self.succeeded(message, now),
+            Judged::SignedError => self.failed(message, now),
+        }
+    }
+
+    /// Takes a signed request of the server. Only a ConnectionAttempt is for a client.
+    ///
+    /// # Errors
+    ///
+    /// There is no memory. Nothing changes then.
+    fn requested(&mut self, message: &Message<'_>) -> Result<Told, AllocError>
+        requires { CanSign self.old.phase }
+        ensures answer { IfOk result (λ told. outcome_in message.now told ≡ (request_step message.now self.old).0) }
+        ensures part { IfOk result (IsPart message.now self.old self.new) }
+        ensures after { OnOk result (self.new ≡ (request_step message.now self.old).1) }
+        ensures err { OnErr result (self.new ≡ self.old) }
+    {
+        if message.method() != CONNECTION_ATTEMPT {
+            return Ok(Told::Ignored);
+        }
+        self.attempt_requested(message)?;
+        Ok(Told::Handled)
+    }
+
+    /// Takes a signed success, whose request is outstanding.
+    ///
+    /// # Errors
+    ///
+    /// There is no memory. Nothing changes then.
+    fn succeeded(&mut self, message: &Message<'_>, now: Instant) -> Result<Told, AllocError>
+        requires before { self.old.phase ≡ Phase.Authenticating → self.old.grants ≡ [] }
+        ensures answer { IfOk result (λ told. outcome_in message.now told ≡ (signed_step true message.now now self.old).0) }
+        ensures part { IfOk result (IsPart message.now self.old self.new) }
+        ensures after { OnOk result (self.new ≡ (signed_step true message.now now self.old).1) }
+        ensures err { OnErr result (self.new ≡ self.old) }
+    {
+        if self.is_authenticating() {
+            self.allocate_granted(message, now)?;
+            return Ok(Told::Handled);
+        }
+        self.respond(message, true, now)
+    }
+
+    /// Takes a signed error, whose request is outstanding.
+    ///
+    /// # Errors
+    ///
+    /// There is no memory. Nothing changes then.
+    fn failed(&mut self, message: &Message<'_>, now: Instant) -> Result<Told, AllocError>
+        requires { self.old.phase ≡ Phase.Authenticating → is_outstanding (id_of message.now) self.old.transactions ≡ true }
+        ensures answer { IfOk result (λ told. outcome_in message.now told ≡ (signed_step false message.now now self.old).0) }
+        ensures part { IfOk result (IsPart message.now self.old self.new) }
+        ensures after { OnOk result (self.new ≡ (signed_step false message.now now self.old).1) }
+        ensures err { OnErr result (self.new ≡ self.old) }
+    {
+        if self.is_authenticating() {
+            self.allocate_denied(message, now)?;
+            return Ok(Told::Handled);
+        }
+        self.respond(message, false, now)
+    }
+
+    /// Whether a signed ALLOCATE awaits its response.
+    fn is_authenticating(&self) -> bool
+        ensures { result ≡ is_authenticating self.now.phase }
+    {
+        match self.phase {
+            Phase::New => false,
+            Phase::Requesting => false,
+            Phase::Authenticating => true,
+            Phase::Allocated => false,
+            Phase::Closed => false,
+        }
+    }
+}

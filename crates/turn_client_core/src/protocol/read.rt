@@ -1,0 +1,131 @@
+//! What can be read off a client.
+
+ghost use Rattle.std.specs.List.{list_any};
+ghost use Rattle.std.specs.Prelude.{◌≡◌, ◌&&◌, ◌||◌, false, filter_map, nat_le, nat_lt, slice_get, true, IfSome};
+ghost use Rattle.turn_client_api.specs.Addresses.{permitted_left, relayed_left};
+ghost use Rattle.turn_client_api.specs.Calls.{channels_to, free_number, has_permission, is_in_progress, is_number_taken, permissions_of, relayed_addresses_of, reserved_from};
+ghost use Rattle.turn_client_api.specs.Connections.{is_connected, is_connecting};
+ghost use Rattle.turn_client_api.specs.Grants.{is_permitted, permission_for};
+
+use crate::protocol::TurnClientProtocol;
+use std::net::{IpAddr, SocketAddr};
+use turn_client_api::{PermissionAddressesIter, Progress, RelayedAddressesIter};
+use turn_stun::instant::Instant;
+use turn_stun::transport::TransportType;
+
+impl TurnClientProtocol {
+    /// What carries the packets between the client and its server.
+    pub fn transport(&self) -> TransportType
+        ensures { result ≡ self.now.transport }
+    {
+        self.outbox.transport()
+    }
+
+    /// The client's end of the control connection.
+    pub fn local_addr(&self) -> SocketAddr
+        ensures { result ≡ self.now.local }
+    {
+        self.outbox.local_addr()
+    }
+
+    /// The server's address.
+    pub fn remote_addr(&self) -> SocketAddr
+        ensures { result ≡ self.now.remote }
+    {
+        self.outbox.remote_addr()
+    }
+
+    /// The addresses that the server relays for the client, with their transports, in the order in which
+    /// it granted them (RFC 8656, section 7.3). Expired allocations are passed over.
+    pub fn relayed_addresses(&self) -> RelayedAddressesIter<'_>
+        ensures { relayed_left result ≡ relayed_addresses_of self.now }
+    {
+        self.ledger.relayed_addresses()
+    }
+
+    /// The peer addresses that have a permission in the allocation with this relayed address, in the order
+    /// in which the server granted them (RFC 8656, section 9). There are none where no allocation has it,
+    /// or it is expired.
+    pub fn permissions(
+        &self,
+        transport: TransportType,
+        relayed: SocketAddr,
+    ) -> PermissionAddressesIter<'_>
+        ensures { permitted_left result ≡ permissions_of transport relayed self.now }
+    {
+        self.ledger.permissions(transport, relayed)
+    }
+
+    /// Whether the server lets this peer address through. Expired allocations are passed over; whether the
+    /// permission is past its end is not looked at.
+    pub fn have_permission(&self, transport: TransportType, to: IpAddr) -> bool
+        ensures { result ≡ has_permission transport to self.now }
+    {
+        self.ledger.has_permission(transport, to)
+    }
+}
+
+impl TurnClientProtocol {
+    /// How far the permission for this IP address has come.
+    pub(super) fn permission_for(&self, ip: IpAddr) -> Option<Progress>
+        ensures { result ≡ permission_for ip self.now }
+    {
+        self.ledger.table().permission_for(ip)
+    }
+
+    /// Whether the server lets this IP address through.
+    pub(super) fn is_permitted(&self, ip: IpAddr) -> bool
+        ensures { result ≡ is_permitted ip self.now }
+    {
+        match self.permission_for(ip) {
+            Some(progress) => matches!(progress, Progress::Active(_)),
+            None => false,
+        }
+    }
+
+    /// Whether a channel to the peer is pending or active.
+    pub(super) fn has_channel(&self, peer: SocketAddr) -> bool
+        ensures { result ≡ list_any is_in_progress (channels_to peer self.now) }
+    {
+        self.ledger.table().has_channel(peer)
+    }
+
+    /// Up to when a reserved channel keeps the peer from being bound, if that is now or later. Of several
+    /// it is the first.
+    pub(super) fn reserved_until(&self, peer: SocketAddr, now: Instant) -> Option<Instant>
+        ensures { result ≡ slice_get (filter_map (reserved_from now) (channels_to peer self.now)) 0 }
+    {
+        self.ledger.table().reserved_until(peer, now)
+    }
+
+    /// The least channel number that no channel has. It is one that a client may bind (RFC 8656, section
+    /// 12).
+    pub(super) fn free_number(&self) -> Option<u16>
+        ensures found { result ≡ free_number self.now }
+        ensures numbered { IfSome result (λ number. (nat_le 0x4000 number && nat_lt number 0x5000) ≡ true) }
+        ensures free { IfSome result (λ number. is_number_taken number self.now ≡ false) }
+    {
+        self.ledger.table().free_number()
+    }
+
+    /// Whether a data connection to the peer is there, the caller is to open it, or it is asked for.
+    pub(super) fn has_connection(&self, peer: SocketAddr) -> bool
+        ensures { result ≡ (is_connected peer self.now || is_connecting peer self.now) }
+    {
+        self.is_connected(peer) || self.is_connecting(peer)
+    }
+
+    /// Whether a data connection to the peer is there, or the caller is to open it.
+    pub(super) fn is_connected(&self, peer: SocketAddr) -> bool
+        ensures { result ≡ is_connected peer self.now }
+    {
+        self.ledger.table().is_connected(peer)
+    }
+
+    /// Whether a data connection to the peer is asked for.
+    pub(super) fn is_connecting(&self, peer: SocketAddr) -> bool
+        ensures { result ≡ is_connecting peer self.now }
+    {
+        self.ledger.table().is_connecting(peer)
+    }
+}

@@ -1,0 +1,136 @@
+//! Requests that a client makes.
+
+ghost use Rattle.std.specs.List.{list_all, list_any, range_with_len};
+ghost use Rattle.std.specs.Prelude.{◌≡◌, ◌↔◌, ◌<◌, ◌+◌, ◌%◌, ◌^◌, ◌==◌, false, find, map, not, true, IfOk, IsSome, IsTrue, OnErr, OnOk};
+ghost use Rattle.turn_agent.specs.Agent.{is_outstanding};
+ghost use Rattle.turn_client_api.specs.Calls.{is_allocated};
+ghost use Rattle.turn_client_api.specs.Grants.{is_listed};
+ghost use Rattle.turn_client_api.specs.Requests.{fresh_id, is_taken, request_for, sent_from};
+ghost use Rattle.turn_client_core.specs.Asked.{asks};
+ghost use Rattle.turn_client_grants.specs.Table.{are_new, is_numbered};
+ghost use Rattle.turn_client_grants.specs.Which.{purposes_in};
+
+use crate::protocol::TurnClientProtocol;
+use std::alloc::AllocError;
+use std::net::SocketAddr;
+use turn_client_api::{Grant, Phase, Purpose};
+use turn_client_grants::Purposes;
+use turn_client_requests::request_for;
+use turn_stun::data::Data;
+use turn_stun::instant::Instant;
+use turn_stun::transaction::TransactionId;
+
+impl TurnClientProtocol {
+    /// Whether the server allocated an address. Requests can be signed then.
+    pub(super) fn is_allocated(&self) -> bool
+        ensures value { result ≡ is_allocated self.now.phase }
+        ensures phase { IsTrue result ↔ (self.now.phase ≡ Phase.Allocated) }
+        ensures held { IsTrue result → IsSome self.now.held }
+    {
+        self.phase == Phase::Allocated
+    }
+
+    /// Whether an outstanding request, a listed one or one of the server that is to be answered has this ID.
+    fn is_taken(&self, id: TransactionId) -> bool
+        ensures { result ≡ is_taken id self.now }
+    {
+        self.outbox.is_outstanding(id) || self.is_listed(id)
+    }
+
+    /// Whether a request of this ID is listed, or one of the server that is to be answered has it.
+    pub(super) fn is_listed(&self, id: TransactionId) -> bool
+        ensures { result ≡ is_listed id self.now }
+    {
+        self.ledger.table().is_listed(id)
+    }
+
+    /// The first of so many IDs, counted up from this one modulo 2^96, that is not taken.
+    fn first_free(&self, first: TransactionId, count: u128) -> Option<TransactionId>
+        requires range { first < 2 ^ 96 }
+        requires count { count < 2 ^ 96 }
+        ensures { result ≡ find (λ id. not (is_taken id self.now)) (map (λ n. (first + n) % 2 ^ 96) (range_with_len 0 count)) }
+    {
+        let mut id = first;
+        for _turn in 0..count {
+            if !self.is_taken(id) {
+                return Some(id);
+            }
+            id = id.successor();
+        }
+        None
+    }
+
+    /// The ID of the next request: what the seed gives, or where that is taken the first after it that is
+    /// not. Among one more than are taken, one is free.
+    pub(super) fn fresh_id(&self) -> TransactionId
+        ensures id { result ≡ fresh_id self.now }
+        ensures unsent { is_outstanding result self.now.transactions ≡ false }
+        ensures unlisted { list_any (λ l. l.id == result) self.now.listed ≡ false }
+    {
+        let first = self.outbox.candidate();
+        let _bytes = first.to_bytes();
+        let taken = self.outbox.outstanding() as u128
+            + self.ledger.table().listing_count() as u128
+            + self.ledger.table().count() as u128;
+        self.first_free(first, taken + 1).unwrap_or(first)
+    }
+
+    /// From where a request for this purpose is sent: a CONNECTION_BIND goes over the connection that it
+    /// binds (RFC 6062, section 4.3).
+    pub(super) fn sent_from(&self, purpose: &Purpose) -> SocketAddr
+        ensures { result ≡ sent_from self.now purpose.now }
+    {
+        match purpose {
+            Purpose::ForBind(local, _, _) => *local,
+            _ => self.outbox.local_addr(),
+        }
+    }
+
+    /// The signed request of this ID for a purpose.
+    ///
+    /// # Errors
+    ///
+    /// `AllocError` where there is no memory.
+    pub(super) fn text_for(&self, purpose: &Purpose, id: TransactionId) -> Result<Data, AllocError>
+        requires { IsSome self.now.held }
+        ensures { IfOk result (λ text. text ≡ request_for self.now purpose.now id) }
+    {
+        let text = request_for(
+            self.alloc,
+            &self.auth,
+            self.ledger.transport(),
+            self.families.as_slice(),
+            purpose,
+            id,
+        )?;
+        Ok(text)
+    }
+
+    /// A request for the purpose waits to be sent. It is listed for these purposes, and asks for these
+    /// grants, which come after all others. They are none of those that are there, and differ.
+    ///
+    /// # Errors
+    ///
+    /// `AllocError` where there is no memory. Nothing changes then.
+    pub(super) fn ask(
+        &mut self,
+        purpose: &Purpose,
+        purposes: &Purposes,
+        grants: &[Grant],
+        now: Instant,
+    ) -> Result<(), AllocError>
+        requires held { IsSome self.old.held }
+        requires numbered { list_all is_numbered grants.now ≡ true }
+        requires new { are_new self.old.grants grants.now ≡ true }
+        ensures ok { OnOk result (self.new ≡ asks purpose.now (purposes_in purposes.now) grants.now now self.old) }
+        ensures err { OnErr result (self.new ≡ self.old) }
+    {
+        let id = self.fresh_id();
+        let from = self.sent_from(purpose);
+        let text = self.text_for(purpose, id)?;
+        self.ledger.reserve(grants.len(), 2, 0)?;
+        self.outbox.ask(id, text, from, now)?;
+        self.ledger.ask(id, grants, purposes);
+        Ok(())
+    }
+}

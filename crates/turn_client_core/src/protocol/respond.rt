@@ -1,0 +1,147 @@
+//! Signed replies of the server to requests that are outstanding (RFC 8656, sections 7.4, 8.3, 10.3 and
+//! 12.3; RFC 6062, section 4.3).
+
+ghost use Rattle.std.specs.Prelude.{◌≡◌, ◌∷◌, [], IfOk, OnErr, OnOk, true};
+ghost use Rattle.turn_agent.specs.Agent.{is_outstanding};
+ghost use Rattle.turn_client_api.specs.Effect.{allocate_denied, ended};
+ghost use Rattle.turn_client_api.specs.Payloads.{outcome_for, response_step};
+ghost use Rattle.turn_client_api.specs.Requests.{fresh_id, requested};
+ghost use Rattle.turn_client_api.specs.State.{State};
+ghost use Rattle.turn_client_core.specs.Effects.{after};
+ghost use Rattle.turn_client_core.specs.Told.{IsPart, outcome_in};
+ghost use Rattle.turn_client_core.specs.Replies.{asks_ipv6};
+ghost use Rattle.turn_client_grants.specs.Which.{purposes_in};
+ghost use Rattle.turn_stun.specs.Message.{id_of};
+
+use crate::asked::answered;
+use crate::effect::{Effect, answer_all};
+use crate::protocol::TurnClientProtocol;
+use crate::reply::has_code;
+use crate::told::Told;
+use smallvec::SmallVec;
+use std::alloc::{AllocError, Global};
+use turn_client_api::{Phase, Purpose, TurnEvent};
+use turn_client_grants::Purposes;
+use turn_client_requests::request_for;
+use turn_stun::attribute::error_code::ErrorCode;
+use turn_stun::instant::Instant;
+use turn_stun::message::Message;
+use turn_types::AddressFamily;
+use turn_types::message::REFRESH;
+
+impl TurnClientProtocol {
+    /// The reply to a request of a client with an allocation.
+    ///
+    /// # Errors
+    ///
+    /// There is no memory. Nothing changes then.
+    pub(super) fn respond(
+        &mut self,
+        message: &Message<'_>,
+        is_granted: bool,
+        now: Instant,
+    ) -> Result<Told, AllocError>
+        ensures answer { IfOk result (λ told. outcome_in message.now told ≡ (response_step is_granted message.now now self.old).0) }
+        ensures part { IfOk result (IsPart message.now self.old self.new) }
+        ensures after { OnOk result (self.new ≡ (response_step is_granted message.now now self.old).1) }
+        ensures err { OnErr result (self.new ≡ self.old) }
+    {
+        let id = message.transaction_id();
+        let purposes = answered(message.method(), &self.ledger.table().purposes_of(id));
+        self.ledger.reserve(6, 0, 6)?;
+        self.outbox.end(id);
+        let effect = answer_all(&mut self.ledger, &purposes, message, is_granted, now);
+        self.heed(effect);
+        Ok(told_of(message, &purposes))
+    }
+
+    /// What a reply changes beside the grants.
+    fn heed(&mut self, effect: Effect)
+        ensures { self.new ≡ after effect self.old }
+    {
+        match effect {
+            Effect::Nothing => {}
+            Effect::Taken => self.challenges = 0,
+            Effect::GivenBack => {
+                self.challenges = 0;
+                self.phase = Phase::Closed;
+            }
+        }
+    }
+
+    /// The server allocates no address. Where it has none of one of two families, IPv4 is given up, and IPv6
+    /// asked for alone (RFC 8656, section 7.4); else the client ends.
+    ///
+    /// # Errors
+    ///
+    /// There is no memory. Nothing changes then.
+    pub(super) fn allocate_denied(
+        &mut self,
+        message: &Message<'_>,
+        now: Instant,
+    ) -> Result<(), AllocError>
+        requires phase { self.old.phase ≡ Phase.Authenticating }
+        requires outstanding { is_outstanding (id_of message.now) self.old.transactions ≡ true }
+        ensures ok { OnOk result (self.new ≡ allocate_denied (fresh_id self.old) message.now now (ended (id_of message.now) self.old)) }
+        ensures err { OnErr result (self.new ≡ self.old) }
+    {
+        if has_code(message, ErrorCode::ADDRESS_FAMILY_NOT_SUPPORTED) && self.families.len() >= 2 {
+            return self.ask_ipv6(message, now);
+        }
+        self.fail_with(message)
+    }
+
+    /// IPv4 fails, and IPv6 is asked for alone. The request that the message answers awaits no response any
+    /// more.
+    ///
+    /// # Errors
+    ///
+    /// There is no memory. Nothing changes then.
+    fn ask_ipv6(&mut self, message: &Message<'_>, now: Instant) -> Result<(), AllocError>
+        requires phase { self.old.phase ≡ Phase.Authenticating }
+        requires outstanding { is_outstanding (id_of message.now) self.old.transactions ≡ true }
+        ensures ok { OnOk result (self.new ≡ asks_ipv6 (fresh_id self.old) now (ended (id_of message.now) self.old)) }
+        ensures err { OnErr result (self.new ≡ self.old) }
+    {
+        let fresh = self.fresh_id();
+        let text = request_for(
+            self.alloc,
+            &self.auth,
+            self.ledger.transport(),
+            &[AddressFamily::IPV6],
+            &Purpose::ForAllocation,
+            fresh,
+        )?;
+        self.ledger.reserve(0, 2, 1)?;
+        let from = self.outbox.local_addr();
+        self.outbox.ask(fresh, text, from, now)?;
+        self.outbox.end(message.transaction_id());
+        let families = only_ipv6(self.alloc);
+        self.families = families;
+        self.ledger.unlist_allocates();
+        self.ledger
+            .tell(TurnEvent::AllocationCreateFailed(AddressFamily::IPV4));
+        self.ledger
+            .ask(fresh, &[], &Purposes::one(Purpose::ForAllocation));
+        Ok(())
+    }
+}
+
+/// IPv6 alone. It takes no memory, since two families are kept in place.
+fn only_ipv6(alloc: Global) -> SmallVec<AddressFamily, 2>
+    ensures { result.items ≡ AddressFamily.IPV6 ∷ [] }
+{
+    SmallVec::from_slice(alloc, &[AddressFamily::IPV6]).unwrap()
+}
+
+/// What the caller is told of a reply: one to a REFRESH is always handled, and another one where its request
+/// was made for something of its method.
+fn told_of(message: &Message<'_>, purposes: &Purposes) -> Told
+    ensures outcome { outcome_in message.now result ≡ outcome_for message.now (purposes_in purposes.now) }
+    ensures part { (was s : State) → IsPart message.now was s result }
+{
+    if purposes.first.is_some() || purposes.second.is_some() || message.method() == REFRESH {
+        return Told::Handled;
+    }
+    Told::Ignored
+}

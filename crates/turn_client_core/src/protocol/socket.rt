@@ -1,0 +1,281 @@
+//! Data connections that the caller opens and closes (RFC 6062, sections 4.3 and 4.4).
+
+ghost use Rattle.std.specs.Prelude.{◌≡◌, ◌&&◌, codes, false, None, Some, IfOk, IsSome, IsTrue, OnErr, OnOk};
+ghost use Rattle.turn_stun.specs.declared.transport.TransportType.TheVariants.{Tcp};
+ghost use Rattle.turn_client_api.specs.Answers.{TakesSocket};
+ghost use Rattle.turn_client_api.specs.Calls.{allocated_tcp_socket_step, is_allocated, is_control, is_local_taken, offer_origin, socket_opened, socket_refused, socket_step};
+ghost use Rattle.turn_client_api.specs.Connections.{connection_at};
+ghost use Rattle.turn_client_api.specs.Grants.{same_transport};
+ghost use Rattle.turn_client_api.specs.Requests.{accepted_reply, connection_timed_out, refused_reply};
+ghost use Rattle.turn_client_core.specs.Opened.{answer_to, opened_with};
+ghost use Rattle.turn_client_api.specs.Receive.{connection_gone, tcp_closed_step};
+ghost use Rattle.turn_agent.specs.Agent.{same_address};
+
+use crate::protocol::TurnClientProtocol;
+use std::alloc::AllocError;
+use std::net::SocketAddr;
+use turn_client_api::{DataConnection, Origin, Purpose, Socket5Tuple, TcpAllocateError};
+use turn_client_requests::{AttemptRefusal, accepted_reply, refused_reply};
+use turn_stun::data::Data;
+use turn_stun::instant::Instant;
+use turn_stun::transaction::TransactionId;
+use turn_stun::transport::TransportType;
+
+impl TurnClientProtocol {
+    /// Takes the connection that `poll` told the caller to open, by the three values that it told, and by
+    /// its local end, or none where it could not be opened. The server is to bind it then: a
+    /// CONNECTION_BIND is queued, which is to be sent over the new connection (RFC 6062, section 4.3).
+    /// Where the server had asked for it by a request, that is answered.
+    ///
+    /// # Errors
+    ///
+    /// In this order: `NoAllocation` where the allocation is not over TCP, the tuple is not that of the
+    /// control connection, the client was not to open such a connection, or has ended; `AlreadyExists`
+    /// where the local address is that of the control connection or of another data connection;
+    /// `OutOfMemory`. Nothing changes then.
+    pub fn allocated_tcp_socket(
+        &mut self,
+        id: u32,
+        five_tuple: Socket5Tuple,
+        peer_addr: SocketAddr,
+        local_addr: Option<SocketAddr>,
+        now: Instant,
+    ) -> Result<(), TcpAllocateError>
+        ensures step { TakesSocket result self.old self.new (allocated_tcp_socket_step id five_tuple peer_addr local_addr now self.old) }
+    {
+        if !self.takes_sockets(&five_tuple) {
+            return Err(TcpAllocateError::NoAllocation);
+        }
+        let Some(origin) = self.offer_origin(id, peer_addr) else {
+            return Err(TcpAllocateError::NoAllocation);
+        };
+        match local_addr {
+            Some(local) => self.take_socket(id, peer_addr, local, &origin, now),
+            None => self.refuse_socket(id, peer_addr, &origin),
+        }
+    }
+
+    /// Whether the client takes data connections to the server of this control connection.
+    fn takes_sockets(&self, tuple: &Socket5Tuple) -> bool
+        ensures value { result ≡ (same_transport self.now.config.allocation_transport Tcp && is_control tuple.now self.now && is_allocated self.now.phase) }
+        ensures held { IsTrue result → IsSome self.now.held }
+    {
+        self.relays_tcp() && self.is_control(tuple) && self.is_allocated()
+    }
+
+    /// Whether allocations relay over TCP.
+    fn relays_tcp(&self) -> bool
+        ensures { result ≡ same_transport self.now.config.allocation_transport Tcp }
+    {
+        self.ledger.transport() == TransportType::Tcp
+    }
+
+    /// Whether this is the control connection.
+    fn is_control(&self, tuple: &Socket5Tuple) -> bool
+        ensures { result ≡ is_control tuple.now self.now }
+    {
+        tuple.transport == self.transport()
+            && tuple.from == self.local_addr()
+            && tuple.to == self.remote_addr()
+    }
+
+    /// Why the offer of this number and this peer was made.
+    fn offer_origin(&self, id: u32, peer: SocketAddr) -> Option<Origin>
+        ensures { result ≡ offer_origin id peer self.now }
+    {
+        self.ledger.table().offer_origin(id, peer)
+    }
+
+    /// Whether the local end is that of the control connection or of a data connection.
+    fn is_local_taken(&self, local: SocketAddr) -> bool
+        ensures { result ≡ is_local_taken local self.now }
+    {
+        local == self.local_addr() || self.connection_at(local).is_some()
+    }
+
+    /// The data connection from this local end.
+    pub(super) fn connection_at(&self, local: SocketAddr) -> Option<DataConnection>
+        ensures { result ≡ connection_at local self.now }
+    {
+        self.ledger.table().connection_at(local)
+    }
+
+    /// The caller opened the connection of an offer.
+    fn take_socket(
+        &mut self,
+        id: u32,
+        peer: SocketAddr,
+        local: SocketAddr,
+        origin: &Origin,
+        now: Instant,
+    ) -> Result<(), TcpAllocateError>
+        requires { IsSome self.old.held }
+        ensures step { TakesSocket result self.old self.new (socket_step id peer (Some local) origin.now now self.old) }
+    {
+        if self.is_local_taken(local) {
+            return Err(TcpAllocateError::AlreadyExists);
+        }
+        match self.open_socket(id, peer, local, origin, now) {
+            Ok(()) => Ok(()),
+            Err(_) => Err(TcpAllocateError::OutOfMemory),
+        }
+    }
+
+    /// The caller could not open the connection of an offer.
+    fn refuse_socket(
+        &mut self,
+        id: u32,
+        peer: SocketAddr,
+        origin: &Origin,
+    ) -> Result<(), TcpAllocateError>
+        requires { IsSome self.old.held }
+        ensures step { TakesSocket result self.old self.new (socket_step id peer None origin.now 0 self.old) }
+    {
+        match self.drop_offer(id, peer, origin) {
+            Ok(()) => Ok(()),
+            Err(_) => Err(TcpAllocateError::OutOfMemory),
+        }
+    }
+
+    /// The same, where memory is all that can be wanted: the server is to bind the connection.
+    ///
+    /// # Errors
+    ///
+    /// `AllocError` where there is no memory. Nothing changes then.
+    fn open_socket(
+        &mut self,
+        id: u32,
+        peer: SocketAddr,
+        local: SocketAddr,
+        origin: &Origin,
+        now: Instant,
+    ) -> Result<(), AllocError>
+        requires held { IsSome self.old.held }
+        requires free { is_local_taken local self.old ≡ false }
+        ensures ok { OnOk result (self.new ≡ socket_opened id peer local origin.now now self.old) }
+        ensures err { OnErr result (self.new ≡ self.old) }
+    {
+        let reply = self.acceptance(origin)?;
+        self.open_answered(reply, id, peer, local, now)?;
+        Ok(())
+    }
+
+    /// The same, with the reply that the server gets, if it asked by a request.
+    ///
+    /// # Errors
+    ///
+    /// `AllocError` where there is no memory. Nothing changes then.
+    fn open_answered(
+        &mut self,
+        reply: Option<Data>,
+        id: u32,
+        peer: SocketAddr,
+        local: SocketAddr,
+        now: Instant,
+    ) -> Result<(), AllocError>
+        requires held { IsSome self.old.held }
+        requires free { is_local_taken local self.old ≡ false }
+        ensures ok { OnOk result (self.new ≡ opened_with reply id peer local now self.old) }
+        ensures err { OnErr result (self.new ≡ self.old) }
+    {
+        let request = self.fresh_id();
+        let text = self.text_for(&Purpose::ForBind(local, peer, id), request)?;
+        self.ledger.reserve(1, 2, 0)?;
+        self.outbox
+            .ask_over(&mut self.streams, reply, request, text, local, now)?;
+        self.ledger.opened(id, peer, local, request, now);
+        Ok(())
+    }
+
+    /// The offer is gone, and the server is told so where it asked by a request.
+    ///
+    /// # Errors
+    ///
+    /// `AllocError` where there is no memory. Nothing changes then.
+    fn drop_offer(&mut self, id: u32, peer: SocketAddr, origin: &Origin) -> Result<(), AllocError>
+        requires { IsSome self.old.held }
+        ensures ok { OnOk result (self.new ≡ socket_refused id peer origin.now self.old) }
+        ensures err { OnErr result (self.new ≡ self.old) }
+    {
+        let reply = self.refusal(origin)?;
+        self.outbox.answer(reply)?;
+        self.ledger.offer_taken(id, peer);
+        Ok(())
+    }
+
+    /// The reply to the server's request for the connection, if there was one: it is open.
+    ///
+    /// # Errors
+    ///
+    /// `AllocError` where there is no memory.
+    fn acceptance(&self, origin: &Origin) -> Result<Option<Data>, AllocError>
+        requires { IsSome self.now.held }
+        ensures { IfOk result (λ reply. reply ≡ answer_to (accepted_reply self.now) origin.now) }
+    {
+        match origin {
+            Origin::ServerRequest(request) => Ok(Some(self.accepted(*request)?)),
+            Origin::OwnConnect => Ok(None),
+            Origin::ServerIndication => Ok(None),
+        }
+    }
+
+    /// The reply to the server's request for the connection, if there was one: it could not be opened.
+    ///
+    /// # Errors
+    ///
+    /// `AllocError` where there is no memory.
+    fn refusal(&self, origin: &Origin) -> Result<Option<Data>, AllocError>
+        requires { IsSome self.now.held }
+        ensures { IfOk result (λ reply. reply ≡ answer_to (refused_reply connection_timed_out (codes "Connection Timeout or Failure") self.now) origin.now) }
+    {
+        match origin {
+            Origin::ServerRequest(request) => Ok(Some(self.refused(*request)?)),
+            Origin::OwnConnect => Ok(None),
+            Origin::ServerIndication => Ok(None),
+        }
+    }
+
+    /// The success response to the server's request of this ID.
+    fn accepted(&self, request: TransactionId) -> Result<Data, AllocError>
+        requires { IsSome self.now.held }
+        ensures { IfOk result (λ text. text ≡ accepted_reply self.now request) }
+    {
+        accepted_reply(self.alloc, &self.auth, request)
+    }
+
+    /// The error response to the server's request of this ID: the connection could not be opened.
+    fn refused(&self, request: TransactionId) -> Result<Data, AllocError>
+        requires { IsSome self.now.held }
+        ensures { IfOk result (λ text. text ≡ refused_reply connection_timed_out (codes "Connection Timeout or Failure") self.now request) }
+    {
+        let refusal = AttemptRefusal::ConnectionTimeoutOrFailure;
+        refused_reply(self.alloc, &self.auth, refusal, request)
+    }
+}
+
+impl TurnClientProtocol {
+    /// Takes it that the data connection with these ends is closed. `poll` tells the caller to close its
+    /// end. What was received over it can still be polled. It takes no memory.
+    pub fn tcp_closed(&mut self, local_addr: SocketAddr, remote_addr: SocketAddr)
+        ensures { self.new ≡ tcp_closed_step local_addr remote_addr self.old }
+    {
+        if self.is_to_server(remote_addr) {
+            self.connection_gone(local_addr);
+        }
+    }
+
+    /// Whether the client is over TCP, and this is the server's address.
+    fn is_to_server(&self, remote: SocketAddr) -> bool
+        ensures { result ≡ (same_transport self.now.transport Tcp && same_address remote self.now.remote) }
+    {
+        self.transport() == TransportType::Tcp && remote == self.remote_addr()
+    }
+
+    /// The connection from this local end is gone, if there is one: the caller is to close its end before
+    /// all others that it is to close.
+    pub(super) fn connection_gone(&mut self, local: SocketAddr)
+        ensures { self.new ≡ connection_gone local self.old }
+    {
+        self.ledger.connection_gone(local);
+    }
+}

@@ -1,0 +1,178 @@
+//! What a client sends next (RFC 8489, section 6.2; RFC 8656, sections 7 to 12).
+
+ghost use Rattle.std.specs.List.{list_any};
+ghost use Rattle.std.specs.Prelude.{◌≡◌, ◌≤◌, ◌^◌, ◌==◌, false, IfOk, IsSome, OnErr, OnOk, Some};
+ghost use Rattle.turn_agent.specs.Agent.{is_outstanding};
+ghost use Rattle.turn_client_api.specs.Effect.{closed};
+ghost use Rattle.turn_client_api.specs.Requests.{fresh_id};
+ghost use Rattle.turn_client_api.specs.Transmit.{idle_step, next_transmit, queue_step, refresh_step, reply_step, sent_at_once, transmit_step};
+ghost use Rattle.turn_client_core.specs.Sending.{waiting_step};
+
+use crate::protocol::TurnClientProtocol;
+use std::alloc::AllocError;
+use turn_client_api::{Phase, Purpose};
+use turn_client_grants::Purposes;
+use turn_client_requests::first_allocate;
+use turn_stun::data::Data;
+use turn_stun::instant::Instant;
+use turn_stun::transaction::TransactionId;
+use turn_stun::transport::Transmit;
+
+impl TurnClientProtocol {
+    /// The next packet to be sent, or none. Ask until there is none.
+    ///
+    /// # Errors
+    ///
+    /// There is no memory. The client has ended then, and nothing else has changed.
+    pub fn poll_transmit(&mut self, now: Instant) -> Result<Option<Transmit<Data>>, AllocError>
+        requires moment { now ≤ 2 ^ 62 }
+        ensures answer { IfOk result (λ packet. packet ≡ (transmit_step now self.old).0) }
+        ensures after { OnOk result (self.new ≡ (transmit_step now self.old).1) }
+        ensures no_memory { OnErr result (self.new ≡ closed self.old) }
+        // Memory is wanted only for a packet that is to be sent.
+        ensures free { OnErr result (IsSome (next_transmit now self.old)) }
+    {
+        match self.next_packet(now) {
+            Ok(packet) => Ok(packet),
+            Err(refusal) => {
+                self.close();
+                Err(refusal)
+            }
+        }
+    }
+
+    /// What is due again, what waits, or what the client has to ask for.
+    fn next_packet(&mut self, now: Instant) -> Result<Option<Transmit<Data>>, AllocError>
+        ensures step { IfOk result (λ packet. (packet, self.new) ≡ transmit_step now self.old) }
+        ensures err { OnErr result (self.new ≡ self.old) }
+        ensures free { OnErr result (IsSome (transmit_step now self.old).0) }
+    {
+        match self.outbox.resend(now)? {
+            Some(packet) => Ok(Some(packet)),
+            None => self.send_waiting(now),
+        }
+    }
+
+    /// Where no request is due again: within the pause a reply alone, and else what comes next.
+    fn send_waiting(&mut self, now: Instant) -> Result<Option<Transmit<Data>>, AllocError>
+        ensures step { IfOk result (λ packet. (packet, self.new) ≡ waiting_step now self.old) }
+        ensures err { OnErr result (self.new ≡ self.old) }
+        ensures free { OnErr result (IsSome (waiting_step now self.old).0) }
+    {
+        if self.is_paused(now) {
+            return Ok(self.take_reply());
+        }
+        self.send_next(now)
+    }
+
+    /// The first reply that waits. It does not prolong the pause between two requests.
+    fn take_reply(&mut self) -> Option<Transmit<Data>>
+        ensures { (result, self.new) ≡ reply_step self.old }
+    {
+        self.outbox.take_reply()
+    }
+
+    /// What waits in front, or what the client has to ask for.
+    fn send_next(&mut self, now: Instant) -> Result<Option<Transmit<Data>>, AllocError>
+        ensures step { IfOk result (λ packet. (packet, self.new) ≡ queue_step now self.old) }
+        ensures err { OnErr result (self.new ≡ self.old) }
+        ensures free { OnErr result (IsSome (queue_step now self.old).0) }
+    {
+        match self.outbox.take_front(now) {
+            Some(packet) => Ok(Some(packet)),
+            None => self.send_asked(now),
+        }
+    }
+
+    /// What the client has to ask for: a new one sends the first ALLOCATE, and one with allocations
+    /// refreshes what it was granted.
+    fn send_asked(&mut self, now: Instant) -> Result<Option<Transmit<Data>>, AllocError>
+        ensures step { IfOk result (λ packet. (packet, self.new) ≡ idle_step self.old.phase now self.old) }
+        ensures err { OnErr result (self.new ≡ self.old) }
+        ensures free { OnErr result (IsSome (idle_step self.old.phase now self.old).0) }
+    {
+        match self.phase {
+            Phase::New => self.send_first(now),
+            Phase::Allocated => self.refresh(now),
+            Phase::Requesting => Ok(None),
+            Phase::Authenticating => Ok(None),
+            Phase::Closed => Ok(None),
+        }
+    }
+
+    /// The first ALLOCATE, which is not signed.
+    fn send_first(&mut self, now: Instant) -> Result<Option<Transmit<Data>>, AllocError>
+        ensures step { IfOk result (λ packet. (packet, self.new) ≡ idle_step Phase.New now self.old) }
+        ensures err { OnErr result (self.new ≡ self.old) }
+    {
+        self.reserve_failures()?;
+        let id = self.fresh_id();
+        let text = first_allocate(
+            self.alloc,
+            self.ledger.transport(),
+            self.families.as_slice(),
+            id,
+        )?;
+        let packet = self.send_at_once(id, text, &Purpose::ForAllocation, now)?;
+        self.begin_requesting();
+        Ok(Some(packet))
+    }
+
+    /// Makes room for the failures of the first ALLOCATE, so that `poll` takes none while it awaits its
+    /// response.
+    fn reserve_failures(&mut self) -> Result<(), AllocError>
+        ensures { self.new ≡ self.old }
+    {
+        self.ledger.reserve(0, 0, self.families.len())
+    }
+
+    /// The first ALLOCATE awaits its response from now on.
+    fn begin_requesting(&mut self)
+        ensures { self.new ≡ record self.old { phase = Phase.Requesting } }
+    {
+        self.phase = Phase::Requesting;
+    }
+
+    /// The request for the first grant that is to be refreshed.
+    fn refresh(&mut self, now: Instant) -> Result<Option<Transmit<Data>>, AllocError>
+        requires { self.old.phase ≡ Phase.Allocated }
+        ensures step { IfOk result (λ packet. (packet, self.new) ≡ refresh_step now self.old) }
+        ensures err { OnErr result (self.new ≡ self.old) }
+        ensures free { OnErr result (IsSome (refresh_step now self.old).0) }
+    {
+        let Some(purpose) = self.ledger.table().first_refresh(now) else {
+            return Ok(None);
+        };
+        let id = self.fresh_id();
+        let text = self.text_for(&purpose, id)?;
+        let packet = self.send_at_once(id, text, &purpose, now)?;
+        Ok(Some(packet))
+    }
+
+    /// A request of this ID, the next one, is made for this purpose and goes out at once.
+    ///
+    /// # Errors
+    ///
+    /// `AllocError` where there is no memory. Nothing changes then.
+    fn send_at_once(
+        &mut self,
+        id: TransactionId,
+        text: Data,
+        purpose: &Purpose,
+        now: Instant,
+    ) -> Result<Transmit<Data>, AllocError>
+        requires fresh { id ≡ fresh_id self.old }
+        requires unsent { is_outstanding id self.old.transactions ≡ false }
+        requires unlisted { list_any (λ l. l.id == id) self.old.listed ≡ false }
+        ensures step { IfOk result (λ packet. (Some packet, self.new) ≡ sent_at_once text purpose.now now self.old) }
+        ensures err { OnErr result (self.new ≡ self.old) }
+    {
+        let from = self.outbox.local_addr();
+        self.ledger.reserve(0, 2, 0)?;
+        let packet = self.outbox.begin(id, text, from, now)?;
+        self.outbox.draw();
+        self.outbox.note_sent(now);
+        self.ledger.ask(id, &[], &Purposes::one(*purpose));
+        Ok(packet)
+    }
+}
