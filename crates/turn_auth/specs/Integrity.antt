@@ -1,5 +1,5 @@
 -- Integrity of messages (RFC 8489, sections 14.5 and 14.6).
-use Rattle.std.specs.Prelude.{◌≡◌, ℕ, ◌+◌, ◌-◌, List, Bool, false, take, IsSomeAnd}
+use Rattle.std.specs.Prelude.{◌≡◌, ℕ, ◌+◌, ◌-◌, List, Bool, false, take, Option, option_map, IsSomeAnd}
 use Rattle.std.specs.Str.{bytes_eq}
 use Rattle.std.specs.Option.{option_map_or}
 use Rattle.sha1.specs.Sha1.{sha1}
@@ -44,3 +44,9 @@ abbrev pub integrity_holds : List ℕ → IntegrityAlgorithm → List ℕ → Bo
 integrity_holds bytes algorithm key =
     option_map_or (λ first. bytes_eq first.value (mac_of algorithm key (covered_text algorithm first.offset bytes)))
     (first_of (integrity_kind algorithm) (seen_of bytes)) false
+
+-- the same, or nothing where no attribute of the algorithm's type is seen
+abbrev pub seen_integrity : List ℕ → IntegrityAlgorithm → List ℕ → Option Bool
+seen_integrity bytes algorithm key =
+    option_map (λ first. bytes_eq first.value (mac_of algorithm key (covered_text algorithm first.offset bytes)))
+    (first_of (integrity_kind algorithm) (seen_of bytes))

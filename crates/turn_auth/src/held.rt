@@ -25,12 +25,13 @@ impl Held {
     pub(crate) fn judge(&self, message: &Message<'_>) -> Validation
         ensures { (c : Credentials) → IsKeyOf c self.now.challenge self.now.key → result ≡ judged (Some c) (Some self.now.challenge) message.now }
     {
-        if self.key.verifies(message) {
+        let Some(holds) = self.key.verifies(message) else {
+            return Validation::Refused { integrity: false };
+        };
+        if holds {
             return Validation::Validated(self.key.algorithm());
         }
-        Validation::Refused {
-            integrity: message.has_attribute(self.key.algorithm().attribute_type()),
-        }
+        Validation::Refused { integrity: true }
     }
 }
 

@@ -5,7 +5,7 @@ ghost use Rattle.sha1.specs.Sha1.{sha1};
 ghost use Rattle.sha2.specs.Sha256.{sha256};
 ghost use Rattle.turn_auth.specs.Hmac.{hmac};
 ghost use Rattle.turn_auth.specs.Keyed.{HoldsSha1, HoldsSha256};
-ghost use Rattle.turn_auth.specs.Integrity.{covered_text, integrity_holds, integrity_kind};
+ghost use Rattle.turn_auth.specs.Integrity.{covered_text, integrity_kind, seen_integrity};
 
 use crate::hmac::{HmacSha1, HmacSha256};
 use turn_stun::attribute::AttributeType;
@@ -62,33 +62,33 @@ pub(crate) fn sha256_value(mac: &HmacSha256, bytes: &[u8], offset: usize) -> [u8
     covered.finalize()
 }
 
-/// Whether the first seen MESSAGE-INTEGRITY is that of the key.
-pub(crate) fn sha1_holds(mac: &HmacSha1, message: &Message<'_>) -> bool
-    ensures { (key : List ℕ) → HoldsSha1 mac.now key [] → result ≡ integrity_holds message.now IntegrityAlgorithm.Sha1 key }
+/// Whether the first seen MESSAGE-INTEGRITY is that of the key, or `None` where none is seen.
+pub(crate) fn sha1_holds(mac: &HmacSha1, message: &Message<'_>) -> Option<bool>
+    ensures { (key : List ℕ) → HoldsSha1 mac.now key [] → result ≡ seen_integrity message.now IntegrityAlgorithm.Sha1 key }
 {
     let Some((offset, raw)) = message.raw_attribute(AttributeType::MESSAGE_INTEGRITY) else {
-        return false;
+        return None;
     };
     // A value of another length is decided first: one at the very end of the longest message would
     // stand past the offsets that a length field can tell.
     if raw.value.len() != 20 {
-        return false;
+        return Some(false);
     }
     let bytes = message.as_bytes();
-    raw.value == sha1_value(mac, bytes, offset).as_slice()
+    Some(raw.value == sha1_value(mac, bytes, offset).as_slice())
 }
 
-/// Whether the first seen MESSAGE-INTEGRITY-SHA256 is that of the key.
-pub(crate) fn sha256_holds(mac: &HmacSha256, message: &Message<'_>) -> bool
-    ensures { (key : List ℕ) → HoldsSha256 mac.now key [] → result ≡ integrity_holds message.now IntegrityAlgorithm.Sha256 key }
+/// Whether the first seen MESSAGE-INTEGRITY-SHA256 is that of the key, or `None` where none is seen.
+pub(crate) fn sha256_holds(mac: &HmacSha256, message: &Message<'_>) -> Option<bool>
+    ensures { (key : List ℕ) → HoldsSha256 mac.now key [] → result ≡ seen_integrity message.now IntegrityAlgorithm.Sha256 key }
 {
     let Some((offset, raw)) = message.raw_attribute(AttributeType::MESSAGE_INTEGRITY_SHA256) else {
-        return false;
+        return None;
     };
     // Truncated values are not taken (our choice; section 14.6 allows them where both sides agree).
     if raw.value.len() != 32 {
-        return false;
+        return Some(false);
     }
     let bytes = message.as_bytes();
-    raw.value == sha256_value(mac, bytes, offset).as_slice()
+    Some(raw.value == sha256_value(mac, bytes, offset).as_slice())
 }

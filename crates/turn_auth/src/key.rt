@@ -3,7 +3,7 @@
 ghost use Rattle.std.specs.Prelude.{◌≡◌, ℕ, List};
 ghost use Rattle.turn_auth.specs.Key.{key_of, userhash};
 ghost use Rattle.turn_auth.specs.Keyed.{HoldsKey, algorithm_of};
-ghost use Rattle.turn_auth.specs.Integrity.{integrity_holds};
+ghost use Rattle.turn_auth.specs.Integrity.{seen_integrity};
 
 use crate::credentials::TurnCredentials;
 use crate::hmac::{HmacSha1, HmacSha256};
@@ -51,9 +51,10 @@ impl SigningKey {
         }
     }
 
-    /// Whether the first seen integrity attribute of the algorithm is that of the key.
-    pub(crate) fn verifies(&self, message: &Message<'_>) -> bool
-        ensures { (key : List ℕ) → HoldsKey self.now key → result ≡ integrity_holds message.now (algorithm_of self.now) key }
+    /// Whether the first seen integrity attribute of the algorithm is that of the key, or `None` where
+    /// none is seen. It walks the attributes once.
+    pub(crate) fn verifies(&self, message: &Message<'_>) -> Option<bool>
+        ensures { (key : List ℕ) → HoldsKey self.now key → result ≡ seen_integrity message.now (algorithm_of self.now) key }
     {
         match self {
             SigningKey::Sha1(mac) => sha1_holds(mac, message),

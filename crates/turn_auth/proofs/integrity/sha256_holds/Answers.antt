@@ -1,4 +1,4 @@
-use Rattle.std.proofs.Common.{arith, sym, ◌∙◌}
+use Rattle.std.proofs.Common.{Some, ap, arith, sym, ◌∙◌}
 use Rattle.std.specs.Cmp.Lexicographic.{unequal}
 use Rattle.turn_auth.proofs.IntegrityLemmas.{IsMessage-short}
 use Rattle.turn_auth.proofs.DigestLemmas.{length-hmac_sha256}
@@ -7,7 +7,7 @@ use Rattle.turn_auth.proofs.integrity.sha256_holds.Goals as goal
 -- a value of another length is no HMAC
 pub returns-then-raw-ne32 : goal.returns-then-raw-ne32
 returns-then-raw-ne32 c = λ key holds.
-    rw (← c.in-Some.ensures.first) (sym (unequal _ _ _ (λ e. c.if-raw-ne32.true (e ∙ length-hmac_sha256 key _))))
+    rw (← c.in-Some.ensures.first) (ap Some (sym (unequal _ _ _ (λ e. c.if-raw-ne32.true (e ∙ length-hmac_sha256 key _)))))
 
 -- the attribute ends within the message, which its length field can tell
 pub sha256_value-requires-clause-short : goal.sha256_value-requires-clause-short
