@@ -1,5 +1,5 @@
 -- That a grant is there, and stays there.
-use Rattle.std.proofs.Common.{◌≡◌, ◌<◌, ◌≤◌, ◌∙◌, ℕ, Bool, true, false, List, [], ◌∷◌, ap, filter, fold, length, map, not, refl, sym, arith}
+use Rattle.std.proofs.Common.{◌≡◌, ◌<◌, ◌≤◌, ◌+◌, ◌∙◌, ℕ, Bool, true, false, List, [], ◌∷◌, ◌++◌, ap, filter, fold, length, map, not, refl, sym, arith}
 use Rattle.std.specs.Prelude.{◌||◌, Option, Some, None, find, is_some, option_map}
 use Rattle.std.specs.List.{list_any}
 use Rattle.std.specs.declared.net.ip_addr.IpAddr.{IpAddr}
