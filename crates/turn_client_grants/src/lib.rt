@@ -28,6 +28,3 @@ pub use ledger::GrantLedger;
 pub use purposes::Purposes;
 pub use table::GrantTable;
 pub use which::Which;
-
-#[cfg(test)]
-mod tests;

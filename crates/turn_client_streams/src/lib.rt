@@ -11,6 +11,3 @@ mod streams;
 
 pub use buffered::BufferedStream;
 pub use streams::Streams;
-
-#[cfg(test)]
-mod tests;

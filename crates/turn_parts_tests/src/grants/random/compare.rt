@@ -1,11 +1,11 @@
 //! Every look-up of the ledger answers what the plain lists have.
 
-use crate::tests::plain::reads::offer_of;
-use crate::tests::plain::{Plain, TRANSPORT, address, at, family, id};
-use crate::tests::random::Draw;
-use crate::tests::same;
-use crate::{GrantLedger, GrantTable};
+use crate::fixture::same;
+use crate::grants::plain::reads::offer_of;
+use crate::grants::plain::{Plain, TRANSPORT, address, at, family, id};
+use crate::grants::random::Draw;
 use std::process::Abort;
+use turn_client_grants::{GrantLedger, GrantTable};
 
 /// Both hold as much, and one kind of look-up answers the same.
 pub(crate) fn is_same(

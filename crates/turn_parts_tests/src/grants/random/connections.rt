@@ -1,10 +1,10 @@
 //! Offers of data connections, and data connections.
 
-use crate::GrantLedger;
-use crate::tests::plain::{Plain, Reason, address, at, id};
-use crate::tests::random::Draw;
+use crate::grants::plain::{Plain, Reason, address, at, id};
+use crate::grants::random::Draw;
 use std::alloc::AllocError;
 use turn_client_api::Origin;
+use turn_client_grants::GrantLedger;
 
 /// The server tells of a peer that connected.
 pub(crate) fn offered(

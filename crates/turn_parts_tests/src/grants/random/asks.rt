@@ -1,10 +1,10 @@
 //! What a client asks for, and what it gives back.
 
-use crate::tests::plain::{Kind, Plain, Row, Stage, address, at, family, id, number_of};
-use crate::tests::random::Draw;
-use crate::{GrantLedger, Purposes};
+use crate::grants::plain::{Kind, Plain, Row, Stage, address, at, family, id, number_of};
+use crate::grants::random::Draw;
 use std::alloc::AllocError;
 use turn_client_api::{Grant, Progress, Purpose};
+use turn_client_grants::{GrantLedger, Purposes};
 
 /// A permission, where there is none.
 pub(crate) fn permission(

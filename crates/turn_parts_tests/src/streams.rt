@@ -4,12 +4,13 @@ ghost use Rattle.std.specs.Prelude.{◌<◌, length};
 
 mod memory;
 
-use crate::{BufferedStream, Streams};
+use crate::fixture::{check, same, same_bytes};
 use std::alloc::AllocError;
 use std::net::{Ipv4Addr, SocketAddr, SocketAddrV4};
 use std::process::Abort;
 use std::test::Fail;
 use turn_client_api::{Mode, Transmit};
+use turn_client_streams::{BufferedStream, Streams};
 use turn_stun::transport::TransportType;
 use turn_types::tcp::IncomingTcp;
 
@@ -43,10 +44,6 @@ fn feed(streams: &mut Streams, local: SocketAddr, piece: &[u8]) -> Result<(), Al
     Ok(())
 }
 
-fn assert_bytes(rt: &impl Abort, found: &[u8], want: &[u8]) {
-    assert_eq!(rt; found, want);
-}
-
 /// It is the turn of this stream, whose front is this frame, and which is put back without it.
 fn passes(
     rt: &impl Abort,
@@ -55,12 +52,12 @@ fn passes(
     want: &[u8],
 ) -> Result<(), Fail> {
     let mut stream = ready(streams)?;
-    assert_eq!(rt; stream.local(), local);
-    assert!(rt; !stream.is_stuck());
+    same(rt, stream.local(), local);
+    check(rt, !stream.is_stuck());
     let Some(frame) = stream.front() else {
         return Err(Fail::from("no frame in front"));
     };
-    assert_bytes(rt, frame, want);
+    same_bytes(rt, frame, want);
     stream.pass();
     streams.put(stream);
     Ok(())
@@ -71,12 +68,12 @@ fn gives_frames(rt: &impl Abort, streams: &mut Streams) -> Result<(), Fail> {
     feed(streams, end(1001), &MESSAGE)?;
     feed(streams, end(1000), &CHANNEL_FRAME[..3])?;
     passes(rt, streams, end(1001), &MESSAGE)?;
-    assert!(rt; streams.take_ready().is_none());
+    check(rt, streams.take_ready().is_none());
     feed(streams, end(1000), &CHANNEL_FRAME[3..])?;
     feed(streams, end(1000), &MESSAGE)?;
     passes(rt, streams, end(1000), &CHANNEL_FRAME)?;
     passes(rt, streams, end(1000), &MESSAGE)?;
-    assert!(rt; streams.take_ready().is_none());
+    check(rt, streams.take_ready().is_none());
     Ok(())
 }
 
@@ -91,14 +88,14 @@ fn gives_data(rt: &impl Abort, streams: &mut Streams) -> Result<(), Fail> {
     feed(streams, end(1001), &MESSAGE)?;
     feed(streams, end(1001), &[0xff, 0x00])?;
     let mut stream = ready(streams)?;
-    assert!(rt; !stream.is_stuck());
+    check(rt, !stream.is_stuck());
     stream.pass();
     streams.set_mode(end(1001), Mode::Bound(end(9000)));
     streams.put(stream);
     let stream = ready(streams)?;
-    assert_eq!(rt; stream.mode(), Mode::Bound(end(9000)));
-    assert_bytes(rt, stream.into_bytes().as_slice(), &[0xff, 0x00]);
-    assert!(rt; streams.take_ready().is_none());
+    same(rt, stream.mode(), Mode::Bound(end(9000)));
+    same_bytes(rt, stream.into_bytes().as_slice(), &[0xff, 0x00]);
+    check(rt, streams.take_ready().is_none());
     Ok(())
 }
 
@@ -111,15 +108,16 @@ fn bytes_behind_a_bind_reply_are_the_peers(rt: HostRuntime) -> Result<(), Fail> 
 fn breaks(rt: &impl Abort, streams: &mut Streams) -> Result<(), Fail> {
     feed(streams, end(1000), &[0x80])?;
     let stream = ready(streams)?;
-    assert!(rt; stream.is_stuck());
+    check(rt, stream.is_stuck());
     streams.break_at(end(1000));
-    assert!(rt; streams.take_ready().is_none());
-    assert_eq!(rt;
+    check(rt, streams.take_ready().is_none());
+    same(
+        rt,
         streams.get(end(1000)).map(|stream| stream.mode()),
-        Some(Mode::Broken)
+        Some(Mode::Broken),
     );
     streams.remove(end(1000));
-    assert!(rt; streams.get(end(1000)).is_none());
+    check(rt, streams.get(end(1000)).is_none());
     Ok(())
 }
 
@@ -132,7 +130,7 @@ fn a_byte_that_begins_no_frame_breaks_its_stream(rt: HostRuntime) -> Result<(), 
 #[test]
 fn a_client_over_udp_has_no_stream(rt: HostRuntime) -> Result<(), Fail> {
     let streams = Streams::new(rt.alloc(), TransportType::Udp, end(1000))?;
-    assert!(rt; streams.get(end(1000)).is_none());
+    check(&rt, streams.get(end(1000)).is_none());
     Ok(())
 }
 
@@ -147,10 +145,17 @@ fn len_of(stream: &mut BufferedStream, piece: &[u8]) -> Result<usize, Fail>
     Ok(range.end)
 }
 
+fn takes_whole(rt: &impl Abort, streams: &mut Streams) -> Result<(), Fail> {
+    let Some(mut stream) = streams.take_at(end(1000)) else {
+        return Err(Fail::from("no control stream"));
+    };
+    same(rt, len_of(&mut stream, &MESSAGE)?, 20);
+    check(rt, stream.is_empty());
+    Ok(())
+}
+
 #[test]
 fn a_message_that_comes_whole_is_a_range(rt: HostRuntime) -> Result<(), Fail> {
-    let mut stream = BufferedStream::new(rt.alloc(), end(1000), Mode::Control);
-    assert_eq!(rt; len_of(&mut stream, &MESSAGE)?, 20);
-    assert!(rt; stream.is_empty());
-    Ok(())
+    let mut streams = Streams::new(rt.alloc(), TransportType::Tcp, end(1000))?;
+    takes_whole(&rt, &mut streams)
 }

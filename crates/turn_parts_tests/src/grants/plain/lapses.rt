@@ -1,6 +1,6 @@
 //! What ends as time passes, of plain lists.
 
-use crate::tests::plain::{
+use crate::grants::plain::{
     Kind, Plain, Reason, Row, Stage, TRANSPORT, Told, address, byte_of, drop_listed, is_ipv6,
 };
 use std::alloc::AllocError;

@@ -1,6 +1,6 @@
 //! What the server says, and what the caller does, of plain lists.
 
-use crate::tests::plain::{
+use crate::grants::plain::{
     Asked, Kind, Plain, Reason, Row, SECOND, Stage, TRANSPORT, Told, address, byte_of, family,
     is_ipv6,
 };

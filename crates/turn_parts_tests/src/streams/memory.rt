@@ -1,27 +1,31 @@
 //! What a call leaves where it finds no memory.
 
-use crate::tests::{MESSAGE, end};
-use crate::{BufferedStream, Streams};
+use crate::fixture::{check, same};
+use crate::streams::{MESSAGE, end};
 use std::process::Abort;
 use turn_client_api::Mode;
+use turn_client_streams::{BufferedStream, Streams};
 use turn_stun::transport::TransportType;
 
 fn breaks_or_holds(rt: &impl Abort, stream: &mut BufferedStream) {
     match stream.feed(&MESSAGE) {
-        Ok(()) => assert!(rt; stream.is_ready()),
-        Err(_) => assert_eq!(rt; (stream.mode(), stream.is_empty()), (Mode::Broken, true)),
+        Ok(()) => check(rt, stream.is_ready()),
+        Err(_) => same(rt, (stream.mode(), stream.is_empty()), (Mode::Broken, true)),
     }
 }
 
 #[test]
 fn a_piece_that_finds_no_memory_breaks_its_stream(rt: HostRuntime) {
-    let mut stream = BufferedStream::new(rt.alloc(), end(1000), Mode::Control);
-    breaks_or_holds(&rt, &mut stream);
+    if let Ok(mut streams) = Streams::new(rt.alloc(), TransportType::Tcp, end(1000)) {
+        if let Some(mut stream) = streams.take_at(end(1000)) {
+            breaks_or_holds(&rt, &mut stream);
+        }
+    }
 }
 
 fn opens_or_stays(rt: &impl Abort, streams: &mut Streams) {
     let is_open = streams.open(end(1001)).is_ok();
-    assert_eq!(rt; streams.get(end(1001)).is_some(), is_open);
+    same(rt, streams.get(end(1001)).is_some(), is_open);
 }
 
 #[test]

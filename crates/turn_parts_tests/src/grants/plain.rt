@@ -4,7 +4,7 @@ pub(crate) mod answers;
 pub(crate) mod lapses;
 pub(crate) mod reads;
 
-use crate::tests::random::Draw;
+use crate::grants::random::Draw;
 use std::alloc::{AllocError, Global};
 use std::collections::VecDeque;
 use std::net::{IpAddr, Ipv4Addr, Ipv6Addr, SocketAddr};

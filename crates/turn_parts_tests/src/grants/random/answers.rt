@@ -1,9 +1,9 @@
 //! What the server answers, and what ends as time passes.
 
-use crate::tests::plain::{Kind, Plain, address, at, family, id};
-use crate::tests::random::Draw;
-use crate::{GrantLedger, family_of};
+use crate::grants::plain::{Kind, Plain, address, at, family, id};
+use crate::grants::random::Draw;
 use std::alloc::AllocError;
+use turn_client_grants::{GrantLedger, family_of};
 use turn_types::AddressFamily;
 
 /// So many of ten answers are successes.

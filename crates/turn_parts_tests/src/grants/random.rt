@@ -5,14 +5,14 @@ mod asks;
 mod compare;
 mod connections;
 
-use crate::GrantLedger;
-use crate::tests::plain::{Plain, SECOND, TRANSPORT};
-use crate::tests::random::compare::is_same;
-use crate::tests::same;
+use crate::fixture::same;
+use crate::grants::plain::{Plain, SECOND, TRANSPORT};
+use crate::grants::random::compare::is_same;
 use std::alloc::AllocError;
 use std::process::Abort;
 use std::test::Fail;
 use turn_client_api::TurnEvent;
+use turn_client_grants::GrantLedger;
 use turn_types::AddressFamily;
 
 /// Numbers that look random: a linear congruence modulo 2^64.

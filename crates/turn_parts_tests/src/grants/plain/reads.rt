@@ -1,7 +1,7 @@
 //! What is read off plain lists.
 
-use crate::tests::plain::answers::offer_key;
-use crate::tests::plain::{
+use crate::grants::plain::answers::offer_key;
+use crate::grants::plain::{
     Kind, Plain, Reason, Row, Stage, address, at, byte_of, id, is_ipv6, number_of,
 };
 use turn_client_api::{DataConnection, DataOffer, Origin, Progress, Purpose, Relay};

@@ -1,0 +1,5 @@
+//! `turn_client_grants`: worked rows that are the table's alone, and random changes.
+
+mod plain;
+mod random;
+mod rows;

@@ -1,0 +1,12 @@
+//! The tests of `turn_client_grants` and `turn_client_streams`, by what these make public.
+//!
+//! The gate proves a crate that has tests twice, with them and without. So the tests stand here, a module for each
+//! crate, and the crates that they test are proved once.
+#![tactic(auto)]
+
+#[cfg(test)]
+mod fixture;
+#[cfg(test)]
+mod grants;
+#[cfg(test)]
+mod streams;
