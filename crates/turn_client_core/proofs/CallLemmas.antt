@@ -1,5 +1,5 @@
 -- Calls that are refused.
-use Rattle.std.proofs.Common.{◌≡◌, ℕ, Bool, true, Ok, Err, Some, refl}
+use Rattle.std.proofs.Common.{◌≡◌, ℕ, true, Err, Some, refl}
 use Rattle.std.specs.Net.Socket.{socket_ip}
 use Rattle.std.specs.Prelude.{◌||◌, Option, Result, nat_le}
 use Rattle.std.specs.declared.net.ip_addr.IpAddr.{IpAddr}

@@ -1,5 +1,5 @@
 -- What a DATA indication gives, by what is found in it.
-use Rattle.std.proofs.Common.{◌≡◌, ℕ, ◌+◌, ◌-◌, Bool, true, false, if◌then◌else◌, List, length, take, drop, Option, Some, None, IfSome, refl, subst, sym, ap, ◌∙◌, arith}
+use Rattle.std.proofs.Common.{◌≡◌, ℕ, ◌+◌, Bool, true, false, if◌then◌else◌, List, length, take, drop, Option, Some, None, IfSome, refl, subst, sym, ap, ◌∙◌, arith}
 use Rattle.std.proofs.lemmas.List.{take-append-drop, take_at}
 use Rattle.std.specs.List.{slice_range}
 use Rattle.std.specs.Option.{option_map, option_map_or}
@@ -13,7 +13,7 @@ use Rattle.turn_types.specs.Send.{data_kind}
 use Rattle.turn_types.specs.declared.attribute.icmp_report.Icmp.{Icmp}
 use Rattle.turn_client_api.specs.Grants.{channel_peer, first_in, is_permitted}
 use Rattle.turn_client_api.specs.Judgement.{has_unknown, last_icmp_in, last_in, last_peer_in}
-use Rattle.turn_client_api.specs.Payloads.{Outcome, Ignored, channel_sent, data_indicated}
+use Rattle.turn_client_api.specs.Payloads.{Ignored, channel_sent, data_indicated}
 use Rattle.turn_client_api.specs.State.{State}
 use Rattle.turn_client_core.specs.Indication.{let_in, value_place}
 use Rattle.turn_client_core.specs.Told.{outcome_in}

@@ -1,5 +1,5 @@
 -- What is true of each attribute is true of the last one of a type.
-use Rattle.std.proofs.Common.{◌≡◌, ℕ, ◌==◌, Bool, true, false, cond, List, [], ◌∷◌, Option, Some, None, fold, IfSome}
+use Rattle.std.proofs.Common.{ℕ, ◌==◌, Bool, true, false, cond, List, [], ◌∷◌, Option, Some, fold, IfSome}
 use Rattle.std.specs.List.{AllByRecursion}
 use Rattle.turn_stun.specs.Message.{Attribute}
 use Rattle.turn_client_api.specs.Judgement.{later_of}

@@ -1,5 +1,5 @@
 -- What the machine makes of a message, by what it is judged to be.
-use Rattle.std.proofs.Common.{◌≡◌, ◌∙◌, ℕ, Bool, true, false, List, Option, Some, None, ap, cond, refl, sym}
+use Rattle.std.proofs.Common.{◌≡◌, ◌∙◌, ◌==◌, ℕ, Bool, true, false, List, Option, Some, None, ap, cond, refl, subst}
 use Rattle.turn_auth.specs.LongTerm.{Challenge}
 use Rattle.turn_auth.specs.Validation.{validation_of}
 use Rattle.turn_auth.specs.declared.validation.Validation.{Validation}
@@ -9,13 +9,14 @@ use Rattle.turn_stun.specs.Message.{id_of}
 use Rattle.turn_stun.specs.declared.message.header.MessageClass.{MessageClass}
 use Rattle.turn_stun.specs.declared.message.header.MessageClass.TheVariants.{Request, Indication, Success, Error}
 use Rattle.turn_client_api.specs.Judgement as J
-use Rattle.turn_client_api.specs.Judgement.{Judgement, answers_allocate, answers_one, authenticating_judgement, by_class, challenge_in, challenged_or, class_in, judgement_of}
+use Rattle.turn_client_api.specs.Judgement.{Judgement, answers_allocate, answers_one, authenticating_judgement, by_class, challenge_in, challenged_or, class_in, judgement_of, method_in}
+use Rattle.turn_client_api.specs.Answers.{is_data_indication}
 use Rattle.turn_client_api.specs.State.{State, auth_of}
 use Rattle.turn_client_api.specs.declared.state.Phase.{Phase}
 use Rattle.turn_client_api.specs.declared.state.Phase.TheVariants.{New, Requesting, Authenticating, Allocated, Closed}
 use Rattle.turn_client_api.specs.Effect.{allocate_denied, allocate_granted, ended}
 use Rattle.turn_client_api.specs.Payloads.{Handled, response_step, signed_step}
-use Rattle.turn_client_api.specs.Requests.{fresh_id}
+use Rattle.turn_client_api.specs.Requests.{data_method, fresh_id}
 use Rattle.turn_client_core.specs.Attempts.{CanSign}
 use Rattle.turn_client_core.specs.Judged.{kind_of}
 use Rattle.turn_client_core.specs.Replies.{is_authenticating}
@@ -143,3 +144,34 @@ authenticating-is Requesting h = cc
 authenticating-is Authenticating h = refl
 authenticating-is Allocated h = cc
 authenticating-is Closed h = cc
+
+-- ---- DATA indications
+
+indication-is : (message : List ℕ) → is_data_indication message ≡ true → (class_in message ≡ Indication) × ((method_in message == data_method) ≡ true)
+indication-is message = by (class_in message) refl
+  where
+    by : (class : MessageClass) → class_in message ≡ class → is_data_indication message ≡ true → (class_in message ≡ Indication) × ((method_in message == data_method) ≡ true)
+    by Request e = rw e (λ h. cc)
+    by Indication e = rw e (λ h. (refl, h))
+    by Success e = rw e (λ h. cc)
+    by Error e = rw e (λ h. cc)
+
+-- nothing is asked of a client
+abbrev pub IsIdle : Judged → Type 0
+IsIdle Unrelated = Unit {0}
+IsIdle DataIndication = Unit {0}
+IsIdle _ = ⊥
+
+data-idle : (s : State) (message : List ℕ) → is_data_indication message ≡ true → IsIdle (kind_of (judgement_of s message))
+data-idle s message h = let (class, method) = indication-is message h in by class method s.phase refl
+  where
+    by : class_in message ≡ Indication → (method_in message == data_method) ≡ true → (p : Phase) → s.phase ≡ p → IsIdle (kind_of (judgement_of s message))
+    by class method New e = rw e tt
+    by class method Requesting e = rw (e, class) tt
+    by class method Authenticating e = rw (e, class) tt
+    by class method Allocated e = rw (e, class, method) tt
+    by class method Closed e = rw e tt
+
+-- a DATA indication is nothing else
+pub data-judged : (s : State) (message : List ℕ) → is_data_indication message ≡ true → (kind : Judged) → kind_of (judgement_of s message) ≡ kind → IsIdle kind
+data-judged s message h kind e = subst IsIdle e (data-idle s message h)

@@ -1,15 +1,20 @@
 pub mod AlgorithmLemmas
 pub mod AllocatedLemmas
+pub mod ArrivalLemmas
 pub mod AskLemmas
 pub mod AuthLemmas
+pub mod BindLemmas
 pub mod CallLemmas
 pub mod DataLemmas
 pub mod EffectLemmas
+pub mod FrameLemmas
+pub mod FreePieceLemmas
 pub mod IdLemmas
 pub mod IndicationLemmas
 pub mod JudgedLemmas
 pub mod ListLemmas
 pub mod OutboxLemmas
+pub mod PieceLemmas
 pub mod PollLemmas
 pub mod ReplyLemmas
 pub mod ResultLemmas
@@ -18,3 +23,5 @@ pub mod SendLemmas
 pub mod SignLemmas
 pub mod SocketLemmas
 pub mod TransmitLemmas
+pub mod TurnLemmas
+pub mod UngrantedLemmas

@@ -1,5 +1,5 @@
 -- What `poll` does, step by step.
-use Rattle.std.proofs.Common.{◌≡◌, ◌∙◌, ℕ, ◌+◌, Bool, true, false, List, [], ◌∷◌, ◌++◌, Option, Some, None, map, drop, fold, length, min, refl, suc, sym, ap, arith}
+use Rattle.std.proofs.Common.{◌≡◌, ◌∙◌, ℕ, true, false, List, [], ◌∷◌, ◌++◌, Option, Some, None, map, drop, fold, length, min, refl, suc, sym, ap, arith}
 use Rattle.std.specs.Prelude.{◌&&◌, find, flat_map, if◌then◌else◌, is_none, is_some, slice_get}
 use Rattle.std.proofs.lemmas.List.Sums.{fold-append}
 use Rattle.std.specs.declared.net.socket_addr.SocketAddr.{SocketAddr}

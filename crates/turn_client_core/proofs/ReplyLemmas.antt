@@ -1,9 +1,8 @@
 -- The first reply that waits.
-use Rattle.std.proofs.Common.{◌≡◌, ◌∙◌, ℕ, ◌+◌, ◌<◌, ◌≤◌, Bool, true, false, suc, ltb, List, [], ◌∷◌, ◌++◌, None, Some, drop, get_or, length, take, refl, ap, sym, arith}
+use Rattle.std.proofs.Common.{◌≡◌, ◌∙◌, ℕ, ◌<◌, ◌≤◌, Bool, true, false, suc, ltb, List, [], ◌∷◌, None, Some, get_or, length, refl, ap, sym, arith}
 use Rattle.std.proofs.lemmas.Bool.{ltb-true, ltb-false}
 use Rattle.std.specs.List.{position, position_or_len, remove}
-use Rattle.std.specs.Prelude.{Option, filter_map, not, slice_get}
-use Rattle.turn_stun.specs.declared.transport.Transmit.{Transmit}
+use Rattle.std.specs.Prelude.{filter_map, not, slice_get}
 use Rattle.turn_client_api.specs.Transmit.{reply_in, without_first_reply}
 use Rattle.turn_client_api.specs.declared.state.Queued.{Queued}
 

@@ -1,8 +1,8 @@
 -- Requests that are made in the place of another one.
-use Rattle.std.proofs.Common.{◌≡◌, ◌∙◌, ℕ, Bool, true, false, List, [], ◌∷◌, ◌++◌, Option, Some, None, ap, refl, sym, map}
+use Rattle.std.proofs.Common.{◌≡◌, ◌∙◌, ℕ, Bool, true, false, List, [], ◌∷◌, ◌++◌, Some, None, ap, refl, sym, map}
 use Rattle.std.proofs.lemmas.Bool.{eqb-true, lt-ltb}
 use Rattle.std.specs.List.{list_any}
-use Rattle.std.specs.Prelude.{◌==◌, ◌+◌, ◌<◌, filter, not}
+use Rattle.std.specs.Prelude.{◌==◌, ◌+◌, ◌<◌, filter}
 use Rattle.std.specs.declared.net.socket_addr.SocketAddr.{SocketAddr}
 use Rattle.turn_agent.specs.Agent.{is_outstanding, without}
 use Rattle.turn_agent.specs.declared.transaction.Transaction.{Transaction}

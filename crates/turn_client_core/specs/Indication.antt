@@ -1,9 +1,15 @@
 -- What a DATA indication gives (RFC 8656, section 11.6).
-use Rattle.std.specs.Prelude.{ℕ, ◌+◌, Bool, if◌then◌else◌, length}
+use Rattle.std.specs.Prelude.{ℕ, ◌+◌, Bool, if◌then◌else◌, length, Option}
+use Rattle.std.specs.Net.Socket.{socket_ip}
+use Rattle.std.specs.Option.{option_map_or}
+use Rattle.std.specs.declared.net.socket_addr.SocketAddr.{SocketAddr}
 use Rattle.std.specs.declared.ops.Range.{Range}
 use Rattle.turn_stun.specs.Message.{Attribute}
+use Rattle.turn_types.specs.declared.attribute.icmp_report.Icmp.{Icmp}
+use Rattle.turn_client_api.specs.Grants.{is_permitted}
+use Rattle.turn_client_api.specs.State.{State}
 use Rattle.turn_client_core.specs.declared.told.Told.{Told}
-use Rattle.turn_client_core.specs.declared.told.Told.TheVariants.{Ignored}
+use Rattle.turn_client_core.specs.declared.told.Told.TheVariants.{Ignored, PeerIcmp}
 
 -- the value of an attribute stands in its message behind its type and its length (RFC 8489, section 14)
 abbrev pub value_place : Attribute → Range ℕ
@@ -12,3 +18,8 @@ value_place a = record { start = a.offset + 4; end = a.offset + 4 + length a.val
 -- this, where the server lets its peer through
 abbrev pub let_in : Bool → Told → Told
 let_in is_permitted told = if is_permitted then told else Ignored
+
+-- an ICMP error of this peer, if one was told of
+abbrev pub icmp_of_peer : SocketAddr → Option Icmp → State → Told
+icmp_of_peer peer icmp s =
+    option_map_or (λ icmp. let_in (is_permitted (socket_ip peer) s) (PeerIcmp s.config.allocation_transport peer icmp)) icmp Ignored

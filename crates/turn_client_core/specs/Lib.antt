@@ -1,6 +1,7 @@
 pub mod Allocated
 pub mod Asked
 pub mod Attempts
+pub mod Challenges
 pub mod Effects
 pub mod Indication
 pub mod Judged
@@ -13,3 +14,4 @@ pub mod Replies
 pub mod Sending
 pub mod Sent
 pub mod Told
+pub mod Turns

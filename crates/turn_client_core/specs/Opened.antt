@@ -1,5 +1,5 @@
 -- Data connections that the caller opened, or could not (RFC 6062, sections 4.3 and 4.4).
-use Rattle.std.specs.Prelude.{ℕ, List, [], ◌∷◌, ◌++◌, Bool, true, false, map, option_to_list, Option, Some, None}
+use Rattle.std.specs.Prelude.{ℕ, List, [], ◌∷◌, ◌++◌, false, map, option_to_list, Option, Some, None}
 use Rattle.std.specs.declared.net.socket_addr.SocketAddr.{SocketAddr}
 use Rattle.turn_client_api.specs.Calls.{offer_taken, with_stream}
 use Rattle.turn_client_api.specs.Grants.{in_turn, with_grant}
@@ -10,7 +10,6 @@ use Rattle.turn_client_api.specs.declared.grant.Grant.TheVariants.{Connection}
 use Rattle.turn_client_api.specs.declared.grant.Origin.{Origin}
 use Rattle.turn_client_api.specs.declared.grant.Origin.TheVariants.{ServerRequest}
 use Rattle.turn_client_api.specs.declared.grant.Purpose.TheVariants.{ForBind}
-use Rattle.turn_client_api.specs.declared.state.Queued.{Queued}
 
 -- a reply waits to be sent over the control connection, if there is one
 abbrev pub with_reply : Option (List ℕ) → State → State

@@ -11,7 +11,10 @@ use Rattle.turn_client_core.specs.Outgoing.{Outgoing, packet_of}
 -- the oldest request that is due is sent again, to where it went
 abbrev pub resend_step : ℕ → Outgoing → Option (Transmit (List ℕ)) × Outgoing
 resend_step now o =
-    option_map_or (λ t. (Some (record (packet_of o o.local t.request) { to = t.to }), record o { transactions = resent t.id now o.transactions; last_send = Some now }))
+    option_map_or (λ t. (
+      Some (record (packet_of o o.local t.request) { to = t.to }),
+      record o { transactions = resent t.id now o.transactions; last_send = Some now },
+    ))
     (find (is_due o.timers o.transport now) o.transactions) (None, o)
 
 -- the first reply that waits goes out, which does not prolong the pause
@@ -26,7 +29,8 @@ front_step now o =
 -- the oldest request whose last wait is over is given up
 abbrev pub give_up_step : ℕ → Outgoing → Option ℕ × Outgoing
 give_up_step now o =
-    option_map_or (λ t. (Some t.id, record o { transactions = without t.id o.transactions })) (find (is_given_up o.timers o.transport now) o.transactions) (None, o)
+    option_map_or (λ t. (Some t.id, record o { transactions = without t.id o.transactions }))
+    (find (is_given_up o.timers o.transport now) o.transactions) (None, o)
 
 -- where no request is due again: within the pause a reply alone, and else what comes next
 abbrev pub waiting_step : ℕ → State → Option (Transmit (List ℕ)) × State

@@ -20,3 +20,8 @@ outcome_in bytes (T.PeerIcmp transport peer icmp) = PeerIcmp transport peer icmp
 abbrev pub IsPart : List ℕ → State → State → Told → Type 0
 IsPart bytes was s (T.PeerData transport peer range) = (range.start ≤ range.end) × (range.end ≤ length bytes) × (s ≡ was)
 IsPart bytes was s _ = ⊤
+
+-- data is a part of what came
+abbrev pub IsWithin : List ℕ → Told → Type 0
+IsWithin bytes (T.PeerData transport peer range) = (range.start ≤ range.end) × (range.end ≤ length bytes)
+IsWithin bytes _ = ⊤

@@ -1,11 +1,10 @@
 //! What the server's signed reply to a request changes (RFC 8656, sections 8.3, 10.3 and 12.3; RFC 6062,
 //! section 4.3).
 
-ghost use Rattle.std.specs.Prelude.{◌≡◌, ◌≤◌, ◌||◌, fold, if◌then◌else◌, option_to_list};
-ghost use Rattle.turn_client_api.specs.Effect.{allocation_mismatch, challenges_reset, connect_answered, effect, given_back, has_code, prolonged, refreshed};
-ghost use Rattle.turn_client_api.specs.Judgement.{connection_id_in};
+ghost use Rattle.std.specs.Prelude.{◌≡◌, ◌≤◌, ◌||◌, option_to_list};
+ghost use Rattle.turn_client_api.specs.Effect.{allocation_mismatch, effect, given_back, has_code, prolonged, refreshed};
 ghost use Rattle.turn_client_api.specs.State.{State};
-ghost use Rattle.turn_client_core.specs.Effects.{after};
+ghost use Rattle.turn_client_core.specs.Effects.{Answers, after, connect_replied};
 ghost use Rattle.turn_client_grants.specs.Ledger.{LessRoom, SameRoomBut, on};
 ghost use Rattle.turn_client_grants.specs.Which.{purposes_in};
 ghost use Rattle.turn_stun.specs.Message.{id_of};
@@ -62,7 +61,7 @@ pub(crate) fn answer_all(
     requires grant_room { 6 ≤ ledger.old.grant_room }
     requires event_room { 18 ≤ ledger.old.event_room }
     requires close_room { 2 ≤ ledger.old.close_room }
-    ensures { (s : State) → after result (on ledger.new s) ≡ fold (effect (id_of message.now) is_granted message.now now) (on ledger.old s) (purposes_in purposes.now) }
+    ensures { Answers (purposes_in purposes.now) is_granted message.now now ledger.old ledger.new result }
 {
     let first = answer_one(ledger, &purposes.first, message, is_granted, now);
     let second = answer_one(ledger, &purposes.second, message, is_granted, now);
@@ -80,7 +79,7 @@ fn answer_one(
     requires grant_room { 3 ≤ ledger.old.grant_room }
     requires event_room { 9 ≤ ledger.old.event_room }
     requires close_room { 1 ≤ ledger.old.close_room }
-    ensures state { (s : State) → after result (on ledger.new s) ≡ fold (effect (id_of message.now) is_granted message.now now) (on ledger.old s) (option_to_list purpose.now) }
+    ensures state { Answers (option_to_list purpose.now) is_granted message.now now ledger.old ledger.new result }
     ensures room { LessRoom 3 0 9 1 ledger.old ledger.new }
 {
     match purpose {
@@ -188,7 +187,7 @@ fn connected(
     requires grant_room { 1 ≤ ledger.old.grant_room }
     requires event_room { 2 ≤ ledger.old.event_room }
     requires close_room { 1 ≤ ledger.old.close_room }
-    ensures state { (s : State) → after result (on ledger.new s) ≡ challenges_reset (connect_answered peer (if is_granted then connection_id_in message.now else None) (on ledger.old s)) }
+    ensures state { (s : State) → after result (on ledger.new s) ≡ connect_replied peer is_granted message.now (on ledger.old s) }
     ensures room { LessRoom 1 0 2 1 ledger.old ledger.new }
 {
     let connection_id = if is_granted {

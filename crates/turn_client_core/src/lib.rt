@@ -12,7 +12,9 @@ mod effect;
 mod indication;
 mod outbox;
 mod protocol;
+mod received;
 mod reply;
 mod told;
 
 pub use protocol::TurnClientProtocol;
+pub use told::Told;

@@ -1,25 +1,32 @@
 //! A client, whatever carries its packets.
 
 mod allocation;
+mod arrival;
 mod attempt;
+mod bind;
 mod challenge;
 mod channel;
 mod connect;
 mod data;
+mod datagram;
 mod delete;
 mod event;
 mod fatal;
+mod frame;
 mod granted;
 mod judge;
+mod judge_bind;
 mod message;
 mod new;
 mod permission;
+mod piece;
 mod poll;
 mod read;
 mod request;
 mod respond;
 mod send;
 mod socket;
+mod stream;
 mod transmit;
 mod wakeup;
 

@@ -1,19 +1,91 @@
-//! What came of a message of the server.
+//! What came of a datagram of the server.
 
+ghost use Rattle.std.specs.Prelude.{◌≡◌, ◌≤◌, length, slice_range};
+ghost use Rattle.turn_client_api.specs.Answers.{HandsBack, outcome_of};
+ghost use Rattle.turn_client_api.specs.Streams.{owned};
+ghost use Rattle.turn_client_core.specs.Told.{IsWithin, outcome_in};
+
+use std::convert::AsSlice;
 use std::net::SocketAddr;
 use std::ops::Range;
-use turn_stun::transport::TransportType;
+use turn_client_api::{DataRange, DataRangeOrOwned, TurnPeerData, TurnRecvRet};
+use turn_stun::transport::{Transmit, TransportType};
 use turn_types::attribute::Icmp;
 
 /// What came of a message of the server, or of a channel frame.
 #[derive(Debug, Drop)]
 pub enum Told {
-    /// It was for the client.
+    /// It was for the client, which may have something to send or an event to tell now.
     Handled,
-    /// It was not for the client.
+    /// It was not for the client, and changed nothing but that a request may await its response no longer.
     Ignored,
-    /// Data of this peer, which its allocation relayed over this transport: these of the bytes that came.
+    /// Data of this peer, which its allocation relayed over this transport: these of the bytes that came
+    /// (RFC 8656, sections 11.6 and 12.6).
     PeerData(TransportType, SocketAddr, Range<usize>),
     /// An ICMP packet about data that was sent to this peer over this transport (RFC 8656, section 11.6).
     PeerIcmp(TransportType, SocketAddr, Icmp),
+}
+
+impl Told {
+    /// The answer to the caller who handed in the bytes: data is a part of them.
+    pub fn lent<T: AsSlice<u8> + Drop>(self, transmit: Transmit<T>) -> TurnRecvRet<T>
+        requires { IsWithin (T.items transmit.payload) self }
+        ensures outcome { outcome_of result ≡ outcome_in (T.items transmit.payload) self }
+        ensures hands_back { HandsBack transmit result }
+    {
+        match self {
+            Told::Handled => TurnRecvRet::Handled,
+            Told::Ignored => TurnRecvRet::Ignored(transmit),
+            Told::PeerData(transport, peer, place) => {
+                let Transmit { payload, .. } = transmit;
+                let part = DataRangeOrOwned::Range(DataRange::new(payload, place));
+                TurnRecvRet::PeerData(TurnPeerData::new(transport, peer, part))
+            }
+            Told::PeerIcmp(transport, peer, icmp) => TurnRecvRet::PeerIcmp {
+                transport,
+                peer,
+                icmp_type: icmp.icmp_type,
+                icmp_code: icmp.code,
+                icmp_data: icmp.data,
+            },
+        }
+    }
+
+    /// The answer to the caller who handed in the end of these bytes: data is owned. It takes no memory.
+    pub fn owned<T: AsSlice<u8> + Drop>(
+        self,
+        bytes: Vec<u8>,
+        transmit: Transmit<T>,
+    ) -> TurnRecvRet<T>
+        requires { IsWithin bytes.items self }
+        ensures outcome { outcome_of result ≡ owned (outcome_in bytes.items self) }
+        ensures hands_back { HandsBack transmit result }
+    {
+        match self {
+            Told::Handled => TurnRecvRet::Handled,
+            Told::Ignored => TurnRecvRet::Ignored(transmit),
+            Told::PeerData(transport, peer, place) => {
+                let part = DataRangeOrOwned::Owned(part_of(bytes, &place));
+                TurnRecvRet::PeerData(TurnPeerData::new(transport, peer, part))
+            }
+            Told::PeerIcmp(transport, peer, icmp) => TurnRecvRet::PeerIcmp {
+                transport,
+                peer,
+                icmp_type: icmp.icmp_type,
+                icmp_code: icmp.code,
+                icmp_data: icmp.data,
+            },
+        }
+    }
+}
+
+/// These of the bytes. It takes no memory.
+fn part_of(mut bytes: Vec<u8>, place: &Range<usize>) -> Vec<u8>
+    requires ordered { place.now.start ≤ place.now.end }
+    requires inside { place.now.end ≤ length bytes.items }
+    ensures { result.items ≡ slice_range bytes.items place.now.start place.now.end }
+{
+    bytes.rotate_left(place.start);
+    bytes.truncate(place.end - place.start);
+    bytes
 }

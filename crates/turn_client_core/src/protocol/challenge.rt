@@ -1,12 +1,11 @@
 //! A challenge is answered: the request is made again, signed as the server asks (RFC 8489, section 9.2.5).
 
 ghost use Rattle.std.specs.Prelude.{◌≡◌, ◌<◌, IfOk, IsSome, OnErr, OnOk, Some};
-ghost use Rattle.turn_auth.specs.LongTerm.{Challenge};
 ghost use Rattle.turn_client_api.specs.Grants.{purposes_of};
 ghost use Rattle.turn_client_api.specs.Judgement.{challenge_in};
-ghost use Rattle.turn_client_api.specs.Payloads.{challenge_step};
-ghost use Rattle.turn_client_api.specs.Retry.{phase_after, retried, state_after_retry};
-ghost use Rattle.turn_client_core.specs.Told.{IsPart, outcome_in};
+ghost use Rattle.turn_client_api.specs.Retry.{phase_after, retried};
+ghost use Rattle.turn_client_core.specs.Challenges.{AsksAgain, MeetsChallenge, TellsOfChallenge};
+ghost use Rattle.turn_client_core.specs.Told.{IsPart};
 ghost use Rattle.turn_stun.specs.Message.{id_of};
 
 use crate::asked::retried;
@@ -35,9 +34,9 @@ impl TurnClientProtocol {
         now: Instant,
     ) -> Result<Told, AllocError>
         requires { IsSome (challenge_in self.old message.now) }
-        ensures answer { (challenge : Challenge) → challenge_in self.old message.now ≡ Some challenge → IfOk result (λ told. outcome_in message.now told ≡ (challenge_step message.now challenge now self.old).0) }
+        ensures answer { TellsOfChallenge message.now now self.old result }
         ensures part { IfOk result (IsPart message.now self.old self.new) }
-        ensures after { (challenge : Challenge) → challenge_in self.old message.now ≡ Some challenge → OnOk result (self.new ≡ (challenge_step message.now challenge now self.old).1) }
+        ensures after { MeetsChallenge message.now now self.old self.new result }
         ensures err { OnErr result (self.new ≡ self.old) }
     {
         if self.challenges < MOST_CHALLENGES {
@@ -56,9 +55,9 @@ impl TurnClientProtocol {
     fn answer_challenge(&mut self, message: &Message<'_>, now: Instant) -> Result<Told, AllocError>
         requires challenge { IsSome (challenge_in self.old message.now) }
         requires few { self.old.challenges < 9 }
-        ensures answer { (challenge : Challenge) → challenge_in self.old message.now ≡ Some challenge → IfOk result (λ told. outcome_in message.now told ≡ (challenge_step message.now challenge now self.old).0) }
+        ensures answer { TellsOfChallenge message.now now self.old result }
         ensures part { IfOk result (IsPart message.now self.old self.new) }
-        ensures after { (challenge : Challenge) → challenge_in self.old message.now ≡ Some challenge → OnOk result (self.new ≡ (challenge_step message.now challenge now self.old).1) }
+        ensures after { MeetsChallenge message.now now self.old self.new result }
         ensures err { OnErr result (self.new ≡ self.old) }
     {
         let purposes = self.ledger.table().purposes_of(message.transaction_id());
@@ -84,7 +83,7 @@ impl TurnClientProtocol {
         requires challenge { IsSome (challenge_in self.old message.now) }
         requires few { self.old.challenges < 9 }
         requires asked { retried (purposes_of (id_of message.now) self.old) ≡ Some purpose.now }
-        ensures ok { (challenge : Challenge) → challenge_in self.old message.now ≡ Some challenge → OnOk result (self.new ≡ state_after_retry self.old (id_of message.now) purpose.now challenge now) }
+        ensures ok { AsksAgain purpose.now message.now now self.old self.new result }
         ensures err { OnErr result (self.new ≡ self.old) }
     {
         let Some(challenge) = self.auth.challenge_in(message)? else {

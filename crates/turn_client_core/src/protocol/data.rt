@@ -2,12 +2,10 @@
 
 ghost use Rattle.std.specs.Prelude.{◌≡◌, ◌≤◌, ◌+◌, length};
 ghost use Rattle.std.specs.Net.Socket.{socket_ip};
-ghost use Rattle.std.specs.Option.{option_map_or};
 ghost use Rattle.turn_client_api.specs.Grants.{is_permitted};
 ghost use Rattle.turn_client_api.specs.Payloads.{channel_sent, data_indicated};
-ghost use Rattle.turn_client_core.specs.Indication.{let_in};
+ghost use Rattle.turn_client_core.specs.Indication.{icmp_of_peer, let_in};
 ghost use Rattle.turn_client_core.specs.Told.{IsPart, outcome_in};
-ghost use Rattle.turn_client_core.specs.declared.told.Told.TheVariants.{Ignored, PeerIcmp};
 ghost use Rattle.turn_types.specs.Channel.{channel_at};
 
 use crate::indication::Indication;
@@ -42,7 +40,7 @@ impl TurnClientProtocol {
 
     /// What a DATA indication without data gives.
     fn icmp_indicated(&self, peer: SocketAddr, icmp: &Option<Icmp>) -> Told
-        ensures { result ≡ option_map_or (λ icmp. let_in (is_permitted (socket_ip peer) self.now) (PeerIcmp self.now.config.allocation_transport peer icmp)) icmp.now Ignored }
+        ensures { result ≡ icmp_of_peer peer icmp.now self.now }
     {
         match icmp {
             Some(icmp) => {

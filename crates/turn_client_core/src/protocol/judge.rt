@@ -1,12 +1,11 @@
 //! What a message of the server is to a client (RFC 8489, sections 6.3 and 9.2.5; RFC 8656, section 11).
 
-ghost use Rattle.std.specs.Prelude.{◌≡◌, ◌↔◌, if◌then◌else◌, IsSome, is_some};
-ghost use Rattle.turn_agent.specs.Agent.{is_outstanding};
+ghost use Rattle.std.specs.Prelude.{◌≡◌, ◌↔◌, IsSome, is_some};
 ghost use Rattle.turn_auth.specs.Validation.{IsResendRequest, validation_of};
-ghost use Rattle.turn_client_api.specs.Judgement.{allocated_judgement, answers_allocate, answers_one, authenticating_judgement, by_class, challenge_in, indication_judgement, judgement_of, requesting_judgement};
+ghost use Rattle.turn_client_api.specs.Judgement.{allocated_judgement, answers_allocate, answers_one, authenticating_judgement, challenge_in, indication_judgement, judgement_of, requesting_judgement};
 ghost use Rattle.turn_client_api.specs.State.{auth_of};
-ghost use Rattle.turn_client_core.specs.Judged.{kind_of};
-ghost use Rattle.turn_stun.specs.Message.{id_of, type_of};
+ghost use Rattle.turn_client_core.specs.Judged.{kind_of, signed_kind};
+ghost use Rattle.turn_stun.specs.Message.{type_of};
 ghost use Rattle.turn_stun.specs.MessageType.{class_of};
 
 use crate::protocol::TurnClientProtocol;
@@ -41,7 +40,8 @@ pub(super) enum Judged {
 
 impl TurnClientProtocol {
     /// What the message is in the phase that the client is in. It takes no memory, and for a response
-    /// that is about nothing no digest is computed.
+    /// that is about nothing no digest is computed. Without a REALM the attributes are walked at most
+    /// twice, for that and for the integrity.
     pub(super) fn judge(&self, message: &Message<'_>) -> Judged
         ensures { result ≡ kind_of (judgement_of self.now message.now) }
     {
@@ -123,22 +123,22 @@ impl TurnClientProtocol {
         requires { class_of (type_of message.now) ≡ MessageClass.Error }
         ensures { result ≡ kind_of (allocated_judgement self.now message.now) }
     {
-        if self.is_challenge(message) {
-            return Judged::Challenged;
-        }
         if !self.outbox.is_outstanding(message.transaction_id()) {
+            if self.is_challenge(message) {
+                return Judged::Challenged;
+            }
             return Judged::Unrelated;
         }
         match self.validate(message) {
             Validation::Validated(_) => Judged::SignedError,
-            Validation::ResendRequest(_) => Judged::Unrelated,
+            Validation::ResendRequest(_) => Judged::Challenged,
             Validation::Refused { .. } => Judged::Unrelated,
         }
     }
 
     /// A signed message by its class, where its request is outstanding, or else this.
-    fn signed_or(&self, message: &Message<'_>, otherwise: Judged) -> Judged
-        ensures { result ≡ (if is_outstanding (id_of message.now) self.now.transactions then kind_of (by_class (class_of (type_of message.now))) else otherwise) }
+    pub(super) fn signed_or(&self, message: &Message<'_>, otherwise: Judged) -> Judged
+        ensures { result ≡ signed_kind message.now self.now otherwise }
     {
         if !self.outbox.is_outstanding(message.transaction_id()) {
             return otherwise;
@@ -171,7 +171,7 @@ impl TurnClientProtocol {
     }
 
     /// Who signed the message.
-    fn validate(&self, message: &Message<'_>) -> Validation
+    pub(super) fn validate(&self, message: &Message<'_>) -> Validation
         ensures exact { result ≡ validation_of (auth_of self.now) message.now }
         ensures resend { IsResendRequest result ↔ IsSome (challenge_in self.now message.now) }
     {

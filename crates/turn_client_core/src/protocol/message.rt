@@ -1,7 +1,8 @@
 //! A whole message of the server (RFC 8656, sections 7 to 12; RFC 6062, section 4).
 
-ghost use Rattle.std.specs.Prelude.{◌≡◌, [], IfOk, OnErr, OnOk, false, true};
+ghost use Rattle.std.specs.Prelude.{◌≡◌, [], IfOk, IsOk, OnErr, OnOk, false, true};
 ghost use Rattle.turn_agent.specs.Agent.{is_outstanding};
+ghost use Rattle.turn_client_api.specs.Answers.{is_data_indication};
 ghost use Rattle.turn_client_api.specs.Payloads.{message_step, signed_step};
 ghost use Rattle.turn_client_core.specs.Attempts.{CanSign, request_step};
 ghost use Rattle.turn_client_core.specs.Replies.{is_authenticating};
@@ -22,7 +23,7 @@ impl TurnClientProtocol {
     ///
     /// # Errors
     ///
-    /// There is no memory. Nothing changes then.
+    /// There is no memory. Nothing changes then. A DATA indication takes none.
     pub(super) fn message(
         &mut self,
         message: &Message<'_>,
@@ -33,6 +34,7 @@ impl TurnClientProtocol {
         ensures part { IfOk result (IsPart message.now self.old self.new) }
         ensures after { OnOk result (self.new ≡ (message_step message.now now self.old).1) }
         ensures err { OnErr result (self.new ≡ self.old) }
+        ensures free { is_data_indication message.now ≡ true → IsOk result }
     {
         let judged = self.judge(message);
         match judged {

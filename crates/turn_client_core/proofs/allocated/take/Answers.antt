@@ -1,4 +1,4 @@
-use Rattle.std.proofs.Common.{◌≡◌, ◌∙◌, sym, rules}
+use Rattle.std.proofs.Common.{rules}
 use Rattle.turn_client_core.proofs.AllocatedLemmas.{taken-more, taken-same}
 use Rattle.turn_client_core.proofs.allocated.take.Goals as goal
 

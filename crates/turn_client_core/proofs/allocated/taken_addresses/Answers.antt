@@ -1,4 +1,4 @@
-use Rattle.std.proofs.Common.{◌≡◌, ◌∙◌, sym, ap, rules}
+use Rattle.std.proofs.Common.{rules}
 use Rattle.turn_client_core.proofs.AllocatedLemmas.{missing-none}
 use Rattle.turn_client_core.proofs.allocated.taken_addresses.Goals as goal
 

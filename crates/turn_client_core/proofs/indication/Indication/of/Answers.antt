@@ -1,4 +1,4 @@
-use Rattle.std.proofs.Common.{◌≡◌, None, length}
+use Rattle.std.proofs.Common.{None, length}
 use Rattle.turn_stun.specs.Attributes.{seen_of}
 use Rattle.turn_stun.specs.Message.{HoldsValue, IsWithin}
 use Rattle.turn_types.specs.Send.{data_kind}

@@ -1,4 +1,4 @@
-use Rattle.std.proofs.Common.{◌≡◌, ◌∙◌, None, Some, ap, refl, sym}
+use Rattle.std.proofs.Common.{◌∙◌, refl, sym}
 use Rattle.turn_client_core.proofs.ReplyLemmas.{no_reply, reply-at}
 use Rattle.turn_client_core.proofs.outbox.Outbox.take_reply.Goals as goal
 

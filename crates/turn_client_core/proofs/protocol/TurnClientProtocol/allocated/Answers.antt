@@ -1,4 +1,4 @@
-use Rattle.std.proofs.Common.{◌≡◌, ◌∙◌, [], sym, ap, refl}
+use Rattle.std.proofs.Common.{◌≡◌, ◌∙◌, ap}
 use Rattle.turn_stun.specs.Message.{id_of}
 use Rattle.turn_client_api.specs.Effect.{allocated, ended, relayed_in, taken_addresses}
 use Rattle.turn_client_api.specs.State.{State}

@@ -1,4 +1,4 @@
-use Rattle.std.proofs.Common.{◌≡◌, ◌∙◌, ap, sym}
+use Rattle.std.proofs.Common.{◌∙◌, ap, sym}
 use Rattle.turn_client_api.specs.Retry.{retried}
 use Rattle.turn_client_grants.specs.Which.{purposes_in}
 use Rattle.turn_client_core.specs.contracts.protocol.TurnClientProtocol.{the_view}

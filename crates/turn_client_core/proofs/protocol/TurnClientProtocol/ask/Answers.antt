@@ -1,4 +1,4 @@
-use Rattle.std.proofs.Common.{◌≡◌, ◌∙◌, ap, sym}
+use Rattle.std.proofs.Common.{◌∙◌, ap, sym}
 use Rattle.turn_client_api.specs.Grants.{with_more_grants}
 use Rattle.turn_client_api.specs.Requests.{fresh_id, request_for, sent_from}
 use Rattle.turn_client_grants.specs.Ledger.{on}

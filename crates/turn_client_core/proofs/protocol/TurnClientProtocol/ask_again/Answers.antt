@@ -1,5 +1,5 @@
 use Rattle.std.proofs.Common.{◌≡◌, ◌∙◌, false, true, ap, refl, sym}
-use Rattle.std.specs.Prelude.{◌==◌, ◌∷◌, [], ◌++◌, Some}
+use Rattle.std.specs.Prelude.{◌==◌}
 use Rattle.std.proofs.lemmas.Option.{same_Some}
 use Rattle.turn_agent.specs.Agent.{first_sent, without}
 use Rattle.turn_auth.specs.Challenge.{challenge_of}
@@ -7,7 +7,7 @@ use Rattle.turn_auth.specs.LongTerm.{holding}
 use Rattle.turn_client_api.specs.Grants.{purposes_of}
 use Rattle.turn_client_api.specs.Requests.{asked, drawn, fresh_id, queued, request_for}
 use Rattle.turn_client_api.specs.Retry.{state_after_retry}
-use Rattle.turn_client_api.specs.State.{State, auth_of}
+use Rattle.turn_client_api.specs.State.{auth_of}
 use Rattle.turn_client_requests.specs.Asked.{asking}
 use Rattle.turn_client_grants.specs.Ledger.{on}
 use Rattle.turn_stun.specs.Message.{id_of}

@@ -1,4 +1,4 @@
-use Rattle.std.proofs.Common.{◌≡◌, ◌∙◌, sym, ap, refl, subst}
+use Rattle.std.proofs.Common.{◌≡◌, ◌∙◌, sym, ap, refl}
 use Rattle.turn_client_api.specs.Grants.{channel_peer, first_in}
 use Rattle.turn_client_grants.specs.Table.{with_table}
 use Rattle.turn_client_core.specs.contracts.protocol.TurnClientProtocol.{the_view}

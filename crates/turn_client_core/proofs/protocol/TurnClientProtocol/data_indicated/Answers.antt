@@ -1,4 +1,4 @@
-use Rattle.std.proofs.Common.{◌≡◌, ◌∙◌, sym, ap, refl, option_and_then}
+use Rattle.std.proofs.Common.{◌∙◌, sym, ap, option_and_then}
 use Rattle.std.specs.Option.{option_map}
 use Rattle.turn_stun.specs.Iterator.{placed}
 use Rattle.turn_stun.specs.Message.{id_of}

@@ -1,6 +1,6 @@
-use Rattle.std.proofs.Common.{◌≡◌, ◌∙◌, ap}
+use Rattle.std.proofs.Common.{◌∙◌, ap}
 use Rattle.std.specs.Prelude.{codes}
-use Rattle.turn_client_api.specs.Calls.{offer_taken, socket_refused}
+use Rattle.turn_client_api.specs.Calls.{offer_taken}
 use Rattle.turn_client_api.specs.Requests.{connection_timed_out, refused_reply}
 use Rattle.turn_client_grants.specs.Ledger.{on}
 use Rattle.turn_client_core.specs.Opened.{with_reply}

@@ -1,4 +1,4 @@
-use Rattle.std.proofs.Common.{◌∙◌, ap, false, subst, sym, true}
+use Rattle.std.proofs.Common.{◌∙◌, ap, false, subst, sym}
 use Rattle.std.specs.Prelude.{◌≡◌, IfOk, OnOk}
 use Rattle.turn_client_api.specs.Payloads.{Outcome}
 use Rattle.turn_client_api.specs.State.{State}

@@ -1,4 +1,4 @@
-use Rattle.std.proofs.Common.{◌≡◌, ◌∙◌, true, ap, sym}
+use Rattle.std.proofs.Common.{◌∙◌, true, ap, sym}
 use Rattle.turn_client_api.specs.Calls.{delete_text, deleted}
 use Rattle.turn_client_api.specs.Requests.{asked, fresh_id, queued}
 use Rattle.turn_client_grants.specs.Asked.{all_back, given_up}

@@ -1,4 +1,3 @@
-use Rattle.std.proofs.Common.{◌≡◌, ◌∙◌, ap, refl, sym}
 use Rattle.turn_client_core.specs.contracts.protocol.TurnClientProtocol.{the_view}
 use Rattle.turn_client_core.proofs.PollLemmas.{given_up-is}
 use Rattle.turn_client_core.proofs.protocol.TurnClientProtocol.give_up.Goals as goal

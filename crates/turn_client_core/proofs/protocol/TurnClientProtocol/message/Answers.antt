@@ -1,8 +1,8 @@
-use Rattle.std.proofs.Common.{◌≡◌, ◌∙◌, refl, sym}
+use Rattle.std.proofs.Common.{◌∙◌, refl, sym}
 use Rattle.turn_client_api.proofs.ChallengeJudgement.{Challenged-is}
 use Rattle.turn_client_api.specs.Judgement.{judgement_of}
-use Rattle.turn_client_core.specs.declared.protocol.judge.Judged.TheVariants.{Unrelated, Fatal, LateResponse, DataIndication, ConnectionAttempt, SignedRequest, SignedSuccess, SignedError}
-use Rattle.turn_client_core.proofs.JudgedLemmas.{challenged-is, error-answers, judged-is, request-signs}
+use Rattle.turn_client_core.specs.declared.protocol.judge.Judged.TheVariants.{Unrelated, Challenged, Fatal, LateResponse, DataIndication, ConnectionAttempt, SignedRequest, SignedSuccess, SignedError}
+use Rattle.turn_client_core.proofs.JudgedLemmas.{challenged-is, data-judged, error-answers, judged-is, request-signs}
 use Rattle.turn_client_core.proofs.protocol.TurnClientProtocol.message.Goals as goal
 
 pub returns-in-Unrelated-clause-answer : goal.returns-in-Unrelated-clause-answer
@@ -73,3 +73,21 @@ requested-requires c = request-signs c.args.self.now c.args.message.now (judged-
 
 pub failed-requires : goal.failed-requires
 failed-requires c = error-answers c.args.self.now c.args.message.now (judged-is (judgement_of c.args.self.now c.args.message.now) SignedError (sym c.judge-judged.ensures ∙ c.in-SignedError.is) tt)
+
+pub returns-in-Challenged-clause-free : goal.returns-in-Challenged-clause-free
+returns-in-Challenged-clause-free c = λ h. absurd (data-judged c.args.self.now c.args.message.now h Challenged (sym c.judge-judged.ensures ∙ c.in-Challenged.is))
+
+pub returns-in-Fatal-clause-free : goal.returns-in-Fatal-clause-free
+returns-in-Fatal-clause-free c = λ h. absurd (data-judged c.args.self.now c.args.message.now h Fatal (sym c.judge-judged.ensures ∙ c.in-Fatal.is))
+
+pub returns-in-ConnectionAttempt-clause-free : goal.returns-in-ConnectionAttempt-clause-free
+returns-in-ConnectionAttempt-clause-free c = λ h. absurd (data-judged c.args.self.now c.args.message.now h ConnectionAttempt (sym c.judge-judged.ensures ∙ c.in-ConnectionAttempt.is))
+
+pub returns-in-SignedRequest-clause-free : goal.returns-in-SignedRequest-clause-free
+returns-in-SignedRequest-clause-free c = λ h. absurd (data-judged c.args.self.now c.args.message.now h SignedRequest (sym c.judge-judged.ensures ∙ c.in-SignedRequest.is))
+
+pub returns-in-SignedSuccess-clause-free : goal.returns-in-SignedSuccess-clause-free
+returns-in-SignedSuccess-clause-free c = λ h. absurd (data-judged c.args.self.now c.args.message.now h SignedSuccess (sym c.judge-judged.ensures ∙ c.in-SignedSuccess.is))
+
+pub returns-in-SignedError-clause-free : goal.returns-in-SignedError-clause-free
+returns-in-SignedError-clause-free c = λ h. absurd (data-judged c.args.self.now c.args.message.now h SignedError (sym c.judge-judged.ensures ∙ c.in-SignedError.is))

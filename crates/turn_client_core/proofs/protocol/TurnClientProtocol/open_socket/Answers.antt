@@ -1,4 +1,4 @@
-use Rattle.std.proofs.Common.{◌≡◌, ◌∙◌, ap}
+use Rattle.std.proofs.Common.{◌∙◌, ap}
 use Rattle.turn_client_core.specs.Opened.{opened_with}
 use Rattle.turn_client_core.proofs.SocketLemmas.{opened-is}
 use Rattle.turn_client_core.proofs.protocol.TurnClientProtocol.open_socket.Goals as goal

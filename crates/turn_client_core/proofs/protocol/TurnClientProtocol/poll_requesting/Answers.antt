@@ -1,4 +1,4 @@
-use Rattle.std.proofs.Common.{◌≡◌, ◌∙◌, None, map, ap}
+use Rattle.std.proofs.Common.{◌∙◌, None, map, ap}
 use Rattle.turn_client_api.specs.Effect.{closed, without_families}
 use Rattle.turn_client_api.specs.Grants.{jump}
 use Rattle.turn_client_api.specs.Poll.{answer_step}

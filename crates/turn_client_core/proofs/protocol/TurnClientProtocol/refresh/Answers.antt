@@ -1,4 +1,4 @@
-use Rattle.std.proofs.Common.{◌≡◌, ◌∙◌, ap, List, refl, sym, ℕ}
+use Rattle.std.proofs.Common.{◌∙◌, ap, List, refl, sym, ℕ}
 use Rattle.std.specs.Prelude.{IsSome}
 use Rattle.turn_client_api.specs.Requests.{request_for}
 use Rattle.turn_client_api.specs.State.{State}

@@ -1,0 +1,136 @@
+-- Pieces for the stream at their local end.
+use Rattle.std.proofs.Common.{◌≡◌, ◌≢◌, ℕ, ◌<◌, Bool, true, false, cond, List, [], ◌∷◌, length, Option, Some, None, inl, inr, refl, subst, ap, ◌∙◌, arith}
+use Rattle.std.specs.Prelude.{IsSomeAnd, OnErr, Result, Ok, Err, find}
+use Rattle.std.specs.Option.{option_map, option_map_or}
+use Rattle.std.specs.declared.net.socket_addr.SocketAddr.{SocketAddr}
+use Rattle.turn_stun.specs.declared.transport.TransportType.TheVariants.{Tcp}
+use Rattle.turn_agent.specs.Agent.{same_address}
+use Rattle.turn_client_api.specs.Answers.{EndsAfterTurns, RecvEnds, before_others}
+use Rattle.turn_client_api.specs.Effect.{closed}
+use Rattle.turn_client_api.specs.Payloads.{Outcome, Handled, Ignored, PeerData, PeerIcmp}
+use Rattle.turn_client_api.specs.Receive.{connection_gone, first_turn, piece_step}
+use Rattle.turn_client_api.specs.State.{State}
+use Rattle.turn_client_api.specs.Streams.{broken_at, stream_at, with_bytes, without_stream}
+use Rattle.turn_client_api.specs.declared.state.Mode.{Mode}
+use Rattle.turn_client_api.specs.declared.state.Mode.TheVariants.{Control, Waiting, Bound, Broken}
+use Rattle.turn_client_api.specs.declared.state.Stream.{Stream}
+use Rattle.turn_client_api.proofs.AddressLemmas.{same_address-true}
+use Rattle.turn_client_api.proofs.MemoryLemmas.{behind}
+use Rattle.turn_client_core.specs.Turns.{EndsBehind, PieceEnds, broken_turned, fed_turned, is_broken, others_from, piece_at, piece_turned}
+use Rattle.turn_client_core.proofs.TurnLemmas.{emptied-broken}
+
+-- the stream that is found stands at the local end
+found-local : (local : SocketAddr) (xs : List Stream) (x : Stream) → find (λ (y : Stream). same_address y.local local) xs ≡ Some x → x.local ≡ local
+found-local local [] x e = cc
+found-local local (y ∷ ys) x e = by (same_address y.local local) refl (found-local local ys x) e
+  where
+    by : (b : Bool) → same_address y.local local ≡ b → (find (λ (z : Stream). same_address z.local local) ys ≡ Some x → x.local ≡ local)
+        → cond b (Some y) (find (λ (z : Stream). same_address z.local local) ys) ≡ Some x → x.local ≡ local
+    by true g later f = let same : y ≡ x = cc in subst (λ (z : Stream). z.local ≡ local) same (same_address-true y.local local g)
+    by false g later f = later f
+
+pub stream_at-local : (local : SocketAddr) (s : State) (stream : Stream) → stream_at local s ≡ Some stream → stream.local ≡ local
+stream_at-local local s stream e = found-local local s.streams stream e
+
+-- ---- a piece of a stream that is not broken
+
+turned-mode : (mode : Mode) (stream : Stream) (piece : List ℕ) (now : ℕ) (s : State) → is_broken mode ≡ false
+    → piece_step (record stream { mode = mode }) piece now s ≡ piece_turned (record stream { mode = mode }) piece now (with_bytes stream.local [] s)
+turned-mode Control stream piece now s whole = refl
+turned-mode Waiting stream piece now s whole = refl
+turned-mode (Bound peer) stream piece now s whole = refl
+turned-mode Broken stream piece now s whole = cc
+
+pub piece-turned : (to : SocketAddr) (stream : Stream) (piece : List ℕ) (now : ℕ) (s : State) → stream_at to s ≡ Some stream → 0 < length piece → is_broken stream.mode ≡ false
+    → piece_at to piece now s ≡ piece_turned stream piece now (with_bytes stream.local [] s)
+piece-turned to stream [] now s e some whole = absurd (omega (arith, some))
+piece-turned to stream (b ∷ bs) now s e some whole = rw e (turned-mode stream.mode stream (b ∷ bs) now s whole)
+
+-- there is none
+pub piece-ignored : (to : SocketAddr) (piece : List ℕ) (now : ℕ) (s : State) → stream_at to s ≡ None → piece_at to piece now s ≡ (Ignored, s)
+piece-ignored to piece now s e = rw e refl
+
+-- ---- want of memory
+
+some-piece : (piece : List ℕ) → 0 < length piece → piece ≢ []
+some-piece [] some = λ e. absurd (omega (arith, some))
+some-piece (b ∷ bs) some = λ e. cc
+
+behind-from : (p : Outcome × State) (P : State → Type 0) → IsSomeAnd (others_from p) P → IsSomeAnd (behind p) P
+unfolding behind
+behind-from (PeerData payload, t) P h = h
+behind-from (PeerIcmp transport peer icmp, t) P h = h
+behind-from (Handled, t) P h = h
+behind-from (Ignored, t) P h = h
+
+others-in : (to : SocketAddr) (mode : Mode) (stream : Stream) (piece : List ℕ) (now : ℕ) (was s : State) → stream_at to was ≡ Some (record stream { mode = mode }) → mode ≡ Control
+    → EndsBehind now (fed_turned (record stream { mode = mode }) piece now (with_bytes stream.local [] was)) s
+    → IsSomeAnd (before_others to piece now was) (λ t. EndsAfterTurns now t s)
+unfolding behind
+others-in to Control stream piece now was s e control ends =
+    rw e (behind-from (first_turn (record stream { mode = Control }) piece now was) (λ t. EndsAfterTurns now t s) ends)
+others-in to Waiting stream piece now was s e control ends = cc
+others-in to (Bound peer) stream piece now was s e control ends = cc
+others-in to Broken stream piece now was s e control ends = cc
+
+pub piece-ends : (to : SocketAddr) (stream : Stream) (piece : List ℕ) (now : ℕ) (was s : State) → was.transport ≡ Tcp → stream_at to was ≡ Some stream → 0 < length piece
+    → PieceEnds stream piece now (with_bytes stream.local [] was) s → RecvEnds to piece now was s
+piece-ends to stream piece now was s over e some (inl ended) =
+    inl (ended ∙ (ap closed (emptied-broken stream.local was) ∙ ap (λ a. closed (broken_at a was)) (stream_at-local to was stream e)))
+piece-ends to stream piece now was s over e some (inr (control, ends)) =
+    inr (over, some-piece piece some, others-in to stream.mode stream piece now was s e control ends)
+
+-- ---- a piece of a broken stream
+
+broken-mode : (mode : Mode) (to : SocketAddr) (stream : Stream) (piece : List ℕ) (now : ℕ) (s : State) → is_broken mode ≡ true → stream.local ≡ to
+    → piece_step (record stream { mode = mode }) piece now s ≡ broken_turned to now s
+broken-mode Broken to stream piece now s broken e = rw e refl
+broken-mode Control to stream piece now s broken e = cc
+broken-mode Waiting to stream piece now s broken e = cc
+broken-mode (Bound peer) to stream piece now s broken e = cc
+
+-- it is dropped, or sets all others going
+pub piece-broken : (to : SocketAddr) (piece : List ℕ) (now : ℕ) (s : State) → option_map_or (λ (x : Stream). is_broken x.mode) (stream_at to s) false ≡ true → 0 < length piece
+    → piece_at to piece now s ≡ broken_turned to now s
+piece-broken to [] now s e some = absurd (omega (arith, some))
+piece-broken to (b ∷ bs) now s e some = by (stream_at to s) refl e
+  where
+    by : (o : Option Stream) → stream_at to s ≡ o → option_map_or (λ (x : Stream). is_broken x.mode) o false ≡ true → piece_at to (b ∷ bs) now s ≡ broken_turned to now s
+    by None f g = cc
+    by (Some stream) f g = rw f (broken-mode stream.mode to stream (b ∷ bs) now s g (stream_at-local to s stream f))
+
+others-broken : (to : SocketAddr) (mode : Mode) (stream : Stream) (piece : List ℕ) (now : ℕ) (was s : State) → stream_at to was ≡ Some (record stream { mode = mode }) → is_broken mode ≡ true
+    → stream.local ≡ to → same_address to was.local ≡ true → EndsAfterTurns now was s → IsSomeAnd (before_others to piece now was) (λ t. EndsAfterTurns now t s)
+others-broken to Broken stream piece now was s e broken local here ends = rw (e, local, here) ends
+others-broken to Control stream piece now was s e broken local here ends = cc
+others-broken to Waiting stream piece now was s e broken local here ends = cc
+others-broken to (Bound peer) stream piece now was s e broken local here ends = cc
+
+pub broken-ends : (to : SocketAddr) (piece : List ℕ) (now : ℕ) (was s : State) → was.transport ≡ Tcp → option_map_or (λ (x : Stream). is_broken x.mode) (stream_at to was) false ≡ true → 0 < length piece
+    → (same_address to was.local ≡ true) × EndsAfterTurns now was s → RecvEnds to piece now was s
+broken-ends to piece now was s over e some (here, ends) = by (stream_at to was) refl e
+  where
+    by : (o : Option Stream) → stream_at to was ≡ o → option_map_or (λ (x : Stream). is_broken x.mode) o false ≡ true → RecvEnds to piece now was s
+    by None f g = cc
+    by (Some stream) f g = inr (over, some-piece piece some, others-broken to stream.mode stream piece now was s f g (stream_at-local to was stream f) here ends)
+
+-- what an error leaves, leaves this too
+pub err-then : {T E A B : Type 0} (r : Result T E) → (A → B) → OnErr r A → OnErr r B
+err-then (Ok x) f h = tt
+err-then (Err e) f h = f h
+
+-- ---- the end of a stream
+
+pub end-at : (to local : SocketAddr) (now : ℕ) (s : State) → Some local ≡ option_map (λ (x : Stream). x.local) (stream_at to s) → piece_at to [] now s ≡ (Handled, without_stream local (connection_gone local s))
+end-at to local now s e = by (stream_at to s) refl e
+  where
+    by : (o : Option Stream) → stream_at to s ≡ o → Some local ≡ option_map (λ (x : Stream). x.local) o → piece_at to [] now s ≡ (Handled, without_stream local (connection_gone local s))
+    by None f g = cc
+    by (Some stream) f g = let same : local ≡ stream.local = cc in rw (f, same) refl
+
+pub end-none : (to : SocketAddr) (now : ℕ) (s : State) → None ≡ option_map (λ (x : Stream). x.local) (stream_at to s) → piece_at to [] now s ≡ (Ignored, s)
+end-none to now s e = by (stream_at to s) refl e
+  where
+    by : (o : Option Stream) → stream_at to s ≡ o → None ≡ option_map (λ (x : Stream). x.local) o → piece_at to [] now s ≡ (Ignored, s)
+    by None f g = rw f refl
+    by (Some stream) f g = cc

@@ -1,0 +1,51 @@
+-- Data connections that are bound, or are not (RFC 6062, section 4.3).
+use Rattle.std.proofs.Common.{◌≡◌, ℕ, Bool, true, false, List, [], ◌∷◌, Some, refl}
+use Rattle.std.specs.List.{list_any}
+use Rattle.std.specs.Prelude.{find, is_some}
+use Rattle.std.specs.declared.net.socket_addr.SocketAddr.{SocketAddr}
+use Rattle.turn_auth.specs.LongTerm.{Challenge}
+use Rattle.turn_client_api.specs.Connections.{bind_again, bind_answered, not_bound}
+use Rattle.turn_client_api.specs.Grants.{purposes_of}
+use Rattle.turn_client_api.specs.Judgement as J
+use Rattle.turn_client_api.specs.Judgement.{Judgement, bind_judgement, is_bind_of}
+use Rattle.turn_client_api.specs.Requests.{asked, fresh_id, queued, request_for, sent_from}
+use Rattle.turn_client_api.specs.Retry.{with_held}
+use Rattle.turn_client_api.specs.State.{State}
+use Rattle.turn_client_api.specs.declared.grant.DataConnection.{DataConnection}
+use Rattle.turn_client_api.specs.declared.grant.Purpose.{Purpose}
+use Rattle.turn_client_grants.specs.Asked.{bind_retried}
+use Rattle.turn_client_core.specs.Judged.{kind_of}
+use Rattle.turn_client_core.specs.declared.protocol.judge.Judged.TheVariants.{Challenged, SignedSuccess, SignedError}
+
+-- one is found where one passes
+pub found_any : {X : Type 0} (p : X → Bool) (xs : List X) → is_some (find p xs) ≡ list_any p xs
+found_any p [] = refl
+found_any p (x ∷ xs) = by (p x) refl (found_any p xs)
+  where
+    by : (b : Bool) → p x ≡ b → is_some (find p xs) ≡ list_any p xs → is_some (find p (x ∷ xs)) ≡ list_any p (x ∷ xs)
+    by true e rest = rw e refl
+    by false e rest = rw e rest
+
+-- ---- a challenge is answered
+
+pub bind-asked : (s : State) (d : DataConnection) (id fresh : ℕ) (from : SocketAddr) (text : List ℕ) (purpose : Purpose) (challenge : Challenge) (now : ℕ) → find (is_bind_of d.local) (purposes_of id s) ≡ Some purpose → text ≡ request_for (with_held challenge s) purpose fresh → from ≡ sent_from s purpose → fresh ≡ fresh_id s
+    → queued true from text (asked fresh text (purpose ∷ []) now (bind_retried d.local now (with_held challenge s))) ≡ bind_again d id challenge now s
+bind-asked s d id fresh from text purpose challenge now found is sent next = rw (found, is, sent, next) refl
+
+-- ---- what binds no connection ends it
+
+pub not_bound-otherwise : (d : DataConnection) (message : List ℕ) (now : ℕ) (s : State) → (kind_of (bind_judgement s d.local message) ≡ Challenged → ⊥) → (kind_of (bind_judgement s d.local message) ≡ SignedSuccess → ⊥)
+    → (kind_of (bind_judgement s d.local message) ≡ SignedError → ⊥) → bind_answered d message now s ≡ not_bound d s
+not_bound-otherwise d message now s = by (bind_judgement s d.local message) refl
+  where
+    by : (j : Judgement) → bind_judgement s d.local message ≡ j → (kind_of (bind_judgement s d.local message) ≡ Challenged → ⊥) → (kind_of (bind_judgement s d.local message) ≡ SignedSuccess → ⊥)
+        → (kind_of (bind_judgement s d.local message) ≡ SignedError → ⊥) → bind_answered d message now s ≡ not_bound d s
+    by J.Unrelated e = rw e (λ a b c. refl)
+    by (J.Challenged challenge) e = rw e (λ a b c. absurd (a refl))
+    by J.Fatal e = rw e (λ a b c. refl)
+    by J.LateResponse e = rw e (λ a b c. refl)
+    by J.DataIndication e = rw e (λ a b c. refl)
+    by J.ConnectionAttempt e = rw e (λ a b c. refl)
+    by J.SignedRequest e = rw e (λ a b c. refl)
+    by J.SignedSuccess e = rw e (λ a b c. absurd (b refl))
+    by J.SignedError e = rw e (λ a b c. absurd (c refl))

@@ -1,0 +1,13 @@
+use Rattle.turn_client_api.specs.Handled.{fed}
+use Rattle.turn_client_core.proofs.UngrantedLemmas.{framed-none-before}
+use Rattle.turn_client_core.proofs.protocol.TurnClientProtocol.control_piece.Goals as goal
+
+pub then_all-requires : goal.then_all-requires
+then_all-requires g c = record {
+  before =
+      rw c.in_ok-first.ensures.after
+      (framed-none-before (fed c.args.stream (g.T.AsSlice.items c.args.transmit.payload)) c.args.now c.args.self.now c.requires.before);
+}
+
+pub returns-clause-hands_back : goal.returns-clause-hands_back
+returns-clause-hands_back g c = c.then_all.ensures.hands_back c.args.transmit c.in_ok-first.ensures.hands_back

@@ -1,0 +1,32 @@
+use Rattle.std.proofs.Common.{◌≡◌, ◌∙◌, ℕ, List, Some, ap, subst, sym}
+use Rattle.std.specs.Prelude.{IfOk}
+use Rattle.turn_types.specs.Incoming.{ComesWith, incoming_bytes}
+use Rattle.turn_client_api.specs.Answers.{outcome_of}
+use Rattle.turn_client_api.specs.Handled.{fed}
+use Rattle.turn_client_api.specs.Payloads.{Outcome}
+use Rattle.turn_client_api.specs.Receive.{place_kept}
+use Rattle.turn_client_api.specs.Streams.{frame_step}
+use Rattle.turn_client_api.specs.declared.state.Stream.{Stream}
+use Rattle.turn_client_streams.specs.Buffered.{front_of, without_front}
+use Rattle.turn_client_core.proofs.PieceLemmas.{comes-given, fed-some}
+use Rattle.turn_client_core.proofs.TurnLemmas.{front-whole}
+use Rattle.turn_client_core.proofs.protocol.TurnClientProtocol.first_turn.Goals as goal
+
+pub first_frame-requires-clause-whole : goal.first_frame-requires-clause-whole
+first_frame-requires-clause-whole g c =
+    front-whole (fed c.args.stream (g.T.AsSlice.items c.args.transmit.payload)) (incoming_bytes g.T.AsSlice.items c.in-Some.front) (rw c.in-Some.is at c.in_ok-front.ensures.frame)
+
+pub returns-clause-answer : goal.returns-clause-answer
+returns-clause-answer g c =
+    let items = g.T.AsSlice.items in
+    let waited = c.args.stream.bytes in
+    let all : Stream = fed c.args.stream (items c.args.transmit.payload) in
+    let frame : List ℕ = incoming_bytes items c.in-Some.front in
+    let now = c.args.now in
+    let t = c.args.self.now in
+    let front : Some frame ≡ front_of all = rw c.in-Some.is at c.in_ok-front.ensures.frame in
+    let comes : ComesWith items waited c.args.transmit c.in-Some.front = rw c.in-Some.is at c.in_ok-front.ensures.place in
+    let left : c.incoming_tcp.new.self ≡ without_front all = c.in_ok-front.ensures.after in
+    let same = comes-given items waited c.args.transmit c.in-Some.front (frame_step c.incoming_tcp.new.self frame now t).0 comes
+    ∙ ap (place_kept waited) (ap (λ (u : Stream). (frame_step u frame now t).0) left ∙ sym (ap (λ p. p.0) (fed-some all frame now t front))) in
+    subst (λ (o : Outcome). IfOk c.first_frame.result (λ given. outcome_of given ≡ o)) same c.first_frame.ensures.answer

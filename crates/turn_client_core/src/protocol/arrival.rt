@@ -1,0 +1,187 @@
+//! What comes in over a stream (RFC 8656, section 12.5; RFC 6062, section 4.3).
+
+ghost use Rattle.std.specs.Prelude.{◌≡◌, ◌<◌, ℕ, [], false, true, length, option_map, IfOk, IsOk, OnErr, OnOk};
+ghost use Rattle.std.specs.Option.{option_map_or};
+ghost use Rattle.turn_agent.specs.Agent.{same_address};
+ghost use Rattle.turn_stun.specs.declared.transport.TransportType.TheVariants.{Tcp};
+ghost use Rattle.turn_client_api.specs.Answers.{EndsAfterTurns, HandsBack, RecvEnds, outcome_of};
+ghost use Rattle.turn_client_api.specs.LawsOrder.{IsUngranted};
+ghost use Rattle.turn_client_api.specs.Streams.{stream_at, without_stream};
+ghost use Rattle.turn_client_core.specs.Turns.{broken_turned, is_broken, piece_at, piece_takes_none};
+ghost use Rattle.turn_client_streams.specs.Held.{taken_out};
+
+use crate::protocol::TurnClientProtocol;
+use std::alloc::AllocError;
+use std::convert::AsSlice;
+use std::fmt::Debug;
+use std::net::SocketAddr;
+use turn_client_api::{Mode, TurnRecvRet};
+use turn_client_streams::BufferedStream;
+use turn_stun::instant::Instant;
+use turn_stun::transport::Transmit;
+
+impl TurnClientProtocol {
+    /// Takes a piece of the stream at its local end, which came over TCP from the server. An empty piece says
+    /// that the stream has ended. Where no stream is there, the piece is not for the client.
+    ///
+    /// What a peer sent is a part of the bytes that were handed in, or owned where they had to be put
+    /// together. What is not for the client is handed back as it was. More payloads may wait then: ask
+    /// `poll_recv` until it has none.
+    ///
+    /// # Errors
+    ///
+    /// There is no memory. The client has ended then, and the stream gives nothing more; whole frames that
+    /// were handled before keep their effect. Bytes of a bound connection whose stream holds none take no
+    /// memory, nor does an empty piece.
+    pub fn piece<T: AsSlice<u8> + Debug + Drop>(
+        &mut self,
+        transmit: Transmit<T>,
+        now: Instant,
+    ) -> Result<TurnRecvRet<T>, AllocError>
+        requires before { IsUngranted self.old.phase → self.old.grants ≡ [] }
+        ensures answer { IfOk result (λ given. outcome_of given ≡ (piece_at transmit.to (T.items transmit.payload) now self.old).0) }
+        ensures hands_back { IfOk result (HandsBack transmit) }
+        ensures after { OnOk result (self.new ≡ (piece_at transmit.to (T.items transmit.payload) now self.old).1) }
+        ensures no_memory { self.old.transport ≡ Tcp → OnErr result (RecvEnds transmit.to (T.items transmit.payload) now self.old self.new) }
+        ensures free { piece_takes_none transmit.to (T.items transmit.payload) self.old ≡ true → IsOk result }
+    {
+        if transmit.payload.as_slice().is_empty() {
+            return Ok(self.stream_end(transmit));
+        }
+        self.next_piece(transmit, now)
+    }
+
+    /// The stream at the local end of the empty piece has ended, if there is one, and its connection is gone.
+    fn stream_end<T: AsSlice<u8> + Debug + Drop>(&mut self, transmit: Transmit<T>) -> TurnRecvRet<T>
+        ensures answer { (now : ℕ) → outcome_of result ≡ (piece_at transmit.to [] now self.old).0 }
+        ensures hands_back { HandsBack transmit result }
+        ensures after { (now : ℕ) → self.new ≡ (piece_at transmit.to [] now self.old).1 }
+    {
+        let Some(local) = self.stream_local(transmit.to) else {
+            return TurnRecvRet::Ignored(transmit);
+        };
+        self.connection_gone(local);
+        self.remove(local);
+        TurnRecvRet::Handled
+    }
+
+    /// The local end of the stream at this local end, if there is one.
+    fn stream_local(&self, local: SocketAddr) -> Option<SocketAddr>
+        ensures { result ≡ option_map (λ stream. stream.local) (stream_at local self.now) }
+    {
+        match self.streams.get(local) {
+            Some(stream) => Some(stream.local()),
+            None => None,
+        }
+    }
+
+    /// The stream at this local end is let go.
+    fn remove(&mut self, local: SocketAddr)
+        ensures { self.new ≡ without_stream local self.old }
+    {
+        self.streams.remove(local);
+    }
+
+    /// Takes the next bytes of the stream at their local end.
+    ///
+    /// # Errors
+    ///
+    /// There is no memory. The stream whose turn it was is broken then, and the client has ended.
+    fn next_piece<T: AsSlice<u8> + Debug + Drop>(
+        &mut self,
+        transmit: Transmit<T>,
+        now: Instant,
+    ) -> Result<TurnRecvRet<T>, AllocError>
+        requires some { 0 < length (T.items transmit.payload) }
+        requires before { IsUngranted self.old.phase → self.old.grants ≡ [] }
+        ensures answer { IfOk result (λ given. outcome_of given ≡ (piece_at transmit.to (T.items transmit.payload) now self.old).0) }
+        ensures hands_back { IfOk result (HandsBack transmit) }
+        ensures after { OnOk result (self.new ≡ (piece_at transmit.to (T.items transmit.payload) now self.old).1) }
+        ensures no_memory { self.old.transport ≡ Tcp → OnErr result (RecvEnds transmit.to (T.items transmit.payload) now self.old self.new) }
+        ensures free { piece_takes_none transmit.to (T.items transmit.payload) self.old ≡ true → IsOk result }
+    {
+        if self.is_broken_at(transmit.to) {
+            return self.broken_piece(transmit.to, now);
+        }
+        self.whole_piece(transmit, now)
+    }
+
+    /// Whether the stream at this local end is broken.
+    fn is_broken_at(&self, local: SocketAddr) -> bool
+        ensures { result ≡ option_map_or (λ stream. is_broken stream.mode) (stream_at local self.now) false }
+    {
+        match self.streams.get(local) {
+            Some(stream) => is_broken(stream.mode()),
+            None => false,
+        }
+    }
+
+    /// Takes bytes of the broken stream at this local end: they are dropped, and those of the control
+    /// stream set all others going.
+    ///
+    /// # Errors
+    ///
+    /// There is no memory for what a stream holds. It is broken then, and the client has ended.
+    fn broken_piece<T: AsSlice<u8> + Debug + Drop>(
+        &mut self,
+        local: SocketAddr,
+        now: Instant,
+    ) -> Result<TurnRecvRet<T>, AllocError>
+        requires before { IsUngranted self.old.phase → self.old.grants ≡ [] }
+        ensures answer { IfOk result (λ given. outcome_of given ≡ (broken_turned local now self.old).0) }
+        ensures hands_back { (transmit : Transmit T) → IfOk result (HandsBack transmit) }
+        ensures after { OnOk result (self.new ≡ (broken_turned local now self.old).1) }
+        ensures no_memory { OnErr result ((same_address local self.old.local ≡ true) × EndsAfterTurns now self.old self.new) }
+    {
+        if local == self.local_addr() {
+            return self.others(TurnRecvRet::Handled, now);
+        }
+        Ok(TurnRecvRet::Handled)
+    }
+
+    /// Takes bytes of the stream at their local end, which is not broken.
+    ///
+    /// # Errors
+    ///
+    /// There is no memory. The stream whose turn it was is broken then, and the client has ended. Bytes of a
+    /// bound stream in which nothing waits take none.
+    fn whole_piece<T: AsSlice<u8> + Debug + Drop>(
+        &mut self,
+        transmit: Transmit<T>,
+        now: Instant,
+    ) -> Result<TurnRecvRet<T>, AllocError>
+        requires some { 0 < length (T.items transmit.payload) }
+        requires whole { option_map_or (λ stream. is_broken stream.mode) (stream_at transmit.to self.old) false ≡ false }
+        requires before { IsUngranted self.old.phase → self.old.grants ≡ [] }
+        ensures answer { IfOk result (λ given. outcome_of given ≡ (piece_at transmit.to (T.items transmit.payload) now self.old).0) }
+        ensures hands_back { IfOk result (HandsBack transmit) }
+        ensures after { OnOk result (self.new ≡ (piece_at transmit.to (T.items transmit.payload) now self.old).1) }
+        ensures no_memory { self.old.transport ≡ Tcp → OnErr result (RecvEnds transmit.to (T.items transmit.payload) now self.old self.new) }
+        ensures free { piece_takes_none transmit.to (T.items transmit.payload) self.old ≡ true → IsOk result }
+    {
+        let Some(stream) = self.take_at(transmit.to) else {
+            return Ok(TurnRecvRet::Ignored(transmit));
+        };
+        self.turned_piece(stream, transmit, now)
+    }
+
+    /// Takes out the stream at this local end.
+    fn take_at(&mut self, local: SocketAddr) -> Option<BufferedStream>
+        ensures stream { result ≡ stream_at local self.old }
+        ensures after { self.new ≡ taken_out result self.old }
+    {
+        self.streams.take_at(local)
+    }
+}
+
+/// Whether nothing more comes of a stream whose bytes are meant so.
+fn is_broken(mode: Mode) -> bool
+    ensures { result ≡ is_broken mode }
+{
+    match mode {
+        Mode::Control => false,
+        Mode::Waiting => false,
+        Mode::Bound(_) => false,
+        Mode::Broken => true,
+    }
+}

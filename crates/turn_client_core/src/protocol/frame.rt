@@ -1,0 +1,110 @@
+//! Whole frames of a client's streams (RFC 8656, section 12.5; RFC 6062, section 4.3).
+
+ghost use Rattle.std.specs.Prelude.{◌≡◌, [], IfOk, IsOk, OnErr, OnOk, Some, length, true};
+ghost use Rattle.turn_client_api.specs.Answers.{datagram_takes_none};
+ghost use Rattle.turn_client_api.specs.Streams.{control_frame_step, waiting_frame_step};
+ghost use Rattle.turn_client_core.specs.Told.{IsPart, outcome_in};
+ghost use Rattle.turn_types.specs.Frames.{begins_message, frame_len};
+
+use crate::protocol::TurnClientProtocol;
+use crate::told::Told;
+use std::alloc::AllocError;
+use std::net::SocketAddr;
+use turn_client_api::Phase;
+use turn_stun::instant::Instant;
+use turn_stun::message::Message;
+use turn_types::channel::ChannelData;
+
+impl TurnClientProtocol {
+    /// Takes a whole frame of the control connection: a message, or a channel frame, which is data of its
+    /// channel's peer. What begins as a message does and is none is dropped.
+    ///
+    /// # Errors
+    ///
+    /// There is no memory for what a message asks for. Nothing changes then. A channel frame and a DATA
+    /// indication take no memory.
+    pub(super) fn control_frame(&mut self, frame: &[u8], now: Instant) -> Result<Told, AllocError>
+        requires whole { frame_len frame.now ≡ Some (length frame.now) }
+        requires before { self.old.phase ≡ Phase.Authenticating → self.old.grants ≡ [] }
+        ensures answer { IfOk result (λ told. outcome_in frame.now told ≡ (control_frame_step frame.now now self.old).0) }
+        ensures part { IfOk result (IsPart frame.now self.old self.new) }
+        ensures after { OnOk result (self.new ≡ (control_frame_step frame.now now self.old).1) }
+        ensures err { OnErr result (self.new ≡ self.old) }
+        ensures free { datagram_takes_none frame.now ≡ true → IsOk result }
+    {
+        match ChannelData::parse(frame) {
+            Ok(channel) => Ok(self.channel_sent(frame, &channel)),
+            Err(_) => self.control_message(frame, now),
+        }
+    }
+
+    /// Takes a frame of the control connection that begins as a message does.
+    ///
+    /// # Errors
+    ///
+    /// There is no memory. Nothing changes then. A DATA indication takes none.
+    fn control_message(&mut self, frame: &[u8], now: Instant) -> Result<Told, AllocError>
+        requires begins { begins_message frame.now ≡ true }
+        requires before { self.old.phase ≡ Phase.Authenticating → self.old.grants ≡ [] }
+        ensures answer { IfOk result (λ told. outcome_in frame.now told ≡ (control_frame_step frame.now now self.old).0) }
+        ensures part { IfOk result (IsPart frame.now self.old self.new) }
+        ensures after { OnOk result (self.new ≡ (control_frame_step frame.now now self.old).1) }
+        ensures err { OnErr result (self.new ≡ self.old) }
+        ensures free { datagram_takes_none frame.now ≡ true → IsOk result }
+    {
+        match Message::from_bytes(frame) {
+            Ok(message) => self.message(&message, now),
+            Err(_) => Ok(Told::Handled),
+        }
+    }
+
+    /// Takes a whole frame of the data connection from this local end, which waits to be bound: only
+    /// messages are handled there (RFC 6062, section 4.3).
+    ///
+    /// # Errors
+    ///
+    /// There is no memory for what a message asks for. Nothing changes then.
+    pub(super) fn waiting_frame(
+        &mut self,
+        local: SocketAddr,
+        frame: &[u8],
+        now: Instant,
+    ) -> Result<Told, AllocError>
+        requires { frame_len frame.now ≡ Some (length frame.now) }
+        ensures answer { IfOk result (λ told. outcome_in frame.now told ≡ (waiting_frame_step local frame.now now self.old).0) }
+        ensures part { IfOk result (IsPart frame.now self.old self.new) }
+        ensures after { OnOk result (self.new ≡ (waiting_frame_step local frame.now now self.old).1) }
+        ensures err { OnErr result (self.new ≡ self.old) }
+    {
+        match ChannelData::parse(frame) {
+            Ok(_) => Ok(Told::Ignored),
+            Err(_) => self.waiting_message(local, frame, now),
+        }
+    }
+
+    /// Takes a frame of such a data connection that begins as a message does.
+    ///
+    /// # Errors
+    ///
+    /// There is no memory. Nothing changes then.
+    fn waiting_message(
+        &mut self,
+        local: SocketAddr,
+        frame: &[u8],
+        now: Instant,
+    ) -> Result<Told, AllocError>
+        requires { begins_message frame.now ≡ true }
+        ensures answer { IfOk result (λ told. outcome_in frame.now told ≡ (waiting_frame_step local frame.now now self.old).0) }
+        ensures part { IfOk result (IsPart frame.now self.old self.new) }
+        ensures after { OnOk result (self.new ≡ (waiting_frame_step local frame.now now self.old).1) }
+        ensures err { OnErr result (self.new ≡ self.old) }
+    {
+        match Message::from_bytes(frame) {
+            Ok(message) => {
+                self.bind_step(local, &message, now)?;
+                Ok(Told::Handled)
+            }
+            Err(_) => Ok(Told::Handled),
+        }
+    }
+}

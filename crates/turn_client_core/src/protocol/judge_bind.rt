@@ -1,0 +1,51 @@
+//! What a message of a data connection is that waits to be bound (RFC 6062, section 4.3).
+
+ghost use Rattle.std.specs.List.{list_any};
+ghost use Rattle.std.specs.Prelude.{◌≡◌, ◌&&◌, find};
+ghost use Rattle.turn_agent.specs.Agent.{is_response};
+ghost use Rattle.turn_client_api.specs.Grants.{purposes_of};
+ghost use Rattle.turn_client_api.specs.Judgement.{bind_judgement, class_in, is_bind_of};
+ghost use Rattle.turn_client_core.specs.Judged.{kind_of};
+ghost use Rattle.turn_stun.specs.Message.{id_of};
+
+use crate::protocol::TurnClientProtocol;
+use crate::protocol::judge::Judged;
+use std::net::SocketAddr;
+use turn_auth::Validation;
+use turn_client_api::Purpose;
+use turn_stun::message::Message;
+use turn_stun::transaction::TransactionId;
+
+impl TurnClientProtocol {
+    /// What the message is to the data connection from this local end, which waits to be bound: only a
+    /// signed success of its CONNECTION_BIND binds it. It takes no memory, and for a message that answers
+    /// no such request no digest is computed.
+    pub(super) fn judge_bind(&self, local: SocketAddr, message: &Message<'_>) -> Judged
+        ensures { result ≡ kind_of (bind_judgement self.now local message.now) }
+    {
+        if !self.answers_bind(local, message) {
+            return Judged::Fatal;
+        }
+        match self.validate(message) {
+            Validation::Validated(_) => self.signed_or(message, Judged::Fatal),
+            Validation::ResendRequest(_) => Judged::Challenged,
+            Validation::Refused { .. } => Judged::Fatal,
+        }
+    }
+
+    /// Whether the message is a response to a request that is to bind the data connection from this local
+    /// end.
+    fn answers_bind(&self, local: SocketAddr, message: &Message<'_>) -> bool
+        ensures { result ≡ (is_response (class_in message.now) && list_any (is_bind_of local) (purposes_of (id_of message.now) self.now)) }
+    {
+        message.is_response() && self.bind_purpose(local, message.transaction_id()).is_some()
+    }
+
+    /// For which purpose the request of this ID is to bind the data connection from this local end, if it
+    /// was made for that.
+    pub(super) fn bind_purpose(&self, local: SocketAddr, id: TransactionId) -> Option<Purpose>
+        ensures { result ≡ find (is_bind_of local) (purposes_of id self.now) }
+    {
+        self.ledger.table().bind_purpose(id, local)
+    }
+}

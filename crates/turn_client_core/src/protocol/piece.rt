@@ -1,0 +1,358 @@
+//! Pieces of a client's streams (RFC 8656, section 12.5; RFC 6062, section 4.3).
+
+ghost use Rattle.std.specs.Prelude.{◌≡◌, ◌≤◌, ◌<◌, ◌⊎◌, [], length, true, IfOk, IsOk, OnErr, OnOk, Some};
+ghost use Rattle.std.specs.Option.{option_map_or};
+ghost use Rattle.turn_client_api.specs.Answers.{EndsAfterTurns, HandsBack, IsPartOf, given_payload, outcome_of};
+ghost use Rattle.turn_client_api.specs.Effect.{closed};
+ghost use Rattle.turn_client_api.specs.LawsOrder.{IsUngranted};
+ghost use Rattle.turn_client_api.specs.PeerBytes.{held_in};
+ghost use Rattle.turn_client_api.specs.Payloads.{PeerData};
+ghost use Rattle.turn_client_api.specs.Receive.{then_all};
+ghost use Rattle.turn_client_api.specs.Streams.{broken_at, frame_step, is_bound, owned, poll_recv_step};
+ghost use Rattle.turn_client_api.specs.declared.state.Mode.TheVariants.{Control, Waiting};
+ghost use Rattle.turn_client_core.specs.Turns.{EndsBehind, IsFront, PieceEnds, bound_sent, came_with, fed_turned};
+ghost use Rattle.turn_client_core.specs.Turns.{given_as, left_by, part_at, piece_turned, put_or_broken};
+ghost use Rattle.turn_types.specs.Frames.{frame_len};
+ghost use Rattle.turn_types.specs.Incoming.{incoming_bytes};
+
+use crate::protocol::TurnClientProtocol;
+use std::alloc::AllocError;
+use std::convert::AsSlice;
+use std::fmt::Debug;
+use std::net::SocketAddr;
+use std::ops::Range;
+use turn_client_api::{DataRange, DataRangeOrOwned, Mode, Phase, TurnPeerData, TurnRecvRet};
+use turn_client_streams::BufferedStream;
+use turn_stun::instant::Instant;
+use turn_stun::transport::{Transmit, TransportType};
+use turn_types::tcp::IncomingTcp;
+
+impl TurnClientProtocol {
+    /// Takes a piece of a stream that is taken out, and is not broken.
+    ///
+    /// # Errors
+    ///
+    /// There is no memory for the piece, or for what other streams hold, which a piece of the control
+    /// stream sets going. The stream is broken then, and the client has ended. Bytes of a bound stream in
+    /// which nothing waits take none.
+    pub(super) fn turned_piece<T: AsSlice<u8> + Debug + Drop>(
+        &mut self,
+        stream: BufferedStream,
+        transmit: Transmit<T>,
+        now: Instant,
+    ) -> Result<TurnRecvRet<T>, AllocError>
+        requires some { 0 < length (T.items transmit.payload) }
+        requires before { IsUngranted self.old.phase → self.old.grants ≡ [] }
+        ensures answer { IfOk result (λ given. outcome_of given ≡ (piece_turned stream (T.items transmit.payload) now self.old).0) }
+        ensures hands_back { IfOk result (HandsBack transmit) }
+        ensures after { OnOk result (self.new ≡ (piece_turned stream (T.items transmit.payload) now self.old).1) }
+        ensures no_memory { OnErr result (PieceEnds stream (T.items transmit.payload) now self.old self.new) }
+        ensures free { is_bound stream.mode ≡ true → stream.bytes ≡ [] → IsOk result }
+    {
+        match stream.mode() {
+            Mode::Control => self.control_piece(stream, transmit, now),
+            Mode::Waiting => self.framed_piece(stream, transmit, now),
+            Mode::Bound(peer) => self.bound_piece(stream, peer, transmit),
+            Mode::Broken => Ok(TurnRecvRet::Handled),
+        }
+    }
+
+    /// Takes a piece of the control stream, which is taken out. Unless something of a peer comes, all
+    /// streams have their turns then.
+    ///
+    /// # Errors
+    ///
+    /// There is no memory. The stream whose turn it was is broken then, and the client has ended.
+    fn control_piece<T: AsSlice<u8> + Debug + Drop>(
+        &mut self,
+        stream: BufferedStream,
+        transmit: Transmit<T>,
+        now: Instant,
+    ) -> Result<TurnRecvRet<T>, AllocError>
+        requires some { 0 < length (T.items transmit.payload) }
+        requires control { stream.mode ≡ Control }
+        requires before { IsUngranted self.old.phase → self.old.grants ≡ [] }
+        ensures answer { IfOk result (λ given. outcome_of given ≡ (then_all now (fed_turned stream (T.items transmit.payload) now self.old)).0) }
+        ensures hands_back { IfOk result (HandsBack transmit) }
+        ensures after { OnOk result (self.new ≡ (then_all now (fed_turned stream (T.items transmit.payload) now self.old)).1) }
+        ensures no_memory { OnErr result (PieceEnds stream (T.items transmit.payload) now self.old self.new) }
+    {
+        let first = self.framed_piece(stream, transmit, now)?;
+        self.then_all(first, now)
+    }
+
+    /// Unless something of a peer came, all streams have their turns, and data that comes then is the
+    /// answer.
+    ///
+    /// # Errors
+    ///
+    /// There is no memory for what a stream holds. It is broken then, and the client has ended.
+    fn then_all<T: AsSlice<u8> + Debug + Drop>(
+        &mut self,
+        first: TurnRecvRet<T>,
+        now: Instant,
+    ) -> Result<TurnRecvRet<T>, AllocError>
+        requires before { IsUngranted self.old.phase → self.old.grants ≡ [] }
+        ensures answer { IfOk result (λ given. outcome_of given ≡ (then_all now (outcome_of first, self.old)).0) }
+        ensures hands_back { (transmit : Transmit T) → HandsBack transmit first → IfOk result (HandsBack transmit) }
+        ensures after { OnOk result (self.new ≡ (then_all now (outcome_of first, self.old)).1) }
+        ensures no_memory { OnErr result (EndsBehind now (outcome_of first, self.old) self.new) }
+    {
+        match first {
+            TurnRecvRet::Handled => self.others(TurnRecvRet::Handled, now),
+            TurnRecvRet::Ignored(transmit) => self.others(TurnRecvRet::Ignored(transmit), now),
+            TurnRecvRet::PeerData(given) => Ok(TurnRecvRet::PeerData(given)),
+            TurnRecvRet::PeerIcmp {
+                transport,
+                peer,
+                icmp_type,
+                icmp_code,
+                icmp_data,
+            } => Ok(TurnRecvRet::PeerIcmp {
+                transport,
+                peer,
+                icmp_type,
+                icmp_code,
+                icmp_data,
+            }),
+        }
+    }
+
+    /// All streams have their turns, and data that comes then is told in the place of this.
+    ///
+    /// # Errors
+    ///
+    /// There is no memory for what a stream holds. It is broken then, and the client has ended.
+    pub(super) fn others<T: AsSlice<u8> + Debug + Drop>(
+        &mut self,
+        otherwise: TurnRecvRet<T>,
+        now: Instant,
+    ) -> Result<TurnRecvRet<T>, AllocError>
+        requires before { IsUngranted self.old.phase → self.old.grants ≡ [] }
+        ensures answer { IfOk result (λ given. outcome_of given ≡ option_map_or PeerData (poll_recv_step now self.old).0 (outcome_of otherwise)) }
+        ensures hands_back { (transmit : Transmit T) → HandsBack transmit otherwise → IfOk result (HandsBack transmit) }
+        ensures after { OnOk result (self.new ≡ (poll_recv_step now self.old).1) }
+        ensures no_memory { OnErr result (EndsAfterTurns now self.old self.new) }
+    {
+        match self.turns(now)? {
+            Some(given) => Ok(TurnRecvRet::PeerData(given.into_data())),
+            None => Ok(otherwise),
+        }
+    }
+
+    /// Takes a piece of a stream of frames, which is taken out.
+    ///
+    /// # Errors
+    ///
+    /// There is no memory. The stream is broken then, and the client has ended.
+    fn framed_piece<T: AsSlice<u8> + Debug + Drop>(
+        &mut self,
+        stream: BufferedStream,
+        transmit: Transmit<T>,
+        now: Instant,
+    ) -> Result<TurnRecvRet<T>, AllocError>
+        requires some { 0 < length (T.items transmit.payload) }
+        requires framed { (stream.mode ≡ Control) ⊎ (stream.mode ≡ Waiting) }
+        requires before { self.old.phase ≡ Phase.Authenticating → self.old.grants ≡ [] }
+        ensures answer { IfOk result (λ given. outcome_of given ≡ (fed_turned stream (T.items transmit.payload) now self.old).0) }
+        ensures hands_back { IfOk result (HandsBack transmit) }
+        ensures after { OnOk result (self.new ≡ (fed_turned stream (T.items transmit.payload) now self.old).1) }
+        ensures no_memory { OnErr result (self.new ≡ closed (broken_at stream.local self.old)) }
+    {
+        let local = stream.local();
+        match self.first_turn(stream, transmit, now) {
+            Ok(first) => Ok(first),
+            Err(refusal) => {
+                self.end_at(local);
+                Err(refusal)
+            }
+        }
+    }
+
+    /// There was no memory for the stream at this local end: it is broken, and the client has ended.
+    fn end_at(&mut self, local: SocketAddr)
+        ensures { self.new ≡ closed (broken_at local self.old) }
+    {
+        self.break_at(local);
+        self.close();
+    }
+
+    /// The first turn of a stream of frames, which is taken out, behind a piece of it.
+    ///
+    /// # Errors
+    ///
+    /// There is no memory. Nothing changes then.
+    fn first_turn<T: AsSlice<u8> + Debug + Drop>(
+        &mut self,
+        mut stream: BufferedStream,
+        transmit: Transmit<T>,
+        now: Instant,
+    ) -> Result<TurnRecvRet<T>, AllocError>
+        requires some { 0 < length (T.items transmit.payload) }
+        requires framed { (stream.mode ≡ Control) ⊎ (stream.mode ≡ Waiting) }
+        requires before { self.old.phase ≡ Phase.Authenticating → self.old.grants ≡ [] }
+        ensures answer { IfOk result (λ given. outcome_of given ≡ (fed_turned stream (T.items transmit.payload) now self.old).0) }
+        ensures hands_back { IfOk result (HandsBack transmit) }
+        ensures after { OnOk result (self.new ≡ (fed_turned stream (T.items transmit.payload) now self.old).1) }
+        ensures err { OnErr result (self.new ≡ self.old) }
+    {
+        let front = stream.incoming_tcp(transmit)?;
+        let Some(front) = front else {
+            self.put_or_break(stream);
+            return Ok(TurnRecvRet::Handled);
+        };
+        self.first_frame(stream, front, now)
+    }
+
+    /// The stream waits for more of its frame, or is broken where no frame begins with what came.
+    fn put_or_break(&mut self, stream: BufferedStream)
+        ensures { self.new ≡ put_or_broken stream self.old }
+    {
+        match stream.mode() {
+            Mode::Control => self.put(stream),
+            Mode::Waiting => self.put(stream),
+            Mode::Bound(_) => self.put(stream),
+            Mode::Broken => self.break_at(stream.local()),
+        }
+    }
+
+    /// What comes of the frame in front. The stream was taken out, and holds what is behind the frame.
+    ///
+    /// # Errors
+    ///
+    /// There is no memory. Nothing changes then.
+    fn first_frame<T: AsSlice<u8> + Debug + Drop>(
+        &mut self,
+        stream: BufferedStream,
+        front: IncomingTcp<T>,
+        now: Instant,
+    ) -> Result<TurnRecvRet<T>, AllocError>
+        requires whole { let frame = incoming_bytes T.items front in frame_len frame ≡ Some (length frame) }
+        requires front { IsFront T.items front }
+        requires before { self.old.phase ≡ Phase.Authenticating → self.old.grants ≡ [] }
+        ensures answer { IfOk result (λ given. outcome_of given ≡ given_as front (frame_step stream (incoming_bytes T.items front) now self.old).0) }
+        ensures hands_back { IfOk result (HandsBack (came_with front)) }
+        ensures after { OnOk result (self.new ≡ left_by stream (frame_step stream (incoming_bytes T.items front) now self.old).1) }
+        ensures err { OnErr result (self.new ≡ self.old) }
+    {
+        match front {
+            IncomingTcp::CompleteMessage(transmit, place) => {
+                self.lent_frame(stream, transmit, place, now)
+            }
+            IncomingTcp::CompleteChannel(transmit, place) => {
+                self.lent_frame(stream, transmit, place, now)
+            }
+            IncomingTcp::StoredMessage(frame, transmit) => {
+                self.stored_frame(stream, frame, transmit, now)
+            }
+            IncomingTcp::StoredChannel(frame, transmit) => {
+                self.stored_frame(stream, frame, transmit, now)
+            }
+        }
+    }
+
+    /// What comes of a whole frame that is a part of the piece.
+    ///
+    /// # Errors
+    ///
+    /// There is no memory. Nothing changes then.
+    fn lent_frame<T: AsSlice<u8> + Debug + Drop>(
+        &mut self,
+        stream: BufferedStream,
+        transmit: Transmit<T>,
+        place: Range<usize>,
+        now: Instant,
+    ) -> Result<TurnRecvRet<T>, AllocError>
+        requires front { place.start ≡ 0 }
+        requires inside { place.end ≤ length (T.items transmit.payload) }
+        requires whole { let frame = part_at (T.items transmit.payload) place in frame_len frame ≡ Some (length frame) }
+        requires before { self.old.phase ≡ Phase.Authenticating → self.old.grants ≡ [] }
+        ensures answer { IfOk result (λ given. outcome_of given ≡ (frame_step stream (part_at (T.items transmit.payload) place) now self.old).0) }
+        ensures hands_back { IfOk result (HandsBack transmit) }
+        ensures after { OnOk result (self.new ≡ left_by stream (frame_step stream (part_at (T.items transmit.payload) place) now self.old).1) }
+        ensures err { OnErr result (self.new ≡ self.old) }
+    {
+        let frame = &transmit.payload.as_slice()[place.start..place.end];
+        let told = self.frame(&stream, frame, now)?;
+        self.put(stream);
+        Ok(told.lent(transmit))
+    }
+
+    /// What comes of a whole frame that began before the piece.
+    ///
+    /// # Errors
+    ///
+    /// There is no memory. Nothing changes then.
+    fn stored_frame<T: AsSlice<u8> + Debug + Drop>(
+        &mut self,
+        stream: BufferedStream,
+        frame: Vec<u8>,
+        transmit: Transmit<T>,
+        now: Instant,
+    ) -> Result<TurnRecvRet<T>, AllocError>
+        requires whole { frame_len frame.items ≡ Some (length frame.items) }
+        requires before { self.old.phase ≡ Phase.Authenticating → self.old.grants ≡ [] }
+        ensures answer { IfOk result (λ given. outcome_of given ≡ owned (frame_step stream frame.items now self.old).0) }
+        ensures hands_back { IfOk result (HandsBack transmit) }
+        ensures after { OnOk result (self.new ≡ left_by stream (frame_step stream frame.items now self.old).1) }
+        ensures err { OnErr result (self.new ≡ self.old) }
+    {
+        let told = self.frame(&stream, frame.as_slice(), now)?;
+        self.put(stream);
+        Ok(told.owned(frame, transmit))
+    }
+
+    /// Takes a piece of a stream that is bound to this peer, and is taken out.
+    ///
+    /// # Errors
+    ///
+    /// There is no memory to put the piece behind what waited. The stream is broken then, and the client
+    /// has ended.
+    fn bound_piece<T: AsSlice<u8> + Debug + Drop>(
+        &mut self,
+        stream: BufferedStream,
+        peer: SocketAddr,
+        transmit: Transmit<T>,
+    ) -> Result<TurnRecvRet<T>, AllocError>
+        ensures answer { IfOk result (λ given. outcome_of given ≡ PeerData (bound_sent peer stream.bytes (T.items transmit.payload))) }
+        ensures hands_back { IfOk result (HandsBack transmit) }
+        ensures after { OnOk result (self.new ≡ self.old) }
+        ensures no_memory { OnErr result (self.new ≡ closed (broken_at stream.local self.old)) }
+        ensures free { stream.bytes ≡ [] → IsOk result }
+    {
+        let local = stream.local();
+        match bound_data(stream, peer, transmit) {
+            Ok(given) => Ok(TurnRecvRet::PeerData(given)),
+            Err(refusal) => {
+                self.end_at(local);
+                Err(refusal)
+            }
+        }
+    }
+}
+
+/// What comes on a bound stream: all of it is the peer's. Where nothing waited, it is the piece as it came,
+/// and takes no memory.
+///
+/// # Errors
+///
+/// There is no memory to put the piece behind what waited.
+fn bound_data<T: AsSlice<u8> + Debug + Drop>(
+    mut stream: BufferedStream,
+    peer: SocketAddr,
+    transmit: Transmit<T>,
+) -> Result<TurnPeerData<T>, AllocError>
+    ensures answer { IfOk result (λ given. given_payload given ≡ bound_sent peer stream.bytes (T.items transmit.payload)) }
+    ensures part { IfOk result (λ given. IsPartOf transmit.payload (held_in given)) }
+    ensures free { stream.bytes ≡ [] → IsOk result }
+{
+    if stream.is_empty() {
+        let Transmit { payload, .. } = transmit;
+        let len = payload.as_slice().len();
+        let part = DataRangeOrOwned::Range(DataRange::new(payload, 0..len));
+        return Ok(TurnPeerData::new(TransportType::Tcp, peer, part));
+    }
+    stream.feed(transmit.payload.as_slice())?;
+    let part = DataRangeOrOwned::Owned(stream.into_bytes());
+    Ok(TurnPeerData::new(TransportType::Tcp, peer, part))
+}

@@ -1,0 +1,198 @@
+//! The turns of a client's streams (RFC 8656, section 12.5; RFC 6062, section 4.3).
+
+ghost use Rattle.std.specs.Prelude.{◌≡◌, [], find, length, option_map, IfOk, IsOk, None, OnErr, OnOk, Some};
+ghost use Rattle.turn_client_api.specs.Answers.{EndsAfterTurns, given_payload};
+ghost use Rattle.turn_client_api.specs.LawsOrder.{IsUngranted};
+ghost use Rattle.turn_client_api.specs.Streams.{broken_at, frame_step, framed_turn, is_ready, poll_recv_step, turned, with_bytes};
+ghost use Rattle.turn_client_core.specs.Told.{IsPart, outcome_in};
+ghost use Rattle.turn_client_core.specs.Turns.{data_of, given_by};
+ghost use Rattle.turn_client_streams.specs.Held.{taken_out};
+ghost use Rattle.turn_types.specs.Frames.{frame_len};
+
+use crate::protocol::TurnClientProtocol;
+use crate::received::Received;
+use crate::told::Told;
+use std::alloc::AllocError;
+use std::net::SocketAddr;
+use turn_client_api::{Mode, Phase, TurnPeerData};
+use turn_client_streams::BufferedStream;
+use turn_stun::instant::Instant;
+use turn_stun::transport::TransportType;
+
+impl TurnClientProtocol {
+    /// The next payload of a peer that the streams hold, in the order of their opening, or none. What else
+    /// they hold in front of it is handled.
+    ///
+    /// # Errors
+    ///
+    /// There is no memory for what a stream holds. The client has ended then, and the stream that was read
+    /// gives nothing more; whole frames that were handled before keep their effect. Where no stream holds a
+    /// whole frame or data of its peer, the call takes no memory.
+    pub fn poll_recv(&mut self, now: Instant) -> Result<Option<TurnPeerData<Vec<u8>>>, AllocError>
+        requires before { IsUngranted self.old.phase → self.old.grants ≡ [] }
+        ensures answer { IfOk result (λ given. option_map given_payload given ≡ (poll_recv_step now self.old).0) }
+        ensures after { OnOk result (self.new ≡ (poll_recv_step now self.old).1) }
+        ensures no_memory { OnErr result (EndsAfterTurns now self.old self.new) }
+    {
+        match self.turns(now)? {
+            Some(given) => Ok(Some(given.into_data())),
+            None => Ok(None),
+        }
+    }
+
+    /// All streams have their turns, up to a payload.
+    ///
+    /// # Errors
+    ///
+    /// There is no memory for what a stream holds. It is broken then, and the client has ended.
+    pub(super) fn turns(&mut self, now: Instant) -> Result<Option<Received>, AllocError>
+        requires before { IsUngranted self.old.phase → self.old.grants ≡ [] }
+        ensures answer { IfOk result (λ given. option_map data_of given ≡ (poll_recv_step now self.old).0) }
+        ensures after { OnOk result (self.new ≡ (poll_recv_step now self.old).1) }
+        ensures no_memory { OnErr result (EndsAfterTurns now self.old self.new) }
+    {
+        while let Some(stream) = self.take_ready() {
+            let local = stream.local();
+            match self.turned(stream, now) {
+                Ok(None) => {}
+                Ok(Some(given)) => return Ok(Some(given)),
+                Err(refusal) => {
+                    self.break_at(local);
+                    self.close();
+                    return Err(refusal);
+                }
+            }
+        }
+        Ok(None)
+    }
+
+    /// Takes out the first stream that can have its turn.
+    fn take_ready(&mut self) -> Option<BufferedStream>
+        ensures stream { result ≡ find is_ready self.old.streams }
+        ensures after { self.new ≡ taken_out result self.old }
+    {
+        self.streams.take_ready()
+    }
+
+    /// Nothing more comes of the stream at this local end.
+    pub(super) fn break_at(&mut self, local: SocketAddr)
+        ensures { self.new ≡ broken_at local self.old }
+    {
+        self.streams.break_at(local);
+    }
+
+    /// The stream at the same local end holds the bytes of this one, which was taken out.
+    pub(super) fn put(&mut self, stream: BufferedStream)
+        ensures { self.new ≡ with_bytes stream.local stream.bytes self.old }
+    {
+        self.streams.put(stream);
+    }
+
+    /// The turn of a stream that is taken out.
+    ///
+    /// # Errors
+    ///
+    /// There is no memory. Nothing changes then.
+    fn turned(
+        &mut self,
+        stream: BufferedStream,
+        now: Instant,
+    ) -> Result<Option<Received>, AllocError>
+        requires before { self.old.phase ≡ Phase.Authenticating → self.old.grants ≡ [] }
+        ensures answer { IfOk result (λ given. option_map data_of given ≡ given_by (turned stream now self.old).0) }
+        ensures after { OnOk result (self.new ≡ (turned stream now self.old).1) }
+        ensures err { OnErr result (self.new ≡ self.old) }
+    {
+        match stream.mode() {
+            Mode::Control => self.framed_turn(stream, now),
+            Mode::Waiting => self.framed_turn(stream, now),
+            Mode::Bound(peer) => Ok(Some(Received {
+                transport: TransportType::Tcp,
+                peer,
+                bytes: stream.into_bytes(),
+            })),
+            Mode::Broken => Ok(None),
+        }
+    }
+
+    /// The turn of a stream of frames that is taken out.
+    ///
+    /// # Errors
+    ///
+    /// There is no memory. Nothing changes then.
+    fn framed_turn(
+        &mut self,
+        mut stream: BufferedStream,
+        now: Instant,
+    ) -> Result<Option<Received>, AllocError>
+        requires before { self.old.phase ≡ Phase.Authenticating → self.old.grants ≡ [] }
+        ensures answer { IfOk result (λ given. option_map data_of given ≡ given_by (framed_turn stream now self.old).0) }
+        ensures after { OnOk result (self.new ≡ (framed_turn stream now self.old).1) }
+        ensures err { OnErr result (self.new ≡ self.old) }
+    {
+        if stream.is_stuck() {
+            self.break_at(stream.local());
+            return Ok(None);
+        }
+        let Some(frame) = stream.front() else {
+            self.put(stream);
+            return Ok(None);
+        };
+        let told = self.frame(&stream, frame, now)?;
+        let given = self.owned(frame, told)?;
+        stream.pass();
+        self.put(stream);
+        Ok(given)
+    }
+
+    /// What is made of a whole frame of a stream, or of bytes of a bound one.
+    ///
+    /// # Errors
+    ///
+    /// There is no memory. Nothing changes then.
+    pub(super) fn frame(
+        &mut self,
+        stream: &BufferedStream,
+        frame: &[u8],
+        now: Instant,
+    ) -> Result<Told, AllocError>
+        requires whole { frame_len frame.now ≡ Some (length frame.now) }
+        requires before { self.old.phase ≡ Phase.Authenticating → self.old.grants ≡ [] }
+        ensures answer { IfOk result (λ told. outcome_in frame.now told ≡ (frame_step stream.now frame.now now self.old).0) }
+        ensures part { IfOk result (IsPart frame.now self.old self.new) }
+        ensures after { OnOk result (self.new ≡ (frame_step stream.now frame.now now self.old).1) }
+        ensures err { OnErr result (self.new ≡ self.old) }
+    {
+        match stream.mode() {
+            Mode::Control => self.control_frame(frame, now),
+            Mode::Waiting => self.waiting_frame(stream.local(), frame, now),
+            Mode::Bound(peer) => Ok(Told::PeerData(TransportType::Tcp, peer, 0..frame.len())),
+            Mode::Broken => Ok(Told::Handled),
+        }
+    }
+
+    /// A copy of what a peer sent, if that was told of this frame.
+    ///
+    /// # Errors
+    ///
+    /// There is no memory for the copy.
+    fn owned(&self, frame: &[u8], told: Told) -> Result<Option<Received>, AllocError>
+        requires part { IsPart frame.now self.now self.now told }
+        ensures answer { IfOk result (λ given. option_map data_of given ≡ given_by (outcome_in frame.now told)) }
+        ensures memory { given_by (outcome_in frame.now told) ≡ None → IsOk result }
+    {
+        match told {
+            Told::Handled => Ok(None),
+            Told::Ignored => Ok(None),
+            Told::PeerData(transport, peer, place) => {
+                let bytes = Vec::from_slice(self.alloc, &frame[place.start..place.end])?;
+                Ok(Some(Received {
+                    transport,
+                    peer,
+                    bytes,
+                }))
+            }
+            Told::PeerIcmp(_, _, _) => Ok(None),
+        }
+    }
+}
