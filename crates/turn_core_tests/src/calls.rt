@@ -1,6 +1,7 @@
 //! The calls of a client that has no allocation, and of one that lost its server.
 
 use crate::fixture::{IPV4, Setup, at, client_for, local, server};
+use std::alloc::AllocError;
 use std::net::{IpAddr, Ipv4Addr, SocketAddr};
 use std::process::Abort;
 use std::test::Fail;
@@ -104,7 +105,16 @@ fn refuses_all(client: &mut TurnClientProtocol) -> bool {
 }
 
 fn shows_nothing(client: &TurnClientProtocol) -> bool {
-    !client.have_permission(TransportType::Udp, peer().ip()) && relays_nothing(client)
+    !client.have_permission(TransportType::Udp, peer().ip())
+        && has_ends(client)
+        && relays_nothing(client)
+}
+
+/// Whether the client is where it was made.
+fn has_ends(client: &TurnClientProtocol) -> bool {
+    client.transport() == TransportType::Udp
+        && client.local_addr() == local()
+        && client.remote_addr() == server()
 }
 
 fn relays_nothing(client: &TurnClientProtocol) -> bool {
@@ -127,8 +137,7 @@ pub(crate) fn assert_so(rt: &impl Abort, is_so: bool) {
 #[test]
 fn a_new_client_refuses_what_wants_an_allocation(rt: HostRuntime) -> Result<(), Fail> {
     let mut client = client_for(rt.alloc(), IPV4)?;
-    assert_so(&rt, has_nothing(&mut client));
-    assert_so(&rt, tells(&mut client, None));
+    assert_so(&rt, has_nothing(&mut client) && tells(&mut client, None));
     Ok(())
 }
 
@@ -149,15 +158,44 @@ pub(crate) const FAILED: [Option<AddressFamily>; 4] = [
 #[test]
 fn a_client_that_loses_its_server_ends_once(rt: HostRuntime) -> Result<(), Fail> {
     let mut client = client_for(rt.alloc(), BOTH)?;
+    assert_so(&rt, fails(&mut client)? && ends(&mut client)?);
+    Ok(())
+}
+
+/// Whether each family is told of.
+fn fails(client: &mut TurnClientProtocol) -> Result<bool, AllocError> {
     client.protocol_error()?;
+    Ok(tells_all(client))
+}
+
+pub(crate) fn tells_all(client: &mut TurnClientProtocol) -> bool {
     for family in FAILED {
-        assert_so(&rt, tells(&mut client, family));
+        if !tells(client, family) {
+            return false;
+        }
     }
+    true
+}
+
+/// Whether the client has ended, and tells of no family again.
+fn ends(client: &mut TurnClientProtocol) -> Result<bool, AllocError> {
     client.protocol_error()?;
     client.tcp_closed(local(), server());
-    assert_so(&rt, tells(&mut client, None));
-    assert_so(&rt, has_nothing(&mut client));
-    assert_so(&rt, client.poll(at(0))? == TurnPollRet::Closed);
-    assert_so(&rt, client.poll_transmit(at(0))?.is_none());
-    Ok(())
+    Ok(has_ended(client) && sends_nothing(client)?)
+}
+
+/// Whether nothing is to be had of the client.
+pub(crate) fn has_ended(client: &mut TurnClientProtocol) -> bool {
+    tells(client, None) && has_nothing(client) && is_closed(client)
+}
+
+fn is_closed(client: &mut TurnClientProtocol) -> bool {
+    match client.poll(at(0)) {
+        Ok(told) => told == TurnPollRet::Closed,
+        Err(_) => false,
+    }
+}
+
+fn sends_nothing(client: &mut TurnClientProtocol) -> Result<bool, AllocError> {
+    Ok(client.poll_transmit(at(0))?.is_none())
 }

@@ -1,25 +1,28 @@
-//! A client, its server, and runs written as tables.
-//!
-//! A proof follows each local of a test on each way out of it, and the text of each assertion again. So
-//! an assertion stands once, here, and rows are data.
+//! A new client, and its server.
 
 ghost use Rattle.std.specs.Prelude.{◌≡◌, ◌≤◌, ◌*◌, ◌^◌, IfOk};
+ghost use Rattle.turn_client_api.specs.LawsOrder.{IsSteady};
 
-use std::alloc::{AllocError, Global};
+use std::alloc::Global;
 use std::net::{IpAddr, Ipv4Addr, SocketAddr};
-use std::process::Abort;
-use std::test::Fail;
 use std::time::Duration;
 use turn_auth::credentials::{CredentialsError, TurnCredentials};
-use turn_client_api::{TurnConfig, TurnEvent, TurnPollRet};
+use turn_client_api::TurnConfig;
 use turn_client_core::TurnClientProtocol;
-use turn_stun::data::Data;
 use turn_stun::instant::Instant;
-use turn_stun::transport::{Transmit, TransportType};
+use turn_stun::transport::TransportType;
 use turn_types::AddressFamily;
 
+/// The client's port.
+pub(crate) const PORT: u16 = 1_000;
+
 pub(crate) fn local() -> SocketAddr {
-    SocketAddr::new(IpAddr::V4(Ipv4Addr::new(192, 168, 0, 1)), 1_000)
+    local_at(PORT)
+}
+
+/// The client's address with this port.
+pub(crate) fn local_at(port: u16) -> SocketAddr {
+    SocketAddr::new(IpAddr::V4(Ipv4Addr::new(192, 168, 0, 1)), port)
 }
 
 pub(crate) fn server() -> SocketAddr {
@@ -38,6 +41,8 @@ pub(crate) fn at(millis: u32) -> Instant
 pub(crate) struct Setup {
     /// What carries its packets.
     pub(crate) transport: TransportType,
+    /// What the server is asked to relay over. The core leaves it to the clients above which of both go together.
+    pub(crate) relays: TransportType,
     /// It asks for addresses of these families, or of one of them where they are the same.
     pub(crate) first: AddressFamily,
     pub(crate) second: AddressFamily,
@@ -56,6 +61,7 @@ pub(crate) struct Waits {
 /// For an IPv4 address over UDP, with the waits of the standard.
 pub(crate) const IPV4: Setup = Setup {
     transport: TransportType::Udp,
+    relays: TransportType::Udp,
     first: AddressFamily::IPV4,
     second: AddressFamily::IPV4,
     waits: None,
@@ -65,17 +71,24 @@ pub(crate) const IPV4: Setup = Setup {
 fn config_for(alloc: Global, setup: Setup) -> Result<TurnConfig, CredentialsError> {
     let credentials = TurnCredentials::new(alloc, b"user", b"pass")?;
     let mut config = TurnConfig::new(alloc, credentials);
+    set_up(&mut config, setup);
+    Ok(config)
+}
+
+fn set_up(config: &mut TurnConfig, setup: Setup) {
+    config.set_allocation_transport(setup.relays);
     config.set_address_family(setup.first);
     config.add_address_family(setup.second);
     if let Some(waits) = setup.waits {
-        config.set_request_retransmits(
-            millis(waits.initial),
-            millis(waits.longest),
-            waits.sends,
-            millis(waits.last),
-        );
+        set_waits(config, waits);
     }
-    Ok(config)
+}
+
+fn set_waits(config: &mut TurnConfig, waits: Waits) {
+    let initial = millis(waits.initial);
+    let longest = millis(waits.longest);
+    let last = millis(waits.last);
+    config.set_request_retransmits(initial, longest, waits.sends, last);
 }
 
 fn millis(millis: u32) -> Duration {
@@ -86,100 +99,12 @@ fn millis(millis: u32) -> Duration {
 pub(crate) fn client_for(
     alloc: Global,
     setup: Setup,
-) -> Result<TurnClientProtocol, CredentialsError> {
+) -> Result<TurnClientProtocol, CredentialsError>
+    ensures { IfOk result (λ client. IsSteady client) }
+{
     let config = config_for(alloc, setup)?;
-    Ok(TurnClientProtocol::new(alloc, setup.transport, local(), server(), config, [0; 32])?)
-}
-
-/// A call, with its moment in milliseconds.
-#[derive(Clone, Copy)]
-pub(crate) enum Ask {
-    Poll(u32),
-    Transmit(u32),
-    Event,
-}
-
-/// What it answers, with its moment in milliseconds.
-#[derive(Clone, Copy)]
-pub(crate) enum Want<'a> {
-    Wait(u32),
-    Closed,
-    Send(&'a [u8]),
-    Failed(AddressFamily),
-    Nothing,
-}
-
-pub(crate) type Row<'a> = (Ask, Want<'a>);
-
-/// Whether `poll` tells what is wanted.
-fn tells(client: &mut TurnClientProtocol, now: u32, want: Want<'_>) -> Result<bool, AllocError> {
-    let told = client.poll(at(now))?;
-    Ok(match want {
-        Want::Wait(moment) => told == TurnPollRet::WaitUntil(at(moment)),
-        Want::Closed => told == TurnPollRet::Closed,
-        _ => false,
-    })
-}
-
-/// Whether the packet takes these bytes to the server.
-fn takes(packet: &Transmit<Data>, transport: TransportType, bytes: &[u8]) -> bool {
-    packet.payload.as_bytes() == bytes
-        && packet.transport == transport
-        && packet.from == local()
-        && packet.to == server()
-}
-
-/// Whether `poll_transmit` gives what is wanted.
-fn sends(client: &mut TurnClientProtocol, now: u32, want: Want<'_>) -> Result<bool, AllocError> {
-    let transport = client.transport();
-    let packet = client.poll_transmit(at(now))?;
-    Ok(match (&packet, want) {
-        (Some(packet), Want::Send(bytes)) => takes(packet, transport, bytes),
-        (None, Want::Nothing) => true,
-        _ => false,
-    })
-}
-
-/// Whether the first event is the one that is wanted.
-fn happens(client: &mut TurnClientProtocol, want: Want<'_>) -> bool {
-    let event = client.poll_event();
-    match want {
-        Want::Failed(family) => event == Some(TurnEvent::AllocationCreateFailed(family)),
-        Want::Nothing => event.is_none(),
-        _ => false,
+    match TurnClientProtocol::new(alloc, setup.transport, local(), server(), config, [0; 32]) {
+        Ok(client) => Ok(client),
+        Err(refusal) => Err(CredentialsError::from(refusal)),
     }
-}
-
-/// Whether the call answers so.
-fn answers(client: &mut TurnClientProtocol, row: &Row<'_>) -> Result<bool, AllocError> {
-    match row.0 {
-        Ask::Poll(now) => tells(client, now, row.1),
-        Ask::Transmit(now) => sends(client, now, row.1),
-        Ask::Event => Ok(happens(client, row.1)),
-    }
-}
-
-/// Asserts that each call of a run answers so.
-fn follows(
-    rt: &impl Abort,
-    client: &mut TurnClientProtocol,
-    rows: &[Row<'_>],
-) -> Result<(), AllocError> {
-    for row in rows {
-        let is_so = answers(client, row)?;
-        assert!(rt; is_so);
-    }
-    Ok(())
-}
-
-/// Asserts that each call of a new client's run answers so.
-pub(crate) fn follow(
-    rt: &impl Abort,
-    alloc: Global,
-    setup: Setup,
-    rows: &[Row<'_>],
-) -> Result<(), Fail> {
-    let mut client = client_for(alloc, setup)?;
-    follows(rt, &mut client, rows)?;
-    Ok(())
 }

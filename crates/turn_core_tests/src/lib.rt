@@ -7,8 +7,24 @@
 #[cfg(test)]
 mod calls;
 #[cfg(test)]
+mod client;
+#[cfg(test)]
+mod connections;
+#[cfg(test)]
+mod crowds;
+#[cfg(test)]
 mod fixture;
 #[cfg(test)]
+mod grants;
+#[cfg(test)]
+mod handshake;
+#[cfg(test)]
 mod memory;
+#[cfg(test)]
+mod payloads;
+#[cfg(test)]
+mod run;
+#[cfg(test)]
+mod server;
 #[cfg(test)]
 mod silence;

@@ -1,20 +1,21 @@
 //! The first ALLOCATE, what is sent again, and when a client is to be polled while no response comes.
 //! The bytes are those of RFC 8656, section 18, and the moments were added up by hand.
 
-use crate::fixture::{Ask, IPV4, Row, Setup, Waits, Want, follow};
+use crate::fixture::{IPV4, Setup, Waits};
+use crate::run::{Ask, Row, Want, follow};
 use std::test::Fail;
 use turn_stun::transport::TransportType;
 use turn_types::AddressFamily;
 
 /// The first ALLOCATE of the seed of zeros, for an IPv4 address (RFC 8656, section 7.1).
-const FIRST_ALLOCATE: &[u8] = &[
+pub(crate) const FIRST_ALLOCATE: &[u8] = &[
     0x00, 0x03, 0x00, 0x14, 0x21, 0x12, 0xa4, 0x42, 0x76, 0xb8, 0xe0, 0xad, 0xa0, 0xf1, 0x3d, 0x90,
     0x40, 0x5d, 0x6a, 0xe5, 0x00, 0x0d, 0x00, 0x04, 0x00, 0x00, 0x07, 0x08, 0x00, 0x19, 0x00, 0x04,
     0x11, 0x00, 0x00, 0x00, 0x00, 0x1a, 0x00, 0x00,
 ];
 
 /// The one that asks for an IPv6 address beside the IPv4 one (RFC 8656, section 18.11).
-const ALLOCATE_BOTH: &[u8] = &[
+pub(crate) const ALLOCATE_BOTH: &[u8] = &[
     0x00, 0x03, 0x00, 0x1c, 0x21, 0x12, 0xa4, 0x42, 0x76, 0xb8, 0xe0, 0xad, 0xa0, 0xf1, 0x3d, 0x90,
     0x40, 0x5d, 0x6a, 0xe5, 0x00, 0x0d, 0x00, 0x04, 0x00, 0x00, 0x07, 0x08, 0x00, 0x19, 0x00, 0x04,
     0x11, 0x00, 0x00, 0x00, 0x00, 0x1a, 0x00, 0x00, 0x80, 0x00, 0x00, 0x04, 0x02, 0x00, 0x00, 0x00,
@@ -35,7 +36,7 @@ const FIRST_CALLS: &[Row<'static>] = &[
 
 #[test]
 fn a_new_client_is_to_send_now(rt: HostRuntime) -> Result<(), Fail> {
-    follow(&rt, rt.alloc(), IPV4, FIRST_CALLS)
+    follow(&rt, rt.alloc(), IPV4, &[FIRST_CALLS])
 }
 
 /// Three sends, after 0.6 and 1 seconds, and 3 seconds more.
@@ -69,7 +70,7 @@ const SHORT_SILENCE: &[Row<'static>] = &[
 
 #[test]
 fn a_silent_server_is_given_up(rt: HostRuntime) -> Result<(), Fail> {
-    follow(&rt, rt.alloc(), SHORT_WAITS, SHORT_SILENCE)
+    follow(&rt, rt.alloc(), SHORT_WAITS, &[SHORT_SILENCE])
 }
 
 const SILENCE: &[Row<'static>] = &[
@@ -95,7 +96,7 @@ const SILENCE: &[Row<'static>] = &[
 
 #[test]
 fn requests_are_sent_as_often_as_by_default(rt: HostRuntime) -> Result<(), Fail> {
-    follow(&rt, rt.alloc(), IPV4, SILENCE)
+    follow(&rt, rt.alloc(), IPV4, &[SILENCE])
 }
 
 const OVER_TCP: Setup = Setup {
@@ -114,7 +115,7 @@ const SILENCE_OVER_TCP: &[Row<'static>] = &[
 
 #[test]
 fn over_tcp_a_request_is_sent_once(rt: HostRuntime) -> Result<(), Fail> {
-    follow(&rt, rt.alloc(), OVER_TCP, SILENCE_OVER_TCP)
+    follow(&rt, rt.alloc(), OVER_TCP, &[SILENCE_OVER_TCP])
 }
 
 const BOTH: Setup = Setup {
@@ -142,5 +143,5 @@ const BOTH_FAIL: &[Row<'static>] = &[
 
 #[test]
 fn each_family_that_is_asked_for_fails(rt: HostRuntime) -> Result<(), Fail> {
-    follow(&rt, rt.alloc(), BOTH, BOTH_FAIL)
+    follow(&rt, rt.alloc(), BOTH, &[BOTH_FAIL])
 }
