@@ -1,2 +1,4 @@
-pub mod AlarmLemmas
+pub mod CarrierLemmas
+pub mod NoStreamLemmas
 pub mod RunLemmas
+pub mod UdpClientLemmas

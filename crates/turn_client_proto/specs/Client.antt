@@ -1,5 +1,5 @@
 -- The client over any transport.
-use Rattle.turn_client_proto.specs.First.{State}
+use Rattle.turn_client_api.specs.State.{State}
 use Rattle.turn_client_proto.specs.declared.client.TurnClient.{TurnClient}
 use Rattle.turn_client_proto.specs.declared.client.TurnClient.TheVariants.{Udp}
 

@@ -1,5 +1,3 @@
 pub mod Client
-pub mod First
-pub mod Kept
-pub mod Received
+pub mod OverUdp
 pub mod Run

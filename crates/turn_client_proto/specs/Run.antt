@@ -1,63 +1,117 @@
 -- Whole runs of a client: each call by its own step, one after the other.
-use Rattle.std.specs.Prelude.{ℕ, Bool, true, false, List, [], ◌∷◌}
+use Rattle.std.specs.Prelude.{◌≡◌, ℕ, ◌≤◌, ◌^◌, List, [], ◌∷◌, length, Option, Some, None, ⊤}
 use Rattle.std.specs.declared.net.socket_addr.SocketAddr.{SocketAddr}
 use Rattle.turn_stun.specs.declared.transport.TransportType.{TransportType}
+use Rattle.turn_stun.specs.declared.transport.TransportType.TheVariants.{Udp}
 use Rattle.turn_client_api.specs.Config.{Config}
-use Rattle.turn_client_api.specs.declared.call.Call.{Call as WholeCall}
-use Rattle.turn_client_api.specs.declared.call.Call.TheVariants as Whole
-use Rattle.turn_client_proto.specs.First.{State, new_client, poll_step, transmit_step, event_step, recv_step, error_step, IsSilentUntil}
-use Rattle.turn_client_proto.specs.declared.runs.call.Call.{Call}
-use Rattle.turn_client_proto.specs.declared.runs.call.Call.TheVariants.{Poll, PollTransmit, PollEvent, Recv, ProtocolError}
+use Rattle.turn_client_api.specs.State.{State, initial}
+use Rattle.turn_client_api.specs.Payloads.{Outcome, Payload}
+use Rattle.turn_client_api.specs.Payloads as O
+use Rattle.turn_client_api.specs.Streams.{poll_recv_step}
+use Rattle.turn_client_api.specs.Calls.{allocated_tcp_socket_step, bind_channel_step, create_permission_step, delete_step, has_permission, permissions_of, relayed_addresses_of, send_to_step, tcp_connect_step}
+use Rattle.turn_client_api.specs.Poll.{poll_step}
+use Rattle.turn_client_api.specs.Transmit.{transmit_step}
+use Rattle.turn_client_api.specs.Answers.{event_step}
+use Rattle.turn_client_api.specs.Alarm.{IsTimely}
+use Rattle.turn_client_api.specs.Steps.{packet_step, state_after}
+use Rattle.turn_client_api.specs.declared.call.Call.{Call}
+use Rattle.turn_client_api.specs.declared.call.Call.TheVariants.{Delete, CreatePermission, BindChannel, TcpConnect, AllocatedTcpSocket, TcpClosed, SendTo, Recv, PollRecv, Poll, PollTransmit, PollEvent, ProtocolError, RelayedAddresses, Permissions, HavePermission}
+use Rattle.turn_client_proto.specs.declared.runs.reply.PeerData.{PeerData}
 use Rattle.turn_client_proto.specs.declared.runs.reply.Reply.{Reply}
 use Rattle.turn_client_proto.specs.declared.runs.reply.Reply.TheVariants as Replies
 
--- the same call in the machine that has all calls
-abbrev pub whole_call : Call → WholeCall
-whole_call (Poll now) = Whole.Poll now
-whole_call (PollTransmit now) = Whole.PollTransmit now
-whole_call PollEvent = Whole.PollEvent
-whole_call (Recv transmit now) = Whole.Recv transmit now
-whole_call ProtocolError = Whole.ProtocolError
+-- ---- one call
 
--- the answer of `recv`, by whether the packet was taken
-abbrev pub recv_reply : Bool → Reply
-recv_reply true = Replies.Handled
-recv_reply false = Replies.Ignored
+-- what a peer sent, whoever holds it
+abbrev pub peer_data : Payload → PeerData
+peer_data payload = record { transport = payload.transport; peer = payload.peer; «data» = payload.bytes }
 
--- the answer of a call, and the client after it
+-- the answer of `recv`
+abbrev pub recv_reply : Outcome → Reply
+recv_reply O.Handled = Replies.Handled
+recv_reply O.Ignored = Replies.Ignored
+recv_reply (O.PeerData payload) = Replies.PeerData (peer_data payload)
+recv_reply (O.PeerIcmp transport peer icmp) =
+    Replies.PeerIcmp transport peer icmp.icmp_type icmp.code icmp.«data»
+
+-- the answer of `poll_recv`
+abbrev pub poll_recv_reply : Option Payload → Reply
+poll_recv_reply None = Replies.NoData
+poll_recv_reply (Some payload) = Replies.PeerData (peer_data payload)
+
+-- the answer of the call, which finds memory
+abbrev pub reply_of : Call → State → Reply
+reply_of (Delete now) s = Replies.Delete (delete_step now s).0
+reply_of (CreatePermission transport peer now) s = Replies.CreatePermission (create_permission_step transport peer now s).0
+reply_of (BindChannel transport peer now) s = Replies.BindChannel (bind_channel_step transport peer now s).0
+reply_of (TcpConnect peer now) s = Replies.TcpConnect (tcp_connect_step peer now s).0
+reply_of (AllocatedTcpSocket id tuple peer local now) s = Replies.AllocatedTcpSocket (allocated_tcp_socket_step id tuple peer local now s).0
+reply_of (TcpClosed local remote now) s = Replies.Done
+reply_of (SendTo transport peer bytes now) s = Replies.SendTo (send_to_step transport peer bytes now s).0
+reply_of (Recv packet now) s = recv_reply (packet_step packet now s).0
+reply_of (PollRecv now) s = poll_recv_reply (poll_recv_step now s).0
+reply_of (Poll now) s = Replies.Poll (poll_step now s).0
+reply_of (PollTransmit now) s = Replies.Transmit (transmit_step now s).0
+reply_of PollEvent s = Replies.Event (event_step s).0
+reply_of ProtocolError s = Replies.Done
+reply_of RelayedAddresses s = Replies.RelayedAddresses (relayed_addresses_of s)
+reply_of (Permissions transport relayed) s = Replies.Permissions (permissions_of transport relayed s)
+reply_of (HavePermission transport to) s = Replies.HavePermission (has_permission transport to s)
+
+-- the answer, and the client after it
 abbrev pub step : State → Call → Reply × State
-step s (Poll now) = (Replies.Poll (poll_step s now).0, (poll_step s now).1)
-step s (PollTransmit now) = (Replies.Transmit (transmit_step s now).0, (transmit_step s now).1)
-step s PollEvent = (Replies.Event (event_step s).0, (event_step s).1)
-step s (Recv transmit now) = (recv_reply (recv_step s transmit).0, (recv_step s transmit).1)
-step s ProtocolError = (Replies.Done, error_step s)
+step s call = (reply_of call s, state_after call s)
+
+-- ---- calls that can be made
+
+-- where the server relays over UDP a packet carries the data for a peer
+abbrev pub IsShort : TransportType → List ℕ → Type 0
+IsShort transport bytes = transport ≡ Udp → length bytes ≤ 65504
+
+-- a client whose allocations relay over this transport can be asked so
+abbrev pub IsCallable : TransportType → Call → Type 0
+IsCallable relays (Delete now) = now ≤ 2 ^ 62
+IsCallable relays (CreatePermission transport peer now) = now ≤ 2 ^ 62
+IsCallable relays (BindChannel transport peer now) = now ≤ 2 ^ 62
+IsCallable relays (TcpConnect peer now) = now ≤ 2 ^ 62
+IsCallable relays (AllocatedTcpSocket id tuple peer local now) = now ≤ 2 ^ 62
+IsCallable relays (TcpClosed local remote now) = now ≤ 2 ^ 62
+IsCallable relays (SendTo transport peer bytes now) = (now ≤ 2 ^ 62) × IsShort relays bytes
+IsCallable relays (Recv packet now) = now ≤ 2 ^ 62
+IsCallable relays (PollRecv now) = now ≤ 2 ^ 62
+IsCallable relays (Poll now) = now ≤ 2 ^ 62
+IsCallable relays (PollTransmit now) = now ≤ 2 ^ 62
+IsCallable relays PollEvent = ⊤
+IsCallable relays ProtocolError = ⊤
+IsCallable relays RelayedAddresses = ⊤
+IsCallable relays (Permissions transport relayed) = ⊤
+IsCallable relays (HavePermission transport to) = ⊤
+
+-- ---- many calls
 
 -- the answers of the calls, one after the other
 abbrev pub replies_of : State → List Call → List Reply
 replies_of s [] = []
-replies_of s (call ∷ calls) = (step s call).0 ∷ replies_of (step s call).1 calls
+replies_of s (call ∷ calls) = reply_of call s ∷ replies_of (state_after call s) calls
 
 -- the client after them
-abbrev pub state_after : State → List Call → State
-state_after s [] = s
-state_after s (call ∷ calls) = state_after (step s call).1 calls
+abbrev pub state_behind : State → List Call → State
+state_behind s [] = s
+state_behind s (call ∷ calls) = state_behind (state_after call s) calls
 
 -- the answers of a new client and its last state
 abbrev pub run : TransportType → SocketAddr → SocketAddr → Config → List ℕ → List Call → List Reply × State
 run transport local remote config seed calls = (
-  replies_of (new_client transport local remote config seed) calls,
-  state_after (new_client transport local remote config seed) calls,
+  replies_of (initial transport local remote config seed) calls,
+  state_behind (initial transport local remote config seed) calls,
 )
 
--- what a `poll` among the calls tells is silent
-abbrev pub TellsSilence : State → Call → Type 0
-TellsSilence s (Poll now) = IsSilentUntil (poll_step s now).0 (poll_step s now).1 now
-TellsSilence s (PollTransmit now) = Unit {0}
-TellsSilence s PollEvent = Unit {0}
-TellsSilence s (Recv transmit now) = Unit {0}
-TellsSilence s ProtocolError = Unit {0}
+-- what the call tells, if it is `poll`, is timely
+abbrev pub TellsTimely : State → Call → Type 0
+TellsTimely s (Poll now) = IsTimely (poll_step now s).0 now s (poll_step now s).1
+TellsTimely s _ = ⊤
 
--- a caller that sleeps until the moment that each `poll` of the run tells misses nothing
+-- a caller that sleeps until the moment that each `poll` of the run tells sleeps through nothing
 abbrev pub SleepsThroughNothing : State → List Call → Type 0
-SleepsThroughNothing s [] = Unit {0}
-SleepsThroughNothing s (call ∷ calls) = TellsSilence s call × SleepsThroughNothing (step s call).1 calls
+SleepsThroughNothing s [] = ⊤
+SleepsThroughNothing s (call ∷ calls) = TellsTimely s call × SleepsThroughNothing (state_after call s) calls

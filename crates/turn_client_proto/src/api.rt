@@ -4,13 +4,10 @@
 //! what `poll_transmit` gives, takes what `poll_event` gives, and calls again at the moment that
 //! `poll` tells.
 
-mod calls;
-
-pub use calls::TurnClientApi;
 pub use turn_client_api::{
     BindChannelError, CreatePermissionError, Data, DataRange, DataRangeOrOwned,
     DelayedMessageOrChannelSend, DelayedTransmit, DeleteError, PermissionAddressesIter,
     RelayedAddressesIter, RequestTimers, SendError, Socket5Tuple, TcpAllocateError,
-    TcpConnectError, Transmit, TransmitBuild, TurnConfig, TurnEvent, TurnPeerData, TurnPollRet,
-    TurnRecvRet,
+    TcpConnectError, Transmit, TransmitBuild, TurnClientApi, TurnConfig, TurnEvent, TurnPeerData,
+    TurnPollRet, TurnRecvRet,
 };

@@ -1,16 +1,17 @@
 //! A client over whichever transport.
 
-ghost use Rattle.std.specs.Prelude.{◌≡◌};
-
-use crate::api::TurnClientApi;
 use crate::udp::TurnClientUdp;
 use std::alloc::AllocError;
 use std::convert::AsSlice;
 use std::fmt::Debug;
-use std::net::SocketAddr;
+use std::net::{IpAddr, SocketAddr};
 pub use turn_client_api::{
-    BindChannelError, CreatePermissionError, DeleteError, SendError, TcpAllocateError, TurnEvent,
-    TurnPollRet, TurnRecvRet,
+    BindChannelError, CreatePermissionError, DeleteError, SendError, TcpAllocateError,
+    TcpConnectError, TurnEvent, TurnPollRet, TurnRecvRet,
+};
+use turn_client_api::{
+    DelayedMessageOrChannelSend, PermissionAddressesIter, RelayedAddressesIter, Socket5Tuple,
+    TransmitBuild, TurnClientApi, TurnPeerData,
 };
 use turn_stun::data::Data;
 use turn_stun::instant::Instant;
@@ -57,6 +58,100 @@ impl TurnClientApi for TurnClient {
         }
     }
 
+    fn relayed_addresses(&self) -> RelayedAddressesIter<'_> {
+        match self {
+            TurnClient::Udp(client) => client.relayed_addresses(),
+        }
+    }
+
+    fn permissions(
+        &self,
+        transport: TransportType,
+        relayed: SocketAddr,
+    ) -> PermissionAddressesIter<'_> {
+        match self {
+            TurnClient::Udp(client) => client.permissions(transport, relayed),
+        }
+    }
+
+    fn delete(&mut self, now: Instant) -> Result<(), DeleteError> {
+        match self {
+            TurnClient::Udp(client) => client.delete(now),
+        }
+    }
+
+    fn create_permission(
+        &mut self,
+        transport: TransportType,
+        peer_addr: IpAddr,
+        now: Instant,
+    ) -> Result<(), CreatePermissionError> {
+        match self {
+            TurnClient::Udp(client) => client.create_permission(transport, peer_addr, now),
+        }
+    }
+
+    fn have_permission(&self, transport: TransportType, to: IpAddr) -> bool {
+        match self {
+            TurnClient::Udp(client) => client.have_permission(transport, to),
+        }
+    }
+
+    fn bind_channel(
+        &mut self,
+        transport: TransportType,
+        peer_addr: SocketAddr,
+        now: Instant,
+    ) -> Result<(), BindChannelError> {
+        match self {
+            TurnClient::Udp(client) => client.bind_channel(transport, peer_addr, now),
+        }
+    }
+
+    fn tcp_connect(&mut self, peer_addr: SocketAddr, now: Instant) -> Result<(), TcpConnectError> {
+        match self {
+            TurnClient::Udp(client) => client.tcp_connect(peer_addr, now),
+        }
+    }
+
+    fn allocated_tcp_socket(
+        &mut self,
+        id: u32,
+        five_tuple: Socket5Tuple,
+        peer_addr: SocketAddr,
+        local_addr: Option<SocketAddr>,
+        now: Instant,
+    ) -> Result<(), TcpAllocateError> {
+        match self {
+            TurnClient::Udp(client) => {
+                client.allocated_tcp_socket(id, five_tuple, peer_addr, local_addr, now)
+            }
+        }
+    }
+
+    fn tcp_closed(
+        &mut self,
+        local_addr: SocketAddr,
+        remote_addr: SocketAddr,
+        now: Instant,
+    ) -> Result<(), AllocError> {
+        match self {
+            TurnClient::Udp(client) => client.tcp_closed(local_addr, remote_addr, now),
+        }
+    }
+
+    fn send_to<T: AsSlice<u8> + Debug + Drop>(
+        &mut self,
+        transport: TransportType,
+        to: SocketAddr,
+        data: T,
+        now: Instant,
+    ) -> Result<Option<TransmitBuild<DelayedMessageOrChannelSend<T>>>, SendError> {
+        match self {
+            TurnClient::Udp(client) => client.send_to(transport, to, data, now),
+        }
+    }
+
     fn recv<T: AsSlice<u8> + Debug + Drop>(
         &mut self,
         transmit: Transmit<T>,
@@ -64,6 +159,12 @@ impl TurnClientApi for TurnClient {
     ) -> Result<TurnRecvRet<T>, AllocError> {
         match self {
             TurnClient::Udp(client) => client.recv(transmit, now),
+        }
+    }
+
+    fn poll_recv(&mut self, now: Instant) -> Result<Option<TurnPeerData<Vec<u8>>>, AllocError> {
+        match self {
+            TurnClient::Udp(client) => client.poll_recv(now),
         }
     }
 

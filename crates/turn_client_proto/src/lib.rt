@@ -2,21 +2,16 @@
 //! and the next moment to call again.
 //!
 //! Begin with [`udp::TurnClientUdp`], and with [`api::TurnClientApi`] for the calls of a client.
-//! [`replay`] makes a list of calls on a new client. So far a client asks for an allocation,
-//! sends the request again, and ends when the server answers or stays silent.
+//! [`reply_to`] makes a call that is a value on any client, and [`replay`] a list of them on a new one.
 #![tactic(auto)]
 
 pub mod api;
 pub mod client;
-mod events;
-mod phase;
 pub mod prelude;
-mod protocol;
-mod request;
 pub mod runs;
 pub mod stun;
 pub mod types;
 pub mod udp;
 
-pub use runs::{Call, Replayed, Reply, replay};
+pub use runs::{Call, Replayed, Reply, replay, reply_to};
 pub use turn_client_api::{PermissionAddressesIter, RelayedAddressesIter};

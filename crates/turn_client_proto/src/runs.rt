@@ -1,9 +1,16 @@
 //! Whole runs of a client: calls in, answers out.
 
+mod addresses;
+mod asks;
 mod call;
+mod carries;
+mod polls;
+mod reads;
 mod reply;
 mod run;
 
-pub use call::Call;
-pub use reply::Reply;
+pub use addresses::{PermittedAddresses, RelayedAddresses};
+pub use call::reply_to;
+pub use reply::{PeerData, Reply};
 pub use run::{Replayed, replay};
+pub use turn_client_api::Call;

@@ -1,36 +1,48 @@
 //! A client that reaches its server over UDP.
 
-ghost use Rattle.std.specs.Prelude.{◌≡◌, IfOk};
-ghost use Rattle.turn_client_proto.specs.First.{new_client};
+ghost use Rattle.std.specs.Prelude.{◌≡◌, ◌&&◌, [], IfOk, IsOk, OnErr, OnOk, true};
+ghost use Rattle.turn_agent.specs.Agent.{same_address};
+ghost use Rattle.turn_client_api.specs.Answers.{HandsBack, datagram_takes_none, outcome_of};
+ghost use Rattle.turn_client_api.specs.Effect.{closed};
+ghost use Rattle.turn_client_api.specs.Payloads.{datagram_step};
+ghost use Rattle.turn_client_api.specs.Receive.{is_from_server};
+ghost use Rattle.turn_client_api.specs.State.{initial};
+ghost use Rattle.turn_client_core.specs.Told.{outcome_in};
+ghost use Rattle.turn_client_proto.specs.OverUdp.{IsWithin};
 
-use crate::api::TurnClientApi;
-use crate::protocol::Protocol;
 use std::alloc::{AllocError, Global};
 use std::convert::AsSlice;
 use std::fmt::Debug;
 use std::marker::Model;
-use std::net::SocketAddr;
-use turn_client_api::TurnConfig;
+use std::net::{IpAddr, SocketAddr};
 pub use turn_client_api::{
-    BindChannelError, CreatePermissionError, DeleteError, SendError, TurnEvent, TurnPollRet,
-    TurnRecvRet,
+    BindChannelError, CreatePermissionError, DeleteError, SendError, TcpAllocateError,
+    TcpConnectError, TurnEvent, TurnPollRet, TurnRecvRet,
 };
+use turn_client_api::{
+    DataRange, DataRangeOrOwned, DelayedMessageOrChannelSend, PermissionAddressesIter,
+    RelayedAddressesIter, Socket5Tuple, TransmitBuild, TurnClientApi, TurnConfig, TurnPeerData,
+};
+use turn_client_core::{Told, TurnClientProtocol};
 use turn_stun::data::Data;
 use turn_stun::instant::Instant;
 use turn_stun::transport::{Transmit, TransportType};
 
-/// A client that reaches its server over UDP. Contracts see the record `State`.
+/// A client that reaches its server over UDP. Contracts see its `State`.
 #[derive(Debug, Drop)]
 pub struct TurnClientUdp {
-    protocol: Protocol,
+    core: TurnClientProtocol,
 }
 
 impl Model for TurnClientUdp {
-    ghost use Rattle.turn_client_proto.specs.First.{State};
+    ghost use Rattle.turn_client_api.specs.State.{State};
+    ghost use Rattle.turn_client_proto.specs.OverUdp.{IsUdpClient};
 
     ghost Value = { State };
 
-    ghost view = { λ client. client.protocol };
+    ghost view = { λ client. client.core };
+
+    ghost invariant = { λ client. IsUdpClient client.core };
 }
 
 impl TurnClientUdp {
@@ -52,10 +64,61 @@ impl TurnClientUdp {
         seed: [u8; 32],
     ) -> Result<TurnClientUdp, AllocError>
         requires { config.allocation_transport ≡ TransportType.Udp }
-        ensures { IfOk result (λ client. client ≡ new_client TransportType.Udp local remote config seed) }
+        ensures { IfOk result (λ client. client ≡ initial TransportType.Udp local remote config seed) }
     {
-        let protocol = Protocol::new(alloc, TransportType::Udp, local, remote, config, seed)?;
-        Ok(TurnClientUdp { protocol })
+        let core = TurnClientProtocol::new(alloc, TransportType::Udp, local, remote, config, seed)?;
+        Ok(TurnClientUdp { core })
+    }
+
+    /// Whether what came this way is a datagram of the server to the client.
+    fn is_from_server(&self, transport: TransportType, from: SocketAddr, to: SocketAddr) -> bool
+        ensures value { result ≡ (is_from_server transport from self.now && same_address to self.now.local) }
+        ensures carrier { self.now.transport ≡ TransportType.Udp }
+    {
+        transport == self.core.transport()
+            && from == self.core.remote_addr()
+            && to == self.core.local_addr()
+    }
+
+    /// Takes a datagram of the server.
+    ///
+    /// # Errors
+    ///
+    /// There is no memory. The client has ended then, and nothing else has changed.
+    fn datagram(&mut self, bytes: &[u8], now: Instant) -> Result<Told, AllocError>
+        ensures answer { IfOk result (λ told. outcome_in bytes.now told ≡ (datagram_step bytes.now now self.old).0) }
+        ensures within { IfOk result (IsWithin bytes.now) }
+        ensures after { OnOk result (self.new ≡ (datagram_step bytes.now now self.old).1) }
+        ensures no_memory { OnErr result (self.new ≡ closed self.old) }
+        ensures free { datagram_takes_none bytes.now ≡ true → IsOk result }
+        ensures no_streams { self.old.streams ≡ [] }
+    {
+        self.core.datagram(bytes, now)
+    }
+}
+
+/// What the caller is told of its packet: data of a peer is a part of the packet, and what was not for the
+/// client is handed back.
+fn answer_of<T: AsSlice<u8> + Debug + Drop>(told: Told, transmit: Transmit<T>) -> TurnRecvRet<T>
+    requires { IsWithin (T.items transmit.payload) told }
+    ensures answer { outcome_of result ≡ outcome_in (T.items transmit.payload) told }
+    ensures hands_back { HandsBack transmit result }
+{
+    match told {
+        Told::Handled => TurnRecvRet::Handled,
+        Told::Ignored => TurnRecvRet::Ignored(transmit),
+        Told::PeerData(transport, peer, range) => {
+            let Transmit { payload, .. } = transmit;
+            let data = DataRangeOrOwned::Range(DataRange::new(payload, range));
+            TurnRecvRet::PeerData(TurnPeerData::new(transport, peer, data))
+        }
+        Told::PeerIcmp(transport, peer, icmp) => TurnRecvRet::PeerIcmp {
+            transport,
+            peer,
+            icmp_type: icmp.icmp_type,
+            icmp_code: icmp.code,
+            icmp_data: icmp.data,
+        },
     }
 }
 
@@ -63,39 +126,124 @@ impl TurnClientApi for TurnClientUdp {
     ghost state = { λ client. client };
 
     fn transport(&self) -> TransportType {
-        self.protocol.transport()
+        self.core.transport()
     }
 
     fn local_addr(&self) -> SocketAddr {
-        self.protocol.local_addr()
+        self.core.local_addr()
     }
 
     fn remote_addr(&self) -> SocketAddr {
-        self.protocol.remote_addr()
+        self.core.remote_addr()
+    }
+
+    fn relayed_addresses(&self) -> RelayedAddressesIter<'_> {
+        self.core.relayed_addresses()
+    }
+
+    fn permissions(
+        &self,
+        transport: TransportType,
+        relayed: SocketAddr,
+    ) -> PermissionAddressesIter<'_> {
+        self.core.permissions(transport, relayed)
+    }
+
+    fn delete(&mut self, now: Instant) -> Result<(), DeleteError> {
+        self.core.delete(now)
+    }
+
+    fn create_permission(
+        &mut self,
+        transport: TransportType,
+        peer_addr: IpAddr,
+        now: Instant,
+    ) -> Result<(), CreatePermissionError> {
+        self.core.create_permission(transport, peer_addr, now)
+    }
+
+    fn have_permission(&self, transport: TransportType, to: IpAddr) -> bool {
+        self.core.have_permission(transport, to)
+    }
+
+    fn bind_channel(
+        &mut self,
+        transport: TransportType,
+        peer_addr: SocketAddr,
+        now: Instant,
+    ) -> Result<(), BindChannelError> {
+        self.core.bind_channel(transport, peer_addr, now)
+    }
+
+    fn tcp_connect(&mut self, peer_addr: SocketAddr, now: Instant) -> Result<(), TcpConnectError> {
+        self.core.tcp_connect(peer_addr, now)
+    }
+
+    fn allocated_tcp_socket(
+        &mut self,
+        id: u32,
+        five_tuple: Socket5Tuple,
+        peer_addr: SocketAddr,
+        local_addr: Option<SocketAddr>,
+        now: Instant,
+    ) -> Result<(), TcpAllocateError> {
+        self.core
+            .allocated_tcp_socket(id, five_tuple, peer_addr, local_addr, now)
+    }
+
+    fn tcp_closed(
+        &mut self,
+        local_addr: SocketAddr,
+        remote_addr: SocketAddr,
+        _now: Instant,
+    ) -> Result<(), AllocError> {
+        self.core.tcp_closed(local_addr, remote_addr);
+        Ok(())
+    }
+
+    fn send_to<T: AsSlice<u8> + Debug + Drop>(
+        &mut self,
+        transport: TransportType,
+        to: SocketAddr,
+        data: T,
+        now: Instant,
+    ) -> Result<Option<TransmitBuild<DelayedMessageOrChannelSend<T>>>, SendError> {
+        self.core.send_to(transport, to, data, now)
     }
 
     fn recv<T: AsSlice<u8> + Debug + Drop>(
         &mut self,
         transmit: Transmit<T>,
-        _now: Instant,
+        now: Instant,
     ) -> Result<TurnRecvRet<T>, AllocError> {
-        Ok(self.protocol.recv(transmit))
+        if !self.is_from_server(transmit.transport, transmit.from, transmit.to) {
+            return Ok(TurnRecvRet::Ignored(transmit));
+        }
+        match self.datagram(transmit.payload.as_slice(), now) {
+            Ok(told) => Ok(answer_of(told, transmit)),
+            Err(refusal) => Err(refusal),
+        }
+    }
+
+    fn poll_recv(&mut self, _now: Instant) -> Result<Option<TurnPeerData<Vec<u8>>>, AllocError> {
+        // A client over UDP has no streams.
+        let _ = &self.core;
+        Ok(None)
     }
 
     fn poll(&mut self, now: Instant) -> Result<TurnPollRet, AllocError> {
-        Ok(self.protocol.poll(now))
+        self.core.poll(now)
     }
 
     fn poll_transmit(&mut self, now: Instant) -> Result<Option<Transmit<Data>>, AllocError> {
-        self.protocol.poll_transmit(now)
+        self.core.poll_transmit(now)
     }
 
     fn poll_event(&mut self) -> Option<TurnEvent> {
-        self.protocol.poll_event()
+        self.core.poll_event()
     }
 
     fn protocol_error(&mut self) -> Result<(), AllocError> {
-        self.protocol.protocol_error();
-        Ok(())
+        self.core.protocol_error()
     }
 }

@@ -6,6 +6,8 @@ use Rattle.std.specs.Result.{result_ok}
 use Rattle.std.specs.Char.{is_ascii_digit}
 use Rattle.std.specs.Net.Addr.{segments_of, octets_of, ipv4_octets, ipv6_octets, ipv6_segments, IsIpv4Addr, IsIpv6Addr}
 use Rattle.std.specs.Net.Text.{dotted_text, ipv4_text}
+use Rattle.std.specs.declared.net.ip_addr.IpAddr.{IpAddr}
+use Rattle.std.specs.declared.net.ip_addr.IpAddr.TheVariants as Ip
 use Rattle.std.specs.declared.net.ipv4_addr.Ipv4Addr.{Ipv4Addr}
 use Rattle.std.specs.declared.net.ipv6_addr.Ipv6Addr.{Ipv6Addr}
 use Rattle.std.specs.declared.net.socket_addr.SocketAddr.{SocketAddr}
@@ -13,13 +15,14 @@ use Rattle.std.specs.declared.net.socket_addr.SocketAddr.TheVariants.{V4, V6}
 use Rattle.std.proofs.lemmas.List.{get_or-append_right, take-append-le, take_all}
 use Rattle.std.proofs.Common.{inl, inr}
 use Rattle.std.proofs.lemmas.Bool.{cases_order}
+use Rattle.std.proofs.lemmas.Fmt.{decimal_nonempty}
 use Rattle.hex.specs.Hex.{encode_with, encode_lower, lower_digits, decode_sized, IsBytes}
 use Rattle.hex.proofs.HexLemmas.{length-encode_with, decode_sized-encode_lower}
-use Rattle.turn_replay.specs.Address.{address_of, host_of, ipv4_of, ipv6_of, v4_with, v6_with}
+use Rattle.turn_replay.specs.Address.{address_of, ip_of, ipv4_of, ipv6_of, with_port}
 use Rattle.turn_replay.specs.Field.{is_lower_hex}
 use Rattle.turn_replay.specs.Parts.{parts_of}
-use Rattle.turn_replay.specs.Text.{address_text}
-use Rattle.turn_replay.specs.Line.{IsSpelled}
+use Rattle.turn_replay.specs.Text.{address_text, ip_text}
+use Rattle.turn_replay.specs.Line.{IsIp, IsSpelled}
 use Rattle.turn_replay.proofs.NumberLemmas.{both}
 use Rattle.turn_replay.proofs.LawLemmas.{Free, Free-append, Free-from_test, parts_of-join, decimal_free, decimal_up_to-decimal}
 
@@ -92,10 +95,6 @@ dotted_free x a b c d digit dot ha hb hc hd =
 
 -- ---- the host and the port
 
-address_of-parts : (text host : List ℕ) (port : ℕ) → parts_of 58 text ≡ host ∷ decimal port ∷ [] → port < 2 ^ 16 → address_of text ≡ host_of host port
-unfolding address_of
-address_of-parts text host port e h = rw (e, decimal_up_to-decimal 65535 port (omega arith) (omega arith)) refl
-
 first_of_free : (c : ℕ) (text : List ℕ) → (0 == c) ≡ false → Free c text → (slice_index text 0 == c) ≡ false
 first_of_free c [] zero_is_not free = zero_is_not
 first_of_free c (x ∷ xs) zero_is_not free = free.0
@@ -104,22 +103,22 @@ middle_false : (x y : Bool) → (x && false) && y ≡ false
 middle_false true y = refl
 middle_false false y = refl
 
-host_of-ipv4 : (host : List ℕ) (port : ℕ) → (slice_index host 0 == 91) ≡ false → host_of host port ≡ option_map (λ ip. v4_with ip port) (ipv4_of host)
-host_of-ipv4 host port plain =
-    let in_brackets = option_map (λ ip. v6_with ip port) (ipv6_of (take (length host - 2) (drop 1 host))) in
-    let bare = option_map (λ ip. v4_with ip port) (ipv4_of host) in
-    ap (λ b. cond ((nat_le 2 (length host) && b) && (slice_index host (length host - 1) == 93)) in_brackets bare) plain
-    ∙ ap (λ b. cond b in_brackets bare) (middle_false (nat_le 2 (length host)) (slice_index host (length host - 1) == 93))
+ip_of-ipv4 : (text : List ℕ) → (slice_index text 0 == 91) ≡ false → ip_of text ≡ option_map Ip.V4 (ipv4_of text)
+ip_of-ipv4 text plain =
+    let in_brackets = option_map Ip.V6 (ipv6_of (take (length text - 2) (drop 1 text))) in
+    let bare = option_map Ip.V4 (ipv4_of text) in
+    ap (λ b. cond ((nat_le 2 (length text) && b) && (slice_index text (length text - 1) == 93)) in_brackets bare) plain
+    ∙ ap (λ b. cond b in_brackets bare) (middle_false (nat_le 2 (length text)) (slice_index text (length text - 1) == 93))
 
-host_of-ipv6 : (digits : List ℕ) (port : ℕ) → length digits ≡ 32 → host_of (91 ∷ (digits ++ 93 ∷ [])) port ≡ option_map (λ ip. v6_with ip port) (ipv6_of digits)
-host_of-ipv6 digits port len =
-    let host = 91 ∷ (digits ++ 93 ∷ []) in
-    let whole : length host ≡ 34 = omega (arith, length-append digits (93 ∷ [])) in
+ip_of-ipv6 : (digits : List ℕ) → length digits ≡ 32 → ip_of (91 ∷ (digits ++ 93 ∷ [])) ≡ option_map Ip.V6 (ipv6_of digits)
+ip_of-ipv6 digits len =
+    let text = 91 ∷ (digits ++ 93 ∷ []) in
+    let whole : length text ≡ 34 = omega (arith, length-append digits (93 ∷ [])) in
     let last : get_or (digits ++ 93 ∷ []) 32 0 ≡ 93 = get_or-append_right digits (93 ∷ []) 32 32 0 len (omega arith) in
     let inner : take 32 (digits ++ 93 ∷ []) ≡ digits = take-append-le 32 digits (93 ∷ []) (omega arith) ∙ take_all 32 digits (omega arith) in
-    let in_brackets = λ (ds : List ℕ). option_map (λ ip. v6_with ip port) (ipv6_of ds) in
-    let bare = option_map (λ ip. v4_with ip port) (ipv4_of host) in
-    ap (λ n. cond ((nat_le 2 n && (slice_index host 0 == 91)) && (slice_index host (n - 1) == 93)) (in_brackets (take (n - 2) (drop 1 host))) bare) whole
+    let in_brackets = λ (ds : List ℕ). option_map Ip.V6 (ipv6_of ds) in
+    let bare = option_map Ip.V4 (ipv4_of text) in
+    ap (λ n. cond ((nat_le 2 n && (slice_index text 0 == 91)) && (slice_index text (n - 1) == 93)) (in_brackets (take (n - 2) (drop 1 text))) bare) whole
     ∙ ap (λ x. cond (x == 93) (in_brackets (take 32 (digits ++ 93 ∷ []))) bare) last
     ∙ ap in_brackets inner
 
@@ -177,6 +176,30 @@ v6_parts digits port free h =
     ∙ parts_of-join 58 (91 ∷ (digits ++ 93 ∷ [])) (decimal port ∷ [])
     ((refl, Free-append 58 digits (93 ∷ []) free (refl, tt)), (decimal_free 58 port refl (omega arith), tt))
 
+length-ipv6_text : (ip : Ipv6Addr) → IsIpv6Addr ip → length (encode_lower (ipv6_octets ip)) ≡ 32
+length-ipv6_text ip h =
+    omega (arith, length-encode_with lower_digits (ipv6_octets ip), length-octets_of (ipv6_segments ip), h.0)
+
+ipv6_bytes : (ip : Ipv6Addr) → IsIpv6Addr ip → IsBytes (ipv6_octets ip)
+ipv6_bytes ip h = octets_are_bytes (ipv6_segments ip) h.1
+
+-- an IP address that was printed
+pub ip_of-ip_text : (ip : IpAddr) → IsIp ip → ip_of (ip_text ip) ≡ Some ip
+ip_of-ip_text (Ip.V4 ip) h =
+    let text = ipv4_text (ipv4_octets ip) in
+    ip_of-ipv4 text (first_of_free 91 text refl (ipv4_text_free 91 ip refl refl h)) ∙ ap (option_map Ip.V4) (ipv4_of-text ip h)
+ip_of-ip_text (Ip.V6 ip) h =
+    ip_of-ipv6 (encode_lower (ipv6_octets ip)) (length-ipv6_text ip h) ∙ ap (option_map Ip.V6) (ipv6_of-digits ip h)
+
+-- no byte of it is a space
+pub ip_free : (ip : IpAddr) → IsIp ip → Free 32 (ip_text ip)
+ip_free (Ip.V4 ip) h = ipv4_text_free 32 ip refl refl h
+ip_free (Ip.V6 ip) h = (refl, Free-append 32 (encode_lower (ipv6_octets ip)) _ (hex_free 32 (ipv6_octets ip) refl (ipv6_bytes ip h)) (refl, tt))
+
+address_of-parts : (text host : List ℕ) (ip : IpAddr) (port : ℕ) → parts_of 58 text ≡ host ∷ decimal port ∷ [] → ip_of host ≡ Some ip → port < 2 ^ 16 → address_of text ≡ Some (with_port ip port)
+unfolding address_of
+address_of-parts text host ip port e found h = rw (e, found, decimal_up_to-decimal 65535 port (omega arith) (omega arith)) refl
+
 -- an address that was printed
 pub address_of-address_text : (address : SocketAddr) → IsSpelled address → address_of (address_text address) ≡ Some address
 address_of-address_text (V4 a) h =
@@ -184,22 +207,17 @@ address_of-address_text (V4 a) h =
     let port = a.port in
     let range = h.in_range in
     let host = ipv4_text (ipv4_octets ip) in
-    address_of-parts (address_text (V4 a)) host port (v4_parts host port (ipv4_text_free 58 ip refl refl range.0) range.1) range.1
-    ∙ host_of-ipv4 host port (first_of_free 91 host refl (ipv4_text_free 91 ip refl refl range.0))
-    ∙ ap (option_map (λ i. v4_with i port)) (ipv4_of-text ip range.0)
+    address_of-parts (address_text (V4 a)) host (Ip.V4 ip) port (v4_parts host port (ipv4_text_free 58 ip refl refl range.0) range.1)
+    (ip_of-ip_text (Ip.V4 ip) range.0) range.1
 address_of-address_text (V6 a) h =
     let ip = a.ip in
     let port = a.port in
     let range = h.in_range in
-    let octets = ipv6_octets ip in
-    let digits = encode_lower octets in
-    let bytes : IsBytes octets = octets_are_bytes (ipv6_segments ip) range.0.1 in
-    let len : length digits ≡ 32 = omega (arith, length-encode_with lower_digits octets, length-octets_of (ipv6_segments ip), range.0.0) in
+    let digits = encode_lower (ipv6_octets ip) in
     let same : V6 (record { ip = ip; port = port; flowinfo = 0; scope_id = 0 }) ≡ V6 a =
     λ i. V6 (record { ip = ip; port = port; flowinfo = sym h.no_flow i; scope_id = sym h.no_scope i }) in
-    address_of-parts (address_text (V6 a)) (91 ∷ (digits ++ 93 ∷ [])) port (v6_parts digits port (hex_free 58 octets refl bytes) range.1) range.1
-    ∙ host_of-ipv6 digits port len
-    ∙ ap (option_map (λ i. v6_with i port)) (ipv6_of-digits ip range.0)
+    address_of-parts (address_text (V6 a)) (91 ∷ (digits ++ 93 ∷ [])) (Ip.V6 ip) port
+    (v6_parts digits port (hex_free 58 (ipv6_octets ip) refl (ipv6_bytes ip range.0)) range.1) (ip_of-ip_text (Ip.V6 ip) range.0) range.1
     ∙ ap Some same
 
 -- no byte of it is a space
@@ -207,6 +225,11 @@ pub address_free : (address : SocketAddr) → IsSpelled address → Free 32 (add
 address_free (V4 a) h =
     Free-append 32 _ _ (Free-append 32 _ _ (ipv4_text_free 32 a.ip refl refl h.in_range.0) (refl, tt)) (decimal_free 32 a.port refl (omega (arith, h.in_range.1)))
 address_free (V6 a) h =
-    let octets = ipv6_octets a.ip in
-    let bytes : IsBytes octets = octets_are_bytes (ipv6_segments a.ip) h.in_range.0.1 in
-    (refl, Free-append 32 (encode_lower octets) _ (hex_free 32 octets refl bytes) (refl, (refl, decimal_free 32 a.port refl (omega (arith, h.in_range.1)))))
+    (refl, Free-append 32 (encode_lower (ipv6_octets a.ip)) _ (hex_free 32 (ipv6_octets a.ip) refl (ipv6_bytes a.ip h.in_range.0)) (refl, (refl, decimal_free 32 a.port refl (omega (arith, h.in_range.1)))))
+
+-- it is more than one byte
+pub address_long : (address : SocketAddr) → IsSpelled address → 1 < length (address_text address)
+address_long (V4 a) h =
+    let host = ipv4_text (ipv4_octets a.ip) in
+    omega (arith, length-append (host ++ 58 ∷ []) (decimal a.port), length-append host (58 ∷ []), decimal_nonempty a.port (omega (arith, h.in_range.1)))
+address_long (V6 a) h = omega (arith, length-append (encode_lower (ipv6_octets a.ip)) (93 ∷ 58 ∷ decimal a.port))

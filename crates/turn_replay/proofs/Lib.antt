@@ -1,7 +1,9 @@
 pub mod AddressLemmas
 pub mod CallLemmas
+pub mod CallableLemmas
 pub mod InputLemmas
 pub mod LawLemmas
+pub mod ListLemmas
 pub mod NumberLemmas
 pub mod PartsLemmas
 pub mod TraceLemmas

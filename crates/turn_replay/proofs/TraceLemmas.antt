@@ -1,7 +1,7 @@
 -- The calls of a trace, one line after the other.
 use Rattle.std.proofs.Common.{◌≡◌, ℕ, ◌+◌, List, [], ◌∷◌, ◌++◌, Result, Ok, Err, Vec, Global, refl, sym, ap, ◌∙◌, append_assoc}
 use Rattle.std.proofs.lemmas.List.{append-nil}
-use Rattle.turn_client_proto.specs.declared.runs.call.Call.{Call}
+use Rattle.turn_client_api.specs.declared.call.Call.{Call}
 use Rattle.turn_replay.specs.Fault.{Reads, ◌>>=◌}
 use Rattle.turn_replay.specs.declared.fault.ReadError.{ReadError}
 use Rattle.turn_replay.specs.declared.fault.ReadError.TheVariants.{Bad, OutOfMemory}

@@ -3,6 +3,8 @@ use Rattle.std.specs.Prelude.{ℕ, ◌-◌, ◌==◌, ◌&&◌, nat_le, if◌the
 use Rattle.std.specs.Option.{option_map}
 use Rattle.std.specs.Result.{result_ok}
 use Rattle.std.specs.Net.Addr.{segments_of}
+use Rattle.std.specs.declared.net.ip_addr.IpAddr.{IpAddr}
+use Rattle.std.specs.declared.net.ip_addr.IpAddr.TheVariants as Ip
 use Rattle.std.specs.declared.net.ipv4_addr.Ipv4Addr.{Ipv4Addr}
 use Rattle.std.specs.declared.net.ipv6_addr.Ipv6Addr.{Ipv6Addr}
 use Rattle.std.specs.declared.net.socket_addr.SocketAddr.{SocketAddr}
@@ -31,23 +33,22 @@ ipv6_of digits =
     if is_lower_hex digits then option_map (λ octets. record { segments = segments_of octets }) (result_ok (decode_sized digits 16))
     else None
 
-abbrev pub v4_with : Ipv4Addr → ℕ → SocketAddr
-v4_with ip port = V4 (record { ip = ip; port = port })
-
-abbrev pub v6_with : Ipv6Addr → ℕ → SocketAddr
-v6_with ip port = V6 (record { ip = ip; port = port; flowinfo = 0; scope_id = 0 })
-
 -- an IPv6 address stands in brackets
-abbrev pub host_of : List ℕ → ℕ → Option SocketAddr
-host_of host port =
-    if nat_le 2 (length host) && (slice_index host 0 == 91) && (slice_index host (length host - 1) == 93)
-    then option_map (λ ip. v6_with ip port) (ipv6_of (take (length host - 2) (drop 1 host)))
-    else option_map (λ ip. v4_with ip port) (ipv4_of host)
+abbrev pub ip_of : List ℕ → Option IpAddr
+ip_of text =
+    if nat_le 2 (length text) && (slice_index text 0 == 91) && (slice_index text (length text - 1) == 93)
+    then option_map Ip.V6 (ipv6_of (take (length text - 2) (drop 1 text)))
+    else option_map Ip.V4 (ipv4_of text)
 
--- the host, a colon and the port
+-- without flow information and scope
+abbrev pub with_port : IpAddr → ℕ → SocketAddr
+with_port (Ip.V4 ip) port = V4 (record { ip = ip; port = port })
+with_port (Ip.V6 ip) port = V6 (record { ip = ip; port = port; flowinfo = 0; scope_id = 0 })
+
+-- the IP address, a colon and the port
 unfoldable pub address_of : List ℕ → Option SocketAddr
 address_of text = do
-  host ← next Some (parts_of 58 text)
-  port ← next (decimal_up_to 65535) host.1
+  ip ← next ip_of (parts_of 58 text)
+  port ← next (decimal_up_to 65535) ip.1
   _ ← ends port.1
-  host_of host.0 port.0
+  Some (with_port ip.0 port.0)

@@ -3,7 +3,7 @@ use Rattle.std.specs.Prelude.{◌≡◌, ℕ, ◌≤◌, ◌⊎◌, Bool, false,
 use Rattle.std.specs.Io.KnownBytes.{Appends, Consumes, IsAtEnd}
 use Rattle.turn_stun.specs.declared.transport.TransportType.TheVariants.{Udp}
 use Rattle.turn_client_proto.specs.Run.{run}
-use Rattle.turn_client_proto.specs.declared.runs.call.Call.{Call}
+use Rattle.turn_client_api.specs.declared.call.Call.{Call}
 use Rattle.turn_replay.specs.Configuration.{config_with}
 use Rattle.turn_replay.specs.Text.{answers_text, bad_text}
 use Rattle.turn_replay.specs.Trace.{trace_of}

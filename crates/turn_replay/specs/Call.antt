@@ -1,19 +1,16 @@
 -- A line of a trace that is a call.
-use Rattle.std.specs.Prelude.{ℕ, ◌^◌, if◌then◌else◌, List, codes, Option, Some, None, Result}
-use Rattle.std.specs.Option.{option_map, ok_or}
+use Rattle.std.specs.Prelude.{ℕ, ◌^◌, nat_le, Bool, true, if◌then◌else◌, List, [], ◌∷◌, length, codes, Option, Some, Result, Ok, Err}
+use Rattle.std.specs.List.{find}
+use Rattle.std.specs.Option.{option_map, option_or}
 use Rattle.std.specs.Str.{bytes_eq}
-use Rattle.std.specs.declared.net.socket_addr.SocketAddr.{SocketAddr}
-use Rattle.turn_stun.specs.declared.transport.TransportType.{TransportType}
-use Rattle.turn_stun.specs.declared.transport.Transmit.{Transmit}
-use Rattle.turn_client_proto.specs.declared.runs.call.Call.{Call}
-use Rattle.turn_client_proto.specs.declared.runs.call.Call.TheVariants.{Poll, PollTransmit, PollEvent, Recv, ProtocolError}
-use Rattle.turn_replay.specs.Address.{address_of}
+use Rattle.turn_client_api.specs.declared.call.Call.{Call}
+use Rattle.turn_client_api.specs.declared.call.Call.TheVariants as Calls
+use Rattle.turn_replay.specs.Arguments.{packet_of, sending_of, transport_and_ip_of, transport_and_address_of, one_address_of, two_addresses_of, tuple_of, data_ends_of}
 use Rattle.turn_replay.specs.Fault.{needed}
-use Rattle.turn_replay.specs.Field.{transport_of, bytes_of}
 use Rattle.turn_replay.specs.Number.{decimal_up_to}
 use Rattle.turn_replay.specs.Parts.{parts_of, next, ends, ◌>>=◌}
-use Rattle.turn_replay.specs.declared.call.CallName.{CallName}
-use Rattle.turn_replay.specs.declared.call.CallName.TheVariants as Name
+use Rattle.turn_replay.specs.declared.call.name.CallName.{CallName}
+use Rattle.turn_replay.specs.declared.call.name.CallName.TheVariants as Name
 use Rattle.turn_replay.specs.declared.fault.BadKind.{BadKind}
 use Rattle.turn_replay.specs.declared.fault.BadKind.TheVariants as Bad
 
@@ -21,46 +18,74 @@ use Rattle.turn_replay.specs.declared.fault.BadKind.TheVariants as Bad
 abbrev pub moment_of : List ℕ → Option ℕ
 moment_of = decimal_up_to (2 ^ 62)
 
+-- calls that bring the client time, packets or sockets, or take what it has, each with its name
+abbrev pub driving_calls : List (List ℕ × CallName)
+driving_calls =
+    (codes "poll", Name.Poll) ∷ (codes "transmit", Name.Transmit) ∷ (codes "event", Name.Event) ∷ (codes "recv", Name.Recv)
+    ∷ (codes "poll_recv", Name.PollRecv) ∷ (codes "socket", Name.Socket) ∷ (codes "closed", Name.Closed) ∷ (codes "error", Name.Error) ∷ []
+
+-- calls that ask something of the client
+abbrev pub asking_calls : List (List ℕ × CallName)
+asking_calls =
+    (codes "send", Name.Send) ∷ (codes "permit", Name.Permit) ∷ (codes "bind", Name.Bind) ∷ (codes "connect", Name.Connect)
+    ∷ (codes "delete", Name.Delete) ∷ (codes "relayed", Name.Relayed) ∷ (codes "permissions", Name.Permissions) ∷ (codes "have", Name.Have) ∷ []
+
+abbrev pub named : List (List ℕ × CallName) → List ℕ → Option CallName
+named calls text = option_map (λ call. call.1) (find (λ call. bytes_eq text call.0) calls)
+
 abbrev pub name_of : List ℕ → Option CallName
-name_of text =
-    if bytes_eq text (codes "poll") then Some Name.Poll
-    else if bytes_eq text (codes "transmit") then Some Name.Transmit
-    else if bytes_eq text (codes "event") then Some Name.Event
-    else if bytes_eq text (codes "recv") then Some Name.Recv
-    else if bytes_eq text (codes "error") then Some Name.Error
-    else None
-
--- T FROM TO
-unfoldable pub way_of : List (List ℕ) → Option ((TransportType × SocketAddr × SocketAddr) × List (List ℕ))
-way_of fields = do
-  transport ← next transport_of fields
-  from ← next address_of transport.1
-  to ← next address_of from.1
-  Some ((transport.0, from.0, to.0), to.1)
-
--- T FROM TO BYTES
-unfoldable pub packet_of : List (List ℕ) → Option (Transmit (List ℕ))
-packet_of fields = do
-  way ← way_of fields
-  payload ← next bytes_of way.1
-  _ ← ends payload.1
-  Some (record { payload = payload.0; transport = way.0.0; from = way.0.1; to = way.0.2 })
+name_of text = option_or (named driving_calls text) (named asking_calls text)
 
 -- the call where it has no arguments
 abbrev pub without_arguments : Call → List (List ℕ) → Option Call
 without_arguments call fields = option_map (λ _. call) (ends fields)
 
+-- the connection that the caller has opened, or could not open
+abbrev pub socket_of : ℕ → List (List ℕ) → Option Call
+socket_of now fields = do
+  tuple ← tuple_of fields
+  places ← data_ends_of tuple.1
+  Some (Calls.AllocatedTcpSocket tuple.0.0 tuple.0.1 places.0 places.1 now)
+
+-- T ADDR, of an allocation
+abbrev pub permissions_of : List (List ℕ) → Option Call
+permissions_of fields = option_map (λ a. Calls.Permissions a.0 a.1) (transport_and_address_of fields)
+
+-- T IP, of a peer
+abbrev pub have_of : List (List ℕ) → Option Call
+have_of fields = option_map (λ p. Calls.HavePermission p.0 p.1) (transport_and_ip_of fields)
+
 -- a call by its moment, its name and its arguments
 abbrev pub call_with : ℕ → CallName → List (List ℕ) → Option Call
-call_with now Name.Poll fields = without_arguments (Poll now) fields
-call_with now Name.Transmit fields = without_arguments (PollTransmit now) fields
-call_with now Name.Event fields = without_arguments PollEvent fields
-call_with now Name.Recv fields = option_map (λ packet. Recv packet now) (packet_of fields)
-call_with now Name.Error fields = without_arguments ProtocolError fields
+call_with now Name.Poll fields = without_arguments (Calls.Poll now) fields
+call_with now Name.Transmit fields = without_arguments (Calls.PollTransmit now) fields
+call_with now Name.Event fields = without_arguments Calls.PollEvent fields
+call_with now Name.Recv fields = option_map (λ packet. Calls.Recv packet now) (packet_of fields)
+call_with now Name.PollRecv fields = without_arguments (Calls.PollRecv now) fields
+call_with now Name.Send fields = option_map (λ s. Calls.SendTo s.0 s.1 s.2 now) (sending_of fields)
+call_with now Name.Permit fields = option_map (λ p. Calls.CreatePermission p.0 p.1 now) (transport_and_ip_of fields)
+call_with now Name.Bind fields = option_map (λ p. Calls.BindChannel p.0 p.1 now) (transport_and_address_of fields)
+call_with now Name.Connect fields = option_map (λ peer. Calls.TcpConnect peer now) (one_address_of fields)
+call_with now Name.Socket fields = socket_of now fields
+call_with now Name.Delete fields = without_arguments (Calls.Delete now) fields
+call_with now Name.Closed fields = option_map (λ e. Calls.TcpClosed e.0 e.1 now) (two_addresses_of fields)
+call_with now Name.Error fields = without_arguments Calls.ProtocolError fields
+call_with now Name.Relayed fields = without_arguments Calls.RelayedAddresses fields
+call_with now Name.Permissions fields = permissions_of fields
+call_with now Name.Have fields = have_of fields
+
+-- what one message or channel frame over UDP carries
+abbrev pub has_short_payload : Call → Bool
+has_short_payload (Calls.SendTo transport to payload now) = nat_le (length payload) 65504
+has_short_payload _ = true
+
+-- the call, unless it sends more; so far every allocation of a trace is over UDP
+abbrev pub if_short : Call → Result Call BadKind
+if_short call = if has_short_payload call then Ok call else Err Bad.Payload
 
 -- NOW CALL, and the arguments
 unfoldable pub call_of : List ℕ → Result Call BadKind
 call_of line =
     needed (next moment_of (parts_of 32 line)) Bad.Moment (λ now.
     needed (next name_of now.1) Bad.Call (λ name.
-    ok_or (call_with now.0 name.0 name.1) Bad.Argument))
+    needed (call_with now.0 name.0 name.1) Bad.Argument if_short))

@@ -1,5 +1,6 @@
 pub mod Address
 pub mod Answer
+pub mod Arguments
 pub mod Call
 pub mod Configuration
 pub mod Fault
@@ -8,5 +9,6 @@ pub mod Head
 pub mod Line
 pub mod Number
 pub mod Parts
+pub mod Refusal
 pub mod Text
 pub mod Trace

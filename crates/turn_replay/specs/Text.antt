@@ -1,5 +1,5 @@
 -- What is printed: a line for each answer, and what the lines are made of.
-use Rattle.std.specs.Prelude.{ℕ, ◌==◌, if◌then◌else◌, List, [], ◌∷◌, ◌++◌, length, codes, decimal, Some, None}
+use Rattle.std.specs.Prelude.{ℕ, ◌==◌, Bool, true, false, if◌then◌else◌, List, [], ◌∷◌, ◌++◌, length, codes, decimal, Some, None, Ok, Err}
 use Rattle.std.specs.List.{flat_map, join_with_byte}
 use Rattle.std.specs.Net.Addr.{ipv4_octets, ipv6_octets}
 use Rattle.std.specs.Net.Socket.{v6_ip, v6_port}
@@ -19,11 +19,15 @@ use Rattle.turn_client_api.specs.declared.event.TurnEvent.TheVariants.{Allocatio
 use Rattle.turn_client_api.specs.declared.poll.Socket5Tuple.{Socket5Tuple}
 use Rattle.turn_client_api.specs.declared.poll.TurnPollRet.{TurnPollRet}
 use Rattle.turn_client_api.specs.declared.poll.TurnPollRet.TheVariants.{WaitUntil, AllocateTcpSocket, TcpClose, Closed}
+use Rattle.turn_client_proto.specs.declared.runs.reply.PeerData.{PeerData}
 use Rattle.turn_client_proto.specs.declared.runs.reply.Reply.{Reply}
 use Rattle.turn_client_proto.specs.declared.runs.reply.Reply.TheVariants as Replies
+use Rattle.turn_replay.specs.Refusal.{send_refusal, create_permission_refusal, bind_channel_refusal, tcp_connect_refusal, tcp_allocate_refusal, delete_refusal}
 use Rattle.turn_replay.specs.declared.fault.BadKind.{BadKind}
 use Rattle.turn_replay.specs.declared.fault.BadKind.TheVariants as Bad
 use Rattle.turn_replay.specs.declared.fault.BadLine.{BadLine}
+use Rattle.turn_replay.specs.declared.refusal.Refusal.{Refusal}
+use Rattle.turn_replay.specs.declared.refusal.Refusal.TheVariants as Refused
 
 abbrev pub transport_text : TransportType → List ℕ
 transport_text Udp = codes "udp"
@@ -83,6 +87,35 @@ event_fields (ChannelCreateFailed transport peer) =
 event_fields (TcpConnected peer) = codes "connected" ∷ address_text peer ∷ []
 event_fields (TcpConnectFailed peer) = codes "connect-failed" ∷ address_text peer ∷ []
 
+-- data of a peer
+abbrev pub data_fields : PeerData → List (List ℕ)
+data_fields sent = codes "data" ∷ transport_text sent.transport ∷ address_text sent.peer ∷ bytes_text sent.«data» ∷ []
+
+-- an ICMP packet: its type, its code and what else it says (RFC 8656, section 18.13)
+abbrev pub icmp_fields : TransportType → SocketAddr → ℕ → ℕ → ℕ → List (List ℕ)
+icmp_fields transport peer icmp_type icmp_code icmp_data =
+    codes "icmp" ∷ transport_text transport ∷ address_text peer ∷ decimal icmp_type ∷ decimal icmp_code ∷ decimal icmp_data ∷ []
+
+-- why a call was refused
+abbrev pub refusal_fields : Refusal → List (List ℕ)
+refusal_fields Refused.AlreadyExists = codes "refused" ∷ codes "already-exists" ∷ []
+refusal_fields Refused.NoAllocation = codes "refused" ∷ codes "no-allocation" ∷ []
+refusal_fields Refused.NoPermission = codes "refused" ∷ codes "no-permission" ∷ []
+refusal_fields Refused.NoSocket = codes "refused" ∷ codes "no-socket" ∷ []
+refusal_fields (Refused.Expired until) = codes "refused" ∷ codes "expired" ∷ decimal until ∷ []
+refusal_fields Refused.OutOfMemory = codes "refused" ∷ codes "no-memory" ∷ []
+
+-- how many there are, and then the fields of each
+abbrev pub list_fields : {X : Type 0} → (X → List (List ℕ)) → List X → List (List ℕ)
+list_fields fields xs = codes "list" ∷ decimal (length xs) ∷ flat_map fields xs
+
+abbrev pub relayed_fields : TransportType × SocketAddr → List (List ℕ)
+relayed_fields relayed = transport_text relayed.0 ∷ address_text relayed.1 ∷ []
+
+abbrev pub yes_or_no : Bool → List ℕ
+yes_or_no true = codes "yes"
+yes_or_no false = codes "no"
+
 -- what a call answered
 abbrev pub reply_fields : Reply → List (List ℕ)
 reply_fields (Replies.Poll told) = poll_fields told
@@ -92,6 +125,25 @@ reply_fields (Replies.Event None) = codes "none" ∷ []
 reply_fields (Replies.Event (Some event)) = event_fields event
 reply_fields Replies.Handled = codes "handled" ∷ []
 reply_fields Replies.Ignored = codes "ignored" ∷ []
+reply_fields (Replies.PeerData sent) = data_fields sent
+reply_fields (Replies.PeerIcmp transport peer icmp_type icmp_code icmp_data) =
+    icmp_fields transport peer icmp_type icmp_code icmp_data
+reply_fields Replies.NoData = codes "none" ∷ []
+reply_fields (Replies.SendTo (Ok packet)) = packet_fields packet
+reply_fields (Replies.SendTo (Err error)) = refusal_fields (send_refusal error)
+reply_fields (Replies.CreatePermission (Ok done)) = codes "ok" ∷ []
+reply_fields (Replies.CreatePermission (Err error)) = refusal_fields (create_permission_refusal error)
+reply_fields (Replies.BindChannel (Ok done)) = codes "ok" ∷ []
+reply_fields (Replies.BindChannel (Err error)) = refusal_fields (bind_channel_refusal error)
+reply_fields (Replies.TcpConnect (Ok done)) = codes "ok" ∷ []
+reply_fields (Replies.TcpConnect (Err error)) = refusal_fields (tcp_connect_refusal error)
+reply_fields (Replies.AllocatedTcpSocket (Ok done)) = codes "ok" ∷ []
+reply_fields (Replies.AllocatedTcpSocket (Err error)) = refusal_fields (tcp_allocate_refusal error)
+reply_fields (Replies.Delete (Ok done)) = codes "ok" ∷ []
+reply_fields (Replies.Delete (Err error)) = refusal_fields (delete_refusal error)
+reply_fields (Replies.RelayedAddresses relayed) = list_fields relayed_fields relayed
+reply_fields (Replies.Permissions ips) = list_fields (λ ip. ip_text ip ∷ []) ips
+reply_fields (Replies.HavePermission found) = yes_or_no found ∷ []
 reply_fields Replies.Done = codes "ok" ∷ []
 
 -- a line ends with LF
@@ -108,6 +160,7 @@ kind_text Bad.Head = codes "head"
 kind_text Bad.Moment = codes "moment"
 kind_text Bad.Call = codes "call"
 kind_text Bad.Argument = codes "argument"
+kind_text Bad.Payload = codes "payload"
 
 -- the one line for a trace with a bad line, as in `line 2: bad call`
 abbrev pub bad_text : BadLine → List ℕ

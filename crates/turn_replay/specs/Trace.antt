@@ -1,6 +1,6 @@
 -- A trace: its lines, the head and the calls.
 use Rattle.std.specs.Prelude.{ℕ, ◌+◌, ◌-◌, ◌==◌, ◌&&◌, nat_lt, if◌then◌else◌, List, [], ◌∷◌, length, take, slice_index, Result, Ok, Err}
-use Rattle.turn_client_proto.specs.declared.runs.call.Call.{Call}
+use Rattle.turn_client_api.specs.declared.call.Call.{Call}
 use Rattle.turn_replay.specs.Call.{call_of}
 use Rattle.turn_replay.specs.Fault.{needed, ◌>>=◌}
 use Rattle.turn_replay.specs.Head.{head_of}

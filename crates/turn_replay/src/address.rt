@@ -1,13 +1,13 @@
 //! Addresses of the two families.
 
 ghost use Rattle.std.specs.Prelude.{◌≡◌};
-ghost use Rattle.turn_replay.specs.Address.{address_of, ipv4_of, ipv6_of};
+ghost use Rattle.turn_replay.specs.Address.{address_of, ip_of, ipv4_of, ipv6_of, with_port};
 
 use crate::field::is_lower_hex;
 use crate::number::parse_decimal;
 use crate::parts::Parts;
 use hex::FromHex;
-use std::net::{Ipv4Addr, Ipv6Addr, SocketAddr, SocketAddrV4, SocketAddrV6};
+use std::net::{IpAddr, Ipv4Addr, Ipv6Addr, SocketAddr, SocketAddrV4, SocketAddrV6};
 
 /// `a.b.c.d:port`, or the 32 digits of an IPv6 address as in `[..]:port`.
 #[tactic(auto, unfolding(crate::specs::Address::address_of))]
@@ -15,15 +15,28 @@ pub fn parse_address(text: &[u8]) -> Option<SocketAddr>
     ensures { result ≡ address_of text.now }
 {
     let mut parts = Parts::new(text, b':');
-    let host = parts.next()?;
+    let ip = parse_ip(parts.next()?)?;
     let port = parse_decimal(parts.next()?, 65_535)? as u16;
     parts.end()?;
-    match host {
-        [b'[', digits @ .., b']'] => {
-            let ip = parse_ipv6(digits)?;
-            Some(SocketAddr::V6(SocketAddrV6::new(ip, port, 0, 0)))
-        }
-        _ => Some(SocketAddr::V4(SocketAddrV4::new(parse_ipv4(host)?, port))),
+    Some(with_port(ip, port))
+}
+
+/// `a.b.c.d`, or the 32 digits of an IPv6 address as in `[..]`.
+pub fn parse_ip(text: &[u8]) -> Option<IpAddr>
+    ensures { result ≡ ip_of text.now }
+{
+    match text {
+        [b'[', digits @ .., b']'] => Some(IpAddr::V6(parse_ipv6(digits)?)),
+        _ => Some(IpAddr::V4(parse_ipv4(text)?)),
+    }
+}
+
+fn with_port(ip: IpAddr, port: u16) -> SocketAddr
+    ensures { result ≡ with_port ip port }
+{
+    match ip {
+        IpAddr::V4(ip) => SocketAddr::V4(SocketAddrV4::new(ip, port)),
+        IpAddr::V6(ip) => SocketAddr::V6(SocketAddrV6::new(ip, port, 0, 0)),
     }
 }
 

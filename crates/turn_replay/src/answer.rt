@@ -1,6 +1,7 @@
 //! What a trace is answered.
 
-ghost use Rattle.std.specs.Prelude.{◌≡◌, IfOk, string_bytes};
+ghost use Rattle.std.specs.Prelude.{◌≡◌, All, IfOk, string_bytes};
+ghost use Rattle.turn_client_proto.specs.Run.{IsCallable};
 ghost use Rattle.turn_replay.specs.Answer.{answer_to, answered_text};
 
 use crate::configuration::configuration;
@@ -37,6 +38,7 @@ pub fn answer(alloc: Global, text: &[u8]) -> Result<(Status, String), AllocError
 
 /// The lines of a client's answers.
 fn replayed_text(alloc: Global, trace: Trace) -> Result<String, AllocError>
+    requires { All (IsCallable TransportType.Udp) trace.calls.items }
     ensures { IfOk result (λ text. string_bytes text ≡ answered_text trace.head trace.calls.items) }
 {
     let Trace { head, calls } = trace;

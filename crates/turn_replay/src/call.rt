@@ -1,48 +1,42 @@
 //! A line of a trace that is a call.
 
-ghost use Rattle.std.specs.Prelude.{◌≡◌, ◌≤◌, ◌^◌, Some, None, IfSome, MatchOption};
-ghost use Rattle.turn_replay.specs.Call.{call_of, call_with, packet_of, way_of, moment_of, name_of};
+ghost use Rattle.std.specs.Prelude.{◌≡◌, Some, None, MatchOption};
+ghost use Rattle.turn_client_api.specs.declared.call.Call.{Call};
+ghost use Rattle.turn_replay.specs.Call.{call_of, call_with, has_short_payload, moment_of, name_of};
+ghost use Rattle.turn_replay.specs.Call.{have_of, permissions_of, without_arguments};
 ghost use Rattle.turn_replay.specs.Fault.{Reads};
 ghost use Rattle.turn_replay.specs.Field.{Gives};
 ghost use Rattle.turn_replay.specs.Parts.{next};
 
-use crate::address::parse_address;
+use crate::call::arguments::{
+    take_data_ends, take_one_address, take_packet, take_sending, take_transport_and_address,
+    take_transport_and_ip, take_tuple, take_two_addresses,
+};
+use crate::call::name::{CallName, parse_name};
 use crate::fault::{BadKind, ReadError};
-use crate::field::{FieldError, parse_bytes, parse_transport};
+use crate::field::FieldError;
 use crate::number::parse_decimal;
 use crate::parts::Parts;
 use std::alloc::Global;
-use std::net::SocketAddr;
 use turn_client_proto::runs::Call;
-use turn_stun::data::Data;
 use turn_stun::instant::Instant;
-use turn_stun::transport::{Transmit, TransportType};
+
+mod arguments;
+mod name;
 
 /// The greatest moment of a trace, in nanoseconds: 2^62.
 const GREATEST_MOMENT: u64 = 0x4000_0000_0000_0000;
 
-/// The calls that a trace can make.
-#[derive(Clone, Copy, Debug, PartialEq, Eq)]
-pub enum CallName {
-    /// `poll`.
-    Poll,
-    /// `transmit`, which is `poll_transmit`.
-    Transmit,
-    /// `event`, which is `poll_event`.
-    Event,
-    /// `recv`, with a packet.
-    Recv,
-    /// `error`, which is `protocol_error`.
-    Error,
-}
+/// The most bytes that a `send` may have: what one packet to the server carries over UDP.
+const MAX_PAYLOAD: usize = 65_504;
 
 /// The call of a line: its moment, its name and its arguments.
 ///
 /// # Errors
 ///
 /// The first of these: `Moment` where the first field is no moment, `Call` where the second is no
-/// call, `Argument` where the other fields are not the arguments of that call. `OutOfMemory` where
-/// there is no memory for the bytes of a packet.
+/// call, `Argument` where the other fields are not the arguments of that call, `Payload` where it is
+/// a `send` of too many bytes. `OutOfMemory` where there is no memory for the bytes of a packet.
 #[tactic(auto, unfolding(crate::specs::Call::call_of))]
 pub fn parse_call(alloc: Global, line: &[u8]) -> Result<Call, ReadError<BadKind>>
     ensures { Reads (λ call. call) result (call_of line.now) }
@@ -51,7 +45,13 @@ pub fn parse_call(alloc: Global, line: &[u8]) -> Result<Call, ReadError<BadKind>
     let now = take_moment(&mut fields).ok_or(ReadError::Bad(BadKind::Moment))?;
     let name = take_name(&mut fields).ok_or(ReadError::Bad(BadKind::Call))?;
     match take_arguments(alloc, name, now, &mut fields) {
-        Ok(call) => Ok(call),
+        Ok(call) => {
+            if has_short_payload(&call) {
+                Ok(call)
+            } else {
+                Err(ReadError::Bad(BadKind::Payload))
+            }
+        }
         Err(FieldError::Malformed) => Err(ReadError::Bad(BadKind::Argument)),
         Err(FieldError::OutOfMemory) => Err(ReadError::OutOfMemory),
     }
@@ -70,25 +70,14 @@ fn take_name(fields: &mut Parts<'_>) -> Option<CallName>
     parse_name(fields.next()?)
 }
 
-fn parse_name(text: &[u8]) -> Option<CallName>
-    ensures { result ≡ name_of text.now }
+/// Whether it is no `send` of too many bytes for one packet over UDP.
+fn has_short_payload(call: &Call) -> bool
+    ensures { result ≡ has_short_payload call.now }
 {
-    if text == b"poll".as_slice() {
-        return Some(CallName::Poll);
+    match call {
+        Call::SendTo { data, .. } => data.as_bytes().len() <= MAX_PAYLOAD,
+        _ => true,
     }
-    if text == b"transmit".as_slice() {
-        return Some(CallName::Transmit);
-    }
-    if text == b"event".as_slice() {
-        return Some(CallName::Event);
-    }
-    if text == b"recv".as_slice() {
-        return Some(CallName::Recv);
-    }
-    if text == b"error".as_slice() {
-        return Some(CallName::Error);
-    }
-    None
 }
 
 /// Reads the other fields of a call.
@@ -100,37 +89,117 @@ fn take_arguments(
 ) -> Result<Call, FieldError>
     ensures { Gives (λ call. call) result (call_with now name fields.old) }
 {
-    if let CallName::Recv = name {
-        let transmit = take_packet(alloc, fields)?;
-        return Ok(Call::Recv { transmit, now });
+    match name {
+        CallName::Poll => alone(fields, Call::Poll { now }),
+        CallName::Transmit => alone(fields, Call::PollTransmit { now }),
+        CallName::Event => alone(fields, Call::PollEvent),
+        CallName::Recv => take_recv(alloc, now, fields),
+        CallName::PollRecv => alone(fields, Call::PollRecv { now }),
+        CallName::Send => take_send(alloc, now, fields),
+        CallName::Permit => take_permit(now, fields),
+        CallName::Bind => take_bind(now, fields),
+        CallName::Connect => take_connect(now, fields),
+        CallName::Socket => take_socket(now, fields),
+        CallName::Delete => alone(fields, Call::Delete { now }),
+        CallName::Closed => take_closed(now, fields),
+        CallName::Error => alone(fields, Call::ProtocolError),
+        CallName::Relayed => alone(fields, Call::RelayedAddresses),
+        CallName::Permissions => take_permissions(fields),
+        CallName::Have => take_have(fields),
     }
+}
+
+/// A call that has no arguments.
+fn alone(fields: &Parts<'_>, call: Call) -> Result<Call, FieldError>
+    ensures { Gives (λ call. call) result (without_arguments call fields.now) }
+{
     fields.end().ok_or(FieldError::Malformed)?;
-    Ok(match name {
-        CallName::Poll => Call::Poll { now },
-        CallName::Transmit => Call::PollTransmit { now },
-        CallName::Event => Call::PollEvent,
-        _ => Call::ProtocolError,
+    Ok(call)
+}
+
+fn take_recv(alloc: Global, now: Instant, fields: &mut Parts<'_>) -> Result<Call, FieldError>
+    ensures { Gives (λ call. call) result (call_with now CallName.Recv fields.old) }
+{
+    let transmit = take_packet(alloc, fields)?;
+    Ok(Call::Recv { transmit, now })
+}
+
+fn take_send(alloc: Global, now: Instant, fields: &mut Parts<'_>) -> Result<Call, FieldError>
+    ensures { Gives (λ call. call) result (call_with now CallName.Send fields.old) }
+{
+    let (transport, to, data) = take_sending(alloc, fields)?;
+    Ok(Call::SendTo {
+        transport,
+        to,
+        data,
+        now,
     })
 }
 
-/// The packet of a `recv`.
-#[tactic(auto, unfolding(crate::specs::Call::packet_of))]
-fn take_packet(alloc: Global, fields: &mut Parts<'_>) -> Result<Transmit<Data>, FieldError>
-    ensures { Gives (λ packet. packet) result (packet_of fields.old) }
+fn take_permit(now: Instant, fields: &mut Parts<'_>) -> Result<Call, FieldError>
+    ensures { Gives (λ call. call) result (call_with now CallName.Permit fields.old) }
 {
-    let (transport, from, to) = take_way(fields).ok_or(FieldError::Malformed)?;
-    let payload = parse_bytes(alloc, fields.next().ok_or(FieldError::Malformed)?)?;
-    fields.end().ok_or(FieldError::Malformed)?;
-    Ok(Transmit::new(Data::from(payload), transport, from, to))
+    let (transport, peer_addr) = take_transport_and_ip(fields).ok_or(FieldError::Malformed)?;
+    Ok(Call::CreatePermission {
+        transport,
+        peer_addr,
+        now,
+    })
 }
 
-/// The transport of a packet, where it comes from and where it goes.
-#[tactic(auto, unfolding(crate::specs::Call::way_of))]
-fn take_way(fields: &mut Parts<'_>) -> Option<(TransportType, SocketAddr, SocketAddr)>
-    ensures { MatchOption result (way_of fields.old ≡ None) (λ way. way_of fields.old ≡ Some (way, fields.new)) }
+fn take_bind(now: Instant, fields: &mut Parts<'_>) -> Result<Call, FieldError>
+    ensures { Gives (λ call. call) result (call_with now CallName.Bind fields.old) }
 {
-    let transport = parse_transport(fields.next()?)?;
-    let from = parse_address(fields.next()?)?;
-    let to = parse_address(fields.next()?)?;
-    Some((transport, from, to))
+    let (transport, peer_addr) = take_transport_and_address(fields).ok_or(FieldError::Malformed)?;
+    Ok(Call::BindChannel {
+        transport,
+        peer_addr,
+        now,
+    })
+}
+
+fn take_connect(now: Instant, fields: &mut Parts<'_>) -> Result<Call, FieldError>
+    ensures { Gives (λ call. call) result (call_with now CallName.Connect fields.old) }
+{
+    let peer_addr = take_one_address(fields).ok_or(FieldError::Malformed)?;
+    Ok(Call::TcpConnect { peer_addr, now })
+}
+
+fn take_socket(now: Instant, fields: &mut Parts<'_>) -> Result<Call, FieldError>
+    ensures { Gives (λ call. call) result (call_with now CallName.Socket fields.old) }
+{
+    let (id, five_tuple) = take_tuple(fields).ok_or(FieldError::Malformed)?;
+    let (peer_addr, local_addr) = take_data_ends(fields).ok_or(FieldError::Malformed)?;
+    Ok(Call::AllocatedTcpSocket {
+        id,
+        five_tuple,
+        peer_addr,
+        local_addr,
+        now,
+    })
+}
+
+fn take_closed(now: Instant, fields: &mut Parts<'_>) -> Result<Call, FieldError>
+    ensures { Gives (λ call. call) result (call_with now CallName.Closed fields.old) }
+{
+    let (local_addr, remote_addr) = take_two_addresses(fields).ok_or(FieldError::Malformed)?;
+    Ok(Call::TcpClosed {
+        local_addr,
+        remote_addr,
+        now,
+    })
+}
+
+fn take_permissions(fields: &mut Parts<'_>) -> Result<Call, FieldError>
+    ensures { Gives (λ call. call) result (permissions_of fields.old) }
+{
+    let (transport, relayed) = take_transport_and_address(fields).ok_or(FieldError::Malformed)?;
+    Ok(Call::Permissions { transport, relayed })
+}
+
+fn take_have(fields: &mut Parts<'_>) -> Result<Call, FieldError>
+    ensures { Gives (λ call. call) result (have_of fields.old) }
+{
+    let (transport, to) = take_transport_and_ip(fields).ok_or(FieldError::Malformed)?;
+    Ok(Call::HavePermission { transport, to })
 }

@@ -24,6 +24,8 @@ pub enum BadKind {
     Call,
     /// The call has other arguments, or one more, or one less.
     Argument,
+    /// The call sends more bytes to a peer than one packet over UDP has room for.
+    Payload,
 }
 
 /// Why a call or a trace was not read: what is wrong with it, or that there is no memory for it.

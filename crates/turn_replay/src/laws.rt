@@ -1,7 +1,7 @@
 //! Laws on what a trace says.
 
 ghost use Rattle.std.specs.Prelude.{◌≡◌, ◌≤◌, ◌^◌, ℕ, Ok};
-ghost use Rattle.turn_client_proto.specs.declared.runs.call.Call.{Call};
+ghost use Rattle.turn_client_api.specs.declared.call.Call.{Call};
 ghost use Rattle.turn_replay.specs.Call.{call_of};
 ghost use Rattle.turn_replay.specs.Line.{HasLine, call_line};
 

@@ -17,6 +17,7 @@ mod number;
 mod parts;
 mod print;
 mod program;
+mod refusal;
 mod status;
 mod trace;
 

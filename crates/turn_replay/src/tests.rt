@@ -2,7 +2,10 @@
 
 mod answers;
 mod bad_lines;
+mod calls;
+mod exchange;
 mod fixture;
 mod memory;
+mod printing;
 mod sizes;
 mod streams;

@@ -1,7 +1,7 @@
 //! A trace: its lines, the head and the calls.
 
 ghost use Rattle.std.specs.Prelude.{◌≡◌, List};
-ghost use Rattle.turn_client_proto.specs.declared.runs.call.Call.{Call};
+ghost use Rattle.turn_client_api.specs.declared.call.Call.{Call};
 ghost use Rattle.turn_replay.specs.Fault.{Reads};
 ghost use Rattle.turn_replay.specs.Trace.{trace_of, calls_of, head_line_of, numbered_call_of, without_last_feed};
 

@@ -1,50 +1,76 @@
-//! A call of a client as a value.
+//! One call of a client, whichever it is.
 
-use turn_stun::data::Data;
-use turn_stun::instant::Instant;
-use turn_stun::transport::Transmit;
+ghost use Rattle.std.specs.Prelude.{◌≡◌, IfOk, OnErr};
+ghost use Rattle.turn_client_api.specs.Steps.{Leaves};
+ghost use Rattle.turn_client_proto.specs.Run.{IsCallable, step};
 
-/// One call of a client, with what it is handed. `turn_client_api::Call` has the calls that are still
-/// to come.
-#[derive(Debug, Drop)]
-pub enum Call {
-    /// `poll` at this moment.
-    Poll {
-        /// The moment of the call.
-        now: Instant,
-    },
-    /// `poll_transmit` at this moment.
-    PollTransmit {
-        /// The moment of the call.
-        now: Instant,
-    },
-    /// `poll_event`.
-    PollEvent,
-    /// `recv` of this packet at this moment.
-    Recv {
-        /// The packet that came in.
-        transmit: Transmit<Data>,
-        /// The moment of the call.
-        now: Instant,
-    },
-    /// `protocol_error`.
-    ProtocolError,
-}
+use crate::runs::asks::{
+    allocated_tcp_socket, bind_channel, create_permission, delete, tcp_closed, tcp_connect,
+};
+use crate::runs::carries::{poll_recv, recv, send_to};
+use crate::runs::polls::{poll, poll_transmit, protocol_error};
+use crate::runs::reads::{have_permission, permissions, relayed_addresses};
+use crate::runs::{Call, Reply};
+use std::alloc::{AllocError, Global};
+use turn_client_api::TurnClientApi;
 
-/// The same call of a client that has all calls.
-impl From<Call> for turn_client_api::Call {
-    ghost use Rattle.std.specs.Prelude.{◌≡◌};
-    ghost use Rattle.turn_client_proto.specs.Run.{whole_call};
-
-    ghost from_gives = { λ call whole. whole ≡ whole_call call };
-
-    fn from(call: Call) -> turn_client_api::Call {
-        match call {
-            Call::Poll { now } => turn_client_api::Call::Poll { now },
-            Call::PollTransmit { now } => turn_client_api::Call::PollTransmit { now },
-            Call::PollEvent => turn_client_api::Call::PollEvent,
-            Call::Recv { transmit, now } => turn_client_api::Call::Recv { transmit, now },
-            Call::ProtocolError => turn_client_api::Call::ProtocolError,
-        }
+/// Makes this call on the client, and answers what it answers. A packet for a peer is built at once, and
+/// what a peer sent is copied.
+///
+/// # Errors
+///
+/// There is no memory for the call or for its answer. The client is then what the call leaves with or
+/// without memory.
+pub fn reply_to<C: TurnClientApi>(
+    alloc: Global,
+    client: &mut C,
+    call: &Call,
+) -> Result<Reply, AllocError>
+    requires callable { IsCallable (C.state client.old).config.allocation_transport call.now }
+    ensures ok { IfOk result (λ reply. (reply, C.state client.new) ≡ step (C.state client.old) call.now) }
+    ensures no_memory { OnErr result (Leaves call.now (C.state client.old) (C.state client.new)) }
+{
+    match call {
+        Call::Delete { now } => delete(client, *now),
+        Call::CreatePermission {
+            transport,
+            peer_addr,
+            now,
+        } => create_permission(client, *transport, *peer_addr, *now),
+        Call::BindChannel {
+            transport,
+            peer_addr,
+            now,
+        } => bind_channel(client, *transport, *peer_addr, *now),
+        Call::TcpConnect { peer_addr, now } => tcp_connect(client, *peer_addr, *now),
+        Call::AllocatedTcpSocket {
+            id,
+            five_tuple,
+            peer_addr,
+            local_addr,
+            now,
+        } => allocated_tcp_socket(client, *id, *five_tuple, *peer_addr, *local_addr, *now),
+        Call::TcpClosed {
+            local_addr,
+            remote_addr,
+            now,
+        } => tcp_closed(client, *local_addr, *remote_addr, *now),
+        Call::SendTo {
+            transport,
+            to,
+            data,
+            now,
+        } => send_to(alloc, client, *transport, *to, data, *now),
+        Call::Recv { transmit, now } => recv(alloc, client, transmit, *now),
+        Call::PollRecv { now } => poll_recv(alloc, client, *now),
+        Call::Poll { now } => poll(client, *now),
+        Call::PollTransmit { now } => poll_transmit(client, *now),
+        Call::PollEvent => Ok(Reply::Event(client.poll_event())),
+        Call::ProtocolError => protocol_error(client),
+        Call::RelayedAddresses => relayed_addresses(alloc, client),
+        Call::Permissions { transport, relayed } => permissions(
+            alloc, client, *transport, *relayed,
+        ),
+        Call::HavePermission { transport, to } => Ok(have_permission(client, *transport, *to)),
     }
 }

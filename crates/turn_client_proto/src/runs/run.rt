@@ -1,20 +1,17 @@
 //! A new client, and the calls of a run on it.
 
-ghost use Rattle.std.specs.Prelude.{◌≡◌, IfOk};
-ghost use Rattle.turn_client_proto.specs.First.{new_client};
+ghost use Rattle.std.specs.Prelude.{◌≡◌, All, IfOk, OnOk};
+ghost use Rattle.turn_client_api.specs.State.{initial};
 ghost use Rattle.turn_client_proto.specs.Client.{state_of};
-ghost use Rattle.turn_client_proto.specs.Run.{run, step, SleepsThroughNothing};
+ghost use Rattle.turn_client_proto.specs.Run.{IsCallable, SleepsThroughNothing, replies_of, run, state_behind};
 
-use crate::api::TurnClientApi;
 use crate::client::TurnClient;
-use crate::runs::{Call, Reply};
+use crate::runs::{Call, Reply, reply_to};
 use crate::udp::TurnClientUdp;
 use std::alloc::{AllocError, Global};
 use std::net::SocketAddr;
-use turn_client_api::{TurnConfig, TurnRecvRet};
-use turn_stun::data::Data;
-use turn_stun::instant::Instant;
-use turn_stun::transport::{Transmit, TransportType};
+use turn_client_api::{TurnClientApi, TurnConfig};
+use turn_stun::transport::TransportType;
 
 /// What came of a run.
 #[derive(Debug, Drop)]
@@ -29,13 +26,13 @@ pub struct Replayed {
 /// its transaction IDs from this seed, and makes these calls on it.
 ///
 /// The answers are those of `run` in `specs/`: each call by its own step, whatever came before. A
-/// caller that sleeps until the moment that each `poll` tells misses nothing. Moments may go back from
-/// call to call. There is a client over UDP alone, for an allocation over UDP.
+/// caller that sleeps until the moment that each `poll` tells sleeps through nothing. Moments are at
+/// most 2^62, and may go back from call to call. Data for a peer is at most 65,504 bytes. There is a
+/// client over UDP alone, for an allocation over UDP.
 ///
 /// # Errors
 ///
 /// There is no memory for the client, for a call or for its answer. The run ends there.
-#[tactic(auto, using(crate::proofs::AlarmLemmas::sleeps_through_nothing))]
 pub fn replay(
     alloc: Global,
     transport: TransportType,
@@ -47,56 +44,65 @@ pub fn replay(
 ) -> Result<Replayed, AllocError>
     requires transport { transport ≡ TransportType.Udp }
     requires allocation { config.allocation_transport ≡ TransportType.Udp }
+    requires callable { All (IsCallable config.allocation_transport) calls.now }
     ensures replies { IfOk result (λ replayed. replayed.replies.items ≡ (run transport local remote config seed calls.now).0) }
     ensures client { IfOk result (λ replayed. state_of replayed.client ≡ (run transport local remote config seed calls.now).1) }
-    ensures alarm { SleepsThroughNothing (new_client transport local remote config seed) calls.now }
+    ensures alarm { SleepsThroughNothing (initial transport local remote config seed) calls.now }
 {
-    let mut client = match transport {
-        TransportType::Udp => {
-            TurnClient::from(TurnClientUdp::allocate(alloc, local, remote, config, seed)?)
-        }
-        TransportType::Tcp => unreachable!(),
-    };
-    let mut replies = Vec::with_capacity(alloc, calls.len())?;
-    for call in calls {
-        replies.push(reply_to(&mut client, call)?)?;
-    }
+    let client = new_client(alloc, transport, local, remote, config, seed)?;
+    let (replies, client) = asked(alloc, client, calls)?;
     Ok(Replayed { replies, client })
 }
 
-/// Makes one call.
-fn reply_to(client: &mut TurnClient, call: &Call) -> Result<Reply, AllocError>
-    ensures { IfOk result (λ reply. (reply, state_of client.new) ≡ step (state_of client.old) call.now) }
+/// A new client over this transport.
+fn new_client(
+    alloc: Global,
+    transport: TransportType,
+    local: SocketAddr,
+    remote: SocketAddr,
+    config: TurnConfig,
+    seed: [u8; 32],
+) -> Result<TurnClient, AllocError>
+    requires transport { transport ≡ TransportType.Udp }
+    requires allocation { config.allocation_transport ≡ TransportType.Udp }
+    ensures { IfOk result (λ client. state_of client ≡ initial transport local remote config seed) }
 {
-    match call {
-        Call::Poll { now } => Ok(Reply::Poll(client.poll(*now)?)),
-        Call::PollTransmit { now } => Ok(Reply::Transmit(client.poll_transmit(*now)?)),
-        Call::PollEvent => Ok(Reply::Event(client.poll_event())),
-        Call::Recv { transmit, now } => reply_to_packet(client, transmit, *now),
-        Call::ProtocolError => {
-            client.protocol_error()?;
-            Ok(Reply::Done)
+    match transport {
+        TransportType::Udp => {
+            let client = TurnClientUdp::allocate(alloc, local, remote, config, seed)?;
+            Ok(TurnClient::from(client))
         }
+        TransportType::Tcp => unreachable!(),
     }
 }
 
-/// Hands a packet in, whose bytes stay with the caller.
-fn reply_to_packet(
-    client: &mut TurnClient,
-    transmit: &Transmit<Data>,
-    now: Instant,
-) -> Result<Reply, AllocError>
-    ensures { IfOk result (λ reply. (reply, state_of client.new) ≡ step (state_of client.old) (Call.Recv transmit.now now)) }
+/// The answers of these calls on the client, and the client after them.
+fn asked<C: TurnClientApi>(
+    alloc: Global,
+    mut client: C,
+    calls: &[Call],
+) -> Result<(Vec<Reply>, C), AllocError>
+    requires { All (IsCallable TransportType.Udp) calls.now }
+    ensures replies { IfOk result (λ r. r.0.items ≡ replies_of (C.state client) calls.now) }
+    ensures client { IfOk result (λ r. C.state r.1 ≡ state_behind (C.state client) calls.now) }
 {
-    let packet = Transmit {
-        payload: transmit.payload.as_bytes(),
-        transport: transmit.transport,
-        from: transmit.from,
-        to: transmit.to,
-    };
-    match client.recv(packet, now)? {
-        TurnRecvRet::Handled => Ok(Reply::Handled),
-        TurnRecvRet::Ignored(_) => Ok(Reply::Ignored),
-        TurnRecvRet::PeerData(_) | TurnRecvRet::PeerIcmp { .. } => unreachable!(),
+    let replies = replies_to(alloc, &mut client, calls)?;
+    Ok((replies, client))
+}
+
+/// Makes these calls, which can be made whatever the allocations relay over.
+pub(crate) fn replies_to<C: TurnClientApi>(
+    alloc: Global,
+    client: &mut C,
+    calls: &[Call],
+) -> Result<Vec<Reply>, AllocError>
+    requires { All (IsCallable TransportType.Udp) calls.now }
+    ensures replies { IfOk result (λ replies. replies.items ≡ replies_of (C.state client.old) calls.now) }
+    ensures client { OnOk result (C.state client.new ≡ state_behind (C.state client.old) calls.now) }
+{
+    let mut replies = Vec::with_capacity(alloc, calls.len())?;
+    for call in calls {
+        replies.push(reply_to(alloc, client, call)?)?;
     }
+    Ok(replies)
 }

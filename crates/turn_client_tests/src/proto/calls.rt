@@ -2,7 +2,7 @@
 
 use crate::fixture::check;
 use crate::proto::fixture::{
-    BAD_REQUEST, at, client, is_closed, is_first_request, local, refuse, server,
+    BAD_REQUEST, at, called_at, client, is_closed, is_first_request, local, refuse, server,
 };
 use std::net::SocketAddr;
 use std::process::Abort;
@@ -19,7 +19,7 @@ fn sends_its_request<C: TurnClientApi>(rt: &impl Abort, client: &mut C) -> Resul
         rt,
         client.local_addr() == local() && client.remote_addr() == server(),
     );
-    is_first_request(rt, client.poll_transmit(at(0))?);
+    is_first_request(rt, client.poll_transmit(called_at(0))?);
     Ok(())
 }
 
@@ -50,19 +50,22 @@ fn is_ignored<C: TurnClientApi>(
     to: SocketAddr,
 ) -> Result<(), Fail> {
     let packet = Transmit::new(BAD_REQUEST, transport, from, to);
-    let answer = client.recv(packet, at(1))?;
+    let answer = client.recv(packet, called_at(1))?;
     check(rt, is_handed_back(&answer, transport, from, to));
     Ok(())
 }
 
 fn ends_when_refused<C: TurnClientApi>(rt: &impl Abort, client: &mut C) -> Result<(), Fail> {
-    refuse(rt, client, at(1));
-    check(rt, client.poll(at(1))? == TurnPollRet::WaitUntil(at(1)));
+    refuse(rt, client, called_at(1));
+    check(
+        rt,
+        client.poll(called_at(1))? == TurnPollRet::WaitUntil(at(1)),
+    );
     let event = TurnEvent::AllocationCreateFailed(AddressFamily::IPV4);
     check(rt, client.poll_event() == Some(event));
     client.protocol_error()?;
     check(rt, client.poll_event().is_none());
-    is_closed(rt, client, at(1))?;
+    is_closed(rt, client, called_at(1))?;
     Ok(())
 }
 

@@ -1,6 +1,7 @@
 //! A client, its server, their packets, and runs written as tables.
 
-ghost use Rattle.std.specs.Prelude.{◌≡◌, IfOk};
+ghost use Rattle.std.specs.Prelude.{◌≡◌, ◌≤◌, ◌^◌, All, IfOk};
+ghost use Rattle.turn_client_proto.specs.Run.{IsCallable};
 
 use crate::fixture::{check, config, same};
 use std::alloc::{AllocError, Global};
@@ -11,7 +12,7 @@ use std::time::Duration;
 use turn_auth::credentials::CredentialsError;
 use turn_client_api::{TurnConfig, TurnEvent, TurnPollRet, TurnRecvRet};
 use turn_client_proto::api::TurnClientApi;
-use turn_client_proto::runs::{Call, Reply, replay};
+use turn_client_proto::runs::{Call, Replayed, Reply, replay};
 use turn_client_proto::udp::TurnClientUdp;
 use turn_stun::data::Data;
 use turn_stun::instant::Instant;
@@ -19,6 +20,9 @@ use turn_stun::transport::{Transmit, TransportType};
 use turn_types::AddressFamily;
 
 pub const MS: u64 = 1_000_000;
+
+/// The latest moment of a call, in nanoseconds: 2^62.
+const LATEST_CALL: u64 = 0x4000_0000_0000_0000;
 
 /// The first ALLOCATE of the seed of zeros, for an IPv4 address (RFC 8656, section 7.1).
 pub const FIRST_ALLOCATE: &[u8] = &[
@@ -44,6 +48,13 @@ pub fn server() -> SocketAddr {
 
 pub fn at(nanos: u64) -> Instant {
     Instant::from_nanos(nanos)
+}
+
+/// The moment of a call, which is at most 2^62 ns.
+pub fn called_at(nanos: u64) -> Instant
+    ensures { result ≤ 2 ^ 62 }
+{
+    Instant::from_nanos(nanos.min(LATEST_CALL))
 }
 
 /// What a client asks for, and how long it waits.
@@ -120,7 +131,9 @@ pub fn is_first_request(rt: &impl Abort, packet: Option<Transmit<Data>>) {
 }
 
 /// Hands in the refusal, which the client is to take.
-pub fn refuse<C: TurnClientApi>(rt: &impl Abort, client: &mut C, now: Instant) {
+pub fn refuse<C: TurnClientApi>(rt: &impl Abort, client: &mut C, now: Instant)
+    requires { now ≤ 2 ^ 62 }
+{
     let packet = Transmit::new(BAD_REQUEST, TransportType::Udp, server(), local());
     let answer = client.recv(packet, now);
     check(rt, matches!(answer, Ok(TurnRecvRet::Handled)));
@@ -131,7 +144,9 @@ pub fn is_closed<C: TurnClientApi>(
     rt: &impl Abort,
     client: &mut C,
     now: Instant,
-) -> Result<(), AllocError> {
+) -> Result<(), AllocError>
+    requires { now ≤ 2 ^ 62 }
+{
     check(rt, client.poll(now)? == TurnPollRet::Closed);
     check(rt, client.poll_event().is_none());
     Ok(())
@@ -172,17 +187,23 @@ fn from_server(alloc: Global, bytes: &[u8]) -> Result<Transmit<Data>, AllocError
     Ok(Transmit::new(data, TransportType::Udp, server(), local()))
 }
 
-fn call(alloc: Global, ask: Ask<'_>) -> Result<Call, AllocError> {
-    Ok(match ask {
-        Ask::Poll(now) => Call::Poll { now: at(now) },
-        Ask::Transmit(now) => Call::PollTransmit { now: at(now) },
-        Ask::Event => Call::PollEvent,
-        Ask::Recv(now, bytes) => Call::Recv {
+fn call(alloc: Global, ask: Ask<'_>) -> Result<Call, AllocError>
+    ensures { IfOk result (IsCallable TransportType.Udp) }
+{
+    match ask {
+        Ask::Poll(now) => Ok(Call::Poll {
+            now: called_at(now),
+        }),
+        Ask::Transmit(now) => Ok(Call::PollTransmit {
+            now: called_at(now),
+        }),
+        Ask::Event => Ok(Call::PollEvent),
+        Ask::Recv(now, bytes) => Ok(Call::Recv {
             transmit: from_server(alloc, bytes)?,
-            now: at(now),
-        },
-        Ask::Error => Call::ProtocolError,
-    })
+            now: called_at(now),
+        }),
+        Ask::Error => Ok(Call::ProtocolError),
+    }
 }
 
 fn is_wanted(reply: &Reply, want: Want<'_>) -> bool {
@@ -202,7 +223,9 @@ fn is_wanted(reply: &Reply, want: Want<'_>) -> bool {
     }
 }
 
-fn calls_of(alloc: Global, rows: &[Row<'_>]) -> Result<Vec<Call>, AllocError> {
+fn calls_of(alloc: Global, rows: &[Row<'_>]) -> Result<Vec<Call>, AllocError>
+    ensures { IfOk result (λ calls. All (IsCallable TransportType.Udp) calls.items) }
+{
     let mut calls = Vec::new(alloc);
     for (ask, _) in rows {
         calls.push(call(alloc, *ask)?)?;
@@ -216,9 +239,10 @@ pub fn replies_of(
     config: TurnConfig,
     calls: &[Call],
 ) -> Result<Vec<Reply>, AllocError>
-    requires { config.allocation_transport ≡ TransportType.Udp }
+    requires relays { config.allocation_transport ≡ TransportType.Udp }
+    requires callable { All (IsCallable TransportType.Udp) calls.now }
 {
-    let replayed = replay(
+    let Replayed { replies, client } = replay(
         alloc,
         TransportType::Udp,
         local(),
@@ -227,7 +251,8 @@ pub fn replies_of(
         [0; 32],
         calls,
     )?;
-    Ok(replayed.replies)
+    drop(client);
+    Ok(replies)
 }
 
 /// The first row that was not answered as it is to be, counted from 0.

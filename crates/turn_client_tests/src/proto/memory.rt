@@ -5,21 +5,23 @@
 
 use crate::fixture::{check, config};
 use crate::proto::fixture::{
-    MS, Setup, at, client, client_for, is_closed, is_first_request, refuse, replies_of,
+    BAD_REQUEST, MS, Setup, at, called_at, client, client_for, is_closed, is_first_request, local,
+    replies_of, server,
 };
 use std::process::Abort;
 use std::test::Fail;
-use turn_client_api::{TurnEvent, TurnPollRet};
+use turn_client_api::{TurnEvent, TurnPollRet, TurnRecvRet};
 use turn_client_proto::api::TurnClientApi;
 use turn_client_proto::runs::{Call, Reply};
+use turn_stun::transport::{Transmit, TransportType};
 use turn_types::AddressFamily;
 
 fn sends_or_ends<C: TurnClientApi>(rt: &impl Abort, mut client: C) -> Result<(), Fail> {
-    match client.poll_transmit(at(0)) {
+    match client.poll_transmit(called_at(0)) {
         Ok(packet) => is_first_request(rt, packet),
         Err(_) => {
-            is_closed(rt, &mut client, at(0))?;
-            check(rt, client.poll_transmit(at(0))?.is_none());
+            is_closed(rt, &mut client, called_at(0))?;
+            check(rt, client.poll_transmit(called_at(0))?.is_none());
         }
     }
     Ok(())
@@ -34,7 +36,7 @@ fn a_refused_first_request_ends_the_client(rt: HostRuntime) -> Result<(), Fail> 
 }
 
 fn sends_again_or_ends<C: TurnClientApi>(rt: &impl Abort, client: &mut C) -> Result<(), Fail> {
-    let due = at(500 * MS);
+    let due = called_at(500 * MS);
     match client.poll_transmit(due) {
         Ok(packet) => {
             check(
@@ -53,7 +55,7 @@ fn sends_again_or_ends<C: TurnClientApi>(rt: &impl Abort, client: &mut C) -> Res
 
 /// Sends the first request, and then the same again when it is due.
 fn sends_twice<C: TurnClientApi>(rt: &impl Abort, mut client: C) -> Result<(), Fail> {
-    match client.poll_transmit(at(0)) {
+    match client.poll_transmit(called_at(0)) {
         Ok(_) => sends_again_or_ends(rt, &mut client),
         Err(_) => Ok(()),
     }
@@ -72,20 +74,36 @@ fn tells_a_failure<C: TurnClientApi>(rt: &impl Abort, client: &mut C, family: Ad
     check(rt, client.poll_event() == Some(event));
 }
 
-/// Fails both families of a client that has sent its request, by a refusal or by the caller.
-fn ends<C: TurnClientApi>(rt: &impl Abort, client: &mut C, refused: bool) {
-    if refused {
-        refuse(rt, client, at(0));
-    } else {
-        check(rt, client.protocol_error().is_ok());
+/// Ends a client, by a refusal or by the caller. Whether there was memory for it.
+fn is_ended<C: TurnClientApi>(rt: &impl Abort, client: &mut C, refused: bool) -> bool {
+    if !refused {
+        return client.protocol_error().is_ok();
     }
-    tells_a_failure(rt, client, AddressFamily::IPV6);
-    tells_a_failure(rt, client, AddressFamily::IPV4);
-    check(rt, matches!(client.poll(at(0)), Ok(TurnPollRet::Closed)));
+    let packet = Transmit::new(BAD_REQUEST, TransportType::Udp, server(), local());
+    match client.recv(packet, called_at(0)) {
+        Ok(answer) => {
+            check(rt, matches!(answer, TurnRecvRet::Handled));
+            true
+        }
+        Err(_) => false,
+    }
+}
+
+/// Fails both families of a client that has sent its request.
+fn ends<C: TurnClientApi>(rt: &impl Abort, client: &mut C, refused: bool) {
+    if is_ended(rt, client, refused) {
+        tells_a_failure(rt, client, AddressFamily::IPV6);
+        tells_a_failure(rt, client, AddressFamily::IPV4);
+    }
+    check(rt, client.poll_event().is_none());
+    check(
+        rt,
+        matches!(client.poll(called_at(0)), Ok(TurnPollRet::Closed)),
+    );
 }
 
 fn sends_and_ends<C: TurnClientApi>(rt: &impl Abort, mut client: C, refused: bool) {
-    if client.poll_transmit(at(0)).is_ok() {
+    if client.poll_transmit(called_at(0)).is_ok() {
         ends(rt, &mut client, refused);
     }
 }
@@ -96,9 +114,8 @@ const BOTH: Setup = Setup {
     waits: None,
 };
 
-// The places of the failures are set aside when the client is made.
 #[test]
-fn ends_take_no_memory(rt: HostRuntime) {
+fn an_end_tells_each_failure_or_finds_no_memory(rt: HostRuntime) {
     for refused in [false, true] {
         if let Ok(client) = client_for(rt.alloc(), BOTH) {
             sends_and_ends(&rt, client, refused);
@@ -116,7 +133,7 @@ fn a_refused_run_gives_no_answers(rt: HostRuntime) {
     let Ok(config) = config(rt.alloc()) else {
         return;
     };
-    let calls = [Call::PollTransmit { now: at(0) }, Call::PollEvent];
+    let calls = [Call::PollTransmit { now: called_at(0) }, Call::PollEvent];
     let Ok(replies) = replies_of(rt.alloc(), config, &calls) else {
         return;
     };

@@ -11,11 +11,11 @@ use turn_client_proto::types::stun::message::Message;
 use turn_client_proto::types::{TransportType, TurnCredentials};
 use turn_client_proto::{Call, Replayed, Reply, replay};
 
-/// Polls a new client once.
-fn polled(alloc: Global) -> Result<Replayed, Fail> {
+/// What a new client answers to one poll.
+fn polled(alloc: Global) -> Result<Vec<Reply>, Fail> {
     let calls = [Call::Poll { now: Instant::ZERO }];
     let config = config(alloc)?;
-    Ok(replay(
+    let Replayed { replies, client } = replay(
         alloc,
         TransportType::Udp,
         local(),
@@ -23,7 +23,9 @@ fn polled(alloc: Global) -> Result<Replayed, Fail> {
         config,
         [0; 32],
         &calls,
-    )?)
+    )?;
+    drop(client);
+    Ok(replies)
 }
 
 /// Whether the reply tells the caller to call again at once.
@@ -36,10 +38,9 @@ fn is_now(reply: &Reply) -> bool {
 
 #[test]
 fn runs_are_named_at_the_root(rt: HostRuntime) -> Result<(), Fail> {
-    let replayed = polled(rt.alloc())?;
-    let replies = replayed.replies.as_slice();
+    let replies = polled(rt.alloc())?;
     same(&rt, replies.len(), 1);
-    for reply in replies {
+    for reply in replies.as_slice() {
         check(&rt, is_now(reply));
     }
     Ok(())

@@ -38,13 +38,24 @@ udp L R udp 4 sha1 auto 75 70 S 1,2,3,;udp L R udp 4 sha1 auto 75 70 S 1, 2,3,4"
 const BAD_MOMENTS: &str = "; ; 0 poll;poll;00 poll;+0 poll;-1 poll;0x1 poll;0\u{a0}poll;\
 4611686018427387905 poll;99999999999999999999 poll";
 
-const BAD_CALLS: &str = "0;0 ;0  poll;0 pol;0 Poll;0 polls;0 send udp 1.2.3.4:5 00;0 poll\r";
+const BAD_CALLS: &str =
+    "0;0 ;0  poll;0 pol;0 Poll;0 polls;0 poll_rec;0 poll-recv;0 sends udp 1.2.3.4:5 00;\
+0 permission udp 1.2.3.4:5;0 poll\r";
 
 const BAD_ARGUMENTS: &str = "0 poll ;0 event 0;0 recv;0 recv A;0 recv A  ;0 recv A 0;0 recv A 0G;\
 0 recv A 0A;0 recv A 00-;0 recv A 00 ;0 recv A 00 00;0 recv A 00\r;\
 0 recv UDP 10.0.0.2:2000 192.168.0.1:1000 00;0 recv udp 10.0.0.2:2000 00;\
 0 recv udp 10.0.0.2:2000 192.168.0.1:1000 1.2.3.4:5 00;\
-0 recv udp 10.0.0.02:2000 192.168.0.1:1000 00";
+0 recv udp 10.0.0.02:2000 192.168.0.1:1000 00;0 poll_recv 0;0 delete 0;0 relayed udp;\
+0 send 1.2.3.4:5 00;0 send udp 1.2.3.4 00;0 send udp 1.2.3.4:5;0 send udp 1.2.3.4:5 0;\
+0 send udp 1.2.3.4:5 00 00;0 permit 1.2.3.4;0 permit udp;0 permit udp 1.2.3.4:5;\
+0 permit udp 1.2.3.4 0;0 permit udp 1.2.3;0 permit udp 20010db8000000000000000000000001;\
+0 permit udp [2001];0 have udp;0 have udp 1.2.3.4:5;0 have udp 1.2.3.4 0;\
+0 bind 1.2.3.4:5;0 bind udp 1.2.3.4;0 bind udp 1.2.3.4:5 0;0 connect;0 connect 1.2.3.4;\
+0 connect udp 1.2.3.4:5;0 permissions 1.2.3.4:5;0 permissions udp;0 permissions udp 1.2.3.4;\
+0 closed 1.2.3.4:5;0 closed 1.2.3.4:5 1.2.3.4;0 closed 1.2.3.4:5 1.2.3.4:5 0;\
+0 socket 4294967296 A 1.2.3.4:5 -;0 socket 07 A 1.2.3.4:5 -;0 socket A 1.2.3.4:5 -;\
+0 socket 7 A 1.2.3.4:5;0 socket 7 A 1.2.3.4:5 --;0 socket 7 A - 1.2.3.4:5;0 socket 7 A 1.2.3.4:5 - -";
 
 /// The seed, and two addresses, in the place of a head's letters.
 fn spelled_out(alloc: Global, head: &str) -> Result<String, AllocError> {
@@ -100,6 +111,32 @@ fn every_field_of_a_call_is_tested(rt: HostRuntime) -> Result<(), Fail> {
     are_bad_lines(&rt, rt.alloc(), BAD_MOMENTS, "moment")?;
     are_bad_lines(&rt, rt.alloc(), BAD_CALLS, "call")?;
     are_bad_lines(&rt, rt.alloc(), BAD_ARGUMENTS, "argument")
+}
+
+/// The line of a `send` of this many zeros.
+fn sending(alloc: Global, count: usize) -> Result<String, AllocError> {
+    let zeros = "00".repeat(alloc, count)?;
+    format!(in alloc; "0 send udp 1.2.3.4:5 {zeros}")
+}
+
+/// After a `send` of so many bytes the trace is bad in this line.
+fn is_bad_after_sending(
+    rt: &impl Abort,
+    alloc: Global,
+    count: usize,
+    want: &str,
+) -> Result<(), Fail> {
+    let line = sending(alloc, count)?;
+    let trace = [CLIENT, " ", SEED, "\n", line.as_str(), "\n0 nothing"];
+    follow(rt, alloc, &trace, Status::Malformed, &[want])
+}
+
+// RFC 8656, sections 11.1 and 12.4: a UDP datagram has room for 65,507 bytes, of which the least that
+// carries data to a peer takes some.
+#[test]
+fn a_packet_has_room_for_65504_bytes(rt: HostRuntime) -> Result<(), Fail> {
+    is_bad_after_sending(&rt, rt.alloc(), 65_504, "line 3: bad call\n")?;
+    is_bad_after_sending(&rt, rt.alloc(), 65_505, "line 2: bad payload\n")
 }
 
 /// Runs bytes that are no text, and compares what is written.

@@ -1,5 +1,8 @@
-use Rattle.turn_client_proto.proofs.AlarmLemmas.{told_silence}
+use Rattle.turn_client_proto.proofs.UdpClientLemmas.{poll-keeps}
 use Rattle.turn_client_proto.proofs.udp.TurnClientUdpTurnClientApi.poll.Goals as goal
 
+pub invariant_of-self : goal.invariant_of-self
+invariant_of-self c = poll-keeps _ _ c.poll.result c.args.now c.poll.ensures.after c.poll.ensures.no_memory c.self.invariant
+
 pub returns-clause-alarm : goal.returns-clause-alarm
-returns-clause-alarm c = told_silence c.self.inside.protocol c.args.now c.poll.result c.poll.new.self c.poll.ensures
+returns-clause-alarm c = rw (← c.self.view_is) (c.poll.ensures.alarm c.self.invariant.steady c.self.invariant.housed)

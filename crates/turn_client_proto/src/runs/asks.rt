@@ -1,0 +1,113 @@
+//! The answers of the calls that ask the server for something.
+//!
+//! A client that finds no memory for the request says so, and has changed nothing.
+
+ghost use Rattle.std.specs.Prelude.{◌≡◌, ◌≤◌, ◌^◌, IfOk, OnErr};
+ghost use Rattle.turn_client_api.specs.Steps.{Leaves};
+ghost use Rattle.turn_client_proto.specs.Run.{step};
+
+use crate::runs::{Call, Reply};
+use std::alloc::AllocError;
+use std::net::{IpAddr, SocketAddr};
+use turn_client_api::{
+    BindChannelError, CreatePermissionError, DeleteError, Socket5Tuple, TcpAllocateError,
+    TcpConnectError, TurnClientApi,
+};
+use turn_stun::instant::Instant;
+use turn_stun::transport::TransportType;
+
+/// Gives all allocations back.
+pub(crate) fn delete<C: TurnClientApi>(client: &mut C, now: Instant) -> Result<Reply, AllocError>
+    requires { now ≤ 2 ^ 62 }
+    ensures ok { IfOk result (λ reply. (reply, C.state client.new) ≡ step (C.state client.old) (Call.Delete now)) }
+    ensures no_memory { OnErr result (Leaves (Call.Delete now) (C.state client.old) (C.state client.new)) }
+{
+    match client.delete(now) {
+        Err(DeleteError::OutOfMemory) => Err(AllocError),
+        answer => Ok(Reply::Delete(answer)),
+    }
+}
+
+/// Asks for a permission.
+pub(crate) fn create_permission<C: TurnClientApi>(
+    client: &mut C,
+    transport: TransportType,
+    peer_addr: IpAddr,
+    now: Instant,
+) -> Result<Reply, AllocError>
+    requires { now ≤ 2 ^ 62 }
+    ensures ok { IfOk result (λ reply. (reply, C.state client.new) ≡ step (C.state client.old) (Call.CreatePermission transport peer_addr now)) }
+    ensures no_memory { OnErr result (Leaves (Call.CreatePermission transport peer_addr now) (C.state client.old) (C.state client.new)) }
+{
+    match client.create_permission(transport, peer_addr, now) {
+        Err(CreatePermissionError::OutOfMemory) => Err(AllocError),
+        answer => Ok(Reply::CreatePermission(answer)),
+    }
+}
+
+/// Asks for a channel.
+pub(crate) fn bind_channel<C: TurnClientApi>(
+    client: &mut C,
+    transport: TransportType,
+    peer_addr: SocketAddr,
+    now: Instant,
+) -> Result<Reply, AllocError>
+    requires { now ≤ 2 ^ 62 }
+    ensures ok { IfOk result (λ reply. (reply, C.state client.new) ≡ step (C.state client.old) (Call.BindChannel transport peer_addr now)) }
+    ensures no_memory { OnErr result (Leaves (Call.BindChannel transport peer_addr now) (C.state client.old) (C.state client.new)) }
+{
+    match client.bind_channel(transport, peer_addr, now) {
+        Err(BindChannelError::OutOfMemory) => Err(AllocError),
+        answer => Ok(Reply::BindChannel(answer)),
+    }
+}
+
+/// Asks for a data connection.
+pub(crate) fn tcp_connect<C: TurnClientApi>(
+    client: &mut C,
+    peer_addr: SocketAddr,
+    now: Instant,
+) -> Result<Reply, AllocError>
+    requires { now ≤ 2 ^ 62 }
+    ensures ok { IfOk result (λ reply. (reply, C.state client.new) ≡ step (C.state client.old) (Call.TcpConnect peer_addr now)) }
+    ensures no_memory { OnErr result (Leaves (Call.TcpConnect peer_addr now) (C.state client.old) (C.state client.new)) }
+{
+    match client.tcp_connect(peer_addr, now) {
+        Err(TcpConnectError::OutOfMemory) => Err(AllocError),
+        answer => Ok(Reply::TcpConnect(answer)),
+    }
+}
+
+/// Hands in a data connection that the client wanted, or that it could not be opened.
+pub(crate) fn allocated_tcp_socket<C: TurnClientApi>(
+    client: &mut C,
+    id: u32,
+    tuple: Socket5Tuple,
+    peer: SocketAddr,
+    local: Option<SocketAddr>,
+    now: Instant,
+) -> Result<Reply, AllocError>
+    requires { now ≤ 2 ^ 62 }
+    ensures ok { IfOk result (λ reply. (reply, C.state client.new) ≡ step (C.state client.old) (Call.AllocatedTcpSocket id tuple peer local now)) }
+    ensures no_memory { OnErr result (Leaves (Call.AllocatedTcpSocket id tuple peer local now) (C.state client.old) (C.state client.new)) }
+{
+    match client.allocated_tcp_socket(id, tuple, peer, local, now) {
+        Err(TcpAllocateError::OutOfMemory) => Err(AllocError),
+        answer => Ok(Reply::AllocatedTcpSocket(answer)),
+    }
+}
+
+/// Tells that a data connection is closed.
+pub(crate) fn tcp_closed<C: TurnClientApi>(
+    client: &mut C,
+    local_addr: SocketAddr,
+    remote_addr: SocketAddr,
+    now: Instant,
+) -> Result<Reply, AllocError>
+    requires { now ≤ 2 ^ 62 }
+    ensures ok { IfOk result (λ reply. (reply, C.state client.new) ≡ step (C.state client.old) (Call.TcpClosed local_addr remote_addr now)) }
+    ensures no_memory { OnErr result (Leaves (Call.TcpClosed local_addr remote_addr now) (C.state client.old) (C.state client.new)) }
+{
+    client.tcp_closed(local_addr, remote_addr, now)?;
+    Ok(Reply::Done)
+}

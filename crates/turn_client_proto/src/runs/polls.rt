@@ -1,0 +1,40 @@
+//! The answers of the calls that tell what is to be done next, and of the one that ends a client.
+
+ghost use Rattle.std.specs.Prelude.{◌≡◌, ◌≤◌, ◌^◌, IfOk, OnErr};
+ghost use Rattle.turn_client_api.specs.Steps.{Leaves};
+ghost use Rattle.turn_client_proto.specs.Run.{step};
+
+use crate::runs::{Call, Reply};
+use std::alloc::AllocError;
+use turn_client_api::TurnClientApi;
+use turn_stun::instant::Instant;
+
+/// Asks what is to be done next.
+pub(crate) fn poll<C: TurnClientApi>(client: &mut C, now: Instant) -> Result<Reply, AllocError>
+    requires { now ≤ 2 ^ 62 }
+    ensures ok { IfOk result (λ reply. (reply, C.state client.new) ≡ step (C.state client.old) (Call.Poll now)) }
+    ensures no_memory { OnErr result (Leaves (Call.Poll now) (C.state client.old) (C.state client.new)) }
+{
+    Ok(Reply::Poll(client.poll(now)?))
+}
+
+/// Asks for the next packet.
+pub(crate) fn poll_transmit<C: TurnClientApi>(
+    client: &mut C,
+    now: Instant,
+) -> Result<Reply, AllocError>
+    requires { now ≤ 2 ^ 62 }
+    ensures ok { IfOk result (λ reply. (reply, C.state client.new) ≡ step (C.state client.old) (Call.PollTransmit now)) }
+    ensures no_memory { OnErr result (Leaves (Call.PollTransmit now) (C.state client.old) (C.state client.new)) }
+{
+    Ok(Reply::Transmit(client.poll_transmit(now)?))
+}
+
+/// Tells that what carries the client's packets has failed.
+pub(crate) fn protocol_error<C: TurnClientApi>(client: &mut C) -> Result<Reply, AllocError>
+    ensures ok { IfOk result (λ reply. (reply, C.state client.new) ≡ step (C.state client.old) Call.ProtocolError) }
+    ensures no_memory { OnErr result (Leaves Call.ProtocolError (C.state client.old) (C.state client.new)) }
+{
+    client.protocol_error()?;
+    Ok(Reply::Done)
+}
