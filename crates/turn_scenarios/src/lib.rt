@@ -1,0 +1,28 @@
+//! Whole lives of a client over UDP, against a server that is a table, on a clock of their own.
+//!
+//! The server signs by the key that the password gives, and checks what the client signs. A caller polls, sends what
+//! is due, hands in what comes, and sleeps until the moment that `poll` tells.
+#![tactic(auto)]
+
+#[cfg(test)]
+mod caller;
+#[cfg(test)]
+mod exchange;
+#[cfg(test)]
+mod families;
+#[cfg(test)]
+mod fixture;
+#[cfg(test)]
+mod hostile;
+#[cfg(test)]
+mod replayed;
+#[cfg(test)]
+mod run;
+#[cfg(test)]
+mod server;
+#[cfg(test)]
+mod silence;
+#[cfg(test)]
+mod stale;
+#[cfg(test)]
+mod upkeep;

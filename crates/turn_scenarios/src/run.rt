@@ -1,0 +1,350 @@
+//! Scenarios as tables. Each row says when something is looked at or asked for, and what comes of it.
+//!
+//! A proof follows each local of a test on each way out of it, and the text of each assertion again. So an assertion
+//! stands once, here, and rows are data.
+
+ghost use Rattle.std.specs.Prelude.{◌≡◌, ◌≤◌, ◌*◌, ◌^◌};
+
+use crate::caller::Caller;
+use crate::fixture::{Families, Place, at, client_for, local, server};
+use crate::server::Rule;
+use std::alloc::{AllocError, Global};
+use std::net::SocketAddr;
+use std::process::Abort;
+use std::test::Fail;
+use turn_client_api::{
+    BindChannelError, CreatePermissionError, DeleteError, SendError, TurnClientApi, TurnEvent,
+    TurnRecvRet,
+};
+use turn_stun::transport::{Transmit, TransportType};
+use turn_types::AddressFamily;
+use turn_types::transmit::DelayedTransmitBuild;
+
+/// What is asked for, or looked at.
+#[derive(Clone, Copy)]
+pub(crate) enum Ask<'a> {
+    /// What the client told next. It did so at the moment of the row.
+    Event,
+    Permit(Place),
+    Bind(Place),
+    /// Channels to so many peers, from this port on.
+    BindAll(Place, u16),
+    Delete,
+    /// The peer is greeted.
+    Greet(Place),
+    /// Which addresses are relayed.
+    Relayed,
+    /// Whether the peer has a permission.
+    Permitted(Place),
+    /// A datagram of these bytes comes from the server.
+    Hear(&'a [u8]),
+    /// The same from another port of the server.
+    Overhear(&'a [u8]),
+    /// The last answer of the server comes again.
+    HearAgain,
+    /// What the last request says, but for its header and its integrity.
+    Request,
+    /// How many packets were sent.
+    Sent,
+    /// How many requests came that the client didn't sign.
+    Unsigned,
+    /// How many answers were ignored.
+    Ignored,
+    /// How often the caller woke for nothing.
+    Idle,
+    /// Whether the client has ended.
+    Ended,
+}
+
+/// What comes of it.
+#[derive(Clone, Copy)]
+pub(crate) enum Want<'a> {
+    Allocated(Place),
+    Failed(AddressFamily),
+    /// A permission is there, or is not.
+    Granted(Place),
+    Denied(Place),
+    /// A channel is there, or is not.
+    Bound(Place),
+    Unbound(Place),
+    Handled,
+    Ignored,
+    /// Data of this peer.
+    Data(Place, &'a [u8]),
+    Done,
+    AlreadyExists,
+    NoAllocation,
+    NoPermission,
+    /// These bytes are sent.
+    Send(&'a [u8]),
+    /// A Send indication of these attributes is sent.
+    SendIndication(&'a [u8]),
+    /// These attributes.
+    Attributes(&'a [&'a [u8]]),
+    Addresses(&'a [Place]),
+    Count(u32),
+    Yes,
+    No,
+    Nothing,
+}
+
+/// Milliseconds since the start, a question, and its answer.
+pub(crate) type Row<'a> = (u32, Ask<'a>, Want<'a>);
+
+/// The event that is wanted, if one is.
+fn event_of(want: &Want<'_>) -> Option<TurnEvent> {
+    let udp = TransportType::Udp;
+    match want {
+        Want::Allocated(place) => Some(TurnEvent::AllocationCreated(udp, place.address())),
+        Want::Failed(family) => Some(TurnEvent::AllocationCreateFailed(*family)),
+        Want::Granted(place) => Some(TurnEvent::PermissionCreated(udp, place.ip())),
+        Want::Denied(place) => Some(TurnEvent::PermissionCreateFailed(udp, place.ip())),
+        Want::Bound(place) => Some(TurnEvent::ChannelCreated(udp, place.address())),
+        Want::Unbound(place) => Some(TurnEvent::ChannelCreateFailed(udp, place.address())),
+        _ => None,
+    }
+}
+
+/// Whether the client told that at this moment.
+fn happens(caller: &mut Caller, now: u32, want: &Want<'_>) -> bool {
+    match caller.next_event() {
+        Some((moment, event)) => moment == now && event_of(want) == Some(event),
+        None => matches!(want, Want::Nothing),
+    }
+}
+
+/// Whether the permission is asked for, or refused, as is wanted.
+fn permits<C: TurnClientApi>(client: &mut C, now: u32, place: Place, want: &Want<'_>) -> bool {
+    match client.create_permission(TransportType::Udp, place.ip(), at(now)) {
+        Ok(()) => matches!(want, Want::Done),
+        Err(CreatePermissionError::AlreadyExists) => matches!(want, Want::AlreadyExists),
+        Err(CreatePermissionError::NoAllocation) => matches!(want, Want::NoAllocation),
+        Err(CreatePermissionError::OutOfMemory) => false,
+    }
+}
+
+/// Whether the channel is asked for, or refused, as is wanted.
+fn binds<C: TurnClientApi>(client: &mut C, now: u32, peer: SocketAddr, want: &Want<'_>) -> bool {
+    match client.bind_channel(TransportType::Udp, peer, at(now)) {
+        Ok(()) => matches!(want, Want::Done),
+        Err(BindChannelError::AlreadyExists) => matches!(want, Want::AlreadyExists),
+        Err(BindChannelError::ExpiredChannelExists(_)) => false,
+        Err(BindChannelError::NoAllocation) => matches!(want, Want::NoAllocation),
+        Err(BindChannelError::OutOfMemory) => false,
+    }
+}
+
+/// Whether so many channels are asked for, or refused, as is wanted.
+fn binds_all<C: TurnClientApi>(
+    client: &mut C,
+    now: u32,
+    place: Place,
+    count: u16,
+    want: &Want<'_>,
+) -> bool {
+    for port in 0..count {
+        if !binds(client, now, SocketAddr::new(place.ip(), port), want) {
+            return false;
+        }
+    }
+    true
+}
+
+/// Whether all is given back, or not, as is wanted.
+fn deletes<C: TurnClientApi>(client: &mut C, now: u32, want: &Want<'_>) -> bool {
+    match client.delete(at(now)) {
+        Ok(()) => matches!(want, Want::Done),
+        Err(DeleteError::NoAllocation) => matches!(want, Want::NoAllocation),
+        Err(DeleteError::OutOfMemory) => false,
+    }
+}
+
+/// Whether the greeting goes to the server as is wanted.
+fn greets<C: TurnClientApi>(
+    client: &mut C,
+    alloc: Global,
+    now: u32,
+    place: Place,
+    want: &Want<'_>,
+) -> Result<bool, AllocError> {
+    match client.send_to(TransportType::Udp, place.address(), *b"hello", at(now)) {
+        Ok(Some(packet)) => {
+            let (from, to) = (packet.from, packet.to);
+            let bytes = packet.payload.build(alloc)?;
+            Ok(is_sent(bytes.as_slice(), want) && from == local() && to == server())
+        }
+        Ok(None) => Ok(false),
+        Err(refusal) => Ok(matches!(
+            (refusal, want),
+            (SendError::NoPermission, Want::NoPermission)
+        )),
+    }
+}
+
+/// Whether these bytes are wanted.
+fn is_sent(bytes: &[u8], want: &Want<'_>) -> bool {
+    match want {
+        Want::Send(wanted) => bytes == *wanted,
+        Want::SendIndication(attributes) => {
+            bytes.starts_with(&[0x00, 0x16]) && bytes.get(20..) == Some(*attributes)
+        }
+        _ => false,
+    }
+}
+
+/// Whether the addresses that are relayed are the ones that are wanted.
+fn relays<C: TurnClientApi>(client: &C, want: &Want<'_>) -> bool {
+    match want {
+        Want::Addresses(places) => has_addresses(client, places),
+        _ => false,
+    }
+}
+
+fn has_addresses<C: TurnClientApi>(client: &C, places: &[Place]) -> bool {
+    let mut left = client.relayed_addresses();
+    for place in places {
+        if left.next() != Some((TransportType::Udp, place.address())) {
+            return false;
+        }
+    }
+    left.next().is_none()
+}
+
+/// Whether what comes of the datagram is what is wanted.
+fn hears<C: TurnClientApi>(
+    client: &mut C,
+    now: u32,
+    from: SocketAddr,
+    bytes: &[u8],
+    want: &Want<'_>,
+) -> Result<bool, AllocError> {
+    let packet = Transmit::new(bytes, TransportType::Udp, from, local());
+    match client.recv(packet, at(now))? {
+        TurnRecvRet::Handled => Ok(matches!(want, Want::Handled)),
+        TurnRecvRet::Ignored(_) => Ok(matches!(want, Want::Ignored)),
+        TurnRecvRet::PeerData(given) => Ok(match want {
+            Want::Data(place, data) => given.peer == place.address() && given.data() == *data,
+            _ => false,
+        }),
+        TurnRecvRet::PeerIcmp { .. } => Ok(false),
+    }
+}
+
+/// Whether the request says that between its header and its integrity.
+fn says(request: &[u8], want: &Want<'_>) -> bool {
+    let (Want::Attributes(pieces), Some((text, _))) = (want, request.split_last_chunk::<24>())
+    else {
+        return false;
+    };
+    let Some((_, attributes)) = text.split_first_chunk::<20>() else {
+        return false;
+    };
+    is_joined(attributes, pieces)
+}
+
+/// Whether the bytes are these pieces, one after the other.
+fn is_joined(bytes: &[u8], pieces: &[&[u8]]) -> bool {
+    let mut rest = bytes;
+    for piece in pieces {
+        match rest.strip_prefix(piece) {
+            Some(left) => rest = left,
+            None => return false,
+        }
+    }
+    rest.is_empty()
+}
+
+fn is(found: bool, want: &Want<'_>) -> bool {
+    match want {
+        Want::Yes => found,
+        Want::No => !found,
+        _ => false,
+    }
+}
+
+fn counts(found: u32, want: &Want<'_>) -> bool {
+    match want {
+        Want::Count(count) => found == *count,
+        _ => false,
+    }
+}
+
+/// Whether the row holds, whose moment has come.
+fn holds<C: TurnClientApi>(
+    client: &mut C,
+    caller: &mut Caller,
+    alloc: Global,
+    row: &Row<'_>,
+) -> Result<bool, AllocError> {
+    let (now, ask, want) = row;
+    match ask {
+        Ask::Event => Ok(happens(caller, *now, want)),
+        Ask::Permit(place) => Ok(permits(client, *now, *place, want)),
+        Ask::Bind(place) => Ok(binds(client, *now, place.address(), want)),
+        Ask::BindAll(place, count) => Ok(binds_all(client, *now, *place, *count, want)),
+        Ask::Delete => Ok(deletes(client, *now, want)),
+        Ask::Greet(place) => greets(client, alloc, *now, *place, want),
+        Ask::Relayed => Ok(relays(client, want)),
+        Ask::Permitted(place) => {
+            let found = client.have_permission(TransportType::Udp, place.ip());
+            Ok(is(found, want))
+        }
+        Ask::Hear(bytes) => hears(client, *now, server(), bytes, want),
+        Ask::Overhear(bytes) => hears(client, *now, other_port(), bytes, want),
+        Ask::HearAgain => hears(client, *now, server(), caller.last_answer(), want),
+        Ask::Request => Ok(says(caller.server.last.as_slice(), want)),
+        Ask::Sent => Ok(counts(caller.sent, want)),
+        Ask::Unsigned => Ok(counts(caller.server.unsigned, want)),
+        Ask::Ignored => Ok(counts(caller.ignored, want)),
+        Ask::Idle => Ok(counts(caller.idle, want)),
+        Ask::Ended => Ok(is(caller.has_ended, want)),
+    }
+}
+
+/// Another port of the server.
+fn other_port() -> SocketAddr {
+    SocketAddr::new(server().ip(), 2_001)
+}
+
+/// Asserts that each row holds when its moment comes.
+fn follows<C: TurnClientApi>(
+    rt: &impl Abort,
+    client: &mut C,
+    caller: &mut Caller,
+    alloc: Global,
+    rules: &[Rule<'_>],
+    rows: &[Row<'_>],
+) -> Result<(), AllocError> {
+    for (number, row) in rows.iter().enumerate() {
+        caller.wait(client, rules, row.0)?;
+        let is_so = holds(client, caller, alloc, row)?;
+        assert_eq!(rt; (number, is_so), (number, true));
+    }
+    Ok(())
+}
+
+/// Asserts that each row holds of a client, written in parts, while the server answers by these rules.
+fn follows_all<C: TurnClientApi>(
+    rt: &impl Abort,
+    mut client: C,
+    alloc: Global,
+    rules: &[Rule<'_>],
+    parts: &[&[Row<'_>]],
+) -> Result<(), Fail> {
+    let mut caller = Caller::new(alloc);
+    for rows in parts {
+        follows(rt, &mut client, &mut caller, alloc, rules, rows)?;
+    }
+    Ok(())
+}
+
+/// Asserts that each row holds of a new client while the server answers by these rules.
+pub(crate) fn follow(
+    rt: &impl Abort,
+    alloc: Global,
+    families: Families,
+    rules: &[Rule<'_>],
+    parts: &[&[Row<'_>]],
+) -> Result<(), Fail> {
+    follows_all(rt, client_for(alloc, families)?, alloc, rules, parts)
+}
