@@ -1,1 +1,3 @@
+pub mod Holds
 pub mod Run
+pub mod Sleeps
