@@ -1,3 +1,6 @@
+pub mod Challenges
 pub mod Holds
+pub mod Replies
 pub mod Run
 pub mod Sleeps
+pub mod Turns

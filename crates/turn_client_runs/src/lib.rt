@@ -3,8 +3,12 @@
 //! The functions of this crate do nothing: their contracts are the laws.
 #![tactic(auto)]
 
+mod challenges;
 mod numbers;
+mod replies;
 mod sleeps;
 
+pub use challenges::{few_challenges_are_answered, realm_stays_in_runs};
 pub use numbers::numbers_stay_distinct;
+pub use replies::replies_count_once_in_runs;
 pub use sleeps::runs_sleep_through_nothing;

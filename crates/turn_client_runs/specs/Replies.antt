@@ -1,0 +1,67 @@
+-- Which replies count in a run.
+use Rattle.std.specs.Prelude.{◌≡◌, ◌⊎◌, ◌<◌, ◌^◌, ℕ, true, List, [], ◌∷◌, ◌++◌, Some}
+use Rattle.std.specs.declared.net.socket_addr.SocketAddr.{SocketAddr}
+use Rattle.turn_stun.specs.Message.{id_of}
+use Rattle.turn_agent.specs.Agent.{is_outstanding}
+use Rattle.turn_client_api.specs.State.{State}
+use Rattle.turn_client_api.specs.Requests.{connection_bind_method, fresh_id, most_taken}
+use Rattle.turn_client_api.specs.Judgement.{bind_judgement, judgement_of, method_in}
+use Rattle.turn_client_api.specs.Connections.{connection_at}
+use Rattle.turn_client_api.specs.Payloads.{is_message}
+use Rattle.turn_client_api.specs.Handled.{Turn, handled, made_of}
+use Rattle.turn_client_api.specs.LawsHandled.{IsOverControl, IsOverWaiting}
+use Rattle.turn_client_api.specs.LawsReplies.{IsAccepted, IsAwaited, IsDrawn, IsNotAwaited}
+use Rattle.turn_client_api.specs.Steps.{state_after}
+use Rattle.turn_client_api.specs.declared.call.Call.{Call}
+use Rattle.turn_client_api.specs.declared.grant.DataConnection.{DataConnection}
+use Rattle.turn_client_api.specs.declared.state.Phase.TheVariants.{Allocated}
+use Rattle.turn_client_runs.specs.Run.{state_behind}
+use Rattle.turn_client_runs.specs.Turns.{IsAmong}
+
+-- The turn is that of a whole message over the control connection, or of a datagram, which is a signed
+-- reply to an outstanding request.
+pub record IsControlReply (one : Turn) : Type 0 where
+  pub over : IsOverControl one
+  pub whole : is_message one.bytes ≡ true
+  pub accepted : IsAccepted (judgement_of one.before one.bytes)
+
+-- The turn is that of a whole message on a connection that waits to be bound, which is a signed reply to
+-- its outstanding CONNECTION_BIND (RFC 6062, section 4.3).
+pub record IsBindReply (one : Turn) : Type 0 where
+  pub local : SocketAddr
+  pub over : IsOverWaiting local one
+  pub whole : is_message one.bytes ≡ true
+  pub phase : one.before.phase ≡ Allocated
+  pub method : method_in one.bytes ≡ connection_bind_method
+  pub connection : DataConnection
+  pub found : connection_at local one.before ≡ Some connection
+  pub accepted : IsAccepted (bind_judgement one.before local one.bytes)
+
+-- the turn is that of a reply that is accepted
+abbrev pub IsReplyTurn : Turn → Type 0
+IsReplyTurn one = IsControlReply one ⊎ IsBindReply one
+
+-- its request was outstanding, and is so no longer after the turn, unless its ID is drawn anew
+abbrev pub EndsItsRequest : Turn → Type 0
+EndsItsRequest one =
+    IsAwaited one.bytes one.before × (IsAwaited one.bytes (made_of one).1 → id_of one.bytes ≡ fresh_id one.before)
+
+-- while an ID is free it is not drawn anew
+abbrev pub EndsItForGood : Turn → Type 0
+EndsItForGood one = most_taken one.before < 2 ^ 96 → IsNotAwaited one.bytes (made_of one).1
+
+-- one of these turns, which is that of a whole message, draws the ID
+abbrev pub IsDrawnAmong : ℕ → List Turn → Type 0
+IsDrawnAmong id turns = IsAmong (λ one. (is_message one.bytes ≡ true) × (id ≡ fresh_id one.before)) turns
+
+-- one of these calls draws the ID
+abbrev pub IsDrawnIn : ℕ → State → List Call → Type 0
+IsDrawnIn id s [] = ⊥
+IsDrawnIn id s (call ∷ calls) = IsDrawn call id s ⊎ IsDrawnIn id (state_after call s) calls
+
+-- Where a call has the turn of the reply, and its request is outstanding after it and these further calls, the
+-- ID was drawn anew since: by the turn itself or a later one of the call, or by a further call.
+abbrev pub IsDrawnSince : State → Call → List Call → Turn → Type 0
+IsDrawnSince s call calls one =
+    (front later : List Turn) → handled call s ≡ front ++ one ∷ later → IsAwaited one.bytes (state_behind (state_after call s) calls)
+    → IsDrawnAmong (id_of one.bytes) (one ∷ later) ⊎ IsDrawnIn (id_of one.bytes) (state_after call s) calls
