@@ -1,17 +1,16 @@
 -- Challenges in a run.
-use Rattle.std.proofs.Common.{◌≡◌, ◌⊎◌, ◌∙◌, ◌<◌, ◌≤◌, ◌+◌, ltb, ℕ, suc, Bool, true, false, List, [], ◌∷◌, ◌++◌, filter, length, Some, inl, inr, refl, sym, subst, ap, arith}
+use Rattle.std.proofs.Common.{◌≡◌, ◌⊎◌, ◌∙◌, ◌<◌, ◌≤◌, ◌+◌, ltb, ℕ, Bool, true, false, List, [], ◌∷◌, ◌++◌, Some, inl, inr, refl, sym, subst, ap, arith}
 use Rattle.std.proofs.lemmas.Bool.{ltb-true, ltb-false}
-use Rattle.std.specs.List.{Contains}
 use Rattle.turn_auth.specs.LongTerm.{Challenge}
 use Rattle.turn_client_api.specs.State.{State}
-use Rattle.turn_client_api.specs.Payloads.{Outcome, is_message, message_step}
+use Rattle.turn_client_api.specs.Payloads.{Outcome, is_message}
 use Rattle.turn_client_api.specs.Handled.{Turn, handled, made_of}
-use Rattle.turn_client_api.specs.LawsHandled.{DoesTurns, IsDoneBy, TakesTurns, TurnsLead}
+use Rattle.turn_client_api.specs.LawsHandled.{DoesTurns, TakesTurns, TurnsLead}
 use Rattle.turn_client_api.specs.LawsReplies.{IsHeeded}
 use Rattle.turn_client_api.specs.LawsStates.{HoldsAtFirst, StaysInCalls}
 use Rattle.turn_client_api.specs.LawsSteps.{IsCounted, KeepsRealm}
 use Rattle.turn_client_api.specs.Retry.{most_challenges}
-use Rattle.turn_client_api.specs.Steps.{Leaves, state_after}
+use Rattle.turn_client_api.specs.Steps.{state_after}
 use Rattle.turn_client_api.specs.declared.call.Call.{Call}
 use Rattle.turn_client_api.proofs.CountLemmas.{bringing, leaves-heeded}
 use Rattle.turn_client_api.proofs.PhasesGoOn.{challenge-IsCounted, leaves-keeps}
@@ -24,7 +23,7 @@ use Rattle.turn_client_runs.specs.Run.{state_behind}
 use Rattle.turn_client_runs.specs.Turns.{handled_in}
 use Rattle.turn_client_runs.proofs.HoldLemmas.{kept-behind}
 use Rattle.turn_client_runs.proofs.MadeLemmas.{control-made}
-use Rattle.turn_client_runs.proofs.RunLemmas.{among-first, among-later, among-left, among-none, among-right, takes-or}
+use Rattle.turn_client_runs.proofs.RunLemmas.{among-first, among-later, among-left, among-right, takes-or}
 
 -- ---- what is held
 

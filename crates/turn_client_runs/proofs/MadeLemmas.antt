@@ -1,12 +1,11 @@
 -- What is made of a whole message in its turn.
-use Rattle.std.proofs.Common.{◌≡◌, ℕ, true, false, List, Option, Some, None, refl}
+use Rattle.std.proofs.Common.{◌≡◌, ℕ, true, List, Option, Some, None, refl}
 use Rattle.std.specs.Prelude.{is_none}
 use Rattle.std.proofs.lemmas.Bool.{lt-ltb}
 use Rattle.std.specs.declared.net.socket_addr.SocketAddr.{SocketAddr}
 use Rattle.turn_stun.specs.Message.{fault_of, type_of}
 use Rattle.turn_stun.proofs.FaultLemmas.{no_fault-IsFaultless}
 use Rattle.turn_types.specs.Frames.{begins_message}
-use Rattle.turn_client_api.specs.State.{State}
 use Rattle.turn_client_api.specs.Connections.{bind_step}
 use Rattle.turn_client_api.specs.Payloads.{is_message, message_step}
 use Rattle.turn_client_api.specs.Handled.{Turn, made_of}

@@ -1,14 +1,14 @@
 -- In a run a reply that is accepted ends its request.
-use Rattle.std.proofs.Common.{◌≡◌, ◌⊎◌, ◌∙◌, ◌<◌, ◌^◌, ℕ, true, false, List, [], ◌∷◌, ◌++◌, inl, inr, refl, sym, subst, ap}
+use Rattle.std.proofs.Common.{◌≡◌, ◌⊎◌, ◌∙◌, ℕ, true, false, List, [], ◌∷◌, inl, inr, refl, sym, subst}
 use Rattle.std.specs.declared.net.socket_addr.SocketAddr.{SocketAddr}
 use Rattle.turn_stun.specs.Message.{id_of}
 use Rattle.turn_agent.specs.Agent.{is_outstanding}
 use Rattle.turn_client_api.specs.State.{State}
-use Rattle.turn_client_api.specs.Requests.{fresh_id, most_taken}
+use Rattle.turn_client_api.specs.Requests.{fresh_id}
 use Rattle.turn_client_api.specs.Judgement.{bind_judgement}
 use Rattle.turn_client_api.specs.Connections.{bind_answered, bind_step}
-use Rattle.turn_client_api.specs.Payloads.{Outcome, is_message, message_step}
-use Rattle.turn_client_api.specs.Handled.{Turn, handled, made_of}
+use Rattle.turn_client_api.specs.Payloads.{Outcome, is_message}
+use Rattle.turn_client_api.specs.Handled.{Turn, made_of}
 use Rattle.turn_client_api.specs.LawsHandled.{TurnsLead}
 use Rattle.turn_client_api.specs.LawsReplies.{IsAccepted, IsAwaited, IsDrawn, IsNotAwaited}
 use Rattle.turn_client_api.specs.Steps.{state_after}
@@ -19,7 +19,7 @@ use Rattle.turn_client_api.proofs.HasLemmas.{Has}
 use Rattle.turn_client_api.proofs.NewIdCallLemmas.{draws-IsBringing, leaves-draws}
 use Rattle.turn_client_api.proofs.TurnBringLemmas.{lead-brings}
 use Rattle.turn_client_api.proofs.TurnLemmas.{brought}
-use Rattle.turn_client_runs.specs.Replies.{EndsItForGood, EndsItsRequest, IsBindReply, IsControlReply, IsDrawnAmong, IsDrawnIn, IsDrawnSince, IsReplyTurn}
+use Rattle.turn_client_runs.specs.Replies.{EndsItForGood, EndsItsRequest, IsBindReply, IsDrawnAmong, IsDrawnIn, IsDrawnSince, IsReplyTurn}
 use Rattle.turn_client_runs.specs.Run.{state_behind}
 use Rattle.turn_client_runs.proofs.MadeLemmas.{control-made, waiting-made}
 use Rattle.turn_client_runs.proofs.RunLemmas.{among-first, among-later, handled-leads, has-among, leads-from}

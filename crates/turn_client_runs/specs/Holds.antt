@@ -24,3 +24,9 @@ abbrev pub HoldsInAnyRun : (State → Type 0) → Type 0
 HoldsInAnyRun P =
     (transport : TransportType) (local remote : SocketAddr) (config : Config) (seed : List ℕ) (calls : List Call) (t : State)
     → Reaches (initial transport local remote config seed) calls t → P t
+
+-- whatever calls a new client gets, which all find memory
+abbrev pub HoldsOfRuns : (State → List Call → Type 0) → Type 0
+HoldsOfRuns Q =
+    (transport : TransportType) (local remote : SocketAddr) (config : Config) (seed : List ℕ) (calls : List Call)
+    → Q (initial transport local remote config seed) calls

@@ -2,7 +2,6 @@
 use Rattle.std.specs.Prelude.{◌≡◌, ◌⊎◌, ◌<◌, ◌^◌, ℕ, true, List, [], ◌∷◌, ◌++◌, Some}
 use Rattle.std.specs.declared.net.socket_addr.SocketAddr.{SocketAddr}
 use Rattle.turn_stun.specs.Message.{id_of}
-use Rattle.turn_agent.specs.Agent.{is_outstanding}
 use Rattle.turn_client_api.specs.State.{State}
 use Rattle.turn_client_api.specs.Requests.{connection_bind_method, fresh_id, most_taken}
 use Rattle.turn_client_api.specs.Judgement.{bind_judgement, judgement_of, method_in}
