@@ -35,7 +35,7 @@ use Rattle.turn_client_runs.specs.Bound.{BoundConnectionsHaveSuccess, BoundStrea
 use Rattle.turn_client_runs.specs.Run.{state_behind}
 use Rattle.turn_client_runs.specs.Turns.{IsAmong, handled_in}
 use Rattle.turn_client_runs.proofs.MadeLemmas.{waiting-made}
-use Rattle.turn_client_runs.proofs.RunLemmas.{among-none, run-brings, takes-or, turn-brought}
+use Rattle.turn_client_runs.proofs.TurnsOfRuns.{among-none, run-brings, takes-or, turn-brought}
 
 -- ---- a turn that binds ends its request
 

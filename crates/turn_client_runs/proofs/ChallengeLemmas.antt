@@ -23,7 +23,7 @@ use Rattle.turn_client_runs.specs.Run.{state_behind}
 use Rattle.turn_client_runs.specs.Turns.{handled_in}
 use Rattle.turn_client_runs.proofs.HoldLemmas.{kept-behind}
 use Rattle.turn_client_runs.proofs.MadeLemmas.{control-made}
-use Rattle.turn_client_runs.proofs.RunLemmas.{among-first, among-later, among-left, among-right, takes-or}
+use Rattle.turn_client_runs.proofs.TurnsOfRuns.{among-first, among-later, among-left, among-right, takes-or}
 
 -- ---- what is held
 

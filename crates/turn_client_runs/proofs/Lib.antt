@@ -4,5 +4,5 @@ pub mod HoldLemmas
 pub mod MadeLemmas
 pub mod PeerLemmas
 pub mod ReplyLemmas
-pub mod RunLemmas
 pub mod SleepLemmas
+pub mod TurnsOfRuns

@@ -27,7 +27,7 @@ use Rattle.turn_client_api.proofs.HasLemmas.{Has, has-append, has-filter_map, ha
 use Rattle.turn_client_api.proofs.StandLemmas.{contains-has, has-contains}
 use Rattle.turn_client_runs.specs.Peers.{IsGivenBy, IsOfLetIn, IsReceived}
 use Rattle.turn_client_runs.specs.Turns.{IsAmong, handled_in, payloads_in}
-use Rattle.turn_client_runs.proofs.RunLemmas.{among-left, among-right, has-among}
+use Rattle.turn_client_runs.proofs.TurnsOfRuns.{among-left, among-right, has-among}
 
 -- ---- the stream of a turn stands in the state just before
 

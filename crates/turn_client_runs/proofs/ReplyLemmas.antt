@@ -22,7 +22,7 @@ use Rattle.turn_client_api.proofs.TurnLemmas.{brought}
 use Rattle.turn_client_runs.specs.Replies.{EndsItForGood, EndsItsRequest, IsBindReply, IsDrawnAmong, IsDrawnIn, IsDrawnSince, IsReplyTurn}
 use Rattle.turn_client_runs.specs.Run.{state_behind}
 use Rattle.turn_client_runs.proofs.MadeLemmas.{control-made, waiting-made}
-use Rattle.turn_client_runs.proofs.RunLemmas.{among-first, among-later, handled-leads, has-among, leads-from}
+use Rattle.turn_client_runs.proofs.TurnsOfRuns.{among-first, among-later, handled-leads, has-among, leads-from}
 
 -- ---- one turn
 

@@ -1,9 +1,6 @@
 -- What `poll` tells in a run is timely.
-use Rattle.std.proofs.Common.{ℕ, suc, List, [], ◌∷◌, inl, refl, arith}
+use Rattle.std.proofs.Common.{suc, List, [], ◌∷◌, inl, refl, arith}
 use Rattle.std.specs.Prelude.{All}
-use Rattle.std.specs.declared.net.socket_addr.SocketAddr.{SocketAddr}
-use Rattle.turn_stun.specs.declared.transport.TransportType.{TransportType}
-use Rattle.turn_client_api.specs.Config.{Config}
 use Rattle.turn_client_api.specs.State.{State, initial}
 use Rattle.turn_client_api.specs.Steps.{state_after}
 use Rattle.turn_client_api.specs.declared.call.Call.{Call}
@@ -13,7 +10,9 @@ use Rattle.turn_client_api.specs.LawsHoused.{IsHoused}
 use Rattle.turn_client_api.proofs.SendOrderLemmas.{initial-steady, leaves-steadies, steady-IsOrderly}
 use Rattle.turn_client_api.proofs.InAllocation.{IsHoused-AllStandIn, initial-IsHoused, leaves-IsHoused}
 use Rattle.turn_client_api.proofs.TimelyLemmas.{poll-timely}
-use Rattle.turn_client_runs.specs.Sleeps.{IsPolledInTime, SleepsThroughNothing, TellsTimely}
+use Rattle.turn_client_runs.specs.Holds.{HoldsInAnyRun, HoldsOfRuns}
+use Rattle.turn_client_runs.specs.Sleeps.{IsPolledInTime, SleepsInTime, SleepsThroughNothing, TellsTimely, TellsTimelyNext}
+use Rattle.turn_client_runs.proofs.HoldLemmas.{holds-any}
 
 -- what a call tells of a client in order is timely
 tells-timely : (s : State) (call : Call) → IsSteady s → IsHoused s → IsPolledInTime call → TellsTimely s call
@@ -29,6 +28,13 @@ sleeps-through-nothing s (call ∷ calls) steady housed all = (
 )
 
 -- nor does a new client
-pub run-sleeps : (transport : TransportType) (local remote : SocketAddr) (config : Config) (seed : List ℕ) (calls : List Call) → All IsPolledInTime calls → SleepsThroughNothing (initial transport local remote config seed) calls
+pub run-sleeps : HoldsOfRuns SleepsInTime
 run-sleeps transport local remote config seed calls all =
     sleeps-through-nothing (initial transport local remote config seed) calls (initial-steady transport local remote config seed) (initial-IsHoused transport local remote config seed) all
+
+-- nor one that found no memory for some calls
+pub any-tells : HoldsInAnyRun TellsTimelyNext
+any-tells transport local remote config seed calls t reaches now early =
+    tells-timely t (Poll now)
+    (holds-any IsSteady leaves-steadies initial-steady transport local remote config seed calls t reaches)
+    (holds-any IsHoused leaves-IsHoused initial-IsHoused transport local remote config seed calls t reaches) early

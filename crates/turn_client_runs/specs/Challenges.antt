@@ -1,5 +1,6 @@
 -- How many challenges are answered in a run.
-use Rattle.std.specs.Prelude.{◌≡◌, ◌≤◌, ℕ, nat_lt, Bool, true, List, filter, length}
+use Rattle.std.specs.Prelude.{◌≡◌, ◌⊎◌, ◌≤◌, ℕ, nat_lt, Bool, true, List, filter, length}
+use Rattle.std.specs.List.{Contains}
 use Rattle.turn_auth.specs.LongTerm.{Challenge}
 use Rattle.turn_client_api.specs.State.{State}
 use Rattle.turn_client_api.specs.Judgement.{Challenged, judgement_of}
@@ -9,7 +10,8 @@ use Rattle.turn_client_api.specs.Handled.{Turn, made_of}
 use Rattle.turn_client_api.specs.LawsHandled.{IsOverControl}
 use Rattle.turn_client_api.specs.LawsReplies.{IsHeeded}
 use Rattle.turn_client_api.specs.LawsSteps.{IsCounted}
-use Rattle.turn_client_runs.specs.Turns.{IsAmong}
+use Rattle.turn_client_api.specs.declared.call.Call.{Call}
+use Rattle.turn_client_runs.specs.Turns.{IsAmong, handled_in}
 
 -- no more challenges were answered than may be
 abbrev pub IsPatient : State → Type 0
@@ -38,3 +40,11 @@ answers_in turns = length (filter is_answer turns)
 -- counted anew
 abbrev pub IsHeededAmong : List Turn → Type 0
 IsHeededAmong turns = IsAmong (λ one. (is_message one.bytes ≡ true) × IsHeeded one.bytes one.moment one.before) turns
+
+-- each challenge among the turns of the calls is counted where it is answered
+abbrev pub CountsAll : State → List Call → Type 0
+CountsAll s calls = (one : Turn) → Contains (handled_in s calls) one → IsChallengeTurn one → CountsIt one
+
+-- at most nine are answered by the calls, unless challenges are counted anew among them
+abbrev pub AnswersFew : State → List Call → Type 0
+AnswersFew s calls = (answers_in (handled_in s calls) ≤ most_challenges) ⊎ IsHeededAmong (handled_in s calls)

@@ -1,7 +1,9 @@
 -- Which replies count in a run.
 use Rattle.std.specs.Prelude.{◌≡◌, ◌⊎◌, ◌<◌, ◌^◌, ℕ, true, List, [], ◌∷◌, ◌++◌, Some}
+use Rattle.std.specs.List.{Contains}
 use Rattle.std.specs.declared.net.socket_addr.SocketAddr.{SocketAddr}
 use Rattle.turn_stun.specs.Message.{id_of}
+use Rattle.turn_agent.specs.Agent.{is_outstanding}
 use Rattle.turn_client_api.specs.State.{State}
 use Rattle.turn_client_api.specs.Requests.{connection_bind_method, fresh_id, most_taken}
 use Rattle.turn_client_api.specs.Judgement.{bind_judgement, judgement_of, method_in}
@@ -15,7 +17,7 @@ use Rattle.turn_client_api.specs.declared.call.Call.{Call}
 use Rattle.turn_client_api.specs.declared.grant.DataConnection.{DataConnection}
 use Rattle.turn_client_api.specs.declared.state.Phase.TheVariants.{Allocated}
 use Rattle.turn_client_runs.specs.Run.{state_behind}
-use Rattle.turn_client_runs.specs.Turns.{IsAmong}
+use Rattle.turn_client_runs.specs.Turns.{IsAmong, handled_in}
 
 -- The turn is that of a whole message over the control connection, or of a datagram, which is a signed
 -- reply to an outstanding request.
@@ -64,3 +66,12 @@ abbrev pub IsDrawnSince : State → Call → List Call → Turn → Type 0
 IsDrawnSince s call calls one =
     (front later : List Turn) → handled call s ≡ front ++ one ∷ later → IsAwaited one.bytes (state_behind (state_after call s) calls)
     → IsDrawnAmong (id_of one.bytes) (one ∷ later) ⊎ IsDrawnIn (id_of one.bytes) (state_after call s) calls
+
+-- each ID that is outstanding after the calls was so before them, or one of them draws it
+abbrev pub DrawsNewOnesIn : State → List Call → Type 0
+DrawsNewOnesIn s calls =
+    (id : ℕ) → is_outstanding id (state_behind s calls).transactions ≡ true → (is_outstanding id s.transactions ≡ true) ⊎ IsDrawnIn id s calls
+
+-- what holds of each turn of the calls in which a reply is accepted
+abbrev pub EachReply : (Turn → Type 0) → State → List Call → Type 0
+EachReply Q s calls = (one : Turn) → Contains (handled_in s calls) one → IsReplyTurn one → Q one

@@ -1,5 +1,5 @@
 -- What `poll` tells in a run.
-use Rattle.std.specs.Prelude.{◌≤◌, ◌^◌, List, [], ◌∷◌, ⊤}
+use Rattle.std.specs.Prelude.{ℕ, ◌≤◌, ◌^◌, List, [], ◌∷◌, All, ⊤}
 use Rattle.turn_client_api.specs.State.{State}
 use Rattle.turn_client_api.specs.Alarm.{IsTimely}
 use Rattle.turn_client_api.specs.Poll.{poll_step}
@@ -21,3 +21,11 @@ TellsTimely s _ = ⊤
 abbrev pub SleepsThroughNothing : State → List Call → Type 0
 SleepsThroughNothing s [] = ⊤
 SleepsThroughNothing s (call ∷ calls) = TellsTimely s call × SleepsThroughNothing (state_after call s) calls
+
+-- as long as it polls at moments that are not too late
+abbrev pub SleepsInTime : State → List Call → Type 0
+SleepsInTime s calls = All IsPolledInTime calls → SleepsThroughNothing s calls
+
+-- what the client tells, if it is polled next, is timely
+abbrev pub TellsTimelyNext : State → Type 0
+TellsTimelyNext s = (now : ℕ) → now ≤ 2 ^ 62 → TellsTimely s (Poll now)
