@@ -22,11 +22,11 @@ use Rattle.turn_client_api.specs.declared.call.Call.TheVariants.{Recv, PollRecv}
 use Rattle.turn_client_api.specs.declared.state.Mode.{Mode}
 use Rattle.turn_client_api.specs.declared.state.Mode.TheVariants.{Control, Waiting, Bound, Broken}
 use Rattle.turn_client_api.specs.declared.state.Stream.{Stream}
-use Rattle.turn_client_api.proofs.HandledLemmas.{turn-IsLetIn}
+use Rattle.turn_client_api.proofs.HandledLemmas.{poll_recv-Gives, recv-AreOf, turn-IsLetIn}
 use Rattle.turn_client_api.proofs.HasLemmas.{Has, has-append, has-filter_map, has-found, map-has}
 use Rattle.turn_client_api.proofs.StandLemmas.{contains-has, has-contains}
-use Rattle.turn_client_runs.specs.Peers.{IsGivenBy, IsOfLetIn, IsReceived}
-use Rattle.turn_client_runs.specs.Turns.{IsAmong, handled_in, payloads_in}
+use Rattle.turn_client_runs.specs.Peers.{IsGivenBy, IsOfLetIn, IsReceived, TellsOfPermitted}
+use Rattle.turn_client_runs.specs.Turns.{IsAmong, answered, answered_in, handled_in, payloads_in}
 use Rattle.turn_client_runs.proofs.TurnsOfRuns.{among-left, among-right, has-among}
 
 -- ---- the stream of a turn stands in the state just before
@@ -246,3 +246,41 @@ module _ (payload : Payload) where
       by : (Contains (payloads_in (state_after call s) calls) payload → IsReceived payload (state_after call s) calls) → Contains (payloads_by call s) payload ⊎ Contains (payloads_in (state_after call s) calls) payload → IsReceived payload s (call ∷ calls)
       by rest (inl here) = among-left (IsGivenBy payload) (handled call s) more (by-call call s here)
       by rest (inr later) = among-right (IsGivenBy payload) (handled call s) more (rest later)
+
+-- ---- what the calls answer
+
+call-answered : (call : Call) (s : State) → payloads_by call s ≡ answered call s
+call-answered (Recv packet now) s = recv-AreOf packet now s
+call-answered (PollRecv now) s = poll_recv-Gives now s
+call-answered _ s = refl
+
+pub all-answered : (s : State) (calls : List Call) → payloads_in s calls ≡ answered_in s calls
+all-answered s [] = refl
+all-answered s (call ∷ calls) = rw (call-answered call s, all-answered (state_after call s) calls) refl
+
+-- ---- what ICMP told
+
+tells-through : (one : Turn) (o : Outcome) → (made_of one).0 ≡ o → IsLetThrough one.bytes one.before o → TellsOfPermitted one
+tells-through one (PeerIcmp transport peer icmp) e (indicated, is) = rw e indicated.permitted
+tells-through one (PeerData payload) e exact = rw e tt
+tells-through one Handled e exact = rw e tt
+tells-through one Ignored e exact = rw e tt
+
+tells-nothing : (one : Turn) (o : Outcome) → (made_of one).0 ≡ o → IsNobodys o → TellsOfPermitted one
+tells-nothing one (PeerIcmp transport peer icmp) e none = absurd none
+tells-nothing one (PeerData payload) e none = absurd none
+tells-nothing one Handled e none = rw e tt
+tells-nothing one Ignored e none = rw e tt
+
+tells_in_mode : (m : Mode) (stream : Stream) (t : Turn) → IsLetInTurn (record t { stream = Some (record stream { mode = m }) }) → TellsOfPermitted (record t { stream = Some (record stream { mode = m }) })
+tells_in_mode Control stream t exact = let one = record t { stream = Some (record stream { mode = Control }) } in tells-through one (made_of one).0 refl exact
+tells_in_mode Waiting stream t exact = let one = record t { stream = Some (record stream { mode = Waiting }) } in tells-nothing one (made_of one).0 refl exact
+tells_in_mode (Bound peer) stream t exact = tt
+tells_in_mode Broken stream t exact = tt
+
+pub tells-permitted : (one : Turn) → TellsOfPermitted one
+tells-permitted one = by one.stream one (turn-IsLetIn one)
+  where
+    by : (o : Option Stream) (t : Turn) → IsLetInTurn (record t { stream = o }) → TellsOfPermitted (record t { stream = o })
+    by None t exact = let u = record t { stream = None } in tells-through u (made_of u).0 refl exact
+    by (Some stream) t exact = tells_in_mode stream.mode stream t exact
