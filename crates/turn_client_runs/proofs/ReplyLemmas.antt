@@ -1,5 +1,5 @@
 -- In a run a reply that is accepted ends its request.
-use Rattle.std.proofs.Common.{◌≡◌, ◌⊎◌, ◌∙◌, ℕ, true, false, List, [], ◌∷◌, inl, inr, refl, sym, subst}
+use Rattle.std.proofs.Common.{◌++◌, ◌≡◌, ◌⊎◌, ◌∙◌, ℕ, true, false, List, [], ◌∷◌, inl, inr, refl, sym, subst}
 use Rattle.std.specs.declared.net.socket_addr.SocketAddr.{SocketAddr}
 use Rattle.turn_stun.specs.Message.{id_of}
 use Rattle.turn_agent.specs.Agent.{is_outstanding}
@@ -19,10 +19,10 @@ use Rattle.turn_client_api.proofs.HasLemmas.{Has}
 use Rattle.turn_client_api.proofs.NewIdCallLemmas.{draws-IsBringing, leaves-draws}
 use Rattle.turn_client_api.proofs.TurnBringLemmas.{lead-brings}
 use Rattle.turn_client_api.proofs.TurnLemmas.{brought}
-use Rattle.turn_client_runs.specs.Replies.{EndsItForGood, EndsItsRequest, IsBindReply, IsDrawnAmong, IsDrawnIn, IsDrawnSince, IsReplyTurn}
+use Rattle.turn_client_runs.specs.Replies.{AreReplies, IsDrawnBetween, IsDrawnUntil, EndsItForGood, EndsItsRequest, IsBindReply, IsDrawnAmong, IsDrawnIn, IsDrawnSince, IsReplyTurn}
 use Rattle.turn_client_runs.specs.Run.{state_behind}
 use Rattle.turn_client_runs.proofs.MadeLemmas.{control-made, waiting-made}
-use Rattle.turn_client_runs.proofs.TurnsOfRuns.{among-first, among-later, handled-leads, has-among, leads-from}
+use Rattle.turn_client_runs.proofs.TurnsOfRuns.{among-first, among-later, handled-leads, has-among, leads-from, leads-to}
 
 -- ---- one turn
 
@@ -110,3 +110,49 @@ reply-again s call calls one reply front later e awaited = by (drawn-in id (stat
     by (inl out) =
         at_turn (lead-draws id later (made_of one).1 (state_after call s) (leads-from front later one s (state_after call s) (handled-leads call s front later one e)) out)
     by (inr drawn) = inr drawn
+
+-- ---- two replies of one ID
+
+-- the second finds its request outstanding
+second-out : (one other : Turn) → AreReplies one other → is_outstanding (id_of one.bytes) other.before.transactions ≡ true
+second-out one other (first, second, same) =
+    subst (λ (id : ℕ). is_outstanding id other.before.transactions ≡ true) (sym same) (reply-ends other second).0
+
+pub drawn-between : (s : State) (call : Call) → IsDrawnBetween s call
+drawn-between s call one other front between rest replies e = by (lead-draws id between (made_of one).1 other.before lead (second-out one other replies))
+  where
+    id : ℕ
+    id = id_of one.bytes
+
+    all : TurnsLead (front ++ one ∷ (between ++ other ∷ rest)) s (state_after call s)
+    all = handled-leads call s front (between ++ other ∷ rest) one e
+
+    lead : TurnsLead between (made_of one).1 other.before
+    lead = leads-to between rest other (made_of one).1 (state_after call s) (leads-from front (between ++ other ∷ rest) one s (state_after call s) all)
+
+    by : IsAwaited one.bytes (made_of one).1 ⊎ IsDrawnAmong id between → IsDrawnAmong id (one ∷ between)
+    by (inl out) = among-first (Draws id) one between (reply-whole one replies.0, (reply-ends one replies.0).1 out)
+    by (inr drawn) = among-later (Draws id) one between drawn
+
+pub drawn-until : (s : State) (call : Call) (calls : List Call) (last : Call) → IsDrawnUntil s call calls last
+drawn-until s call calls last one other front later before rest replies e f = by (lead-draws id before u other.before lead (second-out one other replies))
+  where
+    id : ℕ
+    id = id_of one.bytes
+
+    u : State
+    u = state_behind (state_after call s) calls
+
+    lead : TurnsLead before u other.before
+    lead = leads-to before rest other u (state_after last u) (handled-leads last u before rest other f)
+
+    Goal : Type 0
+    Goal = IsDrawnAmong id (one ∷ later) ⊎ IsDrawnIn id (state_after call s) calls ⊎ IsDrawnAmong id before
+
+    earlier : IsDrawnAmong id (one ∷ later) ⊎ IsDrawnIn id (state_after call s) calls → Goal
+    earlier (inl drawn) = inl drawn
+    earlier (inr drawn) = inr (inl drawn)
+
+    by : IsAwaited one.bytes u ⊎ IsDrawnAmong id before → Goal
+    by (inl out) = earlier (reply-again s call calls one replies.0 front later e out)
+    by (inr drawn) = inr (inr drawn)

@@ -67,6 +67,24 @@ IsDrawnSince s call calls one =
     (front later : List Turn) → handled call s ≡ front ++ one ∷ later → IsAwaited one.bytes (state_behind (state_after call s) calls)
     → IsDrawnAmong (id_of one.bytes) (one ∷ later) ⊎ IsDrawnIn (id_of one.bytes) (state_after call s) calls
 
+-- both are replies that are accepted, and they have one ID
+abbrev pub AreReplies : Turn → Turn → Type 0
+AreReplies one other = IsReplyTurn one × IsReplyTurn other × (id_of one.bytes ≡ id_of other.bytes)
+
+-- Where a call has the turns of two such replies, the ID was drawn anew between them.
+abbrev pub IsDrawnBetween : State → Call → Type 0
+IsDrawnBetween s call =
+    (one other : Turn) (front between rest : List Turn) → AreReplies one other → handled call s ≡ front ++ one ∷ (between ++ other ∷ rest)
+    → IsDrawnAmong (id_of one.bytes) (one ∷ between)
+
+-- Where a call has the turn of the first, and another, after these calls, that of the second, the ID was drawn
+-- anew between them: in the one call, in the calls between, or in the other before the turn of the second.
+abbrev pub IsDrawnUntil : State → Call → List Call → Call → Type 0
+IsDrawnUntil s call calls last =
+    (one other : Turn) (front later before rest : List Turn) → AreReplies one other → handled call s ≡ front ++ one ∷ later
+    → handled last (state_behind (state_after call s) calls) ≡ before ++ other ∷ rest
+    → IsDrawnAmong (id_of one.bytes) (one ∷ later) ⊎ IsDrawnIn (id_of one.bytes) (state_after call s) calls ⊎ IsDrawnAmong (id_of one.bytes) before
+
 -- each ID that is outstanding after the calls was so before them, or one of them draws it
 abbrev pub DrawsNewOnesIn : State → List Call → Type 0
 DrawsNewOnesIn s calls =
