@@ -1,5 +1,5 @@
 -- In a run a reply that is accepted ends its request.
-use Rattle.std.proofs.Common.{◌++◌, ◌≡◌, ◌⊎◌, ◌∙◌, ℕ, true, false, List, [], ◌∷◌, inl, inr, refl, sym, subst}
+use Rattle.std.proofs.Common.{◌++◌, ◌≡◌, ◌⊎◌, ◌∙◌, ℕ, Bool, true, false, List, [], ◌∷◌, inl, inr, refl, sym, subst, ap}
 use Rattle.std.specs.declared.net.socket_addr.SocketAddr.{SocketAddr}
 use Rattle.turn_stun.specs.Message.{id_of}
 use Rattle.turn_agent.specs.Agent.{is_outstanding}
@@ -7,7 +7,7 @@ use Rattle.turn_client_api.specs.State.{State}
 use Rattle.turn_client_api.specs.Requests.{fresh_id}
 use Rattle.turn_client_api.specs.Judgement.{bind_judgement}
 use Rattle.turn_client_api.specs.Connections.{bind_answered, bind_step}
-use Rattle.turn_client_api.specs.Payloads.{Outcome, is_message}
+use Rattle.turn_client_api.specs.Payloads.{Outcome, is_message, message_step}
 use Rattle.turn_client_api.specs.Handled.{Turn, made_of}
 use Rattle.turn_client_api.specs.LawsHandled.{TurnsLead}
 use Rattle.turn_client_api.specs.LawsReplies.{IsAccepted, IsAwaited, IsDrawn, IsNotAwaited}
@@ -17,12 +17,12 @@ use Rattle.turn_client_api.proofs.AcceptedReplyLemmas.{accepted-ended, accepted-
 use Rattle.turn_client_api.proofs.BoundLemmas.{found-local}
 use Rattle.turn_client_api.proofs.HasLemmas.{Has}
 use Rattle.turn_client_api.proofs.NewIdCallLemmas.{draws-IsBringing, leaves-draws}
-use Rattle.turn_client_api.proofs.TurnBringLemmas.{lead-brings}
+use Rattle.turn_client_api.proofs.TurnBringLemmas.{IsBrought, lead-brings}
 use Rattle.turn_client_api.proofs.TurnLemmas.{brought}
-use Rattle.turn_client_runs.specs.Replies.{AreReplies, IsDrawnBetween, IsDrawnUntil, EndsItForGood, EndsItsRequest, IsBindReply, IsDrawnAmong, IsDrawnIn, IsDrawnSince, IsReplyTurn}
+use Rattle.turn_client_runs.specs.Replies.{AreReplies, EndsItForGood, EndsItsRequest, IsBindReply, IsDrawnAtOnce, IsMadeAmong, IsMadeBetween, IsMadeIn, IsMadeSince, IsMadeUntil, IsReplyTurn, MakesInTurn}
 use Rattle.turn_client_runs.specs.Run.{state_behind}
 use Rattle.turn_client_runs.proofs.MadeLemmas.{control-made, waiting-made}
-use Rattle.turn_client_runs.proofs.TurnsOfRuns.{among-first, among-later, handled-leads, has-among, leads-from, leads-to}
+use Rattle.turn_client_runs.proofs.TurnsOfRuns.{handled-leads, has-among, leads-from, leads-to}
 
 -- ---- one turn
 
@@ -59,57 +59,89 @@ reply-gone one (inl c) few =
     (accepted-gone one.bytes one.moment one.before few c.accepted)
 reply-gone one (inr b) few = bind-reply-ended one b
 
+-- ---- what comes about in a turn did not hold before it
+
+module _ (P : State → Bool) (Did : Turn → Type 0) (k : IsBrought (λ s. P s ≡ true) Did) where
+  abbrev Anew : Turn → Type 0
+  Anew one = (did : Did one) × (P one.before ≡ false) × (P (made_of one).1 ≡ true)
+
+  anew : (one : Turn) (t : State) → (made_of one).1 ≡ t → P t ≡ true → (P one.before ≡ true) ⊎ Did one → (P one.before ≡ true) ⊎ Anew one
+  anew one t made h (inl there) = inl there
+  anew one t made h (inr did) = by (P one.before) refl
+    where
+      by : (b : Bool) → P one.before ≡ b → (P one.before ≡ true) ⊎ Anew one
+      by true e = inl e
+      by false e = inr (did, e, subst (λ (u : State). P u ≡ true) (sym made) h)
+
+  bringing-anew : IsBrought (λ s. P s ≡ true) (λ one. (did : Did one) × (P one.before ≡ false) × (P (made_of one).1 ≡ true))
+  bringing-anew = record {
+    differs = k.differs;
+    message = λ one over whole h.
+        anew one (message_step one.bytes one.moment one.before).1 (ap (λ (p : Outcome × State). p.1) (control-made one over whole)) h (k.message one over whole h);
+    binds = λ one stream of waits whole h.
+        anew one (bind_step stream.local one.bytes one.moment one.before) (waiting-made stream.local one (rw of (waits, refl)) whole) h
+        (k.binds one stream of waits whole h);
+    gone = k.gone;
+    ended = k.ended;
+  }
+
 -- ---- a run
 
 module _ (id : ℕ) where
-  -- an ID is outstanding that was, or that a call draws
-  pub drawn-in : (s : State) (calls : List Call) → is_outstanding id (state_behind s calls).transactions ≡ true → (is_outstanding id s.transactions ≡ true) ⊎ IsDrawnIn id s calls
-  drawn-in s [] h = inl h
-  drawn-in s (call ∷ calls) h = by (drawn-in (state_after call s) calls h)
+  abbrev is_out : State → Bool
+  is_out t = is_outstanding id t.transactions
+
+  -- an ID is outstanding that was, or a call makes a request under it
+  pub made-in : (s : State) (calls : List Call) → is_outstanding id (state_behind s calls).transactions ≡ true → (is_outstanding id s.transactions ≡ true) ⊎ IsMadeIn id s calls
+  made-in s [] h = inl h
+  made-in s (call ∷ calls) h = by (made-in (state_after call s) calls h)
     where
-      first : IsDrawn call id s ⊎ (is_outstanding id s.transactions ≡ true) → (is_outstanding id s.transactions ≡ true) ⊎ IsDrawnIn id s (call ∷ calls)
-      first (inl drawn) = inr (inl drawn)
-      first (inr was) = inl was
+      draws : is_out s ≡ false → IsDrawn call id s ⊎ (is_out s ≡ true) → IsDrawn call id s
+      draws free (inl drawn) = drawn
+      draws free (inr was) = absurd (unlike (sym was ∙ free))
 
-      by : (is_outstanding id (state_after call s).transactions ≡ true) ⊎ IsDrawnIn id (state_after call s) calls → (is_outstanding id s.transactions ≡ true) ⊎ IsDrawnIn id s (call ∷ calls)
-      by (inl there) = first (leaves-draws id call s (state_after call s) (inl refl) there)
-      by (inr drawn) = inr (inr drawn)
+      first : (b : Bool) → is_out s ≡ b → is_out (state_after call s) ≡ true → (is_out s ≡ true) ⊎ IsMadeIn id s (call ∷ calls)
+      first true e out = inl e
+      first false e out = inr (inl (record { drawn = draws e (leaves-draws id call s (state_after call s) (inl refl) out); free = e; made = out }))
 
-  abbrev IsOut : State → Type 0
-  IsOut t = is_outstanding id t.transactions ≡ true
+      by : (is_out (state_after call s) ≡ true) ⊎ IsMadeIn id (state_after call s) calls → (is_out s ≡ true) ⊎ IsMadeIn id s (call ∷ calls)
+      by (inl out) = first (is_out s) refl out
+      by (inr made) = inr (inr made)
 
   abbrev Draws : Turn → Type 0
   Draws one = (is_message one.bytes ≡ true) × (id ≡ fresh_id one.before)
 
   -- so do the turns of a call
-  lead-draws : (turns : List Turn) (s t : State) → TurnsLead turns s t → IsOut t → IsOut s ⊎ IsDrawnAmong id turns
-  lead-draws turns s t lead h = by (lead-brings IsOut Draws (brought IsOut (λ message now t. id ≡ fresh_id t) (draws-IsBringing id)) turns s t lead h)
+  lead-makes : (turns : List Turn) (s t : State) → TurnsLead turns s t → is_out t ≡ true → (is_out s ≡ true) ⊎ IsMadeAmong id turns
+  lead-makes turns s t lead h = by (lead-brings (λ u. is_out u ≡ true) (Anew is_out Draws drawing) (bringing-anew is_out Draws drawing) turns s t lead h)
     where
-      by : IsOut s ⊎ ((one : Turn) × Has one turns × Draws one) → IsOut s ⊎ IsDrawnAmong id turns
+      drawing : IsBrought (λ u. is_out u ≡ true) Draws
+      drawing = brought (λ u. is_out u ≡ true) (λ message now u. id ≡ fresh_id u) (draws-IsBringing id)
+
+      makes : (one : Turn) → Anew is_out Draws drawing one → MakesInTurn id one
+      makes one (did, free, made) = record { whole = did.0; drawn = did.1; free = free; made = made }
+
+      by : (is_out s ≡ true) ⊎ ((one : Turn) × Has one turns × Anew is_out Draws drawing one) → (is_out s ≡ true) ⊎ IsMadeAmong id turns
       by (inl was) = inl was
-      by (inr did) = inr (has-among Draws turns did)
+      by (inr (one, there, did)) = inr (has-among (MakesInTurn id) turns (one, there, makes one did))
 
-reply-whole : (one : Turn) → IsReplyTurn one → is_message one.bytes ≡ true
-reply-whole one (inl c) = c.whole
-reply-whole one (inr b) = b.whole
-
-pub reply-again : (s : State) (call : Call) (calls : List Call) (one : Turn) → IsReplyTurn one → IsDrawnSince s call calls one
-reply-again s call calls one reply front later e awaited = by (drawn-in id (state_after call s) calls awaited)
+pub reply-again : (s : State) (call : Call) (calls : List Call) (one : Turn) → IsReplyTurn one → IsMadeSince s call calls one
+reply-again s call calls one reply front later e awaited = by (made-in id (state_after call s) calls awaited)
   where
     id : ℕ
     id = id_of one.bytes
 
     Goal : Type 0
-    Goal = IsDrawnAmong id (one ∷ later) ⊎ IsDrawnIn id (state_after call s) calls
+    Goal = IsDrawnAtOnce one ⊎ IsMadeAmong id later ⊎ IsMadeIn id (state_after call s) calls
 
-    at_turn : IsAwaited one.bytes (made_of one).1 ⊎ IsDrawnAmong id later → Goal
-    at_turn (inl out) = inl (among-first (Draws id) one later (reply-whole one reply, (reply-ends one reply).1 out))
-    at_turn (inr drawn) = inl (among-later (Draws id) one later drawn)
+    at_turn : IsAwaited one.bytes (made_of one).1 ⊎ IsMadeAmong id later → Goal
+    at_turn (inl out) = inl ((reply-ends one reply).1 out)
+    at_turn (inr made) = inr (inl made)
 
-    by : IsAwaited one.bytes (state_after call s) ⊎ IsDrawnIn id (state_after call s) calls → Goal
+    by : IsAwaited one.bytes (state_after call s) ⊎ IsMadeIn id (state_after call s) calls → Goal
     by (inl out) =
-        at_turn (lead-draws id later (made_of one).1 (state_after call s) (leads-from front later one s (state_after call s) (handled-leads call s front later one e)) out)
-    by (inr drawn) = inr drawn
+        at_turn (lead-makes id later (made_of one).1 (state_after call s) (leads-from front later one s (state_after call s) (handled-leads call s front later one e)) out)
+    by (inr made) = inr (inr made)
 
 -- ---- two replies of one ID
 
@@ -118,8 +150,8 @@ second-out : (one other : Turn) → AreReplies one other → is_outstanding (id_
 second-out one other (first, second, same) =
     subst (λ (id : ℕ). is_outstanding id other.before.transactions ≡ true) (sym same) (reply-ends other second).0
 
-pub drawn-between : (s : State) (call : Call) → IsDrawnBetween s call
-drawn-between s call one other front between rest replies e = by (lead-draws id between (made_of one).1 other.before lead (second-out one other replies))
+pub made-between : (s : State) (call : Call) → IsMadeBetween s call
+made-between s call one other front between rest replies e = by (lead-makes id between (made_of one).1 other.before lead (second-out one other replies))
   where
     id : ℕ
     id = id_of one.bytes
@@ -130,12 +162,12 @@ drawn-between s call one other front between rest replies e = by (lead-draws id 
     lead : TurnsLead between (made_of one).1 other.before
     lead = leads-to between rest other (made_of one).1 (state_after call s) (leads-from front (between ++ other ∷ rest) one s (state_after call s) all)
 
-    by : IsAwaited one.bytes (made_of one).1 ⊎ IsDrawnAmong id between → IsDrawnAmong id (one ∷ between)
-    by (inl out) = among-first (Draws id) one between (reply-whole one replies.0, (reply-ends one replies.0).1 out)
-    by (inr drawn) = among-later (Draws id) one between drawn
+    by : IsAwaited one.bytes (made_of one).1 ⊎ IsMadeAmong id between → IsDrawnAtOnce one ⊎ IsMadeAmong id between
+    by (inl out) = inl ((reply-ends one replies.0).1 out)
+    by (inr made) = inr made
 
-pub drawn-until : (s : State) (call : Call) (calls : List Call) (last : Call) → IsDrawnUntil s call calls last
-drawn-until s call calls last one other front later before rest replies e f = by (lead-draws id before u other.before lead (second-out one other replies))
+pub made-until : (s : State) (call : Call) (calls : List Call) (last : Call) → IsMadeUntil s call calls last
+made-until s call calls last one other front later before rest replies e f = by (lead-makes id before u other.before lead (second-out one other replies))
   where
     id : ℕ
     id = id_of one.bytes
@@ -147,12 +179,13 @@ drawn-until s call calls last one other front later before rest replies e f = by
     lead = leads-to before rest other u (state_after last u) (handled-leads last u before rest other f)
 
     Goal : Type 0
-    Goal = IsDrawnAmong id (one ∷ later) ⊎ IsDrawnIn id (state_after call s) calls ⊎ IsDrawnAmong id before
+    Goal = IsDrawnAtOnce one ⊎ IsMadeAmong id later ⊎ IsMadeIn id (state_after call s) calls ⊎ IsMadeAmong id before
 
-    earlier : IsDrawnAmong id (one ∷ later) ⊎ IsDrawnIn id (state_after call s) calls → Goal
+    earlier : IsDrawnAtOnce one ⊎ IsMadeAmong id later ⊎ IsMadeIn id (state_after call s) calls → Goal
     earlier (inl drawn) = inl drawn
-    earlier (inr drawn) = inr (inl drawn)
+    earlier (inr (inl made)) = inr (inl made)
+    earlier (inr (inr made)) = inr (inr (inl made))
 
-    by : IsAwaited one.bytes u ⊎ IsDrawnAmong id before → Goal
+    by : IsAwaited one.bytes u ⊎ IsMadeAmong id before → Goal
     by (inl out) = earlier (reply-again s call calls one replies.0 front later e out)
-    by (inr drawn) = inr (inr drawn)
+    by (inr made) = inr (inr (inr made))

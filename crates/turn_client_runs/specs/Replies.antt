@@ -1,5 +1,5 @@
 -- Which replies count in a run.
-use Rattle.std.specs.Prelude.{◌≡◌, ◌⊎◌, ◌<◌, ◌^◌, ℕ, true, List, [], ◌∷◌, ◌++◌, Some}
+use Rattle.std.specs.Prelude.{◌≡◌, ◌⊎◌, ◌<◌, ◌^◌, ℕ, true, false, List, [], ◌∷◌, ◌++◌, Some}
 use Rattle.std.specs.List.{Contains}
 use Rattle.std.specs.declared.net.socket_addr.SocketAddr.{SocketAddr}
 use Rattle.turn_stun.specs.Message.{id_of}
@@ -51,44 +51,65 @@ EndsItsRequest one =
 abbrev pub EndsItForGood : Turn → Type 0
 EndsItForGood one = most_taken one.before < 2 ^ 96 → IsNotAwaited one.bytes (made_of one).1
 
--- one of these turns, which is that of a whole message, draws the ID
-abbrev pub IsDrawnAmong : ℕ → List Turn → Type 0
-IsDrawnAmong id turns = IsAmong (λ one. (is_message one.bytes ≡ true) × (id ≡ fresh_id one.before)) turns
+-- ---- new requests under an ID
 
--- one of these calls draws the ID
-abbrev pub IsDrawnIn : ℕ → State → List Call → Type 0
-IsDrawnIn id s [] = ⊥
-IsDrawnIn id s (call ∷ calls) = IsDrawn call id s ⊎ IsDrawnIn id (state_after call s) calls
+-- The turn is that of a whole message, in answer to which a request is made under this ID: the next one when the
+-- turn comes. None was outstanding under it before, and one is after the turn.
+pub record MakesInTurn (id : ℕ) (one : Turn) : Type 0 where
+  pub whole : is_message one.bytes ≡ true
+  pub drawn : id ≡ fresh_id one.before
+  pub free : is_outstanding id one.before.transactions ≡ false
+  pub made : is_outstanding id (made_of one).1.transactions ≡ true
 
--- Where a call has the turn of the reply, and its request is outstanding after it and these further calls, the
--- ID was drawn anew since: by the turn itself or a later one of the call, or by a further call.
-abbrev pub IsDrawnSince : State → Call → List Call → Turn → Type 0
-IsDrawnSince s call calls one =
+-- The call draws this ID for a request. None was outstanding under it before the call, and one is after it.
+pub record MakesInCall (id : ℕ) (call : Call) (s : State) : Type 0 where
+  pub drawn : IsDrawn call id s
+  pub free : is_outstanding id s.transactions ≡ false
+  pub made : is_outstanding id (state_after call s).transactions ≡ true
+
+-- one of these turns makes a request under the ID
+abbrev pub IsMadeAmong : ℕ → List Turn → Type 0
+IsMadeAmong id turns = IsAmong (MakesInTurn id) turns
+
+-- one of these calls does
+abbrev pub IsMadeIn : ℕ → State → List Call → Type 0
+IsMadeIn id s [] = ⊥
+IsMadeIn id s (call ∷ calls) = MakesInCall id call s ⊎ IsMadeIn id (state_after call s) calls
+
+-- the ID of the reply is drawn anew in its own turn, which is not so while fewer IDs are taken than there are
+abbrev pub IsDrawnAtOnce : Turn → Type 0
+IsDrawnAtOnce one = id_of one.bytes ≡ fresh_id one.before
+
+-- Where a call has the turn of the reply, and its ID is outstanding after it and these further calls, a new request
+-- was made under it since: by a later turn of the call, or by a further call, unless it was drawn at once.
+abbrev pub IsMadeSince : State → Call → List Call → Turn → Type 0
+IsMadeSince s call calls one =
     (front later : List Turn) → handled call s ≡ front ++ one ∷ later → IsAwaited one.bytes (state_behind (state_after call s) calls)
-    → IsDrawnAmong (id_of one.bytes) (one ∷ later) ⊎ IsDrawnIn (id_of one.bytes) (state_after call s) calls
+    → IsDrawnAtOnce one ⊎ IsMadeAmong (id_of one.bytes) later ⊎ IsMadeIn (id_of one.bytes) (state_after call s) calls
 
 -- both are replies that are accepted, and they have one ID
 abbrev pub AreReplies : Turn → Turn → Type 0
 AreReplies one other = IsReplyTurn one × IsReplyTurn other × (id_of one.bytes ≡ id_of other.bytes)
 
--- Where a call has the turns of two such replies, the ID was drawn anew between them.
-abbrev pub IsDrawnBetween : State → Call → Type 0
-IsDrawnBetween s call =
+-- Where a call has the turns of two such replies, a new request was made under the ID between them.
+abbrev pub IsMadeBetween : State → Call → Type 0
+IsMadeBetween s call =
     (one other : Turn) (front between rest : List Turn) → AreReplies one other → handled call s ≡ front ++ one ∷ (between ++ other ∷ rest)
-    → IsDrawnAmong (id_of one.bytes) (one ∷ between)
+    → IsDrawnAtOnce one ⊎ IsMadeAmong (id_of one.bytes) between
 
--- Where a call has the turn of the first, and another, after these calls, that of the second, the ID was drawn
--- anew between them: in the one call, in the calls between, or in the other before the turn of the second.
-abbrev pub IsDrawnUntil : State → Call → List Call → Call → Type 0
-IsDrawnUntil s call calls last =
+-- So it is where a call has the turn of the first, and another, after these calls, that of the second: the request
+-- was made in the one call, in the calls between, or in the other before the turn of the second.
+abbrev pub IsMadeUntil : State → Call → List Call → Call → Type 0
+IsMadeUntil s call calls last =
     (one other : Turn) (front later before rest : List Turn) → AreReplies one other → handled call s ≡ front ++ one ∷ later
     → handled last (state_behind (state_after call s) calls) ≡ before ++ other ∷ rest
-    → IsDrawnAmong (id_of one.bytes) (one ∷ later) ⊎ IsDrawnIn (id_of one.bytes) (state_after call s) calls ⊎ IsDrawnAmong (id_of one.bytes) before
+    → IsDrawnAtOnce one ⊎ IsMadeAmong (id_of one.bytes) later
+    ⊎ IsMadeIn (id_of one.bytes) (state_after call s) calls ⊎ IsMadeAmong (id_of one.bytes) before
 
--- each ID that is outstanding after the calls was so before them, or one of them draws it
-abbrev pub DrawsNewOnesIn : State → List Call → Type 0
-DrawsNewOnesIn s calls =
-    (id : ℕ) → is_outstanding id (state_behind s calls).transactions ≡ true → (is_outstanding id s.transactions ≡ true) ⊎ IsDrawnIn id s calls
+-- each ID that is outstanding after the calls was so before them, or one of them makes a request under it
+abbrev pub MakesNewOnesIn : State → List Call → Type 0
+MakesNewOnesIn s calls =
+    (id : ℕ) → is_outstanding id (state_behind s calls).transactions ≡ true → (is_outstanding id s.transactions ≡ true) ⊎ IsMadeIn id s calls
 
 -- what holds of each turn of the calls in which a reply is accepted
 abbrev pub EachReply : (Turn → Type 0) → State → List Call → Type 0
