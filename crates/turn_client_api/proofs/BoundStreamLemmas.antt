@@ -65,7 +65,7 @@ module _ (local peer : SocketAddr) where
   gone-bound a s = same-bound s (connection_gone a s) (same-cond (is_some (connection_at a s)) s _ _ refl refl)
 
   -- a stream is bound that was, or a turn bound it
-  bringing : IsBrought (IsBoundAt local peer) (IsBindTurn local peer)
+  pub bringing : IsBrought (IsBoundAt local peer) (IsBindTurn local peer)
   bringing = record {
     differs = λ s t differs. differs.bound local peer;
     message = λ one over whole h. inl (same-bound one.before (message_step one.bytes one.moment one.before).1 (message-same one.bytes one.moment one.before) h);

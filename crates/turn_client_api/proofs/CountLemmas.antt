@@ -80,7 +80,7 @@ never : {X : Type 0} → X ⊎ ⊥ → X
 never (inl x) = x
 never (inr none) = absurd none
 
-bringing : (n : ℕ) → IsBringing (Fewer n) IsHeeded
+pub bringing : (n : ℕ) → IsBringing (Fewer n) IsHeeded
 bringing n = record {
   streams = λ s streams fewer. fewer;
   message = λ message now s is fewer.

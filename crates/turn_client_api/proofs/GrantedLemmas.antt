@@ -128,7 +128,7 @@ bind-covers one stream g t of waits whole b (is, there, kept) = by (has-mapped (
         at (inr (c, connection, ends)) = inr (bound c g ends (rw connection at kept))
 
 -- of each grant: it stood, or a turn granted it
-bringing : (g : Grant) → IsBrought (λ s. Covers s.grants g) (IsGrantedIn g)
+pub bringing : (g : Grant) → IsBrought (λ s. Covers s.grants g) (IsGrantedIn g)
 bringing g = record {
   differs = λ s t differs covers. subst (λ (x : List Grant). Covers x g) (ap (λ (x : State). x.grants) differs.others) covers;
   message = control-grants g;

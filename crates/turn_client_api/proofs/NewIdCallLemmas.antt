@@ -207,7 +207,7 @@ module _ (id : ℕ) where
 
   -- ---- all of them
 
-  draws-IsBringing : IsBringing (λ t. is_outstanding id t.transactions ≡ true) (λ message now t. id ≡ fresh_id t)
+  pub draws-IsBringing : IsBringing (λ t. is_outstanding id t.transactions ≡ true) (λ message now t. id ≡ fresh_id t)
   draws-IsBringing = record {
     streams = λ s streams h. h;
     message = λ message now s is. message-draws id message now s;

@@ -76,7 +76,7 @@ module _ (P : State → Type 0) (Did : Turn → Type 0) (k : IsBrought P Did) wh
   abbrev Among : List Turn → Type 0
   Among turns = (one : Turn) × Has one turns × Did one
 
-  lead-brings : (turns : List Turn) (s t : State) → TurnsLead turns s t → P t → P s ⊎ Among turns
+  pub lead-brings : (turns : List Turn) (s t : State) → TurnsLead turns s t → P t → P s ⊎ Among turns
   lead-brings [] s t lead h = inl (k.differs s t lead h)
   lead-brings (one ∷ later) s t (first, lead) h = by (lead-brings later (made_of one).1 t lead h)
     where

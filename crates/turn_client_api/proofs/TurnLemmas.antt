@@ -30,7 +30,7 @@ module _ (P : State → Type 0) (Did : Deed) (k : IsBringing P Did) where
   whole-did one whole (inl there) = inl there
   whole-did one whole (inr did) = inr (whole, did)
 
-  brought : IsBrought P DidIn
+  pub brought : IsBrought P DidIn
   brought = record {
     differs = λ s t differs h. k.streams s t.streams (subst P differs.others h);
     message = λ one over whole h. whole-did one whole (k.message one.bytes one.moment one.before whole h);

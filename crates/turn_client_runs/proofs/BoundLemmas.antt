@@ -1,0 +1,246 @@
+-- What is bound after a run was bound by a turn of it.
+use Rattle.std.proofs.Common.{◌≡◌, ◌⊎◌, ◌∙◌, eqb, ℕ, Bool, true, false, List, [], ◌∷◌, ◌++◌, Option, Some, None, inl, inr, refl, sym, subst, ap}
+use Rattle.std.specs.List.{Contains}
+use Rattle.std.specs.declared.net.socket_addr.SocketAddr.{SocketAddr}
+use Rattle.turn_stun.specs.declared.transport.TransportType.{TransportType}
+use Rattle.turn_stun.specs.declared.transport.TransportType.TheVariants.{Udp, Tcp}
+use Rattle.turn_client_api.specs.Config.{Config}
+use Rattle.turn_client_api.specs.State.{State, first_streams, initial}
+use Rattle.turn_client_api.specs.Requests.{connection_bind_method}
+use Rattle.turn_client_api.specs.Judgement.{bind_judgement, method_in}
+use Rattle.turn_client_api.specs.Connections.{bind_answered, bind_step, connection_at}
+use Rattle.turn_client_api.specs.Payloads.{is_message}
+use Rattle.turn_client_api.specs.Handled.{Turn, handled, made_of}
+use Rattle.turn_client_api.specs.LawsBound.{IsBindTurn, IsBoundConnection, IsConnectedBy, IsConnecting}
+use Rattle.turn_client_api.specs.LawsGranted.{Stood}
+use Rattle.turn_client_api.specs.LawsHandled.{IsBoundAt, IsDoneBy, IsOverControl, IsOverWaiting, TakesTurns}
+use Rattle.turn_client_api.specs.LawsReplies.{IsAccepted, IsNotAwaited}
+use Rattle.turn_client_api.specs.Steps.{state_after}
+use Rattle.turn_client_api.specs.declared.call.Call.{Call}
+use Rattle.turn_client_api.specs.declared.grant.DataConnection.{DataConnection}
+use Rattle.turn_client_api.specs.declared.grant.Grant.TheVariants.{Allocation, Permission, Channel, Connect, Offer, Connection}
+use Rattle.turn_client_api.specs.declared.grant.Progress.TheVariants.{Pending, Active, Reserved}
+use Rattle.turn_client_api.specs.declared.state.Mode.TheVariants.{Control, Waiting, Bound}
+use Rattle.turn_client_api.specs.declared.state.Phase.{Phase}
+use Rattle.turn_client_api.specs.declared.state.Phase.TheVariants.{New, Requesting, Authenticating, Allocated, Closed}
+use Rattle.turn_client_api.specs.declared.state.Stream.{Stream}
+use Rattle.turn_client_api.proofs.AcceptedReplyLemmas.{bind-ended}
+use Rattle.turn_client_api.proofs.BoundStreamLemmas as Streams
+use Rattle.turn_client_api.proofs.GrantOriginCallLemmas.{Binds, BindsOrLeaves, bind-leaves}
+use Rattle.turn_client_api.proofs.GrantedLemmas as Grants
+use Rattle.turn_client_api.proofs.StandLemmas as Stand
+use Rattle.turn_client_api.proofs.StandLemmas.{Covers, contains-has, covers-has, covers-left, covers-stood}
+use Rattle.turn_client_api.proofs.TurnBringLemmas.{IsBrought, leaves-bring}
+use Rattle.turn_client_runs.specs.Bound.{BoundConnectionsHaveSuccess, BoundStreamsHaveSuccess, HasConnectionSuccess, HasSuccess, IsAnswered, StreamsAreBoundBefore}
+use Rattle.turn_client_runs.specs.Run.{state_behind}
+use Rattle.turn_client_runs.specs.Turns.{IsAmong, handled_in}
+use Rattle.turn_client_runs.proofs.MadeLemmas.{waiting-made}
+use Rattle.turn_client_runs.proofs.TurnsOfRuns.{among-none, run-brings, takes-or, turn-brought}
+
+-- ---- a turn that binds ends its request
+
+-- a message of a connection does nothing, or is answered
+abbrev DoesOrNot : SocketAddr → List ℕ → ℕ → State → Type 0
+DoesOrNot local message now s =
+    (bind_step local message now s ≡ s)
+    ⊎ ((c : DataConnection) × (connection_at local s ≡ Some c) × (bind_step local message now s ≡ bind_answered c message now s))
+
+bind-does : (local : SocketAddr) (message : List ℕ) (now : ℕ) (s : State) → DoesOrNot local message now s
+bind-does local message now s = by s.phase refl (connection_at local s) refl (eqb (method_in message) connection_bind_method) refl
+  where
+    by : (p : Phase) → s.phase ≡ p → (o : Option DataConnection) → connection_at local s ≡ o → (b : Bool) → eqb (method_in message) connection_bind_method ≡ b → DoesOrNot local message now s
+    by New e o f b g = inl (rw e refl)
+    by Requesting e o f b g = inl (rw e refl)
+    by Authenticating e o f b g = inl (rw e refl)
+    by Closed e o f b g = inl (rw e refl)
+    by Allocated e None f b g = inl (rw (e, f) refl)
+    by Allocated e (Some c) f true g = inr (c, f, rw (e, f, g) refl)
+    by Allocated e (Some c) f false g = inl (rw (e, f, g) refl)
+
+-- where it binds, its request is ended
+binds-ended : (local : SocketAddr) (message : List ℕ) (now : ℕ) (s : State) → Binds local message s (bind_step local message now s) → (bind_step local message now s ≡ s) ⊎ IsNotAwaited message (bind_step local message now s)
+binds-ended local message now s b = by (bind-does local message now s)
+  where
+    one : (c : DataConnection) → Some b.c ≡ Some c → b.c ≡ c
+    one c e = cc
+
+    accepted : IsAccepted (bind_judgement s b.c.local message)
+    accepted = rw b.judged tt
+
+    by : DoesOrNot local message now s → (bind_step local message now s ≡ s) ⊎ IsNotAwaited message (bind_step local message now s)
+    by (inl same) = inl same
+    by (inr (c, found, answered)) =
+        let is : b.c ≡ c = one c (sym b.found ∙ found) in
+        inr (rw answered (subst (λ (d : DataConnection). IsNotAwaited message (bind_answered d message now s)) is (bind-ended b.c message now s accepted)))
+
+-- no turn is over both
+not_both : (local : SocketAddr) (one : Turn) → IsOverControl one → IsOverWaiting local one → ⊥
+not_both local one control waiting = by one.stream refl
+  where
+    unlike : Control ≡ Waiting → ⊥
+    unlike e = cc
+
+    by : (o : Option Stream) → one.stream ≡ o → ⊥
+    by None e = rw e at waiting
+    by (Some stream) e =
+        let c : stream.mode ≡ Control = rw e at control in
+        let (w, ends) : (stream.mode ≡ Waiting) × (stream.local ≡ local) = rw e at waiting in
+        unlike (sym c ∙ w)
+
+-- ---- what only a turn over a waiting connection brings about ends its request there
+
+module _ (P : State → Type 0) (Did : Turn → Type 0) (k : IsBrought P Did) (waits : (one : Turn) → Did one → (local : SocketAddr) × IsOverWaiting local one) (spares : (s t : State) → Stand.Leaves s t → t.streams ≡ s.streams → P t → P s) where
+  abbrev Ends : Turn → Type 0
+  Ends one = Did one × IsAnswered one
+
+  bind-ends : (one : Turn) (stream : Stream) → one.stream ≡ Some stream → stream.mode ≡ Waiting → is_message one.bytes ≡ true → P (bind_step stream.local one.bytes one.moment one.before) → P one.before ⊎ Ends one
+  bind-ends one stream of mode whole h = by (bind-leaves stream.local one.bytes one.moment one.before)
+    where
+      t : State
+      t = bind_step stream.local one.bytes one.moment one.before
+
+      made : (made_of one).1 ≡ t
+      made = waiting-made stream.local one (rw of (mode, refl)) whole
+
+      did : IsNotAwaited one.bytes t → P one.before ⊎ Did one → P one.before ⊎ Ends one
+      did ended (inl there) = inl there
+      did ended (inr does) = inr (does, subst (λ (u : State). IsNotAwaited one.bytes u) (sym made) ended)
+
+      bound : (t ≡ one.before) ⊎ IsNotAwaited one.bytes t → P one.before ⊎ Ends one
+      bound (inl same) = inl (subst P same h)
+      bound (inr ended) = did ended (k.binds one stream of mode whole h)
+
+      by : BindsOrLeaves stream.local one.bytes one.before t → P one.before ⊎ Ends one
+      by (inl b) = bound (binds-ended stream.local one.bytes one.moment one.before b)
+      by (inr (leaves, same)) = inl (spares one.before t leaves same h)
+
+  pub bringing-ends : IsBrought P (λ one. Did one × IsAnswered one)
+  bringing-ends = record {
+    differs = k.differs;
+    message = λ one over whole h. control one over (k.message one over whole h);
+    binds = bind-ends;
+    gone = k.gone;
+    ended = k.ended;
+  }
+    where
+      control : (one : Turn) → IsOverControl one → P one.before ⊎ Did one → P one.before ⊎ Ends one
+      control one over (inl there) = inl there
+      control one over (inr did) = let (local, waiting) = waits one did in absurd (not_both local one over waiting)
+
+  -- what no other call brings about
+  module _ (others : (call : Call) (s : State) → P (state_after call s) → P s ⊎ IsDoneBy Did call s) where
+    pub call-ends : (call : Call) (s : State) → P (state_after call s) → P s ⊎ IsDoneBy (λ one. Did one × IsAnswered one) call s
+    call-ends call s h = by (leaves-bring P Ends bringing-ends (λ call s. ⊥) other call s (state_after call s) (inl refl) h)
+      where
+        none : (call : Call) (s : State) → ((u : State) → handled call u ≡ []) → P s ⊎ IsDoneBy Did call s → P s ⊎ ⊥
+        none call s nothing (inl there) = inl there
+        none call s nothing (inr did) = absurd (among-none Did (subst (λ (turns : List Turn). IsAmong Did turns) (nothing s) did))
+
+        other : (call : Call) (s : State) → (TakesTurns call → ⊥) → P (state_after call s) → P s ⊎ ⊥
+        other call s no_turns there = at (takes-or call)
+          where
+            at : TakesTurns call ⊎ ((u : State) → handled call u ≡ []) → P s ⊎ ⊥
+            at (inl takes) = absurd (no_turns takes)
+            at (inr nothing) = none call s nothing (others call s there)
+
+        by : P s ⊎ ⊥ ⊎ IsDoneBy Ends call s → P s ⊎ IsDoneBy Ends call s
+        by (inl there) = inl there
+        by (inr (inl no_other)) = absurd no_other
+        by (inr (inr did)) = inr did
+
+-- ---- streams
+
+second : {A B : Type 0} → (A → ⊥) → A ⊎ B → B
+second none (inl a) = absurd (none a)
+second none (inr b) = b
+
+module _ (local peer : SocketAddr) where
+  abbrev IsBoundTo : State → Type 0
+  IsBoundTo s = IsBoundAt local peer s
+
+  abbrev BindsIt : Turn → Type 0
+  BindsIt one = IsBindTurn local peer one
+
+  waits : (one : Turn) → BindsIt one → (at : SocketAddr) × IsOverWaiting at one
+  waits one bind = (local, bind.over)
+
+  spares : (s t : State) → Stand.Leaves s t → t.streams ≡ s.streams → IsBoundTo t → IsBoundTo s
+  spares s t leaves same (x, there, at, mode) = (x, subst (λ (xs : List Stream). Contains xs x) same there, at, mode)
+
+  others : (call : Call) (s : State) → IsBoundTo (state_after call s) → IsBoundTo s ⊎ IsDoneBy BindsIt call s
+  others call s h = Streams.leaves-bound local peer call s (state_after call s) (inl refl) h
+
+  -- a call binds a stream by such a turn
+  stream-ends : (call : Call) (s : State) → IsBoundTo (state_after call s) → IsBoundTo s ⊎ IsDoneBy (λ one. BindsIt one × IsAnswered one) call s
+  stream-ends = call-ends IsBoundTo BindsIt (Streams.bringing local peer) waits spares others
+
+  streams-after : (s : State) (calls : List Call) → (IsBoundTo s → ⊥) → IsBoundTo (state_behind s calls) → HasSuccess local peer (handled_in s calls)
+  streams-after s calls none h = second none (run-brings IsBoundTo (λ one. BindsIt one × IsAnswered one) stream-ends s calls h)
+
+  streams-before : (s : State) (calls : List Call) (earlier later : List Turn) (one : Turn) → (IsBoundTo s → ⊥) → handled_in s calls ≡ earlier ++ one ∷ later → IsBoundTo one.before → HasSuccess local peer earlier
+  streams-before s calls earlier later one none e h =
+      second none (turn-brought IsBoundTo (λ one. BindsIt one × IsAnswered one) (bringing-ends IsBoundTo BindsIt (Streams.bringing local peer) waits spares) stream-ends s calls earlier later one e h)
+
+  -- no stream of a new client is bound
+  initial-unbound : (transport : TransportType) (own remote : SocketAddr) (config : Config) (seed : List ℕ) → IsBoundTo (initial transport own remote config seed) → ⊥
+  initial-unbound Udp own remote config seed (x, there, at, mode) = contains-has x [] there
+  initial-unbound Tcp own remote config seed (x, there, at, mode) = by (contains-has x (first_streams Tcp own) there)
+    where
+      unlike : Control ≡ Bound peer → ⊥
+      unlike e = cc
+
+      by : (x ≡ record { local = own; mode = Control; bytes = [] }) ⊎ ⊥ → ⊥
+      by (inl e) = unlike (sym (ap (λ (z : Stream). z.mode) e) ∙ mode)
+      by (inr none) = none
+
+pub streams-have-success : (transport : TransportType) (own remote : SocketAddr) (config : Config) (seed : List ℕ) (calls : List Call) → BoundStreamsHaveSuccess (initial transport own remote config seed) calls
+streams-have-success transport own remote config seed calls local peer h =
+    streams-after local peer (initial transport own remote config seed) calls (initial-unbound local peer transport own remote config seed) h
+
+pub streams-are-bound-before : (transport : TransportType) (own remote : SocketAddr) (config : Config) (seed : List ℕ) (calls : List Call) → StreamsAreBoundBefore (initial transport own remote config seed) calls
+streams-are-bound-before transport own remote config seed calls earlier later one local peer e h =
+    streams-before local peer (initial transport own remote config seed) calls earlier later one (initial-unbound local peer transport own remote config seed) e h
+
+-- ---- data connections
+
+module _ (c : DataConnection) where
+  abbrev IsOpen : State → Type 0
+  IsOpen s = Covers s.grants (Connection c)
+
+  open-bound : (s : State) → IsOpen s → IsBoundConnection c s
+  open-bound s stands = by (covers-stood s (Connection c) stands)
+    where
+      by : Stood s (Connection c) → IsBoundConnection c s
+      by (Connection d, before, (same, none)) = (subst (λ (x : DataConnection). Contains s.grants (Connection x)) same before, subst (λ (x : DataConnection). x.deadline ≡ None) same none)
+      by (Allocation a, before, k) = absurd k
+      by (Permission ip Pending, before, k) = absurd k
+      by (Permission ip (Active expiry), before, k) = absurd k
+      by (Permission ip (Reserved until), before, k) = absurd k
+      by (Channel number peer Pending, before, k) = absurd k
+      by (Channel number peer (Active expiry), before, k) = absurd k
+      by (Channel number peer (Reserved until), before, k) = absurd k
+      by (Connect peer, before, k) = absurd k
+      by (Offer offer, before, k) = absurd k
+
+  bound-open : (s : State) → IsBoundConnection c s → IsOpen s
+  bound-open s (there, none) = covers-has s.grants (Connection c) (contains-has (Connection c) s.grants there) none
+
+  connection-others : (call : Call) (s : State) → IsOpen (state_after call s) → IsOpen s ⊎ IsDoneBy (IsConnecting c) call s
+  connection-others call s stands = by (Streams.leaves-connection call s (state_after call s) c (inl refl) (open-bound (state_after call s) stands))
+    where
+      by : IsConnectedBy c call s → IsOpen s ⊎ IsDoneBy (IsConnecting c) call s
+      by (inl was) = inl (bound-open s was)
+      by (inr did) = inr did
+
+  connection-ends : (call : Call) (s : State) → IsOpen (state_after call s) → IsOpen s ⊎ IsDoneBy (λ one. IsConnecting c one × IsAnswered one) call s
+  connection-ends = call-ends IsOpen (IsConnecting c) (Grants.bringing (Connection c)) (λ one did. (c.local, did.1.over)) (λ s t leaves same. covers-left s.grants t.grants (Connection c) leaves) connection-others
+
+  connection-after : (s : State) (calls : List Call) → s.grants ≡ [] → IsBoundConnection c (state_behind s calls) → HasConnectionSuccess c (handled_in s calls)
+  connection-after s calls none h = by (run-brings IsOpen (λ one. IsConnecting c one × IsAnswered one) connection-ends s calls (bound-open (state_behind s calls) h))
+    where
+      by : IsOpen s ⊎ HasConnectionSuccess c (handled_in s calls) → HasConnectionSuccess c (handled_in s calls)
+      by (inl (is, there, kept)) = absurd (rw none at there)
+      by (inr among) = among
+
+pub connections-have-success : (transport : TransportType) (own remote : SocketAddr) (config : Config) (seed : List ℕ) (calls : List Call) → BoundConnectionsHaveSuccess (initial transport own remote config seed) calls
+connections-have-success transport own remote config seed calls c h = connection-after c (initial transport own remote config seed) calls refl h

@@ -1,0 +1,149 @@
+-- Challenges in a run.
+use Rattle.std.proofs.Common.{◌≡◌, ◌⊎◌, ◌∙◌, ◌<◌, ◌≤◌, ◌+◌, ltb, ℕ, Bool, true, false, List, [], ◌∷◌, ◌++◌, Some, inl, inr, refl, sym, subst, ap, arith}
+use Rattle.std.proofs.lemmas.Bool.{ltb-true, ltb-false}
+use Rattle.turn_auth.specs.LongTerm.{Challenge}
+use Rattle.turn_client_api.specs.State.{State}
+use Rattle.turn_client_api.specs.Payloads.{Outcome, is_message}
+use Rattle.turn_client_api.specs.Handled.{Turn, handled, made_of}
+use Rattle.turn_client_api.specs.LawsHandled.{DoesTurns, TakesTurns, TurnsLead}
+use Rattle.turn_client_api.specs.LawsReplies.{IsHeeded}
+use Rattle.turn_client_api.specs.LawsStates.{HoldsAtFirst, StaysInCalls}
+use Rattle.turn_client_api.specs.LawsSteps.{IsCounted, KeepsRealm}
+use Rattle.turn_client_api.specs.Retry.{most_challenges}
+use Rattle.turn_client_api.specs.Steps.{state_after}
+use Rattle.turn_client_api.specs.declared.call.Call.{Call}
+use Rattle.turn_client_api.proofs.CountLemmas.{bringing, leaves-heeded}
+use Rattle.turn_client_api.proofs.PhasesGoOn.{challenge-IsCounted, leaves-keeps}
+use Rattle.turn_client_api.proofs.TurnBringLemmas.{turn-brings}
+use Rattle.turn_client_api.proofs.TurnChainLemmas.{calls-do}
+use Rattle.turn_client_api.proofs.TurnLemmas.{brought}
+use Rattle.turn_client_runs.specs.Challenges.{CountsIt, IsChallengeTurn, IsHeededAmong, IsPatient, answers_in, is_answer}
+use Rattle.turn_client_runs.specs.Holds.{Reaches}
+use Rattle.turn_client_runs.specs.Run.{state_behind}
+use Rattle.turn_client_runs.specs.Turns.{handled_in}
+use Rattle.turn_client_runs.proofs.HoldLemmas.{kept-behind}
+use Rattle.turn_client_runs.proofs.MadeLemmas.{control-made}
+use Rattle.turn_client_runs.proofs.TurnsOfRuns.{among-first, among-later, among-left, among-right, takes-or}
+
+-- ---- what is held
+
+pub realm-stays : (s : State) (calls : List Call) (t : State) → Reaches s calls t → KeepsRealm s t
+realm-stays s [] t same = λ c held. (c, rw same held, refl, refl)
+realm-stays s (call ∷ calls) t (u, leaves, more) = λ c held. by c (realm-stays u calls t more) (first c held)
+  where
+    first : KeepsRealm s u
+    first = (leaves-keeps call s u leaves).2
+
+    by : (c : Challenge) → KeepsRealm u t → (d : Challenge) × (u.held ≡ Some d) × (d.realm ≡ c.realm) × (d.algorithm ≡ c.algorithm)
+        → (e : Challenge) × (t.held ≡ Some e) × (e.realm ≡ c.realm) × (e.algorithm ≡ c.algorithm)
+    by c rest (d, held, realm, algorithm) =
+        let (e, last, same_realm, same_algorithm) = rest d held in
+        (e, last, same_realm ∙ realm, same_algorithm ∙ algorithm)
+
+-- ---- how many are answered
+
+pub initial-patient : HoldsAtFirst IsPatient
+initial-patient transport local remote config seed = omega arith
+
+pub leaves-patient : StaysInCalls IsPatient
+leaves-patient call s t leaves = (leaves-keeps call s t leaves).1
+
+pub challenge-counts : (one : Turn) → IsChallengeTurn one → CountsIt one
+challenge-counts one c =
+    subst (λ (p : Outcome × State). IsCounted one.before p.1) (sym (control-made one c.over c.whole))
+    (challenge-IsCounted one.bytes one.moment one.before c.challenge c.judged)
+
+-- ---- how many in a row
+
+abbrev IsHeededIn : Turn → Type 0
+IsHeededIn one = (is_message one.bytes ≡ true) × IsHeeded one.bytes one.moment one.before
+
+-- a turn makes the count no less, or is heeded
+turn-grows : (one : Turn) → (one.before.challenges ≤ (made_of one).1.challenges) ⊎ IsHeededIn one
+turn-grows one = by (ltb (made_of one).1.challenges n) refl
+  where
+    n : ℕ
+    n = one.before.challenges
+
+    Fewer : State → Type 0
+    Fewer s = s.challenges < n
+
+    did : Fewer one.before ⊎ IsHeededIn one → (n ≤ (made_of one).1.challenges) ⊎ IsHeededIn one
+    did (inl less) = absurd (omega (arith, less))
+    did (inr heeded) = inr heeded
+
+    by : (b : Bool) → ltb (made_of one).1.challenges n ≡ b → (n ≤ (made_of one).1.challenges) ⊎ IsHeededIn one
+    by true e = did (turn-brings (λ s. s.challenges < n) IsHeededIn (brought (λ s. s.challenges < n) IsHeeded (bringing n)) one (ltb-true (made_of one).1.challenges n e))
+    by false e = inl (ltb-false (made_of one).1.challenges n e)
+
+-- the count grows by each answer, or one of these turns is heeded
+abbrev Counts : State → State → List Turn → Type 0
+Counts s t turns = (s.challenges + answers_in turns ≤ t.challenges) ⊎ IsHeededAmong turns
+
+lead-counts : (turns : List Turn) (s t : State) → TurnsLead turns s t → Counts s t turns
+lead-counts [] s t lead = let same : t.challenges ≡ s.challenges = ap (λ (x : State). x.challenges) lead.others in inl (omega (arith, same))
+lead-counts (one ∷ later) s t (first, lead) = by (lead-counts later (made_of one).1 t lead) (turn-grows one)
+  where
+    same : one.before.challenges ≡ s.challenges
+    same = ap (λ (x : State). x.challenges) first.others
+
+    count : (b : Bool) → is_answer one ≡ b → one.before.challenges ≤ (made_of one).1.challenges → (made_of one).1.challenges + answers_in later ≤ t.challenges → s.challenges + answers_in (one ∷ later) ≤ t.challenges
+    count true e grows rest = rw e (let more = ltb-true one.before.challenges (made_of one).1.challenges e in omega (arith, more, rest, same))
+    count false e grows rest = rw e (omega (arith, grows, rest, same))
+
+    by : Counts (made_of one).1 t later → (one.before.challenges ≤ (made_of one).1.challenges) ⊎ IsHeededIn one → Counts s t (one ∷ later)
+    by (inl rest) (inl grows) = inl (count (is_answer one) refl grows rest)
+    by (inl rest) (inr heeded) = inr (among-first IsHeededIn one later heeded)
+    by (inr among) grows = inr (among-later IsHeededIn one later among)
+
+-- a call that handles nothing
+idle-counts : (call : Call) (s : State) → handled call s ≡ [] → Counts s (state_after call s) (handled call s)
+idle-counts call s none = by (ltb (state_after call s).challenges s.challenges) refl
+  where
+    by : (b : Bool) → ltb (state_after call s).challenges s.challenges ≡ b → Counts s (state_after call s) (handled call s)
+    by true e = inr (leaves-heeded call s (state_after call s) (inl refl) (ltb-true (state_after call s).challenges s.challenges e))
+    by false e = rw none (inl (let less = ltb-false (state_after call s).challenges s.challenges e in omega (arith, less)))
+
+call-counts : (call : Call) (s : State) → Counts s (state_after call s) (handled call s)
+call-counts call s = by (takes-or call)
+  where
+    does : DoesTurns call s → Counts s (state_after call s) (handled call s)
+    does (inl lead) = lead-counts (handled call s) s (state_after call s) lead
+    does (inr end) = idle-counts call s end.nothing
+
+    by : TakesTurns call ⊎ ((u : State) → handled call u ≡ []) → Counts s (state_after call s) (handled call s)
+    by (inl takes) = does (calls-do call s takes)
+    by (inr none) = idle-counts call s (none s)
+
+answers-append : (turns more : List Turn) → answers_in (turns ++ more) ≡ answers_in turns + answers_in more
+answers-append [] more = omega arith
+answers-append (one ∷ turns) more = by (is_answer one) refl (answers-append turns more)
+  where
+    by : (b : Bool) → is_answer one ≡ b → answers_in (turns ++ more) ≡ answers_in turns + answers_in more → answers_in (one ∷ turns ++ more) ≡ answers_in (one ∷ turns) + answers_in more
+    by true e more_of = rw e (omega (arith, more_of))
+    by false e more_of = rw e more_of
+
+run-counts : (s : State) (calls : List Call) → Counts s (state_behind s calls) (handled_in s calls)
+run-counts s [] = inl (omega arith)
+run-counts s (call ∷ calls) = by (call-counts call s) (run-counts (state_after call s) calls)
+  where
+    turns : List Turn
+    turns = handled call s
+
+    more : List Turn
+    more = handled_in (state_after call s) calls
+
+    by : Counts s (state_after call s) turns → Counts (state_after call s) (state_behind (state_after call s) calls) more → Counts s (state_behind s (call ∷ calls)) (turns ++ more)
+    by (inl first) (inl rest) = inl (let sum = answers-append turns more in omega (arith, first, rest, sum))
+    by (inr among) rest = inr (among-left IsHeededIn turns more among)
+    by (inl first) (inr among) = inr (among-right IsHeededIn turns more among)
+
+pub few-answered : (s : State) (calls : List Call) → IsPatient s → (answers_in (handled_in s calls) ≤ most_challenges) ⊎ IsHeededAmong (handled_in s calls)
+few-answered s calls patient = by (run-counts s calls)
+  where
+    last : IsPatient (state_behind s calls)
+    last = kept-behind IsPatient leaves-patient s calls patient
+
+    by : Counts s (state_behind s calls) (handled_in s calls) → (answers_in (handled_in s calls) ≤ most_challenges) ⊎ IsHeededAmong (handled_in s calls)
+    by (inl counts) = inl (omega (arith, counts, last))
+    by (inr among) = inr among

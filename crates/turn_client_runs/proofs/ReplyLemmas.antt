@@ -1,0 +1,191 @@
+-- In a run a reply that is accepted ends its request.
+use Rattle.std.proofs.Common.{◌++◌, ◌≡◌, ◌⊎◌, ◌∙◌, ℕ, Bool, true, false, List, [], ◌∷◌, inl, inr, refl, sym, subst, ap}
+use Rattle.std.specs.declared.net.socket_addr.SocketAddr.{SocketAddr}
+use Rattle.turn_stun.specs.Message.{id_of}
+use Rattle.turn_agent.specs.Agent.{is_outstanding}
+use Rattle.turn_client_api.specs.State.{State}
+use Rattle.turn_client_api.specs.Requests.{fresh_id}
+use Rattle.turn_client_api.specs.Judgement.{bind_judgement}
+use Rattle.turn_client_api.specs.Connections.{bind_answered, bind_step}
+use Rattle.turn_client_api.specs.Payloads.{Outcome, is_message, message_step}
+use Rattle.turn_client_api.specs.Handled.{Turn, made_of}
+use Rattle.turn_client_api.specs.LawsHandled.{TurnsLead}
+use Rattle.turn_client_api.specs.LawsReplies.{IsAccepted, IsAwaited, IsDrawn, IsNotAwaited}
+use Rattle.turn_client_api.specs.Steps.{state_after}
+use Rattle.turn_client_api.specs.declared.call.Call.{Call}
+use Rattle.turn_client_api.proofs.AcceptedReplyLemmas.{accepted-ended, accepted-gone, accepted-outstanding, bind-ended, bind-outstanding}
+use Rattle.turn_client_api.proofs.BoundLemmas.{found-local}
+use Rattle.turn_client_api.proofs.HasLemmas.{Has}
+use Rattle.turn_client_api.proofs.NewIdCallLemmas.{draws-IsBringing, leaves-draws}
+use Rattle.turn_client_api.proofs.TurnBringLemmas.{IsBrought, lead-brings}
+use Rattle.turn_client_api.proofs.TurnLemmas.{brought}
+use Rattle.turn_client_runs.specs.Replies.{AreReplies, EndsItForGood, EndsItsRequest, IsBindReply, IsDrawnAtOnce, IsMadeAmong, IsMadeBetween, IsMadeIn, IsMadeSince, IsMadeUntil, IsReplyTurn, MakesInTurn}
+use Rattle.turn_client_runs.specs.Run.{state_behind}
+use Rattle.turn_client_runs.proofs.MadeLemmas.{control-made, waiting-made}
+use Rattle.turn_client_runs.proofs.TurnsOfRuns.{handled-leads, has-among, leads-from, leads-to}
+
+-- ---- one turn
+
+unlike : true ≡ false → ⊥
+unlike e = cc
+
+-- on a connection that waits it is awaited no longer
+pub bind-reply-ended : (one : Turn) → IsBindReply one → IsNotAwaited one.bytes (made_of one).1
+bind-reply-ended one b =
+    subst (λ (t : State). IsNotAwaited one.bytes t) (sym (made ∙ answered)) (bind-ended b.connection one.bytes one.moment one.before accepted)
+  where
+    made : (made_of one).1 ≡ bind_step b.local one.bytes one.moment one.before
+    made = waiting-made b.local one b.over b.whole
+
+    answered : bind_step b.local one.bytes one.moment one.before ≡ bind_answered b.connection one.bytes one.moment one.before
+    answered = rw (b.phase, b.found, b.method) refl
+
+    accepted : IsAccepted (bind_judgement one.before b.connection.local one.bytes)
+    accepted = subst (λ (local : SocketAddr). IsAccepted (bind_judgement one.before local one.bytes)) (sym (found-local b.local b.connection _ b.found)) b.accepted
+
+pub reply-ends : (one : Turn) → IsReplyTurn one → EndsItsRequest one
+reply-ends one (inl c) = (accepted-outstanding one.bytes one.before c.accepted, after)
+  where
+    after : IsAwaited one.bytes (made_of one).1 → id_of one.bytes ≡ fresh_id one.before
+    after awaited =
+        accepted-ended one.bytes one.moment one.before c.accepted
+        (subst (λ (p : Outcome × State). IsAwaited one.bytes p.1) (control-made one c.over c.whole) awaited)
+reply-ends one (inr b) =
+    (bind-outstanding b.local one.bytes one.before b.accepted, λ awaited. absurd (unlike (sym awaited ∙ bind-reply-ended one b)))
+
+pub reply-gone : (one : Turn) → IsReplyTurn one → EndsItForGood one
+reply-gone one (inl c) few =
+    subst (λ (p : Outcome × State). IsNotAwaited one.bytes p.1) (sym (control-made one c.over c.whole))
+    (accepted-gone one.bytes one.moment one.before few c.accepted)
+reply-gone one (inr b) few = bind-reply-ended one b
+
+-- ---- what comes about in a turn did not hold before it
+
+module _ (P : State → Bool) (Did : Turn → Type 0) (k : IsBrought (λ s. P s ≡ true) Did) where
+  abbrev Anew : Turn → Type 0
+  Anew one = (did : Did one) × (P one.before ≡ false) × (P (made_of one).1 ≡ true)
+
+  anew : (one : Turn) (t : State) → (made_of one).1 ≡ t → P t ≡ true → (P one.before ≡ true) ⊎ Did one → (P one.before ≡ true) ⊎ Anew one
+  anew one t made h (inl there) = inl there
+  anew one t made h (inr did) = by (P one.before) refl
+    where
+      by : (b : Bool) → P one.before ≡ b → (P one.before ≡ true) ⊎ Anew one
+      by true e = inl e
+      by false e = inr (did, e, subst (λ (u : State). P u ≡ true) (sym made) h)
+
+  bringing-anew : IsBrought (λ s. P s ≡ true) (λ one. (did : Did one) × (P one.before ≡ false) × (P (made_of one).1 ≡ true))
+  bringing-anew = record {
+    differs = k.differs;
+    message = λ one over whole h.
+        anew one (message_step one.bytes one.moment one.before).1 (ap (λ (p : Outcome × State). p.1) (control-made one over whole)) h (k.message one over whole h);
+    binds = λ one stream of waits whole h.
+        anew one (bind_step stream.local one.bytes one.moment one.before) (waiting-made stream.local one (rw of (waits, refl)) whole) h
+        (k.binds one stream of waits whole h);
+    gone = k.gone;
+    ended = k.ended;
+  }
+
+-- ---- a run
+
+module _ (id : ℕ) where
+  abbrev is_out : State → Bool
+  is_out t = is_outstanding id t.transactions
+
+  -- an ID is outstanding that was, or a call makes a request under it
+  pub made-in : (s : State) (calls : List Call) → is_outstanding id (state_behind s calls).transactions ≡ true → (is_outstanding id s.transactions ≡ true) ⊎ IsMadeIn id s calls
+  made-in s [] h = inl h
+  made-in s (call ∷ calls) h = by (made-in (state_after call s) calls h)
+    where
+      draws : is_out s ≡ false → IsDrawn call id s ⊎ (is_out s ≡ true) → IsDrawn call id s
+      draws free (inl drawn) = drawn
+      draws free (inr was) = absurd (unlike (sym was ∙ free))
+
+      first : (b : Bool) → is_out s ≡ b → is_out (state_after call s) ≡ true → (is_out s ≡ true) ⊎ IsMadeIn id s (call ∷ calls)
+      first true e out = inl e
+      first false e out = inr (inl (record { drawn = draws e (leaves-draws id call s (state_after call s) (inl refl) out); free = e; made = out }))
+
+      by : (is_out (state_after call s) ≡ true) ⊎ IsMadeIn id (state_after call s) calls → (is_out s ≡ true) ⊎ IsMadeIn id s (call ∷ calls)
+      by (inl out) = first (is_out s) refl out
+      by (inr made) = inr (inr made)
+
+  abbrev Draws : Turn → Type 0
+  Draws one = (is_message one.bytes ≡ true) × (id ≡ fresh_id one.before)
+
+  -- so do the turns of a call
+  lead-makes : (turns : List Turn) (s t : State) → TurnsLead turns s t → is_out t ≡ true → (is_out s ≡ true) ⊎ IsMadeAmong id turns
+  lead-makes turns s t lead h = by (lead-brings (λ u. is_out u ≡ true) (Anew is_out Draws drawing) (bringing-anew is_out Draws drawing) turns s t lead h)
+    where
+      drawing : IsBrought (λ u. is_out u ≡ true) Draws
+      drawing = brought (λ u. is_out u ≡ true) (λ message now u. id ≡ fresh_id u) (draws-IsBringing id)
+
+      makes : (one : Turn) → Anew is_out Draws drawing one → MakesInTurn id one
+      makes one (did, free, made) = record { whole = did.0; drawn = did.1; free = free; made = made }
+
+      by : (is_out s ≡ true) ⊎ ((one : Turn) × Has one turns × Anew is_out Draws drawing one) → (is_out s ≡ true) ⊎ IsMadeAmong id turns
+      by (inl was) = inl was
+      by (inr (one, there, did)) = inr (has-among (MakesInTurn id) turns (one, there, makes one did))
+
+pub reply-again : (s : State) (call : Call) (calls : List Call) (one : Turn) → IsReplyTurn one → IsMadeSince s call calls one
+reply-again s call calls one reply front later e awaited = by (made-in id (state_after call s) calls awaited)
+  where
+    id : ℕ
+    id = id_of one.bytes
+
+    Goal : Type 0
+    Goal = IsDrawnAtOnce one ⊎ IsMadeAmong id later ⊎ IsMadeIn id (state_after call s) calls
+
+    at_turn : IsAwaited one.bytes (made_of one).1 ⊎ IsMadeAmong id later → Goal
+    at_turn (inl out) = inl ((reply-ends one reply).1 out)
+    at_turn (inr made) = inr (inl made)
+
+    by : IsAwaited one.bytes (state_after call s) ⊎ IsMadeIn id (state_after call s) calls → Goal
+    by (inl out) =
+        at_turn (lead-makes id later (made_of one).1 (state_after call s) (leads-from front later one s (state_after call s) (handled-leads call s front later one e)) out)
+    by (inr made) = inr (inr made)
+
+-- ---- two replies of one ID
+
+-- the second finds its request outstanding
+second-out : (one other : Turn) → AreReplies one other → is_outstanding (id_of one.bytes) other.before.transactions ≡ true
+second-out one other (first, second, same) =
+    subst (λ (id : ℕ). is_outstanding id other.before.transactions ≡ true) (sym same) (reply-ends other second).0
+
+pub made-between : (s : State) (call : Call) → IsMadeBetween s call
+made-between s call one other front between rest replies e = by (lead-makes id between (made_of one).1 other.before lead (second-out one other replies))
+  where
+    id : ℕ
+    id = id_of one.bytes
+
+    all : TurnsLead (front ++ one ∷ (between ++ other ∷ rest)) s (state_after call s)
+    all = handled-leads call s front (between ++ other ∷ rest) one e
+
+    lead : TurnsLead between (made_of one).1 other.before
+    lead = leads-to between rest other (made_of one).1 (state_after call s) (leads-from front (between ++ other ∷ rest) one s (state_after call s) all)
+
+    by : IsAwaited one.bytes (made_of one).1 ⊎ IsMadeAmong id between → IsDrawnAtOnce one ⊎ IsMadeAmong id between
+    by (inl out) = inl ((reply-ends one replies.0).1 out)
+    by (inr made) = inr made
+
+pub made-until : (s : State) (call : Call) (calls : List Call) (last : Call) → IsMadeUntil s call calls last
+made-until s call calls last one other front later before rest replies e f = by (lead-makes id before u other.before lead (second-out one other replies))
+  where
+    id : ℕ
+    id = id_of one.bytes
+
+    u : State
+    u = state_behind (state_after call s) calls
+
+    lead : TurnsLead before u other.before
+    lead = leads-to before rest other u (state_after last u) (handled-leads last u before rest other f)
+
+    Goal : Type 0
+    Goal = IsDrawnAtOnce one ⊎ IsMadeAmong id later ⊎ IsMadeIn id (state_after call s) calls ⊎ IsMadeAmong id before
+
+    earlier : IsDrawnAtOnce one ⊎ IsMadeAmong id later ⊎ IsMadeIn id (state_after call s) calls → Goal
+    earlier (inl drawn) = inl drawn
+    earlier (inr (inl made)) = inr (inl made)
+    earlier (inr (inr made)) = inr (inr (inl made))
+
+    by : IsAwaited one.bytes u ⊎ IsMadeAmong id before → Goal
+    by (inl out) = earlier (reply-again s call calls one replies.0 front later e out)
+    by (inr made) = inr (inr (inr made))

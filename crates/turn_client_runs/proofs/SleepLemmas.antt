@@ -1,0 +1,40 @@
+-- What `poll` tells in a run is timely.
+use Rattle.std.proofs.Common.{suc, List, [], ◌∷◌, inl, refl, arith}
+use Rattle.std.specs.Prelude.{All}
+use Rattle.turn_client_api.specs.State.{State, initial}
+use Rattle.turn_client_api.specs.Steps.{state_after}
+use Rattle.turn_client_api.specs.declared.call.Call.{Call}
+use Rattle.turn_client_api.specs.declared.call.Call.TheVariants.{Poll}
+use Rattle.turn_client_api.specs.LawsOrder.{IsSteady}
+use Rattle.turn_client_api.specs.LawsHoused.{IsHoused}
+use Rattle.turn_client_api.proofs.SendOrderLemmas.{initial-steady, leaves-steadies, steady-IsOrderly}
+use Rattle.turn_client_api.proofs.InAllocation.{IsHoused-AllStandIn, initial-IsHoused, leaves-IsHoused}
+use Rattle.turn_client_api.proofs.TimelyLemmas.{poll-timely}
+use Rattle.turn_client_runs.specs.Holds.{HoldsInAnyRun, HoldsOfRuns}
+use Rattle.turn_client_runs.specs.Sleeps.{IsPolledInTime, SleepsInTime, SleepsThroughNothing, TellsTimely, TellsTimelyNext}
+use Rattle.turn_client_runs.proofs.HoldLemmas.{holds-any}
+
+-- what a call tells of a client in order is timely
+tells-timely : (s : State) (call : Call) → IsSteady s → IsHoused s → IsPolledInTime call → TellsTimely s call
+tells-timely s (Poll now) steady housed c = poll-timely now s (steady-IsOrderly s steady) (IsHoused-AllStandIn s housed) c
+tells-timely s _ steady housed c = tt
+
+-- a client in order sleeps through nothing, whatever is called
+sleeps-through-nothing : (s : State) (calls : List Call) → IsSteady s → IsHoused s → All IsPolledInTime calls → SleepsThroughNothing s calls
+sleeps-through-nothing s [] steady housed all = tt
+sleeps-through-nothing s (call ∷ calls) steady housed all = (
+  tells-timely s call steady housed (all 0 call (omega arith)),
+  sleeps-through-nothing (state_after call s) calls (leaves-steadies call s (state_after call s) (inl refl) steady) (leaves-IsHoused call s (state_after call s) (inl refl) housed) (λ k d less. all (suc k) d (omega (arith, less))),
+)
+
+-- nor does a new client
+pub run-sleeps : HoldsOfRuns SleepsInTime
+run-sleeps transport local remote config seed calls all =
+    sleeps-through-nothing (initial transport local remote config seed) calls (initial-steady transport local remote config seed) (initial-IsHoused transport local remote config seed) all
+
+-- nor one that found no memory for some calls
+pub any-tells : HoldsInAnyRun TellsTimelyNext
+any-tells transport local remote config seed calls t reaches now early =
+    tells-timely t (Poll now)
+    (holds-any IsSteady leaves-steadies initial-steady transport local remote config seed calls t reaches)
+    (holds-any IsHoused leaves-IsHoused initial-IsHoused transport local remote config seed calls t reaches) early

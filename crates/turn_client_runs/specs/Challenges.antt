@@ -1,0 +1,50 @@
+-- How many challenges are answered in a run.
+use Rattle.std.specs.Prelude.{◌≡◌, ◌⊎◌, ◌≤◌, ℕ, nat_lt, Bool, true, List, filter, length}
+use Rattle.std.specs.List.{Contains}
+use Rattle.turn_auth.specs.LongTerm.{Challenge}
+use Rattle.turn_client_api.specs.State.{State}
+use Rattle.turn_client_api.specs.Judgement.{Challenged, judgement_of}
+use Rattle.turn_client_api.specs.Retry.{most_challenges}
+use Rattle.turn_client_api.specs.Payloads.{is_message}
+use Rattle.turn_client_api.specs.Handled.{Turn, made_of}
+use Rattle.turn_client_api.specs.LawsHandled.{IsOverControl}
+use Rattle.turn_client_api.specs.LawsReplies.{IsHeeded}
+use Rattle.turn_client_api.specs.LawsSteps.{IsCounted}
+use Rattle.turn_client_api.specs.declared.call.Call.{Call}
+use Rattle.turn_client_runs.specs.Turns.{IsAmong, handled_in}
+
+-- no more challenges were answered than may be
+abbrev pub IsPatient : State → Type 0
+IsPatient s = s.challenges ≤ most_challenges
+
+-- the turn is that of a challenge over the control connection
+pub record IsChallengeTurn (one : Turn) : Type 0 where
+  pub over : IsOverControl one
+  pub whole : is_message one.bytes ≡ true
+  pub challenge : Challenge
+  pub judged : judgement_of one.before one.bytes ≡ Challenged challenge
+
+-- it is counted where it is answered
+abbrev pub CountsIt : Turn → Type 0
+CountsIt one = IsCounted one.before (made_of one).1
+
+-- the turn answers a challenge
+abbrev pub is_answer : Turn → Bool
+is_answer one = nat_lt one.before.challenges (made_of one).1.challenges
+
+-- so many challenges are answered by these turns
+abbrev pub answers_in : List Turn → ℕ
+answers_in turns = length (filter is_answer turns)
+
+-- one of these turns is that of a signed reply to an outstanding request, after which challenges are
+-- counted anew
+abbrev pub IsHeededAmong : List Turn → Type 0
+IsHeededAmong turns = IsAmong (λ one. (is_message one.bytes ≡ true) × IsHeeded one.bytes one.moment one.before) turns
+
+-- each challenge among the turns of the calls is counted where it is answered
+abbrev pub CountsAll : State → List Call → Type 0
+CountsAll s calls = (one : Turn) → Contains (handled_in s calls) one → IsChallengeTurn one → CountsIt one
+
+-- at most nine are answered by the calls, unless challenges are counted anew among them
+abbrev pub AnswersFew : State → List Call → Type 0
+AnswersFew s calls = (answers_in (handled_in s calls) ≤ most_challenges) ⊎ IsHeededAmong (handled_in s calls)

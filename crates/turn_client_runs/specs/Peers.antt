@@ -1,0 +1,53 @@
+-- From whom the payloads of a run come.
+use Rattle.std.specs.Prelude.{◌≡◌, ◌⊎◌, ℕ, List, Some, ⊤}
+use Rattle.std.specs.List.{Contains}
+use Rattle.std.specs.Net.Socket.{socket_ip}
+use Rattle.std.specs.declared.net.socket_addr.SocketAddr.{SocketAddr}
+use Rattle.turn_client_api.specs.State.{State}
+use Rattle.turn_client_api.specs.Payloads.{Payload, Outcome, PeerIcmp}
+use Rattle.turn_client_api.specs.Handled.{Turn, made_of, turn_payload}
+use Rattle.turn_client_api.specs.LawsHandled.{IsBoundAt}
+use Rattle.turn_client_api.specs.LawsPeers.{HasChannel, HasPermission, IsLetInTurn}
+use Rattle.turn_client_api.specs.declared.call.Call.{Call}
+use Rattle.turn_client_api.specs.declared.state.Mode.TheVariants.{Bound}
+use Rattle.turn_client_api.specs.declared.state.Stream.{Stream}
+use Rattle.turn_client_runs.specs.Turns.{IsAmong, handled_in, payloads_in}
+
+-- the turn takes the bytes of a stream that is bound to this peer, which stands in the state just before
+abbrev pub IsOverBound : SocketAddr → Turn → Type 0
+IsOverBound peer one = (stream : Stream) × (one.stream ≡ Some stream) × (stream.mode ≡ Bound peer) × IsBoundAt stream.local peer one.before
+
+-- When its turn came, the peer was let in: its IP address had an active permission, it had an active
+-- channel, or its data connection was bound (RFC 8656, sections 9 and 12; RFC 6062, section 4.3).
+abbrev pub IsOfLetIn : SocketAddr → Turn → Type 0
+IsOfLetIn peer one =
+    HasPermission (socket_ip peer) one.before
+    ⊎ ((number : ℕ) × HasChannel number peer one.before)
+    ⊎ IsOverBound peer one
+
+-- the turn gives the payload: exactly what the frame carries, or the bytes of the stream, of a peer that was
+-- let in
+pub record IsGivenBy (payload : Payload) (one : Turn) : Type 0 where
+  pub given : turn_payload one ≡ Some payload
+  pub exact : IsLetInTurn one
+  pub let_in : IsOfLetIn payload.peer one
+
+-- a turn of the run gave it
+abbrev pub IsReceived : Payload → State → List Call → Type 0
+IsReceived payload s calls = IsAmong (IsGivenBy payload) (handled_in s calls)
+
+-- each payload that a call of the run gives, a turn of the run gave
+abbrev pub ReceivesLetIn : State → List Call → Type 0
+ReceivesLetIn s calls = (payload : Payload) → Contains (payloads_in s calls) payload → IsReceived payload s calls
+
+-- what a turn tells of ICMP is about a peer whose IP address has an active permission
+abbrev pub TellsOfPermitted : Turn → Type 0
+TellsOfPermitted one = by (made_of one).0
+  where
+    by : Outcome → Type 0
+    by (PeerIcmp transport peer icmp) = HasPermission (socket_ip peer) one.before
+    by _ = ⊤
+
+-- so it is in each turn of the run
+abbrev pub IcmpIsOfPermitted : State → List Call → Type 0
+IcmpIsOfPermitted s calls = (one : Turn) → Contains (handled_in s calls) one → TellsOfPermitted one

@@ -1,0 +1,116 @@
+-- Which replies count in a run.
+use Rattle.std.specs.Prelude.{◌≡◌, ◌⊎◌, ◌<◌, ◌^◌, ℕ, true, false, List, [], ◌∷◌, ◌++◌, Some}
+use Rattle.std.specs.List.{Contains}
+use Rattle.std.specs.declared.net.socket_addr.SocketAddr.{SocketAddr}
+use Rattle.turn_stun.specs.Message.{id_of}
+use Rattle.turn_agent.specs.Agent.{is_outstanding}
+use Rattle.turn_client_api.specs.State.{State}
+use Rattle.turn_client_api.specs.Requests.{connection_bind_method, fresh_id, most_taken}
+use Rattle.turn_client_api.specs.Judgement.{bind_judgement, judgement_of, method_in}
+use Rattle.turn_client_api.specs.Connections.{connection_at}
+use Rattle.turn_client_api.specs.Payloads.{is_message}
+use Rattle.turn_client_api.specs.Handled.{Turn, handled, made_of}
+use Rattle.turn_client_api.specs.LawsHandled.{IsOverControl, IsOverWaiting}
+use Rattle.turn_client_api.specs.LawsReplies.{IsAccepted, IsAwaited, IsDrawn, IsNotAwaited}
+use Rattle.turn_client_api.specs.Steps.{state_after}
+use Rattle.turn_client_api.specs.declared.call.Call.{Call}
+use Rattle.turn_client_api.specs.declared.grant.DataConnection.{DataConnection}
+use Rattle.turn_client_api.specs.declared.state.Phase.TheVariants.{Allocated}
+use Rattle.turn_client_runs.specs.Run.{state_behind}
+use Rattle.turn_client_runs.specs.Turns.{IsAmong, handled_in}
+
+-- The turn is that of a whole message over the control connection, or of a datagram, which is a signed
+-- reply to an outstanding request.
+pub record IsControlReply (one : Turn) : Type 0 where
+  pub over : IsOverControl one
+  pub whole : is_message one.bytes ≡ true
+  pub accepted : IsAccepted (judgement_of one.before one.bytes)
+
+-- The turn is that of a whole message on a connection that waits to be bound, which is a signed reply to
+-- its outstanding CONNECTION_BIND (RFC 6062, section 4.3).
+pub record IsBindReply (one : Turn) : Type 0 where
+  pub local : SocketAddr
+  pub over : IsOverWaiting local one
+  pub whole : is_message one.bytes ≡ true
+  pub phase : one.before.phase ≡ Allocated
+  pub method : method_in one.bytes ≡ connection_bind_method
+  pub connection : DataConnection
+  pub found : connection_at local one.before ≡ Some connection
+  pub accepted : IsAccepted (bind_judgement one.before local one.bytes)
+
+-- the turn is that of a reply that is accepted
+abbrev pub IsReplyTurn : Turn → Type 0
+IsReplyTurn one = IsControlReply one ⊎ IsBindReply one
+
+-- its request was outstanding, and is so no longer after the turn, unless its ID is drawn anew
+abbrev pub EndsItsRequest : Turn → Type 0
+EndsItsRequest one =
+    IsAwaited one.bytes one.before × (IsAwaited one.bytes (made_of one).1 → id_of one.bytes ≡ fresh_id one.before)
+
+-- while an ID is free it is not drawn anew
+abbrev pub EndsItForGood : Turn → Type 0
+EndsItForGood one = most_taken one.before < 2 ^ 96 → IsNotAwaited one.bytes (made_of one).1
+
+-- ---- new requests under an ID
+
+-- The turn is that of a whole message, in answer to which a request is made under this ID: the next one when the
+-- turn comes. None was outstanding under it before, and one is after the turn.
+pub record MakesInTurn (id : ℕ) (one : Turn) : Type 0 where
+  pub whole : is_message one.bytes ≡ true
+  pub drawn : id ≡ fresh_id one.before
+  pub free : is_outstanding id one.before.transactions ≡ false
+  pub made : is_outstanding id (made_of one).1.transactions ≡ true
+
+-- The call draws this ID for a request. None was outstanding under it before the call, and one is after it.
+pub record MakesInCall (id : ℕ) (call : Call) (s : State) : Type 0 where
+  pub drawn : IsDrawn call id s
+  pub free : is_outstanding id s.transactions ≡ false
+  pub made : is_outstanding id (state_after call s).transactions ≡ true
+
+-- one of these turns makes a request under the ID
+abbrev pub IsMadeAmong : ℕ → List Turn → Type 0
+IsMadeAmong id turns = IsAmong (MakesInTurn id) turns
+
+-- one of these calls does
+abbrev pub IsMadeIn : ℕ → State → List Call → Type 0
+IsMadeIn id s [] = ⊥
+IsMadeIn id s (call ∷ calls) = MakesInCall id call s ⊎ IsMadeIn id (state_after call s) calls
+
+-- the ID of the reply is drawn anew in its own turn, which is not so while fewer IDs are taken than there are
+abbrev pub IsDrawnAtOnce : Turn → Type 0
+IsDrawnAtOnce one = id_of one.bytes ≡ fresh_id one.before
+
+-- Where a call has the turn of the reply, and its ID is outstanding after it and these further calls, a new request
+-- was made under it since: by a later turn of the call, or by a further call, unless it was drawn at once.
+abbrev pub IsMadeSince : State → Call → List Call → Turn → Type 0
+IsMadeSince s call calls one =
+    (front later : List Turn) → handled call s ≡ front ++ one ∷ later → IsAwaited one.bytes (state_behind (state_after call s) calls)
+    → IsDrawnAtOnce one ⊎ IsMadeAmong (id_of one.bytes) later ⊎ IsMadeIn (id_of one.bytes) (state_after call s) calls
+
+-- both are replies that are accepted, and they have one ID
+abbrev pub AreReplies : Turn → Turn → Type 0
+AreReplies one other = IsReplyTurn one × IsReplyTurn other × (id_of one.bytes ≡ id_of other.bytes)
+
+-- Where a call has the turns of two such replies, a new request was made under the ID between them.
+abbrev pub IsMadeBetween : State → Call → Type 0
+IsMadeBetween s call =
+    (one other : Turn) (front between rest : List Turn) → AreReplies one other → handled call s ≡ front ++ one ∷ (between ++ other ∷ rest)
+    → IsDrawnAtOnce one ⊎ IsMadeAmong (id_of one.bytes) between
+
+-- So it is where a call has the turn of the first, and another, after these calls, that of the second: the request
+-- was made in the one call, in the calls between, or in the other before the turn of the second.
+abbrev pub IsMadeUntil : State → Call → List Call → Call → Type 0
+IsMadeUntil s call calls last =
+    (one other : Turn) (front later before rest : List Turn) → AreReplies one other → handled call s ≡ front ++ one ∷ later
+    → handled last (state_behind (state_after call s) calls) ≡ before ++ other ∷ rest
+    → IsDrawnAtOnce one ⊎ IsMadeAmong (id_of one.bytes) later
+    ⊎ IsMadeIn (id_of one.bytes) (state_after call s) calls ⊎ IsMadeAmong (id_of one.bytes) before
+
+-- each ID that is outstanding after the calls was so before them, or one of them makes a request under it
+abbrev pub MakesNewOnesIn : State → List Call → Type 0
+MakesNewOnesIn s calls =
+    (id : ℕ) → is_outstanding id (state_behind s calls).transactions ≡ true → (is_outstanding id s.transactions ≡ true) ⊎ IsMadeIn id s calls
+
+-- what holds of each turn of the calls in which a reply is accepted
+abbrev pub EachReply : (Turn → Type 0) → State → List Call → Type 0
+EachReply Q s calls = (one : Turn) → Contains (handled_in s calls) one → IsReplyTurn one → Q one

@@ -1,0 +1,18 @@
+//! Laws over whole runs of a client: what holds after any list of calls (RFC 8656, RFC 6062).
+//!
+//! The functions of this crate do nothing: their contracts are the laws.
+#![tactic(auto)]
+
+mod bound;
+mod challenges;
+mod numbers;
+mod peers;
+mod replies;
+mod sleeps;
+
+pub use bound::{bound_connections_have_their_success, bound_streams_have_their_success};
+pub use challenges::{few_challenges_are_answered, realm_stays_in_runs};
+pub use numbers::numbers_stay_distinct;
+pub use peers::only_let_in_is_received;
+pub use replies::replies_count_once_in_runs;
+pub use sleeps::runs_sleep_through_nothing;
