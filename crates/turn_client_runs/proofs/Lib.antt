@@ -1,0 +1,9 @@
+pub mod AllTurnsLemmas
+pub mod FedTurnLemmas
+pub mod FollowLemmas
+pub mod PieceLemmas
+pub mod PiecesLemmas
+pub mod QuietLemmas
+pub mod RunCutLemmas
+pub mod StreamAtLemmas
+pub mod WholeLemmas

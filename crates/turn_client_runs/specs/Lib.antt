@@ -1,1 +1,3 @@
+pub mod Cut
+pub mod CutRows
 pub mod Run

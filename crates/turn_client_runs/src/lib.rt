@@ -2,3 +2,10 @@
 //!
 //! The functions of this crate do nothing: their contracts are the laws.
 #![tactic(auto)]
+
+mod cut;
+
+pub use cut::{
+    polled_clients_are_quiet, runs_give_the_same_for_any_cut, streams_are_worked,
+    streams_give_the_same_for_any_cut, wholes_are_frames,
+};
