@@ -33,7 +33,7 @@ drained-waits stream h = rw (waits-in stream.mode stream h) refl
 none-ready : (s : State) → All IsDrained s.streams → find is_ready s.streams ≡ None
 none-ready s all = find-none is_ready s.streams (λ stream h. drained-waits stream (has-all IsDrained stream s.streams all h))
 
-turns-rest : (n now : ℕ) (s : State) → find is_ready s.streams ≡ None → turns_until_payload n now s ≡ (None, s)
+pub turns-rest : (n now : ℕ) (s : State) → find is_ready s.streams ≡ None → turns_until_payload n now s ≡ (None, s)
 unfolding turns_until_payload
 turns-rest zero now s e = refl
 turns-rest (suc n) now s e = rw e refl

@@ -180,7 +180,7 @@ none-ready now s empty None e = refl
 none-ready now s empty (Some stream) e = let less = turn-lighter stream now s e in absurd (omega (arith, empty, less))
 
 -- more turns than the streams' weight give the same
-turns-enough : (n m now : ℕ) (s : State) → weight s.streams ≤ n → weight s.streams ≤ m → turns_until_payload n now s ≡ turns_until_payload m now s
+pub turns-enough : (n m now : ℕ) (s : State) → weight s.streams ≤ n → weight s.streams ≤ m → turns_until_payload n now s ≡ turns_until_payload m now s
 unfolding turns_until_payload
 turns-enough zero zero now s hn hm = refl
 turns-enough zero (suc m) now s hn hm = rw (none-ready now s hn _ refl) refl
@@ -202,7 +202,7 @@ poll_recv-enough n now s h =
     turns-enough n (most_turns s) now s (omega (arith, most, h)) most
 
 -- no stream is ready where no payload came
-abbrev IsDone : Option Payload × State → Type 0
+abbrev pub IsDone : Option Payload × State → Type 0
 IsDone p = p.0 ≡ None → find is_ready p.1.streams ≡ None
 
 go_on-done : (next : State → Option Payload × State) (p : Outcome × State) → IsDone (next p.1) → IsDone (go_on next p)
@@ -214,7 +214,7 @@ go_on-done next (Handled, t) done = done
 go_on-done next (Ignored, t) done = done
 go_on-done next (PeerIcmp transport peer icmp, t) done = done
 
-turns-done : (n now : ℕ) (s : State) → weight s.streams ≤ n → IsDone (turns_until_payload n now s)
+pub turns-done : (n now : ℕ) (s : State) → weight s.streams ≤ n → IsDone (turns_until_payload n now s)
 unfolding turns_until_payload
 turns-done zero now s h = λ none. none-ready now s h _ refl
 turns-done (suc n) now s h = by (find is_ready s.streams) refl (λ t p. turns-done n now t p)

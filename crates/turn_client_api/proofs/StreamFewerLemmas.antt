@@ -30,7 +30,7 @@ weight-all (x ∷ xs) h =
 -- ---- turns
 
 -- so much weighs more than what the streams hold behind a payload
-abbrev IsLessThan : ℕ → Option Payload × State → Type 0
+abbrev pub IsLessThan : ℕ → Option Payload × State → Type 0
 IsLessThan n p = IsSome p.0 → weight p.1.streams < n
 
 go_on-less : (next : State → Option Payload × State) (n : ℕ) (p : Outcome × State) → weight p.1.streams < n → IsLessThan (weight p.1.streams) (next p.1) → IsLessThan n (go_on next p)
@@ -39,7 +39,7 @@ go_on-less next n (Handled, t) first more = λ h. let less = more h in omega (ar
 go_on-less next n (Ignored, t) first more = λ h. let less = more h in omega (arith, first, less)
 go_on-less next n (PeerIcmp transport peer icmp, t) first more = λ h. let less = more h in omega (arith, first, less)
 
-turns-less : (n now : ℕ) (s : State) → IsLessThan (weight s.streams) (turns_until_payload n now s)
+pub turns-less : (n now : ℕ) (s : State) → IsLessThan (weight s.streams) (turns_until_payload n now s)
 unfolding turns_until_payload
 turns-less zero now s = λ h. cc
 turns-less (suc n) now s = by (find is_ready s.streams) refl (λ t. turns-less n now t)

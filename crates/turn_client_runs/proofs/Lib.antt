@@ -1,8 +1,17 @@
+pub mod AllTurnsLemmas
 pub mod BoundLemmas
 pub mod ChallengeLemmas
+pub mod FedTurnLemmas
+pub mod FollowLemmas
 pub mod HoldLemmas
 pub mod MadeLemmas
 pub mod PeerLemmas
+pub mod PieceLemmas
+pub mod PiecesLemmas
+pub mod QuietLemmas
 pub mod ReplyLemmas
+pub mod RunCutLemmas
 pub mod SleepLemmas
+pub mod StreamAtLemmas
 pub mod TurnsOfRuns
+pub mod WholeLemmas

@@ -1,5 +1,7 @@
 pub mod Bound
 pub mod Challenges
+pub mod Cut
+pub mod CutRows
 pub mod Holds
 pub mod Peers
 pub mod Replies

@@ -5,6 +5,7 @@
 
 mod bound;
 mod challenges;
+mod cut;
 mod numbers;
 mod peers;
 mod replies;
@@ -12,6 +13,10 @@ mod sleeps;
 
 pub use bound::{bound_connections_have_their_success, bound_streams_have_their_success};
 pub use challenges::{few_challenges_are_answered, realm_stays_in_runs};
+pub use cut::{
+    polled_clients_are_quiet, runs_give_the_same_for_any_cut, streams_are_worked,
+    streams_give_the_same_for_any_cut, wholes_are_frames,
+};
 pub use numbers::numbers_stay_distinct;
 pub use peers::only_let_in_is_received;
 pub use replies::replies_count_once_in_runs;

@@ -1,0 +1,137 @@
+-- What a frame leaves of its own stream, and what of its payload counts.
+use Rattle.std.proofs.Common.{◌≡◌, ℕ, Bool, true, false, not, cond, List, length, find, flat_map, Option, Some, None, refl, ap, sym, subst, ◌∙◌, inl, inr}
+use Rattle.std.specs.Option.{option_map}
+use Rattle.std.specs.declared.net.socket_addr.SocketAddr.{SocketAddr}
+use Rattle.turn_types.specs.Frames.{begins_message, begins_no_frame, frame_len}
+use Rattle.turn_types.specs.Streams as T
+use Rattle.turn_agent.specs.Agent.{same_address}
+use Rattle.turn_client_api.specs.State.{State}
+use Rattle.turn_client_api.specs.declared.state.Mode.{Mode}
+use Rattle.turn_client_api.specs.declared.state.Mode.TheVariants.{Control, Waiting, Bound, Broken}
+use Rattle.turn_client_api.specs.declared.state.Stream.{Stream}
+use Rattle.turn_client_api.specs.Connections.{bind_step}
+use Rattle.turn_client_api.specs.Payloads.{Outcome, Handled, Ignored, PeerData, PeerIcmp, channel_sent, is_message, message_step}
+use Rattle.turn_client_api.specs.Streams.{control_frame_step, frame_step, framed_turn, ready_len, stream_at, turned}
+use Rattle.turn_client_api.proofs.StreamMessageLemmas.{Rebound, Same, frame-rebound, message-same}
+use Rattle.turn_client_runs.specs.Cut.{framed_step, given_by, meant, one_by_one, part_step}
+use Rattle.turn_client_runs.proofs.StreamAtLemmas.{find-mapped}
+
+-- payloads of a stream in this mode count as they are, or byte by byte
+abbrev pub SuitsMode : Bool → Mode → Type 0
+SuitsMode true Control = Unit {0}
+SuitsMode true Waiting = ⊥
+SuitsMode true (Bound peer) = ⊥
+SuitsMode true Broken = Unit {0}
+SuitsMode false Control = ⊥
+SuitsMode false Waiting = Unit {0}
+SuitsMode false (Bound peer) = Unit {0}
+SuitsMode false Broken = Unit {0}
+
+abbrev pub Suits : Bool → Option Stream → Type 0
+Suits c None = Unit {0}
+Suits c (Some stream) = SuitsMode c stream.mode
+
+-- The stream at this local end is not broken, and its payloads count so.
+pub record IsThere (c : Bool) (a : SocketAddr) (s : State) : Type 0 where
+  pub stream : Stream
+  pub found : stream_at a s ≡ Some stream
+  pub unbroken : stream.mode ≡ Broken → ⊥
+  pub suits : SuitsMode c stream.mode
+
+-- What streams in this mode have in common: their bytes are frames.
+pub record IsFramed (c : Bool) (m : Mode) : Type 0 where
+  pub unbroken : m ≡ Broken → ⊥
+  pub suits : SuitsMode c m
+  pub means : meant m ≡ T.Framed
+  pub ready : (stream : Stream) (bytes : List ℕ) → ready_len (record stream { mode = m; bytes = bytes }) ≡ cond (begins_no_frame bytes) (Some (length bytes)) (frame_len bytes)
+  pub turns : (stream : Stream) (now : ℕ) (t : State) → turned (record stream { mode = m }) now t ≡ framed_turn (record stream { mode = m }) now t
+  pub part : (stream : Stream) (part : List ℕ) (now : ℕ) (t : State) → part_step (record stream { mode = m }) part now t ≡ framed_step (record stream { mode = m }) part now t
+  pub same : (stream : Stream) (bytes frame : List ℕ) (now : ℕ) (t : State) → frame_step (record stream { mode = m; bytes = bytes }) frame now t ≡ frame_step (record stream { mode = m }) frame now t
+  pub counts : (stream : Stream) (frame : List ℕ) (now : ℕ) (t : State) → flat_map (one_by_one c) (given_by (frame_step (record stream { mode = m }) frame now t).0) ≡ given_by (frame_step (record stream { mode = m }) frame now t).0
+  pub stays : (a : SocketAddr) (stream : Stream) (frame : List ℕ) (now : ℕ) (t : State) → stream_at a t ≡ Some (record stream { mode = m }) → IsThere c a (frame_step (record stream { mode = m }) frame now t).1
+
+-- ---- the control connection
+
+control-same : (frame : List ℕ) (now : ℕ) (t : State) → Same t (control_frame_step frame now t).1
+control-same frame now t = by (not (begins_message frame)) (is_message frame)
+  where
+    by : (b d : Bool) → Same t (cond {A = Outcome × State} b (channel_sent t frame, t) (cond {A = Outcome × State} d (message_step frame now t) (Handled, t))).1
+    by true d = refl
+    by false true = message-same frame now t
+    by false false = refl
+
+counted-whole : (o : Outcome) → flat_map (one_by_one true) (given_by o) ≡ given_by o
+counted-whole (PeerData payload) = refl
+counted-whole Handled = refl
+counted-whole Ignored = refl
+counted-whole (PeerIcmp transport peer icmp) = refl
+
+pub control-framed : IsFramed true Control
+control-framed = record {
+  unbroken = λ e. cc;
+  suits = tt;
+  means = refl;
+  ready = λ stream bytes. refl;
+  turns = λ stream now t. refl;
+  part = λ stream part now t. refl;
+  same = λ stream bytes frame now t. refl;
+  counts = λ stream frame now t. counted-whole (control_frame_step frame now t).0;
+  stays = λ a stream frame now t e. record {
+    stream = record stream { mode = Control };
+    found = subst (λ (xs : List Stream). find (λ x. same_address x.local a) xs ≡ Some (record stream { mode = Control })) (sym (control-same frame now t)) e;
+    unbroken = λ f. cc;
+    suits = tt;
+  };
+}
+
+-- ---- a connection that waits to be bound
+
+waiting-counts : (stream : Stream) (frame : List ℕ) (now : ℕ) (t : State) → flat_map (one_by_one false) (given_by (frame_step (record stream { mode = Waiting }) frame now t).0) ≡ given_by (frame_step (record stream { mode = Waiting }) frame now t).0
+waiting-counts stream frame now t = by (not (begins_message frame)) (is_message frame)
+  where
+    by : (b d : Bool) → flat_map (one_by_one false) (given_by (cond {A = Outcome × State} b (Ignored, t) (cond {A = Outcome × State} d (Handled, bind_step stream.local frame now t) (Handled, t))).0) ≡ given_by (cond {A = Outcome × State} b (Ignored, t) (cond {A = Outcome × State} d (Handled, bind_step stream.local frame now t) (Handled, t))).0
+    by true d = refl
+    by false true = refl
+    by false false = refl
+
+abbrev mode_by : SocketAddr → Mode → Stream → Stream
+mode_by local mode x = cond (same_address x.local local) (record x { mode = mode }) x
+
+mode-local : (local : SocketAddr) (mode : Mode) (x : Stream) → (mode_by local mode x).local ≡ x.local
+mode-local local mode x = by (same_address x.local local)
+  where
+    by : (b : Bool) → (cond b (record x { mode = mode }) x).local ≡ x.local
+    by true = refl
+    by false = refl
+
+rebound-there : (a : SocketAddr) (stream : Stream) (s t : State) → Rebound s t → stream_at a s ≡ Some (record stream { mode = Waiting }) → IsThere false a t
+rebound-there a stream s t (inl same) e = record {
+  stream = record stream { mode = Waiting };
+  found = subst (λ (xs : List Stream). find (λ x. same_address x.local a) xs ≡ Some (record stream { mode = Waiting })) (sym same) e;
+  unbroken = λ f. cc;
+  suits = tt;
+}
+rebound-there a stream s t (inr (local, peer, is)) e = by (same_address stream.local local) refl
+  where
+    mapped : stream_at a t ≡ Some (mode_by local (Bound peer) (record stream { mode = Waiting }))
+    mapped =
+        ap (λ (xs : List Stream). find (λ x. same_address x.local a) xs) is
+        ∙ (find-mapped a (mode_by local (Bound peer)) (mode-local local (Bound peer)) s.streams
+        ∙ ap (option_map (mode_by local (Bound peer))) e)
+
+    by : (b : Bool) → same_address stream.local local ≡ b → IsThere false a t
+    by true f = record { stream = record stream { mode = Bound peer }; found = mapped ∙ rw f refl; unbroken = λ g. cc; suits = tt }
+    by false f = record { stream = record stream { mode = Waiting }; found = mapped ∙ rw f refl; unbroken = λ g. cc; suits = tt }
+
+pub waiting-framed : IsFramed false Waiting
+waiting-framed = record {
+  unbroken = λ e. cc;
+  suits = tt;
+  means = refl;
+  ready = λ stream bytes. refl;
+  turns = λ stream now t. refl;
+  part = λ stream part now t. refl;
+  same = λ stream bytes frame now t. refl;
+  counts = waiting-counts;
+  stays = λ a stream frame now t e. rebound-there a stream t (frame_step (record stream { mode = Waiting }) frame now t).1 (frame-rebound (record stream { mode = Waiting }) frame now t) e;
+}

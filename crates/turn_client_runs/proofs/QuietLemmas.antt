@@ -1,0 +1,125 @@
+-- A client that was polled until nothing came is quiet.
+use Rattle.std.proofs.Common.{◌≡◌, ℕ, zero, suc, ◌+◌, List, [], ◌∷◌, find, Option, Some, None, refl, ap, ◌∙◌, arith}
+use Rattle.std.specs.declared.net.socket_addr.SocketAddr.{SocketAddr}
+use Rattle.turn_stun.specs.declared.transport.TransportType.TheVariants.{Tcp}
+use Rattle.turn_client_api.specs.Config.{Config}
+use Rattle.turn_client_api.specs.State.{State, initial}
+use Rattle.turn_client_api.specs.Payloads.{Payload, Outcome}
+use Rattle.turn_client_api.specs.Streams.{is_ready, most_turns, poll_recv_step}
+use Rattle.turn_client_api.specs.Receive.{recv_step}
+use Rattle.turn_client_api.specs.Steps.{state_after}
+use Rattle.turn_client_api.specs.declared.call.Call.{Call}
+use Rattle.turn_client_api.specs.LawsStreams.{AreApart}
+use Rattle.turn_client_api.proofs.Edits.{IgnoresAll, KeepsAllEdits, KeepsEdits}
+use Rattle.turn_client_api.proofs.EditsOfCalls.{calls-walk}
+use Rattle.turn_client_api.proofs.EditsOfMessages.{edits-IsKept}
+use Rattle.turn_client_api.proofs.RunKeepLemmas.{IsKept, poll_recv-kept, recv-kept}
+use Rattle.turn_client_api.proofs.StreamCallLemmas.{call-apart, initial-apart}
+use Rattle.turn_client_api.proofs.StreamDrainLemmas.{turns-done}
+use Rattle.turn_client_api.proofs.StreamStepLemmas.{poll_recv-apart, recv-apart}
+use Rattle.turn_client_api.proofs.StreamWeightLemmas.{weight, weight-le}
+use Rattle.turn_client_runs.specs.Run.{state_behind}
+use Rattle.turn_client_runs.specs.Cut.{GetsQuiet, IsQuiet, and_then, fed_piece, polled}
+use Rattle.turn_client_runs.proofs.AllTurnsLemmas.{all-done, polled_out, polled_out-all}
+
+-- ---- over what carries its packets
+
+abbrev SameTransport : State → State → Type 0
+SameTransport s t = t.transport ≡ s.transport
+
+edits : KeepsEdits SameTransport
+edits = record {
+  same = λ s. refl;
+  trans = λ s t u first second. second ∙ first;
+  aside = λ s t. refl;
+  queues = λ queue s begun. refl;
+  dequeues = λ queue s fewer. refl;
+  families = λ families s may. refl;
+  sends = λ now s waits. refl;
+  begins = λ now s new. refl;
+  ends = λ s none. refl;
+  asks = λ id text purposes now s begun askable spelled. refl;
+  finishes = λ id s. refl;
+  resends = λ id now s. refl;
+  unlists = λ which s. refl;
+  removes = λ which s spares. refl;
+  removes_family = λ family s. refl;
+  takes_offer = λ id peer s. refl;
+  ages = λ grants s e. refl;
+  permission = λ ip s phase room none. refl;
+  channel = λ number peer s phase room none within. refl;
+  connect = λ peer s phase room none. refl;
+  connection = λ id c origin s phase offer none waits. refl;
+  reserves = λ number peer was until s there. refl;
+}
+
+all-edits : KeepsAllEdits SameTransport
+all-edits = record {
+  edits = edits;
+  reshapes = λ grants s e. refl;
+  rebinds = λ number peer was progress s there. refl;
+  holds = λ message d s e. refl;
+  counts = λ s held few. refl;
+  resets = λ heeded s. refl;
+  empties = λ s. refl;
+  allocates = λ message lifetime now s e none. refl;
+  permits = λ ip expiry s is. refl;
+  connects = λ id connection_id peer s t since stay granted listed. since;
+  offers = λ id peer origin s room few. refl;
+}
+
+any-streams : IgnoresAll SameTransport
+any-streams s streams = refl
+
+transport-kept : IsKept SameTransport
+transport-kept = edits-IsKept SameTransport all-edits any-streams
+
+-- ---- polled
+
+-- what a poll keeps, polls keep
+polled-keeps : (P : State → Type 0) → ((now : ℕ) (s : State) → P s → P (poll_recv_step now s).1) → (n now : ℕ) (s : State) → P s → P (polled n now s).1
+unfolding polled
+polled-keeps P step zero now s h = h
+polled-keeps P step (suc n) now s h = by (poll_recv_step now s) (step now s h) (λ t k. polled-keeps P step n now t k)
+  where
+    by : (r : Option Payload × State) → P r.1 → ((t : State) → P t → P (polled n now t).1) → P (and_then (polled n now) r).1
+    by (None, t) k later = k
+    by (Some payload, t) k later = later t k
+
+polled_out-done : (now : ℕ) (p : Outcome × State) → find is_ready (polled_out now p).1.streams ≡ None
+polled_out-done now p =
+    let n = weight p.1.streams in
+    rw (ap (λ (q : List Payload × State). q.1) (polled_out-all n now p (omega arith))) (all-done n now p.1 (omega arith))
+
+-- after each piece the client is quiet again
+pub fed-quiet : (a : SocketAddr) (piece : List ℕ) (now : ℕ) (s : State) → IsQuiet s → IsQuiet (fed_piece a piece now s).1
+fed-quiet a piece now s quiet =
+    let came = (recv_step Tcp s.remote a piece now s).1 in
+    let n = most_turns came + 1 in
+    record {
+      transport = polled-keeps (λ (t : State). t.transport ≡ Tcp) (λ now t h. poll_recv-kept SameTransport transport-kept now t ∙ h) n now came (recv-kept SameTransport transport-kept Tcp s.remote a piece now s ∙ quiet.transport);
+      apart = polled-keeps AreApart poll_recv-apart n now came (recv-apart Tcp s.remote a piece now s quiet.apart);
+      none_ready = polled_out-done now (recv_step Tcp s.remote a piece now s);
+    }
+
+pub poll-quiet : (s : State) → s.transport ≡ Tcp → AreApart s → GetsQuiet s
+poll-quiet s tcp apart now none = record {
+  transport = poll_recv-kept SameTransport transport-kept now s ∙ tcp;
+  apart = poll_recv-apart now s apart;
+  none_ready = turns-done (most_turns s) now s (weight-le s.streams) none;
+}
+
+pub initial-quiet : (local remote : SocketAddr) (config : Config) (seed : List ℕ) → IsQuiet (initial Tcp local remote config seed)
+initial-quiet local remote config seed = record { transport = refl; apart = initial-apart Tcp local remote config seed; none_ready = refl }
+
+-- what each call keeps, all calls keep
+calls-keep : (P : State → Type 0) → ((call : Call) (s : State) → P s → P (state_after call s)) → (calls : List Call) (s : State) → P s → P (state_behind s calls)
+calls-keep P step [] s h = h
+calls-keep P step (call ∷ calls) s h = calls-keep P step calls (state_after call s) (step call s h)
+
+pub run-quiet : (local remote : SocketAddr) (config : Config) (seed : List ℕ) (calls : List Call) → GetsQuiet (state_behind (initial Tcp local remote config seed) calls)
+run-quiet local remote config seed calls =
+    let first = initial Tcp local remote config seed in
+    poll-quiet (state_behind first calls)
+    (calls-keep (λ (t : State). t.transport ≡ Tcp) (λ call t h. calls-walk SameTransport all-edits any-streams call t ∙ h) calls first refl)
+    (calls-keep AreApart call-apart calls first (initial-apart Tcp local remote config seed))

@@ -1,0 +1,82 @@
+-- The law of cuts over the calls of a run.
+use Rattle.std.proofs.Common.{◌≡◌, ◌≢◌, ℕ, zero, suc, ◌+◌, ◌<◌, List, [], ◌∷◌, ◌++◌, Option, Some, None, refl, ap, sym, subst, ◌∙◌, arith, append_assoc}
+use Rattle.std.specs.Prelude.{MatchOption, option_to_list}
+use Rattle.std.proofs.lemmas.List.Elements.{All-cons, All-nil}
+use Rattle.std.specs.declared.net.socket_addr.SocketAddr.{SocketAddr}
+use Rattle.turn_stun.specs.declared.transport.TransportType.TheVariants.{Tcp}
+use Rattle.turn_client_api.specs.State.{State}
+use Rattle.turn_client_api.specs.declared.call.Call.{Call}
+use Rattle.turn_client_api.specs.Payloads.{Payload}
+use Rattle.turn_client_api.specs.Streams.{most_turns, poll_recv_step}
+use Rattle.turn_client_api.specs.Receive.{recv_step}
+use Rattle.turn_client_api.specs.Steps.{state_after}
+use Rattle.turn_client_api.proofs.StreamFewerLemmas.{IsLessThan, turns-less}
+use Rattle.turn_client_api.proofs.StreamWeightLemmas.{weight, weight-le}
+use Rattle.turn_client_runs.specs.Run.{state_behind}
+use Rattle.turn_client_runs.specs.Cut.{AreNonempty, ArePieces, ArePolls, IsQuiet, IsSameInRuns, and_then, fed_pieces, given_by, given_in, given_in_run, joined, polled}
+use Rattle.turn_client_runs.proofs.PiecesLemmas.{any-cut}
+
+-- what calls give, and the state after them
+abbrev run_from : State → List Call → List Payload × State
+run_from s calls = (given_in_run s calls, state_behind s calls)
+
+-- ---- polls
+
+polls-same : (polls : List Call) (n now : ℕ) (s : State) → ArePolls now polls s → weight s.streams < n → run_from s polls ≡ polled n now s
+unfolding polled
+polls-same [] n now s none some = absurd none
+polls-same (call ∷ calls) zero now s is some = absurd (omega (arith, some))
+polls-same (call ∷ calls) (suc n) now s (e, ends) some =
+    subst (λ (c : Call). run_from s (c ∷ calls) ≡ and_then (polled n now) (poll_recv_step now s)) (sym e)
+    (by (poll_recv_step now s) ends (turns-less (most_turns s) now s) (λ t is less. polls-same calls n now t is less))
+  where
+    Later : Type 0
+    Later = (t : State) → ArePolls now calls t → weight t.streams < n → run_from t calls ≡ polled n now t
+
+    by : (r : Option Payload × State) → MatchOption r.0 (calls ≡ []) (λ payload. ArePolls now calls r.1) → IsLessThan (weight s.streams) r → Later
+        → (option_to_list r.0 ++ given_in_run r.1 calls, state_behind r.1 calls) ≡ and_then (polled n now) r
+    by (None, t) over less later = rw over refl
+    by (Some payload, t) is less later =
+        let lighter : weight t.streams < weight s.streams = less refl in
+        ap (λ (p : List Payload × State). (payload ∷ p.0, p.1)) (later t is (omega (arith, lighter, some)))
+
+-- ---- one call after the other
+
+run-append : (first more : List Call) (s : State) → run_from s (first ++ more) ≡ (given_in_run s first ++ given_in_run (state_behind s first) more, state_behind (state_behind s first) more)
+run-append [] more s = refl
+run-append (call ∷ calls) more s =
+    let t = state_after call s in
+    ap (λ (p : List Payload × State). (given_in call s ++ p.0, p.1)) (run-append calls more t)
+    ∙ ap (λ (l : List Payload). (l, state_behind (state_behind t calls) more)) (sym (append_assoc (given_in call s) (given_in_run t calls) (given_in_run (state_behind t calls) more)))
+
+pieces-run : (a : SocketAddr) (pieces : List (List ℕ)) (now : ℕ) (calls : List Call) (s : State) → ArePieces a pieces now calls s → run_from s calls ≡ fed_pieces a pieces now s
+unfolding fed_pieces
+pieces-run a [] now calls s over = rw over refl
+pieces-run a (piece ∷ pieces) now calls s (polls, later, e, some, are, more) =
+    let came = recv_step Tcp s.remote a piece now s in
+    let given = given_by came.0 in
+    let most = weight-le came.1.streams in
+    let polls-are = polls-same polls (most_turns came.1 + 1) now came.1 are (omega (arith, most)) in
+    let u = state_behind came.1 polls in
+    let rest = pieces-run a pieces now later u more in
+    subst (λ (l : List Call). run_from s l ≡ fed_pieces a (piece ∷ pieces) now s) (sym e)
+    (ap (λ (p : List Payload × State). (given ++ p.0, p.1)) (run-append polls later came.1)
+    ∙ (ap (λ (p : List Payload × State). (given ++ (given_in_run came.1 polls ++ p.0), p.1)) rest
+    ∙ (ap (λ (q : List Payload × State). (given ++ (q.0 ++ (fed_pieces a pieces now q.1).0), (fed_pieces a pieces now q.1).1)) polls-are
+    ∙ again given (polled (most_turns came.1 + 1) now came.1))))
+  where
+    again : (given : List Payload) (q : List Payload × State) → ◌≡◌ {A = List Payload × State} (given ++ (q.0 ++ (fed_pieces a pieces now q.1).0), (fed_pieces a pieces now q.1).1) ((given ++ q.0) ++ (fed_pieces a pieces now q.1).0, (fed_pieces a pieces now q.1).1)
+    again given q = ap (λ (l : List Payload). (l, (fed_pieces a pieces now q.1).1)) (sym (append_assoc given q.0 (fed_pieces a pieces now q.1).0))
+
+pieces-some : (a : SocketAddr) (pieces : List (List ℕ)) (now : ℕ) (calls : List Call) (s : State) → ArePieces a pieces now calls s → AreNonempty pieces
+pieces-some a [] now calls s over = All-nil (λ (l : List ℕ). l ≢ [])
+pieces-some a (piece ∷ pieces) now calls s (polls, later, e, some, are, more) =
+    All-cons (λ (l : List ℕ). l ≢ []) piece pieces some (pieces-some a pieces now later (state_behind (recv_step Tcp s.remote a piece now s).1 polls) more)
+
+pub run-cut : (a : SocketAddr) (pieces : List (List ℕ)) (now : ℕ) (s : State) → IsQuiet s → IsSameInRuns a pieces now s
+run-cut a pieces now s quiet calls are =
+    let run = pieces-run a pieces now calls s are in
+    let same = any-cut a now pieces s quiet (pieces-some a pieces now calls s are) in (
+      ap (λ (p : List Payload × State). joined a s p.0) run ∙ same.0,
+      ap (λ (p : List Payload × State). p.1) run ∙ same.1,
+    )

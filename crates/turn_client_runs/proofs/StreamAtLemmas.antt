@@ -1,0 +1,208 @@
+-- The stream at a local end, and those at others.
+use Rattle.std.proofs.Common.{◌≡◌, ◌⊎◌, ℕ, Bool, true, false, cond, List, [], ◌∷◌, map, find, Option, Some, None, refl, ap, sym, subst, ◌∙◌, inl, inr}
+use Rattle.std.specs.List.{IsDistinct}
+use Rattle.std.specs.Option.{option_map}
+use Rattle.std.specs.declared.net.socket_addr.SocketAddr.{SocketAddr}
+use Rattle.turn_agent.specs.Agent.{same_address}
+use Rattle.turn_client_api.specs.State.{State}
+use Rattle.turn_client_api.specs.declared.state.Mode.TheVariants.{Broken}
+use Rattle.turn_client_api.specs.declared.state.Stream.{Stream}
+use Rattle.turn_client_api.specs.Streams.{broken_at, is_ready, stream_at, with_bytes}
+use Rattle.turn_client_api.specs.LawsBodies.{IsAsideFrom}
+use Rattle.turn_client_api.proofs.AddressLemmas.{same_address-true}
+use Rattle.turn_client_api.proofs.FrameRestLemmas.{bytes_by}
+use Rattle.turn_client_api.proofs.GrantOriginLemmas.{has-mapped}
+use Rattle.turn_client_api.proofs.HasLemmas.{Has, find-none, has-found}
+use Rattle.turn_client_api.proofs.StreamApartLemmas.{IsNoneOf, differ-sym, ends}
+
+-- ---- lists
+
+-- where none is found, it is of none
+pub none-false : {X : Type 0} (p : X → Bool) (xs : List X) → find p xs ≡ None → (x : X) → Has x xs → p x ≡ false
+none-false p [] e x none = absurd none
+none-false p (y ∷ ys) e x there = by (p y) refl (none-false p ys)
+  where
+    by : (b : Bool) → p y ≡ b → (find p ys ≡ None → (x : _) → Has x ys → p x ≡ false) → p x ≡ false
+    by true f later = let clash : Some y ≡ None = rw f at e in cc
+    by false f later = now there
+      where
+        now : (x ≡ y) ⊎ Has x ys → p x ≡ false
+        now (inl same) = rw same f
+        now (inr more) = later (rw f at e) x more
+
+-- a change that keeps local ends finds the same stream, changed
+pub find-mapped : (a : SocketAddr) (f : Stream → Stream) → ((x : Stream) → (f x).local ≡ x.local) → (xs : List Stream) → find (λ x. same_address x.local a) (map f xs) ≡ option_map f (find (λ x. same_address x.local a) xs)
+find-mapped a f keeps [] = refl
+find-mapped a f keeps (x ∷ xs) = by (same_address x.local a) refl (find-mapped a f keeps xs)
+  where
+    Same : List Stream → Type 0
+    Same ys = find (λ y. same_address y.local a) (map f ys) ≡ option_map f (find (λ y. same_address y.local a) ys)
+
+    by : (b : Bool) → same_address x.local a ≡ b → Same xs → Same (x ∷ xs)
+    by true e later = let changed : same_address (f x).local a ≡ true = ap (λ (l : SocketAddr). same_address l a) (keeps x) ∙ e in rw (changed, e) refl
+    by false e later = let changed : same_address (f x).local a ≡ false = ap (λ (l : SocketAddr). same_address l a) (keeps x) ∙ e in rw (changed, e) later
+
+-- ---- the stream that is found
+
+pub found-local : (a : SocketAddr) (s : State) (stream : Stream) → stream_at a s ≡ Some stream → stream.local ≡ a
+found-local a s stream e = same_address-true stream.local a (has-found (λ (x : Stream). same_address x.local a) stream s.streams e).1
+
+bytes-local : (a : SocketAddr) (bytes : List ℕ) (x : Stream) → (bytes_by a bytes x).local ≡ x.local
+bytes-local a bytes x = by (same_address x.local a)
+  where
+    by : (b : Bool) → (cond b (record x { bytes = bytes }) x).local ≡ x.local
+    by true = refl
+    by false = refl
+
+abbrev broken_by : SocketAddr → Stream → Stream
+broken_by a x = cond (same_address x.local a) (record x { mode = Broken; bytes = [] }) x
+
+broken-local : (a : SocketAddr) (x : Stream) → (broken_by a x).local ≡ x.local
+broken-local a x = by (same_address x.local a)
+  where
+    by : (b : Bool) → (cond b (record x { mode = Broken; bytes = [] }) x).local ≡ x.local
+    by true = refl
+    by false = refl
+
+found-test : (a : SocketAddr) (s : State) (stream : Stream) → stream_at a s ≡ Some stream → same_address stream.local a ≡ true
+found-test a s stream e = (has-found (λ (x : Stream). same_address x.local a) stream s.streams e).1
+
+pub bytes-found : (a : SocketAddr) (bytes : List ℕ) (s : State) (stream : Stream) → stream_at a s ≡ Some stream → stream_at a (with_bytes a bytes s) ≡ Some (record stream { bytes = bytes })
+bytes-found a bytes s stream e =
+    find-mapped a (bytes_by a bytes) (bytes-local a bytes) s.streams
+    ∙ (ap (option_map (bytes_by a bytes)) e ∙ rw (found-test a s stream e) refl)
+
+pub broken-found : (a : SocketAddr) (s : State) (stream : Stream) → stream_at a s ≡ Some stream → stream_at a (broken_at a s) ≡ Some (record stream { mode = Broken; bytes = [] })
+broken-found a s stream e =
+    find-mapped a (broken_by a) (broken-local a) s.streams
+    ∙ (ap (option_map (broken_by a)) e ∙ rw (found-test a s stream e) refl)
+
+-- ---- its bytes are set
+
+none-set : (a : SocketAddr) (bytes : List ℕ) (xs : List Stream) → find (λ x. same_address x.local a) xs ≡ None → map (bytes_by a bytes) xs ≡ xs
+none-set a bytes [] e = refl
+none-set a bytes (x ∷ xs) e = by (same_address x.local a) refl (none-set a bytes xs)
+  where
+    by : (b : Bool) → same_address x.local a ≡ b → (find (λ x. same_address x.local a) xs ≡ None → map (bytes_by a bytes) xs ≡ xs) → map (bytes_by a bytes) (x ∷ xs) ≡ x ∷ xs
+    by true f later = let clash : Some x ≡ None = rw f at e in cc
+    by false f later = let same = later (rw f at e) in rw (f, same) refl
+
+-- where there is no such stream, nothing changes
+pub none-bytes : (a : SocketAddr) (bytes : List ℕ) (s : State) → stream_at a s ≡ None → with_bytes a bytes s ≡ s
+none-bytes a bytes s e = ap (λ (x : List Stream). record s { streams = x }) (none-set a bytes s.streams e)
+
+others-set : (a : SocketAddr) (bytes : List ℕ) (xs : List Stream) → IsNoneOf a xs → map (bytes_by a bytes) xs ≡ xs
+others-set a bytes [] none = refl
+others-set a bytes (x ∷ xs) none = let same = others-set a bytes xs none.1 in rw (differ-sym a x.local none.0, same) refl
+
+self-set : (a : SocketAddr) (xs : List Stream) (stream : Stream) → IsDistinct same_address (ends xs) → find (λ x. same_address x.local a) xs ≡ Some stream → map (bytes_by a stream.bytes) xs ≡ xs
+unfolding IsDistinct
+self-set a [] stream apart e = cc
+self-set a (x ∷ xs) stream apart e = by (same_address x.local a) refl (self-set a xs stream apart.1)
+  where
+    here : same_address x.local a ≡ true → map (bytes_by a x.bytes) (x ∷ xs) ≡ x ∷ xs
+    here f =
+        let same = others-set a x.bytes xs (subst (λ (l : SocketAddr). IsNoneOf l xs) (same_address-true x.local a f) apart.0) in
+        rw (f, same) refl
+
+    by : (b : Bool) → same_address x.local a ≡ b → (find (λ x. same_address x.local a) xs ≡ Some stream → map (bytes_by a stream.bytes) xs ≡ xs) → map (bytes_by a stream.bytes) (x ∷ xs) ≡ x ∷ xs
+    by true f later =
+        let found : Some x ≡ Some stream = rw f at e in
+        let is : x ≡ stream = cc in
+        subst (λ (y : Stream). map (bytes_by a y.bytes) (x ∷ xs) ≡ x ∷ xs) is (here f)
+    by false f later = let same = later (rw f at e) in rw (f, same) refl
+
+-- set to what it holds, it is as it was
+pub self-bytes : (a : SocketAddr) (s : State) (stream : Stream) → IsDistinct same_address (ends s.streams) → stream_at a s ≡ Some stream → with_bytes a stream.bytes s ≡ s
+self-bytes a s stream apart e = ap (λ (x : List Stream). record s { streams = x }) (self-set a s.streams stream apart e)
+
+broken-set : (a : SocketAddr) (x : Stream) → bytes_by a [] (broken_by a x) ≡ broken_by a x
+broken-set a x = by (same_address x.local a) refl
+  where
+    by : (b : Bool) → same_address x.local a ≡ b → bytes_by a [] (broken_by a x) ≡ broken_by a x
+    by true e = rw (e, e) refl
+    by false e = rw (e, e) refl
+
+all-broken-set : (a : SocketAddr) (xs : List Stream) → map (bytes_by a []) (map (broken_by a) xs) ≡ map (broken_by a) xs
+all-broken-set a [] = refl
+all-broken-set a (x ∷ xs) = rw (broken-set a x, all-broken-set a xs) refl
+
+-- a stream that breaks holds nothing
+pub broken-empty : (a : SocketAddr) (s : State) → with_bytes a [] (broken_at a s) ≡ broken_at a s
+broken-empty a s = ap (λ (x : List Stream). record s { streams = x }) (all-broken-set a s.streams)
+
+-- ---- the only stream that may be ready
+
+-- all streams from other local ends wait
+abbrev pub OthersWait : SocketAddr → List Stream → Type 0
+OthersWait a xs = (x : Stream) → Has x xs → same_address x.local a ≡ false → is_ready x ≡ false
+
+-- The stream at this local end holds nothing, no other has this local end, and the others wait.
+pub record IsAlone (a : SocketAddr) (s : State) : Type 0 where
+  pub distinct : IsDistinct same_address (ends s.streams)
+  pub empty : with_bytes a [] s ≡ s
+  pub others : OthersWait a s.streams
+
+none-ready : (a : SocketAddr) (bytes : List ℕ) (xs : List Stream) → IsNoneOf a xs → OthersWait a xs → find is_ready (map (bytes_by a bytes) xs) ≡ None
+none-ready a bytes [] none waits = refl
+none-ready a bytes (x ∷ xs) none waits =
+    let differs = differ-sym a x.local none.0 in
+    rw (differs, waits x (inl refl) differs) (none-ready a bytes xs none.1 (λ y there. waits y (inr there)))
+
+abbrev if_ready : Stream → Option Stream
+if_ready stream = cond (is_ready stream) (Some stream) None
+
+-- the first at this local end is fed, and no other is there
+find-fed : (a : SocketAddr) (bytes : List ℕ) (xs : List Stream) (stream : Stream) → IsDistinct same_address (ends xs) → OthersWait a xs → find (λ x. same_address x.local a) xs ≡ Some stream → find is_ready (map (bytes_by a bytes) xs) ≡ if_ready (record stream { bytes = bytes })
+unfolding IsDistinct
+find-fed a bytes [] stream apart waits e = cc
+find-fed a bytes (x ∷ xs) stream apart waits e = by (same_address x.local a) refl (λ f. find-fed a bytes xs stream apart.1 (λ y there. waits y (inr there)) f)
+  where
+    Goal : Stream → Type 0
+    Goal y = find is_ready (map (bytes_by a bytes) (x ∷ xs)) ≡ if_ready (record y { bytes = bytes })
+
+    here : same_address x.local a ≡ true → (b : Bool) → is_ready (record x { bytes = bytes }) ≡ b → Goal x
+    here f true g = rw (f, g) refl
+    here f false g = rw (f, g) (none-ready a bytes xs (subst (λ (l : SocketAddr). IsNoneOf l xs) (same_address-true x.local a f) apart.0) (λ y there. waits y (inr there)))
+
+    by : (b : Bool) → same_address x.local a ≡ b → (find (λ x. same_address x.local a) xs ≡ Some stream → find is_ready (map (bytes_by a bytes) xs) ≡ if_ready (record stream { bytes = bytes })) → Goal stream
+    by true f later = found (rw f at e)
+      where
+        found : Some x ≡ Some stream → Goal stream
+        found g = let same : x ≡ stream = cc in subst Goal same (here f (is_ready (record x { bytes = bytes })) refl)
+    by false f later = rw (f, waits x (inl refl) f) (later (rw f at e))
+
+pub fed-found : (a : SocketAddr) (bytes : List ℕ) (s : State) (stream : Stream) → IsAlone a s → stream_at a s ≡ Some stream → find is_ready (with_bytes a bytes s).streams ≡ cond (is_ready (record stream { bytes = bytes })) (Some (record stream { bytes = bytes })) None
+fed-found a bytes s stream alone e = find-fed a bytes s.streams stream alone.distinct alone.others e
+
+-- without a stream at this local end none is ready
+pub none-found : (a : SocketAddr) (s : State) → IsAlone a s → stream_at a s ≡ None → find is_ready s.streams ≡ None
+none-found a s alone e =
+    find-none is_ready s.streams
+    (λ x there. alone.others x there (none-false (λ (y : Stream). same_address y.local a) s.streams e x there))
+
+-- ---- what changes this stream alone
+
+ends-mapped : (f : Stream → Stream) → ((x : Stream) → (f x).local ≡ x.local) → (xs : List Stream) → ends (map f xs) ≡ ends xs
+ends-mapped f keeps [] = refl
+ends-mapped f keeps (x ∷ xs) = rw (keeps x, ends-mapped f keeps xs) refl
+
+pub aside-alone : (a : SocketAddr) (s t : State) → IsAsideFrom a s t → with_bytes a [] t ≡ t → IsDistinct same_address (ends s.streams) → OthersWait a s.streams → IsAlone a t
+aside-alone a s t aside empty distinct others = record {
+  distinct = subst (λ (l : List SocketAddr). IsDistinct same_address l) (sym (ap ends aside.same ∙ ends-mapped aside.change aside.ends s.streams)) distinct;
+  empty = empty;
+  others = λ x there differs. by x differs (has-mapped aside.change x s.streams (subst (λ (xs : List Stream). Has x xs) aside.same there));
+}
+  where
+    by : (x : Stream) → same_address x.local a ≡ false → (y : Stream) × Has y s.streams × (x ≡ aside.change y) → is_ready x ≡ false
+    by x differs (y, before, e) =
+        let ends_there : x.local ≡ y.local = ap (λ (z : Stream). z.local) e ∙ aside.ends y in
+        let other : same_address y.local a ≡ false = subst (λ (l : SocketAddr). same_address l a ≡ false) ends_there differs in
+        let same : x ≡ y = e ∙ aside.others y other in
+        subst (λ (z : Stream). is_ready z ≡ false) (sym same) (others y before other)
+
+pub broken-aside : (a : SocketAddr) (s : State) → IsAsideFrom a s (broken_at a s)
+broken-aside a s = record { change = broken_by a; same = refl; ends = broken-local a; others = λ x h. rw h refl }
+
+pub bytes-aside : (a : SocketAddr) (bytes : List ℕ) (s : State) → IsAsideFrom a s (with_bytes a bytes s)
+bytes-aside a bytes s = record { change = bytes_by a bytes; same = refl; ends = bytes-local a bytes; others = λ x h. rw h refl }

@@ -1,0 +1,209 @@
+-- One stream of a client over TCP as frames that are handled one after the other, in whatever pieces they
+-- come (RFC 8656, section 12.5; RFC 6062, section 4.3).
+use Rattle.std.specs.Prelude.{◌≡◌, ◌≢◌, ℕ, zero, suc, ◌+◌, ◌==◌, Bool, true, false, if◌then◌else◌, List, [], ◌∷◌, ◌++◌, All, drop, find, flat_map, length, map, take, Option, Some, None, MatchOption, option_to_list}
+use Rattle.std.specs.List.{concat}
+use Rattle.std.specs.Option.{option_map_or}
+use Rattle.std.specs.declared.net.socket_addr.SocketAddr.{SocketAddr}
+use Rattle.turn_stun.specs.declared.transport.Transmit.{Transmit}
+use Rattle.turn_stun.specs.declared.transport.TransportType.TheVariants.{Tcp}
+use Rattle.turn_types.specs.Cuts.{Drained, behind, drained}
+use Rattle.turn_types.specs.Frames.{begins_no_frame, frame_len}
+use Rattle.turn_types.specs.Streams as T
+use Rattle.turn_client_api.specs.State.{State}
+use Rattle.turn_client_api.specs.declared.state.Mode.{Mode}
+use Rattle.turn_client_api.specs.declared.state.Mode.TheVariants.{Control, Waiting, Bound, Broken}
+use Rattle.turn_client_api.specs.declared.state.Stream.{Stream}
+use Rattle.turn_client_api.specs.declared.call.Call.{Call}
+use Rattle.turn_client_api.specs.declared.call.Call.TheVariants.{Recv, PollRecv}
+use Rattle.turn_client_api.specs.Payloads.{Payload, Outcome, PeerData}
+use Rattle.turn_client_api.specs.Streams.{broken_at, frame_step, is_ready, most_turns, poll_recv_step, sent_by, stream_at, with_bytes}
+use Rattle.turn_client_api.specs.Receive.{recv_step}
+use Rattle.turn_client_api.specs.Steps.{packet_step, state_after}
+use Rattle.turn_client_api.specs.LawsStreams.{AreApart}
+use Rattle.turn_client_runs.specs.Run.{state_behind}
+
+-- ---- the whole of what comes
+
+-- how the bytes of a stream are meant
+abbrev pub meant : Mode → T.Mode
+meant Control = T.Framed
+meant Waiting = T.Framed
+meant (Bound peer) = T.Bound
+meant Broken = T.Broken
+
+-- where no stream is at this local end, its bytes are not meant at all
+abbrev pub mode_at : SocketAddr → State → T.Mode
+mode_at local s = option_map_or (λ stream. meant stream.mode) (stream_at local s) T.Broken
+
+-- a payload of a peer, owned, or nothing
+abbrev pub given_by : Outcome → List Payload
+given_by (PeerData payload) = record payload { place = None } ∷ []
+given_by _ = []
+
+-- A whole frame has four bytes at least. A byte that stands alone is one with which no frame begins: it
+-- breaks the stream.
+abbrev pub framed_step : Stream → List ℕ → ℕ → State → State × List Payload
+framed_step stream frame now s =
+    if length frame == 1 then (broken_at stream.local s, [])
+    else ((frame_step stream frame now s).1, given_by (frame_step stream frame now s).0)
+
+-- what is made of one frame of a stream, or of one byte of a bound one, and what it gives
+abbrev pub part_step : Stream → List ℕ → ℕ → State → State × List Payload
+part_step stream part now s = by stream.mode
+  where
+    by : Mode → State × List Payload
+    by Control = framed_step stream part now s
+    by Waiting = framed_step stream part now s
+    by (Bound peer) = (s, sent_by peer part None ∷ [])
+    by Broken = (s, [])
+
+abbrev pub part_at : SocketAddr → ℕ → State → List ℕ → State × List Payload
+part_at local now s part = option_map_or (λ stream. part_step stream part now s) (stream_at local s) (s, [])
+
+-- The parts of these bytes, each handled in the state that the one before left, in which the stream holds
+-- nothing. How the bytes are meant is asked anew for each part.
+abbrev pub whole : SocketAddr → ℕ → State → List ℕ → Drained State Payload
+whole local now s bytes = drained (λ t. T.size_in (mode_at local t)) (part_at local now) s bytes
+
+-- ---- the whole, read from its front
+
+-- nothing is given, and these bytes are left
+abbrev pub left : State → List ℕ → Drained State Payload
+left s rest = record { state = s; given = []; rest = rest }
+
+-- the frame in front has so many bytes: what it gives, and then what is behind it
+abbrev pub after_frame : SocketAddr → Stream → ℕ → ℕ → State → List ℕ → Drained State Payload
+after_frame local stream len now s bytes =
+    let p = frame_step stream (take len bytes) now s in behind (given_by p.0) (whole local now p.1 (drop len bytes))
+
+-- what no frame begins with breaks the stream, and less than a frame is left
+abbrev pub framed_whole : SocketAddr → Stream → ℕ → State → List ℕ → Drained State Payload
+framed_whole local stream now s bytes = if begins_no_frame bytes then left (broken_at local s) [] else by (frame_len bytes)
+  where
+    by : Option ℕ → Drained State Payload
+    by None = left s bytes
+    by (Some len) = after_frame local stream len now s bytes
+
+-- by how the bytes of this stream are meant; each byte of a bound stream is the peer's
+abbrev pub whole_in : SocketAddr → Stream → ℕ → State → List ℕ → Drained State Payload
+whole_in local stream now s bytes = by stream.mode
+  where
+    by : Mode → Drained State Payload
+    by Control = framed_whole local stream now s bytes
+    by Waiting = framed_whole local stream now s bytes
+    by (Bound peer) = record { state = s; given = map (λ b. sent_by peer (b ∷ []) None) bytes; rest = [] }
+    by Broken = left s []
+
+-- where there is no stream, nothing is given, and nothing is left
+abbrev pub read_from_front : SocketAddr → ℕ → State → List ℕ → Drained State Payload
+read_from_front local now s bytes = option_map_or (λ stream. whole_in local stream now s bytes) (stream_at local s) (left s [])
+
+-- ---- after what waits
+
+-- what waits in the stream at this local end
+abbrev pub bytes_at : SocketAddr → State → List ℕ
+bytes_at local s = option_map_or (λ stream. stream.bytes) (stream_at local s) []
+
+-- these bytes come after those that wait: the payloads, and the state after them, with its rest
+abbrev pub whole_of : SocketAddr → ℕ → State → List ℕ → List Payload × State
+whole_of local now s bytes =
+    let d = whole local now (with_bytes local [] s) (bytes_at local s ++ bytes) in (d.given, with_bytes local d.rest d.state)
+
+-- ---- what pieces give
+
+abbrev pub and_then : (State → List Payload × State) → Option Payload × State → List Payload × State
+and_then next (None, t) = ([], t)
+and_then next (Some payload, t) = (payload ∷ (next t).0, (next t).1)
+
+-- polled up to the first none, at most so often
+unfoldable pub polled : ℕ → ℕ → State → List Payload × State
+polled zero now s = ([], s)
+polled (suc n) now s = and_then (polled n now) (poll_recv_step now s)
+
+-- a piece comes from the server for this local end, and then the client is polled
+abbrev pub fed_piece : SocketAddr → List ℕ → ℕ → State → List Payload × State
+fed_piece local piece now s =
+    let came = recv_step Tcp s.remote local piece now s in
+    let more = polled (most_turns came.1 + 1) now came.1 in
+    (given_by came.0 ++ more.0, more.1)
+
+unfoldable pub fed_pieces : SocketAddr → List (List ℕ) → ℕ → State → List Payload × State
+fed_pieces local [] now s = ([], s)
+fed_pieces local (piece ∷ pieces) now s =
+    let one = fed_piece local piece now s in
+    let others = fed_pieces local pieces now one.1 in
+    (one.0 ++ others.0, others.1)
+
+abbrev pub is_control : Option Stream → Bool
+is_control None = false
+is_control (Some stream) = by stream.mode
+  where
+    by : Mode → Bool
+    by Control = true
+    by _ = false
+
+-- payloads of the control connection count as they are, those of a data connection byte by byte
+abbrev pub one_by_one : Bool → Payload → List Payload
+one_by_one is_control payload =
+    if is_control then payload ∷ [] else map (λ b. sent_by payload.peer (b ∷ []) None) payload.bytes
+
+abbrev pub joined : SocketAddr → State → List Payload → List Payload
+joined local s payloads = flat_map (one_by_one (is_control (stream_at local s))) payloads
+
+-- Pieces of a stream give what all their bytes give, and leave the state that these leave.
+abbrev pub IsSameForAnyCut : SocketAddr → List (List ℕ) → ℕ → State → Type 0
+IsSameForAnyCut local pieces now s =
+    (joined local s (fed_pieces local pieces now s).0 ≡ (whole_of local now s (concat pieces)).0)
+    × ((fed_pieces local pieces now s).1 ≡ (whole_of local now s (concat pieces)).1)
+
+-- a client over TCP that handles nothing before more comes in
+pub record IsQuiet (s : State) : Type 0 where
+  pub transport : s.transport ≡ Tcp
+  pub apart : AreApart s
+  pub none_ready : find is_ready s.streams ≡ None
+
+-- once it is polled and gives nothing, it is quiet
+abbrev pub GetsQuiet : State → Type 0
+GetsQuiet s = (now : ℕ) → (poll_recv_step now s).0 ≡ None → IsQuiet (poll_recv_step now s).1
+
+-- no piece is the empty one, which ends a stream
+abbrev pub AreNonempty : List (List ℕ) → Type 0
+AreNonempty pieces = All (λ piece. piece ≢ []) pieces
+
+-- ---- the same as calls of a run
+
+abbrev pub given_in : Call → State → List Payload
+given_in (Recv packet now) s = given_by (packet_step packet now s).0
+given_in (PollRecv now) s = option_to_list (poll_recv_step now s).0
+given_in _ s = []
+
+-- what the calls give of peers, one after the other
+abbrev pub given_in_run : State → List Call → List Payload
+given_in_run s [] = []
+given_in_run s (call ∷ calls) = given_in call s ++ given_in_run (state_after call s) calls
+
+-- calls of `poll_recv` at this moment, up to the first that gives nothing
+abbrev pub ArePolls : ℕ → List Call → State → Type 0
+ArePolls now [] s = ⊥
+ArePolls now (call ∷ calls) s =
+    (call ≡ PollRecv now)
+    × MatchOption (poll_recv_step now s).0 (calls ≡ []) (λ payload. ArePolls now calls (poll_recv_step now s).1)
+
+-- from the server, for this local end
+abbrev pub piece_for : SocketAddr → List ℕ → State → Transmit (List ℕ)
+piece_for local piece s = record { payload = piece; transport = Tcp; from = s.remote; to = local }
+
+-- each piece comes in, none of them empty, and then the client is polled, all at this moment
+abbrev pub ArePieces : SocketAddr → List (List ℕ) → ℕ → List Call → State → Type 0
+ArePieces local [] now calls s = calls ≡ []
+ArePieces local (piece ∷ pieces) now calls s =
+    (polls : List Call) × (later : List Call) × (calls ≡ Recv (piece_for local piece s) now ∷ (polls ++ later)) × (piece ≢ [])
+    × ArePolls now polls (recv_step Tcp s.remote local piece now s).1
+    × ArePieces local pieces now later (state_behind (recv_step Tcp s.remote local piece now s).1 polls)
+
+-- Such calls give what all their bytes give, and leave the state that these leave.
+abbrev pub IsSameInRuns : SocketAddr → List (List ℕ) → ℕ → State → Type 0
+IsSameInRuns local pieces now s =
+    (calls : List Call) → ArePieces local pieces now calls s →
+    (joined local s (given_in_run s calls) ≡ (whole_of local now s (concat pieces)).0)
+    × (state_behind s calls ≡ (whole_of local now s (concat pieces)).1)
