@@ -1,0 +1,2 @@
+pub mod AnsweredTurns
+pub mod GrantTurns

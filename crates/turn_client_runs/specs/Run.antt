@@ -1,7 +1,8 @@
 -- Whole runs of a client: each call by its own step, one after the other.
 use Rattle.std.specs.Prelude.{List, [], ◌∷◌}
 use Rattle.turn_client_api.specs.State.{State}
-use Rattle.turn_client_api.specs.Steps.{Call, state_after}
+use Rattle.turn_client_api.specs.Steps.{state_after}
+use Rattle.turn_client_api.specs.declared.call.Call.{Call}
 
 -- the client after these calls, which all found memory
 abbrev pub state_behind : State → List Call → State
