@@ -26,7 +26,7 @@ use Rattle.turn_client_api.specs.Judgement.{SignedSuccess, bind_judgement, class
 use Rattle.turn_client_api.specs.LawsBound.{IsBindTurn}
 use Rattle.turn_client_api.specs.LawsGranted.{IsGivenFor, IsGrant, IsGrantedBy, IsKeptAs}
 use Rattle.turn_client_api.specs.LawsHandled.{DiffersInStreams, IsOverControl}
-use Rattle.turn_client_api.specs.LawsReplies.{IsAccepted, IsNotAwaited}
+use Rattle.turn_client_api.specs.LawsReplies.{IsAccepted, IsAwaited, IsNotAwaited}
 use Rattle.turn_client_api.specs.Payloads.{is_message, message_step}
 use Rattle.turn_client_api.specs.Receive.{connection_gone}
 use Rattle.turn_client_api.proofs.AcceptedReplyLemmas.{bind-ended}
@@ -38,15 +38,15 @@ use Rattle.turn_client_api.proofs.GrantOriginMessageLemmas.{message-grants}
 use Rattle.turn_client_api.proofs.HasLemmas.{Has}
 use Rattle.turn_client_api.proofs.StandLemmas.{Covers, covers-left}
 use Rattle.turn_client_api.proofs.TurnBringLemmas.{IsBrought}
-use Rattle.turn_client_runs.specs.Granted.{IsAccepting, IsGivenIn, IsOverIts}
+use Rattle.turn_client_runs.specs.Granted.{IsGivenIn, IsOverIts}
 use Rattle.turn_client_runs.proofs.AnsweredTurns.{made-control, made-waiting, success-ends}
 
 -- ---- what is kept is the same, but for what an allocation was told of
 
-abbrev AreAllocations : Grant → Grant → Type 0
+abbrev pub AreAllocations : Grant → Grant → Type 0
 AreAllocations was g = (a b : Relay) × (was ≡ Allocation a) × (g ≡ Allocation b) × (a.relayed ≡ b.relayed) × (a.expiry ≡ b.expiry)
 
-kept-alike : (was g : Grant) → IsKeptAs was g → AreAllocations was g ⊎ (was ≡ g)
+pub kept-alike : (was g : Grant) → IsKeptAs was g → AreAllocations was g ⊎ (was ≡ g)
 kept-alike (Allocation a) (Allocation b) k = inl (a, b, refl, refl, k.0, k.1)
 kept-alike (Allocation a) (Permission other progress) k = absurd k
 kept-alike (Allocation a) (Channel other to progress) k = absurd k
@@ -104,6 +104,15 @@ given-kept p was g message now s kept given = by (kept-alike was g kept)
 abbrev pub IsGivenAt : Turn → Purpose → Grant → Type 0
 IsGivenAt one p (Connection c) = IsGivenIn one p (Connection c)
 IsGivenAt one p g = IsGivenFor p one.bytes one.moment one.before g
+
+-- The turn is that of a success, and answers a request for the purpose.
+pub record IsAccepting (purpose : Purpose) (one : Turn) : Type 0 where
+  pub whole : is_message one.bytes ≡ true
+  pub success : class_in one.bytes ≡ Success
+  pub signed : IsValidated (validation_of (auth_of one.before) one.bytes)
+  pub listed : Contains (purposes_of (id_of one.bytes) one.before) purpose
+  pub outstanding : IsAwaited one.bytes one.before
+  pub ended : IsNotAwaited one.bytes (made_of one).1
 
 -- the turn granted it
 pub record Granting (g : Grant) (one : Turn) : Type 0 where

@@ -1,2 +1,6 @@
 pub mod AnsweredTurns
+pub mod AskedPeers
+pub mod CallGrants
 pub mod GrantTurns
+pub mod RunGrants
+pub mod RunLemmas

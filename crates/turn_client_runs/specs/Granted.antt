@@ -1,17 +1,23 @@
 -- What the replies of a run granted (RFC 8489, section 9.2.5; RFC 8656, sections 7.3 to 12.3; RFC 6062,
 -- section 4.3).
-use Rattle.std.specs.Prelude.{◌≡◌, ◌⊎◌, ◌≤◌, ℕ, true, List, [], ◌∷◌, ◌++◌, Some, None}
+use Rattle.std.specs.Prelude.{◌≡◌, ◌⊎◌, ◌≤◌, ℕ, true, List, [], ◌∷◌, ◌++◌, Some, None, Ok}
+use Rattle.std.specs.declared.net.socket_addr.SocketAddr.{SocketAddr}
+use Rattle.turn_stun.specs.declared.transport.TransportType.{TransportType}
+use Rattle.turn_client_api.specs.Config.{Config}
 use Rattle.std.specs.List.{Contains, list_any}
 use Rattle.turn_stun.specs.Message.{id_of}
 use Rattle.turn_stun.specs.declared.message.header.MessageClass.TheVariants.{Success}
 use Rattle.turn_auth.specs.Validation.{IsValidated, validation_of}
-use Rattle.turn_client_api.specs.State.{State, auth_of, later_by, seconds}
+use Rattle.turn_client_api.specs.State.{State, auth_of, initial, later_by, seconds}
 use Rattle.turn_client_api.specs.declared.call.Call.{Call}
 use Rattle.turn_client_api.specs.declared.grant.Grant.{Grant}
 use Rattle.turn_client_api.specs.declared.grant.Grant.TheVariants.{Allocation, Permission, Channel, Connection}
+use Rattle.turn_client_api.specs.declared.grant.Relay.{Relay}
 use Rattle.turn_client_api.specs.declared.grant.Progress.TheVariants.{Active}
 use Rattle.turn_client_api.specs.declared.grant.Purpose.{Purpose}
 use Rattle.turn_client_api.specs.declared.grant.Purpose.TheVariants.{ForAllocation, ForRefresh, ForPermission, ForChannel, ForBind}
+use Rattle.turn_client_api.specs.declared.call.Call.TheVariants.{Delete}
+use Rattle.turn_client_api.specs.Calls.{delete_step}
 use Rattle.turn_client_api.specs.Grants.{is_of_family, purposes_of, same_ip}
 use Rattle.turn_client_api.specs.Judgement.{class_in, lifetime_in}
 use Rattle.turn_client_api.specs.Effect.{channel_lifetime, least_lifetime, permission_lifetime, relayed_in}
@@ -23,18 +29,7 @@ use Rattle.turn_client_api.specs.LawsHandled.{IsOverControl, IsOverWaiting}
 use Rattle.turn_client_api.specs.LawsReplies.{IsAwaited, IsNotAwaited}
 use Rattle.turn_client_runs.specs.Run.{state_behind}
 
--- ---- a reply
-
--- The turn is that of a success, which is signed under the realm, the key and the algorithm that are held then.
--- It answers a request that was made for this purpose: it is outstanding just before the turn, and is not just
--- after it.
-pub record IsAccepting (purpose : Purpose) (one : Turn) : Type 0 where
-  pub whole : is_message one.bytes ≡ true
-  pub success : class_in one.bytes ≡ Success
-  pub signed : IsValidated (validation_of (auth_of one.before) one.bytes)
-  pub listed : Contains (purposes_of (id_of one.bytes) one.before) purpose
-  pub outstanding : IsAwaited one.bytes one.before
-  pub ended : IsNotAwaited one.bytes (made_of one).1
+-- ---- what a reply grants
 
 -- a data connection is bound over itself, and all else is granted over the control connection
 abbrev pub IsOverIts : Grant → Turn → Type 0
@@ -58,27 +53,79 @@ IsGivenIn one (ForChannel number peer) (Channel other to (Active expiry)) =
 IsGivenIn one (ForBind local peer id) (Connection c) = (c.local ≡ local) × (c.deadline ≡ None)
 IsGivenIn one _ _ = ⊥
 
--- the turn granted it, with this end
-pub record IsGrantingTurn (g : Grant) (one : Turn) : Type 0 where
+-- The turn granted it, with this end. It is that of a success, which is signed under the realm, the key and
+-- the algorithm that are held then. It answers a request that was made for this purpose: outstanding just
+-- before the turn, and not just after it.
+pub record IsGranting (g : Grant) (purpose : Purpose) (one : Turn) : Type 0 where
   pub over : IsOverIts g one
-  pub purpose : Purpose
-  pub accepting : IsAccepting purpose one
+  pub whole : is_message one.bytes ≡ true
+  pub success : class_in one.bytes ≡ Success
+  pub signed : IsValidated (validation_of (auth_of one.before) one.bytes)
+  pub listed : Contains (purposes_of (id_of one.bytes) one.before) purpose
+  pub outstanding : IsAwaited one.bytes one.before
+  pub ended : IsNotAwaited one.bytes (made_of one).1
   pub given : IsGivenIn one purpose g
 
 -- ---- a run
 
--- it stands in this state, and after each of these calls, with the same end
-abbrev pub StandsThrough : Grant → List Call → State → Type 0
-StandsThrough g [] s = Stood s g
-StandsThrough g (call ∷ calls) s = Stood s g × StandsThrough g calls (state_after call s)
+-- it holds in this state and after each of these calls
+abbrev pub HoldsThrough : (State → Type 0) → List Call → State → Type 0
+HoldsThrough P [] s = P s
+HoldsThrough P (call ∷ calls) s = P s × HoldsThrough P calls (state_after call s)
 
--- One of these calls took such a turn, and no call after it dropped the grant or gave it another end.
-pub record IsGranted (g : Grant) (calls : List Call) (first : State) : Type 0 where
+-- A turn of one of these calls answered a request for a purpose, and did this for it. The claim holds after
+-- that call and after each later one.
+pub record IsAnsweredIn (Did : Purpose → Turn → Type 0) (P : State → Type 0) (calls : List Call) (first : State) : Type 0 where
   pub earlier : List Call
   pub call : Call
   pub later : List Call
   pub split : calls ≡ earlier ++ call ∷ later
   pub turn : Turn
   pub among : Contains (handled call (state_behind first earlier)) turn
-  pub granting : IsGrantingTurn g turn
-  pub stands : StandsThrough g later (state_after call (state_behind first earlier))
+  pub purpose : Purpose
+  pub did : Did purpose turn
+  pub holds : HoldsThrough P later (state_after call (state_behind first earlier))
+
+-- A turn of one of these calls granted it with the end that it has, and no later call dropped it or gave it
+-- another end.
+abbrev pub IsGranted : Grant → List Call → State → Type 0
+IsGranted g calls first = IsAnsweredIn (IsGranting g) (λ s. Stood s g) calls first
+
+-- ---- allocations
+
+-- an allocation has this relayed address
+abbrev pub IsRelayed : SocketAddr → State → Type 0
+IsRelayed relayed s = (a : Relay) × Contains s.grants (Allocation a) × (a.relayed ≡ relayed)
+
+abbrev pub GrantsAddress : SocketAddr → Purpose → Turn → Type 0
+GrantsAddress relayed purpose one = (a : Relay) × IsGranting (Allocation a) purpose one × (a.relayed ≡ relayed)
+
+-- a turn of one of these calls granted an allocation with this address, and no later call dropped it
+abbrev pub IsAllocated : SocketAddr → List Call → State → Type 0
+IsAllocated relayed calls first = IsAnsweredIn (GrantsAddress relayed) (IsRelayed relayed) calls first
+
+-- One of these calls, an accepted `delete`, ended it at its moment, after a turn of an earlier call had granted
+-- it. No later call dropped it or gave it another end.
+pub record IsGivenBack (a : Relay) (calls : List Call) (first : State) : Type 0 where
+  pub earlier : List Call
+  pub now : ℕ
+  pub later : List Call
+  pub split : calls ≡ earlier ++ Delete now ∷ later
+  pub accepted : (delete_step now (state_behind first earlier)).0 ≡ Ok tt
+  pub ends : a.expiry ≡ now
+  pub allocated : IsAllocated a.relayed earlier first
+  pub stands : HoldsThrough (λ s. Stood s (Allocation a)) later (state_after (Delete now) (state_behind first earlier))
+
+-- ---- all grants
+
+-- why it stands after these calls
+abbrev pub HasReply : Grant → List Call → State → Type 0
+HasReply (Allocation a) calls first = IsGranted (Allocation a) calls first ⊎ IsGivenBack a calls first
+HasReply g calls first = IsGranted g calls first
+
+-- all of this kind that stands after any calls of a new client was granted in them
+abbrev pub HaveReplies : (Grant → Type 0) → Type 0
+HaveReplies Kind =
+    (transport : TransportType) (local remote : SocketAddr) (config : Config) (seed : List ℕ) (calls : List Call) (g : Grant)
+    → Kind g → Contains (state_behind (initial transport local remote config seed) calls).grants g
+    → HasReply g calls (initial transport local remote config seed)

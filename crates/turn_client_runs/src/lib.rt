@@ -2,3 +2,7 @@
 //!
 //! The functions of this crate do nothing: their contracts are the laws.
 #![tactic(auto)]
+
+mod granted;
+
+pub use granted::grants_have_replies;
