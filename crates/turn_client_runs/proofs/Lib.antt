@@ -4,3 +4,4 @@ pub mod CallGrants
 pub mod GrantTurns
 pub mod RunGrants
 pub mod RunLemmas
+pub mod RelistLemmas
