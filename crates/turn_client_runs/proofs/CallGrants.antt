@@ -65,7 +65,25 @@ ended-kept call s is g kept (a, now, what, how, ends, was) = by (kept-alike is g
 
 -- ---- calls that take no turns
 
-quiet : (call : Call) (s : State) → (TakesTurns call → ⊥) → handled call s ≡ []
+pub taking : (call : Call) → TakesTurns call ⊎ (TakesTurns call → ⊥)
+taking (Recv packet now) = inl tt
+taking (PollRecv now) = inl tt
+taking (Delete now) = inr (λ takes. takes)
+taking (CreatePermission transport ip now) = inr (λ takes. takes)
+taking (BindChannel transport peer now) = inr (λ takes. takes)
+taking (TcpConnect peer now) = inr (λ takes. takes)
+taking (AllocatedTcpSocket id tuple peer local now) = inr (λ takes. takes)
+taking (TcpClosed local remote now) = inr (λ takes. takes)
+taking (SendTo transport peer bytes now) = inr (λ takes. takes)
+taking (Poll now) = inr (λ takes. takes)
+taking (PollTransmit now) = inr (λ takes. takes)
+taking PollEvent = inr (λ takes. takes)
+taking RelayedAddresses = inr (λ takes. takes)
+taking (Permissions transport relayed) = inr (λ takes. takes)
+taking (HavePermission transport to) = inr (λ takes. takes)
+taking ProtocolError = inr (λ takes. takes)
+
+pub quiet : (call : Call) (s : State) → (TakesTurns call → ⊥) → handled call s ≡ []
 quiet (Recv packet now) s other = absurd (other tt)
 quiet (PollRecv now) s other = absurd (other tt)
 quiet (Delete now) s other = refl

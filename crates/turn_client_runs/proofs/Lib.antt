@@ -5,3 +5,5 @@ pub mod GrantTurns
 pub mod RunGrants
 pub mod RunLemmas
 pub mod RelistLemmas
+pub mod TogetherLemmas
+pub mod AskedLemmas

@@ -1,5 +1,5 @@
 -- What stands after a run was granted in it.
-use Rattle.std.proofs.Common.{◌≡◌, ◌⊎◌, ◌∙◌, ◌++◌, ℕ, List, [], ◌∷◌, Ok, refl, subst, sym, ap, inl, inr}
+use Rattle.std.proofs.Common.{◌≡◌, ◌⊎◌, ◌∙◌, ◌++◌, arith, ℕ, List, [], ◌∷◌, Ok, refl, subst, sym, ap, inl, inr}
 use Rattle.std.specs.List.{Contains}
 use Rattle.turn_stun.specs.Message.{id_of}
 use Rattle.std.specs.declared.net.socket_addr.SocketAddr.{SocketAddr}
@@ -19,14 +19,17 @@ use Rattle.turn_client_api.specs.Grants.{purposes_of}
 use Rattle.turn_client_api.specs.Handled.{Turn, handled}
 use Rattle.turn_client_api.specs.LawsGranted.{HasChannelTo, IsKeptAs, IsStanding, Stood}
 use Rattle.turn_client_api.specs.LawsHandled.{IsDoneBy}
+use Rattle.turn_client_api.specs.LawsGone.{GivesBack}
 use Rattle.turn_client_api.specs.LawsNumbers.{HasDistinctNumbers}
 use Rattle.turn_client_api.specs.LawsStates.{HasGrantsAsked}
 use Rattle.turn_client_api.specs.Steps.{state_after}
 use Rattle.turn_client_api.proofs.DistinctNumbers.{initial-numbers, leaves-apart}
+use Rattle.turn_client_api.proofs.HasLemmas.{Has}
 use Rattle.turn_client_api.proofs.ListedGrants.{initial-HasGrantsAsked, leaves-HasGrantsAsked}
 use Rattle.turn_client_api.proofs.StandLemmas.{contains-has, covers-has, covers-stood}
-use Rattle.turn_client_runs.specs.Granted.{GrantsAddress, HasReply, IsAllocated, IsAnsweredIn, IsGivenBack, IsGivenIn, IsGranted, IsGranting, IsRelayed, HoldsThrough}
+use Rattle.turn_client_runs.specs.Granted.{DrawFreeIds, GrantsAddress, HasReply, IsAllocated, IsAnsweredIn, IsGivenBack, IsGivenIn, IsGranted, IsGranting, IsRelayed, HoldsThrough}
 use Rattle.turn_client_runs.specs.Run.{state_behind}
+use Rattle.turn_client_runs.proofs.AskedLemmas.{was-asked}
 use Rattle.turn_client_runs.proofs.AskedPeers.{HasAskedPeers, turns-ask-peers}
 use Rattle.turn_client_runs.proofs.CallGrants.{IsCaused, IsEndedBy, call-causes, delete-accepted, same-allocation}
 use Rattle.turn_client_runs.proofs.GrantTurns.{Granting, IsGivenAt}
@@ -150,28 +153,72 @@ call-allocates relayed call s keeps (a, there, e) = by (call-grants (Allocation 
 
 -- ---- a run
 
-answered-in : (Did : Purpose → Turn → Type 0) (P : State → Type 0) (calls : List Call) (first : State) → IsDoneLast (IsDoneFor Did) P calls first → IsAnsweredIn Did P calls first
-answered-in Did P calls first is =
-    let (one, among, (p, did)) = is.did in
-    record {
-      earlier = is.earlier;
-      call = is.call;
-      later = is.later;
-      split = is.split;
-      turn = one;
-      among = among;
-      purpose = p;
-      did = did;
-      holds = is.holds;
-    }
+-- what is in a list stands somewhere in it
+has-cut : {X : Type 0} (x : X) (xs : List X) → Has x xs → (front back : List X) × (xs ≡ front ++ x ∷ back)
+has-cut x (y ∷ xs) (inl e) = ([], xs, rw e refl)
+has-cut {X} x (y ∷ xs) (inr there) = by (has-cut x xs there)
+  where
+    by : (front back : List X) × (xs ≡ front ++ x ∷ back) → (front back : List X) × (y ∷ xs ≡ front ++ x ∷ back)
+    by (front, back, e) = (y ∷ front, back, ap (λ (l : List X). y ∷ l) e)
+has-cut x [] none = absurd none
 
-module _ (first : State) (empty : first.grants ≡ []) (keeps : Keeps first) where
+-- it answers a request for this, which gives nothing back
+abbrev AnswersFor : (Purpose → Turn → Type 0) → Type 0
+AnswersFor Did = (p : Purpose) (one : Turn) → Did p one → Contains (purposes_of (id_of one.bytes) one.before) p × (GivesBack p → ⊥)
+
+-- what is granted is granted for a request that gives nothing back
+no-return : (one : Turn) (g : Grant) (p : Purpose) → IsGivenIn one p g → GivesBack p → ⊥
+no-return one (Allocation a) (ForRefresh family lifetime) (least, same, told) back = absurd (omega (arith, least, back))
+no-return one (Permission ip progress) (ForRefresh family lifetime) given back = given
+no-return one (Channel number peer progress) (ForRefresh family lifetime) given back = given
+no-return one (Connect peer) (ForRefresh family lifetime) given back = given
+no-return one (Offer offer) (ForRefresh family lifetime) given back = given
+no-return one (Connection c) (ForRefresh family lifetime) given back = given
+no-return one g ForAllocation given back = back
+no-return one g (ForPermission ip) given back = back
+no-return one g (ForChannel number peer) given back = back
+no-return one g (ForConnect peer) given back = back
+no-return one g (ForBind local peer id) given back = back
+
+granting-answers : (g : Grant) → AnswersFor (IsGranting g)
+granting-answers g p one is = (is.listed, no-return one g p is.given)
+
+address-answers : (relayed : SocketAddr) → AnswersFor (GrantsAddress relayed)
+address-answers relayed p one (a, is, e) = granting-answers (Allocation a) p one is
+
+module _ (first : State) (unlisted : first.listed ≡ []) (calls : List Call) where
+  answered-in : (Did : Purpose → Turn → Type 0) → AnswersFor Did → (P : State → Type 0) → IsDoneLast (IsDoneFor Did) P calls first → IsAnsweredIn Did P calls first
+  answered-in Did answers P is = by is.did
+    where
+      s : State
+      s = state_behind first is.earlier
+
+      cut : (one : Turn) (p : Purpose) → Did p one → (front back : List Turn) × (handled is.call s ≡ front ++ one ∷ back) → IsAnsweredIn Did P calls first
+      cut one p did (front, back, e) = record {
+        earlier = is.earlier;
+        call = is.call;
+        later = is.later;
+        split = is.split;
+        front = front;
+        turn = one;
+        back = back;
+        cut = e;
+        purpose = p;
+        did = did;
+        asked = λ free. was-asked is.earlier is.call is.later first (subst (λ (l : List Call). DrawFreeIds l first) is.split free) unlisted front one back e p (answers p one did).1 (answers p one did).0;
+        holds = is.holds;
+      }
+
+      by : IsDoneFor Did is.call s → IsAnsweredIn Did P calls first
+      by (one, among, (p, did)) = cut one p did (has-cut one (handled is.call s) (contains-has one (handled is.call s) among))
+
+module _ (first : State) (empty : first.grants ≡ []) (unlisted : first.listed ≡ []) (keeps : Keeps first) where
   nothing : (g : Grant) → Contains first.grants g → ⊥
   nothing g there = contains-has g [] (subst (λ (grants : List Grant). Contains grants g) empty there)
 
   run-allocates : (relayed : SocketAddr) (calls : List Call) → IsRelayed relayed (state_behind first calls) → IsAllocated relayed calls first
   run-allocates relayed calls h =
-      answered-in (GrantsAddress relayed) (IsRelayed relayed) calls first
+      answered-in first unlisted calls (GrantsAddress relayed) (address-answers relayed) (IsRelayed relayed)
       (run-did (IsRelayed relayed) (IsDoneFor (GrantsAddress relayed)) Keeps call-keeps (call-allocates relayed) calls first keeps (λ is. nothing (Allocation is.0) is.1) h)
 
   run-caused : (g : Grant) → IsStanding g → (calls : List Call) → Stood (state_behind first calls) g → IsDoneLast (Causes g) (λ s. Stood s g) calls first
@@ -179,17 +226,9 @@ module _ (first : State) (empty : first.grants ≡ []) (keeps : Keeps first) whe
 
   -- the last cause was a turn, or a `delete`
   run-turned : (g : Grant) (calls : List Call) (is : IsDoneLast (Causes g) (λ s. Stood s g) calls first) → IsDoneFor (IsGranting g) is.call (state_behind first is.earlier) → IsGranted g calls first
-  run-turned g calls is (one, among, (p, did)) = record {
-    earlier = is.earlier;
-    call = is.call;
-    later = is.later;
-    split = is.split;
-    turn = one;
-    among = among;
-    purpose = p;
-    did = did;
-    holds = is.holds;
-  }
+  run-turned g calls is done =
+      answered-in first unlisted calls (IsGranting g) (granting-answers g) (λ s. Stood s g)
+      (record { earlier = is.earlier; call = is.call; later = is.later; split = is.split; did = done; holds = is.holds })
 
   run-gave : (a : Relay) (calls : List Call) (is : IsDoneLast (Causes (Allocation a)) (λ s. Stood s (Allocation a)) calls first) → IsAcceptedEnd (Allocation a) is.call (state_behind first is.earlier) → IsGivenBack a calls first
   run-gave a calls is ((b, now, what, how, ends, was), accepted) = record {
@@ -233,4 +272,4 @@ module _ (first : State) (empty : first.grants ≡ []) (keeps : Keeps first) whe
 
 pub grants-have-replies : (transport : TransportType) (local remote : SocketAddr) (config : Config) (seed : List ℕ) (calls : List Call) (g : Grant) → IsStanding g → Contains (state_behind (initial transport local remote config seed) calls).grants g → HasReply g calls (initial transport local remote config seed)
 grants-have-replies transport local remote config seed =
-    run-grants (initial transport local remote config seed) refl (initial-HasGrantsAsked transport local remote config seed, initial-numbers transport local remote config seed)
+    run-grants (initial transport local remote config seed) refl refl (initial-HasGrantsAsked transport local remote config seed, initial-numbers transport local remote config seed)

@@ -1,6 +1,6 @@
 -- What the replies of a run granted (RFC 8489, section 9.2.5; RFC 8656, sections 7.3 to 12.3; RFC 6062,
 -- section 4.3).
-use Rattle.std.specs.Prelude.{◌≡◌, ◌⊎◌, ◌≤◌, ℕ, true, List, [], ◌∷◌, ◌++◌, Some, None, Ok}
+use Rattle.std.specs.Prelude.{◌≡◌, ◌⊎◌, ◌≤◌, ℕ, true, List, [], ◌∷◌, ◌++◌, Some, None, Ok, ⊤}
 use Rattle.std.specs.declared.net.socket_addr.SocketAddr.{SocketAddr}
 use Rattle.turn_stun.specs.declared.transport.TransportType.{TransportType}
 use Rattle.turn_client_api.specs.Config.{Config}
@@ -25,8 +25,11 @@ use Rattle.turn_client_api.specs.Payloads.{is_message}
 use Rattle.turn_client_api.specs.Handled.{Turn, handled, made_of}
 use Rattle.turn_client_api.specs.Steps.{state_after}
 use Rattle.turn_client_api.specs.LawsGranted.{Stood}
-use Rattle.turn_client_api.specs.LawsHandled.{IsOverControl, IsOverWaiting}
+use Rattle.turn_client_api.specs.LawsHandled.{IsDoneBy, IsOverControl, IsOverWaiting}
+use Rattle.turn_client_api.specs.LawsPurposes.{DrawsFreeIds}
 use Rattle.turn_client_api.specs.LawsReplies.{IsAwaited, IsNotAwaited}
+use Rattle.turn_client_api.specs.LawsRequests.{AsksFor, IsListedFor, IsMade}
+use Rattle.turn_client_api.specs.Requests.{fresh_id}
 use Rattle.turn_client_runs.specs.Run.{state_behind}
 
 -- ---- what a reply grants
@@ -66,6 +69,44 @@ pub record IsGranting (g : Grant) (purpose : Purpose) (one : Turn) : Type 0 wher
   pub ended : IsNotAwaited one.bytes (made_of one).1
   pub given : IsGivenIn one purpose g
 
+-- ---- an own request
+
+-- Between these two states a request for the purpose was made, or one for a channel that brings the permission
+-- with it: under this ID, which was the next one, to the server, and with the bytes that ask for it.
+abbrev pub IsAsked : ℕ → Purpose → ℕ → State → State → Type 0
+IsAsked id p now s t = (request : Purpose) × IsListedFor request p × IsMade request now s t × (id ≡ fresh_id s)
+
+-- the turn made it, in answer to a request that was made for the same
+abbrev pub IsAskedInTurn : ℕ → Purpose → Turn → Type 0
+IsAskedInTurn id p one = IsAsked id p one.moment one.before (made_of one).1
+
+-- the call asks for this itself, and made it
+abbrev pub IsAskedItself : ℕ → Purpose → Call → State → Type 0
+IsAskedItself id p call s =
+    (request : Purpose) × (at : ℕ) × AsksFor call s request at × IsListedFor request p
+    × (IsMade request at s (state_after call s) × (id ≡ fresh_id s))
+
+-- the call made it, or a turn that it took
+abbrev pub IsAskedInCall : ℕ → Purpose → Call → State → Type 0
+IsAskedInCall id p call s = IsAskedItself id p call s ⊎ IsDoneBy (IsAskedInTurn id p) call s
+
+-- one of these calls made it
+pub record WasAsked (id : ℕ) (p : Purpose) (calls : List Call) (first : State) : Type 0 where
+  pub earlier : List Call
+  pub call : Call
+  pub later : List Call
+  pub split : calls ≡ earlier ++ call ∷ later
+  pub asked : IsAskedInCall id p call (state_behind first earlier)
+
+-- an earlier call made it, or an earlier turn of the same call
+abbrev pub WasAskedBefore : ℕ → Purpose → List Call → State → List Turn → Type 0
+WasAskedBefore id p earlier first front = WasAsked id p earlier first ⊎ ((one : Turn) × Contains front one × IsAskedInTurn id p one)
+
+-- fewer IDs are taken than there are, when each of these calls is made and when each turn comes that it takes
+abbrev pub DrawFreeIds : List Call → State → Type 0
+DrawFreeIds [] s = ⊤
+DrawFreeIds (call ∷ calls) s = DrawsFreeIds call s × DrawFreeIds calls (state_after call s)
+
 -- ---- a run
 
 -- it holds in this state and after each of these calls
@@ -73,17 +114,20 @@ abbrev pub HoldsThrough : (State → Type 0) → List Call → State → Type 0
 HoldsThrough P [] s = P s
 HoldsThrough P (call ∷ calls) s = P s × HoldsThrough P calls (state_after call s)
 
--- A turn of one of these calls answered a request for a purpose, and did this for it. The claim holds after
--- that call and after each later one.
+-- A turn of one of these calls answered a request for a purpose, and did this for it. Its request was made
+-- before, where IDs that are drawn are free. The claim holds after that call and after each later one.
 pub record IsAnsweredIn (Did : Purpose → Turn → Type 0) (P : State → Type 0) (calls : List Call) (first : State) : Type 0 where
   pub earlier : List Call
   pub call : Call
   pub later : List Call
   pub split : calls ≡ earlier ++ call ∷ later
+  pub front : List Turn
   pub turn : Turn
-  pub among : Contains (handled call (state_behind first earlier)) turn
+  pub back : List Turn
+  pub cut : handled call (state_behind first earlier) ≡ front ++ turn ∷ back
   pub purpose : Purpose
   pub did : Did purpose turn
+  pub asked : DrawFreeIds calls first → WasAskedBefore (id_of turn.bytes) purpose earlier first front
   pub holds : HoldsThrough P later (state_after call (state_behind first earlier))
 
 -- A turn of one of these calls granted it with the end that it has, and no later call dropped it or gave it
