@@ -1,9 +1,8 @@
 -- What the turn of a message does, and that an accepted success ends its request.
-use Rattle.std.proofs.Common.{◌≡◌, ◌∙◌, ◌+◌, ℕ, Bool, true, false, not, cond, ◌&&◌, eqb, ltb, List, length, Option, Some, None, refl, sym, ap}
+use Rattle.std.proofs.Common.{◌≡◌, ◌+◌, ℕ, Bool, true, false, not, cond, eqb, ltb, List, length, Option, Some, None, refl}
 use Rattle.std.specs.Prelude.{is_none, drop}
-use Rattle.std.specs.declared.net.socket_addr.SocketAddr.{SocketAddr}
 use Rattle.std.proofs.lemmas.Bool.{and_parts}
-use Rattle.turn_stun.specs.Message.{attributes_from, fault_of, id_of, is_stun_header, length_of, type_of}
+use Rattle.turn_stun.specs.Message.{attributes_from, fault_of, id_of, is_stun_header, length_of}
 use Rattle.turn_stun.specs.declared.error.ParseError.{ParseError}
 use Rattle.turn_stun.specs.declared.error.ParseError.TheVariants as E
 use Rattle.turn_types.specs.Frames.{begins_message}

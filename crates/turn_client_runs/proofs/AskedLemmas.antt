@@ -13,14 +13,11 @@ use Rattle.turn_client_api.specs.declared.grant.Purpose.TheVariants.{ForAllocati
 use Rattle.turn_client_api.specs.Grants.{purposes_of}
 use Rattle.turn_client_api.specs.Handled.{Turn, handled, made_of}
 use Rattle.turn_client_api.specs.LawsGone.{GivesBack}
-use Rattle.turn_client_api.specs.LawsHandled.{DiffersInStreams, DoesTurns, IsDoneBy, TakesTurns, TurnsLead}
+use Rattle.turn_client_api.specs.LawsHandled.{DiffersInStreams, DoesTurns, TakesTurns, TurnsLead}
 use Rattle.turn_client_api.specs.LawsPurposes.{DrawsFreeIds}
-use Rattle.turn_client_api.specs.LawsRequests.{IsListedFor, IsListingOf, IsMade}
-use Rattle.turn_client_api.specs.Receive.{connection_gone}
-use Rattle.turn_client_api.specs.Requests.{fresh_id}
+use Rattle.turn_client_api.specs.LawsRequests.{IsListedFor, IsListingOf}
 use Rattle.turn_client_api.specs.Retry.{first_or, is_allocate_or_connect, is_channel_bind, is_create_permission, is_refresh, retried}
 use Rattle.turn_client_api.specs.Steps.{state_after}
-use Rattle.turn_client_api.specs.Streams.{without_stream}
 use Rattle.turn_client_api.proofs.Edits.{listing}
 use Rattle.turn_client_api.proofs.EditsOfMessages.{retried-has}
 use Rattle.turn_client_api.proofs.HasLemmas.{Has, has-found}

@@ -1,5 +1,5 @@
 -- What stands after a call stood before it, a `delete` ended it, or a turn of the call granted it.
-use Rattle.std.proofs.Common.{◌≡◌, ◌⊎◌, ◌∙◌, ℕ, Bool, true, false, List, [], ◌∷◌, Ok, refl, subst, sym, ap, inl, inr}
+use Rattle.std.proofs.Common.{◌≡◌, ◌⊎◌, ◌∙◌, ℕ, Bool, true, false, List, [], Ok, refl, subst, sym, ap, inl, inr}
 use Rattle.std.specs.List.{Contains}
 use Rattle.turn_client_api.specs.State.{State}
 use Rattle.turn_client_api.specs.declared.call.Call.{Call}
@@ -9,7 +9,7 @@ use Rattle.turn_client_api.specs.declared.grant.Grant.TheVariants.{Allocation, P
 use Rattle.turn_client_api.specs.declared.grant.Relay.{Relay}
 use Rattle.turn_client_api.specs.Calls.{delete_step, is_allocated}
 use Rattle.turn_client_api.specs.Handled.{Turn, handled}
-use Rattle.turn_client_api.specs.LawsGranted.{IsEndedNow, IsGrantedIn, IsKeptAs, IsStanding, Stood}
+use Rattle.turn_client_api.specs.LawsGranted.{IsEndedNow, IsGrantedIn, IsKeptAs, Stood}
 use Rattle.turn_client_api.specs.LawsHandled.{IsDoneBy, TakesTurns}
 use Rattle.turn_client_api.specs.Steps.{state_after}
 use Rattle.turn_client_api.proofs.GrantedLemmas.{leaves-grants}

@@ -1,11 +1,11 @@
 -- What stands after a turn stood before it, or the turn granted it and ended the request that it answers.
-use Rattle.std.proofs.Common.{◌≡◌, ◌⊎◌, ◌∙◌, ℕ, Bool, true, false, cond, eqb, List, filter, Option, Some, None, refl, subst, sym, ap, inl, inr}
+use Rattle.std.proofs.Common.{◌≡◌, ◌⊎◌, ◌∙◌, ℕ, Bool, true, false, List, Some, None, refl, subst, sym, ap, inl, inr}
 use Rattle.std.specs.List.{Contains}
 use Rattle.std.specs.declared.net.socket_addr.SocketAddr.{SocketAddr}
 use Rattle.turn_stun.specs.Message.{id_of}
 use Rattle.turn_stun.specs.declared.message.header.MessageClass.TheVariants.{Success}
 use Rattle.turn_auth.specs.Validation.{IsValidated, validation_of}
-use Rattle.turn_agent.specs.Agent.{is_outstanding, same_address}
+use Rattle.turn_agent.specs.Agent.{same_address}
 use Rattle.turn_client_api.specs.State.{State, auth_of}
 use Rattle.turn_client_api.specs.declared.grant.Grant.{Grant}
 use Rattle.turn_client_api.specs.declared.grant.Grant.TheVariants.{Allocation, Permission, Channel, Connect, Offer, Connection}
@@ -19,13 +19,12 @@ use Rattle.turn_client_api.specs.declared.state.Phase.TheVariants.{New, Requesti
 use Rattle.turn_client_api.specs.declared.state.Mode.TheVariants.{Waiting}
 use Rattle.turn_client_api.specs.declared.state.Stream.{Stream}
 use Rattle.turn_client_api.specs.Grants.{purposes_of}
-use Rattle.turn_client_api.specs.Requests.{connection_bind_method}
 use Rattle.turn_client_api.specs.Connections.{bind_answered, bind_step, deadline_set}
 use Rattle.turn_client_api.specs.Handled.{Turn, made_of}
-use Rattle.turn_client_api.specs.Judgement.{SignedSuccess, bind_judgement, class_in, judgement_of, method_in}
+use Rattle.turn_client_api.specs.Judgement.{SignedSuccess, bind_judgement, class_in, judgement_of}
 use Rattle.turn_client_api.specs.LawsBound.{IsBindTurn}
 use Rattle.turn_client_api.specs.LawsGranted.{IsGivenFor, IsGrant, IsGrantedBy, IsKeptAs}
-use Rattle.turn_client_api.specs.LawsHandled.{DiffersInStreams, IsOverControl}
+use Rattle.turn_client_api.specs.LawsHandled.{IsOverControl}
 use Rattle.turn_client_api.specs.LawsReplies.{IsAccepted, IsAwaited, IsNotAwaited}
 use Rattle.turn_client_api.specs.Payloads.{is_message, message_step}
 use Rattle.turn_client_api.specs.Receive.{connection_gone}

@@ -1,5 +1,5 @@
 -- For what a request is made again, and listed: the first in order of what the old one is listed for.
-use Rattle.std.proofs.Common.{◌≡◌, ◌⊎◌, ℕ, eqb, ltb, leb, Bool, true, false, not, cond, ◌&&◌, List, [], ◌∷◌, ◌++◌, filter, length, Option, Some, None, refl, subst, inl, inr}
+use Rattle.std.proofs.Common.{◌≡◌, ◌⊎◌, ℕ, eqb, ltb, leb, Bool, true, false, not, cond, ◌&&◌, List, [], ◌∷◌, filter, length, Option, Some, None, refl, inl, inr}
 use Rattle.std.specs.Prelude.{find, IfSome, is_some}
 use Rattle.std.specs.Option.{option_map_or}
 use Rattle.std.specs.Net.Socket.{socket_ip}
@@ -36,7 +36,7 @@ use Rattle.turn_client_api.specs.Streams.{frame_step}
 use Rattle.turn_client_api.proofs.GrantOriginLemmas.{has-mapped}
 use Rattle.turn_client_api.proofs.HasLemmas.{Has, has-right}
 use Rattle.turn_client_api.proofs.MoveLemmas.{Adds, Never, adds-filter, adds-more, adds-same, adds-wider, by_test, on_test}
-use Rattle.turn_client_api.proofs.MoveMessageLemmas.{request_made, requested-made}
+use Rattle.turn_client_api.proofs.MoveMessageLemmas.{requested-made}
 use Rattle.turn_client_api.proofs.MoveReplyLemmas.{response-fits}
 use Rattle.turn_client_api.proofs.StandLemmas.{has-contains}
 
@@ -121,9 +121,9 @@ denied-relists message now s = by (has_code family_not_supported message && leb 
     by : (b : Bool) → (has_code family_not_supported message && leb 2 (length s.families)) ≡ b → Relists message now s (allocate_denied (fresh_id s) message now (ended (id_of message) s))
     by false e = rw e (still message now s _ (adds-filter Never _ s.listed))
     by true e = rw e (
-      adds-more _ s.listed (filter (λ l. not (is_for_allocation l.purpose)) s.listed) _ (adds-filter _ _ s.listed)
-      (relisted message now s (requested (fresh_id s) ForAllocation now u) ForAllocation (requested-made ForAllocation now s u) (ForAllocation ∷ []) (alone message s ForAllocation))
-    )
+        adds-more _ s.listed (filter (λ l. not (is_for_allocation l.purpose)) s.listed) _ (adds-filter _ _ s.listed)
+        (relisted message now s (requested (fresh_id s) ForAllocation now u) ForAllocation (requested-made ForAllocation now s u) (ForAllocation ∷ []) (alone message s ForAllocation))
+        )
 
 reply-relists : (is_granted : Bool) (message : List ℕ) (now : ℕ) (s : State) → Relists message now s (response_step is_granted message now s).1
 reply-relists is_granted message now s = still message now s _ (response-fits is_granted message now s).1
@@ -197,8 +197,8 @@ again-relists c message d now s = by (find (is_bind_of c.local) (purposes_of (id
         let asked = requested (fresh_id s) purpose now u in
         let made : IsMade purpose now s asked = record { text = request_for u purpose (fresh_id s); spelled = inl refl; outstanding = (requested-made purpose now s u).outstanding } in
         rw e (
-          adds-more _ s.listed u.listed (listings (fresh_id s) (purpose ∷ [])) (adds-filter _ _ s.listed)
-          (relisted message now s _ purpose (record { text = made.text; spelled = made.spelled; outstanding = made.outstanding }) (purpose ∷ []) (alone message s purpose))
+        adds-more _ s.listed u.listed (listings (fresh_id s) (purpose ∷ [])) (adds-filter _ _ s.listed)
+        (relisted message now s _ purpose (record { text = made.text; spelled = made.spelled; outstanding = made.outstanding }) (purpose ∷ []) (alone message s purpose))
         )
 
 answered-relists : (c : DataConnection) (message : List ℕ) (now : ℕ) (s : State) → Relists message now s (bind_answered c message now s)

@@ -1,9 +1,8 @@
 -- What the listings of one ID are for: one request, a channel and the permission that it brings, or
 -- allocations that are given back.
-use Rattle.std.proofs.Common.{◌≡◌, ◌⊎◌, ◌<◌, ◌^◌, ◌∙◌, ℕ, Bool, true, false, eqb, List, [], ◌∷◌, filter, Option, Some, None, inl, inr, refl, sym, subst}
-use Rattle.std.specs.Prelude.{flat_map, slice_get}
+use Rattle.std.proofs.Common.{◌≡◌, ◌⊎◌, ◌<◌, ◌^◌, ◌∙◌, ℕ, true, false, eqb, List, [], ◌∷◌, Some, None, inl, inr, refl, sym, subst}
 use Rattle.std.specs.List.{Contains, list_any}
-use Rattle.std.proofs.lemmas.Bool.{eq-eqb, eqb-true, or_parts}
+use Rattle.std.proofs.lemmas.Bool.{eq-eqb, or_parts}
 use Rattle.turn_stun.specs.Message.{id_of}
 use Rattle.turn_agent.specs.Agent.{is_outstanding}
 use Rattle.turn_client_api.specs.State.{State}
@@ -13,8 +12,7 @@ use Rattle.turn_client_api.specs.declared.grant.Listing.{Listing}
 use Rattle.turn_client_api.specs.declared.grant.Purpose.{Purpose}
 use Rattle.turn_client_api.specs.declared.grant.Purpose.TheVariants.{ForAllocation, ForRefresh, ForPermission, ForChannel, ForConnect, ForBind}
 use Rattle.turn_client_api.specs.declared.state.Phase.TheVariants.{New, Allocated}
-use Rattle.turn_client_api.specs.Calls.{free_number}
-use Rattle.turn_client_api.specs.Grants.{allocations, is_of_request, purposes_of}
+use Rattle.turn_client_api.specs.Grants.{is_of_request, purposes_of}
 use Rattle.turn_client_api.specs.Handled.{Turn, handled, made_of}
 use Rattle.turn_client_api.specs.LawsGone.{GivesBack}
 use Rattle.turn_client_api.specs.LawsHandled.{DiffersInStreams, DoesTurns, TakesTurns, TurnsLead}
@@ -24,7 +22,6 @@ use Rattle.turn_client_api.specs.Receive.{connection_gone}
 use Rattle.turn_client_api.specs.Requests.{fresh_id, most_taken}
 use Rattle.turn_client_api.specs.Steps.{state_after}
 use Rattle.turn_client_api.specs.Streams.{without_stream}
-use Rattle.turn_client_api.specs.Transmit.{refreshes_in}
 use Rattle.turn_client_api.proofs.Edits.{listing}
 use Rattle.turn_client_api.proofs.HasLemmas.{Has}
 use Rattle.turn_client_api.proofs.InAllocationLemmas.{has-any}
