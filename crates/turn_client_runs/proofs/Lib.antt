@@ -7,3 +7,4 @@ pub mod RunLemmas
 pub mod RelistLemmas
 pub mod TogetherLemmas
 pub mod AskedLemmas
+pub mod ComingLemmas

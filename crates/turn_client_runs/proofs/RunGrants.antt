@@ -24,7 +24,7 @@ use Rattle.turn_client_api.specs.LawsNumbers.{HasDistinctNumbers}
 use Rattle.turn_client_api.specs.LawsStates.{HasGrantsAsked}
 use Rattle.turn_client_api.specs.Steps.{state_after}
 use Rattle.turn_client_api.proofs.DistinctNumbers.{initial-numbers, leaves-apart}
-use Rattle.turn_client_api.proofs.HasLemmas.{Has}
+use Rattle.turn_client_api.proofs.HasLemmas.{Has, has-right}
 use Rattle.turn_client_api.proofs.ListedGrants.{initial-HasGrantsAsked, leaves-HasGrantsAsked}
 use Rattle.turn_client_api.proofs.StandLemmas.{contains-has, covers-has, covers-stood}
 use Rattle.turn_client_runs.specs.Granted.{DrawFreeIds, GrantsAddress, HasReply, IsAllocated, IsAnsweredIn, IsGivenBack, IsGivenIn, IsGranted, IsGranting, IsRelayed, HoldsThrough}
@@ -32,6 +32,7 @@ use Rattle.turn_client_runs.specs.Run.{state_behind}
 use Rattle.turn_client_runs.proofs.AskedLemmas.{was-asked}
 use Rattle.turn_client_runs.proofs.AskedPeers.{HasAskedPeers, turns-ask-peers}
 use Rattle.turn_client_runs.proofs.CallGrants.{IsCaused, IsEndedBy, call-causes, delete-accepted, same-allocation}
+use Rattle.turn_client_runs.proofs.ComingLemmas.{turns-come}
 use Rattle.turn_client_runs.proofs.GrantTurns.{Granting, IsGivenAt}
 use Rattle.turn_client_runs.proofs.RunLemmas.{IsDoneLast, run-did}
 
@@ -203,6 +204,7 @@ module _ (first : State) (unlisted : first.listed ≡ []) (calls : List Call) wh
         turn = one;
         back = back;
         cut = e;
+        comes = turns-come is.call s one (subst (Has one) (sym e) (has-right one front (one ∷ back) (inl refl)));
         purpose = p;
         did = did;
         asked = λ free. was-asked is.earlier is.call is.later first (subst (λ (l : List Call). DrawFreeIds l first) is.split free) unlisted front one back e p (answers p one did).1 (answers p one did).0;

@@ -1,6 +1,6 @@
 -- What the replies of a run granted (RFC 8489, section 9.2.5; RFC 8656, sections 7.3 to 12.3; RFC 6062,
 -- section 4.3).
-use Rattle.std.specs.Prelude.{◌≡◌, ◌⊎◌, ◌≤◌, ℕ, true, List, [], ◌∷◌, ◌++◌, Some, None, Ok, ⊤}
+use Rattle.std.specs.Prelude.{◌≡◌, ◌⊎◌, ◌≤◌, ℕ, true, List, [], ◌∷◌, ◌++◌, Option, Some, None, Ok, ⊤}
 use Rattle.std.specs.declared.net.socket_addr.SocketAddr.{SocketAddr}
 use Rattle.turn_stun.specs.declared.transport.TransportType.{TransportType}
 use Rattle.turn_client_api.specs.Config.{Config}
@@ -16,7 +16,8 @@ use Rattle.turn_client_api.specs.declared.grant.Relay.{Relay}
 use Rattle.turn_client_api.specs.declared.grant.Progress.TheVariants.{Active}
 use Rattle.turn_client_api.specs.declared.grant.Purpose.{Purpose}
 use Rattle.turn_client_api.specs.declared.grant.Purpose.TheVariants.{ForAllocation, ForRefresh, ForPermission, ForChannel, ForBind}
-use Rattle.turn_client_api.specs.declared.call.Call.TheVariants.{Delete}
+use Rattle.turn_client_api.specs.declared.call.Call.TheVariants.{Delete, PollRecv, Recv}
+use Rattle.turn_client_api.specs.declared.state.Stream.{Stream}
 use Rattle.turn_client_api.specs.Calls.{delete_step}
 use Rattle.turn_client_api.specs.Grants.{is_of_family, purposes_of, same_ip}
 use Rattle.turn_client_api.specs.Judgement.{class_in, lifetime_in}
@@ -68,6 +69,34 @@ pub record IsGranting (g : Grant) (purpose : Purpose) (one : Turn) : Type 0 wher
   pub outstanding : IsAwaited one.bytes one.before
   pub ended : IsNotAwaited one.bytes (made_of one).1
   pub given : IsGivenIn one purpose g
+
+-- ---- when a turn comes
+
+-- these bytes begin with those
+abbrev pub IsInFront : List ℕ → List ℕ → Type 0
+IsInFront front bytes = (rest : List ℕ) × (bytes ≡ front ++ rest)
+
+-- a frame stands in front of its stream, and a datagram is these bytes
+abbrev pub IsWholeOrInFront : List ℕ → Turn → Type 0
+IsWholeOrInFront payload one = by one.stream
+  where
+    by : Option Stream → Type 0
+    by None = one.bytes ≡ payload
+    by (Some stream) = IsInFront one.bytes stream.bytes
+
+-- `poll_recv` takes frames alone
+abbrev pub IsFrameInFront : Turn → Type 0
+IsFrameInFront one = by one.stream
+  where
+    by : Option Stream → Type 0
+    by None = ⊥
+    by (Some stream) = IsInFront one.bytes stream.bytes
+
+-- the turn comes in this call, and at its moment
+abbrev pub ComesIn : Call → Turn → Type 0
+ComesIn (Recv packet now) one = (one.moment ≡ now) × IsWholeOrInFront packet.payload one
+ComesIn (PollRecv now) one = (one.moment ≡ now) × IsFrameInFront one
+ComesIn _ one = ⊥
 
 -- ---- an own request
 
@@ -125,6 +154,7 @@ pub record IsAnsweredIn (Did : Purpose → Turn → Type 0) (P : State → Type 
   pub turn : Turn
   pub back : List Turn
   pub cut : handled call (state_behind first earlier) ≡ front ++ turn ∷ back
+  pub comes : ComesIn call turn
   pub purpose : Purpose
   pub did : Did purpose turn
   pub asked : DrawFreeIds calls first → WasAskedBefore (id_of turn.bytes) purpose earlier first front
