@@ -8,3 +8,4 @@ pub mod RelistLemmas
 pub mod TogetherLemmas
 pub mod AskedLemmas
 pub mod ComingLemmas
+pub mod ReceivedLemmas
