@@ -9,3 +9,4 @@ pub mod TogetherLemmas
 pub mod AskedLemmas
 pub mod ComingLemmas
 pub mod ReceivedLemmas
+pub mod ReceivedRuns
