@@ -145,3 +145,104 @@ module _ (all more : SocketAddr → List ℕ) where
                     let yes : same_address x.local stream.local ≡ true = rw equal (same_address-self stream.local) in
                     let no : true ≡ false = sym yes ∙ differ in
                     cc
+
+    -- what a client over UDP takes in goes to no stream
+    datagram-steps : (b c : Bool) (s : State) → Held more s.streams
+        → Steps more (cond b (cond c (record { stream = None; bytes = packet.payload; is_lent = true; moment = now; before = s } ∷ []) []) [])
+        (cond {A = Outcome × State} b (cond {A = Outcome × State} c (datagram_step packet.payload now s) (Ignored, s)) (Ignored, s)).1
+    datagram-steps true true s held = (only, by (is_message packet.payload) (is_channel_frame packet.payload))
+      where
+        only : (one : Turn) → Has one (record { stream = None; bytes = packet.payload; is_lent = true; moment = now; before = s } ∷ []) → (stream : Stream) → one.stream ≡ Some stream → Ends more stream.local stream.bytes
+        only one (inl e) stream of = absurd (no_stream (sym (ap (λ (x : Turn). x.stream) e) ∙ of))
+          where
+            no_stream : None ≡ Some stream → ⊥
+            no_stream h = cc
+        only one (inr absent) stream of = absurd absent
+
+        by : (m f : Bool) → Held more (cond {A = Outcome × State} m (message_step packet.payload now s) (cond {A = Outcome × State} f (channel_sent s packet.payload, s) (Ignored, s))).1.streams
+        by true f = subst (Held more) (sym (message-same packet.payload now s)) held
+        by false true = held
+        by false false = held
+    datagram-steps true false s held = (λ one absent. absurd absent, held)
+    datagram-steps false c s held = (λ one absent. absurd absent, held)
+
+    recv-steps : (carrier : TransportType) (s : State) → ((a : SocketAddr) → more a ≡ all a ++ piece_for a (Recv packet now) (record s { transport = carrier })) → Held all s.streams
+        → Steps more (recv_turns packet.transport packet.from packet.to packet.payload now (record s { transport = carrier }))
+        (recv_step packet.transport packet.from packet.to packet.payload now (record s { transport = carrier })).1
+    recv-steps Udp s e held =
+        datagram-steps (is_from_server packet.transport packet.from u) (same_address packet.to s.local) u
+        (still-held s.streams (λ a. piece_for a (Recv packet now) u) e (λ a. by (is_from_server packet.transport packet.from u && same_address packet.to a)) held)
+      where
+        u : State
+        u = record s { transport = Udp }
+
+        by : (b : Bool) → cond {A = List ℕ} b [] [] ≡ []
+        by true = refl
+        by false = refl
+    recv-steps Tcp s e held = by (is_from_server packet.transport packet.from u) refl (stream_at packet.to s) refl
+      where
+        u : State
+        u = record s { transport = Tcp }
+
+        none : ((a : SocketAddr) → piece_for a (Recv packet now) u ≡ []) → Steps more [] u
+        none nothing = (λ one absent. absurd absent, still-held s.streams (λ a. piece_for a (Recv packet now) u) e nothing held)
+
+        nowhere : (b : Bool) → cond {A = List ℕ} b [] [] ≡ []
+        nowhere true = refl
+        nowhere false = refl
+
+        by : (b : Bool) → is_from_server packet.transport packet.from u ≡ b → (o : Option Stream) → stream_at packet.to s ≡ o
+            → Steps more (recv_turns packet.transport packet.from packet.to packet.payload now u) (recv_step packet.transport packet.from packet.to packet.payload now u).1
+        by false f o g = let nothing = none (λ a. rw f refl) in rw f nothing
+        by true f None g = let nothing = none (λ a. rw (f, g) (nowhere (same_address packet.to a))) in rw (f, g) nothing
+        by true f (Some stream) g = let fed = fed-steps u stream g (λ a. e a ∙ rw (f, g) refl) held in rw (f, g) fed
+
+  -- ---- all calls
+
+  call-steps : (call : Call) (s : State) → ((a : SocketAddr) → more a ≡ all a ++ piece_for a call s) → Held all s.streams → Steps more (handled call s) (state_after call s)
+  call-steps (Recv packet now) s e held = recv-steps packet now s.transport s e held
+  call-steps (PollRecv now) s e held = poll-known (Ends more) (nothing-ends more) (less-ends more) now s (still-held s.streams (λ a. []) e (λ a. refl) held)
+  call-steps call s e held = quiet-steps call s (λ takes. takes) e held
+
+-- ---- a run
+
+same-held : (all more : SocketAddr → List ℕ) (xs : List Stream) → ((a : SocketAddr) → all a ≡ more a) → Held all xs → Held more xs
+same-held all more xs e held = still-held all more xs (λ a. []) (λ a. sym (e a) ∙ sym (append-nil (all a))) (λ a. refl) held
+
+run-held : (calls : List Call) (all : SocketAddr → List ℕ) (s : State) → Held all s.streams → Held (λ a. all a ++ pieces_for a calls s) (state_behind s calls).streams
+run-held [] all s held = same-held all (λ a. all a ++ []) s.streams (λ a. sym (append-nil (all a))) held
+run-held (call ∷ calls) all s held =
+    let more : SocketAddr → List ℕ = λ a. all a ++ piece_for a call s in
+    let t = state_after call s in
+    same-held (λ a. more a ++ pieces_for a calls t) (λ a. all a ++ pieces_for a (call ∷ calls) s) (state_behind t calls).streams
+    (λ a. append_assoc (all a) (piece_for a call s) (pieces_for a calls t))
+    (run-held calls more t (call-steps all more call s (λ a. refl) held).1)
+
+pieces-then : (a : SocketAddr) (calls : List Call) (call : Call) (s : State) → pieces_for a (calls ++ call ∷ []) s ≡ pieces_for a calls s ++ piece_for a call (state_behind s calls)
+pieces-then a [] call s = append-nil (piece_for a call s)
+pieces-then a (x ∷ calls) call s =
+    ap (λ (l : List ℕ). piece_for a x s ++ l) (pieces-then a calls call (state_after x s))
+    ∙ sym (append_assoc (piece_for a x s) (pieces_for a calls (state_after x s)) (piece_for a call (state_behind (state_after x s) calls)))
+
+-- no stream holds anything at first
+abbrev pub HoldNothing : State → Type 0
+HoldNothing s = (x : Stream) → Has x s.streams → x.bytes ≡ []
+
+pub turns-received : (earlier : List Call) (call : Call) (first : State) → HoldNothing first → (one : Turn) → Has one (handled call (state_behind first earlier)) → IsReceived (earlier ++ call ∷ []) first one
+turns-received earlier call first empty one there = by one.stream refl
+  where
+    s : State
+    s = state_behind first earlier
+
+    before : Held (λ a. pieces_for a earlier first) s.streams
+    before = run-held earlier (λ a. []) first (λ x h. ([], sym (empty x h)))
+
+    after : SocketAddr → List ℕ
+    after a = pieces_for a earlier first ++ piece_for a call s
+
+    known : (stream : Stream) → one.stream ≡ Some stream → Ends after stream.local stream.bytes
+    known = (call-steps (λ a. pieces_for a earlier first) after call s (λ a. refl) before).0 one there
+
+    by : (o : Option Stream) → one.stream ≡ o → IsReceived (earlier ++ call ∷ []) first (record one { stream = o })
+    by None e = tt
+    by (Some stream) e = let (front, is) = known stream e in (front, pieces-then stream.local earlier call first ∙ is)

@@ -4,6 +4,7 @@ use Rattle.std.specs.List.{Contains}
 use Rattle.turn_stun.specs.Message.{id_of}
 use Rattle.std.specs.declared.net.socket_addr.SocketAddr.{SocketAddr}
 use Rattle.turn_stun.specs.declared.transport.TransportType.{TransportType}
+use Rattle.turn_stun.specs.declared.transport.TransportType.TheVariants.{Udp, Tcp}
 use Rattle.turn_client_api.specs.Config.{Config}
 use Rattle.turn_client_api.specs.State.{State, initial}
 use Rattle.turn_client_api.specs.declared.call.Call.{Call}
@@ -34,6 +35,7 @@ use Rattle.turn_client_runs.proofs.AskedPeers.{HasAskedPeers, turns-ask-peers}
 use Rattle.turn_client_runs.proofs.CallGrants.{IsCaused, IsEndedBy, call-causes, delete-accepted, same-allocation}
 use Rattle.turn_client_runs.proofs.ComingLemmas.{turns-come}
 use Rattle.turn_client_runs.proofs.GrantTurns.{Granting, IsGivenAt}
+use Rattle.turn_client_runs.proofs.ReceivedRuns.{HoldNothing, turns-received}
 use Rattle.turn_client_runs.proofs.RunLemmas.{IsDoneLast, run-did}
 
 -- ---- one turn
@@ -187,12 +189,15 @@ granting-answers g p one is = (is.listed, no-return one g p is.given)
 address-answers : (relayed : SocketAddr) → AnswersFor (GrantsAddress relayed)
 address-answers relayed p one (a, is, e) = granting-answers (Allocation a) p one is
 
-module _ (first : State) (unlisted : first.listed ≡ []) (calls : List Call) where
+module _ (first : State) (unlisted : first.listed ≡ []) (hold : HoldNothing first) (calls : List Call) where
   answered-in : (Did : Purpose → Turn → Type 0) → AnswersFor Did → (P : State → Type 0) → IsDoneLast (IsDoneFor Did) P calls first → IsAnsweredIn Did P calls first
   answered-in Did answers P is = by is.did
     where
       s : State
       s = state_behind first is.earlier
+
+      among : (one : Turn) (front back : List Turn) → handled is.call s ≡ front ++ one ∷ back → Has one (handled is.call s)
+      among one front back e = subst (Has one) (sym e) (has-right one front (one ∷ back) (inl refl))
 
       cut : (one : Turn) (p : Purpose) → Did p one → (front back : List Turn) × (handled is.call s ≡ front ++ one ∷ back) → IsAnsweredIn Did P calls first
       cut one p did (front, back, e) = record {
@@ -204,7 +209,8 @@ module _ (first : State) (unlisted : first.listed ≡ []) (calls : List Call) wh
         turn = one;
         back = back;
         cut = e;
-        comes = turns-come is.call s one (subst (Has one) (sym e) (has-right one front (one ∷ back) (inl refl)));
+        comes = turns-come is.call s one (among one front back e);
+        received = turns-received is.earlier is.call first hold one (among one front back e);
         purpose = p;
         did = did;
         asked = λ free. was-asked is.earlier is.call is.later first (subst (λ (l : List Call). DrawFreeIds l first) is.split free) unlisted front one back e p (answers p one did).1 (answers p one did).0;
@@ -214,13 +220,13 @@ module _ (first : State) (unlisted : first.listed ≡ []) (calls : List Call) wh
       by : IsDoneFor Did is.call s → IsAnsweredIn Did P calls first
       by (one, among, (p, did)) = cut one p did (has-cut one (handled is.call s) (contains-has one (handled is.call s) among))
 
-module _ (first : State) (empty : first.grants ≡ []) (unlisted : first.listed ≡ []) (keeps : Keeps first) where
+module _ (first : State) (empty : first.grants ≡ []) (unlisted : first.listed ≡ []) (hold : HoldNothing first) (keeps : Keeps first) where
   nothing : (g : Grant) → Contains first.grants g → ⊥
   nothing g there = contains-has g [] (subst (λ (grants : List Grant). Contains grants g) empty there)
 
   run-allocates : (relayed : SocketAddr) (calls : List Call) → IsRelayed relayed (state_behind first calls) → IsAllocated relayed calls first
   run-allocates relayed calls h =
-      answered-in first unlisted calls (GrantsAddress relayed) (address-answers relayed) (IsRelayed relayed)
+      answered-in first unlisted hold calls (GrantsAddress relayed) (address-answers relayed) (IsRelayed relayed)
       (run-did (IsRelayed relayed) (IsDoneFor (GrantsAddress relayed)) Keeps call-keeps (call-allocates relayed) calls first keeps (λ is. nothing (Allocation is.0) is.1) h)
 
   run-caused : (g : Grant) → IsStanding g → (calls : List Call) → Stood (state_behind first calls) g → IsDoneLast (Causes g) (λ s. Stood s g) calls first
@@ -229,7 +235,7 @@ module _ (first : State) (empty : first.grants ≡ []) (unlisted : first.listed 
   -- the last cause was a turn, or a `delete`
   run-turned : (g : Grant) (calls : List Call) (is : IsDoneLast (Causes g) (λ s. Stood s g) calls first) → IsDoneFor (IsGranting g) is.call (state_behind first is.earlier) → IsGranted g calls first
   run-turned g calls is done =
-      answered-in first unlisted calls (IsGranting g) (granting-answers g) (λ s. Stood s g)
+      answered-in first unlisted hold calls (IsGranting g) (granting-answers g) (λ s. Stood s g)
       (record { earlier = is.earlier; call = is.call; later = is.later; split = is.split; did = done; holds = is.holds })
 
   run-gave : (a : Relay) (calls : List Call) (is : IsDoneLast (Causes (Allocation a)) (λ s. Stood s (Allocation a)) calls first) → IsAcceptedEnd (Allocation a) is.call (state_behind first is.earlier) → IsGivenBack a calls first
@@ -272,6 +278,11 @@ module _ (first : State) (empty : first.grants ≡ []) (unlisted : first.listed 
       by (Offer offer) is = turned (Offer offer) is (λ a e. cc)
       by (Connection c) is = turned (Connection c) is (λ a e. cc)
 
+first-hold : (transport : TransportType) (local remote : SocketAddr) (config : Config) (seed : List ℕ) → HoldNothing (initial transport local remote config seed)
+first-hold Udp local remote config seed x absent = absurd absent
+first-hold Tcp local remote config seed x (inl e) = rw e refl
+first-hold Tcp local remote config seed x (inr absent) = absurd absent
+
 pub grants-have-replies : (transport : TransportType) (local remote : SocketAddr) (config : Config) (seed : List ℕ) (calls : List Call) (g : Grant) → IsStanding g → Contains (state_behind (initial transport local remote config seed) calls).grants g → HasReply g calls (initial transport local remote config seed)
 grants-have-replies transport local remote config seed =
-    run-grants (initial transport local remote config seed) refl refl (initial-HasGrantsAsked transport local remote config seed, initial-numbers transport local remote config seed)
+    run-grants (initial transport local remote config seed) refl refl (first-hold transport local remote config seed) (initial-HasGrantsAsked transport local remote config seed, initial-numbers transport local remote config seed)

@@ -31,6 +31,7 @@ use Rattle.turn_client_api.specs.LawsPurposes.{DrawsFreeIds}
 use Rattle.turn_client_api.specs.LawsReplies.{IsAwaited, IsNotAwaited}
 use Rattle.turn_client_api.specs.LawsRequests.{AsksFor, IsListedFor, IsMade}
 use Rattle.turn_client_api.specs.Requests.{fresh_id}
+use Rattle.turn_client_runs.specs.Received.{IsReceived}
 use Rattle.turn_client_runs.specs.Run.{state_behind}
 
 -- ---- what a reply grants
@@ -155,6 +156,7 @@ pub record IsAnsweredIn (Did : Purpose → Turn → Type 0) (P : State → Type 
   pub back : List Turn
   pub cut : handled call (state_behind first earlier) ≡ front ++ turn ∷ back
   pub comes : ComesIn call turn
+  pub received : IsReceived (earlier ++ call ∷ []) first turn
   pub purpose : Purpose
   pub did : Did purpose turn
   pub asked : DrawFreeIds calls first → WasAskedBefore (id_of turn.bytes) purpose earlier first front

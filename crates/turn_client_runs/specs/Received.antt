@@ -35,8 +35,8 @@ abbrev pub pieces_for : SocketAddr → List Call → State → List ℕ
 pieces_for local [] s = []
 pieces_for local (call ∷ calls) s = piece_for local call s ++ pieces_for local calls (state_after call s)
 
--- What the stream of the turn holds ends what came in for it by these calls: a frame in front of it stands there
--- in one piece.
+-- What the stream of the turn holds ends what came in for it by these calls, so that a frame in front of it came in
+-- as it is. A datagram has no stream.
 abbrev pub IsReceived : List Call → State → Turn → Type 0
 IsReceived calls first one = by one.stream
   where
