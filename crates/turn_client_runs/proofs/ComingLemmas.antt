@@ -1,8 +1,6 @@
 -- Where the bytes of a turn stand, and when it comes.
-use Rattle.std.proofs.Common.{◌≡◌, ◌⊎◌, ◌++◌, ◌&&◌, ℕ, zero, suc, Bool, true, false, cond, List, [], ◌∷◌, Option, Some, None, refl, sym, subst, inl, inr}
+use Rattle.std.proofs.Common.{◌≡◌, ◌⊎◌, ◌++◌, ℕ, zero, suc, Bool, true, false, cond, List, [], ◌∷◌, Option, Some, None, refl, sym, inl, inr}
 use Rattle.std.specs.Prelude.{drop, find, take}
-use Rattle.std.specs.List.{Contains}
-use Rattle.std.specs.declared.net.socket_addr.SocketAddr.{SocketAddr}
 use Rattle.std.proofs.lemmas.List.{append-nil, take-append-drop}
 use Rattle.turn_stun.specs.declared.transport.TransportType.{TransportType}
 use Rattle.turn_stun.specs.declared.transport.TransportType.TheVariants.{Udp, Tcp}
@@ -20,7 +18,6 @@ use Rattle.turn_client_api.specs.Payloads.{Payload, Outcome, Handled, Ignored, P
 use Rattle.turn_client_api.specs.Receive.{first_turn, is_from_server}
 use Rattle.turn_client_api.specs.Streams.{is_ready, most_turns, payload_in, stream_at, turn, with_bytes}
 use Rattle.turn_client_api.proofs.HasLemmas.{Has, has-append}
-use Rattle.turn_client_api.proofs.StandLemmas.{contains-has}
 use Rattle.turn_client_runs.specs.Granted.{ComesIn, IsInFront}
 
 -- ---- turns of streams

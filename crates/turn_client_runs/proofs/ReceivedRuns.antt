@@ -1,5 +1,5 @@
 -- What stands in the stream of a turn came in by the run's calls of `recv`.
-use Rattle.std.proofs.Common.{◌≡◌, ◌⊎◌, ◌∙◌, ◌++◌, ◌&&◌, ℕ, Bool, true, false, cond, List, [], ◌∷◌, Option, Some, None, refl, sym, subst, ap, inl, inr, append_assoc}
+use Rattle.std.proofs.Common.{◌≡◌, ◌∙◌, ◌++◌, ◌&&◌, ℕ, Bool, true, false, cond, List, [], ◌∷◌, Option, Some, None, refl, sym, subst, ap, inl, inr, append_assoc}
 use Rattle.std.specs.Prelude.{drop, take}
 use Rattle.std.proofs.lemmas.List.{append-nil, take-append-drop}
 use Rattle.std.proofs.lemmas.Bool.{false_from_ne_true}
@@ -26,8 +26,8 @@ use Rattle.turn_client_api.proofs.StreamCallLemmas.{IsOpened, others-opened}
 use Rattle.turn_client_api.proofs.StreamMessageLemmas.{message-same}
 use Rattle.turn_client_runs.specs.Received.{IsReceived, piece_for, pieces_for, unless_broken}
 use Rattle.turn_client_runs.specs.Run.{state_behind}
-use Rattle.turn_client_runs.proofs.CallGrants.{quiet, taking}
-use Rattle.turn_client_runs.proofs.ReceivedLemmas.{AllKnown, Goes, OthersKnown, opened-known, poll-known, stream-known}
+use Rattle.turn_client_runs.proofs.CallGrants.{quiet}
+use Rattle.turn_client_runs.proofs.ReceivedLemmas.{AllKnown, Goes, opened-known, poll-known, stream-known}
 
 -- ---- what ends all that came in
 
