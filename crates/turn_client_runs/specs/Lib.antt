@@ -2,8 +2,10 @@ pub mod Bound
 pub mod Challenges
 pub mod Cut
 pub mod CutRows
+pub mod Granted
 pub mod Holds
 pub mod Peers
+pub mod Received
 pub mod Replies
 pub mod Run
 pub mod Sleeps

@@ -6,6 +6,7 @@
 mod bound;
 mod challenges;
 mod cut;
+mod granted;
 mod numbers;
 mod peers;
 mod replies;
@@ -17,6 +18,7 @@ pub use cut::{
     polled_clients_are_quiet, runs_give_the_same_for_any_cut, streams_are_worked,
     streams_give_the_same_for_any_cut, wholes_are_frames,
 };
+pub use granted::grants_have_replies;
 pub use numbers::numbers_stay_distinct;
 pub use peers::only_let_in_is_received;
 pub use replies::replies_count_once_in_runs;

@@ -1,0 +1,254 @@
+-- What is listed after a run was listed at first, or its request was made in it.
+use Rattle.std.proofs.Common.{◌≡◌, ◌⊎◌, ◌∙◌, ℕ, Bool, true, false, cond, List, [], ◌∷◌, ◌++◌, Option, Some, None, inl, inr, refl, sym, subst, ap}
+use Rattle.std.specs.Prelude.{find}
+use Rattle.std.specs.List.{Contains}
+use Rattle.std.specs.declared.net.ip_addr.IpAddr.{IpAddr}
+use Rattle.std.specs.declared.net.socket_addr.SocketAddr.{SocketAddr}
+use Rattle.turn_stun.specs.Message.{id_of}
+use Rattle.turn_client_api.specs.State.{State}
+use Rattle.turn_client_api.specs.declared.call.Call.{Call}
+use Rattle.turn_client_api.specs.declared.grant.Listing.{Listing}
+use Rattle.turn_client_api.specs.declared.grant.Purpose.{Purpose}
+use Rattle.turn_client_api.specs.declared.grant.Purpose.TheVariants.{ForAllocation, ForRefresh, ForPermission, ForChannel, ForConnect, ForBind}
+use Rattle.turn_client_api.specs.Grants.{purposes_of}
+use Rattle.turn_client_api.specs.Handled.{Turn, handled, made_of}
+use Rattle.turn_client_api.specs.LawsGone.{GivesBack}
+use Rattle.turn_client_api.specs.LawsHandled.{DiffersInStreams, DoesTurns, TakesTurns, TurnsLead}
+use Rattle.turn_client_api.specs.LawsPurposes.{DrawsFreeIds}
+use Rattle.turn_client_api.specs.LawsRequests.{IsListedFor, IsListingOf}
+use Rattle.turn_client_api.specs.Retry.{first_or, is_allocate_or_connect, is_channel_bind, is_create_permission, is_refresh, retried}
+use Rattle.turn_client_api.specs.Steps.{state_after}
+use Rattle.turn_client_api.proofs.Edits.{listing}
+use Rattle.turn_client_api.proofs.EditsOfMessages.{retried-has}
+use Rattle.turn_client_api.proofs.HasLemmas.{Has, has-found}
+use Rattle.turn_client_api.proofs.MoveSocketLemmas.{gone-settles}
+use Rattle.turn_client_api.proofs.MoveTurnLemmas.{listings-made}
+use Rattle.turn_client_api.proofs.StandLemmas.{contains-has, has-contains}
+use Rattle.turn_client_api.proofs.TurnChainLemmas.{calls-do}
+use Rattle.turn_client_api.proofs.TwoPurposes.{purpose-with}
+use Rattle.turn_client_runs.specs.Granted.{DrawFreeIds, IsAskedInCall, IsAskedInTurn, WasAsked, WasAskedBefore}
+use Rattle.turn_client_runs.specs.Run.{state_behind}
+use Rattle.turn_client_runs.proofs.CallGrants.{quiet, taking}
+use Rattle.turn_client_runs.proofs.RelistLemmas.{IsRelisted, IsRetriedFor, turn-relists}
+use Rattle.turn_client_runs.proofs.TogetherLemmas.{AllFew, AreTogether, IsListingHere, Together, call-together, differs-together, few-turns, first-together, listing-here}
+
+-- ---- the first in order
+
+found-some : {X : Type 0} (p : X → Bool) (x : X) (xs : List X) → Has x xs → p x ≡ true → find p xs ≡ None → ⊥
+found-some p x [] none e f = none
+found-some {X} p x (y ∷ xs) (inl same) e f = by (p y) (sym (ap p same) ∙ e) f
+  where
+    by : (b : Bool) → b ≡ true → cond b (Some y) (find p xs) ≡ None → ⊥
+    by true g h = cc
+    by false g h = cc
+found-some {X} p x (y ∷ xs) (inr there) e f = by (p y) (found-some p x xs there e) f
+  where
+    by : (b : Bool) → (find p xs ≡ None → ⊥) → cond b (Some y) (find p xs) ≡ None → ⊥
+    by true later h = cc
+    by false later h = later h
+
+-- a request that binds a channel is not made again as one for a permission
+channel-first : (all : List Purpose) (number : ℕ) (peer : SocketAddr) (ip : IpAddr) → Has (ForChannel number peer) all → retried all ≡ Some (ForPermission ip) → ⊥
+channel-first all number peer ip there = by (find is_refresh all) refl (find is_channel_bind all) refl
+  where
+    others : Option Purpose
+    others = first_or (find is_create_permission all) (find is_allocate_or_connect all)
+
+    by : (r : Option Purpose) → find is_refresh all ≡ r → (c : Option Purpose) → find is_channel_bind all ≡ c → first_or r (first_or c others) ≡ Some (ForPermission ip) → ⊥
+    by (Some q) e c f g = unlike (subst (λ (x : Purpose). is_refresh x ≡ true) (same g) (has-found is_refresh q all e).1)
+      where
+        same : Some q ≡ Some (ForPermission ip) → q ≡ ForPermission ip
+        same h = cc
+
+        unlike : false ≡ true → ⊥
+        unlike h = cc
+    by None e (Some q) f g = unlike (subst (λ (x : Purpose). is_channel_bind x ≡ true) (same g) (has-found is_channel_bind q all f).1)
+      where
+        same : Some q ≡ Some (ForPermission ip) → q ≡ ForPermission ip
+        same h = cc
+
+        unlike : false ≡ true → ⊥
+        unlike h = cc
+    by None e None f g = found-some is_channel_bind (ForChannel number peer) all there refl f
+
+-- ---- one turn
+
+-- what is made again is made for what it is listed for
+listed-for : (message : List ℕ) (s : State) (purpose p : Purpose) → AreTogether s → (GivesBack p → ⊥) → IsRetriedFor message s purpose p → IsListedFor purpose p
+listed-for message s purpose p together wanted (inl e) = inl e
+listed-for message s purpose p together wanted (inr (first, there)) =
+    by purpose p wanted first there (together (listing (id_of message) p) (listing (id_of message) purpose) (purpose-with (id_of message) p s there) (purpose-with (id_of message) purpose s (retried-has all purpose first)) refl)
+  where
+    all : List Purpose
+    all = purposes_of (id_of message) s
+
+    brought : (q r : Purpose) → retried all ≡ Some q → Has r all → IsListedFor r q → IsListedFor q r
+    brought q r f h (inl e) = inl (sym e)
+    brought (ForPermission ip) (ForChannel number peer) f h (inr e) = absurd (channel-first all number peer ip h f)
+    brought ForAllocation (ForChannel number peer) f h (inr e) = absurd e
+    brought (ForRefresh family lifetime) (ForChannel number peer) f h (inr e) = absurd e
+    brought (ForChannel other to) (ForChannel number peer) f h (inr e) = absurd e
+    brought (ForConnect to) (ForChannel number peer) f h (inr e) = absurd e
+    brought (ForBind local to id) (ForChannel number peer) f h (inr e) = absurd e
+    brought q ForAllocation f h (inr e) = absurd e
+    brought q (ForRefresh family lifetime) f h (inr e) = absurd e
+    brought q (ForPermission ip) f h (inr e) = absurd e
+    brought q (ForConnect to) f h (inr e) = absurd e
+    brought q (ForBind local to id) f h (inr e) = absurd e
+
+    by : (q r : Purpose) → (GivesBack r → ⊥) → retried all ≡ Some q → Has r all → Together r q → IsListedFor q r
+    by q r needs f h (inl for) = brought q r f h for
+    by q r needs f h (inr (inl for)) = for
+    by q r needs f h (inr (inr (back, away))) = absurd (needs back)
+
+-- of a listing that gives nothing back
+module _ (l : Listing) (wanted : GivesBack l.purpose → ⊥) where
+  turn-asks : (one : Turn) → AreTogether one.before → Has l (made_of one).1.listed → Has l one.before.listed ⊎ IsAskedInTurn l.id l.purpose one
+  turn-asks one together there = by (turn-relists one l there)
+    where
+      by : Has l one.before.listed ⊎ IsRelisted one.bytes one.moment one.before (made_of one).1 l → Has l one.before.listed ⊎ IsAskedInTurn l.id l.purpose one
+      by (inl old) = inl old
+      by (inr (purpose, made, is, for)) = inr (purpose, listed-for one.bytes one.before purpose l.purpose together wanted for, made, is)
+
+  -- one of these turns made it
+  abbrev AmongTurns : List Turn → Type 0
+  AmongTurns turns = (one : Turn) × Has one turns × IsAskedInTurn l.id l.purpose one
+
+  later-among : (one : Turn) (turns : List Turn) → AmongTurns turns → AmongTurns (one ∷ turns)
+  later-among one turns (x, there, asked) = (x, inr there, asked)
+
+  differs-listed : (s t : State) → DiffersInStreams s t → Has l t.listed → Has l s.listed
+  differs-listed s t differs there = subst (λ (u : State). Has l u.listed) differs.others there
+
+  -- the first turn made it, or a later one, or it was listed before
+  step-asks : (one : Turn) (later : List Turn) (s : State) → DiffersInStreams s one.before → AreTogether s → Has l (made_of one).1.listed ⊎ AmongTurns later → Has l s.listed ⊎ AmongTurns (one ∷ later)
+  step-asks one later s differs together (inr among) = inr (later-among one later among)
+  step-asks one later s differs together (inl there) = by (turn-asks one (differs-together s one.before differs together) there)
+    where
+      by : Has l one.before.listed ⊎ IsAskedInTurn l.id l.purpose one → Has l s.listed ⊎ AmongTurns (one ∷ later)
+      by (inl old) = inl (differs-listed s one.before differs old)
+      by (inr asked) = inr (one, inl refl, asked)
+
+  lead-asks : (turns : List Turn) (s t : State) → TurnsLead turns s t → AllFew turns → AreTogether s → Has l t.listed → Has l s.listed ⊎ AmongTurns turns
+  lead-asks [] s t lead few together there = inl (differs-listed s t lead there)
+  lead-asks (one ∷ later) s t (first, lead) few together there =
+      step-asks one later s first together
+      (lead-asks later (made_of one).1 t lead (λ x h. few x (inr h)) (first-together one later s first few together) there)
+
+  -- up to one of the turns
+  front-asks : (front : List Turn) (one : Turn) (back : List Turn) (s t : State) → TurnsLead (front ++ one ∷ back) s t → AllFew (front ++ one ∷ back) → AreTogether s → Has l one.before.listed → Has l s.listed ⊎ AmongTurns front
+  front-asks [] one back s t (first, lead) few together there = inl (differs-listed s one.before first there)
+  front-asks (x ∷ front) one back s t (first, lead) few together there =
+      step-asks x front s first together
+      (front-asks front one back (made_of x).1 t lead (λ y h. few y (inr h)) (first-together x (front ++ one ∷ back) s first few together) there)
+
+  -- ---- a call
+
+  module _ (call : Call) (s : State) (free : DrawsFreeIds call s) (together : AreTogether s) where
+    gone-listed : DoesTurns call s → Has l (state_after call s).listed → Has l s.listed ⊎ AmongTurns (handled call s)
+    gone-listed (inl lead) there = lead-asks (handled call s) s (state_after call s) lead (few-turns call s free) together there
+    gone-listed (inr end) there = old ((gone-settles end.local s).1 l (subst (λ (t : State). Has l t.listed) end.gone there))
+      where
+        old : Has l s.listed ⊎ ⊥ → Has l s.listed ⊎ AmongTurns (handled call s)
+        old (inl h) = inl h
+        old (inr none) = absurd none
+
+    call-asks : Contains (state_after call s).listed l → Contains s.listed l ⊎ IsAskedInCall l.id l.purpose call s
+    call-asks there = by (listing-here call s)
+      where
+        turned : Has l s.listed ⊎ AmongTurns (handled call s) → Contains s.listed l ⊎ IsAskedInCall l.id l.purpose call s
+        turned (inl old) = inl (has-contains l s.listed old)
+        turned (inr (one, among, asked)) = inr (inr (one, has-contains one (handled call s) among, asked))
+
+        itself : ((x : Listing) → IsListingOf call s x → IsListingHere call s x) → Contains s.listed l ⊎ IsListingOf call s l → Contains s.listed l ⊎ IsAskedInCall l.id l.purpose call s
+        itself own (inl old) = inl old
+        itself own (inr is) = inr (inl (own l is))
+
+        by : TakesTurns call ⊎ ((x : Listing) → IsListingOf call s x → IsListingHere call s x) → Contains s.listed l ⊎ IsAskedInCall l.id l.purpose call s
+        by (inl takes) = turned (gone-listed (calls-do call s takes) (contains-has l (state_after call s).listed there))
+        by (inr own) = itself own (listings-made call s (state_after call s) l (inl refl) there)
+
+    -- up to a turn of it
+    turn-was-asked : (front : List Turn) (one : Turn) (back : List Turn) → handled call s ≡ front ++ one ∷ back → Has l one.before.listed → DoesTurns call s → Has l s.listed ⊎ AmongTurns front
+    turn-was-asked front one back cut there (inl lead) =
+        front-asks front one back s (state_after call s)
+        (subst (λ (turns : List Turn). TurnsLead turns s (state_after call s)) cut lead)
+        (subst AllFew cut (few-turns call s free)) together there
+    turn-was-asked front one back cut there (inr end) = absurd (filled front (sym end.nothing ∙ cut))
+      where
+        filled : (front : List Turn) → [] ≡ front ++ one ∷ back → ⊥
+        filled [] e = cc
+        filled (x ∷ front) e = cc
+
+  -- ---- a run
+
+  run-asks : (calls : List Call) (first : State) → DrawFreeIds calls first → AreTogether first → Contains (state_behind first calls).listed l → Contains first.listed l ⊎ WasAsked l.id l.purpose calls first
+  run-asks [] first free together there = inl there
+  run-asks (call ∷ calls) first (now, free) together there = by (run-asks calls (state_after call first) free (call-together call first now together) there)
+    where
+      at : Contains first.listed l ⊎ IsAskedInCall l.id l.purpose call first → Contains first.listed l ⊎ WasAsked l.id l.purpose (call ∷ calls) first
+      at (inl old) = inl old
+      at (inr asked) = inr (record { earlier = []; call = call; later = calls; split = refl; asked = asked })
+
+      by : Contains (state_after call first).listed l ⊎ WasAsked l.id l.purpose calls (state_after call first) → Contains first.listed l ⊎ WasAsked l.id l.purpose (call ∷ calls) first
+      by (inl there) = at (call-asks call first now together there)
+      by (inr was) = inr (record {
+        earlier = call ∷ was.earlier;
+        call = was.call;
+        later = was.later;
+        split = ap (λ (l : List Call). call ∷ l) was.split;
+        asked = was.asked;
+      })
+
+-- the calls up to one of them draw free IDs, and so does that one
+free-before : (earlier : List Call) (call : Call) (later : List Call) (s : State) → DrawFreeIds (earlier ++ call ∷ later) s → DrawFreeIds earlier s × DrawsFreeIds call (state_behind s earlier)
+free-before [] call later s (now, free) = (tt, now)
+free-before (x ∷ earlier) call later s (now, free) = let rest = free-before earlier call later (state_after x s) free in ((now, rest.0), rest.1)
+
+run-together : (calls : List Call) (s : State) → DrawFreeIds calls s → AreTogether s → AreTogether (state_behind s calls)
+run-together [] s free h = h
+run-together (call ∷ calls) s (now, free) h = run-together calls (state_after call s) free (call-together call s now h)
+
+takes-turns : (call : Call) (s : State) (front : List Turn) (one : Turn) (back : List Turn) → handled call s ≡ front ++ one ∷ back → DoesTurns call s
+takes-turns call s front one back cut = by (taking call)
+  where
+    filled : (front : List Turn) → [] ≡ front ++ one ∷ back → ⊥
+    filled [] e = cc
+    filled (x ∷ front) e = cc
+
+    by : TakesTurns call ⊎ (TakesTurns call → ⊥) → DoesTurns call s
+    by (inl takes) = calls-do call s takes
+    by (inr other) = absurd (filled front (sym (quiet call s other) ∙ cut))
+
+-- the request that a turn answers was made before it
+pub was-asked : (earlier : List Call) (call : Call) (later : List Call) (first : State) → DrawFreeIds (earlier ++ call ∷ later) first → first.listed ≡ []
+    → (front : List Turn) (one : Turn) (back : List Turn) → handled call (state_behind first earlier) ≡ front ++ one ∷ back
+    → (p : Purpose) → (GivesBack p → ⊥) → Contains (purposes_of (id_of one.bytes) one.before) p
+    → WasAskedBefore (id_of one.bytes) p earlier first front
+was-asked earlier call later first free empty front one back cut p wanted listed = by (turn-was-asked l wanted call s frees.1 together front one back cut there (takes-turns call s front one back cut))
+  where
+    s : State
+    s = state_behind first earlier
+
+    l : Listing
+    l = listing (id_of one.bytes) p
+
+    frees : DrawFreeIds earlier first × DrawsFreeIds call s
+    frees = free-before earlier call later first free
+
+    none : AreTogether first
+    none x other here there e = absurd (subst (Has x) empty here)
+
+    together : AreTogether s
+    together = run-together earlier first frees.0 none
+
+    there : Has l one.before.listed
+    there = purpose-with (id_of one.bytes) p one.before (contains-has p (purposes_of (id_of one.bytes) one.before) listed)
+
+    at : Contains first.listed l ⊎ WasAsked l.id l.purpose earlier first → WasAskedBefore (id_of one.bytes) p earlier first front
+    at (inl old) = absurd (contains-has l [] (subst (λ (ls : List Listing). Contains ls l) empty old))
+    at (inr was) = inl was
+
+    by : Has l s.listed ⊎ AmongTurns l wanted front → WasAskedBefore (id_of one.bytes) p earlier first front
+    by (inl old) = at (run-asks l wanted earlier first frees.0 none (has-contains l s.listed old))
+    by (inr (x, among, asked)) = inr (x, has-contains x front among, asked)

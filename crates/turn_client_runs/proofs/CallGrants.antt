@@ -1,0 +1,137 @@
+-- What stands after a call stood before it, a `delete` ended it, or a turn of the call granted it.
+use Rattle.std.proofs.Common.{◌≡◌, ◌⊎◌, ◌∙◌, ℕ, Bool, true, false, List, [], Ok, refl, subst, sym, ap, inl, inr}
+use Rattle.std.specs.List.{Contains}
+use Rattle.turn_client_api.specs.State.{State}
+use Rattle.turn_client_api.specs.declared.call.Call.{Call}
+use Rattle.turn_client_api.specs.declared.call.Call.TheVariants.{Delete, CreatePermission, BindChannel, TcpConnect, AllocatedTcpSocket, TcpClosed, SendTo, Recv, PollRecv, Poll, PollTransmit, PollEvent, ProtocolError, RelayedAddresses, Permissions, HavePermission}
+use Rattle.turn_client_api.specs.declared.grant.Grant.{Grant}
+use Rattle.turn_client_api.specs.declared.grant.Grant.TheVariants.{Allocation, Permission, Channel, Connect, Offer, Connection}
+use Rattle.turn_client_api.specs.declared.grant.Relay.{Relay}
+use Rattle.turn_client_api.specs.Calls.{delete_step, is_allocated}
+use Rattle.turn_client_api.specs.Handled.{Turn, handled}
+use Rattle.turn_client_api.specs.LawsGranted.{IsEndedNow, IsGrantedIn, IsKeptAs, Stood}
+use Rattle.turn_client_api.specs.LawsHandled.{IsDoneBy, TakesTurns}
+use Rattle.turn_client_api.specs.Steps.{state_after}
+use Rattle.turn_client_api.proofs.GrantedLemmas.{leaves-grants}
+use Rattle.turn_client_api.proofs.StandLemmas.{Covers, contains-has, covers-stood, has-contains, kept-stood, kept-trans}
+use Rattle.turn_client_api.proofs.TurnBringLemmas.{leaves-bring}
+use Rattle.turn_client_runs.specs.Granted.{IsRelayed}
+use Rattle.turn_client_runs.proofs.GrantTurns.{AreAllocations, Granting, granting-brought, kept-alike}
+
+-- ---- a `delete`
+
+-- the call is a `delete`, which ended the allocation that stood
+abbrev pub IsEndedBy : Call → State → Grant → Type 0
+IsEndedBy call s g =
+    (a : Relay) × (now : ℕ) × (g ≡ Allocation a) × (call ≡ Delete now) × (a.expiry ≡ now) × IsRelayed a.relayed s
+
+ended-how : (call : Call) (s : State) (g : Grant) → IsEndedNow call s g → IsEndedBy call s g
+ended-how (Delete now) s (Allocation a) (e, was) = (a, now, refl, refl, e, was)
+ended-how (Delete now) s (Permission ip progress) e = absurd e
+ended-how (Delete now) s (Channel number peer progress) e = absurd e
+ended-how (Delete now) s (Connect peer) e = absurd e
+ended-how (Delete now) s (Offer offer) e = absurd e
+ended-how (Delete now) s (Connection c) e = absurd e
+ended-how (CreatePermission transport ip now) s g e = absurd e
+ended-how (BindChannel transport peer now) s g e = absurd e
+ended-how (TcpConnect peer now) s g e = absurd e
+ended-how (AllocatedTcpSocket id tuple peer local now) s g e = absurd e
+ended-how (TcpClosed local remote now) s g e = absurd e
+ended-how (SendTo transport peer bytes now) s g e = absurd e
+ended-how (Recv packet now) s g e = absurd e
+ended-how (PollRecv now) s g e = absurd e
+ended-how (Poll now) s g e = absurd e
+ended-how (PollTransmit now) s g e = absurd e
+ended-how PollEvent s g e = absurd e
+ended-how RelayedAddresses s g e = absurd e
+ended-how (Permissions transport relayed) s g e = absurd e
+ended-how (HavePermission transport to) s g e = absurd e
+ended-how ProtocolError s g e = absurd e
+
+pub same-allocation : (a b : Relay) → Allocation a ≡ Allocation b → a ≡ b
+same-allocation a b e = cc
+
+-- what is kept as the grant ended with it
+ended-kept : (call : Call) (s : State) (is g : Grant) → IsKeptAs is g → IsEndedBy call s is → IsEndedBy call s g
+ended-kept call s is g kept (a, now, what, how, ends, was) = by (kept-alike is g kept)
+  where
+    by : AreAllocations is g ⊎ (is ≡ g) → IsEndedBy call s g
+    by (inl (b, c, named, to, e, f)) =
+        let same = same-allocation a b (sym what ∙ named) in
+        let relayed : a.relayed ≡ c.relayed = ap (λ (x : Relay). x.relayed) same ∙ e in
+        let expiry : a.expiry ≡ c.expiry = ap (λ (x : Relay). x.expiry) same ∙ f in
+        (c, now, to, how, sym expiry ∙ ends, (was.0, was.1, was.2 ∙ relayed))
+    by (inr e) = (a, now, sym e ∙ what, how, ends, was)
+
+-- ---- calls that take no turns
+
+pub taking : (call : Call) → TakesTurns call ⊎ (TakesTurns call → ⊥)
+taking (Recv packet now) = inl tt
+taking (PollRecv now) = inl tt
+taking (Delete now) = inr (λ takes. takes)
+taking (CreatePermission transport ip now) = inr (λ takes. takes)
+taking (BindChannel transport peer now) = inr (λ takes. takes)
+taking (TcpConnect peer now) = inr (λ takes. takes)
+taking (AllocatedTcpSocket id tuple peer local now) = inr (λ takes. takes)
+taking (TcpClosed local remote now) = inr (λ takes. takes)
+taking (SendTo transport peer bytes now) = inr (λ takes. takes)
+taking (Poll now) = inr (λ takes. takes)
+taking (PollTransmit now) = inr (λ takes. takes)
+taking PollEvent = inr (λ takes. takes)
+taking RelayedAddresses = inr (λ takes. takes)
+taking (Permissions transport relayed) = inr (λ takes. takes)
+taking (HavePermission transport to) = inr (λ takes. takes)
+taking ProtocolError = inr (λ takes. takes)
+
+pub quiet : (call : Call) (s : State) → (TakesTurns call → ⊥) → handled call s ≡ []
+quiet (Recv packet now) s other = absurd (other tt)
+quiet (PollRecv now) s other = absurd (other tt)
+quiet (Delete now) s other = refl
+quiet (CreatePermission transport ip now) s other = refl
+quiet (BindChannel transport peer now) s other = refl
+quiet (TcpConnect peer now) s other = refl
+quiet (AllocatedTcpSocket id tuple peer local now) s other = refl
+quiet (TcpClosed local remote now) s other = refl
+quiet (SendTo transport peer bytes now) s other = refl
+quiet (Poll now) s other = refl
+quiet (PollTransmit now) s other = refl
+quiet PollEvent s other = refl
+quiet RelayedAddresses s other = refl
+quiet (Permissions transport relayed) s other = refl
+quiet (HavePermission transport to) s other = refl
+quiet ProtocolError s other = refl
+
+none-done : (Did : Turn → Type 0) (call : Call) (s : State) → (TakesTurns call → ⊥) → IsDoneBy Did call s → ⊥
+none-done Did call s other (one, among, did) = contains-has one [] (subst (λ (turns : List Turn). Contains turns one) (quiet call s other) among)
+
+module _ (g : Grant) where
+  quiet-grants : (call : Call) (s : State) → (TakesTurns call → ⊥) → Covers (state_after call s).grants g → Covers s.grants g ⊎ IsEndedBy call s g
+  quiet-grants call s other (is, there, kept) = by (leaves-grants call s (state_after call s) is (inl refl) (has-contains is (state_after call s).grants there) (kept-stood is g kept))
+    where
+      by : Stood s is ⊎ IsEndedNow call s is ⊎ IsDoneBy (IsGrantedIn is) call s → Covers s.grants g ⊎ IsEndedBy call s g
+      by (inl (was, before, k)) = inl (was, contains-has was s.grants before, kept-trans was is g k kept)
+      by (inr (inl ended)) = inr (ended-kept call s is g kept (ended-how call s is ended))
+      by (inr (inr done)) = absurd (none-done (IsGrantedIn is) call s other done)
+
+  -- why it stands after a call
+  abbrev pub IsCaused : Call → State → Type 0
+  IsCaused call s = IsEndedBy call s g ⊎ IsDoneBy (Granting g) call s
+
+  stood-covers : (s : State) → Stood s g → Covers s.grants g
+  stood-covers s (was, there, kept) = (was, contains-has was s.grants there, kept)
+
+  pub call-causes : (call : Call) (s : State) → Stood (state_after call s) g → Stood s g ⊎ IsCaused call s
+  call-causes call s stood =
+      by (leaves-bring (λ u. Covers u.grants g) (Granting g) (granting-brought g) (λ call s. IsEndedBy call s g) quiet-grants call s (state_after call s) (inl refl) (stood-covers (state_after call s) stood))
+    where
+      by : Covers s.grants g ⊎ IsEndedBy call s g ⊎ IsDoneBy (Granting g) call s → Stood s g ⊎ IsCaused call s
+      by (inl covers) = inl (covers-stood s g covers)
+      by (inr cause) = inr cause
+
+-- a `delete` that is refused changes nothing
+pub delete-accepted : (now : ℕ) (s : State) → ((delete_step now s).0 ≡ Ok tt) ⊎ ((delete_step now s).1 ≡ s)
+delete-accepted now s = by (is_allocated s.phase) refl
+  where
+    by : (b : Bool) → is_allocated s.phase ≡ b → ((delete_step now s).0 ≡ Ok tt) ⊎ ((delete_step now s).1 ≡ s)
+    by true e = inl (rw e refl)
+    by false e = inr (rw e refl)

@@ -1,0 +1,247 @@
+-- What stands after a turn stood before it, or the turn granted it and ended the request that it answers.
+use Rattle.std.proofs.Common.{◌≡◌, ◌⊎◌, ◌∙◌, ℕ, Bool, true, false, List, Some, None, refl, subst, sym, ap, inl, inr}
+use Rattle.std.specs.List.{Contains}
+use Rattle.std.specs.declared.net.socket_addr.SocketAddr.{SocketAddr}
+use Rattle.turn_stun.specs.Message.{id_of}
+use Rattle.turn_stun.specs.declared.message.header.MessageClass.TheVariants.{Success}
+use Rattle.turn_auth.specs.Validation.{IsValidated, validation_of}
+use Rattle.turn_agent.specs.Agent.{same_address}
+use Rattle.turn_client_api.specs.State.{State, auth_of}
+use Rattle.turn_client_api.specs.declared.grant.Grant.{Grant}
+use Rattle.turn_client_api.specs.declared.grant.Grant.TheVariants.{Allocation, Permission, Channel, Connect, Offer, Connection}
+use Rattle.turn_client_api.specs.declared.grant.Relay.{Relay}
+use Rattle.turn_client_api.specs.declared.grant.DataConnection.{DataConnection}
+use Rattle.turn_client_api.specs.declared.grant.Progress.TheVariants.{Pending, Active, Reserved}
+use Rattle.turn_client_api.specs.declared.grant.Purpose.{Purpose}
+use Rattle.turn_client_api.specs.declared.grant.Purpose.TheVariants.{ForAllocation, ForRefresh, ForPermission, ForChannel, ForConnect, ForBind}
+use Rattle.turn_client_api.specs.declared.state.Phase.{Phase}
+use Rattle.turn_client_api.specs.declared.state.Phase.TheVariants.{New, Requesting, Authenticating, Allocated, Closed}
+use Rattle.turn_client_api.specs.declared.state.Mode.TheVariants.{Waiting}
+use Rattle.turn_client_api.specs.declared.state.Stream.{Stream}
+use Rattle.turn_client_api.specs.Grants.{purposes_of}
+use Rattle.turn_client_api.specs.Connections.{bind_answered, bind_step, deadline_set}
+use Rattle.turn_client_api.specs.Handled.{Turn, made_of}
+use Rattle.turn_client_api.specs.Judgement.{SignedSuccess, bind_judgement, class_in, judgement_of}
+use Rattle.turn_client_api.specs.LawsBound.{IsBindTurn}
+use Rattle.turn_client_api.specs.LawsGranted.{IsGivenFor, IsGrant, IsGrantedBy, IsKeptAs}
+use Rattle.turn_client_api.specs.LawsHandled.{IsOverControl}
+use Rattle.turn_client_api.specs.LawsReplies.{IsAccepted, IsAwaited, IsNotAwaited}
+use Rattle.turn_client_api.specs.Payloads.{is_message, message_step}
+use Rattle.turn_client_api.specs.Receive.{connection_gone}
+use Rattle.turn_client_api.proofs.AcceptedReplyLemmas.{bind-ended}
+use Rattle.turn_client_api.proofs.AddressLemmas.{same_address-true}
+use Rattle.turn_client_api.proofs.BoundLemmas.{binds-turn, found-local}
+use Rattle.turn_client_api.proofs.GrantOriginCallLemmas.{Binds, BindsOrLeaves, bind-leaves, gone-leaves}
+use Rattle.turn_client_api.proofs.GrantOriginLemmas.{has-mapped}
+use Rattle.turn_client_api.proofs.GrantOriginMessageLemmas.{message-grants}
+use Rattle.turn_client_api.proofs.HasLemmas.{Has}
+use Rattle.turn_client_api.proofs.StandLemmas.{Covers, covers-left}
+use Rattle.turn_client_api.proofs.TurnBringLemmas.{IsBrought}
+use Rattle.turn_client_runs.specs.Granted.{IsGivenIn, IsOverIts}
+use Rattle.turn_client_runs.proofs.AnsweredTurns.{made-control, made-waiting, success-ends}
+
+-- ---- what is kept is the same, but for what an allocation was told of
+
+abbrev pub AreAllocations : Grant → Grant → Type 0
+AreAllocations was g = (a b : Relay) × (was ≡ Allocation a) × (g ≡ Allocation b) × (a.relayed ≡ b.relayed) × (a.expiry ≡ b.expiry)
+
+pub kept-alike : (was g : Grant) → IsKeptAs was g → AreAllocations was g ⊎ (was ≡ g)
+kept-alike (Allocation a) (Allocation b) k = inl (a, b, refl, refl, k.0, k.1)
+kept-alike (Allocation a) (Permission other progress) k = absurd k
+kept-alike (Allocation a) (Channel other to progress) k = absurd k
+kept-alike (Allocation a) (Connection d) k = absurd k
+kept-alike (Allocation a) (Connect to) k = absurd k
+kept-alike (Allocation a) (Offer offer) k = absurd k
+kept-alike (Permission ip (Active m)) (Permission other (Active n)) (e, d) = inr (rw (e, d) refl)
+kept-alike (Permission ip (Active m)) (Permission other Pending) k = absurd k
+kept-alike (Permission ip (Active m)) (Permission other (Reserved n)) k = absurd k
+kept-alike (Permission ip (Active m)) (Allocation b) k = absurd k
+kept-alike (Permission ip (Active m)) (Channel other to progress) k = absurd k
+kept-alike (Permission ip (Active m)) (Connection d) k = absurd k
+kept-alike (Permission ip (Active m)) (Connect to) k = absurd k
+kept-alike (Permission ip (Active m)) (Offer offer) k = absurd k
+kept-alike (Permission ip Pending) g k = absurd k
+kept-alike (Permission ip (Reserved m)) g k = absurd k
+kept-alike (Channel number peer (Active m)) (Channel other to (Active n)) (e, f, d) = inr (rw (e, f, d) refl)
+kept-alike (Channel number peer (Active m)) (Channel other to Pending) k = absurd k
+kept-alike (Channel number peer (Active m)) (Channel other to (Reserved n)) k = absurd k
+kept-alike (Channel number peer (Active m)) (Allocation b) k = absurd k
+kept-alike (Channel number peer (Active m)) (Permission other progress) k = absurd k
+kept-alike (Channel number peer (Active m)) (Connection d) k = absurd k
+kept-alike (Channel number peer (Active m)) (Connect to) k = absurd k
+kept-alike (Channel number peer (Active m)) (Offer offer) k = absurd k
+kept-alike (Channel number peer Pending) g k = absurd k
+kept-alike (Channel number peer (Reserved m)) g k = absurd k
+kept-alike (Connect peer) g k = absurd k
+kept-alike (Offer offer) g k = absurd k
+kept-alike (Connection c) (Connection d) (e, h) = inr (rw e refl)
+kept-alike (Connection c) (Allocation b) k = absurd k
+kept-alike (Connection c) (Permission other progress) k = absurd k
+kept-alike (Connection c) (Channel other to progress) k = absurd k
+kept-alike (Connection c) (Connect to) k = absurd k
+kept-alike (Connection c) (Offer offer) k = absurd k
+
+-- what is given for a purpose is given as what it is kept as
+given-kept : (p : Purpose) (was g : Grant) (message : List ℕ) (now : ℕ) (s : State) → IsKeptAs was g → IsGivenFor p message now s was → IsGivenFor p message now s g
+given-kept p was g message now s kept given = by (kept-alike was g kept)
+  where
+    same : (q : Purpose) (a b : Relay) → a.relayed ≡ b.relayed → a.expiry ≡ b.expiry → IsGivenFor q message now s (Allocation a) → IsGivenFor q message now s (Allocation b)
+    same ForAllocation a b e f h = rw (sym e, sym f) h
+    same (ForRefresh family lifetime) a b e f h = rw (sym e, sym f) h
+    same (ForPermission ip) a b e f h = h
+    same (ForChannel number peer) a b e f h = h
+    same (ForConnect peer) a b e f h = h
+    same (ForBind local peer id) a b e f h = h
+
+    by : AreAllocations was g ⊎ (was ≡ g) → IsGivenFor p message now s g
+    by (inl (a, b, is, to, e, f)) = subst (IsGivenFor p message now s) (sym to) (same p a b e f (subst (IsGivenFor p message now s) is given))
+    by (inr e) = subst (IsGivenFor p message now s) e given
+
+-- ---- what a turn grants
+
+-- what the turn gives: a connection that it binds, and all else as the machine says
+abbrev pub IsGivenAt : Turn → Purpose → Grant → Type 0
+IsGivenAt one p (Connection c) = IsGivenIn one p (Connection c)
+IsGivenAt one p g = IsGivenFor p one.bytes one.moment one.before g
+
+-- The turn is that of a success, and answers a request for the purpose.
+pub record IsAccepting (purpose : Purpose) (one : Turn) : Type 0 where
+  pub whole : is_message one.bytes ≡ true
+  pub success : class_in one.bytes ≡ Success
+  pub signed : IsValidated (validation_of (auth_of one.before) one.bytes)
+  pub listed : Contains (purposes_of (id_of one.bytes) one.before) purpose
+  pub outstanding : IsAwaited one.bytes one.before
+  pub ended : IsNotAwaited one.bytes (made_of one).1
+
+-- the turn granted it
+pub record Granting (g : Grant) (one : Turn) : Type 0 where
+  pub over : IsOverIts g one
+  pub purpose : Purpose
+  pub accepting : IsAccepting purpose one
+  pub given : IsGivenAt one purpose g
+
+-- over the control connection
+module _ (one : Turn) (over : IsOverControl one) (whole : is_message one.bytes ≡ true) where
+  accepting : judgement_of one.before one.bytes ≡ SignedSuccess → (was : Grant) (is : IsGrantedBy one.bytes one.moment one.before was) → IsAccepting is.purpose one
+  accepting judged was is = record {
+    whole = whole;
+    success = is.success;
+    signed = is.signed;
+    listed = is.listed;
+    outstanding = is.outstanding;
+    ended = rw (made-control one over whole) (success-ends one.bytes one.moment one.before judged);
+  }
+
+  granted : (g : Grant) → judgement_of one.before one.bytes ≡ SignedSuccess → IsGrant g one.bytes one.moment one.before → Granting g one
+  granted g judged (was, is, kept) = by g (accepting judged was is) (given-kept is.purpose was g one.bytes one.moment one.before kept is.given)
+    where
+      none : (p : Purpose) (c : DataConnection) → IsGivenFor p one.bytes one.moment one.before (Connection c) → ⊥
+      none ForAllocation c h = h
+      none (ForRefresh family lifetime) c h = h
+      none (ForPermission ip) c h = h
+      none (ForChannel number peer) c h = h
+      none (ForConnect peer) c h = h
+      none (ForBind local peer id) c h = h
+
+      by : (h : Grant) → IsAccepting is.purpose one → IsGivenFor is.purpose one.bytes one.moment one.before h → Granting h one
+      by (Allocation a) accepts given = record { over = over; purpose = is.purpose; accepting = accepts; given = given }
+      by (Permission ip progress) accepts given = record { over = over; purpose = is.purpose; accepting = accepts; given = given }
+      by (Channel number peer progress) accepts given = record { over = over; purpose = is.purpose; accepting = accepts; given = given }
+      by (Connect peer) accepts given = record { over = over; purpose = is.purpose; accepting = accepts; given = given }
+      by (Offer offer) accepts given = record { over = over; purpose = is.purpose; accepting = accepts; given = given }
+      by (Connection c) accepts given = absurd (none is.purpose c given)
+
+  control-grants : (g : Grant) → Covers (message_step one.bytes one.moment one.before).1.grants g → Covers one.before.grants g ⊎ Granting g one
+  control-grants g covers = by (message-grants g one.bytes one.moment one.before covers)
+    where
+      by : Covers one.before.grants g ⊎ ((judgement_of one.before one.bytes ≡ SignedSuccess) × IsGrant g one.bytes one.moment one.before) → Covers one.before.grants g ⊎ Granting g one
+      by (inl there) = inl there
+      by (inr (judged, grant)) = inr (granted g judged grant)
+
+-- ---- over a connection that waits to be bound
+
+-- a grant that a map leaves was there, or is a connection at this local end
+deadline-has : (local : SocketAddr) (g x : Grant) → g ≡ deadline_set local None x → (g ≡ x) ⊎ ((c : DataConnection) × (g ≡ Connection c) × (c.local ≡ local))
+deadline-has local g (Connection c) e = by (same_address c.local local) refl
+  where
+    by : (b : Bool) → same_address c.local local ≡ b → (g ≡ Connection c) ⊎ ((d : DataConnection) × (g ≡ Connection d) × (d.local ≡ local))
+    by true f = inr (record c { deadline = None }, e ∙ rw f refl, same_address-true c.local local f)
+    by false f = inl (e ∙ rw f refl)
+deadline-has local g (Allocation a) e = inl e
+deadline-has local g (Permission ip progress) e = inl e
+deadline-has local g (Channel number peer progress) e = inl e
+deadline-has local g (Connect peer) e = inl e
+deadline-has local g (Offer offer) e = inl e
+
+module _ (one : Turn) (stream : Stream) (of : one.stream ≡ Some stream) (waits : stream.mode ≡ Waiting) (whole : is_message one.bytes ≡ true) where
+  -- the request is outstanding no longer
+  bind-ends : (b : Binds stream.local one.bytes one.before (bind_step stream.local one.bytes one.moment one.before)) → one.before.phase ≡ Allocated → IsNotAwaited one.bytes (made_of one).1
+  bind-ends b phase =
+      let steps : bind_step stream.local one.bytes one.moment one.before ≡ bind_answered b.c one.bytes one.moment one.before = rw (phase, b.found, b.method) refl in
+      let judged : IsAccepted (bind_judgement one.before b.c.local one.bytes) = rw b.judged tt in
+      rw (made-waiting one stream of waits whole, steps) (bind-ended b.c one.bytes one.moment one.before judged)
+
+  bind-accepting : (b : Binds stream.local one.bytes one.before (bind_step stream.local one.bytes one.moment one.before)) → one.before.phase ≡ Allocated → (turn : IsBindTurn stream.local b.c.peer one) → IsAccepting (ForBind stream.local turn.asked turn.number) one
+  bind-accepting b phase turn = record {
+    whole = whole;
+    success = turn.success;
+    signed = turn.signed;
+    listed = turn.listed;
+    outstanding = turn.outstanding;
+    ended = bind-ends b phase;
+  }
+
+  -- the connection is the one from the local end over which the message came
+  bound-granting : (b : Binds stream.local one.bytes one.before (bind_step stream.local one.bytes one.moment one.before)) → one.before.phase ≡ Allocated → (g : Grant) (c : DataConnection) → c.local ≡ b.c.local → IsKeptAs (Connection c) g → Granting g one
+  bound-granting b phase (Connection d) c at (same, none) =
+      let here : c.local ≡ stream.local = at ∙ found-local stream.local b.c _ b.found in
+      let turn = binds-turn one stream (bind_step stream.local one.bytes one.moment one.before) of waits whole b in
+      record {
+        over = rw of (waits, sym here ∙ ap (λ (x : DataConnection). x.local) same);
+        purpose = ForBind stream.local turn.asked turn.number;
+        accepting = bind-accepting b phase turn;
+        given = (sym (ap (λ (x : DataConnection). x.local) same) ∙ here, sym (ap (λ (x : DataConnection). x.deadline) same) ∙ none);
+      }
+  bound-granting b phase (Allocation a) c at k = absurd k
+  bound-granting b phase (Permission ip progress) c at k = absurd k
+  bound-granting b phase (Channel number peer progress) c at k = absurd k
+  bound-granting b phase (Connect peer) c at k = absurd k
+  bound-granting b phase (Offer offer) c at k = absurd k
+
+  bind-covers : (g : Grant) → one.before.phase ≡ Allocated → Binds stream.local one.bytes one.before (bind_step stream.local one.bytes one.moment one.before) → Covers (bind_step stream.local one.bytes one.moment one.before).grants g → Covers one.before.grants g ⊎ Granting g one
+  bind-covers g phase b (is, there, kept) = by (has-mapped (deadline_set b.c.local None) is one.before.grants (subst (Has is) b.grants there))
+    where
+      at : (x : Grant) → Has x one.before.grants → (is ≡ x) ⊎ ((c : DataConnection) × (is ≡ Connection c) × (c.local ≡ b.c.local)) → Covers one.before.grants g ⊎ Granting g one
+      at x before (inl same) = inl (is, rw same before, kept)
+      at x before (inr (c, connection, ends)) = inr (bound-granting b phase g c ends (rw connection at kept))
+
+      by : (x : Grant) × Has x one.before.grants × (is ≡ deadline_set b.c.local None x) → Covers one.before.grants g ⊎ Granting g one
+      by (x, before, e) = at x before (deadline-has b.c.local is x e)
+
+  binds-grants : (g : Grant) → Covers (bind_step stream.local one.bytes one.moment one.before).grants g → Covers one.before.grants g ⊎ Granting g one
+  binds-grants g = by one.before.phase refl (bind-leaves stream.local one.bytes one.moment one.before)
+    where
+      t : State
+      t = bind_step stream.local one.bytes one.moment one.before
+
+      same : t ≡ one.before → Covers t.grants g → Covers one.before.grants g ⊎ Granting g one
+      same e covers = inl (subst (λ (u : State). Covers u.grants g) e covers)
+
+      by : (p : Phase) → one.before.phase ≡ p → BindsOrLeaves stream.local one.bytes one.before t → Covers t.grants g → Covers one.before.grants g ⊎ Granting g one
+      by Allocated e (inl b) covers = bind-covers g e b covers
+      by Allocated e (inr (leaves, streams)) covers = inl (covers-left one.before.grants _ g leaves covers)
+      by New e leaves covers = same (rw e refl) covers
+      by Requesting e leaves covers = same (rw e refl) covers
+      by Authenticating e leaves covers = same (rw e refl) covers
+      by Closed e leaves covers = same (rw e refl) covers
+
+-- ---- all turns
+
+pub granting-brought : (g : Grant) → IsBrought (λ s. Covers s.grants g) (Granting g)
+granting-brought g = record {
+  differs = λ s t differs covers. subst (λ (x : List Grant). Covers x g) (ap (λ (x : State). x.grants) differs.others) covers;
+  message = λ one over whole. control-grants one over whole g;
+  binds = λ one stream of waits whole. binds-grants one stream of waits whole g;
+  gone = λ local s. covers-left s.grants (connection_gone local s).grants g (gone-leaves local s);
+  ended = λ s covers. covers;
+}

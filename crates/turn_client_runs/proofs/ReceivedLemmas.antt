@@ -1,0 +1,226 @@
+-- What the streams of a client hold came in by `recv`.
+use Rattle.std.proofs.Common.{◌≡◌, ◌⊎◌, ◌∙◌, ◌++◌, ℕ, zero, suc, Bool, true, false, cond, List, [], ◌∷◌, map, filter, Option, Some, None, refl, sym, subst, ap, inl, inr}
+use Rattle.std.specs.Prelude.{drop, find, is_some, take}
+use Rattle.std.specs.declared.net.socket_addr.SocketAddr.{SocketAddr}
+use Rattle.turn_types.specs.Frames.{begins_no_frame, frame_len}
+use Rattle.turn_agent.specs.Agent.{same_address}
+use Rattle.turn_client_api.specs.State.{State}
+use Rattle.turn_client_api.specs.declared.state.Mode.{Mode}
+use Rattle.turn_client_api.specs.declared.state.Mode.TheVariants.{Control, Waiting, Bound, Broken}
+use Rattle.turn_client_api.specs.declared.state.Stream.{Stream}
+use Rattle.turn_client_api.specs.Calls.{with_stream}
+use Rattle.turn_client_api.specs.Connections.{connection_at}
+use Rattle.turn_client_api.specs.Grants.{is_connection_from, without}
+use Rattle.turn_client_api.specs.Handled.{Turn, fed, fed_taken, frame_taken, is_front, piece_turns, poll_recv_turns, stream_turns, taken, taken_first, taken_in, taken_of_len, then_taken, turns_taken, unless_given}
+use Rattle.turn_client_api.specs.Payloads.{Payload, Outcome, Handled, Ignored, PeerData, PeerIcmp}
+use Rattle.turn_client_api.specs.Receive.{connection_gone, first_turn, piece_step, stream_step, then_all}
+use Rattle.turn_client_api.specs.Streams.{broken_at, frame_step, framed_by, framed_turn, go_on, is_ready, most_turns, payload_in, poll_recv_step, turn, turn_of_first, turned, turns_until_payload, with_bytes, without_stream}
+use Rattle.turn_client_runs.specs.Received.{unless_broken}
+use Rattle.turn_client_api.proofs.AddressLemmas.{same_address-true}
+use Rattle.turn_client_api.proofs.GrantOriginLemmas.{has-mapped}
+use Rattle.turn_client_api.proofs.HasLemmas.{Has, has-append, has-filter, has-found}
+use Rattle.turn_client_api.proofs.StreamDrainLemmas.{broken_by, bytes_by, mode_by}
+use Rattle.turn_client_api.proofs.StreamMessageLemmas.{Rebound, frame-rebound}
+
+-- of bytes at a local end: what is left of what is known is known
+module _ (Known : SocketAddr → List ℕ → Type 0) (none : (a : SocketAddr) → Known a []) (less : (a : SocketAddr) (n : ℕ) (bytes : List ℕ) → Known a bytes → Known a (drop n bytes)) where
+  abbrev pub AllKnown : List Stream → Type 0
+  AllKnown xs = (x : Stream) → Has x xs → Known x.local x.bytes
+
+  -- those at other local ends
+  abbrev pub OthersKnown : SocketAddr → List Stream → Type 0
+  OthersKnown a xs = (x : Stream) → Has x xs → same_address x.local a ≡ false → Known x.local x.bytes
+
+  pub all-others : (a : SocketAddr) (xs : List Stream) → AllKnown xs → OthersKnown a xs
+  all-others a xs all x there differ = all x there
+
+  mapped-known : (f : Stream → Stream) (xs : List Stream) → ((x : Stream) → Has x xs → Known (f x).local (f x).bytes) → AllKnown (map f xs)
+  mapped-known f xs each y there = by (has-mapped f y xs there)
+    where
+      by : (x : Stream) × Has x xs × (y ≡ f x) → Known y.local y.bytes
+      by (x, before, e) = subst (λ (z : Stream). Known z.local z.bytes) (sym e) (each x before)
+
+  pub bytes-known : (a : SocketAddr) (bytes : List ℕ) (s : State) → Known a bytes → OthersKnown a s.streams → AllKnown (with_bytes a bytes s).streams
+  unfolding bytes_by
+  bytes-known a bytes s is others = mapped-known (bytes_by a bytes) s.streams each
+    where
+      each : (x : Stream) → Has x s.streams → Known (cond (same_address x.local a) (record x { bytes = bytes }) x).local (cond (same_address x.local a) (record x { bytes = bytes }) x).bytes
+      each x there = by (same_address x.local a) refl
+        where
+          by : (b : Bool) → same_address x.local a ≡ b → Known (cond b (record x { bytes = bytes }) x).local (cond b (record x { bytes = bytes }) x).bytes
+          by true e = subst (λ (l : SocketAddr). Known l bytes) (sym (same_address-true x.local a e)) is
+          by false e = others x there e
+
+  broken-known : (a : SocketAddr) (s : State) → AllKnown s.streams → AllKnown (broken_at a s).streams
+  unfolding broken_by
+  broken-known a s all = mapped-known (broken_by a) s.streams (λ x there. by x (same_address x.local a) (all x there))
+    where
+      by : (x : Stream) (b : Bool) → Known x.local x.bytes → Known (cond b (record x { mode = Broken; bytes = [] }) x).local (cond b (record x { mode = Broken; bytes = [] }) x).bytes
+      by x true is = none x.local
+      by x false is = is
+
+  mode-known : (a : SocketAddr) (mode : Mode) (xs : List Stream) → AllKnown xs → AllKnown (map (mode_by a mode) xs)
+  unfolding mode_by
+  mode-known a mode xs all = mapped-known (mode_by a mode) xs (λ x there. by x (same_address x.local a) (all x there))
+    where
+      by : (x : Stream) (b : Bool) → Known x.local x.bytes → Known (cond b (record x { mode = mode }) x).local (cond b (record x { mode = mode }) x).bytes
+      by x true is = is
+      by x false is = is
+
+  rebound-known : (s t : State) → Rebound s t → AllKnown s.streams → AllKnown t.streams
+  unfolding mode_by
+  rebound-known s t (inl same) all = subst AllKnown (sym same) all
+  rebound-known s t (inr (a, peer, is)) all = subst AllKnown (sym is) (mode-known a (Bound peer) s.streams all)
+
+  pub filter-known : (p : Stream → Bool) (xs : List Stream) → AllKnown xs → AllKnown (filter p xs)
+  filter-known p xs all x there = all x (has-filter p x xs there).0
+
+  -- ---- the turn of a stream
+
+  framed-known : (stream : Stream) (now : ℕ) (t : State) → Known stream.local stream.bytes → AllKnown t.streams → (o : Option ℕ) → AllKnown (framed_by stream now t o).1.streams
+  framed-known stream now t is all None = bytes-known stream.local stream.bytes t is (all-others stream.local t.streams all)
+  framed-known stream now t is all (Some len) =
+      let u = (frame_step stream (take len stream.bytes) now t).1 in
+      bytes-known stream.local (drop len stream.bytes) u (less stream.local len stream.bytes is)
+      (all-others stream.local u.streams (rebound-known t u (frame-rebound stream (take len stream.bytes) now t) all))
+
+  front-known : (stream : Stream) (now : ℕ) (t : State) → Known stream.local stream.bytes → AllKnown t.streams → AllKnown (framed_turn stream now t).1.streams
+  front-known stream now t is all = by (begins_no_frame stream.bytes)
+    where
+      by : (b : Bool) → AllKnown (cond {A = Outcome × State} b (Handled, broken_at stream.local t) (framed_by stream now t (frame_len stream.bytes))).1.streams
+      by true = broken-known stream.local t all
+      by false = framed-known stream now t is all (frame_len stream.bytes)
+
+  turned-known : (m : Mode) (stream : Stream) (now : ℕ) (t : State) → Known stream.local stream.bytes → AllKnown t.streams → AllKnown (turned (record stream { mode = m }) now t).1.streams
+  turned-known Control stream now t is all = front-known (record stream { mode = Control }) now t is all
+  turned-known Waiting stream now t is all = front-known (record stream { mode = Waiting }) now t is all
+  turned-known (Bound peer) stream now t is all = all
+  turned-known Broken stream now t is all = all
+
+  turn-known : (stream : Stream) (now : ℕ) (s : State) → Known stream.local stream.bytes → OthersKnown stream.local s.streams → AllKnown (turn stream now s).1.streams
+  turn-known stream now s is others = turned-known stream.mode stream now (with_bytes stream.local [] s) is (bytes-known stream.local [] s (none stream.local) others)
+
+  -- ---- the turns of a call
+
+  -- of what its stream holds
+  abbrev pub KnownTurn : Turn → Type 0
+  KnownTurn one = (stream : Stream) → one.stream ≡ Some stream → Known stream.local stream.bytes
+
+  abbrev pub KnownTurns : List Turn → Type 0
+  KnownTurns turns = (one : Turn) → Has one turns → KnownTurn one
+
+  no-turns : KnownTurns []
+  no-turns one there = absurd there
+
+  one-turn : (one : Turn) (stream : Stream) → one.stream ≡ Some stream → Known stream.local stream.bytes → KnownTurns (one ∷ [])
+  one-turn one stream of is x (inl same) other e = subst (λ (z : Stream). Known z.local z.bytes) (both (sym of ∙ (sym (ap (λ (y : Turn). y.stream) same) ∙ e))) is
+    where
+      both : Some stream ≡ Some other → stream ≡ other
+      both h = cc
+  one-turn one stream of is x (inr absent) other e = absurd absent
+
+  joined-turns : (xs ys : List Turn) → KnownTurns xs → KnownTurns ys → KnownTurns (xs ++ ys)
+  joined-turns xs ys k l one there = by (has-append one xs ys there)
+    where
+      by : Has one xs ⊎ Has one ys → KnownTurn one
+      by (inl h) = k one h
+      by (inr h) = l one h
+
+  len-turns : (is_lent : Bool) (stream : Stream) (now : ℕ) (t : State) → Known stream.local stream.bytes → (o : Option ℕ) → KnownTurns (taken_of_len is_lent stream now t o)
+  len-turns is_lent stream now t is None = no-turns
+  len-turns is_lent stream now t is (Some len) = one-turn _ stream refl is
+
+  frame-turns : (is_lent : Bool) (stream : Stream) (now : ℕ) (t : State) → Known stream.local stream.bytes → KnownTurns (frame_taken is_lent stream now t)
+  frame-turns is_lent stream now t is = by (begins_no_frame stream.bytes)
+    where
+      by : (b : Bool) → KnownTurns (cond b [] (taken_of_len is_lent stream now t (frame_len stream.bytes)))
+      by true = no-turns
+      by false = len-turns is_lent stream now t is (frame_len stream.bytes)
+
+  mode-turns : (m : Mode) (is_lent : Bool) (stream : Stream) (now : ℕ) (t : State) → Known stream.local stream.bytes → KnownTurns (taken_in is_lent (record stream { mode = m }) now t)
+  mode-turns Control is_lent stream now t is = frame-turns is_lent (record stream { mode = Control }) now t is
+  mode-turns Waiting is_lent stream now t is = frame-turns is_lent (record stream { mode = Waiting }) now t is
+  mode-turns (Bound peer) is_lent stream now t is = one-turn _ (record stream { mode = Bound peer }) refl is
+  mode-turns Broken is_lent stream now t is = no-turns
+
+  taken-turns : (is_lent : Bool) (stream : Stream) (now : ℕ) (s : State) → Known stream.local stream.bytes → KnownTurns (taken is_lent stream now s)
+  taken-turns is_lent stream now s is = mode-turns stream.mode is_lent stream now (with_bytes stream.local [] s) is
+
+  -- what the call takes is known, and so is what its streams hold after it
+  abbrev pub Goes : List Turn → State → Type 0
+  Goes turns t = KnownTurns turns × AllKnown t.streams
+
+  go_on-known : (next : State → Option Payload × State) (later : State → List Turn) (front : List Turn) (p : Outcome × State) → Goes front p.1 → ((t : State) → AllKnown t.streams → Goes (later t) (next t).1)
+      → Goes (front ++ unless_given (payload_in p.0) (later p.1)) (go_on next p).1
+  go_on-known next later front (PeerData payload, t) first more = (joined-turns front [] first.0 no-turns, first.1)
+  go_on-known next later front (Handled, t) first more = let rest = more t first.1 in (joined-turns front (later t) first.0 rest.0, rest.1)
+  go_on-known next later front (Ignored, t) first more = let rest = more t first.1 in (joined-turns front (later t) first.0 rest.0, rest.1)
+  go_on-known next later front (PeerIcmp transport peer icmp, t) first more = let rest = more t first.1 in (joined-turns front (later t) first.0 rest.0, rest.1)
+
+  turns-known : (n now : ℕ) (s : State) → AllKnown s.streams → Goes (turns_taken n now s) (turns_until_payload n now s).1
+  unfolding turns_taken turns_until_payload
+  turns-known zero now s all = (no-turns, all)
+  turns-known (suc n) now s all = by (find is_ready s.streams) refl (λ t known. turns-known n now t known)
+    where
+      by : (o : Option Stream) → find is_ready s.streams ≡ o → ((t : State) → AllKnown t.streams → Goes (turns_taken n now t) (turns_until_payload n now t).1)
+          → Goes (taken_first (turns_taken n now) now s o) (turn_of_first (turns_until_payload n now) now s o).1
+      by None e more = (no-turns, all)
+      by (Some stream) e more =
+          let is = all stream (has-found is_ready stream s.streams e).0 in
+          go_on-known (turns_until_payload n now) (turns_taken n now) (taken false stream now s) (turn stream now s)
+          (taken-turns false stream now s is, turn-known stream now s is (all-others stream.local s.streams all)) more
+
+  pub poll-known : (now : ℕ) (s : State) → AllKnown s.streams → Goes (poll_recv_turns now s) (poll_recv_step now s).1
+  poll-known now s all = turns-known (most_turns s) now s all
+
+  -- ---- a piece
+
+  then-known : (now : ℕ) (front : List Turn) (p : Outcome × State) → Goes front p.1 → Goes (front ++ then_taken now p) (then_all now p).1
+  then-known now front (PeerData payload, t) first = (joined-turns front [] first.0 no-turns, first.1)
+  then-known now front (PeerIcmp transport peer icmp, t) first = (joined-turns front [] first.0 no-turns, first.1)
+  then-known now front (Handled, t) first = let rest = poll-known now t first.1 in (joined-turns front (poll_recv_turns now t) first.0 rest.0, rest.1)
+  then-known now front (Ignored, t) first = let rest = poll-known now t first.1 in (joined-turns front (poll_recv_turns now t) first.0 rest.0, rest.1)
+
+  fed-known : (stream : Stream) (piece : List ℕ) (now : ℕ) (s : State) → Known stream.local (stream.bytes ++ piece) → OthersKnown stream.local s.streams → Goes (fed_taken stream piece now s) (first_turn stream piece now s).1
+  fed-known stream piece now s is others = (taken-turns (is_front stream.bytes) (fed stream piece) now s is, turn-known (fed stream piece) now s is others)
+
+  broken-turns : (b : Bool) (now : ℕ) (s : State) → AllKnown s.streams → Goes (cond b (poll_recv_turns now s) []) (cond {A = Outcome × State} b (then_all now (Handled, s)) (Handled, s)).1
+  broken-turns true now s all = then-known now [] (Handled, s) (no-turns, all)
+  broken-turns false now s all = (no-turns, all)
+
+  -- what a broken stream takes in is nothing
+  piece-known : (m : Mode) (stream : Stream) (piece : List ℕ) (now : ℕ) (s : State) → (m ≡ Broken → AllKnown s.streams) → Known stream.local (stream.bytes ++ unless_broken m piece) → OthersKnown stream.local s.streams
+      → Goes (piece_turns (record stream { mode = m }) piece now s) (piece_step (record stream { mode = m }) piece now s).1
+  piece-known Control stream piece now s broken is others =
+      let u = record stream { mode = Control } in
+      then-known now (fed_taken u piece now s) (first_turn u piece now s) (fed-known u piece now s is others)
+  piece-known Waiting stream piece now s broken is others = fed-known (record stream { mode = Waiting }) piece now s is others
+  piece-known (Bound peer) stream piece now s broken is others =
+      let u = record stream { mode = Bound peer } in
+      (taken-turns (is_front stream.bytes) (fed u piece) now s is, bytes-known stream.local [] s (none stream.local) others)
+  piece-known Broken stream piece now s broken is others = broken-turns (same_address stream.local s.local) now s (broken refl)
+
+  gone-streams : (a : SocketAddr) (s : State) → (connection_gone a s).streams ≡ s.streams
+  gone-streams a s = by (is_some (connection_at a s))
+    where
+      by : (b : Bool) → (cond b (record (without (is_connection_from a) s) { closes = a ∷ s.closes }) s).streams ≡ s.streams
+      by true = refl
+      by false = refl
+
+  -- the end of a stream takes nothing in
+  end-known : (a : SocketAddr) (s : State) → AllKnown s.streams → AllKnown (without_stream a (connection_gone a s)).streams
+  end-known a s all = filter-known _ (connection_gone a s).streams (subst AllKnown (sym (gone-streams a s)) all)
+
+  pub stream-known : (stream : Stream) (piece : List ℕ) (now : ℕ) (s : State) → (piece ≡ [] → AllKnown s.streams) → (stream.mode ≡ Broken → AllKnown s.streams) → Known stream.local (stream.bytes ++ unless_broken stream.mode piece) → OthersKnown stream.local s.streams
+      → Goes (stream_turns stream piece now s) (stream_step stream piece now s).1
+  stream-known stream [] now s empty broken is others = (no-turns, end-known stream.local s (empty refl))
+  stream-known stream (b ∷ bs) now s empty broken is others = piece-known stream.mode stream (b ∷ bs) now s broken is others
+
+  -- a data connection is opened
+  pub opened-known : (a : SocketAddr) (s : State) → AllKnown s.streams → AllKnown (with_stream a s).streams
+  opened-known a s all x there = by (has-append x (without_stream a s).streams _ there)
+    where
+      by : Has x (without_stream a s).streams ⊎ Has x (record { local = a; mode = Waiting; bytes = [] } ∷ []) → Known x.local x.bytes
+      by (inl here) = filter-known _ s.streams all x here
+      by (inr (inl e)) = subst (λ (z : Stream). Known z.local z.bytes) (sym e) (none a)
+      by (inr (inr absent)) = absurd absent

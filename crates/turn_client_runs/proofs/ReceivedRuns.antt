@@ -1,0 +1,248 @@
+-- What stands in the stream of a turn came in by the run's calls of `recv`.
+use Rattle.std.proofs.Common.{◌≡◌, ◌∙◌, ◌++◌, ◌&&◌, ℕ, Bool, true, false, cond, List, [], ◌∷◌, Option, Some, None, refl, sym, subst, ap, inl, inr, append_assoc}
+use Rattle.std.specs.Prelude.{drop, take}
+use Rattle.std.proofs.lemmas.List.{append-nil, take-append-drop}
+use Rattle.std.proofs.lemmas.Bool.{false_from_ne_true}
+use Rattle.std.specs.declared.net.socket_addr.SocketAddr.{SocketAddr}
+use Rattle.turn_stun.specs.declared.transport.TransportType.{TransportType}
+use Rattle.turn_stun.specs.declared.transport.TransportType.TheVariants.{Udp, Tcp}
+use Rattle.turn_stun.specs.declared.transport.Transmit.{Transmit}
+use Rattle.turn_agent.specs.Agent.{same_address}
+use Rattle.turn_client_api.specs.State.{State}
+use Rattle.turn_client_api.specs.declared.call.Call.{Call}
+use Rattle.turn_client_api.specs.declared.call.Call.TheVariants.{Delete, CreatePermission, BindChannel, TcpConnect, AllocatedTcpSocket, TcpClosed, SendTo, Recv, PollRecv, Poll, PollTransmit, PollEvent, ProtocolError, RelayedAddresses, Permissions, HavePermission}
+use Rattle.turn_client_api.specs.declared.state.Mode.{Mode}
+use Rattle.turn_client_api.specs.declared.state.Mode.TheVariants.{Control, Waiting, Bound, Broken}
+use Rattle.turn_client_api.specs.declared.state.Stream.{Stream}
+use Rattle.turn_client_api.specs.Handled.{Turn, handled, recv_turns, stream_turns}
+use Rattle.turn_client_api.specs.LawsHandled.{TakesTurns}
+use Rattle.turn_client_api.specs.Payloads.{Outcome, Ignored, channel_sent, datagram_step, is_channel_frame, is_message, message_step}
+use Rattle.turn_client_api.specs.Receive.{is_from_server, recv_step, stream_step}
+use Rattle.turn_client_api.specs.Steps.{state_after}
+use Rattle.turn_client_api.specs.Streams.{stream_at}
+use Rattle.turn_client_api.proofs.AddressLemmas.{same_address-self, same_address-true}
+use Rattle.turn_client_api.proofs.HasLemmas.{Has, has-found}
+use Rattle.turn_client_api.proofs.StreamCallLemmas.{IsOpened, others-opened}
+use Rattle.turn_client_api.proofs.StreamMessageLemmas.{message-same}
+use Rattle.turn_client_runs.specs.Received.{IsReceived, piece_for, pieces_for, unless_broken}
+use Rattle.turn_client_runs.specs.Run.{state_behind}
+use Rattle.turn_client_runs.proofs.CallGrants.{quiet}
+use Rattle.turn_client_runs.proofs.ReceivedLemmas.{AllKnown, Goes, opened-known, poll-known, stream-known}
+
+-- ---- what ends all that came in
+
+abbrev Ends : (SocketAddr → List ℕ) → SocketAddr → List ℕ → Type 0
+Ends all a bytes = (before : List ℕ) × (all a ≡ before ++ bytes)
+
+nothing-ends : (all : SocketAddr → List ℕ) (a : SocketAddr) → Ends all a []
+nothing-ends all a = (all a, sym (append-nil (all a)))
+
+less-ends : (all : SocketAddr → List ℕ) (a : SocketAddr) (n : ℕ) (bytes : List ℕ) → Ends all a bytes → Ends all a (drop n bytes)
+less-ends all a n bytes (before, e) =
+    (before ++ take n bytes, e ∙ (ap (λ (l : List ℕ). before ++ l) (sym (take-append-drop n bytes)) ∙ sym (append_assoc before (take n bytes) (drop n bytes))))
+
+abbrev Held : (SocketAddr → List ℕ) → List Stream → Type 0
+Held all xs = AllKnown (Ends all) (nothing-ends all) (less-ends all) xs
+
+abbrev Steps : (SocketAddr → List ℕ) → List Turn → State → Type 0
+Steps all turns t = Goes (Ends all) (nothing-ends all) (less-ends all) turns t
+
+-- ---- a call
+
+quiet-piece : (a : SocketAddr) (call : Call) (s : State) → (TakesTurns call → ⊥) → piece_for a call s ≡ []
+quiet-piece a (Recv packet now) s other = absurd (other tt)
+quiet-piece a (PollRecv now) s other = refl
+quiet-piece a (Delete now) s other = refl
+quiet-piece a (CreatePermission transport ip now) s other = refl
+quiet-piece a (BindChannel transport peer now) s other = refl
+quiet-piece a (TcpConnect peer now) s other = refl
+quiet-piece a (AllocatedTcpSocket id tuple peer local now) s other = refl
+quiet-piece a (TcpClosed local remote now) s other = refl
+quiet-piece a (SendTo transport peer bytes now) s other = refl
+quiet-piece a (Poll now) s other = refl
+quiet-piece a (PollTransmit now) s other = refl
+quiet-piece a PollEvent s other = refl
+quiet-piece a RelayedAddresses s other = refl
+quiet-piece a (Permissions transport relayed) s other = refl
+quiet-piece a (HavePermission transport to) s other = refl
+quiet-piece a ProtocolError s other = refl
+
+-- more may have come in
+module _ (all more : SocketAddr → List ℕ) where
+  still-ends : (a : SocketAddr) (piece bytes : List ℕ) → more a ≡ all a ++ piece → piece ≡ [] → Ends all a bytes → Ends more a bytes
+  still-ends a piece bytes e empty (before, is) = (before, e ∙ (ap (λ (l : List ℕ). all a ++ l) empty ∙ (append-nil (all a) ∙ is)))
+
+  longer-ends : (a : SocketAddr) (piece bytes : List ℕ) → more a ≡ all a ++ piece → Ends all a bytes → Ends more a (bytes ++ piece)
+  longer-ends a piece bytes e (before, is) = (before, e ∙ (ap (λ (l : List ℕ). l ++ piece) is ∙ append_assoc before bytes piece))
+
+  still-held : (xs : List Stream) (piece : SocketAddr → List ℕ) → ((a : SocketAddr) → more a ≡ all a ++ piece a) → ((a : SocketAddr) → piece a ≡ []) → Held all xs → Held more xs
+  still-held xs piece e empty held x there = still-ends x.local (piece x.local) x.bytes (e x.local) (empty x.local) (held x there)
+
+  quiet-steps : (call : Call) (s : State) → (TakesTurns call → ⊥) → ((a : SocketAddr) → more a ≡ all a ++ piece_for a call s) → Held all s.streams → Steps more (handled call s) (state_after call s)
+  quiet-steps call s other e held = (none, by (others-opened call s other))
+    where
+      before : Held more s.streams
+      before = still-held s.streams (λ a. piece_for a call s) e (λ a. quiet-piece a call s other) held
+
+      none : (one : Turn) → Has one (handled call s) → (stream : Stream) → one.stream ≡ Some stream → Ends more stream.local stream.bytes
+      none one there = absurd (subst (Has one) (quiet call s other) there)
+
+      by : IsOpened s (state_after call s) → Held more (state_after call s).streams
+      by (inl same) = subst (Held more) (sym same) before
+      by (inr (local, opened)) = subst (Held more) (sym opened) (opened-known (Ends more) (nothing-ends more) (less-ends more) local s before)
+
+  -- ---- a piece that comes
+
+  module _ (packet : Transmit (List ℕ)) (now : ℕ) where
+    unless-nothing : (m : Mode) → unless_broken m [] ≡ []
+    unless-nothing Control = refl
+    unless-nothing Waiting = refl
+    unless-nothing (Bound peer) = refl
+    unless-nothing Broken = refl
+
+    -- to the stream that stands at this local end
+    fed-steps : (s : State) (stream : Stream) → stream_at packet.to s ≡ Some stream → ((a : SocketAddr) → more a ≡ all a ++ cond (same_address packet.to a) (unless_broken stream.mode packet.payload) []) → Held all s.streams
+        → Steps more (stream_turns stream packet.payload now s) (stream_step stream packet.payload now s).1
+    fed-steps s stream found e held = stream-known (Ends more) (nothing-ends more) (less-ends more) stream packet.payload now s empty broken is others
+      where
+        there : Has stream s.streams × (same_address stream.local packet.to ≡ true)
+        there = has-found (λ (x : Stream). same_address x.local packet.to) stream s.streams found
+
+        local : stream.local ≡ packet.to
+        local = same_address-true stream.local packet.to there.1
+
+        piece : SocketAddr → List ℕ
+        piece a = cond (same_address packet.to a) (unless_broken stream.mode packet.payload) []
+
+        no-piece : unless_broken stream.mode packet.payload ≡ [] → (a : SocketAddr) → piece a ≡ []
+        no-piece nothing a = by (same_address packet.to a)
+          where
+            by : (b : Bool) → cond b (unless_broken stream.mode packet.payload) [] ≡ []
+            by true = nothing
+            by false = refl
+
+        empty : packet.payload ≡ [] → Held more s.streams
+        empty h = still-held s.streams piece e (no-piece (ap (unless_broken stream.mode) h ∙ unless-nothing stream.mode)) held
+
+        broken : stream.mode ≡ Broken → Held more s.streams
+        broken h = still-held s.streams piece e (no-piece (ap (λ (m : Mode). unless_broken m packet.payload) h)) held
+
+        here : same_address packet.to stream.local ≡ true
+        here = rw local (same_address-self packet.to)
+
+        is : Ends more stream.local (stream.bytes ++ unless_broken stream.mode packet.payload)
+        is = longer-ends stream.local (unless_broken stream.mode packet.payload) stream.bytes (e stream.local ∙ rw here refl) (held stream there.0)
+
+        others : (x : Stream) → Has x s.streams → same_address x.local stream.local ≡ false → Ends more x.local x.bytes
+        others x h differ = still-ends x.local (piece x.local) x.bytes (e x.local) (rw apart refl) (held x h)
+          where
+            apart : same_address packet.to x.local ≡ false
+            apart = false_from_ne_true (same_address packet.to x.local) clash
+              where
+                clash : same_address packet.to x.local ≡ true → ⊥
+                clash same =
+                    let equal : x.local ≡ stream.local = sym (same_address-true packet.to x.local same) ∙ sym local in
+                    let yes : same_address x.local stream.local ≡ true = rw equal (same_address-self stream.local) in
+                    let no : true ≡ false = sym yes ∙ differ in
+                    cc
+
+    -- what a client over UDP takes in goes to no stream
+    datagram-steps : (b c : Bool) (s : State) → Held more s.streams
+        → Steps more (cond b (cond c (record { stream = None; bytes = packet.payload; is_lent = true; moment = now; before = s } ∷ []) []) [])
+        (cond {A = Outcome × State} b (cond {A = Outcome × State} c (datagram_step packet.payload now s) (Ignored, s)) (Ignored, s)).1
+    datagram-steps true true s held = (only, by (is_message packet.payload) (is_channel_frame packet.payload))
+      where
+        only : (one : Turn) → Has one (record { stream = None; bytes = packet.payload; is_lent = true; moment = now; before = s } ∷ []) → (stream : Stream) → one.stream ≡ Some stream → Ends more stream.local stream.bytes
+        only one (inl e) stream of = absurd (no_stream (sym (ap (λ (x : Turn). x.stream) e) ∙ of))
+          where
+            no_stream : None ≡ Some stream → ⊥
+            no_stream h = cc
+        only one (inr absent) stream of = absurd absent
+
+        by : (m f : Bool) → Held more (cond {A = Outcome × State} m (message_step packet.payload now s) (cond {A = Outcome × State} f (channel_sent s packet.payload, s) (Ignored, s))).1.streams
+        by true f = subst (Held more) (sym (message-same packet.payload now s)) held
+        by false true = held
+        by false false = held
+    datagram-steps true false s held = (λ one absent. absurd absent, held)
+    datagram-steps false c s held = (λ one absent. absurd absent, held)
+
+    recv-steps : (carrier : TransportType) (s : State) → ((a : SocketAddr) → more a ≡ all a ++ piece_for a (Recv packet now) (record s { transport = carrier })) → Held all s.streams
+        → Steps more (recv_turns packet.transport packet.from packet.to packet.payload now (record s { transport = carrier }))
+        (recv_step packet.transport packet.from packet.to packet.payload now (record s { transport = carrier })).1
+    recv-steps Udp s e held =
+        datagram-steps (is_from_server packet.transport packet.from u) (same_address packet.to s.local) u
+        (still-held s.streams (λ a. piece_for a (Recv packet now) u) e (λ a. by (is_from_server packet.transport packet.from u && same_address packet.to a)) held)
+      where
+        u : State
+        u = record s { transport = Udp }
+
+        by : (b : Bool) → cond {A = List ℕ} b [] [] ≡ []
+        by true = refl
+        by false = refl
+    recv-steps Tcp s e held = by (is_from_server packet.transport packet.from u) refl (stream_at packet.to s) refl
+      where
+        u : State
+        u = record s { transport = Tcp }
+
+        none : ((a : SocketAddr) → piece_for a (Recv packet now) u ≡ []) → Steps more [] u
+        none nothing = (λ one absent. absurd absent, still-held s.streams (λ a. piece_for a (Recv packet now) u) e nothing held)
+
+        nowhere : (b : Bool) → cond {A = List ℕ} b [] [] ≡ []
+        nowhere true = refl
+        nowhere false = refl
+
+        by : (b : Bool) → is_from_server packet.transport packet.from u ≡ b → (o : Option Stream) → stream_at packet.to s ≡ o
+            → Steps more (recv_turns packet.transport packet.from packet.to packet.payload now u) (recv_step packet.transport packet.from packet.to packet.payload now u).1
+        by false f o g = let nothing = none (λ a. rw f refl) in rw f nothing
+        by true f None g = let nothing = none (λ a. rw (f, g) (nowhere (same_address packet.to a))) in rw (f, g) nothing
+        by true f (Some stream) g = let fed = fed-steps u stream g (λ a. e a ∙ rw (f, g) refl) held in rw (f, g) fed
+
+  -- ---- all calls
+
+  call-steps : (call : Call) (s : State) → ((a : SocketAddr) → more a ≡ all a ++ piece_for a call s) → Held all s.streams → Steps more (handled call s) (state_after call s)
+  call-steps (Recv packet now) s e held = recv-steps packet now s.transport s e held
+  call-steps (PollRecv now) s e held = poll-known (Ends more) (nothing-ends more) (less-ends more) now s (still-held s.streams (λ a. []) e (λ a. refl) held)
+  call-steps call s e held = quiet-steps call s (λ takes. takes) e held
+
+-- ---- a run
+
+same-held : (all more : SocketAddr → List ℕ) (xs : List Stream) → ((a : SocketAddr) → all a ≡ more a) → Held all xs → Held more xs
+same-held all more xs e held = still-held all more xs (λ a. []) (λ a. sym (e a) ∙ sym (append-nil (all a))) (λ a. refl) held
+
+run-held : (calls : List Call) (all : SocketAddr → List ℕ) (s : State) → Held all s.streams → Held (λ a. all a ++ pieces_for a calls s) (state_behind s calls).streams
+run-held [] all s held = same-held all (λ a. all a ++ []) s.streams (λ a. sym (append-nil (all a))) held
+run-held (call ∷ calls) all s held =
+    let more : SocketAddr → List ℕ = λ a. all a ++ piece_for a call s in
+    let t = state_after call s in
+    same-held (λ a. more a ++ pieces_for a calls t) (λ a. all a ++ pieces_for a (call ∷ calls) s) (state_behind t calls).streams
+    (λ a. append_assoc (all a) (piece_for a call s) (pieces_for a calls t))
+    (run-held calls more t (call-steps all more call s (λ a. refl) held).1)
+
+pieces-then : (a : SocketAddr) (calls : List Call) (call : Call) (s : State) → pieces_for a (calls ++ call ∷ []) s ≡ pieces_for a calls s ++ piece_for a call (state_behind s calls)
+pieces-then a [] call s = append-nil (piece_for a call s)
+pieces-then a (x ∷ calls) call s =
+    ap (λ (l : List ℕ). piece_for a x s ++ l) (pieces-then a calls call (state_after x s))
+    ∙ sym (append_assoc (piece_for a x s) (pieces_for a calls (state_after x s)) (piece_for a call (state_behind (state_after x s) calls)))
+
+-- no stream holds anything at first
+abbrev pub HoldNothing : State → Type 0
+HoldNothing s = (x : Stream) → Has x s.streams → x.bytes ≡ []
+
+pub turns-received : (earlier : List Call) (call : Call) (first : State) → HoldNothing first → (one : Turn) → Has one (handled call (state_behind first earlier)) → IsReceived (earlier ++ call ∷ []) first one
+turns-received earlier call first empty one there = by one.stream refl
+  where
+    s : State
+    s = state_behind first earlier
+
+    before : Held (λ a. pieces_for a earlier first) s.streams
+    before = run-held earlier (λ a. []) first (λ x h. ([], sym (empty x h)))
+
+    after : SocketAddr → List ℕ
+    after a = pieces_for a earlier first ++ piece_for a call s
+
+    known : (stream : Stream) → one.stream ≡ Some stream → Ends after stream.local stream.bytes
+    known = (call-steps (λ a. pieces_for a earlier first) after call s (λ a. refl) before).0 one there
+
+    by : (o : Option Stream) → one.stream ≡ o → IsReceived (earlier ++ call ∷ []) first (record one { stream = o })
+    by None e = tt
+    by (Some stream) e = let (front, is) = known stream e in (front, pieces-then stream.local earlier call first ∙ is)

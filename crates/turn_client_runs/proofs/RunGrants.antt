@@ -1,0 +1,288 @@
+-- What stands after a run was granted in it.
+use Rattle.std.proofs.Common.{◌≡◌, ◌⊎◌, ◌∙◌, ◌++◌, arith, ℕ, List, [], ◌∷◌, Ok, refl, subst, sym, ap, inl, inr}
+use Rattle.std.specs.List.{Contains}
+use Rattle.turn_stun.specs.Message.{id_of}
+use Rattle.std.specs.declared.net.socket_addr.SocketAddr.{SocketAddr}
+use Rattle.turn_stun.specs.declared.transport.TransportType.{TransportType}
+use Rattle.turn_stun.specs.declared.transport.TransportType.TheVariants.{Udp, Tcp}
+use Rattle.turn_client_api.specs.Config.{Config}
+use Rattle.turn_client_api.specs.State.{State, initial}
+use Rattle.turn_client_api.specs.declared.call.Call.{Call}
+use Rattle.turn_client_api.specs.declared.call.Call.TheVariants.{Delete}
+use Rattle.turn_client_api.specs.declared.grant.Grant.{Grant}
+use Rattle.turn_client_api.specs.declared.grant.Grant.TheVariants.{Allocation, Permission, Channel, Connect, Offer, Connection}
+use Rattle.turn_client_api.specs.declared.grant.Relay.{Relay}
+use Rattle.turn_client_api.specs.declared.grant.Progress.TheVariants.{Pending, Active, Reserved}
+use Rattle.turn_client_api.specs.declared.grant.Purpose.{Purpose}
+use Rattle.turn_client_api.specs.declared.grant.Purpose.TheVariants.{ForAllocation, ForRefresh, ForPermission, ForChannel, ForConnect, ForBind}
+use Rattle.turn_client_api.specs.Calls.{delete_step}
+use Rattle.turn_client_api.specs.Grants.{purposes_of}
+use Rattle.turn_client_api.specs.Handled.{Turn, handled}
+use Rattle.turn_client_api.specs.LawsGranted.{HasChannelTo, IsKeptAs, IsStanding, Stood}
+use Rattle.turn_client_api.specs.LawsHandled.{IsDoneBy}
+use Rattle.turn_client_api.specs.LawsGone.{GivesBack}
+use Rattle.turn_client_api.specs.LawsNumbers.{HasDistinctNumbers}
+use Rattle.turn_client_api.specs.LawsStates.{HasGrantsAsked}
+use Rattle.turn_client_api.specs.Steps.{state_after}
+use Rattle.turn_client_api.proofs.DistinctNumbers.{initial-numbers, leaves-apart}
+use Rattle.turn_client_api.proofs.HasLemmas.{Has, has-right}
+use Rattle.turn_client_api.proofs.ListedGrants.{initial-HasGrantsAsked, leaves-HasGrantsAsked}
+use Rattle.turn_client_api.proofs.StandLemmas.{contains-has, covers-has, covers-stood}
+use Rattle.turn_client_runs.specs.Granted.{DrawFreeIds, GrantsAddress, HasReply, IsAllocated, IsAnsweredIn, IsGivenBack, IsGivenIn, IsGranted, IsGranting, IsRelayed, HoldsThrough}
+use Rattle.turn_client_runs.specs.Run.{state_behind}
+use Rattle.turn_client_runs.proofs.AskedLemmas.{was-asked}
+use Rattle.turn_client_runs.proofs.AskedPeers.{HasAskedPeers, turns-ask-peers}
+use Rattle.turn_client_runs.proofs.CallGrants.{IsCaused, IsEndedBy, call-causes, delete-accepted, same-allocation}
+use Rattle.turn_client_runs.proofs.ComingLemmas.{turns-come}
+use Rattle.turn_client_runs.proofs.GrantTurns.{Granting, IsGivenAt}
+use Rattle.turn_client_runs.proofs.ReceivedRuns.{HoldNothing, turns-received}
+use Rattle.turn_client_runs.proofs.RunLemmas.{IsDoneLast, run-did}
+
+-- ---- one turn
+
+module _ (one : Turn) where
+  -- the channel has the peer that the request named
+  abbrev Asked : Purpose → Type 0
+  Asked p = (number : ℕ) (peer to : SocketAddr) → p ≡ ForChannel number peer → HasChannelTo number to one.before → to ≡ peer
+
+  given-in : (g : Grant) (p : Purpose) → IsStanding g → Asked p → IsGivenAt one p g → IsGivenIn one p g
+  given-in (Allocation a) ForAllocation stands peers h = h
+  given-in (Allocation a) (ForRefresh family lifetime) stands peers h = h
+  given-in (Allocation a) (ForPermission ip) stands peers h = absurd h
+  given-in (Allocation a) (ForChannel number peer) stands peers h = absurd h
+  given-in (Allocation a) (ForConnect peer) stands peers h = absurd h
+  given-in (Allocation a) (ForBind local peer id) stands peers h = absurd h
+  given-in (Permission other (Active expiry)) ForAllocation stands peers h = absurd h
+  given-in (Permission other (Active expiry)) (ForRefresh family lifetime) stands peers h = absurd h
+  given-in (Permission other (Active expiry)) (ForPermission ip) stands peers h = h
+  given-in (Permission other (Active expiry)) (ForChannel number peer) stands peers h = absurd h
+  given-in (Permission other (Active expiry)) (ForConnect peer) stands peers h = absurd h
+  given-in (Permission other (Active expiry)) (ForBind local peer id) stands peers h = absurd h
+  given-in (Channel other to (Active expiry)) ForAllocation stands peers h = absurd h
+  given-in (Channel other to (Active expiry)) (ForRefresh family lifetime) stands peers h = absurd h
+  given-in (Channel other to (Active expiry)) (ForPermission ip) stands peers h = absurd h
+  given-in (Channel other to (Active expiry)) (ForChannel number peer) stands peers h = (h.0, peers number peer to refl (subst (λ (n : ℕ). HasChannelTo n to one.before) h.0 h.2), h.1)
+  given-in (Channel other to (Active expiry)) (ForConnect peer) stands peers h = absurd h
+  given-in (Channel other to (Active expiry)) (ForBind local peer id) stands peers h = absurd h
+  given-in (Connection c) ForAllocation stands peers h = h
+  given-in (Connection c) (ForRefresh family lifetime) stands peers h = h
+  given-in (Connection c) (ForPermission ip) stands peers h = h
+  given-in (Connection c) (ForChannel number peer) stands peers h = h
+  given-in (Connection c) (ForConnect peer) stands peers h = h
+  given-in (Connection c) (ForBind local peer id) stands peers h = h
+  given-in (Permission other Pending) p stands peers h = absurd stands
+  given-in (Permission other (Reserved until)) p stands peers h = absurd stands
+  given-in (Channel other to Pending) p stands peers h = absurd stands
+  given-in (Channel other to (Reserved until)) p stands peers h = absurd stands
+  given-in (Connect to) p stands peers h = absurd stands
+  given-in (Offer offer) p stands peers h = absurd stands
+
+  granting : (g : Grant) → IsStanding g → HasAskedPeers one → (is : Granting g one) → IsGranting g is.purpose one
+  granting g stands asked is = record {
+    over = is.over;
+    whole = is.accepting.whole;
+    success = is.accepting.success;
+    signed = is.accepting.signed;
+    listed = is.accepting.listed;
+    outstanding = is.accepting.outstanding;
+    ended = is.accepting.ended;
+    given = given-in g is.purpose stands peers is.given;
+  }
+    where
+      peers : Asked is.purpose
+      peers number peer to e = asked number peer to (subst (λ (p : Purpose). Contains (purposes_of (id_of one.bytes) one.before) p) e is.accepting.listed)
+
+-- ---- one call
+
+-- what every client keeps that speaks of channels
+abbrev Keeps : State → Type 0
+Keeps s = HasGrantsAsked s × HasDistinctNumbers s
+
+call-keeps : (call : Call) (s : State) → Keeps s → Keeps (state_after call s)
+call-keeps call s (asked, distinct) = (leaves-HasGrantsAsked call s (state_after call s) (inl refl) asked, leaves-apart call s (state_after call s) (inl refl) distinct)
+
+-- a turn of the call answered a request for a purpose, and did this for it
+abbrev IsDoneFor : (Purpose → Turn → Type 0) → Call → State → Type 0
+IsDoneFor Did call s = (one : Turn) × Contains (handled call s) one × ((p : Purpose) × Did p one)
+
+granted-in : (g : Grant) (call : Call) (s : State) → IsStanding g → Keeps s → IsDoneBy (Granting g) call s → IsDoneFor (IsGranting g) call s
+granted-in g call s stands (asked, distinct) (one, among, is) =
+    (one, among, (is.purpose, granting one g stands (turns-ask-peers call s asked distinct one among) is))
+
+-- a `delete` that the client accepted
+abbrev IsAcceptedEnd : Grant → Call → State → Type 0
+IsAcceptedEnd g call s = IsEndedBy call s g × ((now : ℕ) → call ≡ Delete now → (delete_step now s).0 ≡ Ok tt)
+
+-- why it stands after the call
+abbrev Causes : Grant → Call → State → Type 0
+Causes g call s = IsAcceptedEnd g call s ⊎ IsDoneFor (IsGranting g) call s
+
+same-moment : (n m : ℕ) → Delete n ≡ Delete m → n ≡ m
+same-moment n m e = cc
+
+call-grants : (g : Grant) → IsStanding g → (call : Call) (s : State) → Keeps s → Stood (state_after call s) g → Stood s g ⊎ Causes g call s
+call-grants g stands call s keeps stood = by (call-causes g call s stood)
+  where
+    deleted : (now : ℕ) → call ≡ Delete now → IsEndedBy call s g → ((delete_step now s).0 ≡ Ok tt) ⊎ ((delete_step now s).1 ≡ s) → Stood s g ⊎ Causes g call s
+    deleted now how ended (inl accepted) = inr (inl (ended, λ other e. subst (λ (n : ℕ). (delete_step n s).0 ≡ Ok tt) (same-moment now other (sym how ∙ e)) accepted))
+    deleted now how ended (inr same) = inl (subst (λ (t : State). Stood t g) (ap (λ (c : Call). state_after c s) how ∙ same) stood)
+
+    by : Stood s g ⊎ IsCaused g call s → Stood s g ⊎ Causes g call s
+    by (inl was) = inl was
+    by (inr (inl ended)) = let (a, now, what, how, ends, was) = ended in deleted now how ended (delete-accepted now s)
+    by (inr (inr done)) = inr (inr (granted-in g call s stands keeps done))
+
+-- the address of an allocation
+call-allocates : (relayed : SocketAddr) (call : Call) (s : State) → Keeps s → IsRelayed relayed (state_after call s) → IsRelayed relayed s ⊎ IsDoneFor (GrantsAddress relayed) call s
+call-allocates relayed call s keeps (a, there, e) = by (call-grants (Allocation a) tt call s keeps (Allocation a, there, (refl, refl)))
+  where
+    by : Stood s (Allocation a) ⊎ Causes (Allocation a) call s → IsRelayed relayed s ⊎ IsDoneFor (GrantsAddress relayed) call s
+    by (inl (was, before, kept)) = inl (stood was before kept)
+      where
+        stood : (was : Grant) → Contains s.grants was → IsKeptAs was (Allocation a) → IsRelayed relayed s
+        stood (Allocation b) before (same, ends) = (b, before, same ∙ e)
+        stood (Permission ip Pending) before k = absurd k
+        stood (Permission ip (Active expiry)) before k = absurd k
+        stood (Permission ip (Reserved until)) before k = absurd k
+        stood (Channel number peer Pending) before k = absurd k
+        stood (Channel number peer (Active expiry)) before k = absurd k
+        stood (Channel number peer (Reserved until)) before k = absurd k
+        stood (Connect peer) before k = absurd k
+        stood (Offer offer) before k = absurd k
+        stood (Connection c) before k = absurd k
+    by (inr (inl ((b, now, what, how, ends, (was, before, same)), accepted))) =
+        inl (was, before, same ∙ (ap (λ (x : Relay). x.relayed) (same-allocation b a (sym what)) ∙ e))
+    by (inr (inr (one, among, (p, is)))) = inr (one, among, (p, (a, is, e)))
+
+-- ---- a run
+
+-- what is in a list stands somewhere in it
+has-cut : {X : Type 0} (x : X) (xs : List X) → Has x xs → (front back : List X) × (xs ≡ front ++ x ∷ back)
+has-cut x (y ∷ xs) (inl e) = ([], xs, rw e refl)
+has-cut {X} x (y ∷ xs) (inr there) = by (has-cut x xs there)
+  where
+    by : (front back : List X) × (xs ≡ front ++ x ∷ back) → (front back : List X) × (y ∷ xs ≡ front ++ x ∷ back)
+    by (front, back, e) = (y ∷ front, back, ap (λ (l : List X). y ∷ l) e)
+has-cut x [] none = absurd none
+
+-- it answers a request for this, which gives nothing back
+abbrev AnswersFor : (Purpose → Turn → Type 0) → Type 0
+AnswersFor Did = (p : Purpose) (one : Turn) → Did p one → Contains (purposes_of (id_of one.bytes) one.before) p × (GivesBack p → ⊥)
+
+-- what is granted is granted for a request that gives nothing back
+no-return : (one : Turn) (g : Grant) (p : Purpose) → IsGivenIn one p g → GivesBack p → ⊥
+no-return one (Allocation a) (ForRefresh family lifetime) (least, same, told) back = absurd (omega (arith, least, back))
+no-return one (Permission ip progress) (ForRefresh family lifetime) given back = given
+no-return one (Channel number peer progress) (ForRefresh family lifetime) given back = given
+no-return one (Connect peer) (ForRefresh family lifetime) given back = given
+no-return one (Offer offer) (ForRefresh family lifetime) given back = given
+no-return one (Connection c) (ForRefresh family lifetime) given back = given
+no-return one g ForAllocation given back = back
+no-return one g (ForPermission ip) given back = back
+no-return one g (ForChannel number peer) given back = back
+no-return one g (ForConnect peer) given back = back
+no-return one g (ForBind local peer id) given back = back
+
+granting-answers : (g : Grant) → AnswersFor (IsGranting g)
+granting-answers g p one is = (is.listed, no-return one g p is.given)
+
+address-answers : (relayed : SocketAddr) → AnswersFor (GrantsAddress relayed)
+address-answers relayed p one (a, is, e) = granting-answers (Allocation a) p one is
+
+module _ (first : State) (unlisted : first.listed ≡ []) (hold : HoldNothing first) (calls : List Call) where
+  answered-in : (Did : Purpose → Turn → Type 0) → AnswersFor Did → (P : State → Type 0) → IsDoneLast (IsDoneFor Did) P calls first → IsAnsweredIn Did P calls first
+  answered-in Did answers P is = by is.did
+    where
+      s : State
+      s = state_behind first is.earlier
+
+      among : (one : Turn) (front back : List Turn) → handled is.call s ≡ front ++ one ∷ back → Has one (handled is.call s)
+      among one front back e = subst (Has one) (sym e) (has-right one front (one ∷ back) (inl refl))
+
+      cut : (one : Turn) (p : Purpose) → Did p one → (front back : List Turn) × (handled is.call s ≡ front ++ one ∷ back) → IsAnsweredIn Did P calls first
+      cut one p did (front, back, e) = record {
+        earlier = is.earlier;
+        call = is.call;
+        later = is.later;
+        split = is.split;
+        front = front;
+        turn = one;
+        back = back;
+        cut = e;
+        comes = turns-come is.call s one (among one front back e);
+        received = turns-received is.earlier is.call first hold one (among one front back e);
+        purpose = p;
+        did = did;
+        asked = λ free. was-asked is.earlier is.call is.later first (subst (λ (l : List Call). DrawFreeIds l first) is.split free) unlisted front one back e p (answers p one did).1 (answers p one did).0;
+        holds = is.holds;
+      }
+
+      by : IsDoneFor Did is.call s → IsAnsweredIn Did P calls first
+      by (one, among, (p, did)) = cut one p did (has-cut one (handled is.call s) (contains-has one (handled is.call s) among))
+
+module _ (first : State) (empty : first.grants ≡ []) (unlisted : first.listed ≡ []) (hold : HoldNothing first) (keeps : Keeps first) where
+  nothing : (g : Grant) → Contains first.grants g → ⊥
+  nothing g there = contains-has g [] (subst (λ (grants : List Grant). Contains grants g) empty there)
+
+  run-allocates : (relayed : SocketAddr) (calls : List Call) → IsRelayed relayed (state_behind first calls) → IsAllocated relayed calls first
+  run-allocates relayed calls h =
+      answered-in first unlisted hold calls (GrantsAddress relayed) (address-answers relayed) (IsRelayed relayed)
+      (run-did (IsRelayed relayed) (IsDoneFor (GrantsAddress relayed)) Keeps call-keeps (call-allocates relayed) calls first keeps (λ is. nothing (Allocation is.0) is.1) h)
+
+  run-caused : (g : Grant) → IsStanding g → (calls : List Call) → Stood (state_behind first calls) g → IsDoneLast (Causes g) (λ s. Stood s g) calls first
+  run-caused g stands calls h = run-did (λ s. Stood s g) (Causes g) Keeps call-keeps (call-grants g stands) calls first keeps (λ was. nothing was.0 was.1) h
+
+  -- the last cause was a turn, or a `delete`
+  run-turned : (g : Grant) (calls : List Call) (is : IsDoneLast (Causes g) (λ s. Stood s g) calls first) → IsDoneFor (IsGranting g) is.call (state_behind first is.earlier) → IsGranted g calls first
+  run-turned g calls is done =
+      answered-in first unlisted hold calls (IsGranting g) (granting-answers g) (λ s. Stood s g)
+      (record { earlier = is.earlier; call = is.call; later = is.later; split = is.split; did = done; holds = is.holds })
+
+  run-gave : (a : Relay) (calls : List Call) (is : IsDoneLast (Causes (Allocation a)) (λ s. Stood s (Allocation a)) calls first) → IsAcceptedEnd (Allocation a) is.call (state_behind first is.earlier) → IsGivenBack a calls first
+  run-gave a calls is ((b, now, what, how, ends, was), accepted) = record {
+    earlier = is.earlier;
+    now = now;
+    later = is.later;
+    split = is.split ∙ ap (λ (c : Call). is.earlier ++ c ∷ is.later) how;
+    accepted = accepted now how;
+    ends = ap (λ (x : Relay). x.expiry) same ∙ ends;
+    allocated = run-allocates a.relayed is.earlier (subst (λ (x : Relay). IsRelayed x.relayed (state_behind first is.earlier)) (sym same) was);
+    stands = subst (λ (c : Call). HoldsThrough (λ s. Stood s (Allocation a)) is.later (state_after c (state_behind first is.earlier))) how is.holds;
+  }
+    where
+      same : a ≡ b
+      same = same-allocation a b what
+
+  no-end : (g : Grant) (call : Call) (s : State) → ((a : Relay) → g ≡ Allocation a → ⊥) → IsAcceptedEnd g call s → ⊥
+  no-end g call s other ((a, now, what, how, ends, was), accepted) = other a what
+
+  run-grants : (calls : List Call) (g : Grant) → IsStanding g → Contains (state_behind first calls).grants g → HasReply g calls first
+  run-grants calls g stands there = by g (run-caused g stands calls (covers-stood (state_behind first calls) g (covers-has (state_behind first calls).grants g (contains-has g (state_behind first calls).grants there) stands)))
+    where
+      turned : (h : Grant) (is : IsDoneLast (Causes h) (λ s. Stood s h) calls first) → ((a : Relay) → h ≡ Allocation a → ⊥) → IsGranted h calls first
+      turned h is other = at is.did
+        where
+          at : Causes h is.call (state_behind first is.earlier) → IsGranted h calls first
+          at (inl end) = absurd (no-end h is.call (state_behind first is.earlier) other end)
+          at (inr done) = run-turned h calls is done
+
+      by : (h : Grant) → IsDoneLast (Causes h) (λ s. Stood s h) calls first → HasReply h calls first
+      by (Allocation a) is = at is.did
+        where
+          at : Causes (Allocation a) is.call (state_behind first is.earlier) → HasReply (Allocation a) calls first
+          at (inl end) = inr (run-gave a calls is end)
+          at (inr done) = inl (run-turned (Allocation a) calls is done)
+      by (Permission ip progress) is = turned (Permission ip progress) is (λ a e. cc)
+      by (Channel number peer progress) is = turned (Channel number peer progress) is (λ a e. cc)
+      by (Connect peer) is = turned (Connect peer) is (λ a e. cc)
+      by (Offer offer) is = turned (Offer offer) is (λ a e. cc)
+      by (Connection c) is = turned (Connection c) is (λ a e. cc)
+
+first-hold : (transport : TransportType) (local remote : SocketAddr) (config : Config) (seed : List ℕ) → HoldNothing (initial transport local remote config seed)
+first-hold Udp local remote config seed x absent = absurd absent
+first-hold Tcp local remote config seed x (inl e) = rw e refl
+first-hold Tcp local remote config seed x (inr absent) = absurd absent
+
+pub grants-have-replies : (transport : TransportType) (local remote : SocketAddr) (config : Config) (seed : List ℕ) (calls : List Call) (g : Grant) → IsStanding g → Contains (state_behind (initial transport local remote config seed) calls).grants g → HasReply g calls (initial transport local remote config seed)
+grants-have-replies transport local remote config seed =
+    run-grants (initial transport local remote config seed) refl refl (first-hold transport local remote config seed) (initial-HasGrantsAsked transport local remote config seed, initial-numbers transport local remote config seed)

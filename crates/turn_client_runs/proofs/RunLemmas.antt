@@ -1,0 +1,52 @@
+-- What holds after a run held from the first on, or one of its calls brought it about, and it holds since.
+use Rattle.std.proofs.Common.{◌≡◌, ◌⊎◌, List, [], ◌∷◌, ◌++◌, refl, ap, inl, inr}
+use Rattle.turn_client_api.specs.State.{State}
+use Rattle.turn_client_api.specs.Steps.{state_after}
+use Rattle.turn_client_api.specs.declared.call.Call.{Call}
+use Rattle.turn_client_runs.specs.Run.{state_behind}
+use Rattle.turn_client_runs.specs.Granted.{HoldsThrough}
+
+-- one of these calls did it, and the claim holds after it and after each later one
+pub record IsDoneLast (Did : Call → State → Type 0) (P : State → Type 0) (calls : List Call) (first : State) : Type 0 where
+  pub earlier : List Call
+  pub call : Call
+  pub later : List Call
+  pub split : calls ≡ earlier ++ call ∷ later
+  pub did : Did call (state_behind first earlier)
+  pub holds : HoldsThrough P later (state_after call (state_behind first earlier))
+
+module _ (P : State → Type 0) (Did : Call → State → Type 0) (Inv : State → Type 0) (kept : (call : Call) (s : State) → Inv s → Inv (state_after call s)) (each : (call : Call) (s : State) → Inv s → P (state_after call s) → P s ⊎ Did call s) where
+  pub holds-first : (calls : List Call) (s : State) → HoldsThrough P calls s → P s
+  holds-first [] s h = h
+  holds-first (call ∷ calls) s h = h.0
+
+  pub inv-behind : (calls : List Call) (s : State) → Inv s → Inv (state_behind s calls)
+  inv-behind [] s h = h
+  inv-behind (call ∷ calls) s h = inv-behind calls (state_after call s) (kept call s h)
+
+  pub run-does : (calls : List Call) (first : State) → Inv first → P (state_behind first calls) → HoldsThrough P calls first ⊎ IsDoneLast Did P calls first
+  run-does [] first inv h = inl h
+  run-does (call ∷ calls) first inv h = by (run-does calls (state_after call first) (kept call first inv) h)
+    where
+      at : HoldsThrough P calls (state_after call first) → P first ⊎ Did call first → HoldsThrough P (call ∷ calls) first ⊎ IsDoneLast Did P (call ∷ calls) first
+      at holds (inl before) = inl (before, holds)
+      at holds (inr did) = inr (record { earlier = []; call = call; later = calls; split = refl; did = did; holds = holds })
+
+      by : HoldsThrough P calls (state_after call first) ⊎ IsDoneLast Did P calls (state_after call first) → HoldsThrough P (call ∷ calls) first ⊎ IsDoneLast Did P (call ∷ calls) first
+      by (inl holds) = at holds (each call first inv (holds-first calls (state_after call first) holds))
+      by (inr is) = inr (record {
+        earlier = call ∷ is.earlier;
+        call = is.call;
+        later = is.later;
+        split = ap (λ (l : List Call). call ∷ l) is.split;
+        did = is.did;
+        holds = is.holds;
+      })
+
+  -- where it does not hold at first
+  pub run-did : (calls : List Call) (first : State) → Inv first → (P first → ⊥) → P (state_behind first calls) → IsDoneLast Did P calls first
+  run-did calls first inv none h = by (run-does calls first inv h)
+    where
+      by : HoldsThrough P calls first ⊎ IsDoneLast Did P calls first → IsDoneLast Did P calls first
+      by (inl holds) = absurd (none (holds-first calls first holds))
+      by (inr is) = is

@@ -1,0 +1,234 @@
+-- What the listings of one ID are for: one request, a channel and the permission that it brings, or
+-- allocations that are given back.
+use Rattle.std.proofs.Common.{◌≡◌, ◌⊎◌, ◌<◌, ◌^◌, ◌∙◌, ℕ, true, false, eqb, List, [], ◌∷◌, Some, None, inl, inr, refl, sym, subst}
+use Rattle.std.specs.List.{Contains, list_any}
+use Rattle.std.proofs.lemmas.Bool.{eq-eqb, or_parts}
+use Rattle.turn_stun.specs.Message.{id_of}
+use Rattle.turn_agent.specs.Agent.{is_outstanding}
+use Rattle.turn_client_api.specs.State.{State}
+use Rattle.turn_client_api.specs.declared.call.Call.{Call}
+use Rattle.turn_client_api.specs.declared.call.Call.TheVariants.{Delete, CreatePermission, BindChannel, TcpConnect, AllocatedTcpSocket, TcpClosed, SendTo, Recv, PollRecv, Poll, PollTransmit, PollEvent, ProtocolError, RelayedAddresses, Permissions, HavePermission}
+use Rattle.turn_client_api.specs.declared.grant.Listing.{Listing}
+use Rattle.turn_client_api.specs.declared.grant.Purpose.{Purpose}
+use Rattle.turn_client_api.specs.declared.grant.Purpose.TheVariants.{ForAllocation, ForRefresh, ForPermission, ForChannel, ForConnect, ForBind}
+use Rattle.turn_client_api.specs.declared.state.Phase.TheVariants.{New, Allocated}
+use Rattle.turn_client_api.specs.Grants.{is_of_request, purposes_of}
+use Rattle.turn_client_api.specs.Handled.{Turn, handled, made_of}
+use Rattle.turn_client_api.specs.LawsGone.{GivesBack}
+use Rattle.turn_client_api.specs.LawsHandled.{DiffersInStreams, DoesTurns, TakesTurns, TurnsLead}
+use Rattle.turn_client_api.specs.LawsPurposes.{DrawsFreeIds}
+use Rattle.turn_client_api.specs.LawsRequests.{AsksFor, IsListedAgain, IsListedAs, IsListedFor, IsListingOf}
+use Rattle.turn_client_api.specs.Receive.{connection_gone}
+use Rattle.turn_client_api.specs.Requests.{fresh_id, most_taken}
+use Rattle.turn_client_api.specs.Steps.{state_after}
+use Rattle.turn_client_api.specs.Streams.{without_stream}
+use Rattle.turn_client_api.proofs.Edits.{listing}
+use Rattle.turn_client_api.proofs.HasLemmas.{Has}
+use Rattle.turn_client_api.proofs.InAllocationLemmas.{has-any}
+use Rattle.turn_client_api.proofs.MoveMessageLemmas.{turn-turns}
+use Rattle.turn_client_api.proofs.MoveSocketLemmas.{gone-settles}
+use Rattle.turn_client_api.proofs.MoveTurnLemmas.{listings-made}
+use Rattle.turn_client_api.proofs.NewIdLemmas.{fresh-free}
+use Rattle.turn_client_api.proofs.StandLemmas.{contains-has, has-contains}
+use Rattle.turn_client_api.proofs.TurnChainLemmas.{calls-do}
+use Rattle.turn_client_api.proofs.TwoPurposes.{purpose-with}
+
+-- ---- purposes of one request
+
+abbrev pub Together : Purpose → Purpose → Type 0
+Together p q = IsListedFor p q ⊎ IsListedFor q p ⊎ (GivesBack p × GivesBack q)
+
+abbrev pub AreTogether : State → Type 0
+AreTogether s = (l other : Listing) → Has l s.listed → Has other s.listed → l.id ≡ other.id → Together l.purpose other.purpose
+
+-- both are listed for one, if not as itself then as the permission that it brings
+listed-with : (p a b : Purpose) → IsListedFor p a → IsListedFor p b → Together a b
+listed-with p a b (inl e) h = inl (subst (λ (x : Purpose). IsListedFor x b) (sym e) h)
+listed-with p a b (inr brings) (inl e) = inr (inl (subst (λ (x : Purpose). IsListedFor x a) (sym e) (inr brings)))
+listed-with (ForChannel number peer) (ForPermission ip) (ForPermission other) (inr e) (inr f) = inl (inl (rw (e, f) refl))
+listed-with (ForChannel number peer) (ForPermission ip) ForAllocation (inr e) (inr none) = absurd none
+listed-with (ForChannel number peer) (ForPermission ip) (ForRefresh family lifetime) (inr e) (inr none) = absurd none
+listed-with (ForChannel number peer) (ForPermission ip) (ForChannel other to) (inr e) (inr none) = absurd none
+listed-with (ForChannel number peer) (ForPermission ip) (ForConnect to) (inr e) (inr none) = absurd none
+listed-with (ForChannel number peer) (ForPermission ip) (ForBind local to id) (inr e) (inr none) = absurd none
+listed-with (ForChannel number peer) ForAllocation b (inr none) (inr f) = absurd none
+listed-with (ForChannel number peer) (ForRefresh family lifetime) b (inr none) (inr f) = absurd none
+listed-with (ForChannel number peer) (ForChannel other to) b (inr none) (inr f) = absurd none
+listed-with (ForChannel number peer) (ForConnect to) b (inr none) (inr f) = absurd none
+listed-with (ForChannel number peer) (ForBind local to id) b (inr none) (inr f) = absurd none
+listed-with ForAllocation a b (inr none) (inr f) = absurd none
+listed-with (ForRefresh family lifetime) a b (inr none) (inr f) = absurd none
+listed-with (ForPermission ip) a b (inr none) (inr f) = absurd none
+listed-with (ForConnect to) a b (inr none) (inr f) = absurd none
+listed-with (ForBind local to id) a b (inr none) (inr f) = absurd none
+
+-- a request that gives back is listed for nothing else
+back-listed : (p a : Purpose) → GivesBack p → IsListedFor p a → GivesBack a
+back-listed p a back (inl e) = subst GivesBack (sym e) back
+back-listed (ForRefresh family lifetime) a back (inr none) = absurd none
+back-listed ForAllocation a back (inr brings) = absurd back
+back-listed (ForPermission ip) a back (inr brings) = absurd back
+back-listed (ForChannel number peer) a back (inr brings) = absurd back
+back-listed (ForConnect to) a back (inr brings) = absurd back
+back-listed (ForBind local to id) a back (inr brings) = absurd back
+
+-- ---- what a call asks for
+
+abbrev Same : Purpose → Purpose → Type 0
+Same p q = (p ≡ q) ⊎ (GivesBack p × GivesBack q)
+
+-- the call asks for one thing, or gives allocations back
+asks-one : (call : Call) (s : State) (p q : Purpose) (at then : ℕ) → AsksFor call s p at → AsksFor call s q then → Same p q
+asks-one (Delete now) s p q at then (is, (family, e)) (was, (other, f)) = inr (subst GivesBack (sym e) refl, subst GivesBack (sym f) refl)
+asks-one (CreatePermission transport ip now) s p q at then (is, e) (was, f) = inl (e ∙ sym f)
+asks-one (BindChannel transport peer now) s p q at then (is, (number, free, e)) (was, (other, also, f)) = inl (e ∙ (by (sym free ∙ also) ∙ sym f))
+  where
+    by : Some number ≡ Some other → ForChannel number peer ≡ ForChannel other peer
+    by same = cc
+asks-one (TcpConnect peer now) s p q at then (is, e) (was, f) = inl (e ∙ sym f)
+asks-one (AllocatedTcpSocket id tuple peer (Some local) now) s p q at then (is, e) (was, f) = inl (e ∙ sym f)
+asks-one (AllocatedTcpSocket id tuple peer None now) s p q at then none asks = absurd none
+asks-one (PollTransmit now) s p q at then (is, inl (new, e)) (was, inl (also, f)) = inl (e ∙ sym f)
+asks-one (PollTransmit now) s p q at then (is, inr (there, e)) (was, inr (also, f)) = inl (by (sym e ∙ f))
+  where
+    by : Some p ≡ Some q → p ≡ q
+    by same = cc
+asks-one (PollTransmit now) s p q at then (is, inl (new, e)) (was, inr (there, f)) = absurd (unlike (sym new ∙ there))
+  where
+    unlike : New ≡ Allocated → ⊥
+    unlike same = cc
+asks-one (PollTransmit now) s p q at then (is, inr (there, e)) (was, inl (new, f)) = absurd (unlike (sym new ∙ there))
+  where
+    unlike : New ≡ Allocated → ⊥
+    unlike same = cc
+asks-one (Recv packet now) s p q at then none asks = absurd none
+asks-one (PollRecv now) s p q at then none asks = absurd none
+asks-one (TcpClosed local remote now) s p q at then none asks = absurd none
+asks-one (SendTo transport peer bytes now) s p q at then none asks = absurd none
+asks-one (Poll now) s p q at then none asks = absurd none
+asks-one PollEvent s p q at then none asks = absurd none
+asks-one RelayedAddresses s p q at then none asks = absurd none
+asks-one (Permissions transport relayed) s p q at then none asks = absurd none
+asks-one (HavePermission transport to) s p q at then none asks = absurd none
+asks-one ProtocolError s p q at then none asks = absurd none
+
+-- the call made a request of its own, which is listed so
+abbrev pub IsListingHere : Call → State → Listing → Type 0
+IsListingHere call s l =
+    (purpose : Purpose) × (at : ℕ) × AsksFor call s purpose at × IsListedFor purpose l.purpose
+    × IsListedAs purpose at s (state_after call s) l
+
+-- the call takes turns, or what it lists it asks for itself
+pub listing-here : (call : Call) (s : State) → TakesTurns call ⊎ ((l : Listing) → IsListingOf call s l → IsListingHere call s l)
+listing-here (Recv packet now) s = inl tt
+listing-here (PollRecv now) s = inl tt
+listing-here (Delete now) s = inr (λ l is. is)
+listing-here (CreatePermission transport ip now) s = inr (λ l is. is)
+listing-here (BindChannel transport peer now) s = inr (λ l is. is)
+listing-here (TcpConnect peer now) s = inr (λ l is. is)
+listing-here (AllocatedTcpSocket id tuple peer local now) s = inr (λ l is. is)
+listing-here (TcpClosed local remote now) s = inr (λ l is. is)
+listing-here (SendTo transport peer bytes now) s = inr (λ l is. is)
+listing-here (Poll now) s = inr (λ l is. is)
+listing-here (PollTransmit now) s = inr (λ l is. is)
+listing-here PollEvent s = inr (λ l is. is)
+listing-here RelayedAddresses s = inr (λ l is. is)
+listing-here (Permissions transport relayed) s = inr (λ l is. is)
+listing-here (HavePermission transport to) s = inr (λ l is. is)
+listing-here ProtocolError s = inr (λ l is. is)
+
+-- ---- a request more
+
+-- nothing is listed under the next ID
+fresh-unlisted : (s : State) → most_taken s < 2 ^ 96 → (l : Listing) → Has l s.listed → l.id ≡ fresh_id s → ⊥
+fresh-unlisted s few l there e =
+    let free = or_parts (is_outstanding (fresh_id s) s.transactions) _ (fresh-free s few) in
+    let none : list_any (λ (l : Listing). eqb l.id (fresh_id s)) s.listed ≡ false = (or_parts (list_any (λ (l : Listing). eqb l.id (fresh_id s)) s.listed) (list_any (is_of_request (fresh_id s)) s.grants) free.1).0 in
+    let some = has-any (λ (l : Listing). eqb l.id (fresh_id s)) l s.listed there (eq-eqb l.id (fresh_id s) e) in
+    let no : true ≡ false = sym some ∙ none in
+    cc
+
+-- what comes is listed under the next ID, and belongs together
+together-more : (Came : Listing → Type 0) (s t : State) → most_taken s < 2 ^ 96 → ((l other : Listing) → Came l → Came other → Together l.purpose other.purpose)
+    → ((l : Listing) → Has l t.listed → Has l s.listed ⊎ ((l.id ≡ fresh_id s) × Came l)) → AreTogether s → AreTogether t
+together-more Came s t few with came h l other here there e = by (came l here) (came other there)
+  where
+    by : Has l s.listed ⊎ ((l.id ≡ fresh_id s) × Came l) → Has other s.listed ⊎ ((other.id ≡ fresh_id s) × Came other) → Together l.purpose other.purpose
+    by (inl old) (inl also) = h l other old also e
+    by (inl old) (inr (is, new)) = absurd (fresh-unlisted s few l old (e ∙ is))
+    by (inr (is, new)) (inl old) = absurd (fresh-unlisted s few other old (sym e ∙ is))
+    by (inr (is, new)) (inr (also, too)) = with l other new too
+
+-- no more comes
+together-less : (s t : State) → ((l : Listing) → Has l t.listed → Has l s.listed) → AreTogether s → AreTogether t
+together-less s t less h l other here there e = h l other (less l here) (less other there) e
+
+-- ---- turns
+
+-- a request is made again for what the old one is listed for
+turn-together : (one : Turn) → most_taken one.before < 2 ^ 96 → AreTogether one.before → AreTogether (made_of one).1
+turn-together one few h = together-more Came one.before (made_of one).1 few with (λ l there. by l ((turn-turns one).1 l there)) h
+  where
+    Came : Listing → Type 0
+    Came l = Has (listing (id_of one.bytes) l.purpose) one.before.listed
+
+    with : (l other : Listing) → Came l → Came other → Together l.purpose other.purpose
+    with l other here there = h (listing (id_of one.bytes) l.purpose) (listing (id_of one.bytes) other.purpose) here there refl
+
+    by : (l : Listing) → Has l one.before.listed ⊎ IsListedAgain one.bytes one.moment one.before (made_of one).1 l → Has l one.before.listed ⊎ ((l.id ≡ fresh_id one.before) × Came l)
+    by l (inl old) = inl old
+    by l (inr (purpose, asked, answers, (made, is))) = inr (is, purpose-with (id_of one.bytes) l.purpose one.before (contains-has l.purpose (purposes_of (id_of one.bytes) one.before) answers))
+
+pub differs-together : (s t : State) → DiffersInStreams s t → AreTogether s → AreTogether t
+differs-together s t differs h = subst AreTogether (sym differs.others) h
+
+abbrev pub AllFew : List Turn → Type 0
+AllFew turns = (one : Turn) → Has one turns → most_taken one.before < 2 ^ 96
+
+pub first-together : (one : Turn) (later : List Turn) (s : State) → DiffersInStreams s one.before → AllFew (one ∷ later) → AreTogether s → AreTogether (made_of one).1
+first-together one later s differs few h = turn-together one (few one (inl refl)) (differs-together s one.before differs h)
+
+lead-together : (turns : List Turn) (s t : State) → TurnsLead turns s t → AllFew turns → AreTogether s → AreTogether t
+lead-together [] s t lead few h = differs-together s t lead h
+lead-together (one ∷ later) s t (first, lead) few h = lead-together later (made_of one).1 t lead (λ x there. few x (inr there)) (first-together one later s first few h)
+
+-- ---- all calls
+
+module _ (call : Call) (s : State) (free : DrawsFreeIds call s) where
+  pub few-turns : AllFew (handled call s)
+  few-turns one there = free.turns one (has-contains one (handled call s) there)
+
+  does-together : DoesTurns call s → AreTogether s → AreTogether (state_after call s)
+  does-together (inl lead) h = lead-together (handled call s) s (state_after call s) lead few-turns h
+  does-together (inr end) h = together-less s (state_after call s) less h
+    where
+      gone : State
+      gone = without_stream end.local (connection_gone end.local s)
+
+      old : (l : Listing) → Has l s.listed ⊎ ⊥ → Has l s.listed
+      old l (inl there) = there
+      old l (inr none) = absurd none
+
+      less : (l : Listing) → Has l (state_after call s).listed → Has l s.listed
+      less l there = old l ((gone-settles end.local s).1 l (subst (λ (t : State). Has l t.listed) end.gone there))
+
+  here-together : ((l : Listing) → IsListingOf call s l → IsListingHere call s l) → AreTogether s → AreTogether (state_after call s)
+  here-together own h = together-more (IsListingHere call s) s (state_after call s) free.first with (λ l there. by l (listings-made call s (state_after call s) l (inl refl) (has-contains l (state_after call s).listed there))) h
+    where
+      with : (l other : Listing) → IsListingHere call s l → IsListingHere call s other → Together l.purpose other.purpose
+      with l other (p, at, asks, for, made) (q, then, also, too, again) = of (asks-one call s p q at then asks also)
+        where
+          of : Same p q → Together l.purpose other.purpose
+          of (inl e) = listed-with q l.purpose other.purpose (subst (λ (x : Purpose). IsListedFor x l.purpose) e for) too
+          of (inr (back, away)) = inr (inr (back-listed p l.purpose back for, back-listed q other.purpose away too))
+
+      by : (l : Listing) → Contains s.listed l ⊎ IsListingOf call s l → Has l s.listed ⊎ ((l.id ≡ fresh_id s) × IsListingHere call s l)
+      by l (inl old) = inl (contains-has l s.listed old)
+      by l (inr is) = let (p, at, asks, for, made) = own l is in inr (made.1, own l is)
+
+  pub call-together : AreTogether s → AreTogether (state_after call s)
+  call-together h = by (listing-here call s)
+    where
+      by : TakesTurns call ⊎ ((l : Listing) → IsListingOf call s l → IsListingHere call s l) → AreTogether (state_after call s)
+      by (inl takes) = does-together (calls-do call s takes) h
+      by (inr own) = here-together own h

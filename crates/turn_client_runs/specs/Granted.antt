@@ -1,0 +1,207 @@
+-- What the replies of a run granted (RFC 8489, section 9.2.5; RFC 8656, sections 7.3 to 12.3; RFC 6062,
+-- section 4.3).
+use Rattle.std.specs.Prelude.{◌≡◌, ◌⊎◌, ◌≤◌, ℕ, true, List, [], ◌∷◌, ◌++◌, Option, Some, None, Ok, ⊤}
+use Rattle.std.specs.declared.net.socket_addr.SocketAddr.{SocketAddr}
+use Rattle.turn_stun.specs.declared.transport.TransportType.{TransportType}
+use Rattle.turn_client_api.specs.Config.{Config}
+use Rattle.std.specs.List.{Contains, list_any}
+use Rattle.turn_stun.specs.Message.{id_of}
+use Rattle.turn_stun.specs.declared.message.header.MessageClass.TheVariants.{Success}
+use Rattle.turn_auth.specs.Validation.{IsValidated, validation_of}
+use Rattle.turn_client_api.specs.State.{State, auth_of, initial, later_by, seconds}
+use Rattle.turn_client_api.specs.declared.call.Call.{Call}
+use Rattle.turn_client_api.specs.declared.grant.Grant.{Grant}
+use Rattle.turn_client_api.specs.declared.grant.Grant.TheVariants.{Allocation, Permission, Channel, Connection}
+use Rattle.turn_client_api.specs.declared.grant.Relay.{Relay}
+use Rattle.turn_client_api.specs.declared.grant.Progress.TheVariants.{Active}
+use Rattle.turn_client_api.specs.declared.grant.Purpose.{Purpose}
+use Rattle.turn_client_api.specs.declared.grant.Purpose.TheVariants.{ForAllocation, ForRefresh, ForPermission, ForChannel, ForBind}
+use Rattle.turn_client_api.specs.declared.call.Call.TheVariants.{Delete, PollRecv, Recv}
+use Rattle.turn_client_api.specs.declared.state.Stream.{Stream}
+use Rattle.turn_client_api.specs.Calls.{delete_step}
+use Rattle.turn_client_api.specs.Grants.{is_of_family, purposes_of, same_ip}
+use Rattle.turn_client_api.specs.Judgement.{class_in, lifetime_in}
+use Rattle.turn_client_api.specs.Effect.{channel_lifetime, least_lifetime, permission_lifetime, relayed_in}
+use Rattle.turn_client_api.specs.Payloads.{is_message}
+use Rattle.turn_client_api.specs.Handled.{Turn, handled, made_of}
+use Rattle.turn_client_api.specs.Steps.{state_after}
+use Rattle.turn_client_api.specs.LawsGranted.{Stood}
+use Rattle.turn_client_api.specs.LawsHandled.{IsDoneBy, IsOverControl, IsOverWaiting}
+use Rattle.turn_client_api.specs.LawsPurposes.{DrawsFreeIds}
+use Rattle.turn_client_api.specs.LawsReplies.{IsAwaited, IsNotAwaited}
+use Rattle.turn_client_api.specs.LawsRequests.{AsksFor, IsListedFor, IsMade}
+use Rattle.turn_client_api.specs.Requests.{fresh_id}
+use Rattle.turn_client_runs.specs.Received.{IsReceived}
+use Rattle.turn_client_runs.specs.Run.{state_behind}
+
+-- ---- what a reply grants
+
+-- a data connection is bound over itself, and all else is granted over the control connection
+abbrev pub IsOverIts : Grant → Turn → Type 0
+IsOverIts (Connection c) one = IsOverWaiting c.local one
+IsOverIts g one = IsOverControl one
+
+-- What the success of the turn gives for a purpose: an allocation up to the LIFETIME that is seen first, at
+-- least 600 s in answer to a REFRESH for more than 0 s; a permission for 300 s; a channel for 600 s.
+abbrev pub IsGivenIn : Turn → Purpose → Grant → Type 0
+IsGivenIn one ForAllocation (Allocation a) =
+    (n : ℕ) × (lifetime_in one.bytes ≡ Some n) × (a.expiry ≡ later_by (seconds n) one.moment)
+    × Contains (relayed_in one.bytes) a.relayed
+    × (list_any (λ family. is_of_family family a.relayed) one.before.families ≡ true)
+IsGivenIn one (ForRefresh family lifetime) (Allocation a) =
+    (1 ≤ lifetime) × (is_of_family family a.relayed ≡ true)
+    × ((n : ℕ) × (lifetime_in one.bytes ≡ Some n) × (least_lifetime ≤ n) × (a.expiry ≡ later_by (seconds n) one.moment))
+IsGivenIn one (ForPermission ip) (Permission other (Active expiry)) =
+    (same_ip other ip ≡ true) × (expiry ≡ later_by permission_lifetime one.moment)
+IsGivenIn one (ForChannel number peer) (Channel other to (Active expiry)) =
+    (other ≡ number) × (to ≡ peer) × (expiry ≡ later_by channel_lifetime one.moment)
+IsGivenIn one (ForBind local peer id) (Connection c) = (c.local ≡ local) × (c.deadline ≡ None)
+IsGivenIn one _ _ = ⊥
+
+-- The turn granted it, with this end. It is that of a success, which is signed under the realm, the key and
+-- the algorithm that are held then. It answers a request that was made for this purpose: outstanding just
+-- before the turn, and not just after it.
+pub record IsGranting (g : Grant) (purpose : Purpose) (one : Turn) : Type 0 where
+  pub over : IsOverIts g one
+  pub whole : is_message one.bytes ≡ true
+  pub success : class_in one.bytes ≡ Success
+  pub signed : IsValidated (validation_of (auth_of one.before) one.bytes)
+  pub listed : Contains (purposes_of (id_of one.bytes) one.before) purpose
+  pub outstanding : IsAwaited one.bytes one.before
+  pub ended : IsNotAwaited one.bytes (made_of one).1
+  pub given : IsGivenIn one purpose g
+
+-- ---- when a turn comes
+
+-- these bytes begin with those
+abbrev pub IsInFront : List ℕ → List ℕ → Type 0
+IsInFront front bytes = (rest : List ℕ) × (bytes ≡ front ++ rest)
+
+-- a frame stands in front of its stream, and a datagram is these bytes
+abbrev pub IsWholeOrInFront : List ℕ → Turn → Type 0
+IsWholeOrInFront payload one = by one.stream
+  where
+    by : Option Stream → Type 0
+    by None = one.bytes ≡ payload
+    by (Some stream) = IsInFront one.bytes stream.bytes
+
+-- `poll_recv` takes frames alone
+abbrev pub IsFrameInFront : Turn → Type 0
+IsFrameInFront one = by one.stream
+  where
+    by : Option Stream → Type 0
+    by None = ⊥
+    by (Some stream) = IsInFront one.bytes stream.bytes
+
+-- the turn comes in this call, and at its moment
+abbrev pub ComesIn : Call → Turn → Type 0
+ComesIn (Recv packet now) one = (one.moment ≡ now) × IsWholeOrInFront packet.payload one
+ComesIn (PollRecv now) one = (one.moment ≡ now) × IsFrameInFront one
+ComesIn _ one = ⊥
+
+-- ---- an own request
+
+-- Between these two states a request for the purpose was made, or one for a channel that brings the permission
+-- with it: under this ID, which was the next one, to the server, and with the bytes that ask for it.
+abbrev pub IsAsked : ℕ → Purpose → ℕ → State → State → Type 0
+IsAsked id p now s t = (request : Purpose) × IsListedFor request p × IsMade request now s t × (id ≡ fresh_id s)
+
+-- the turn made it, in answer to a request that was made for the same
+abbrev pub IsAskedInTurn : ℕ → Purpose → Turn → Type 0
+IsAskedInTurn id p one = IsAsked id p one.moment one.before (made_of one).1
+
+-- the call asks for this itself, and made it
+abbrev pub IsAskedItself : ℕ → Purpose → Call → State → Type 0
+IsAskedItself id p call s =
+    (request : Purpose) × (at : ℕ) × AsksFor call s request at × IsListedFor request p
+    × (IsMade request at s (state_after call s) × (id ≡ fresh_id s))
+
+-- the call made it, or a turn that it took
+abbrev pub IsAskedInCall : ℕ → Purpose → Call → State → Type 0
+IsAskedInCall id p call s = IsAskedItself id p call s ⊎ IsDoneBy (IsAskedInTurn id p) call s
+
+-- one of these calls made it
+pub record WasAsked (id : ℕ) (p : Purpose) (calls : List Call) (first : State) : Type 0 where
+  pub earlier : List Call
+  pub call : Call
+  pub later : List Call
+  pub split : calls ≡ earlier ++ call ∷ later
+  pub asked : IsAskedInCall id p call (state_behind first earlier)
+
+-- an earlier call made it, or an earlier turn of the same call
+abbrev pub WasAskedBefore : ℕ → Purpose → List Call → State → List Turn → Type 0
+WasAskedBefore id p earlier first front = WasAsked id p earlier first ⊎ ((one : Turn) × Contains front one × IsAskedInTurn id p one)
+
+-- fewer IDs are taken than there are, when each of these calls is made and when each turn comes that it takes
+abbrev pub DrawFreeIds : List Call → State → Type 0
+DrawFreeIds [] s = ⊤
+DrawFreeIds (call ∷ calls) s = DrawsFreeIds call s × DrawFreeIds calls (state_after call s)
+
+-- ---- a run
+
+-- it holds in this state and after each of these calls
+abbrev pub HoldsThrough : (State → Type 0) → List Call → State → Type 0
+HoldsThrough P [] s = P s
+HoldsThrough P (call ∷ calls) s = P s × HoldsThrough P calls (state_after call s)
+
+-- A turn of one of these calls answered a request for a purpose, and did this for it. Its request was made
+-- before, where IDs that are drawn are free. The claim holds after that call and after each later one.
+pub record IsAnsweredIn (Did : Purpose → Turn → Type 0) (P : State → Type 0) (calls : List Call) (first : State) : Type 0 where
+  pub earlier : List Call
+  pub call : Call
+  pub later : List Call
+  pub split : calls ≡ earlier ++ call ∷ later
+  pub front : List Turn
+  pub turn : Turn
+  pub back : List Turn
+  pub cut : handled call (state_behind first earlier) ≡ front ++ turn ∷ back
+  pub comes : ComesIn call turn
+  pub received : IsReceived (earlier ++ call ∷ []) first turn
+  pub purpose : Purpose
+  pub did : Did purpose turn
+  pub asked : DrawFreeIds calls first → WasAskedBefore (id_of turn.bytes) purpose earlier first front
+  pub holds : HoldsThrough P later (state_after call (state_behind first earlier))
+
+-- A turn of one of these calls granted it with the end that it has, and no later call dropped it or gave it
+-- another end.
+abbrev pub IsGranted : Grant → List Call → State → Type 0
+IsGranted g calls first = IsAnsweredIn (IsGranting g) (λ s. Stood s g) calls first
+
+-- ---- allocations
+
+-- an allocation has this relayed address
+abbrev pub IsRelayed : SocketAddr → State → Type 0
+IsRelayed relayed s = (a : Relay) × Contains s.grants (Allocation a) × (a.relayed ≡ relayed)
+
+abbrev pub GrantsAddress : SocketAddr → Purpose → Turn → Type 0
+GrantsAddress relayed purpose one = (a : Relay) × IsGranting (Allocation a) purpose one × (a.relayed ≡ relayed)
+
+-- a turn of one of these calls granted an allocation with this address, and no later call dropped it
+abbrev pub IsAllocated : SocketAddr → List Call → State → Type 0
+IsAllocated relayed calls first = IsAnsweredIn (GrantsAddress relayed) (IsRelayed relayed) calls first
+
+-- One of these calls, an accepted `delete`, ended it at its moment, after a turn of an earlier call had granted
+-- it. No later call dropped it or gave it another end.
+pub record IsGivenBack (a : Relay) (calls : List Call) (first : State) : Type 0 where
+  pub earlier : List Call
+  pub now : ℕ
+  pub later : List Call
+  pub split : calls ≡ earlier ++ Delete now ∷ later
+  pub accepted : (delete_step now (state_behind first earlier)).0 ≡ Ok tt
+  pub ends : a.expiry ≡ now
+  pub allocated : IsAllocated a.relayed earlier first
+  pub stands : HoldsThrough (λ s. Stood s (Allocation a)) later (state_after (Delete now) (state_behind first earlier))
+
+-- ---- all grants
+
+-- why it stands after these calls
+abbrev pub HasReply : Grant → List Call → State → Type 0
+HasReply (Allocation a) calls first = IsGranted (Allocation a) calls first ⊎ IsGivenBack a calls first
+HasReply g calls first = IsGranted g calls first
+
+-- all of this kind that stands after any calls of a new client was granted in them
+abbrev pub HaveReplies : (Grant → Type 0) → Type 0
+HaveReplies Kind =
+    (transport : TransportType) (local remote : SocketAddr) (config : Config) (seed : List ℕ) (calls : List Call) (g : Grant)
+    → Kind g → Contains (state_behind (initial transport local remote config seed) calls).grants g
+    → HasReply g calls (initial transport local remote config seed)
