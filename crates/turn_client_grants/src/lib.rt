@@ -15,6 +15,7 @@ mod lapsed;
 mod ledger;
 mod listed;
 mod moment;
+mod numbers;
 mod offers;
 mod purposes;
 mod reads;

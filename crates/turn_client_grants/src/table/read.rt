@@ -21,7 +21,7 @@ ghost use Rattle.turn_client_grants.specs.Which.{purposes_in};
 
 use crate::purposes::Purposes;
 use crate::table::GrantTable;
-use crate::{connections, due, listed, offers, reads, refresh};
+use crate::{connections, due, listed, numbers, offers, reads, refresh};
 use std::net::{IpAddr, SocketAddr};
 use turn_client_api::{
     DataConnection, DataOffer, Grant, Origin, PermissionAddressesIter, Progress, Purpose, Relay,
@@ -166,7 +166,7 @@ impl GrantTable {
         ensures numbered { IfSome result (λ number. (nat_le 0x4000 number && nat_lt number 0x5000) ≡ true) }
         ensures free { IfSome result (λ number. list_any (is_channel_of number) self.now.grants ≡ false) }
     {
-        reads::free_number(self.grants.as_slice())
+        numbers::free_number(self.grants.as_slice())
     }
 
     /// The data connection from this local end.
