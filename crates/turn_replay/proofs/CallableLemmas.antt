@@ -1,15 +1,16 @@
--- Each call of a trace can be made on a client whose allocations relay over UDP.
+-- Each call of a trace can be made on the client of its head, and that client can be made.
 use Rattle.std.proofs.Common.{◌≡◌, ℕ, zero, suc, ◌+◌, ◌^◌, ◌≤◌, cond, Bool, true, false, List, [], ◌∷◌, length, Option, Some, None, Result, Ok, Err, refl, subst, ap, arith}
 use Rattle.std.specs.Prelude.{All, ◌&&◌, nat_le, nat_lt}
 use Rattle.std.specs.Option.{option_map, option_and_then}
 use Rattle.std.specs.Str.Parse.{digits_value}
 use Rattle.std.proofs.lemmas.Bool.{leb-true}
-use Rattle.turn_stun.specs.declared.transport.TransportType.TheVariants.{Udp}
+use Rattle.turn_stun.specs.declared.transport.TransportType.{TransportType}
+use Rattle.turn_stun.specs.declared.transport.TransportType.TheVariants.{Udp, Tcp}
 use Rattle.turn_client_api.specs.declared.call.Call.{Call}
 use Rattle.turn_client_api.specs.declared.call.Call.TheVariants as Calls
-use Rattle.turn_client_proto.specs.Run.{IsCallable}
+use Rattle.turn_client_proto.specs.Run.{IsCallable, IsShort}
 use Rattle.turn_replay.specs.Arguments.{data_ends_of, one_address_of, packet_of, sending_of, transport_and_address_of, transport_and_ip_of, tuple_of, two_addresses_of}
-use Rattle.turn_replay.specs.Call.{call_of, call_with, has_short_payload, if_short, moment_of, name_of}
+use Rattle.turn_replay.specs.Call.{call_of, call_with, has_short_payload, if_short, is_short, moment_of, name_of}
 use Rattle.turn_replay.specs.Fault.{needed, ◌>>=◌}
 use Rattle.turn_replay.specs.Number.{decimal_up_to, is_decimal}
 use Rattle.turn_replay.specs.Parts.{ends, next, parts_of}
@@ -72,83 +73,122 @@ low_moment (field ∷ fields) now h =
     subst (λ (at : ℕ × List (List ℕ)). at.0 ≤ 2 ^ 62) m.2 (low_decimal (2 ^ 62) field m.0 m.1)
 
 -- it can be made, unless it sends too much
-abbrev IsCallableIfShort : Call → Type 0
-IsCallableIfShort call = has_short_payload call ≡ true → IsCallable Udp call
+abbrev IsCallableIfShort : TransportType → Call → Type 0
+IsCallableIfShort relays call = has_short_payload relays call ≡ true → IsCallable relays call
 
-mapped : {A : Type 0} → (f : A → Call) (o : Option A) (call : Call) → ((a : A) → IsCallableIfShort (f a)) → option_map f o ≡ Some call → IsCallableIfShort call
-mapped f o call good h = let m = of_map f o call h in subst IsCallableIfShort m.2 (good m.0)
+short_of : (relays : TransportType) (payload : List ℕ) → is_short relays payload ≡ true → IsShort relays payload
+short_of Udp payload h = λ over. leb-true (length payload) 65504 h
+short_of Tcp payload h = λ over. cc
 
-callable_with : (now : ℕ) (name : CallName) (fields : List (List ℕ)) (call : Call) → now ≤ 2 ^ 62 → call_with now name fields ≡ Some call → IsCallableIfShort call
-callable_with now Name.Poll fields call low h = mapped (λ _. Calls.Poll now) (ends fields) call (λ _ short. low) h
-callable_with now Name.Transmit fields call low h = mapped (λ _. Calls.PollTransmit now) (ends fields) call (λ _ short. low) h
-callable_with now Name.Event fields call low h = mapped (λ _. Calls.PollEvent) (ends fields) call (λ _ short. tt) h
-callable_with now Name.Recv fields call low h = mapped (λ p. Calls.Recv p now) (packet_of fields) call (λ _ short. low) h
-callable_with now Name.PollRecv fields call low h = mapped (λ _. Calls.PollRecv now) (ends fields) call (λ _ short. low) h
-callable_with now Name.Send fields call low h =
-    mapped (λ s. Calls.SendTo s.0 s.1 s.2 now) (sending_of fields) call (λ s short. (low, λ _. leb-true (length s.2) 65504 short)) h
-callable_with now Name.Permit fields call low h =
-    mapped (λ p. Calls.CreatePermission p.0 p.1 now) (transport_and_ip_of fields) call (λ _ short. low) h
-callable_with now Name.Bind fields call low h =
-    mapped (λ p. Calls.BindChannel p.0 p.1 now) (transport_and_address_of fields) call (λ _ short. low) h
-callable_with now Name.Connect fields call low h = mapped (λ p. Calls.TcpConnect p now) (one_address_of fields) call (λ _ short. low) h
-callable_with now Name.Socket fields call low h =
+mapped : {A : Type 0} → (relays : TransportType) (f : A → Call) (o : Option A) (call : Call) → ((a : A) → IsCallableIfShort relays (f a)) → option_map f o ≡ Some call → IsCallableIfShort relays call
+mapped relays f o call good h = let m = of_map f o call h in subst (IsCallableIfShort relays) m.2 (good m.0)
+
+callable_with : (relays : TransportType) (now : ℕ) (name : CallName) (fields : List (List ℕ)) (call : Call) → now ≤ 2 ^ 62 → call_with now name fields ≡ Some call → IsCallableIfShort relays call
+callable_with relays now Name.Poll fields call low h = mapped relays (λ _. Calls.Poll now) (ends fields) call (λ _ short. low) h
+callable_with relays now Name.Transmit fields call low h = mapped relays (λ _. Calls.PollTransmit now) (ends fields) call (λ _ short. low) h
+callable_with relays now Name.Event fields call low h = mapped relays (λ _. Calls.PollEvent) (ends fields) call (λ _ short. tt) h
+callable_with relays now Name.Recv fields call low h = mapped relays (λ p. Calls.Recv p now) (packet_of fields) call (λ _ short. low) h
+callable_with relays now Name.PollRecv fields call low h = mapped relays (λ _. Calls.PollRecv now) (ends fields) call (λ _ short. low) h
+callable_with relays now Name.Send fields call low h =
+    mapped relays (λ s. Calls.SendTo s.0 s.1 s.2 now) (sending_of fields) call (λ s short. (low, short_of relays s.2 short)) h
+callable_with relays now Name.Permit fields call low h =
+    mapped relays (λ p. Calls.CreatePermission p.0 p.1 now) (transport_and_ip_of fields) call (λ _ short. low) h
+callable_with relays now Name.Bind fields call low h =
+    mapped relays (λ p. Calls.BindChannel p.0 p.1 now) (transport_and_address_of fields) call (λ _ short. low) h
+callable_with relays now Name.Connect fields call low h = mapped relays (λ p. Calls.TcpConnect p now) (one_address_of fields) call (λ _ short. low) h
+callable_with relays now Name.Socket fields call low h =
     let t = of_and_then (tuple_of fields) (λ t. option_and_then (λ e. Some (Calls.AllocatedTcpSocket t.0.0 t.0.1 e.0 e.1 now)) (data_ends_of t.1)) call h in
     let e = of_and_then (data_ends_of t.0.1) (λ e. Some (Calls.AllocatedTcpSocket t.0.0.0 t.0.0.1 e.0 e.1 now)) call t.1 in
-    subst IsCallableIfShort (some_is _ call e.1) (λ short. low)
-callable_with now Name.Delete fields call low h = mapped (λ _. Calls.Delete now) (ends fields) call (λ _ short. low) h
-callable_with now Name.Closed fields call low h = mapped (λ e. Calls.TcpClosed e.0 e.1 now) (two_addresses_of fields) call (λ _ short. low) h
-callable_with now Name.Error fields call low h = mapped (λ _. Calls.ProtocolError) (ends fields) call (λ _ short. tt) h
-callable_with now Name.Relayed fields call low h = mapped (λ _. Calls.RelayedAddresses) (ends fields) call (λ _ short. tt) h
-callable_with now Name.Permissions fields call low h =
-    mapped (λ a. Calls.Permissions a.0 a.1) (transport_and_address_of fields) call (λ _ short. tt) h
-callable_with now Name.Have fields call low h = mapped (λ p. Calls.HavePermission p.0 p.1) (transport_and_ip_of fields) call (λ _ short. tt) h
+    subst (IsCallableIfShort relays) (some_is _ call e.1) (λ short. low)
+callable_with relays now Name.Delete fields call low h = mapped relays (λ _. Calls.Delete now) (ends fields) call (λ _ short. low) h
+callable_with relays now Name.Closed fields call low h = mapped relays (λ e. Calls.TcpClosed e.0 e.1 now) (two_addresses_of fields) call (λ _ short. low) h
+callable_with relays now Name.Error fields call low h = mapped relays (λ _. Calls.ProtocolError) (ends fields) call (λ _ short. tt) h
+callable_with relays now Name.Relayed fields call low h = mapped relays (λ _. Calls.RelayedAddresses) (ends fields) call (λ _ short. tt) h
+callable_with relays now Name.Permissions fields call low h =
+    mapped relays (λ a. Calls.Permissions a.0 a.1) (transport_and_address_of fields) call (λ _ short. tt) h
+callable_with relays now Name.Have fields call low h = mapped relays (λ p. Calls.HavePermission p.0 p.1) (transport_and_ip_of fields) call (λ _ short. tt) h
 
 -- ---- a line, and a trace
 
-callable_line : (line : List ℕ) (call : Call) → call_of line ≡ Ok call → IsCallable Udp call
+callable_line : (relays : TransportType) (line : List ℕ) (call : Call) → call_of relays line ≡ Ok call → IsCallable relays call
 unfolding call_of
-callable_line line call h =
+callable_line relays line call h =
     let at = of_needed (next moment_of (parts_of 32 line)) Bad.Moment
-    (λ now. needed (next name_of now.1) Bad.Call (λ name. needed (call_with now.0 name.0 name.1) Bad.Argument if_short)) call h in
-    let name = of_needed (next name_of at.0.1) Bad.Call (λ name. needed (call_with at.0.0 name.0 name.1) Bad.Argument if_short) call at.2 in
-    let made = of_needed (call_with at.0.0 name.0.0 name.0.1) Bad.Argument if_short call name.2 in
-    let kept = of_then (has_short_payload made.0) Bad.Payload made.0 call made.2 in
+    (λ now. needed (next name_of now.1) Bad.Call (λ name. needed (call_with now.0 name.0 name.1) Bad.Argument (if_short relays))) call h in
+    let name = of_needed (next name_of at.0.1) Bad.Call (λ name. needed (call_with at.0.0 name.0 name.1) Bad.Argument (if_short relays)) call at.2 in
+    let made = of_needed (call_with at.0.0 name.0.0 name.0.1) Bad.Argument (if_short relays) call name.2 in
+    let kept = of_then (has_short_payload relays made.0) Bad.Payload made.0 call made.2 in
     let low : at.0.0 ≤ 2 ^ 62 = low_moment (parts_of 32 line) at.0 at.1 in
-    subst (IsCallable Udp) kept.1 (callable_with at.0.0 name.0.0 name.0.1 made.0 low made.1 kept.0)
+    subst (IsCallable relays) kept.1 (callable_with relays at.0.0 name.0.0 name.0.1 made.0 low made.1 kept.0)
 
 of_line : (number : ℕ) (r : Result Call BadKind) (call : Call) → at_line number r ≡ Ok call → r ≡ Ok call
 of_line number (Ok x) call h = ap Ok (ok_is x call h)
 of_line number (Err kind) call h = cc
 
-callable_numbered : (number : ℕ) (line : List ℕ) (call : Call) → numbered_call_of number line ≡ Ok call → IsCallable Udp call
-callable_numbered number line call h =
-    let read = of_else (nat_lt 10001 number) (bad_line number Bad.Size) (at_line number (call_of line)) call h in
-    callable_line line call (of_line number (call_of line) call read)
+callable_numbered : (relays : TransportType) (number : ℕ) (line : List ℕ) (call : Call) → numbered_call_of relays number line ≡ Ok call → IsCallable relays call
+callable_numbered relays number line call h =
+    let read = of_else (nat_lt 10001 number) (bad_line number Bad.Size) (at_line number (call_of relays line)) call h in
+    callable_line relays line call (of_line number (call_of relays line) call read)
 
-abbrev pub AreCallable : List Call → Type 0
-AreCallable calls = All (IsCallable Udp) calls
+abbrev pub AreCallable : TransportType → List Call → Type 0
+AreCallable relays calls = All (IsCallable relays) calls
 
-all_of_more : (call : Call) (calls : List Call) → IsCallable Udp call → AreCallable calls → AreCallable (call ∷ calls)
-all_of_more call calls one all zero d low = one
-all_of_more call calls one all (suc k) d low = all k d (omega arith)
+all_of_more : (relays : TransportType) (call : Call) (calls : List Call) → IsCallable relays call → AreCallable relays calls → AreCallable relays (call ∷ calls)
+all_of_more relays call calls one all zero d low = one
+all_of_more relays call calls one all (suc k) d low = all k d (omega arith)
 
-callable_lines : (number : ℕ) (lines : List (List ℕ)) (calls : List Call) → calls_of number lines ≡ Ok calls → AreCallable calls
+callable_lines : (relays : TransportType) (number : ℕ) (lines : List (List ℕ)) (calls : List Call) → calls_of relays number lines ≡ Ok calls → AreCallable relays calls
 unfolding calls_of
-callable_lines number [] calls h = subst AreCallable (ok_is [] calls h) (λ k d low. absurd (omega arith))
-callable_lines number (line ∷ lines) calls h =
-    let one = of_both (numbered_call_of number line) (λ call. calls_of (number + 1) lines >>= λ rest. Ok (call ∷ rest)) calls h in
-    let rest = of_both (calls_of (number + 1) lines) (λ rest. Ok (one.0 ∷ rest)) calls one.2 in
-    subst AreCallable (ok_is (one.0 ∷ rest.0) calls rest.2)
-    (all_of_more one.0 rest.0 (callable_numbered number line one.0 one.1) (callable_lines (number + 1) lines rest.0 rest.1))
+callable_lines relays number [] calls h = subst (AreCallable relays) (ok_is [] calls h) (λ k d low. absurd (omega arith))
+callable_lines relays number (line ∷ lines) calls h =
+    let one = of_both (numbered_call_of relays number line) (λ call. calls_of relays (number + 1) lines >>= λ rest. Ok (call ∷ rest)) calls h in
+    let rest = of_both (calls_of relays (number + 1) lines) (λ rest. Ok (one.0 ∷ rest)) calls one.2 in
+    subst (AreCallable relays) (ok_is (one.0 ∷ rest.0) calls rest.2)
+    (all_of_more relays one.0 rest.0 (callable_numbered relays number line one.0 one.1) (callable_lines relays (number + 1) lines rest.0 rest.1))
 
-pub calls_are_callable : (text : List ℕ) (head : Head) (calls : List Call) → trace_of text ≡ Ok (head, calls) → AreCallable calls
+-- ---- the head, and a trace
+
+abbrev IsMade : Head → Type 0
+IsMade head = head.ends.transport ≡ Udp → head.request.allocation ≡ Udp
+
+relayed_is : (transport allocation : TransportType) (none : Unit {0}) → relayed_for transport allocation ≡ Some none → transport ≡ Udp → allocation ≡ Udp
+relayed_is Udp Udp none h over = refl
+relayed_is Udp Tcp none h over = cc
+relayed_is Tcp allocation none h over = cc
+
+-- the head, whatever it says of credentials, seed and waits
+abbrev head_with : Ends → Request → Credentials × List (List ℕ) → Option Head
+head_with places request credentials = do
+  seed ← next seed_of credentials.1
+  waits ← last_of seed.1
+  Some (record { ends = places; request = request; credentials = credentials.0; seed = seed.0; waits = waits })
+
+made_with : (places : Ends) (request : Request) (credentials : Credentials × List (List ℕ)) (head : Head) → head_with places request credentials ≡ Some head → (places.transport ≡ Udp → request.allocation ≡ Udp) → IsMade head
+made_with places request credentials head h made =
+    let seed = of_and_then (next seed_of credentials.1) (λ seed. last_of seed.1 >>= λ waits. Some (record { ends = places; request = request; credentials = credentials.0; seed = seed.0; waits = waits })) head h in
+    let waits = of_and_then (last_of seed.0.1) (λ waits. Some (record { ends = places; request = request; credentials = credentials.0; seed = seed.0.0; waits = waits })) head seed.1 in
+    subst IsMade (some_is _ head waits.1) made
+
+made_line : (line : List ℕ) (head : Head) → head_of line ≡ Some head → IsMade head
+unfolding head_of
+made_line line head h =
+    let places = of_and_then (ends_of (parts_of 32 line)) (λ places. request_of places.1 >>= λ request. relayed_for places.0.transport request.0.allocation >>= λ _. credentials_of request.1 >>= head_with places.0 request.0) head h in
+    let request = of_and_then (request_of places.0.1) (λ request. relayed_for places.0.0.transport request.0.allocation >>= λ _. credentials_of request.1 >>= head_with places.0.0 request.0) head places.1 in
+    let relayed = of_and_then (relayed_for places.0.0.transport request.0.0.allocation) (λ _. credentials_of request.0.1 >>= head_with places.0.0 request.0.0) head request.1 in
+    let credentials = of_and_then (credentials_of request.0.1) (head_with places.0.0 request.0.0) head relayed.1 in
+    made_with places.0.0 request.0.0 credentials.0 head credentials.1 (relayed_is _ _ _ ?)
+
+-- the client is made, and the calls can be made on it
+abbrev IsReady : Head × List Call → Type 0
+IsReady trace = IsMade trace.0 × AreCallable trace.0.request.allocation trace.1
+
+trace_is_ready : (text : List ℕ) (trace : Head × List Call) → trace_of text ≡ Ok trace → IsReady trace
 unfolding trace_of
-calls_are_callable text head calls h =
+trace_is_ready text trace h =
     let lines = parts_of 10 (without_last_feed text) in
-    let trace : Head × List Call = (head, calls) in
     let read = of_else (nat_lt 1048576 (length text)) (bad_line 0 Bad.Size)
-    (head_line_of lines >>= λ first. calls_of 2 first.1 >>= λ rest. Ok (first.0, rest)) trace h in
-    let first = of_both (head_line_of lines) (λ first. calls_of 2 first.1 >>= λ rest. Ok (first.0, rest)) trace read in
-    let rest = of_both (calls_of 2 first.0.1) (λ rest. Ok (first.0.0, rest)) trace first.2 in
-    let same : rest.0 ≡ calls = ap (λ t. t.1) (ok_is (first.0.0, rest.0) trace rest.2) in
-    subst AreCallable same (callable_lines 2 first.0.1 rest.0 rest.1)
+    (head_line_of lines >>= λ first. calls_of first.0.request.allocation 2 first.1 >>= λ rest. Ok (first.0, rest)) trace h in
+    let first = of_both (head_line_of lines) (λ first. calls_of first.0.request.allocation 2 first.1 >>= λ rest. Ok (first.0, rest)) trace read in
+    let rest = of_both (calls_of first.0.0.request.allocation 2 first.0.1) (λ rest. Ok (first.0.0, rest)) trace first.2 in
+    subst IsReady (ok_is (first.0.0, rest.0) trace rest.2)
+    (made_head lines first.0 first.1, callable_lines first.0.0.request.allocation 2 first.0.1 rest.0 rest.1)
