@@ -1,8 +1,9 @@
 -- The client over any transport.
 use Rattle.turn_client_api.specs.State.{State}
 use Rattle.turn_client_proto.specs.declared.client.TurnClient.{TurnClient}
-use Rattle.turn_client_proto.specs.declared.client.TurnClient.TheVariants.{Udp}
+use Rattle.turn_client_proto.specs.declared.client.TurnClient.TheVariants.{Udp, Tcp}
 
 -- what a contract sees of it
 abbrev pub state_of : TurnClient → State
 state_of (Udp client) = client
+state_of (Tcp client) = client

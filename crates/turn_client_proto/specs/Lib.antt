@@ -1,3 +1,4 @@
 pub mod Client
+pub mod OverTcp
 pub mod OverUdp
 pub mod Run

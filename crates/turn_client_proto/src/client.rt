@@ -1,5 +1,6 @@
 //! A client over whichever transport.
 
+use crate::tcp::TurnClientTcp;
 use crate::udp::TurnClientUdp;
 use std::alloc::AllocError;
 use std::convert::AsSlice;
@@ -22,6 +23,8 @@ use turn_stun::transport::{Transmit, TransportType};
 pub enum TurnClient {
     /// It reaches its server over UDP.
     Udp(TurnClientUdp),
+    /// It reaches its server over TCP.
+    Tcp(TurnClientTcp),
 }
 
 impl From<TurnClientUdp> for TurnClient {
@@ -35,6 +38,17 @@ impl From<TurnClientUdp> for TurnClient {
     }
 }
 
+impl From<TurnClientTcp> for TurnClient {
+    ghost use Rattle.std.specs.Prelude.{◌≡◌};
+    ghost use Rattle.turn_client_proto.specs.declared.client.TurnClient.{TurnClient};
+
+    ghost from_gives = { λ client whole. whole ≡ TurnClient.Tcp client };
+
+    fn from(client: TurnClientTcp) -> TurnClient {
+        TurnClient::Tcp(client)
+    }
+}
+
 impl TurnClientApi for TurnClient {
     ghost use Rattle.turn_client_proto.specs.Client.{state_of};
 
@@ -43,24 +57,28 @@ impl TurnClientApi for TurnClient {
     fn transport(&self) -> TransportType {
         match self {
             TurnClient::Udp(client) => client.transport(),
+            TurnClient::Tcp(client) => client.transport(),
         }
     }
 
     fn local_addr(&self) -> SocketAddr {
         match self {
             TurnClient::Udp(client) => client.local_addr(),
+            TurnClient::Tcp(client) => client.local_addr(),
         }
     }
 
     fn remote_addr(&self) -> SocketAddr {
         match self {
             TurnClient::Udp(client) => client.remote_addr(),
+            TurnClient::Tcp(client) => client.remote_addr(),
         }
     }
 
     fn relayed_addresses(&self) -> RelayedAddressesIter<'_> {
         match self {
             TurnClient::Udp(client) => client.relayed_addresses(),
+            TurnClient::Tcp(client) => client.relayed_addresses(),
         }
     }
 
@@ -71,12 +89,14 @@ impl TurnClientApi for TurnClient {
     ) -> PermissionAddressesIter<'_> {
         match self {
             TurnClient::Udp(client) => client.permissions(transport, relayed),
+            TurnClient::Tcp(client) => client.permissions(transport, relayed),
         }
     }
 
     fn delete(&mut self, now: Instant) -> Result<(), DeleteError> {
         match self {
             TurnClient::Udp(client) => client.delete(now),
+            TurnClient::Tcp(client) => client.delete(now),
         }
     }
 
@@ -88,12 +108,14 @@ impl TurnClientApi for TurnClient {
     ) -> Result<(), CreatePermissionError> {
         match self {
             TurnClient::Udp(client) => client.create_permission(transport, peer_addr, now),
+            TurnClient::Tcp(client) => client.create_permission(transport, peer_addr, now),
         }
     }
 
     fn have_permission(&self, transport: TransportType, to: IpAddr) -> bool {
         match self {
             TurnClient::Udp(client) => client.have_permission(transport, to),
+            TurnClient::Tcp(client) => client.have_permission(transport, to),
         }
     }
 
@@ -105,12 +127,14 @@ impl TurnClientApi for TurnClient {
     ) -> Result<(), BindChannelError> {
         match self {
             TurnClient::Udp(client) => client.bind_channel(transport, peer_addr, now),
+            TurnClient::Tcp(client) => client.bind_channel(transport, peer_addr, now),
         }
     }
 
     fn tcp_connect(&mut self, peer_addr: SocketAddr, now: Instant) -> Result<(), TcpConnectError> {
         match self {
             TurnClient::Udp(client) => client.tcp_connect(peer_addr, now),
+            TurnClient::Tcp(client) => client.tcp_connect(peer_addr, now),
         }
     }
 
@@ -126,6 +150,9 @@ impl TurnClientApi for TurnClient {
             TurnClient::Udp(client) => {
                 client.allocated_tcp_socket(id, five_tuple, peer_addr, local_addr, now)
             }
+            TurnClient::Tcp(client) => {
+                client.allocated_tcp_socket(id, five_tuple, peer_addr, local_addr, now)
+            }
         }
     }
 
@@ -137,6 +164,7 @@ impl TurnClientApi for TurnClient {
     ) -> Result<(), AllocError> {
         match self {
             TurnClient::Udp(client) => client.tcp_closed(local_addr, remote_addr, now),
+            TurnClient::Tcp(client) => client.tcp_closed(local_addr, remote_addr, now),
         }
     }
 
@@ -149,6 +177,7 @@ impl TurnClientApi for TurnClient {
     ) -> Result<Option<TransmitBuild<DelayedMessageOrChannelSend<T>>>, SendError> {
         match self {
             TurnClient::Udp(client) => client.send_to(transport, to, data, now),
+            TurnClient::Tcp(client) => client.send_to(transport, to, data, now),
         }
     }
 
@@ -159,36 +188,42 @@ impl TurnClientApi for TurnClient {
     ) -> Result<TurnRecvRet<T>, AllocError> {
         match self {
             TurnClient::Udp(client) => client.recv(transmit, now),
+            TurnClient::Tcp(client) => client.recv(transmit, now),
         }
     }
 
     fn poll_recv(&mut self, now: Instant) -> Result<Option<TurnPeerData<Vec<u8>>>, AllocError> {
         match self {
             TurnClient::Udp(client) => client.poll_recv(now),
+            TurnClient::Tcp(client) => client.poll_recv(now),
         }
     }
 
     fn poll(&mut self, now: Instant) -> Result<TurnPollRet, AllocError> {
         match self {
             TurnClient::Udp(client) => client.poll(now),
+            TurnClient::Tcp(client) => client.poll(now),
         }
     }
 
     fn poll_transmit(&mut self, now: Instant) -> Result<Option<Transmit<Data>>, AllocError> {
         match self {
             TurnClient::Udp(client) => client.poll_transmit(now),
+            TurnClient::Tcp(client) => client.poll_transmit(now),
         }
     }
 
     fn poll_event(&mut self) -> Option<TurnEvent> {
         match self {
             TurnClient::Udp(client) => client.poll_event(),
+            TurnClient::Tcp(client) => client.poll_event(),
         }
     }
 
     fn protocol_error(&mut self) -> Result<(), AllocError> {
         match self {
             TurnClient::Udp(client) => client.protocol_error(),
+            TurnClient::Tcp(client) => client.protocol_error(),
         }
     }
 }

@@ -2,11 +2,12 @@ use Rattle.std.proofs.Common.{subst}
 use Rattle.turn_client_api.specs.Answers.{Connects}
 use Rattle.turn_client_api.specs.Calls.{tcp_connect_step}
 use Rattle.turn_client_api.specs.State.{State}
-use Rattle.turn_client_proto.proofs.UdpClientLemmas.{connect-keeps}
+use Rattle.turn_client_proto.proofs.CallLemmas.{connect-keeps}
+use Rattle.turn_client_proto.proofs.UdpClientLemmas.{leaves-IsUdpClient}
 use Rattle.turn_client_proto.proofs.udp.TurnClientUdpTurnClientApi.tcp_connect.Goals as goal
 
 pub invariant_of-self : goal.invariant_of-self
-invariant_of-self c = connect-keeps _ _ c.tcp_connect.result c.args.peer_addr c.args.now c.tcp_connect.ensures.step c.self.invariant
+invariant_of-self c = connect-keeps leaves-IsUdpClient _ _ c.tcp_connect.result c.args.peer_addr c.args.now c.tcp_connect.ensures.step c.self.invariant
 
 pub returns : goal.returns
 returns c = record {

@@ -1,0 +1,195 @@
+//! A client that reaches its server over TCP.
+
+ghost use Rattle.std.specs.Prelude.{◌≡◌, IfOk};
+ghost use Rattle.turn_client_api.specs.Receive.{is_from_server};
+ghost use Rattle.turn_client_api.specs.State.{initial};
+
+use std::alloc::{AllocError, Global};
+use std::convert::AsSlice;
+use std::fmt::Debug;
+use std::marker::Model;
+use std::net::{IpAddr, SocketAddr};
+pub use turn_client_api::{
+    BindChannelError, CreatePermissionError, DeleteError, SendError, TcpAllocateError,
+    TcpConnectError, TurnEvent, TurnPollRet, TurnRecvRet,
+};
+use turn_client_api::{
+    DelayedMessageOrChannelSend, PermissionAddressesIter, RelayedAddressesIter, Socket5Tuple,
+    TransmitBuild, TurnClientApi, TurnConfig, TurnPeerData,
+};
+use turn_client_core::TurnClientProtocol;
+use turn_stun::data::Data;
+use turn_stun::instant::Instant;
+use turn_stun::transport::{Transmit, TransportType};
+
+/// A client that reaches its server over TCP, for allocations over UDP or over TCP. Contracts see its
+/// `State`.
+#[derive(Debug, Drop)]
+pub struct TurnClientTcp {
+    core: TurnClientProtocol,
+}
+
+impl Model for TurnClientTcp {
+    ghost use Rattle.turn_client_api.specs.State.{State};
+    ghost use Rattle.turn_client_proto.specs.OverTcp.{IsTcpClient};
+
+    ghost Value = { State };
+
+    ghost view = { λ client. client.core };
+
+    ghost invariant = { λ client. IsTcpClient client.core };
+}
+
+impl TurnClientTcp {
+    /// A client whose control connection goes from `local` to the server at `remote`, and which draws its
+    /// transaction IDs from this seed. It has asked for nothing yet: `poll_transmit` gives the first
+    /// request.
+    ///
+    /// RFC 8489, section 5, wants IDs that cannot be guessed. They are as good as the seed is secret.
+    /// What is asked for relays over UDP, or over TCP (RFC 6062, section 4.1), as the configuration says.
+    ///
+    /// # Errors
+    ///
+    /// There is no memory.
+    pub fn allocate(
+        alloc: Global,
+        local: SocketAddr,
+        remote: SocketAddr,
+        config: TurnConfig,
+        seed: [u8; 32],
+    ) -> Result<TurnClientTcp, AllocError>
+        ensures { IfOk result (λ client. client ≡ initial TransportType.Tcp local remote config seed) }
+    {
+        let core = TurnClientProtocol::new(alloc, TransportType::Tcp, local, remote, config, seed)?;
+        Ok(TurnClientTcp { core })
+    }
+
+    /// Whether what came this way is of a stream of the server.
+    fn is_from_server(&self, transport: TransportType, from: SocketAddr) -> bool
+        ensures value { result ≡ is_from_server transport from self.now }
+        ensures carrier { self.now.transport ≡ TransportType.Tcp }
+    {
+        transport == self.core.transport() && from == self.core.remote_addr()
+    }
+}
+
+impl TurnClientApi for TurnClientTcp {
+    ghost state = { λ client. client };
+
+    fn transport(&self) -> TransportType {
+        self.core.transport()
+    }
+
+    fn local_addr(&self) -> SocketAddr {
+        self.core.local_addr()
+    }
+
+    fn remote_addr(&self) -> SocketAddr {
+        self.core.remote_addr()
+    }
+
+    fn relayed_addresses(&self) -> RelayedAddressesIter<'_> {
+        self.core.relayed_addresses()
+    }
+
+    fn permissions(
+        &self,
+        transport: TransportType,
+        relayed: SocketAddr,
+    ) -> PermissionAddressesIter<'_> {
+        self.core.permissions(transport, relayed)
+    }
+
+    fn delete(&mut self, now: Instant) -> Result<(), DeleteError> {
+        self.core.delete(now)
+    }
+
+    fn create_permission(
+        &mut self,
+        transport: TransportType,
+        peer_addr: IpAddr,
+        now: Instant,
+    ) -> Result<(), CreatePermissionError> {
+        self.core.create_permission(transport, peer_addr, now)
+    }
+
+    fn have_permission(&self, transport: TransportType, to: IpAddr) -> bool {
+        self.core.have_permission(transport, to)
+    }
+
+    fn bind_channel(
+        &mut self,
+        transport: TransportType,
+        peer_addr: SocketAddr,
+        now: Instant,
+    ) -> Result<(), BindChannelError> {
+        self.core.bind_channel(transport, peer_addr, now)
+    }
+
+    fn tcp_connect(&mut self, peer_addr: SocketAddr, now: Instant) -> Result<(), TcpConnectError> {
+        self.core.tcp_connect(peer_addr, now)
+    }
+
+    fn allocated_tcp_socket(
+        &mut self,
+        id: u32,
+        five_tuple: Socket5Tuple,
+        peer_addr: SocketAddr,
+        local_addr: Option<SocketAddr>,
+        now: Instant,
+    ) -> Result<(), TcpAllocateError> {
+        self.core
+            .allocated_tcp_socket(id, five_tuple, peer_addr, local_addr, now)
+    }
+
+    fn tcp_closed(
+        &mut self,
+        local_addr: SocketAddr,
+        remote_addr: SocketAddr,
+        _now: Instant,
+    ) -> Result<(), AllocError> {
+        self.core.tcp_closed(local_addr, remote_addr);
+        Ok(())
+    }
+
+    fn send_to<T: AsSlice<u8> + Debug + Drop>(
+        &mut self,
+        transport: TransportType,
+        to: SocketAddr,
+        data: T,
+        now: Instant,
+    ) -> Result<Option<TransmitBuild<DelayedMessageOrChannelSend<T>>>, SendError> {
+        self.core.send_to(transport, to, data, now)
+    }
+
+    fn recv<T: AsSlice<u8> + Debug + Drop>(
+        &mut self,
+        transmit: Transmit<T>,
+        now: Instant,
+    ) -> Result<TurnRecvRet<T>, AllocError> {
+        if !self.is_from_server(transmit.transport, transmit.from) {
+            return Ok(TurnRecvRet::Ignored(transmit));
+        }
+        self.core.piece(transmit, now)
+    }
+
+    fn poll_recv(&mut self, now: Instant) -> Result<Option<TurnPeerData<Vec<u8>>>, AllocError> {
+        self.core.poll_recv(now)
+    }
+
+    fn poll(&mut self, now: Instant) -> Result<TurnPollRet, AllocError> {
+        self.core.poll(now)
+    }
+
+    fn poll_transmit(&mut self, now: Instant) -> Result<Option<Transmit<Data>>, AllocError> {
+        self.core.poll_transmit(now)
+    }
+
+    fn poll_event(&mut self) -> Option<TurnEvent> {
+        self.core.poll_event()
+    }
+
+    fn protocol_error(&mut self) -> Result<(), AllocError> {
+        self.core.protocol_error()
+    }
+}
