@@ -20,43 +20,9 @@ use Rattle.turn_replay.specs.declared.call.name.CallName.TheVariants as Name
 use Rattle.turn_replay.specs.declared.fault.BadKind.{BadKind}
 use Rattle.turn_replay.specs.declared.fault.BadKind.TheVariants as Bad
 use Rattle.turn_replay.specs.declared.head.Head.{Head}
+use Rattle.turn_replay.proofs.HeadLemmas.{IsMade, made_lines}
 use Rattle.turn_replay.proofs.NumberLemmas.{both}
-
--- ---- steps that went on
-
-of_map : {A B : Type 0} → (f : A → B) (o : Option A) (b : B) → option_map f o ≡ Some b → (a : A) × (o ≡ Some a) × (f a ≡ b)
-of_map f None b h = cc
-of_map f (Some a) b h = (a, refl, cc)
-
-of_and_then : {A B : Type 0} → (o : Option A) (f : A → Option B) (b : B) → option_and_then f o ≡ Some b → (a : A) × (f a ≡ Some b)
-of_and_then None f b h = cc
-of_and_then (Some a) f b h = (a, h)
-
-of_needed : {A B E : Type 0} → (o : Option A) (fault : E) (f : A → Result B E) (b : B) → needed o fault f ≡ Ok b → (a : A) × (o ≡ Some a) × (f a ≡ Ok b)
-of_needed None fault f b h = cc
-of_needed (Some a) fault f b h = (a, refl, h)
-
-of_then : {A E : Type 0} → (test : Bool) (fault : E) (a b : A) → cond test (Ok a) (Err fault) ≡ Ok b → (test ≡ true) × (a ≡ b)
-of_then true fault a b h = (refl, cc)
-of_then false fault a b h = cc
-
-of_else : {A E : Type 0} → (test : Bool) (fault : E) (r : Result A E) (a : A) → cond test (Err fault) r ≡ Ok a → r ≡ Ok a
-of_else true fault r a h = cc
-of_else false fault r a h = h
-
-of_guard : {A : Type 0} → (test : Bool) (a b : A) → cond test (Some a) None ≡ Some b → (test ≡ true) × (a ≡ b)
-of_guard true a b h = (refl, cc)
-of_guard false a b h = cc
-
-of_both : {A B E : Type 0} → (r : Result A E) (f : A → Result B E) (b : B) → r >>= f ≡ Ok b → (a : A) × (r ≡ Ok a) × (f a ≡ Ok b)
-of_both (Ok a) f b h = (a, refl, h)
-of_both (Err fault) f b h = cc
-
-some_is : {A : Type 0} → (a b : A) → Some a ≡ Some b → a ≡ b
-some_is a b h = cc
-
-ok_is : {A E : Type 0} → (a b : A) → ◌≡◌ {A = Result A E} (Ok a) (Ok b) → a ≡ b
-ok_is a b h = cc
+use Rattle.turn_replay.proofs.StepLemmas.{of_map, of_and_then, of_needed, of_then, of_else, of_guard, of_both, some_is, ok_is}
 
 -- ---- one call
 
@@ -146,37 +112,7 @@ callable_lines relays number (line ∷ lines) calls h =
     subst (AreCallable relays) (ok_is (one.0 ∷ rest.0) calls rest.2)
     (all_of_more relays one.0 rest.0 (callable_numbered relays number line one.0 one.1) (callable_lines relays (number + 1) lines rest.0 rest.1))
 
--- ---- the head, and a trace
-
-abbrev IsMade : Head → Type 0
-IsMade head = head.ends.transport ≡ Udp → head.request.allocation ≡ Udp
-
-relayed_is : (transport allocation : TransportType) (none : Unit {0}) → relayed_for transport allocation ≡ Some none → transport ≡ Udp → allocation ≡ Udp
-relayed_is Udp Udp none h over = refl
-relayed_is Udp Tcp none h over = cc
-relayed_is Tcp allocation none h over = cc
-
--- the head, whatever it says of credentials, seed and waits
-abbrev head_with : Ends → Request → Credentials × List (List ℕ) → Option Head
-head_with places request credentials = do
-  seed ← next seed_of credentials.1
-  waits ← last_of seed.1
-  Some (record { ends = places; request = request; credentials = credentials.0; seed = seed.0; waits = waits })
-
-made_with : (places : Ends) (request : Request) (credentials : Credentials × List (List ℕ)) (head : Head) → head_with places request credentials ≡ Some head → (places.transport ≡ Udp → request.allocation ≡ Udp) → IsMade head
-made_with places request credentials head h made =
-    let seed = of_and_then (next seed_of credentials.1) (λ seed. last_of seed.1 >>= λ waits. Some (record { ends = places; request = request; credentials = credentials.0; seed = seed.0; waits = waits })) head h in
-    let waits = of_and_then (last_of seed.0.1) (λ waits. Some (record { ends = places; request = request; credentials = credentials.0; seed = seed.0.0; waits = waits })) head seed.1 in
-    subst IsMade (some_is _ head waits.1) made
-
-made_line : (line : List ℕ) (head : Head) → head_of line ≡ Some head → IsMade head
-unfolding head_of
-made_line line head h =
-    let places = of_and_then (ends_of (parts_of 32 line)) (λ places. request_of places.1 >>= λ request. relayed_for places.0.transport request.0.allocation >>= λ _. credentials_of request.1 >>= head_with places.0 request.0) head h in
-    let request = of_and_then (request_of places.0.1) (λ request. relayed_for places.0.0.transport request.0.allocation >>= λ _. credentials_of request.1 >>= head_with places.0.0 request.0) head places.1 in
-    let relayed = of_and_then (relayed_for places.0.0.transport request.0.0.allocation) (λ _. credentials_of request.0.1 >>= head_with places.0.0 request.0.0) head request.1 in
-    let credentials = of_and_then (credentials_of request.0.1) (head_with places.0.0 request.0.0) head relayed.1 in
-    made_with places.0.0 request.0.0 credentials.0 head credentials.1 (relayed_is _ _ _ ?)
+-- ---- a trace
 
 -- the client is made, and the calls can be made on it
 abbrev IsReady : Head × List Call → Type 0
@@ -191,4 +127,10 @@ trace_is_ready text trace h =
     let first = of_both (head_line_of lines) (λ first. calls_of first.0.request.allocation 2 first.1 >>= λ rest. Ok (first.0, rest)) trace read in
     let rest = of_both (calls_of first.0.0.request.allocation 2 first.0.1) (λ rest. Ok (first.0.0, rest)) trace first.2 in
     subst IsReady (ok_is (first.0.0, rest.0) trace rest.2)
-    (made_head lines first.0 first.1, callable_lines first.0.0.request.allocation 2 first.0.1 rest.0 rest.1)
+    (made_lines lines first.0 first.1, callable_lines first.0.0.request.allocation 2 first.0.1 rest.0 rest.1)
+
+pub calls_are_callable : (text : List ℕ) (head : Head) (calls : List Call) → trace_of text ≡ Ok (head, calls) → AreCallable head.request.allocation calls
+calls_are_callable text head calls h = (trace_is_ready text (head, calls) h).1
+
+pub allocation_of_trace : (text : List ℕ) (head : Head) (calls : List Call) → trace_of text ≡ Ok (head, calls) → IsMade head
+allocation_of_trace text head calls h = (trace_is_ready text (head, calls) h).0
