@@ -5,7 +5,7 @@ use crate::server::{Rule, Server};
 use std::alloc::{AllocError, Global};
 use turn_client_api::{TurnClientApi, TurnEvent, TurnPollRet, TurnRecvRet};
 use turn_stun::data::Data;
-use turn_stun::transport::{Transmit, TransportType};
+use turn_stun::transport::Transmit;
 
 /// How many milliseconds a request is on its way with its answer.
 const DELAY: u32 = 20;
@@ -146,7 +146,7 @@ impl Caller {
             if *comes > self.now {
                 break;
             }
-            let packet = Transmit::new(bytes.as_slice(), TransportType::Udp, server(), local());
+            let packet = Transmit::new(bytes.as_slice(), client.transport(), server(), local());
             if let TurnRecvRet::Ignored(_) = client.recv(packet, at(self.now))? {
                 self.ignored = self.ignored.saturating_add(1);
             }

@@ -6,6 +6,7 @@ use std::alloc::Global;
 use std::net::{IpAddr, Ipv4Addr, Ipv6Addr, SocketAddr};
 use turn_auth::credentials::{CredentialsError, TurnCredentials};
 use turn_client_api::TurnConfig;
+use turn_client_proto::tcp::TurnClientTcp;
 use turn_client_proto::udp::TurnClientUdp;
 use turn_stun::instant::Instant;
 use turn_stun::transport::TransportType;
@@ -69,11 +70,20 @@ pub(crate) fn config_for(alloc: Global, families: Families) -> Result<TurnConfig
     Ok(config)
 }
 
-/// A new client of the seed of zeros, for these families.
+/// A new client over UDP of the seed of zeros, for these families.
 pub(crate) fn client_for(
     alloc: Global,
     families: Families,
 ) -> Result<TurnClientUdp, CredentialsError> {
     let config = config_for(alloc, families)?;
     Ok(TurnClientUdp::allocate(alloc, local(), server(), config, [0; 32])?)
+}
+
+/// The same over TCP.
+pub(crate) fn client_over_tcp(
+    alloc: Global,
+    families: Families,
+) -> Result<TurnClientTcp, CredentialsError> {
+    let config = config_for(alloc, families)?;
+    Ok(TurnClientTcp::allocate(alloc, local(), server(), config, [0; 32])?)
 }

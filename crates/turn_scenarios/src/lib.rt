@@ -1,4 +1,4 @@
-//! Whole lives of a client over UDP, against a server that is a table, on a clock of their own.
+//! Whole lives of a client over UDP or over TCP, against a server that is a table, on a clock of their own.
 //!
 //! The server signs by the key that the password gives, and checks what the client signs. A caller polls, sends what
 //! is due, hands in what comes, and sleeps until the moment that `poll` tells.
@@ -24,5 +24,7 @@ mod server;
 mod silence;
 #[cfg(test)]
 mod stale;
+#[cfg(test)]
+mod streams;
 #[cfg(test)]
 mod upkeep;

@@ -6,7 +6,7 @@
 ghost use Rattle.std.specs.Prelude.{◌≡◌, ◌≤◌, ◌*◌, ◌^◌};
 
 use crate::caller::Caller;
-use crate::fixture::{Families, Place, at, client_for, local, server};
+use crate::fixture::{Families, Place, at, client_for, client_over_tcp, local, server};
 use crate::server::Rule;
 use std::alloc::{AllocError, Global};
 use std::net::SocketAddr;
@@ -36,8 +36,10 @@ pub(crate) enum Ask<'a> {
     Relayed,
     /// Whether the peer has a permission.
     Permitted(Place),
-    /// A datagram of these bytes comes from the server.
+    /// A datagram of these bytes comes from the server, or a piece of its stream.
     Hear(&'a [u8]),
+    /// What the streams hold of peers.
+    HearMore,
     /// The same from another port of the server.
     Overhear(&'a [u8]),
     /// The last answer of the server comes again.
@@ -218,15 +220,32 @@ fn hears<C: TurnClientApi>(
     bytes: &[u8],
     want: &Want<'_>,
 ) -> Result<bool, AllocError> {
-    let packet = Transmit::new(bytes, TransportType::Udp, from, local());
+    let packet = Transmit::new(bytes, client.transport(), from, local());
     match client.recv(packet, at(now))? {
         TurnRecvRet::Handled => Ok(matches!(want, Want::Handled)),
         TurnRecvRet::Ignored(_) => Ok(matches!(want, Want::Ignored)),
-        TurnRecvRet::PeerData(given) => Ok(match want {
-            Want::Data(place, data) => given.peer == place.address() && given.data() == *data,
-            _ => false,
-        }),
+        TurnRecvRet::PeerData(given) => Ok(is_given(given.peer, given.data(), want)),
         TurnRecvRet::PeerIcmp { .. } => Ok(false),
+    }
+}
+
+/// Whether what the streams hold next of a peer is what is wanted.
+fn hears_more<C: TurnClientApi>(
+    client: &mut C,
+    now: u32,
+    want: &Want<'_>,
+) -> Result<bool, AllocError> {
+    match client.poll_recv(at(now))? {
+        Some(given) => Ok(is_given(given.peer, given.data(), want)),
+        None => Ok(matches!(want, Want::Nothing)),
+    }
+}
+
+/// Whether these bytes of this peer are wanted.
+fn is_given(peer: SocketAddr, bytes: &[u8], want: &Want<'_>) -> bool {
+    match want {
+        Want::Data(place, data) => peer == place.address() && bytes == *data,
+        _ => false,
     }
 }
 
@@ -290,6 +309,7 @@ fn holds<C: TurnClientApi>(
             Ok(is(found, want))
         }
         Ask::Hear(bytes) => hears(client, *now, server(), bytes, want),
+        Ask::HearMore => hears_more(client, *now, want),
         Ask::Overhear(bytes) => hears(client, *now, other_port(), bytes, want),
         Ask::HearAgain => hears(client, *now, server(), caller.last_answer(), want),
         Ask::Request => Ok(says(caller.server.last.as_slice(), want)),
@@ -338,7 +358,7 @@ fn follows_all<C: TurnClientApi>(
     Ok(())
 }
 
-/// Asserts that each row holds of a new client while the server answers by these rules.
+/// Asserts that each row holds of a new client over UDP while the server answers by these rules.
 pub(crate) fn follow(
     rt: &impl Abort,
     alloc: Global,
@@ -347,4 +367,15 @@ pub(crate) fn follow(
     parts: &[&[Row<'_>]],
 ) -> Result<(), Fail> {
     follows_all(rt, client_for(alloc, families)?, alloc, rules, parts)
+}
+
+/// The same of a new client over TCP.
+pub(crate) fn follow_over_tcp(
+    rt: &impl Abort,
+    alloc: Global,
+    families: Families,
+    rules: &[Rule<'_>],
+    parts: &[&[Row<'_>]],
+) -> Result<(), Fail> {
+    follows_all(rt, client_over_tcp(alloc, families)?, alloc, rules, parts)
 }
