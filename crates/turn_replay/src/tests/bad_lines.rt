@@ -9,7 +9,7 @@ use std::process::Abort;
 use std::test::Fail;
 
 // Each up to a `;`, and S is the seed: each field missing, doubled, empty, or not as it is to be.
-const BAD_HEADS: &str = ";udp;tcp L R tcp 4 sha1 auto 75 70 S;udp L R tcp 4 sha1 auto 75 70 S;\
+const BAD_HEADS: &str = ";udp;tcp L R TCP 4 sha1 auto 75 70 S;udp L R tcp 4 sha1 auto 75 70 S;\
 UDP L R udp 4 sha1 auto 75 70 S;L R udp 4 sha1 auto 75 70 S;udp udp L R udp 4 sha1 auto 75 70 S;\
 udp L udp 4 sha1 auto 75 70 S;udp 1.2.3.4 R udp 4 sha1 auto 75 70 S;\
 udp 1.2.3.4: R udp 4 sha1 auto 75 70 S;udp 1.2.3.4:65536 R udp 4 sha1 auto 75 70 S;\
