@@ -98,7 +98,7 @@ refused no-socket
     follow_connection(&rt, rt.alloc(), "", calls, want)
 }
 
-// 39.5 s are the sum of the waits of a request (RFC 8489, section 6.2.2).
+// 39.5 s after it was opened (our choice: as long as a request waits by default), also where requests wait longer.
 #[test]
 fn a_bind_without_an_answer_is_given_up(rt: HostRuntime) -> Result<(), Fail> {
     let calls = "200000000 poll
@@ -109,5 +109,37 @@ fn a_bind_without_an_answer_is_given_up(rt: HostRuntime) -> Result<(), Fail> {
 close 192.168.0.1:1001 10.0.0.2:2000
 connect-failed 10.0.0.3:9000
 ";
-    follow_connection(&rt, rt.alloc(), "", calls, want)
+    for times in ["", " 500000000,16000000000,7,20000000000"] {
+        follow_connection(&rt, rt.alloc(), times, calls, want)?;
+    }
+    Ok(())
+}
+
+// RFC 8489, section 6.2.2: over TCP a request is sent once, and waits as long as it would over UDP.
+#[test]
+fn a_request_over_tcp_is_sent_once(rt: HostRuntime) -> Result<(), Fail> {
+    let head = "tcp 192.168.0.1:1000 10.0.0.2:2000 udp 4 sha1 auto 75736572 70617373 ";
+    let calls = "
+0 transmit
+0 poll
+39499999999 transmit
+0 recv tcp 10.0.0.2:2000 192.168.0.1:1000 -
+0 recv tcp 10.0.0.2:2000 192.168.0.1:1000 -
+39500000000 poll
+";
+    let want =
+        "send tcp 192.168.0.1:1000 10.0.0.2:2000 000300142112a44276b8e0ada0f13d90405d6ae5000d0004000007080019000411000000001a0000
+wait 39500000000
+none
+handled
+ignored
+closed
+";
+    follow(
+        &rt,
+        rt.alloc(),
+        &[head, SEED, calls],
+        Status::Answered,
+        &[want],
+    )
 }
