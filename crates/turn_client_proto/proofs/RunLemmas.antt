@@ -1,5 +1,5 @@
 -- What holds of the calls of a run.
-use Rattle.std.proofs.Common.{ℕ, suc, List, [], ◌∷◌, inl, refl, arith}
+use Rattle.std.proofs.Common.{◌≡◌, ℕ, suc, List, [], ◌∷◌, inl, refl, arith}
 use Rattle.std.specs.Prelude.{All}
 use Rattle.std.specs.declared.net.socket_addr.SocketAddr.{SocketAddr}
 use Rattle.turn_stun.specs.declared.transport.TransportType.{TransportType}
@@ -18,8 +18,8 @@ use Rattle.turn_client_proto.specs.Run.{IsCallable, SleepsThroughNothing, TellsT
 use Rattle.turn_client_proto.proofs.CarrierLemmas.{leaves-SameCarriers}
 
 -- no call changes what the allocations relay over
-pub relays-stay : (call : Call) (s : State) → (state_after call s).config.allocation_transport ≡ s.config.allocation_transport
-relays-stay call s = (leaves-SameCarriers call s (state_after call s) (inl refl)).1
+pub relays_stay : (call : Call) (s : State) → (state_after call s).config.allocation_transport ≡ s.config.allocation_transport
+relays_stay call s = (leaves-SameCarriers call s (state_after call s) (inl refl)).1
 
 -- what a call tells of a client in order is timely
 tells-timely : (relays : TransportType) (s : State) (call : Call) → IsSteady s → IsHoused s → IsCallable relays call → TellsTimely s call
