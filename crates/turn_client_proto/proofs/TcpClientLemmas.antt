@@ -1,6 +1,6 @@
 -- What a client over TCP keeps, each call keeps.
 use Rattle.std.proofs.Common.{◌≡◌, ◌∙◌, ◌&&◌, ℕ, List, true, false, Option, None, Some, Result, Ok, Err, IsOk, OnErr, OnOk, ap, inl, inr, refl, subst, sym}
-use Rattle.std.proofs.lemmas.Bool.{false_from_ne_true}
+use Rattle.std.proofs.lemmas.Bool.{false_from_ne_true, false≢true}
 use Rattle.std.specs.declared.net.socket_addr.SocketAddr.{SocketAddr}
 use Rattle.turn_stun.specs.declared.transport.TransportType.{TransportType}
 use Rattle.turn_stun.specs.declared.transport.TransportType.TheVariants.{Tcp}
@@ -61,6 +61,6 @@ module _ (s t : State) (to : SocketAddr) (bytes : List ℕ) (now : ℕ) where
         leaves-IsTcpClient (Call.Recv (record { payload = bytes; transport = Tcp; from = s.remote; to = to }) now) s t
         (inl (e ∙ ap (λ (r : Outcome × State). r.1) (sym (own-piece Tcp s.remote to bytes s now h.carrier (of-server h.carrier))))) h
     piece-keeps (Err x) e ends free h =
-        let wants : piece_takes_none to bytes s ≡ false = false_from_ne_true (piece_takes_none to bytes s) free in
+        let wants : piece_takes_none to bytes s ≡ false = false_from_ne_true (piece_takes_none to bytes s) (λ takes. false≢true (free takes)) in
         leaves-IsTcpClient (Call.Recv (record { payload = bytes; transport = Tcp; from = s.remote; to = to }) now) s t
         (inr (own-takes-none Tcp s.remote to bytes s h.carrier (of-server h.carrier) ∙ wants, ends h.carrier)) h
