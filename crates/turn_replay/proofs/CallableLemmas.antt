@@ -19,6 +19,7 @@ use Rattle.turn_replay.specs.declared.call.name.CallName.{CallName}
 use Rattle.turn_replay.specs.declared.call.name.CallName.TheVariants as Name
 use Rattle.turn_replay.specs.declared.fault.BadKind.{BadKind}
 use Rattle.turn_replay.specs.declared.fault.BadKind.TheVariants as Bad
+use Rattle.turn_replay.specs.declared.fault.BadLine.{BadLine}
 use Rattle.turn_replay.specs.declared.head.Head.{Head}
 use Rattle.turn_replay.proofs.HeadLemmas.{IsMade, made_lines}
 use Rattle.turn_replay.proofs.NumberLemmas.{both}
@@ -118,6 +119,9 @@ callable_lines relays number (line ∷ lines) calls h =
 abbrev IsReady : Head × List Call → Type 0
 IsReady trace = IsMade trace.0 × AreCallable trace.0.request.allocation trace.1
 
+ready_with : (head : Head) (calls : List Call) (trace : Head × List Call) → ◌≡◌ {A = Result (Head × List Call) BadLine} (Ok (head, calls)) (Ok trace) → IsMade head → AreCallable head.request.allocation calls → IsReady trace
+ready_with head calls trace h made callable = subst IsReady (ok_is (head, calls) trace h) (made, callable)
+
 trace_is_ready : (text : List ℕ) (trace : Head × List Call) → trace_of text ≡ Ok trace → IsReady trace
 unfolding trace_of
 trace_is_ready text trace h =
@@ -126,8 +130,8 @@ trace_is_ready text trace h =
     (head_line_of lines >>= λ first. calls_of first.0.request.allocation 2 first.1 >>= λ rest. Ok (first.0, rest)) trace h in
     let first = of_both (head_line_of lines) (λ first. calls_of first.0.request.allocation 2 first.1 >>= λ rest. Ok (first.0, rest)) trace read in
     let rest = of_both (calls_of first.0.0.request.allocation 2 first.0.1) (λ rest. Ok (first.0.0, rest)) trace first.2 in
-    subst IsReady (ok_is (first.0.0, rest.0) trace rest.2)
-    (made_lines lines first.0 first.1, callable_lines first.0.0.request.allocation 2 first.0.1 rest.0 rest.1)
+    ready_with first.0.0 rest.0 trace rest.2 (made_lines lines first.0 first.1)
+    (callable_lines first.0.0.request.allocation 2 first.0.1 rest.0 rest.1)
 
 pub calls_are_callable : (text : List ℕ) (head : Head) (calls : List Call) → trace_of text ≡ Ok (head, calls) → AreCallable head.request.allocation calls
 calls_are_callable text head calls h = (trace_is_ready text (head, calls) h).1

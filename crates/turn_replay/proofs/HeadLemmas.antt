@@ -44,6 +44,11 @@ relayed_is Udp Udp f head h over = refl
 relayed_is Udp Tcp f head h over = cc
 relayed_is Tcp allocation f head h over = cc
 
+-- the head that came of these
+made_of : (places : Ends) (request : Request) (credentials : Credentials) (seed : List ℕ) (waits : Option Waits) (head : Head) → with_waits places request credentials seed waits ≡ Some head → (places.transport ≡ Udp → request.allocation ≡ Udp) → IsMade head
+made_of places request credentials seed waits head h made =
+    subst IsMade (some_is (record { ends = places; request = request; credentials = credentials; seed = seed; waits = waits }) head h) made
+
 made_with : (places : Ends) (request : Request × List (List ℕ)) (head : Head) → with_request places request ≡ Some head → IsMade head
 made_with places request head h =
     let go_on = λ (_ : Unit {0}). credentials_of request.1 >>= with_credentials places request.0 in
@@ -51,7 +56,7 @@ made_with places request head h =
     let credentials = of_and_then (credentials_of request.1) (with_credentials places request.0) head relayed.1 in
     let seed = of_and_then (next seed_of credentials.0.1) (with_seed places request.0 credentials.0.0) head credentials.1 in
     let waits = of_and_then (last_of seed.0.1) (with_waits places request.0 credentials.0.0 seed.0.0) head seed.1 in
-    subst IsMade (some_is _ head waits.1) (relayed_is places.transport request.0.allocation go_on head h)
+    made_of places request.0 credentials.0.0 seed.0.0 waits.0 head waits.1 (relayed_is places.transport request.0.allocation go_on head h)
 
 made_line : (line : List ℕ) (head : Head) → head_of line ≡ Some head → IsMade head
 unfolding head_of
@@ -60,8 +65,11 @@ made_line line head h =
     let request = of_and_then (request_of places.0.1) (with_request places.0.0) head places.1 in
     made_with places.0.0 request.0 head request.1
 
+made_first : (head : Head) (lines : List (List ℕ)) (first : Head × List (List ℕ)) → ◌≡◌ {A = Result (Head × List (List ℕ)) BadLine} (Ok (head, lines)) (Ok first) → IsMade head → IsMade first.0
+made_first head lines first h made = subst (λ (x : Head × List (List ℕ)). IsMade x.0) (ok_is (head, lines) first h) made
+
 pub made_lines : (lines : List (List ℕ)) (first : Head × List (List ℕ)) → head_line_of lines ≡ Ok first → IsMade first.0
 made_lines [] first h = cc
 made_lines (line ∷ lines) first h =
     let head = of_needed (head_of line) (bad_line 1 Bad.Head) (λ head. Ok (head, lines)) first h in
-    subst (λ (x : Head × List (List ℕ)). IsMade x.0) (ok_is (head.0, lines) first head.2) (made_line line head.0 head.1)
+    made_first head.0 lines first head.2 (made_line line head.0 head.1)
