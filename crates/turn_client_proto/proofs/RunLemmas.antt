@@ -3,7 +3,6 @@ use Rattle.std.proofs.Common.{◌≡◌, ℕ, suc, List, [], ◌∷◌, inl, ref
 use Rattle.std.specs.Prelude.{All}
 use Rattle.std.specs.declared.net.socket_addr.SocketAddr.{SocketAddr}
 use Rattle.turn_stun.specs.declared.transport.TransportType.{TransportType}
-use Rattle.turn_stun.specs.declared.transport.TransportType.TheVariants.{Udp}
 use Rattle.turn_client_api.specs.Config.{Config}
 use Rattle.turn_client_api.specs.State.{State, initial}
 use Rattle.turn_client_api.specs.Steps.{state_after}
@@ -13,7 +12,7 @@ use Rattle.turn_client_api.proofs.SendOrderLemmas.{initial-steady, leaves-steadi
 use Rattle.turn_client_api.proofs.InAllocation.{IsHoused-AllStandIn, initial-IsHoused, leaves-IsHoused}
 use Rattle.turn_client_api.proofs.TimelyLemmas.{poll-timely}
 use Rattle.turn_client_api.specs.declared.call.Call.{Call}
-use Rattle.turn_client_api.specs.declared.call.Call.TheVariants.{Delete, CreatePermission, BindChannel, TcpConnect, AllocatedTcpSocket, TcpClosed, SendTo, Recv, PollRecv, Poll, PollTransmit, PollEvent, ProtocolError, RelayedAddresses, Permissions, HavePermission}
+use Rattle.turn_client_api.specs.declared.call.Call.TheVariants.{Poll}
 use Rattle.turn_client_proto.specs.Run.{IsCallable, SleepsThroughNothing, TellsTimely}
 use Rattle.turn_client_proto.proofs.CarrierLemmas.{leaves-SameCarriers}
 
