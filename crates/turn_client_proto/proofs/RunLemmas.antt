@@ -1,9 +1,8 @@
 -- What holds of the calls of a run.
-use Rattle.std.proofs.Common.{ℕ, suc, List, [], ◌∷◌, inl, refl, arith}
+use Rattle.std.proofs.Common.{◌≡◌, ℕ, suc, List, [], ◌∷◌, inl, refl, arith}
 use Rattle.std.specs.Prelude.{All}
 use Rattle.std.specs.declared.net.socket_addr.SocketAddr.{SocketAddr}
 use Rattle.turn_stun.specs.declared.transport.TransportType.{TransportType}
-use Rattle.turn_stun.specs.declared.transport.TransportType.TheVariants.{Udp}
 use Rattle.turn_client_api.specs.Config.{Config}
 use Rattle.turn_client_api.specs.State.{State, initial}
 use Rattle.turn_client_api.specs.Steps.{state_after}
@@ -13,27 +12,13 @@ use Rattle.turn_client_api.proofs.SendOrderLemmas.{initial-steady, leaves-steadi
 use Rattle.turn_client_api.proofs.InAllocation.{IsHoused-AllStandIn, initial-IsHoused, leaves-IsHoused}
 use Rattle.turn_client_api.proofs.TimelyLemmas.{poll-timely}
 use Rattle.turn_client_api.specs.declared.call.Call.{Call}
-use Rattle.turn_client_api.specs.declared.call.Call.TheVariants.{Delete, CreatePermission, BindChannel, TcpConnect, AllocatedTcpSocket, TcpClosed, SendTo, Recv, PollRecv, Poll, PollTransmit, PollEvent, ProtocolError, RelayedAddresses, Permissions, HavePermission}
+use Rattle.turn_client_api.specs.declared.call.Call.TheVariants.{Poll}
 use Rattle.turn_client_proto.specs.Run.{IsCallable, SleepsThroughNothing, TellsTimely}
+use Rattle.turn_client_proto.proofs.CarrierLemmas.{leaves-SameCarriers}
 
--- what can be called where the server relays over UDP can be called always
-pub callable-over : (relays : TransportType) (call : Call) → IsCallable Udp call → IsCallable relays call
-callable-over relays (Delete now) c = c
-callable-over relays (CreatePermission transport peer now) c = c
-callable-over relays (BindChannel transport peer now) c = c
-callable-over relays (TcpConnect peer now) c = c
-callable-over relays (AllocatedTcpSocket id tuple peer local now) c = c
-callable-over relays (TcpClosed local remote now) c = c
-callable-over relays (SendTo transport peer bytes now) c = (c.0, λ over. c.1 refl)
-callable-over relays (Recv packet now) c = c
-callable-over relays (PollRecv now) c = c
-callable-over relays (Poll now) c = c
-callable-over relays (PollTransmit now) c = c
-callable-over relays PollEvent c = tt
-callable-over relays ProtocolError c = tt
-callable-over relays RelayedAddresses c = tt
-callable-over relays (Permissions transport relayed) c = tt
-callable-over relays (HavePermission transport to) c = tt
+-- no call changes what the allocations relay over
+pub relays_stay : (call : Call) (s : State) → (state_after call s).config.allocation_transport ≡ s.config.allocation_transport
+relays_stay call s = (leaves-SameCarriers call s (state_after call s) (inl refl)).1
 
 -- what a call tells of a client in order is timely
 tells-timely : (relays : TransportType) (s : State) (call : Call) → IsSteady s → IsHoused s → IsCallable relays call → TellsTimely s call

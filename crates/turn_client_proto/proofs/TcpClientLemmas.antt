@@ -1,5 +1,5 @@
 -- What a client over TCP keeps, each call keeps.
-use Rattle.std.proofs.Common.{◌≡◌, ◌∙◌, ◌&&◌, ℕ, List, true, false, Option, None, Some, Result, Ok, Err, IsOk, OnErr, OnOk, ap, inl, inr, refl, subst, sym}
+use Rattle.std.proofs.Common.{◌≡◌, ◌∙◌, ℕ, List, true, false, Option, None, Some, Result, Ok, Err, IsOk, OnErr, OnOk, ap, inl, inr, refl, subst, sym}
 use Rattle.std.proofs.lemmas.Bool.{false_from_ne_true, false≢true}
 use Rattle.std.specs.declared.net.socket_addr.SocketAddr.{SocketAddr}
 use Rattle.turn_stun.specs.declared.transport.TransportType.{TransportType}

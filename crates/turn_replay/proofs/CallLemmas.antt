@@ -18,7 +18,8 @@ use Rattle.turn_client_api.specs.declared.call.Call.TheVariants as Calls
 use Rattle.turn_client_api.specs.declared.poll.Socket5Tuple.{Socket5Tuple}
 use Rattle.turn_replay.specs.Address.{address_of}
 use Rattle.turn_replay.specs.Arguments.{address_if_any, data_ends_of, one_address_of, packet_of, sending_of, transport_and_address_of, transport_and_ip_of, tuple_of, two_addresses_of, way_of}
-use Rattle.turn_replay.specs.Call.{call_of, call_with, if_short, moment_of, name_of}
+use Rattle.turn_client_proto.specs.Run.{IsShort}
+use Rattle.turn_replay.specs.Call.{call_of, call_with, if_short, is_short, moment_of, name_of}
 use Rattle.turn_replay.specs.Fault.{needed}
 use Rattle.turn_replay.specs.Field.{bytes_of, is_lower_hex, transport_of}
 use Rattle.turn_replay.specs.Line.{call_line, HasLine, IsIp, IsSpelled, IsSpelledIfAny, IsTuple, text_if_any, tuple_fields}
@@ -91,20 +92,20 @@ text_if_any_free (Some address) h = address_free address h
 -- ---- the line
 
 -- the name and the arguments of a call at this moment
-abbrev with_name : ℕ → List (List ℕ) → Result Call BadKind
-with_name now rest =
-    needed (next name_of rest) Bad.Call (λ name. needed (call_with now name.0 name.1) Bad.Argument if_short)
+abbrev with_name : TransportType → ℕ → List (List ℕ) → Result Call BadKind
+with_name relays now rest =
+    needed (next name_of rest) Bad.Call (λ name. needed (call_with now name.0 name.1) Bad.Argument (if_short relays))
 
-call_of-parts : (now : ℕ) (rest : List (List ℕ)) (line : List ℕ) → parts_of 32 line ≡ decimal now ∷ rest → now ≤ 2 ^ 62 → call_of line ≡ with_name now rest
+call_of-parts : (relays : TransportType) (now : ℕ) (rest : List (List ℕ)) (line : List ℕ) → parts_of 32 line ≡ decimal now ∷ rest → now ≤ 2 ^ 62 → call_of relays line ≡ with_name relays now rest
 unfolding call_of
-call_of-parts now rest line e h =
-    ap (λ parts. needed {A = ℕ × List (List ℕ)} (next moment_of parts) Bad.Moment (λ at. with_name at.0 at.1)) e
-    ∙ ap (λ o. needed {A = ℕ × List (List ℕ)} (option_map (λ value. (value, rest)) o) Bad.Moment (λ at. with_name at.0 at.1)) (decimal_up_to-decimal (2 ^ 62) now h (omega arith))
+call_of-parts relays now rest line e h =
+    ap (λ parts. needed {A = ℕ × List (List ℕ)} (next moment_of parts) Bad.Moment (λ at. with_name relays at.0 at.1)) e
+    ∙ ap (λ o. needed {A = ℕ × List (List ℕ)} (option_map (λ value. (value, rest)) o) Bad.Moment (λ at. with_name relays at.0 at.1)) (decimal_up_to-decimal (2 ^ 62) now h (omega arith))
 
 -- the fields of a line, of which the first is a moment
-call_of-fields : (now : ℕ) (rest : List (List ℕ)) → now ≤ 2 ^ 62 → AllFree 32 rest → call_of (fields_text (decimal now ∷ rest)) ≡ with_name now rest
-call_of-fields now rest low free =
-    call_of-parts now rest (fields_text (decimal now ∷ rest))
+call_of-fields : (relays : TransportType) (now : ℕ) (rest : List (List ℕ)) → now ≤ 2 ^ 62 → AllFree 32 rest → call_of relays (fields_text (decimal now ∷ rest)) ≡ with_name relays now rest
+call_of-fields relays now rest low free =
+    call_of-parts relays now rest (fields_text (decimal now ∷ rest))
     (parts_of-join 32 (decimal now) rest (decimal_free 32 now refl (omega arith), free)) low
 
 -- the arguments of each kind
@@ -144,51 +145,56 @@ unfolding data_ends_of
 data_ends_of-fields peer local h k = rw (address_of-address_text peer h, address_if_any-text local k) refl
 
 -- the arguments are read as those of the call
-abbrev as_read : Option Call → Result Call BadKind
-as_read o = needed o Bad.Argument if_short
+abbrev as_read : TransportType → Option Call → Result Call BadKind
+as_read relays o = needed o Bad.Argument (if_short relays)
+
+-- bytes that an allocation over this transport takes
+short_is : (relays : TransportType) (payload : List ℕ) → IsShort relays payload → is_short relays payload ≡ true
+short_is Udp payload h = le-leb (length payload) 65504 (h refl)
+short_is Tcp payload h = refl
 
 -- the line of a call is read again as that call
-pub call_is_read_again : (idle : ℕ) (call : Call) → idle ≤ 2 ^ 62 → HasLine call → call_of (call_line idle call) ≡ Ok call
-call_is_read_again idle (Calls.Poll now) low h = call_of-fields now (codes "poll" ∷ []) h (word_free (codes "poll") refl, tt)
-call_is_read_again idle (Calls.PollTransmit now) low h =
-    call_of-fields now (codes "transmit" ∷ []) h (word_free (codes "transmit") refl, tt)
-call_is_read_again idle Calls.PollEvent low h = call_of-fields idle (codes "event" ∷ []) low (word_free (codes "event") refl, tt)
-call_is_read_again idle (Calls.Recv packet now) low h =
-    call_of-fields now (codes "recv" ∷ transport_text packet.transport ∷ address_text packet.from ∷ address_text packet.to ∷ bytes_text packet.payload ∷ []) h.0
+pub call_is_read_again : (relays : TransportType) (idle : ℕ) (call : Call) → idle ≤ 2 ^ 62 → HasLine relays call → call_of relays (call_line idle call) ≡ Ok call
+call_is_read_again relays idle (Calls.Poll now) low h = call_of-fields relays now (codes "poll" ∷ []) h (word_free (codes "poll") refl, tt)
+call_is_read_again relays idle (Calls.PollTransmit now) low h =
+    call_of-fields relays now (codes "transmit" ∷ []) h (word_free (codes "transmit") refl, tt)
+call_is_read_again relays idle Calls.PollEvent low h = call_of-fields relays idle (codes "event" ∷ []) low (word_free (codes "event") refl, tt)
+call_is_read_again relays idle (Calls.Recv packet now) low h =
+    call_of-fields relays now (codes "recv" ∷ transport_text packet.transport ∷ address_text packet.from ∷ address_text packet.to ∷ bytes_text packet.payload ∷ []) h.0
     (word_free (codes "recv") refl, (transport_free packet.transport, (address_free packet.from h.1, (address_free packet.to h.2, (bytes_free packet.payload h.3, tt)))))
-    ∙ ap (λ o. as_read (option_map (λ p. Calls.Recv p now) o)) (packet_of-fields packet h.1 h.2 h.3)
-call_is_read_again idle (Calls.PollRecv now) low h =
-    call_of-fields now (codes "poll_recv" ∷ []) h (word_free (codes "poll_recv") refl, tt)
-call_is_read_again idle (Calls.SendTo t to payload now) low h =
-    let short : nat_le (length payload) 65504 ≡ true = le-leb (length payload) 65504 h.2.1 in
-    call_of-fields now (codes "send" ∷ transport_text t ∷ address_text to ∷ bytes_text payload ∷ []) h.0
+    ∙ ap (λ o. as_read relays (option_map (λ p. Calls.Recv p now) o)) (packet_of-fields packet h.1 h.2 h.3)
+call_is_read_again relays idle (Calls.PollRecv now) low h =
+    call_of-fields relays now (codes "poll_recv" ∷ []) h (word_free (codes "poll_recv") refl, tt)
+call_is_read_again relays idle (Calls.SendTo t to payload now) low h =
+    let short : is_short relays payload ≡ true = short_is relays payload h.2.1 in
+    call_of-fields relays now (codes "send" ∷ transport_text t ∷ address_text to ∷ bytes_text payload ∷ []) h.0
     (word_free (codes "send") refl, (transport_free t, (address_free to h.1, (bytes_free payload h.2.0, tt))))
-    ∙ ap (λ o. as_read (option_map (λ s. Calls.SendTo s.0 s.1 s.2 now) o)) (sending_of-fields t to payload h.1 h.2.0)
+    ∙ ap (λ o. as_read relays (option_map (λ s. Calls.SendTo s.0 s.1 s.2 now) o)) (sending_of-fields t to payload h.1 h.2.0)
     ∙ ap (λ b. cond b (Ok (Calls.SendTo t to payload now)) (Err Bad.Payload)) short
-call_is_read_again idle (Calls.CreatePermission t peer now) low h =
-    call_of-fields now (codes "permit" ∷ transport_text t ∷ ip_text peer ∷ []) h.0 (word_free (codes "permit") refl, (transport_free t, (ip_free peer h.1, tt)))
-    ∙ ap (λ o. as_read (option_map (λ p. Calls.CreatePermission p.0 p.1 now) o)) (transport_and_ip_of-fields t peer h.1)
-call_is_read_again idle (Calls.BindChannel t peer now) low h =
-    call_of-fields now (codes "bind" ∷ transport_text t ∷ address_text peer ∷ []) h.0 (word_free (codes "bind") refl, (transport_free t, (address_free peer h.1, tt)))
-    ∙ ap (λ o. as_read (option_map (λ p. Calls.BindChannel p.0 p.1 now) o)) (transport_and_address_of-fields t peer h.1)
-call_is_read_again idle (Calls.TcpConnect peer now) low h =
-    call_of-fields now (codes "connect" ∷ address_text peer ∷ []) h.0 (word_free (codes "connect") refl, (address_free peer h.1, tt))
-    ∙ ap (λ o. as_read (option_map (λ p. Calls.TcpConnect p now) o)) (one_address_of-fields peer h.1)
-call_is_read_again idle (Calls.AllocatedTcpSocket id tuple peer local now) low h =
+call_is_read_again relays idle (Calls.CreatePermission t peer now) low h =
+    call_of-fields relays now (codes "permit" ∷ transport_text t ∷ ip_text peer ∷ []) h.0 (word_free (codes "permit") refl, (transport_free t, (ip_free peer h.1, tt)))
+    ∙ ap (λ o. as_read relays (option_map (λ p. Calls.CreatePermission p.0 p.1 now) o)) (transport_and_ip_of-fields t peer h.1)
+call_is_read_again relays idle (Calls.BindChannel t peer now) low h =
+    call_of-fields relays now (codes "bind" ∷ transport_text t ∷ address_text peer ∷ []) h.0 (word_free (codes "bind") refl, (transport_free t, (address_free peer h.1, tt)))
+    ∙ ap (λ o. as_read relays (option_map (λ p. Calls.BindChannel p.0 p.1 now) o)) (transport_and_address_of-fields t peer h.1)
+call_is_read_again relays idle (Calls.TcpConnect peer now) low h =
+    call_of-fields relays now (codes "connect" ∷ address_text peer ∷ []) h.0 (word_free (codes "connect") refl, (address_free peer h.1, tt))
+    ∙ ap (λ o. as_read relays (option_map (λ p. Calls.TcpConnect p now) o)) (one_address_of-fields peer h.1)
+call_is_read_again relays idle (Calls.AllocatedTcpSocket id tuple peer local now) low h =
     let places = address_text peer ∷ text_if_any local ∷ [] in
-    call_of-fields now (codes "socket" ∷ decimal id ∷ tuple_fields tuple places) h.0
+    call_of-fields relays now (codes "socket" ∷ decimal id ∷ tuple_fields tuple places) h.0
     (word_free (codes "socket") refl, (decimal_free 32 id refl (omega (arith, h.1)), (transport_free tuple.transport, (address_free tuple.from h.2.0, (address_free tuple.to h.2.1, (address_free peer h.3, (text_if_any_free local h.4, tt)))))))
-    ∙ ap (λ (o : Option ((ℕ × Socket5Tuple) × List (List ℕ))). as_read (o >>= λ t. data_ends_of t.1 >>= λ e. Some (Calls.AllocatedTcpSocket t.0.0 t.0.1 e.0 e.1 now))) (tuple_of-fields id tuple places h.1 h.2)
-    ∙ ap (λ (o : Option (SocketAddr × Option SocketAddr)). as_read (o >>= λ e. Some (Calls.AllocatedTcpSocket id tuple e.0 e.1 now))) (data_ends_of-fields peer local h.3 h.4)
-call_is_read_again idle (Calls.Delete now) low h = call_of-fields now (codes "delete" ∷ []) h (word_free (codes "delete") refl, tt)
-call_is_read_again idle (Calls.TcpClosed local remote now) low h =
-    call_of-fields now (codes "closed" ∷ address_text local ∷ address_text remote ∷ []) h.0 (word_free (codes "closed") refl, (address_free local h.1, (address_free remote h.2, tt)))
-    ∙ ap (λ o. as_read (option_map (λ e. Calls.TcpClosed e.0 e.1 now) o)) (two_addresses_of-fields local remote h.1 h.2)
-call_is_read_again idle Calls.ProtocolError low h = call_of-fields idle (codes "error" ∷ []) low (word_free (codes "error") refl, tt)
-call_is_read_again idle Calls.RelayedAddresses low h = call_of-fields idle (codes "relayed" ∷ []) low (word_free (codes "relayed") refl, tt)
-call_is_read_again idle (Calls.Permissions t relayed) low h =
-    call_of-fields idle (codes "permissions" ∷ transport_text t ∷ address_text relayed ∷ []) low (word_free (codes "permissions") refl, (transport_free t, (address_free relayed h, tt)))
-    ∙ ap (λ o. as_read (option_map (λ a. Calls.Permissions a.0 a.1) o)) (transport_and_address_of-fields t relayed h)
-call_is_read_again idle (Calls.HavePermission t to) low h =
-    call_of-fields idle (codes "have" ∷ transport_text t ∷ ip_text to ∷ []) low (word_free (codes "have") refl, (transport_free t, (ip_free to h, tt)))
-    ∙ ap (λ o. as_read (option_map (λ p. Calls.HavePermission p.0 p.1) o)) (transport_and_ip_of-fields t to h)
+    ∙ ap (λ (o : Option ((ℕ × Socket5Tuple) × List (List ℕ))). as_read relays (o >>= λ t. data_ends_of t.1 >>= λ e. Some (Calls.AllocatedTcpSocket t.0.0 t.0.1 e.0 e.1 now))) (tuple_of-fields id tuple places h.1 h.2)
+    ∙ ap (λ (o : Option (SocketAddr × Option SocketAddr)). as_read relays (o >>= λ e. Some (Calls.AllocatedTcpSocket id tuple e.0 e.1 now))) (data_ends_of-fields peer local h.3 h.4)
+call_is_read_again relays idle (Calls.Delete now) low h = call_of-fields relays now (codes "delete" ∷ []) h (word_free (codes "delete") refl, tt)
+call_is_read_again relays idle (Calls.TcpClosed local remote now) low h =
+    call_of-fields relays now (codes "closed" ∷ address_text local ∷ address_text remote ∷ []) h.0 (word_free (codes "closed") refl, (address_free local h.1, (address_free remote h.2, tt)))
+    ∙ ap (λ o. as_read relays (option_map (λ e. Calls.TcpClosed e.0 e.1 now) o)) (two_addresses_of-fields local remote h.1 h.2)
+call_is_read_again relays idle Calls.ProtocolError low h = call_of-fields relays idle (codes "error" ∷ []) low (word_free (codes "error") refl, tt)
+call_is_read_again relays idle Calls.RelayedAddresses low h = call_of-fields relays idle (codes "relayed" ∷ []) low (word_free (codes "relayed") refl, tt)
+call_is_read_again relays idle (Calls.Permissions t relayed) low h =
+    call_of-fields relays idle (codes "permissions" ∷ transport_text t ∷ address_text relayed ∷ []) low (word_free (codes "permissions") refl, (transport_free t, (address_free relayed h, tt)))
+    ∙ ap (λ o. as_read relays (option_map (λ a. Calls.Permissions a.0 a.1) o)) (transport_and_address_of-fields t relayed h)
+call_is_read_again relays idle (Calls.HavePermission t to) low h =
+    call_of-fields relays idle (codes "have" ∷ transport_text t ∷ ip_text to ∷ []) low (word_free (codes "have") refl, (transport_free t, (ip_free to h, tt)))
+    ∙ ap (λ o. as_read relays (option_map (λ p. Calls.HavePermission p.0 p.1) o)) (transport_and_ip_of-fields t to h)

@@ -1,15 +1,16 @@
--- Each call of a trace can be made on a client whose allocations relay over UDP.
+-- Each call of a trace can be made on the client of its head, and that client can be made.
 use Rattle.std.proofs.Common.{◌≡◌, ℕ, zero, suc, ◌+◌, ◌^◌, ◌≤◌, cond, Bool, true, false, List, [], ◌∷◌, length, Option, Some, None, Result, Ok, Err, refl, subst, ap, arith}
 use Rattle.std.specs.Prelude.{All, ◌&&◌, nat_le, nat_lt}
 use Rattle.std.specs.Option.{option_map, option_and_then}
 use Rattle.std.specs.Str.Parse.{digits_value}
 use Rattle.std.proofs.lemmas.Bool.{leb-true}
-use Rattle.turn_stun.specs.declared.transport.TransportType.TheVariants.{Udp}
+use Rattle.turn_stun.specs.declared.transport.TransportType.{TransportType}
+use Rattle.turn_stun.specs.declared.transport.TransportType.TheVariants.{Udp, Tcp}
 use Rattle.turn_client_api.specs.declared.call.Call.{Call}
 use Rattle.turn_client_api.specs.declared.call.Call.TheVariants as Calls
-use Rattle.turn_client_proto.specs.Run.{IsCallable}
+use Rattle.turn_client_proto.specs.Run.{IsCallable, IsShort}
 use Rattle.turn_replay.specs.Arguments.{data_ends_of, one_address_of, packet_of, sending_of, transport_and_address_of, transport_and_ip_of, tuple_of, two_addresses_of}
-use Rattle.turn_replay.specs.Call.{call_of, call_with, has_short_payload, if_short, moment_of, name_of}
+use Rattle.turn_replay.specs.Call.{call_of, call_with, has_short_payload, if_short, is_short, moment_of, name_of}
 use Rattle.turn_replay.specs.Fault.{needed, ◌>>=◌}
 use Rattle.turn_replay.specs.Number.{decimal_up_to, is_decimal}
 use Rattle.turn_replay.specs.Parts.{ends, next, parts_of}
@@ -18,44 +19,11 @@ use Rattle.turn_replay.specs.declared.call.name.CallName.{CallName}
 use Rattle.turn_replay.specs.declared.call.name.CallName.TheVariants as Name
 use Rattle.turn_replay.specs.declared.fault.BadKind.{BadKind}
 use Rattle.turn_replay.specs.declared.fault.BadKind.TheVariants as Bad
+use Rattle.turn_replay.specs.declared.fault.BadLine.{BadLine}
 use Rattle.turn_replay.specs.declared.head.Head.{Head}
+use Rattle.turn_replay.proofs.HeadLemmas.{IsMade, made_lines}
 use Rattle.turn_replay.proofs.NumberLemmas.{both}
-
--- ---- steps that went on
-
-of_map : {A B : Type 0} → (f : A → B) (o : Option A) (b : B) → option_map f o ≡ Some b → (a : A) × (o ≡ Some a) × (f a ≡ b)
-of_map f None b h = cc
-of_map f (Some a) b h = (a, refl, cc)
-
-of_and_then : {A B : Type 0} → (o : Option A) (f : A → Option B) (b : B) → option_and_then f o ≡ Some b → (a : A) × (f a ≡ Some b)
-of_and_then None f b h = cc
-of_and_then (Some a) f b h = (a, h)
-
-of_needed : {A B E : Type 0} → (o : Option A) (fault : E) (f : A → Result B E) (b : B) → needed o fault f ≡ Ok b → (a : A) × (o ≡ Some a) × (f a ≡ Ok b)
-of_needed None fault f b h = cc
-of_needed (Some a) fault f b h = (a, refl, h)
-
-of_then : {A E : Type 0} → (test : Bool) (fault : E) (a b : A) → cond test (Ok a) (Err fault) ≡ Ok b → (test ≡ true) × (a ≡ b)
-of_then true fault a b h = (refl, cc)
-of_then false fault a b h = cc
-
-of_else : {A E : Type 0} → (test : Bool) (fault : E) (r : Result A E) (a : A) → cond test (Err fault) r ≡ Ok a → r ≡ Ok a
-of_else true fault r a h = cc
-of_else false fault r a h = h
-
-of_guard : {A : Type 0} → (test : Bool) (a b : A) → cond test (Some a) None ≡ Some b → (test ≡ true) × (a ≡ b)
-of_guard true a b h = (refl, cc)
-of_guard false a b h = cc
-
-of_both : {A B E : Type 0} → (r : Result A E) (f : A → Result B E) (b : B) → r >>= f ≡ Ok b → (a : A) × (r ≡ Ok a) × (f a ≡ Ok b)
-of_both (Ok a) f b h = (a, refl, h)
-of_both (Err fault) f b h = cc
-
-some_is : {A : Type 0} → (a b : A) → Some a ≡ Some b → a ≡ b
-some_is a b h = cc
-
-ok_is : {A E : Type 0} → (a b : A) → ◌≡◌ {A = Result A E} (Ok a) (Ok b) → a ≡ b
-ok_is a b h = cc
+use Rattle.turn_replay.proofs.StepLemmas.{of_map, of_and_then, of_needed, of_then, of_else, of_guard, of_both, some_is, ok_is}
 
 -- ---- one call
 
@@ -72,83 +40,101 @@ low_moment (field ∷ fields) now h =
     subst (λ (at : ℕ × List (List ℕ)). at.0 ≤ 2 ^ 62) m.2 (low_decimal (2 ^ 62) field m.0 m.1)
 
 -- it can be made, unless it sends too much
-abbrev IsCallableIfShort : Call → Type 0
-IsCallableIfShort call = has_short_payload call ≡ true → IsCallable Udp call
+abbrev IsCallableIfShort : TransportType → Call → Type 0
+IsCallableIfShort relays call = has_short_payload relays call ≡ true → IsCallable relays call
 
-mapped : {A : Type 0} → (f : A → Call) (o : Option A) (call : Call) → ((a : A) → IsCallableIfShort (f a)) → option_map f o ≡ Some call → IsCallableIfShort call
-mapped f o call good h = let m = of_map f o call h in subst IsCallableIfShort m.2 (good m.0)
+short_of : (relays : TransportType) (payload : List ℕ) → is_short relays payload ≡ true → IsShort relays payload
+short_of Udp payload h = λ over. leb-true (length payload) 65504 h
+short_of Tcp payload h = λ over. cc
 
-callable_with : (now : ℕ) (name : CallName) (fields : List (List ℕ)) (call : Call) → now ≤ 2 ^ 62 → call_with now name fields ≡ Some call → IsCallableIfShort call
-callable_with now Name.Poll fields call low h = mapped (λ _. Calls.Poll now) (ends fields) call (λ _ short. low) h
-callable_with now Name.Transmit fields call low h = mapped (λ _. Calls.PollTransmit now) (ends fields) call (λ _ short. low) h
-callable_with now Name.Event fields call low h = mapped (λ _. Calls.PollEvent) (ends fields) call (λ _ short. tt) h
-callable_with now Name.Recv fields call low h = mapped (λ p. Calls.Recv p now) (packet_of fields) call (λ _ short. low) h
-callable_with now Name.PollRecv fields call low h = mapped (λ _. Calls.PollRecv now) (ends fields) call (λ _ short. low) h
-callable_with now Name.Send fields call low h =
-    mapped (λ s. Calls.SendTo s.0 s.1 s.2 now) (sending_of fields) call (λ s short. (low, λ _. leb-true (length s.2) 65504 short)) h
-callable_with now Name.Permit fields call low h =
-    mapped (λ p. Calls.CreatePermission p.0 p.1 now) (transport_and_ip_of fields) call (λ _ short. low) h
-callable_with now Name.Bind fields call low h =
-    mapped (λ p. Calls.BindChannel p.0 p.1 now) (transport_and_address_of fields) call (λ _ short. low) h
-callable_with now Name.Connect fields call low h = mapped (λ p. Calls.TcpConnect p now) (one_address_of fields) call (λ _ short. low) h
-callable_with now Name.Socket fields call low h =
+mapped : {A : Type 0} → (relays : TransportType) (f : A → Call) (o : Option A) (call : Call) → ((a : A) → IsCallableIfShort relays (f a)) → option_map f o ≡ Some call → IsCallableIfShort relays call
+mapped relays f o call good h = let m = of_map f o call h in subst (IsCallableIfShort relays) m.2 (good m.0)
+
+callable_with : (relays : TransportType) (now : ℕ) (name : CallName) (fields : List (List ℕ)) (call : Call) → now ≤ 2 ^ 62 → call_with now name fields ≡ Some call → IsCallableIfShort relays call
+callable_with relays now Name.Poll fields call low h = mapped relays (λ _. Calls.Poll now) (ends fields) call (λ _ short. low) h
+callable_with relays now Name.Transmit fields call low h = mapped relays (λ _. Calls.PollTransmit now) (ends fields) call (λ _ short. low) h
+callable_with relays now Name.Event fields call low h = mapped relays (λ _. Calls.PollEvent) (ends fields) call (λ _ short. tt) h
+callable_with relays now Name.Recv fields call low h = mapped relays (λ p. Calls.Recv p now) (packet_of fields) call (λ _ short. low) h
+callable_with relays now Name.PollRecv fields call low h = mapped relays (λ _. Calls.PollRecv now) (ends fields) call (λ _ short. low) h
+callable_with relays now Name.Send fields call low h =
+    mapped relays (λ s. Calls.SendTo s.0 s.1 s.2 now) (sending_of fields) call (λ s short. (low, short_of relays s.2 short)) h
+callable_with relays now Name.Permit fields call low h =
+    mapped relays (λ p. Calls.CreatePermission p.0 p.1 now) (transport_and_ip_of fields) call (λ _ short. low) h
+callable_with relays now Name.Bind fields call low h =
+    mapped relays (λ p. Calls.BindChannel p.0 p.1 now) (transport_and_address_of fields) call (λ _ short. low) h
+callable_with relays now Name.Connect fields call low h = mapped relays (λ p. Calls.TcpConnect p now) (one_address_of fields) call (λ _ short. low) h
+callable_with relays now Name.Socket fields call low h =
     let t = of_and_then (tuple_of fields) (λ t. option_and_then (λ e. Some (Calls.AllocatedTcpSocket t.0.0 t.0.1 e.0 e.1 now)) (data_ends_of t.1)) call h in
     let e = of_and_then (data_ends_of t.0.1) (λ e. Some (Calls.AllocatedTcpSocket t.0.0.0 t.0.0.1 e.0 e.1 now)) call t.1 in
-    subst IsCallableIfShort (some_is _ call e.1) (λ short. low)
-callable_with now Name.Delete fields call low h = mapped (λ _. Calls.Delete now) (ends fields) call (λ _ short. low) h
-callable_with now Name.Closed fields call low h = mapped (λ e. Calls.TcpClosed e.0 e.1 now) (two_addresses_of fields) call (λ _ short. low) h
-callable_with now Name.Error fields call low h = mapped (λ _. Calls.ProtocolError) (ends fields) call (λ _ short. tt) h
-callable_with now Name.Relayed fields call low h = mapped (λ _. Calls.RelayedAddresses) (ends fields) call (λ _ short. tt) h
-callable_with now Name.Permissions fields call low h =
-    mapped (λ a. Calls.Permissions a.0 a.1) (transport_and_address_of fields) call (λ _ short. tt) h
-callable_with now Name.Have fields call low h = mapped (λ p. Calls.HavePermission p.0 p.1) (transport_and_ip_of fields) call (λ _ short. tt) h
+    subst (IsCallableIfShort relays) (some_is _ call e.1) (λ short. low)
+callable_with relays now Name.Delete fields call low h = mapped relays (λ _. Calls.Delete now) (ends fields) call (λ _ short. low) h
+callable_with relays now Name.Closed fields call low h = mapped relays (λ e. Calls.TcpClosed e.0 e.1 now) (two_addresses_of fields) call (λ _ short. low) h
+callable_with relays now Name.Error fields call low h = mapped relays (λ _. Calls.ProtocolError) (ends fields) call (λ _ short. tt) h
+callable_with relays now Name.Relayed fields call low h = mapped relays (λ _. Calls.RelayedAddresses) (ends fields) call (λ _ short. tt) h
+callable_with relays now Name.Permissions fields call low h =
+    mapped relays (λ a. Calls.Permissions a.0 a.1) (transport_and_address_of fields) call (λ _ short. tt) h
+callable_with relays now Name.Have fields call low h = mapped relays (λ p. Calls.HavePermission p.0 p.1) (transport_and_ip_of fields) call (λ _ short. tt) h
 
 -- ---- a line, and a trace
 
-callable_line : (line : List ℕ) (call : Call) → call_of line ≡ Ok call → IsCallable Udp call
+callable_line : (relays : TransportType) (line : List ℕ) (call : Call) → call_of relays line ≡ Ok call → IsCallable relays call
 unfolding call_of
-callable_line line call h =
+callable_line relays line call h =
     let at = of_needed (next moment_of (parts_of 32 line)) Bad.Moment
-    (λ now. needed (next name_of now.1) Bad.Call (λ name. needed (call_with now.0 name.0 name.1) Bad.Argument if_short)) call h in
-    let name = of_needed (next name_of at.0.1) Bad.Call (λ name. needed (call_with at.0.0 name.0 name.1) Bad.Argument if_short) call at.2 in
-    let made = of_needed (call_with at.0.0 name.0.0 name.0.1) Bad.Argument if_short call name.2 in
-    let kept = of_then (has_short_payload made.0) Bad.Payload made.0 call made.2 in
+    (λ now. needed (next name_of now.1) Bad.Call (λ name. needed (call_with now.0 name.0 name.1) Bad.Argument (if_short relays))) call h in
+    let name = of_needed (next name_of at.0.1) Bad.Call (λ name. needed (call_with at.0.0 name.0 name.1) Bad.Argument (if_short relays)) call at.2 in
+    let made = of_needed (call_with at.0.0 name.0.0 name.0.1) Bad.Argument (if_short relays) call name.2 in
+    let kept = of_then (has_short_payload relays made.0) Bad.Payload made.0 call made.2 in
     let low : at.0.0 ≤ 2 ^ 62 = low_moment (parts_of 32 line) at.0 at.1 in
-    subst (IsCallable Udp) kept.1 (callable_with at.0.0 name.0.0 name.0.1 made.0 low made.1 kept.0)
+    subst (IsCallable relays) kept.1 (callable_with relays at.0.0 name.0.0 name.0.1 made.0 low made.1 kept.0)
 
 of_line : (number : ℕ) (r : Result Call BadKind) (call : Call) → at_line number r ≡ Ok call → r ≡ Ok call
 of_line number (Ok x) call h = ap Ok (ok_is x call h)
 of_line number (Err kind) call h = cc
 
-callable_numbered : (number : ℕ) (line : List ℕ) (call : Call) → numbered_call_of number line ≡ Ok call → IsCallable Udp call
-callable_numbered number line call h =
-    let read = of_else (nat_lt 10001 number) (bad_line number Bad.Size) (at_line number (call_of line)) call h in
-    callable_line line call (of_line number (call_of line) call read)
+callable_numbered : (relays : TransportType) (number : ℕ) (line : List ℕ) (call : Call) → numbered_call_of relays number line ≡ Ok call → IsCallable relays call
+callable_numbered relays number line call h =
+    let read = of_else (nat_lt 10001 number) (bad_line number Bad.Size) (at_line number (call_of relays line)) call h in
+    callable_line relays line call (of_line number (call_of relays line) call read)
 
-abbrev pub AreCallable : List Call → Type 0
-AreCallable calls = All (IsCallable Udp) calls
+abbrev pub AreCallable : TransportType → List Call → Type 0
+AreCallable relays calls = All (IsCallable relays) calls
 
-all_of_more : (call : Call) (calls : List Call) → IsCallable Udp call → AreCallable calls → AreCallable (call ∷ calls)
-all_of_more call calls one all zero d low = one
-all_of_more call calls one all (suc k) d low = all k d (omega arith)
+all_of_more : (relays : TransportType) (call : Call) (calls : List Call) → IsCallable relays call → AreCallable relays calls → AreCallable relays (call ∷ calls)
+all_of_more relays call calls one all zero d low = one
+all_of_more relays call calls one all (suc k) d low = all k d (omega arith)
 
-callable_lines : (number : ℕ) (lines : List (List ℕ)) (calls : List Call) → calls_of number lines ≡ Ok calls → AreCallable calls
+callable_lines : (relays : TransportType) (number : ℕ) (lines : List (List ℕ)) (calls : List Call) → calls_of relays number lines ≡ Ok calls → AreCallable relays calls
 unfolding calls_of
-callable_lines number [] calls h = subst AreCallable (ok_is [] calls h) (λ k d low. absurd (omega arith))
-callable_lines number (line ∷ lines) calls h =
-    let one = of_both (numbered_call_of number line) (λ call. calls_of (number + 1) lines >>= λ rest. Ok (call ∷ rest)) calls h in
-    let rest = of_both (calls_of (number + 1) lines) (λ rest. Ok (one.0 ∷ rest)) calls one.2 in
-    subst AreCallable (ok_is (one.0 ∷ rest.0) calls rest.2)
-    (all_of_more one.0 rest.0 (callable_numbered number line one.0 one.1) (callable_lines (number + 1) lines rest.0 rest.1))
+callable_lines relays number [] calls h = subst (AreCallable relays) (ok_is [] calls h) (λ k d low. absurd (omega arith))
+callable_lines relays number (line ∷ lines) calls h =
+    let one = of_both (numbered_call_of relays number line) (λ call. calls_of relays (number + 1) lines >>= λ rest. Ok (call ∷ rest)) calls h in
+    let rest = of_both (calls_of relays (number + 1) lines) (λ rest. Ok (one.0 ∷ rest)) calls one.2 in
+    subst (AreCallable relays) (ok_is (one.0 ∷ rest.0) calls rest.2)
+    (all_of_more relays one.0 rest.0 (callable_numbered relays number line one.0 one.1) (callable_lines relays (number + 1) lines rest.0 rest.1))
 
-pub calls_are_callable : (text : List ℕ) (head : Head) (calls : List Call) → trace_of text ≡ Ok (head, calls) → AreCallable calls
+-- ---- a trace
+
+-- the client is made, and the calls can be made on it
+abbrev IsReady : Head × List Call → Type 0
+IsReady trace = IsMade trace.0 × AreCallable trace.0.request.allocation trace.1
+
+ready_with : (head : Head) (calls : List Call) (trace : Head × List Call) → ◌≡◌ {A = Result (Head × List Call) BadLine} (Ok (head, calls)) (Ok trace) → IsMade head → AreCallable head.request.allocation calls → IsReady trace
+ready_with head calls trace h made callable = subst IsReady (ok_is (head, calls) trace h) (made, callable)
+
+trace_is_ready : (text : List ℕ) (trace : Head × List Call) → trace_of text ≡ Ok trace → IsReady trace
 unfolding trace_of
-calls_are_callable text head calls h =
+trace_is_ready text trace h =
     let lines = parts_of 10 (without_last_feed text) in
-    let trace : Head × List Call = (head, calls) in
     let read = of_else (nat_lt 1048576 (length text)) (bad_line 0 Bad.Size)
-    (head_line_of lines >>= λ first. calls_of 2 first.1 >>= λ rest. Ok (first.0, rest)) trace h in
-    let first = of_both (head_line_of lines) (λ first. calls_of 2 first.1 >>= λ rest. Ok (first.0, rest)) trace read in
-    let rest = of_both (calls_of 2 first.0.1) (λ rest. Ok (first.0.0, rest)) trace first.2 in
-    let same : rest.0 ≡ calls = ap (λ t. t.1) (ok_is (first.0.0, rest.0) trace rest.2) in
-    subst AreCallable same (callable_lines 2 first.0.1 rest.0 rest.1)
+    (head_line_of lines >>= λ first. calls_of first.0.request.allocation 2 first.1 >>= λ rest. Ok (first.0, rest)) trace h in
+    let first = of_both (head_line_of lines) (λ first. calls_of first.0.request.allocation 2 first.1 >>= λ rest. Ok (first.0, rest)) trace read in
+    let rest = of_both (calls_of first.0.0.request.allocation 2 first.0.1) (λ rest. Ok (first.0.0, rest)) trace first.2 in
+    ready_with first.0.0 rest.0 trace rest.2 (made_lines lines first.0 first.1)
+    (callable_lines first.0.0.request.allocation 2 first.0.1 rest.0 rest.1)
+
+pub calls_are_callable : (text : List ℕ) (head : Head) (calls : List Call) → trace_of text ≡ Ok (head, calls) → AreCallable head.request.allocation calls
+calls_are_callable text head calls h = (trace_is_ready text (head, calls) h).1
+
+pub allocation_of_trace : (text : List ℕ) (head : Head) (calls : List Call) → trace_of text ≡ Ok (head, calls) → IsMade head
+allocation_of_trace text head calls h = (trace_is_ready text (head, calls) h).0

@@ -1,7 +1,6 @@
 -- What a run of the program reads and writes.
 use Rattle.std.specs.Prelude.{◌≡◌, ℕ, ◌≤◌, ◌⊎◌, Bool, false, List, ◌++◌, length, take, codes, Option, IfSome, Result, Ok, Err, ⊤}
 use Rattle.std.specs.Io.KnownBytes.{Appends, Consumes, IsAtEnd}
-use Rattle.turn_stun.specs.declared.transport.TransportType.TheVariants.{Udp}
 use Rattle.turn_client_proto.specs.Run.{run}
 use Rattle.turn_client_api.specs.declared.call.Call.{Call}
 use Rattle.turn_replay.specs.Configuration.{config_with}
@@ -34,7 +33,7 @@ pub record ReadsMore (old new : Option (List ℕ)) (before after : List ℕ) (go
 -- a line for each answer of the client to the calls
 abbrev pub answered_text : Head → List Call → List ℕ
 answered_text head calls =
-    answers_text (run Udp head.ends.local head.ends.remote (config_with head.request head.credentials head.waits) head.seed calls).0
+    answers_text (run head.ends.transport head.ends.local head.ends.remote (config_with head.request head.credentials head.waits) head.seed calls).0
 
 -- the status and the text for a trace: a line for each call, or the one line for its first bad line
 abbrev pub answer_of : Result (Head × List Call) BadLine → Status × List ℕ

@@ -3,6 +3,8 @@ use Rattle.std.specs.Prelude.{ℕ, ◌^◌, nat_le, Bool, true, if◌then◌else
 use Rattle.std.specs.List.{find}
 use Rattle.std.specs.Option.{option_map, option_or}
 use Rattle.std.specs.Str.{bytes_eq}
+use Rattle.turn_stun.specs.declared.transport.TransportType.{TransportType}
+use Rattle.turn_stun.specs.declared.transport.TransportType.TheVariants.{Udp, Tcp}
 use Rattle.turn_client_api.specs.declared.call.Call.{Call}
 use Rattle.turn_client_api.specs.declared.call.Call.TheVariants as Calls
 use Rattle.turn_replay.specs.Arguments.{packet_of, sending_of, transport_and_ip_of, transport_and_address_of, one_address_of, two_addresses_of, tuple_of, data_ends_of}
@@ -74,18 +76,22 @@ call_with now Name.Relayed fields = without_arguments Calls.RelayedAddresses fie
 call_with now Name.Permissions fields = permissions_of fields
 call_with now Name.Have fields = have_of fields
 
--- what one message or channel frame over UDP carries
-abbrev pub has_short_payload : Call → Bool
-has_short_payload (Calls.SendTo transport to payload now) = nat_le (length payload) 65504
-has_short_payload _ = true
+-- what one message or channel frame carries to an allocation over UDP; over TCP bytes have no bound
+abbrev pub is_short : TransportType → List ℕ → Bool
+is_short Udp payload = nat_le (length payload) 65504
+is_short Tcp payload = true
 
--- the call, unless it sends more; so far every allocation of a trace is over UDP
-abbrev pub if_short : Call → Result Call BadKind
-if_short call = if has_short_payload call then Ok call else Err Bad.Payload
+abbrev pub has_short_payload : TransportType → Call → Bool
+has_short_payload relays (Calls.SendTo transport to payload now) = is_short relays payload
+has_short_payload relays _ = true
 
--- NOW CALL, and the arguments
-unfoldable pub call_of : List ℕ → Result Call BadKind
-call_of line =
+-- the call, unless it sends more than an allocation over this transport takes
+abbrev pub if_short : TransportType → Call → Result Call BadKind
+if_short relays call = if has_short_payload relays call then Ok call else Err Bad.Payload
+
+-- NOW CALL, and the arguments, for a client whose allocation is over this transport
+unfoldable pub call_of : TransportType → List ℕ → Result Call BadKind
+call_of relays line =
     needed (next moment_of (parts_of 32 line)) Bad.Moment (λ now.
     needed (next name_of now.1) Bad.Call (λ name.
-    needed (call_with now.0 name.0 name.1) Bad.Argument if_short))
+    needed (call_with now.0 name.0 name.1) Bad.Argument (if_short relays)))

@@ -1,6 +1,5 @@
 -- The configuration of a client.
 use Rattle.std.specs.Prelude.{List, [], ◌∷◌, Option, Some, None}
-use Rattle.turn_stun.specs.declared.transport.TransportType.TheVariants.{Udp}
 use Rattle.turn_types.specs.declared.family.AddressFamily.{AddressFamily}
 use Rattle.turn_auth.specs.Credentials.{Credentials}
 use Rattle.turn_auth.specs.LongTerm.{with_algorithm}
@@ -32,7 +31,7 @@ timers_with (Some waits) = Some (record {
 
 abbrev pub config_with : Request → Credentials → Option Waits → Config
 config_with request credentials waits = record {
-  allocation_transport = Udp;
+  allocation_transport = request.allocation;
   address_families = families_with request.families;
   credentials = credentials;
   supported_integrity = algorithms_with request.algorithms;

@@ -1,6 +1,8 @@
 -- The first line of a trace: the client and its server.
 use Rattle.std.specs.Prelude.{ℕ, ◌-◌, ◌^◌, ◌&&◌, nat_le, if◌then◌else◌, List, [], ◌∷◌, length, codes, Option, Some, None}
 use Rattle.std.specs.Str.{bytes_eq}
+use Rattle.turn_stun.specs.declared.transport.TransportType.{TransportType}
+use Rattle.turn_stun.specs.declared.transport.TransportType.TheVariants.{Udp, Tcp}
 use Rattle.turn_types.specs.declared.family.AddressFamily.{AddressFamily}
 use Rattle.turn_types.specs.declared.family.AddressFamily.TheVariants.{IPV4, IPV6}
 use Rattle.turn_auth.specs.Credentials.{Credentials}
@@ -9,17 +11,13 @@ use Rattle.turn_auth.specs.declared.feature.Feature.TheVariants.{Auto, Disabled,
 use Rattle.turn_auth.specs.declared.integrity.IntegrityAlgorithm.{IntegrityAlgorithm}
 use Rattle.turn_auth.specs.declared.integrity.IntegrityAlgorithm.TheVariants.{Sha1, Sha256}
 use Rattle.turn_replay.specs.Address.{address_of}
-use Rattle.turn_replay.specs.Field.{bytes_of, seed_of}
+use Rattle.turn_replay.specs.Field.{bytes_of, seed_of, transport_of}
 use Rattle.turn_replay.specs.Number.{decimal_up_to}
 use Rattle.turn_replay.specs.Parts.{parts_of, next, ends, ◌>>=◌}
 use Rattle.turn_replay.specs.declared.head.Ends.{Ends}
 use Rattle.turn_replay.specs.declared.head.Head.{Head}
 use Rattle.turn_replay.specs.declared.head.Request.{Request}
 use Rattle.turn_replay.specs.declared.head.waits.Waits.{Waits}
-
--- the one transport that there is so far
-abbrev pub udp_of : List ℕ → Option (Unit {0})
-udp_of text = if bytes_eq text (codes "udp") then Some tt else None
 
 -- one family or both, in this order
 abbrev pub families_of : List ℕ → Option (AddressFamily × Option AddressFamily)
@@ -49,19 +47,24 @@ feature_of text =
 -- T LOCAL REMOTE
 unfoldable pub ends_of : List (List ℕ) → Option (Ends × List (List ℕ))
 ends_of fields = do
-  transport ← next udp_of fields
+  transport ← next transport_of fields
   local ← next address_of transport.1
   remote ← next address_of local.1
-  Some (record { local = local.0; remote = remote.0 }, remote.1)
+  Some (record { transport = transport.0; local = local.0; remote = remote.0 }, remote.1)
 
 -- ALLOC FAMS INTEG ANON
 unfoldable pub request_of : List (List ℕ) → Option (Request × List (List ℕ))
 request_of fields = do
-  allocation ← next udp_of fields
+  allocation ← next transport_of fields
   families ← next families_of allocation.1
   algorithms ← next algorithms_of families.1
   anonymous ← next feature_of algorithms.1
-  Some (record { families = families.0; algorithms = algorithms.0; anonymous = anonymous.0 }, anonymous.1)
+  Some (record { allocation = allocation.0; families = families.0; algorithms = algorithms.0; anonymous = anonymous.0 }, anonymous.1)
+
+-- an allocation over TCP needs a client over TCP (RFC 6062, section 4.1)
+abbrev pub relayed_for : TransportType → TransportType → Option (Unit {0})
+relayed_for Udp Tcp = None
+relayed_for _ _ = Some tt
 
 -- a user name of 1 to 508 bytes, and a password of at most 65,535
 abbrev pub credentials_with : List ℕ → List ℕ → Option Credentials
@@ -100,6 +103,7 @@ unfoldable pub head_of : List ℕ → Option Head
 head_of line = do
   places ← ends_of (parts_of 32 line)
   request ← request_of places.1
+  _ ← relayed_for places.0.transport request.0.allocation
   credentials ← credentials_of request.1
   seed ← next seed_of credentials.1
   waits ← last_of seed.1

@@ -6,9 +6,11 @@ use Rattle.std.specs.declared.net.ip_addr.IpAddr.{IpAddr}
 use Rattle.std.specs.declared.net.ip_addr.IpAddr.TheVariants as Ip
 use Rattle.std.specs.declared.net.socket_addr.SocketAddr.{SocketAddr}
 use Rattle.hex.specs.Hex.{IsBytes}
+use Rattle.turn_stun.specs.declared.transport.TransportType.{TransportType}
 use Rattle.turn_client_api.specs.declared.call.Call.{Call}
 use Rattle.turn_client_api.specs.declared.call.Call.TheVariants as Calls
 use Rattle.turn_client_api.specs.declared.poll.Socket5Tuple.{Socket5Tuple}
+use Rattle.turn_client_proto.specs.Run.{IsShort}
 use Rattle.turn_replay.specs.Text.{address_text, bytes_text, fields_text, ip_text, transport_text}
 
 -- `-` is no address
@@ -66,30 +68,30 @@ abbrev pub IsSpelledIfAny : Option SocketAddr → Type 0
 IsSpelledIfAny None = ⊤
 IsSpelledIfAny (Some address) = IsSpelled address
 
--- bytes that one packet over UDP carries to a peer
-abbrev pub IsPayload : List ℕ → Type 0
-IsPayload bytes = IsBytes bytes × (length bytes ≤ 65504)
+-- bytes that are carried to a peer, where an allocation over this transport takes them
+abbrev pub IsPayload : TransportType → List ℕ → Type 0
+IsPayload relays bytes = IsBytes bytes × IsShort relays bytes
 
 -- the two ends of the control connection
 abbrev pub IsTuple : Socket5Tuple → Type 0
 IsTuple tuple = IsSpelled tuple.from × IsSpelled tuple.to
 
--- a call that has a line
-abbrev pub HasLine : Call → Type 0
-HasLine (Calls.Poll now) = now ≤ 2 ^ 62
-HasLine (Calls.PollTransmit now) = now ≤ 2 ^ 62
-HasLine Calls.PollEvent = ⊤
-HasLine (Calls.Recv packet now) = (now ≤ 2 ^ 62) × IsSpelled packet.from × IsSpelled packet.to × IsBytes packet.payload
-HasLine (Calls.PollRecv now) = now ≤ 2 ^ 62
-HasLine (Calls.SendTo transport to payload now) = (now ≤ 2 ^ 62) × IsSpelled to × IsPayload payload
-HasLine (Calls.CreatePermission transport peer now) = (now ≤ 2 ^ 62) × IsIp peer
-HasLine (Calls.BindChannel transport peer now) = (now ≤ 2 ^ 62) × IsSpelled peer
-HasLine (Calls.TcpConnect peer now) = (now ≤ 2 ^ 62) × IsSpelled peer
-HasLine (Calls.AllocatedTcpSocket id tuple peer local now) =
+-- a call that has a line in the trace of a client whose allocation is over this transport
+abbrev pub HasLine : TransportType → Call → Type 0
+HasLine relays (Calls.Poll now) = now ≤ 2 ^ 62
+HasLine relays (Calls.PollTransmit now) = now ≤ 2 ^ 62
+HasLine relays Calls.PollEvent = ⊤
+HasLine relays (Calls.Recv packet now) = (now ≤ 2 ^ 62) × IsSpelled packet.from × IsSpelled packet.to × IsBytes packet.payload
+HasLine relays (Calls.PollRecv now) = now ≤ 2 ^ 62
+HasLine relays (Calls.SendTo transport to payload now) = (now ≤ 2 ^ 62) × IsSpelled to × IsPayload relays payload
+HasLine relays (Calls.CreatePermission transport peer now) = (now ≤ 2 ^ 62) × IsIp peer
+HasLine relays (Calls.BindChannel transport peer now) = (now ≤ 2 ^ 62) × IsSpelled peer
+HasLine relays (Calls.TcpConnect peer now) = (now ≤ 2 ^ 62) × IsSpelled peer
+HasLine relays (Calls.AllocatedTcpSocket id tuple peer local now) =
     (now ≤ 2 ^ 62) × (id < 2 ^ 32) × IsTuple tuple × IsSpelled peer × IsSpelledIfAny local
-HasLine (Calls.Delete now) = now ≤ 2 ^ 62
-HasLine (Calls.TcpClosed local remote now) = (now ≤ 2 ^ 62) × IsSpelled local × IsSpelled remote
-HasLine Calls.ProtocolError = ⊤
-HasLine Calls.RelayedAddresses = ⊤
-HasLine (Calls.Permissions transport relayed) = IsSpelled relayed
-HasLine (Calls.HavePermission transport to) = IsIp to
+HasLine relays (Calls.Delete now) = now ≤ 2 ^ 62
+HasLine relays (Calls.TcpClosed local remote now) = (now ≤ 2 ^ 62) × IsSpelled local × IsSpelled remote
+HasLine relays Calls.ProtocolError = ⊤
+HasLine relays Calls.RelayedAddresses = ⊤
+HasLine relays (Calls.Permissions transport relayed) = IsSpelled relayed
+HasLine relays (Calls.HavePermission transport to) = IsIp to

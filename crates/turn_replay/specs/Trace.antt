@@ -1,5 +1,6 @@
 -- A trace: its lines, the head and the calls.
 use Rattle.std.specs.Prelude.{ℕ, ◌+◌, ◌-◌, ◌==◌, ◌&&◌, nat_lt, if◌then◌else◌, List, [], ◌∷◌, length, take, slice_index, Result, Ok, Err}
+use Rattle.turn_stun.specs.declared.transport.TransportType.{TransportType}
 use Rattle.turn_client_api.specs.declared.call.Call.{Call}
 use Rattle.turn_replay.specs.Call.{call_of}
 use Rattle.turn_replay.specs.Fault.{needed, ◌>>=◌}
@@ -24,15 +25,15 @@ at_line number (Ok value) = Ok value
 at_line number (Err kind) = Err (bad_line number kind)
 
 -- the 10,000th call stands on line 10,001
-abbrev pub numbered_call_of : ℕ → List ℕ → Result Call BadLine
-numbered_call_of number line =
-    if nat_lt 10001 number then Err (bad_line number Bad.Size) else at_line number (call_of line)
+abbrev pub numbered_call_of : TransportType → ℕ → List ℕ → Result Call BadLine
+numbered_call_of relays number line =
+    if nat_lt 10001 number then Err (bad_line number Bad.Size) else at_line number (call_of relays line)
 
 -- the calls of these lines, of which the first has this number
-unfoldable pub calls_of : ℕ → List (List ℕ) → Result (List Call) BadLine
-calls_of number [] = Ok []
-calls_of number (line ∷ lines) =
-    numbered_call_of number line >>= λ call. calls_of (number + 1) lines >>= λ calls. Ok (call ∷ calls)
+unfoldable pub calls_of : TransportType → ℕ → List (List ℕ) → Result (List Call) BadLine
+calls_of relays number [] = Ok []
+calls_of relays number (line ∷ lines) =
+    numbered_call_of relays number line >>= λ call. calls_of relays (number + 1) lines >>= λ calls. Ok (call ∷ calls)
 
 -- each line ends with LF, which the last may lack
 abbrev pub without_last_feed : List ℕ → List ℕ
@@ -43,4 +44,4 @@ without_last_feed text =
 unfoldable pub trace_of : List ℕ → Result (Head × List Call) BadLine
 trace_of text =
     if nat_lt 1048576 (length text) then Err (bad_line 0 Bad.Size)
-    else head_line_of (parts_of 10 (without_last_feed text)) >>= λ head. calls_of 2 head.1 >>= λ calls. Ok (head.0, calls)
+    else head_line_of (parts_of 10 (without_last_feed text)) >>= λ head. calls_of head.0.request.allocation 2 head.1 >>= λ calls. Ok (head.0, calls)

@@ -38,7 +38,8 @@ pub fn answer(alloc: Global, text: &[u8]) -> Result<(Status, String), AllocError
 
 /// The lines of a client's answers.
 fn replayed_text(alloc: Global, trace: Trace) -> Result<String, AllocError>
-    requires { All (IsCallable TransportType.Udp) trace.calls.items }
+    requires allocation { trace.head.ends.transport ≡ TransportType.Udp → trace.head.request.allocation ≡ TransportType.Udp }
+    requires callable { All (IsCallable trace.head.request.allocation) trace.calls.items }
     ensures { IfOk result (λ text. string_bytes text ≡ answered_text trace.head trace.calls.items) }
 {
     let Trace { head, calls } = trace;
@@ -52,7 +53,7 @@ fn replayed_text(alloc: Global, trace: Trace) -> Result<String, AllocError>
     let config = configuration(alloc, request, credentials, waits);
     let replayed = replay(
         alloc,
-        TransportType::Udp,
+        ends.transport,
         ends.local,
         ends.remote,
         config,

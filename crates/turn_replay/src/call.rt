@@ -3,7 +3,7 @@
 ghost use Rattle.std.specs.Prelude.{◌≡◌, Some, None, MatchOption};
 ghost use Rattle.turn_client_api.specs.declared.call.Call.{Call};
 ghost use Rattle.turn_replay.specs.Call.{call_of, call_with, has_short_payload, moment_of, name_of};
-ghost use Rattle.turn_replay.specs.Call.{have_of, permissions_of, without_arguments};
+ghost use Rattle.turn_replay.specs.Call.{have_of, is_short, permissions_of, without_arguments};
 ghost use Rattle.turn_replay.specs.Fault.{Reads};
 ghost use Rattle.turn_replay.specs.Field.{Gives};
 ghost use Rattle.turn_replay.specs.Parts.{next};
@@ -20,6 +20,7 @@ use crate::parts::Parts;
 use std::alloc::Global;
 use turn_client_proto::runs::Call;
 use turn_stun::instant::Instant;
+use turn_types::TransportType;
 
 mod arguments;
 mod name;
@@ -27,26 +28,31 @@ mod name;
 /// The greatest moment of a trace, in nanoseconds: 2^62.
 const GREATEST_MOMENT: u64 = 0x4000_0000_0000_0000;
 
-/// The most bytes that a `send` may have: what one packet to the server carries over UDP.
+/// The most bytes that a `send` may have where the allocation is over UDP: what one packet to the server
+/// carries.
 const MAX_PAYLOAD: usize = 65_504;
 
-/// The call of a line: its moment, its name and its arguments.
+/// The call of a line: its moment, its name and its arguments. The client's allocation is over `relays`.
 ///
 /// # Errors
 ///
 /// The first of these: `Moment` where the first field is no moment, `Call` where the second is no
 /// call, `Argument` where the other fields are not the arguments of that call, `Payload` where it is
-/// a `send` of too many bytes. `OutOfMemory` where there is no memory for the bytes of a packet.
+/// a `send` of too many bytes for an allocation over UDP. `OutOfMemory` where there is no memory for the bytes of a packet.
 #[tactic(auto, unfolding(crate::specs::Call::call_of))]
-pub fn parse_call(alloc: Global, line: &[u8]) -> Result<Call, ReadError<BadKind>>
-    ensures { Reads (λ call. call) result (call_of line.now) }
+pub fn parse_call(
+    alloc: Global,
+    relays: TransportType,
+    line: &[u8],
+) -> Result<Call, ReadError<BadKind>>
+    ensures { Reads (λ call. call) result (call_of relays line.now) }
 {
     let mut fields = Parts::new(line, b' ');
     let now = take_moment(&mut fields).ok_or(ReadError::Bad(BadKind::Moment))?;
     let name = take_name(&mut fields).ok_or(ReadError::Bad(BadKind::Call))?;
     match take_arguments(alloc, name, now, &mut fields) {
         Ok(call) => {
-            if has_short_payload(&call) {
+            if has_short_payload(relays, &call) {
                 Ok(call)
             } else {
                 Err(ReadError::Bad(BadKind::Payload))
@@ -70,13 +76,23 @@ fn take_name(fields: &mut Parts<'_>) -> Option<CallName>
     parse_name(fields.next()?)
 }
 
-/// Whether it is no `send` of too many bytes for one packet over UDP.
-fn has_short_payload(call: &Call) -> bool
-    ensures { result ≡ has_short_payload call.now }
+/// Whether it is no `send` of too many bytes for an allocation over this transport.
+fn has_short_payload(relays: TransportType, call: &Call) -> bool
+    ensures { result ≡ has_short_payload relays call.now }
 {
     match call {
-        Call::SendTo { data, .. } => data.as_bytes().len() <= MAX_PAYLOAD,
+        Call::SendTo { data, .. } => is_short(relays, data.as_bytes()),
         _ => true,
+    }
+}
+
+/// Whether an allocation over this transport takes these bytes at once.
+fn is_short(relays: TransportType, payload: &[u8]) -> bool
+    ensures { result ≡ is_short relays payload.now }
+{
+    match relays {
+        TransportType::Udp => payload.len() <= MAX_PAYLOAD,
+        TransportType::Tcp => true,
     }
 }
 

@@ -24,6 +24,7 @@ pub fn configuration(
     let mut config = TurnConfig::new(alloc, credentials);
     set_families(&mut config, request.families);
     set_algorithms(&mut config, request.algorithms);
+    config.set_allocation_transport(request.allocation);
     config.set_anonymous_username(request.anonymous);
     if let Some(waits) = waits {
         config.set_request_retransmits(

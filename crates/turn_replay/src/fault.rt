@@ -24,7 +24,7 @@ pub enum BadKind {
     Call,
     /// The call has other arguments, or one more, or one less.
     Argument,
-    /// The call sends more bytes to a peer than one packet over UDP has room for.
+    /// The call sends more bytes to a peer than one packet has room for, where the allocation is over UDP.
     Payload,
 }
 

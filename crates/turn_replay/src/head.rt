@@ -5,23 +5,23 @@ ghost use Rattle.turn_replay.specs.Field.{Gives};
 ghost use Rattle.turn_replay.specs.Head.{head_of, ends_of, request_of, credentials_of};
 
 use crate::address::parse_address;
-use crate::field::{FieldError, parse_bytes, parse_seed};
+use crate::field::{FieldError, parse_bytes, parse_seed, parse_transport};
 use crate::head::waits::take_waits;
-use crate::head::words::{parse_algorithms, parse_families, parse_feature, parse_udp};
+use crate::head::words::{parse_algorithms, parse_families, parse_feature, relayed_for};
 use crate::parts::Parts;
 use std::alloc::Global;
 use std::net::SocketAddr;
 use turn_auth::credentials::{CredentialsError, TurnCredentials};
 use turn_auth::feature::Feature;
 use turn_auth::integrity::IntegrityAlgorithm;
-use turn_types::AddressFamily;
+use turn_types::{AddressFamily, TransportType};
 
 mod waits;
 mod words;
 
 pub use waits::Waits;
 
-/// The client and its server, as the first line names them. Both its transports are UDP.
+/// The client and its server, as the first line names them.
 #[derive(Debug, Drop)]
 pub struct Head {
     /// Where the client is, and where its server.
@@ -39,6 +39,8 @@ pub struct Head {
 /// Where the client is, and where its server.
 #[derive(Clone, Copy, Debug, PartialEq, Eq)]
 pub struct Ends {
+    /// What carries the packets between them.
+    pub transport: TransportType,
     /// The client's address.
     pub local: SocketAddr,
     /// The server's address.
@@ -48,6 +50,8 @@ pub struct Ends {
 /// What a client asks for, and how.
 #[derive(Clone, Copy, Debug, PartialEq, Eq)]
 pub struct Request {
+    /// What the server is to relay over. It is UDP where the client reaches its server over UDP.
+    pub allocation: TransportType,
     /// The family of the address that is asked for first, and the other where it is asked for too.
     pub families: (AddressFamily, Option<AddressFamily>),
     /// The algorithm that is named first, and the other where it is named too.
@@ -69,6 +73,7 @@ pub fn parse_head(alloc: Global, line: &[u8]) -> Result<Head, FieldError>
     let mut fields = Parts::new(line, b' ');
     let ends = take_ends(&mut fields).ok_or(FieldError::Malformed)?;
     let request = take_request(&mut fields).ok_or(FieldError::Malformed)?;
+    relayed_for(ends.transport, request.allocation).ok_or(FieldError::Malformed)?;
     let credentials = take_credentials(alloc, &mut fields)?;
     let seed = parse_seed(fields.next().ok_or(FieldError::Malformed)?).ok_or(
         FieldError::Malformed,
@@ -87,21 +92,26 @@ pub fn parse_head(alloc: Global, line: &[u8]) -> Result<Head, FieldError>
 fn take_ends(fields: &mut Parts<'_>) -> Option<Ends>
     ensures { MatchOption result (ends_of fields.old ≡ None) (λ ends. ends_of fields.old ≡ Some (ends, fields.new)) }
 {
-    parse_udp(fields.next()?)?;
+    let transport = parse_transport(fields.next()?)?;
     let local = parse_address(fields.next()?)?;
     let remote = parse_address(fields.next()?)?;
-    Some(Ends { local, remote })
+    Some(Ends {
+        transport,
+        local,
+        remote,
+    })
 }
 
 #[tactic(auto, unfolding(crate::specs::Head::request_of))]
 fn take_request(fields: &mut Parts<'_>) -> Option<Request>
     ensures { MatchOption result (request_of fields.old ≡ None) (λ request. request_of fields.old ≡ Some (request, fields.new)) }
 {
-    parse_udp(fields.next()?)?;
+    let allocation = parse_transport(fields.next()?)?;
     let families = parse_families(fields.next()?)?;
     let algorithms = parse_algorithms(fields.next()?)?;
     let anonymous = parse_feature(fields.next()?)?;
     Some(Request {
+        allocation,
         families,
         algorithms,
         anonymous,

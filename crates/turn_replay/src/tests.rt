@@ -3,6 +3,7 @@
 mod answers;
 mod bad_lines;
 mod calls;
+mod connection;
 mod exchange;
 mod fixture;
 mod memory;

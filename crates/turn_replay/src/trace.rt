@@ -12,6 +12,7 @@ use crate::head::{Head, parse_head};
 use crate::parts::Parts;
 use std::alloc::Global;
 use turn_client_proto::runs::Call;
+use turn_types::TransportType;
 
 /// The most bytes that a trace may have.
 pub const MAX_TRACE: usize = 1_048_576;
@@ -47,7 +48,7 @@ pub fn parse_trace(alloc: Global, text: &[u8]) -> Result<Trace, ReadError<BadLin
     }
     let mut lines = Parts::new(without_last_feed(text), b'\n');
     let head = take_head(alloc, &mut lines)?;
-    let calls = take_calls(alloc, lines)?;
+    let calls = take_calls(alloc, head.request.allocation, lines)?;
     Ok(Trace { head, calls })
 }
 
@@ -80,12 +81,16 @@ fn take_head(alloc: Global, lines: &mut Parts<'_>) -> Result<Head, ReadError<Bad
 }
 
 /// Reads the other lines, from the second on.
-fn take_calls(alloc: Global, mut lines: Parts<'_>) -> Result<Vec<Call>, ReadError<BadLine>>
-    ensures { Reads (λ calls. calls.items) result (calls_of 2 lines.entry) }
+fn take_calls(
+    alloc: Global,
+    relays: TransportType,
+    mut lines: Parts<'_>,
+) -> Result<Vec<Call>, ReadError<BadLine>>
+    ensures { Reads (λ calls. calls.items) result (calls_of relays 2 lines.entry) }
 {
     let mut calls = Vec::new(alloc);
     while let Some(line) = lines.next() {
-        let call = parse_numbered_call(alloc, calls.len() + 2, line)?;
+        let call = parse_numbered_call(alloc, relays, calls.len() + 2, line)?;
         calls.push(call)?;
     }
     Ok(calls)
@@ -94,10 +99,11 @@ fn take_calls(alloc: Global, mut lines: Parts<'_>) -> Result<Vec<Call>, ReadErro
 /// The call of a line with this number.
 fn parse_numbered_call(
     alloc: Global,
+    relays: TransportType,
     number: usize,
     line: &[u8],
 ) -> Result<Call, ReadError<BadLine>>
-    ensures { Reads (λ call. call) result (numbered_call_of number line.now) }
+    ensures { Reads (λ call. call) result (numbered_call_of relays number line.now) }
 {
     if number > MAX_CALLS + 1 {
         return Err(ReadError::Bad(BadLine {
@@ -105,7 +111,7 @@ fn parse_numbered_call(
             kind: BadKind::Size,
         }));
     }
-    match parse_call(alloc, line) {
+    match parse_call(alloc, relays, line) {
         Ok(call) => Ok(call),
         Err(ReadError::Bad(kind)) => Err(ReadError::Bad(BadLine { number, kind })),
         Err(ReadError::OutOfMemory) => Err(ReadError::OutOfMemory),

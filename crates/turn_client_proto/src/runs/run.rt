@@ -7,6 +7,7 @@ ghost use Rattle.turn_client_proto.specs.Run.{IsCallable, SleepsThroughNothing, 
 
 use crate::client::TurnClient;
 use crate::runs::{Call, Reply, reply_to};
+use crate::tcp::TurnClientTcp;
 use crate::udp::TurnClientUdp;
 use std::alloc::{AllocError, Global};
 use std::net::SocketAddr;
@@ -27,8 +28,9 @@ pub struct Replayed {
 ///
 /// The answers are those of `run` in `specs/`: each call by its own step, whatever came before. A
 /// caller that sleeps until the moment that each `poll` tells sleeps through nothing. Moments are at
-/// most 2^62, and may go back from call to call. Data for a peer is at most 65,504 bytes. There is a
-/// client over UDP alone, for an allocation over UDP.
+/// most 2^62, and may go back from call to call. Where the allocation relays over UDP, data for a peer
+/// is at most 65,504 bytes. A client over UDP asks for such an allocation, since one over TCP needs a
+/// client over TCP (RFC 6062, section 4.1).
 ///
 /// # Errors
 ///
@@ -42,8 +44,7 @@ pub fn replay(
     seed: [u8; 32],
     calls: &[Call],
 ) -> Result<Replayed, AllocError>
-    requires transport { transport ≡ TransportType.Udp }
-    requires allocation { config.allocation_transport ≡ TransportType.Udp }
+    requires allocation { transport ≡ TransportType.Udp → config.allocation_transport ≡ TransportType.Udp }
     requires callable { All (IsCallable config.allocation_transport) calls.now }
     ensures replies { IfOk result (λ replayed. replayed.replies.items ≡ (run transport local remote config seed calls.now).0) }
     ensures client { IfOk result (λ replayed. state_of replayed.client ≡ (run transport local remote config seed calls.now).1) }
@@ -63,8 +64,7 @@ fn new_client(
     config: TurnConfig,
     seed: [u8; 32],
 ) -> Result<TurnClient, AllocError>
-    requires transport { transport ≡ TransportType.Udp }
-    requires allocation { config.allocation_transport ≡ TransportType.Udp }
+    requires allocation { transport ≡ TransportType.Udp → config.allocation_transport ≡ TransportType.Udp }
     ensures { IfOk result (λ client. state_of client ≡ initial transport local remote config seed) }
 {
     match transport {
@@ -72,7 +72,10 @@ fn new_client(
             let client = TurnClientUdp::allocate(alloc, local, remote, config, seed)?;
             Ok(TurnClient::from(client))
         }
-        TransportType::Tcp => unreachable!(),
+        TransportType::Tcp => {
+            let client = TurnClientTcp::allocate(alloc, local, remote, config, seed)?;
+            Ok(TurnClient::from(client))
+        }
     }
 }
 
@@ -82,7 +85,7 @@ fn asked<C: TurnClientApi>(
     mut client: C,
     calls: &[Call],
 ) -> Result<(Vec<Reply>, C), AllocError>
-    requires { All (IsCallable TransportType.Udp) calls.now }
+    requires { All (IsCallable (C.state client).config.allocation_transport) calls.now }
     ensures replies { IfOk result (λ r. r.0.items ≡ replies_of (C.state client) calls.now) }
     ensures client { IfOk result (λ r. C.state r.1 ≡ state_behind (C.state client) calls.now) }
 {
@@ -90,13 +93,13 @@ fn asked<C: TurnClientApi>(
     Ok((replies, client))
 }
 
-/// Makes these calls, which can be made whatever the allocations relay over.
+/// Makes these calls, one after the other.
 pub(crate) fn replies_to<C: TurnClientApi>(
     alloc: Global,
     client: &mut C,
     calls: &[Call],
 ) -> Result<Vec<Reply>, AllocError>
-    requires { All (IsCallable TransportType.Udp) calls.now }
+    requires { All (IsCallable (C.state client.old).config.allocation_transport) calls.now }
     ensures replies { IfOk result (λ replies. replies.items ≡ replies_of (C.state client.old) calls.now) }
     ensures client { OnOk result (C.state client.new ≡ state_behind (C.state client.old) calls.now) }
 {

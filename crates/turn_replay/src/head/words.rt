@@ -1,21 +1,11 @@
 //! Fields of the head that say one of a few things.
 
 ghost use Rattle.std.specs.Prelude.{◌≡◌};
-ghost use Rattle.turn_replay.specs.Head.{udp_of, families_of, algorithms_of, feature_of};
+ghost use Rattle.turn_replay.specs.Head.{families_of, algorithms_of, feature_of, relayed_for};
 
 use turn_auth::feature::Feature;
 use turn_auth::integrity::IntegrityAlgorithm;
-use turn_types::AddressFamily;
-
-/// `udp`, the one transport that there is so far.
-pub fn parse_udp(text: &[u8]) -> Option<()>
-    ensures { result ≡ udp_of text.now }
-{
-    match text {
-        b"udp" => Some(()),
-        _ => None,
-    }
-}
+use turn_types::{AddressFamily, TransportType};
 
 /// `4`, `6`, or both in one order or the other.
 pub fn parse_families(text: &[u8]) -> Option<(AddressFamily, Option<AddressFamily>)>
@@ -63,4 +53,15 @@ pub fn parse_feature(text: &[u8]) -> Option<Feature>
         return Some(Feature::Disabled);
     }
     None
+}
+
+/// Whether a client over this transport may ask for this allocation: one over TCP needs a client over
+/// TCP (RFC 6062, section 4.1).
+pub fn relayed_for(transport: TransportType, allocation: TransportType) -> Option<()>
+    ensures { result ≡ relayed_for transport allocation }
+{
+    match (transport, allocation) {
+        (TransportType::Udp, TransportType::Tcp) => None,
+        _ => Some(()),
+    }
 }

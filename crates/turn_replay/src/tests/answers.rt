@@ -22,13 +22,13 @@ fn a_trace_without_calls_has_no_answers(rt: HostRuntime) -> Result<(), Fail> {
 
 #[test]
 fn heads_of_all_kinds_are_read(rt: HostRuntime) -> Result<(), Fail> {
-    let front = "udp [20010db8000000000000000000000001]:65535 0.0.0.0:0 ";
-    for middle in [
-        "udp 6 sha256 required",
-        "udp 4,6 sha1,sha256 disabled",
-        "udp 6,4 sha256,sha1 auto",
+    for (transport, middle) in [
+        ("udp", "udp 6 sha256 required"),
+        ("tcp", "udp 4,6 sha1,sha256 disabled"),
+        ("tcp", "tcp 6,4 sha256,sha1 auto"),
     ] {
-        let head = [front, middle, " 00 - ", SEED];
+        let ends = " [20010db8000000000000000000000001]:65535 0.0.0.0:0 ";
+        let head = [transport, ends, middle, " 00 - ", SEED];
         follow(&rt, rt.alloc(), &head, Status::Answered, &[])?;
     }
     Ok(())

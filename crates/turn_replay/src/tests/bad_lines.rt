@@ -9,7 +9,7 @@ use std::process::Abort;
 use std::test::Fail;
 
 // Each up to a `;`, and S is the seed: each field missing, doubled, empty, or not as it is to be.
-const BAD_HEADS: &str = ";udp;tcp L R tcp 4 sha1 auto 75 70 S;udp L R tcp 4 sha1 auto 75 70 S;\
+const BAD_HEADS: &str = ";udp;tcp L R TCP 4 sha1 auto 75 70 S;udp L R tcp 4 sha1 auto 75 70 S;\
 UDP L R udp 4 sha1 auto 75 70 S;L R udp 4 sha1 auto 75 70 S;udp udp L R udp 4 sha1 auto 75 70 S;\
 udp L udp 4 sha1 auto 75 70 S;udp 1.2.3.4 R udp 4 sha1 auto 75 70 S;\
 udp 1.2.3.4: R udp 4 sha1 auto 75 70 S;udp 1.2.3.4:65536 R udp 4 sha1 auto 75 70 S;\
@@ -119,24 +119,29 @@ fn sending(alloc: Global, count: usize) -> Result<String, AllocError> {
     format!(in alloc; "0 send udp 1.2.3.4:5 {zeros}")
 }
 
-/// After a `send` of so many bytes the trace is bad in this line.
+/// A client with an allocation over TCP, up to the seed.
+const OVER_TCP: &str = "tcp 1.2.3.4:5 6.7.8.9:10 tcp 4 sha1 auto 75 70";
+
+/// After a `send` of so many bytes the trace of this client is bad in this line.
 fn is_bad_after_sending(
     rt: &impl Abort,
     alloc: Global,
+    client: &str,
     count: usize,
     want: &str,
 ) -> Result<(), Fail> {
     let line = sending(alloc, count)?;
-    let trace = [CLIENT, " ", SEED, "\n", line.as_str(), "\n0 nothing"];
+    let trace = [client, " ", SEED, "\n", line.as_str(), "\n0 nothing"];
     follow(rt, alloc, &trace, Status::Malformed, &[want])
 }
 
 // RFC 8656, sections 11.1 and 12.4: a UDP datagram has room for 65,507 bytes, of which the least that
-// carries data to a peer takes some.
+// carries data to a peer takes some. A data connection has no such bound (RFC 6062, section 4.3).
 #[test]
 fn a_packet_has_room_for_65504_bytes(rt: HostRuntime) -> Result<(), Fail> {
-    is_bad_after_sending(&rt, rt.alloc(), 65_504, "line 3: bad call\n")?;
-    is_bad_after_sending(&rt, rt.alloc(), 65_505, "line 2: bad payload\n")
+    is_bad_after_sending(&rt, rt.alloc(), CLIENT, 65_504, "line 3: bad call\n")?;
+    is_bad_after_sending(&rt, rt.alloc(), CLIENT, 65_505, "line 2: bad payload\n")?;
+    is_bad_after_sending(&rt, rt.alloc(), OVER_TCP, 65_505, "line 3: bad call\n")
 }
 
 /// Runs bytes that are no text, and compares what is written.

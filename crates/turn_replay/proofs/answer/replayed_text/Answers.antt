@@ -1,5 +1,4 @@
 use Rattle.std.proofs.Common.{◌≡◌, IfOk, List, ap, subst, ◌∙◌, string_bytes}
-use Rattle.turn_stun.specs.declared.transport.TransportType.TheVariants.{Udp}
 use Rattle.turn_client_proto.specs.Run.{run}
 use Rattle.turn_client_proto.specs.declared.runs.reply.Reply.{Reply}
 use Rattle.turn_replay.specs.Configuration.{config_with}
@@ -10,9 +9,9 @@ pub returns : goal.returns
 returns c =
     let head = c.args.trace.head in
     let config = config_with head.request head.credentials head.waits in
-    let same : c.as_slice-2.result.now ≡ (run Udp head.ends.local head.ends.remote config head.seed c.args.trace.calls.items).0 =
+    let same : c.as_slice-2.result.now ≡ (run head.ends.transport head.ends.local head.ends.remote config head.seed c.args.trace.calls.items).0 =
     c.as_slice-2.ensures.value
     ∙ c.in_ok-replayed.ensures.replies
-    ∙ ap (λ configured. (run Udp head.ends.local head.ends.remote configured head.seed c.as_slice.result.now).0) c.configuration-config.ensures
-    ∙ ap (λ calls. (run Udp head.ends.local head.ends.remote config head.seed calls).0) c.as_slice.ensures.value in
+    ∙ ap (λ configured. (run head.ends.transport head.ends.local head.ends.remote configured head.seed c.as_slice.result.now).0) c.configuration-config.ensures
+    ∙ ap (λ calls. (run head.ends.transport head.ends.local head.ends.remote config head.seed calls).0) c.as_slice.ensures.value in
     subst (λ (replies : List Reply). IfOk c.answers_text.result (λ text. string_bytes text ≡ answers_text replies)) same c.answers_text.ensures
