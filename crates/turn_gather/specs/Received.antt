@@ -1,0 +1,47 @@
+-- What an agent makes of what came in.
+use Rattle.std.specs.Prelude.{◌≡◌, ℕ, List, Option, Some, None, option_map, ⊤, if◌then◌else◌}
+use Rattle.std.specs.declared.convert.AsSlice.{Ghosts}
+use Rattle.std.specs.declared.net.socket_addr.SocketAddr.{SocketAddr}
+use Rattle.turn_stun.specs.declared.transport.TransportType.{TransportType}
+use Rattle.turn_stun.specs.declared.transport.Transmit.{Transmit}
+use Rattle.turn_client_api.specs.Answers.{IsPartOf, given_payload}
+use Rattle.turn_client_api.specs.PeerBytes.{held_in}
+use Rattle.turn_client_api.specs.Payloads.{Outcome, Payload}
+use Rattle.turn_client_api.specs.Payloads as O
+use Rattle.turn_gather.specs.Gathering.{is_checked_in}
+use Rattle.turn_gather.specs.declared.receive.GatherRecv.{GatherRecv}
+use Rattle.turn_gather.specs.declared.receive.GatherRecv.TheVariants as Recv
+
+-- what came in was for the client, was not, is passed up, or is dropped
+pub data Gathered : Type 0 where
+  Handled : Gathered
+  Ignored : Gathered
+  PassedUp : Payload → Gathered
+  Dropped : Gathered
+
+-- a payload is passed up where its pair is checked
+abbrev pub given_up : List (TransportType × SocketAddr) → Payload → Gathered
+given_up checked payload =
+    if is_checked_in payload.transport payload.peer checked then PassedUp payload else Dropped
+
+-- by what the client made of it
+abbrev pub gathered : List (TransportType × SocketAddr) → Outcome → Gathered
+gathered checked O.Handled = Handled
+gathered checked O.Ignored = Ignored
+gathered checked (O.PeerData payload) = given_up checked payload
+gathered checked (O.PeerIcmp transport peer icmp) = Dropped
+
+-- what an answer tells
+abbrev pub gathered_of : {T : Type 0} {g : Ghosts T ℕ} → GatherRecv T g → Gathered
+gathered_of Recv.Handled = Handled
+gathered_of (Recv.Ignored transmit) = Ignored
+gathered_of (Recv.Payload given) = PassedUp (given_payload given)
+gathered_of Recv.Dropped = Dropped
+
+-- what is not for the client is handed back whole, and bytes that are not owned are a part of what the
+-- caller handed in
+abbrev pub HandsOn : {T : Type 0} {g : Ghosts T ℕ} → Transmit T → GatherRecv T g → Type 0
+HandsOn transmit Recv.Handled = ⊤
+HandsOn transmit (Recv.Ignored back) = back ≡ transmit
+HandsOn transmit (Recv.Payload given) = IsPartOf transmit.payload (held_in given)
+HandsOn transmit Recv.Dropped = ⊤
