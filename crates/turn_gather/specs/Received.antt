@@ -8,6 +8,7 @@ use Rattle.turn_client_api.specs.Answers.{IsPartOf, given_payload}
 use Rattle.turn_client_api.specs.PeerBytes.{held_in}
 use Rattle.turn_client_api.specs.Payloads.{Outcome, Payload}
 use Rattle.turn_client_api.specs.Payloads as O
+use Rattle.turn_client_api.specs.declared.receive.TurnPeerData.{TurnPeerData}
 use Rattle.turn_gather.specs.Gathering.{is_checked_in}
 use Rattle.turn_gather.specs.declared.receive.GatherRecv.{GatherRecv}
 use Rattle.turn_gather.specs.declared.receive.GatherRecv.TheVariants as Recv
@@ -45,3 +46,10 @@ HandsOn transmit Recv.Handled = ⊤
 HandsOn transmit (Recv.Ignored back) = back ≡ transmit
 HandsOn transmit (Recv.Payload given) = IsPartOf transmit.payload (held_in given)
 HandsOn transmit Recv.Dropped = ⊤
+
+-- what the client gave is passed up as it is, or dropped
+abbrev pub PassesUp : {T : Type 0} {g : Ghosts T ℕ} → TurnPeerData T g → GatherRecv T g → Type 0
+PassesUp given Recv.Handled = ⊥
+PassesUp given (Recv.Ignored transmit) = ⊥
+PassesUp given (Recv.Payload passed) = passed ≡ given
+PassesUp given Recv.Dropped = ⊤

@@ -2,18 +2,16 @@
 
 ghost use Rattle.std.specs.Prelude.{◌≡◌, ◌≤◌, ◌^◌, [], true, length, option_map, IfOk, IsOk, OnErr, OnOk};
 ghost use Rattle.turn_stun.specs.declared.transport.TransportType.TheVariants.{Udp};
-ghost use Rattle.turn_stun.specs.declared.transport.Transmit.{Transmit};
 ghost use Rattle.turn_client_api.specs.Alarm.{IsTimely};
-ghost use Rattle.turn_client_api.specs.Answers.{CreatesPermission, EndsAfterTurns, IsPartOf, IsSent, RecvEnds, event_step, given_payload, takes_no_memory};
+ghost use Rattle.turn_client_api.specs.Answers.{CreatesPermission, EndsAfterTurns, IsSent, RecvEnds, event_step, given_payload, takes_no_memory};
 ghost use Rattle.turn_client_api.specs.Calls.{create_permission_step, relayed_addresses_of, send_to_step};
 ghost use Rattle.turn_client_api.specs.Effect.{closed};
-ghost use Rattle.turn_client_api.specs.PeerBytes.{held_in};
 ghost use Rattle.turn_client_api.specs.Poll.{poll_step};
 ghost use Rattle.turn_client_api.specs.Receive.{recv_step};
 ghost use Rattle.turn_client_api.specs.Streams.{poll_recv_step};
 ghost use Rattle.turn_client_api.specs.Transmit.{transmit_step};
 ghost use Rattle.turn_gather.specs.Gathering.{Checks, is_checked_in};
-ghost use Rattle.turn_gather.specs.Received.{HandsOn, gathered, gathered_of, given_up};
+ghost use Rattle.turn_gather.specs.Received.{HandsOn, PassesUp, gathered, gathered_of, given_up};
 
 use crate::error::GatherError;
 use crate::receive::GatherRecv;
@@ -116,8 +114,10 @@ impl<C: TurnClientApi> Gatherer<C> {
         if self.checked.len() >= MOST_CHECKED {
             return Err(GatherError::Full);
         }
-        self.checked.push((transport, peer))?;
-        Ok(())
+        match self.checked.push((transport, peer)) {
+            Ok(()) => Ok(()),
+            Err(_) => Err(GatherError::OutOfMemory),
+        }
     }
 
     /// Hands the client what came in, as [`TurnClientApi::recv`] takes it, and passes up what the peer
@@ -166,10 +166,10 @@ impl<C: TurnClientApi> Gatherer<C> {
         }
     }
 
-    /// What is made of this data of a peer.
+    /// What is made of this data of a peer, by whether its pair is checked.
     fn pass_up<T: AsSlice<u8> + Debug + Drop>(&self, given: TurnPeerData<T>) -> GatherRecv<T>
         ensures answer { gathered_of result ≡ given_up self.now.checked (given_payload given) }
-        ensures hands_on { (transmit : Transmit T) → IsPartOf transmit.payload (held_in given) → HandsOn transmit result }
+        ensures hands_on { PassesUp given result }
     {
         if self.is_checked(given.transport, given.peer) {
             GatherRecv::Payload(given)
