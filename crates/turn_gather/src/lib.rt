@@ -5,10 +5,12 @@
 //! alone, so what is proved of it holds over every client that keeps the trait's contracts.
 #![tactic(auto)]
 
+mod calls;
 mod error;
 mod gatherer;
 mod receive;
 
+pub use calls::{Candidates, Driven, GatherCall, GatherReply, PeerPayload, drive};
 pub use error::GatherError;
 pub use gatherer::Gatherer;
 pub use receive::GatherRecv;
