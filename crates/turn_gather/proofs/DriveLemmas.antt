@@ -11,8 +11,7 @@ use Rattle.turn_client_api.specs.Steps.{packet_step}
 use Rattle.turn_client_api.specs.declared.call.Call.TheVariants as Calls
 use Rattle.turn_gather.specs.Gathering.{Gathering, is_checked_in}
 use Rattle.turn_gather.specs.Received.{gathered, given_up}
-use Rattle.turn_gather.specs.Received as G
-use Rattle.turn_gather.specs.Drive.{after, after_all, all_replies, checked_payloads, client_after, gathered_reply, if_checked, passed_up, payload_given, peer_payload, polled_reply, reply_of, step}
+use Rattle.turn_gather.specs.Drive.{after, all_replies, checked_payloads, client_after, gathered_reply, if_checked, passed_up, payload_given, polled_reply, reply_of, step}
 use Rattle.turn_gather.specs.declared.calls.call.GatherCall.{GatherCall}
 use Rattle.turn_gather.specs.declared.calls.call.GatherCall.TheVariants.{Candidates, IsChecked, Check, Recv, PollRecv, CreatePermission, SendTo, Poll, PollTransmit, PollEvent}
 use Rattle.turn_gather.specs.declared.calls.reply.GatherReply.{GatherReply}

@@ -30,9 +30,9 @@ pub(crate) fn reply_to<C: TurnClientApi>(
 {
     match call {
         GatherCall::Candidates => candidates(alloc, gatherer),
-        GatherCall::IsChecked { transport, peer } => Ok(GatherReply::IsChecked(
-            gatherer.is_checked(*transport, *peer),
-        )),
+        GatherCall::IsChecked { transport, peer } => Ok(GatherReply::IsChecked(gatherer.is_checked(
+            *transport, *peer,
+        ))),
         GatherCall::Check { transport, peer } => check(gatherer, *transport, *peer),
         GatherCall::Recv { transmit, now } => recv(alloc, gatherer, transmit, *now),
         GatherCall::PollRecv { now } => poll_recv(alloc, gatherer, *now),
@@ -48,7 +48,9 @@ pub(crate) fn reply_to<C: TurnClientApi>(
             now,
         } => send_to(alloc, gatherer, *transport, *to, data, *now),
         GatherCall::Poll { now } => Ok(GatherReply::Poll(gatherer.poll(*now)?)),
-        GatherCall::PollTransmit { now } => Ok(GatherReply::Transmit(gatherer.poll_transmit(*now)?)),
+        GatherCall::PollTransmit { now } => Ok(GatherReply::Transmit(gatherer.poll_transmit(
+            *now,
+        )?)),
         GatherCall::PollEvent => Ok(GatherReply::Event(gatherer.poll_event())),
     }
 }
@@ -124,10 +126,7 @@ fn told<T: AsSlice<u8> + Debug + Drop>(
 }
 
 /// What a peer sent, with bytes of its own.
-fn owned<T: AsSlice<u8>>(
-    alloc: Global,
-    given: &TurnPeerData<T>,
-) -> Result<PeerPayload, AllocError>
+fn owned<T: AsSlice<u8>>(alloc: Global, given: &TurnPeerData<T>) -> Result<PeerPayload, AllocError>
     ensures { IfOk result (λ owned. owned ≡ peer_payload (given_payload given.now)) }
 {
     let bytes = Vec::from_slice(alloc, given.data())?;
