@@ -1,5 +1,5 @@
 -- What an agent makes of what came in.
-use Rattle.std.specs.Prelude.{◌≡◌, ℕ, List, ⊤, if◌then◌else◌}
+use Rattle.std.specs.Prelude.{◌≡◌, ℕ, List, Option, option_map, ⊤, if◌then◌else◌}
 use Rattle.std.specs.declared.convert.AsSlice.{Ghosts}
 use Rattle.std.specs.declared.net.socket_addr.SocketAddr.{SocketAddr}
 use Rattle.turn_stun.specs.declared.transport.TransportType.{TransportType}
@@ -8,10 +8,17 @@ use Rattle.turn_client_api.specs.Answers.{IsPartOf, given_payload}
 use Rattle.turn_client_api.specs.PeerBytes.{held_in}
 use Rattle.turn_client_api.specs.Payloads.{Outcome, Payload}
 use Rattle.turn_client_api.specs.Payloads as O
+use Rattle.turn_client_api.specs.Receive.{recv_step}
+use Rattle.turn_client_api.specs.State.{State}
+use Rattle.turn_client_api.specs.Streams.{poll_recv_step}
 use Rattle.turn_client_api.specs.declared.receive.TurnPeerData.{TurnPeerData}
-use Rattle.turn_gather.specs.Gathering.{is_checked_in}
+use Rattle.turn_gather.specs.Gathering.{Gathering, is_checked_in}
 use Rattle.turn_gather.specs.declared.receive.GatherRecv.{GatherRecv}
 use Rattle.turn_gather.specs.declared.receive.GatherRecv.TheVariants as Recv
+
+-- what the client makes of a packet with these bytes
+abbrev pub client_step : {T : Type 0} → Transmit T → List ℕ → ℕ → State → Outcome × State
+client_step transmit bytes now s = recv_step transmit.transport transmit.from transmit.to bytes now s
 
 -- what came in was for the client, was not, is passed up, or is dropped
 pub data Gathered : Type 0 where
@@ -53,3 +60,7 @@ PassesUp given Recv.Handled = ⊥
 PassesUp given (Recv.Ignored transmit) = ⊥
 PassesUp given (Recv.Payload passed) = passed ≡ given
 PassesUp given Recv.Dropped = ⊤
+
+-- what the streams hold next, passed up or dropped
+abbrev pub polled : ℕ → Gathering → Option Gathered
+polled now s = option_map (given_up s.checked) (poll_recv_step now s.client).0

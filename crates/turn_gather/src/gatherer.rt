@@ -7,11 +7,10 @@ ghost use Rattle.turn_client_api.specs.Answers.{CreatesPermission, EndsAfterTurn
 ghost use Rattle.turn_client_api.specs.Calls.{create_permission_step, relayed_addresses_of, send_to_step};
 ghost use Rattle.turn_client_api.specs.Effect.{closed};
 ghost use Rattle.turn_client_api.specs.Poll.{poll_step};
-ghost use Rattle.turn_client_api.specs.Receive.{recv_step};
 ghost use Rattle.turn_client_api.specs.Streams.{poll_recv_step};
 ghost use Rattle.turn_client_api.specs.Transmit.{transmit_step};
 ghost use Rattle.turn_gather.specs.Gathering.{Checks, is_checked_in};
-ghost use Rattle.turn_gather.specs.Received.{HandsOn, PassesUp, gathered, gathered_of, given_up};
+ghost use Rattle.turn_gather.specs.Received.{HandsOn, PassesUp, client_step, gathered, gathered_of, given_up, polled};
 
 use crate::error::GatherError;
 use crate::receive::GatherRecv;
@@ -132,9 +131,9 @@ impl<C: TurnClientApi> Gatherer<C> {
         now: Instant,
     ) -> Result<GatherRecv<T>, AllocError>
         requires moment { now ≤ 2 ^ 62 }
-        ensures answer { IfOk result (λ answer. gathered_of answer ≡ gathered self.old.checked (recv_step transmit.transport transmit.from transmit.to (T.items transmit.payload) now self.old.client).0) }
+        ensures answer { IfOk result (λ answer. gathered_of answer ≡ gathered self.old.checked (client_step transmit (T.items transmit.payload) now self.old.client).0) }
         ensures hands_on { IfOk result (HandsOn transmit) }
-        ensures after { OnOk result (self.new.client ≡ (recv_step transmit.transport transmit.from transmit.to (T.items transmit.payload) now self.old.client).1) }
+        ensures after { OnOk result (self.new.client ≡ (client_step transmit (T.items transmit.payload) now self.old.client).1) }
         ensures no_memory { OnErr result (RecvEnds transmit.to (T.items transmit.payload) now self.old.client self.new.client) }
         ensures free { takes_no_memory transmit.transport transmit.from transmit.to (T.items transmit.payload) self.old.client ≡ true → IsOk result }
         ensures checked { self.new.checked ≡ self.old.checked }
@@ -155,7 +154,7 @@ impl<C: TurnClientApi> Gatherer<C> {
     /// There is no memory for the client, which has ended then, as for [`TurnClientApi::poll_recv`].
     pub fn poll_recv(&mut self, now: Instant) -> Result<Option<GatherRecv<Vec<u8>>>, AllocError>
         requires moment { now ≤ 2 ^ 62 }
-        ensures answer { IfOk result (λ given. option_map gathered_of given ≡ option_map (given_up self.old.checked) (poll_recv_step now self.old.client).0) }
+        ensures answer { IfOk result (λ given. option_map gathered_of given ≡ polled now self.old) }
         ensures after { OnOk result (self.new.client ≡ (poll_recv_step now self.old.client).1) }
         ensures no_memory { OnErr result (EndsAfterTurns now self.old.client self.new.client) }
         ensures checked { self.new.checked ≡ self.old.checked }
