@@ -61,6 +61,10 @@ PassesUp given (Recv.Ignored transmit) = ⊥
 PassesUp given (Recv.Payload passed) = passed ≡ given
 PassesUp given Recv.Dropped = ⊤
 
--- what the streams hold next, passed up or dropped
+-- what is made of the packet
+abbrev pub received : {T : Type 0} → Transmit T → List ℕ → ℕ → Gathering → Gathered
+received transmit bytes now s = gathered s.checked (client_step transmit bytes now s.client).0
+
+-- what is made of what the streams hold next
 abbrev pub polled : ℕ → Gathering → Option Gathered
 polled now s = option_map (given_up s.checked) (poll_recv_step now s.client).0

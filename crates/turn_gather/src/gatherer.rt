@@ -10,7 +10,7 @@ ghost use Rattle.turn_client_api.specs.Poll.{poll_step};
 ghost use Rattle.turn_client_api.specs.Streams.{poll_recv_step};
 ghost use Rattle.turn_client_api.specs.Transmit.{transmit_step};
 ghost use Rattle.turn_gather.specs.Gathering.{Checks, is_checked_in};
-ghost use Rattle.turn_gather.specs.Received.{HandsOn, PassesUp, client_step, gathered, gathered_of, given_up, polled};
+ghost use Rattle.turn_gather.specs.Received.{HandsOn, PassesUp, client_step, gathered_of, given_up, polled, received};
 
 use crate::error::GatherError;
 use crate::receive::GatherRecv;
@@ -131,7 +131,7 @@ impl<C: TurnClientApi> Gatherer<C> {
         now: Instant,
     ) -> Result<GatherRecv<T>, AllocError>
         requires moment { now ≤ 2 ^ 62 }
-        ensures answer { IfOk result (λ answer. gathered_of answer ≡ gathered self.old.checked (client_step transmit (T.items transmit.payload) now self.old.client).0) }
+        ensures answer { IfOk result (λ answer. gathered_of answer ≡ received transmit (T.items transmit.payload) now self.old) }
         ensures hands_on { IfOk result (HandsOn transmit) }
         ensures after { OnOk result (self.new.client ≡ (client_step transmit (T.items transmit.payload) now self.old.client).1) }
         ensures no_memory { OnErr result (RecvEnds transmit.to (T.items transmit.payload) now self.old.client self.new.client) }
