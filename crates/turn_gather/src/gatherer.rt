@@ -99,7 +99,8 @@ impl<C: TurnClientApi> Gatherer<C> {
     }
 
     /// Takes it that the pair is checked: from now on what this peer sends is passed up. A pair that is
-    /// there already changes nothing, and takes no memory.
+    /// there already changes nothing, and takes no memory. Addresses are compared whole, and a server tells
+    /// those of IPv6 without flow information and scope, so a peer is checked with both zero.
     ///
     /// # Errors
     ///
