@@ -1,0 +1,54 @@
+-- No call of a client changes its configuration.
+use Rattle.std.proofs.Common.{◌≡◌, ◌∙◌, refl}
+use Rattle.turn_client_api.specs.State.{State}
+use Rattle.turn_client_api.specs.Steps.{state_after}
+use Rattle.turn_client_api.specs.declared.call.Call.{Call}
+use Rattle.turn_client_api.proofs.Edits.{KeepsAllEdits, KeepsEdits}
+use Rattle.turn_client_api.proofs.EditsOfCalls.{calls-walk}
+
+abbrev KeepsConfig : State → State → Type 0
+KeepsConfig s t = t.config ≡ s.config
+
+KeepsConfig-KeepsEdits : KeepsEdits KeepsConfig
+KeepsConfig-KeepsEdits = record {
+  same = λ s. refl;
+  trans = λ s t u first second. second ∙ first;
+  aside = λ s t. refl;
+  queues = λ queue s begun. refl;
+  dequeues = λ queue s fewer. refl;
+  families = λ families s may. refl;
+  sends = λ now s waits. refl;
+  begins = λ now s new. refl;
+  ends = λ s none. refl;
+  asks = λ id text purposes now s begun askable spelled. refl;
+  finishes = λ id s. refl;
+  resends = λ id now s. refl;
+  unlists = λ which s. refl;
+  removes = λ which s spares. refl;
+  removes_family = λ family s. refl;
+  takes_offer = λ id peer s. refl;
+  ages = λ grants s e. refl;
+  permission = λ ip s phase room none. refl;
+  channel = λ number peer s phase room none within. refl;
+  connect = λ peer s phase room none. refl;
+  connection = λ id c origin s phase offer none waits. refl;
+  reserves = λ number peer was until s there. refl;
+}
+
+KeepsConfig-KeepsAllEdits : KeepsAllEdits KeepsConfig
+KeepsConfig-KeepsAllEdits = record {
+  edits = KeepsConfig-KeepsEdits;
+  reshapes = λ grants s e. refl;
+  rebinds = λ number peer was progress s there. refl;
+  holds = λ message d s e. refl;
+  counts = λ s held few. refl;
+  resets = λ heeded s. refl;
+  empties = λ s. refl;
+  allocates = λ message lifetime now s e none. refl;
+  permits = λ ip expiry s is. refl;
+  connects = λ id connection_id peer s t since stay granted listed. since;
+  offers = λ id peer origin s room few. refl;
+}
+
+pub state_after-config : (call : Call) (s : State) → (state_after call s).config ≡ s.config
+state_after-config = calls-walk KeepsConfig KeepsConfig-KeepsAllEdits (λ s streams. refl)

@@ -1,0 +1,3 @@
+pub mod ConfigLemmas
+pub mod DriveLemmas
+pub mod ReceivedLemmas

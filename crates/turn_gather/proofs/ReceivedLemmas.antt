@@ -1,0 +1,20 @@
+-- What is passed up is what the client gave.
+use Rattle.std.proofs.Common.{◌≡◌, ℕ, subst, sym}
+use Rattle.std.specs.declared.convert.AsSlice.{Ghosts}
+use Rattle.turn_stun.specs.declared.transport.Transmit.{Transmit}
+use Rattle.turn_client_api.specs.Answers.{HandsBack, IsPartOf}
+use Rattle.turn_client_api.specs.PeerBytes.{held_in}
+use Rattle.turn_client_api.specs.declared.receive.TurnPeerData.{TurnPeerData}
+use Rattle.turn_client_api.specs.declared.receive.TurnRecvRet.{TurnRecvRet}
+use Rattle.turn_client_api.specs.declared.receive.TurnRecvRet.TheVariants as Client
+use Rattle.turn_gather.specs.Received.{HandsOn, PassesUp}
+use Rattle.turn_gather.specs.declared.receive.GatherRecv.{GatherRecv}
+use Rattle.turn_gather.specs.declared.receive.GatherRecv.TheVariants as Recv
+
+-- it is a part of what the caller handed in where the client's answer was
+pub passed-HandsOn : {T : Type 0} {g : Ghosts T ℕ} (transmit : Transmit T) (told : TurnRecvRet T g) (given : TurnPeerData T g) (r : GatherRecv T g) → HandsBack transmit told → told ≡ Client.PeerData given → PassesUp given r → HandsOn transmit r
+passed-HandsOn transmit told given (Recv.Payload passed) back is up =
+    subst (λ p. IsPartOf transmit.payload (held_in p)) (sym up) (subst (λ answer. HandsBack transmit answer) is back)
+passed-HandsOn transmit told given Recv.Handled back is up = tt
+passed-HandsOn transmit told given (Recv.Ignored again) back is up = absurd up
+passed-HandsOn transmit told given Recv.Dropped back is up = tt

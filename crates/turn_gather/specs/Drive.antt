@@ -1,0 +1,140 @@
+-- Lists of calls: each by its own step, one after the other.
+use Rattle.std.specs.Prelude.{◌≡◌, ℕ, ◌≤◌, ◌^◌, List, [], ◌∷◌, ◌++◌, length, Option, Some, None, ⊤, if◌then◌else◌}
+use Rattle.std.specs.declared.net.socket_addr.SocketAddr.{SocketAddr}
+use Rattle.turn_stun.specs.declared.transport.TransportType.{TransportType}
+use Rattle.turn_stun.specs.declared.transport.TransportType.TheVariants.{Udp}
+use Rattle.turn_client_api.specs.State.{State}
+use Rattle.turn_client_api.specs.Payloads.{Payload}
+use Rattle.turn_client_api.specs.Streams.{payload_in, poll_recv_step}
+use Rattle.turn_client_api.specs.Calls.{create_permission_step, relayed_addresses_of, send_to_step}
+use Rattle.turn_client_api.specs.Poll.{poll_step}
+use Rattle.turn_client_api.specs.Transmit.{transmit_step}
+use Rattle.turn_client_api.specs.Answers.{event_step}
+use Rattle.turn_client_api.specs.Steps.{packet_step}
+use Rattle.turn_gather.specs.Gathering.{Gathering, check_step, is_checked_in}
+use Rattle.turn_gather.specs.Received.{Gathered, gathered, polled}
+use Rattle.turn_gather.specs.Received as G
+use Rattle.turn_gather.specs.declared.calls.call.GatherCall.{GatherCall}
+use Rattle.turn_gather.specs.declared.calls.call.GatherCall.TheVariants.{Candidates, IsChecked, Check, Recv, PollRecv, CreatePermission, SendTo, Poll, PollTransmit, PollEvent}
+use Rattle.turn_gather.specs.declared.calls.reply.PeerPayload.{PeerPayload}
+use Rattle.turn_gather.specs.declared.calls.reply.GatherReply.{GatherReply}
+use Rattle.turn_gather.specs.declared.calls.reply.GatherReply.TheVariants as Replies
+
+-- ---- one call
+
+-- what a peer sent, whoever holds it
+abbrev pub peer_payload : Payload → PeerPayload
+peer_payload payload = record { transport = payload.transport; peer = payload.peer; «data» = payload.bytes }
+
+-- the answer of `recv`
+abbrev pub gathered_reply : Gathered → GatherReply
+gathered_reply G.Handled = Replies.Handled
+gathered_reply G.Ignored = Replies.Ignored
+gathered_reply (G.PassedUp payload) = Replies.Payload (peer_payload payload)
+gathered_reply G.Dropped = Replies.Dropped
+
+-- the answer of `poll_recv`
+abbrev pub polled_reply : Option Gathered → GatherReply
+polled_reply None = Replies.NoPayload
+polled_reply (Some given) = gathered_reply given
+
+-- the answer of the call, which finds memory
+abbrev pub reply_of : GatherCall → Gathering → GatherReply
+reply_of Candidates s = Replies.Candidates (relayed_addresses_of s.client)
+reply_of (IsChecked transport peer) s = Replies.IsChecked (is_checked_in transport peer s.checked)
+reply_of (Check transport peer) s = Replies.Check (check_step transport peer s.checked).0
+reply_of (Recv packet now) s = gathered_reply (gathered s.checked (packet_step packet now s.client).0)
+reply_of (PollRecv now) s = polled_reply (polled now s)
+reply_of (CreatePermission transport peer now) s = Replies.CreatePermission (create_permission_step transport peer now s.client).0
+reply_of (SendTo transport peer bytes now) s = Replies.SendTo (send_to_step transport peer bytes now s.client).0
+reply_of (Poll now) s = Replies.Poll (poll_step now s.client).0
+reply_of (PollTransmit now) s = Replies.Transmit (transmit_step now s.client).0
+reply_of PollEvent s = Replies.Event (event_step s.client).0
+
+-- the client after it
+abbrev pub client_after : GatherCall → State → State
+client_after Candidates s = s
+client_after (IsChecked transport peer) s = s
+client_after (Check transport peer) s = s
+client_after (Recv packet now) s = (packet_step packet now s).1
+client_after (PollRecv now) s = (poll_recv_step now s).1
+client_after (CreatePermission transport peer now) s = (create_permission_step transport peer now s).1
+client_after (SendTo transport peer bytes now) s = (send_to_step transport peer bytes now s).1
+client_after (Poll now) s = (poll_step now s).1
+client_after (PollTransmit now) s = (transmit_step now s).1
+client_after PollEvent s = (event_step s).1
+
+-- the pairs after it: only `check` changes them
+abbrev pub checked_after : GatherCall → List (TransportType × SocketAddr) → List (TransportType × SocketAddr)
+checked_after Candidates pairs = pairs
+checked_after (IsChecked transport peer) pairs = pairs
+checked_after (Check transport peer) pairs = (check_step transport peer pairs).1
+checked_after (Recv packet now) pairs = pairs
+checked_after (PollRecv now) pairs = pairs
+checked_after (CreatePermission transport peer now) pairs = pairs
+checked_after (SendTo transport peer bytes now) pairs = pairs
+checked_after (Poll now) pairs = pairs
+checked_after (PollTransmit now) pairs = pairs
+checked_after PollEvent pairs = pairs
+
+abbrev pub after : GatherCall → Gathering → Gathering
+after call s = record { client = client_after call s.client; checked = checked_after call s.checked }
+
+-- the answer, and the gatherer after it
+abbrev pub step : Gathering → GatherCall → GatherReply × Gathering
+step s call = (reply_of call s, after call s)
+
+-- ---- calls that can be made
+
+-- where the server relays over UDP a packet carries the data for a peer
+abbrev pub IsShort : TransportType → List ℕ → Type 0
+IsShort transport bytes = transport ≡ Udp → length bytes ≤ 65504
+
+-- a gatherer whose client's allocations relay over this transport can be called so
+abbrev pub IsCallable : TransportType → GatherCall → Type 0
+IsCallable relays Candidates = ⊤
+IsCallable relays (IsChecked transport peer) = ⊤
+IsCallable relays (Check transport peer) = ⊤
+IsCallable relays (Recv packet now) = now ≤ 2 ^ 62
+IsCallable relays (PollRecv now) = now ≤ 2 ^ 62
+IsCallable relays (CreatePermission transport peer now) = now ≤ 2 ^ 62
+IsCallable relays (SendTo transport peer bytes now) = (now ≤ 2 ^ 62) × IsShort relays bytes
+IsCallable relays (Poll now) = now ≤ 2 ^ 62
+IsCallable relays (PollTransmit now) = now ≤ 2 ^ 62
+IsCallable relays PollEvent = ⊤
+
+-- ---- many calls
+
+-- the answers of the calls, one after the other
+abbrev pub all_replies : Gathering → List GatherCall → List GatherReply
+all_replies s [] = []
+all_replies s (call ∷ calls) = reply_of call s ∷ all_replies (after call s) calls
+
+-- the gatherer after them
+abbrev pub after_all : Gathering → List GatherCall → Gathering
+after_all s [] = s
+after_all s (call ∷ calls) = after_all (after call s) calls
+
+-- ---- what is passed up
+
+-- the payload that an answer passes up
+abbrev pub passed_up : GatherReply → Option PeerPayload
+passed_up (Replies.Payload payload) = Some payload
+passed_up _ = None
+
+-- the payload of a peer that the client gives in a call (RFC 8656, section 11.7)
+abbrev pub payload_given : GatherCall → State → Option Payload
+payload_given (Recv packet now) s = payload_in (packet_step packet now s).0
+payload_given (PollRecv now) s = (poll_recv_step now s).0
+payload_given _ s = None
+
+-- it alone, if its pair is one of these
+abbrev pub if_checked : List (TransportType × SocketAddr) → Option Payload → List PeerPayload
+if_checked pairs None = []
+if_checked pairs (Some payload) =
+    if is_checked_in payload.transport payload.peer pairs then peer_payload payload ∷ [] else []
+
+-- the payloads that the client gives in these calls, of the peers whose pairs were checked before
+abbrev pub checked_payloads : Gathering → List GatherCall → List PeerPayload
+checked_payloads s [] = []
+checked_payloads s (call ∷ calls) = if_checked s.checked (payload_given call s.client) ++ checked_payloads (after call s) calls

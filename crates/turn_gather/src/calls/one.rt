@@ -1,0 +1,174 @@
+//! One call of a gatherer, whichever it is.
+
+ghost use Rattle.std.specs.Prelude.{◌≡◌, ◌≤◌, ◌^◌, IfOk};
+ghost use Rattle.turn_client_api.specs.Answers.{given_payload};
+ghost use Rattle.turn_gather.specs.Drive.{IsCallable, IsShort, gathered_reply, peer_payload, step};
+ghost use Rattle.turn_gather.specs.Received.{gathered_of};
+
+use crate::calls::{Candidates, GatherCall, GatherReply, PeerPayload};
+use crate::error::GatherError;
+use crate::gatherer::Gatherer;
+use crate::receive::GatherRecv;
+use std::alloc::{AllocError, Global};
+use std::convert::AsSlice;
+use std::fmt::Debug;
+use std::net::{IpAddr, SocketAddr};
+use turn_client_api::{CreatePermissionError, TurnClientApi, TurnPeerData};
+use turn_stun::data::Data;
+use turn_stun::instant::Instant;
+use turn_stun::transport::{Transmit, TransportType};
+
+/// Makes this call, and answers what it answers. Where there is no memory for the call or for its answer,
+/// the gatherer is not used any more.
+pub(crate) fn reply_to<C: TurnClientApi>(
+    alloc: Global,
+    gatherer: &mut Gatherer<C>,
+    call: &GatherCall,
+) -> Result<GatherReply, AllocError>
+    requires { IsCallable gatherer.old.client.config.allocation_transport call.now }
+    ensures { IfOk result (λ reply. (reply, gatherer.new) ≡ step gatherer.old call.now) }
+{
+    match call {
+        GatherCall::Candidates => candidates(alloc, gatherer),
+        GatherCall::IsChecked { transport, peer } => Ok(GatherReply::IsChecked(gatherer.is_checked(
+            *transport, *peer,
+        ))),
+        GatherCall::Check { transport, peer } => check(gatherer, *transport, *peer),
+        GatherCall::Recv { transmit, now } => recv(alloc, gatherer, transmit, *now),
+        GatherCall::PollRecv { now } => poll_recv(alloc, gatherer, *now),
+        GatherCall::CreatePermission {
+            transport,
+            peer_addr,
+            now,
+        } => create_permission(gatherer, *transport, *peer_addr, *now),
+        GatherCall::SendTo {
+            transport,
+            to,
+            data,
+            now,
+        } => send_to(alloc, gatherer, *transport, *to, data, *now),
+        GatherCall::Poll { now } => Ok(GatherReply::Poll(gatherer.poll(*now)?)),
+        GatherCall::PollTransmit { now } => Ok(GatherReply::Transmit(gatherer.poll_transmit(
+            *now,
+        )?)),
+        GatherCall::PollEvent => Ok(GatherReply::Event(gatherer.poll_event())),
+    }
+}
+
+/// The candidates.
+fn candidates<C: TurnClientApi>(
+    alloc: Global,
+    gatherer: &Gatherer<C>,
+) -> Result<GatherReply, AllocError>
+    ensures { IfOk result (λ reply. (reply, gatherer.now) ≡ step gatherer.now GatherCall.Candidates) }
+{
+    Ok(GatherReply::Candidates(Candidates::from(gatherer.candidates(alloc)?)))
+}
+
+/// Takes it that the pair is checked.
+fn check<C: TurnClientApi>(
+    gatherer: &mut Gatherer<C>,
+    transport: TransportType,
+    peer: SocketAddr,
+) -> Result<GatherReply, AllocError>
+    ensures { IfOk result (λ reply. (reply, gatherer.new) ≡ step gatherer.old (GatherCall.Check transport peer)) }
+{
+    match gatherer.check(transport, peer) {
+        Err(GatherError::OutOfMemory) => Err(AllocError),
+        answer => Ok(GatherReply::Check(answer)),
+    }
+}
+
+/// Hands a packet in, whose bytes stay with the caller.
+fn recv<C: TurnClientApi>(
+    alloc: Global,
+    gatherer: &mut Gatherer<C>,
+    transmit: &Transmit<Data>,
+    now: Instant,
+) -> Result<GatherReply, AllocError>
+    requires { now ≤ 2 ^ 62 }
+    ensures { IfOk result (λ reply. (reply, gatherer.new) ≡ step gatherer.old (GatherCall.Recv transmit.now now)) }
+{
+    let bytes = transmit.payload.as_bytes();
+    let packet = Transmit::new(bytes, transmit.transport, transmit.from, transmit.to);
+    let given = gatherer.recv(packet, now)?;
+    told(alloc, &given)
+}
+
+/// Asks for what the streams hold of peers.
+fn poll_recv<C: TurnClientApi>(
+    alloc: Global,
+    gatherer: &mut Gatherer<C>,
+    now: Instant,
+) -> Result<GatherReply, AllocError>
+    requires { now ≤ 2 ^ 62 }
+    ensures { IfOk result (λ reply. (reply, gatherer.new) ≡ step gatherer.old (GatherCall.PollRecv now)) }
+{
+    match gatherer.poll_recv(now)? {
+        Some(given) => told(alloc, &given),
+        None => Ok(GatherReply::NoPayload),
+    }
+}
+
+/// What came in, with bytes of its own.
+fn told<T: AsSlice<u8> + Debug + Drop>(
+    alloc: Global,
+    given: &GatherRecv<T>,
+) -> Result<GatherReply, AllocError>
+    ensures { IfOk result (λ reply. reply ≡ gathered_reply (gathered_of given.now)) }
+{
+    match given {
+        GatherRecv::Handled => Ok(GatherReply::Handled),
+        GatherRecv::Ignored(_) => Ok(GatherReply::Ignored),
+        GatherRecv::Payload(given) => Ok(GatherReply::Payload(owned(alloc, given)?)),
+        GatherRecv::Dropped => Ok(GatherReply::Dropped),
+    }
+}
+
+/// What a peer sent, with bytes of its own.
+fn owned<T: AsSlice<u8>>(alloc: Global, given: &TurnPeerData<T>) -> Result<PeerPayload, AllocError>
+    ensures { IfOk result (λ owned. owned ≡ peer_payload (given_payload given.now)) }
+{
+    let bytes = Vec::from_slice(alloc, given.data())?;
+    Ok(PeerPayload {
+        transport: given.transport,
+        peer: given.peer,
+        data: Data::from(bytes),
+    })
+}
+
+/// Asks for a permission.
+fn create_permission<C: TurnClientApi>(
+    gatherer: &mut Gatherer<C>,
+    transport: TransportType,
+    peer_addr: IpAddr,
+    now: Instant,
+) -> Result<GatherReply, AllocError>
+    requires { now ≤ 2 ^ 62 }
+    ensures { IfOk result (λ reply. (reply, gatherer.new) ≡ step gatherer.old (GatherCall.CreatePermission transport peer_addr now)) }
+{
+    match gatherer.create_permission(transport, peer_addr, now) {
+        Err(CreatePermissionError::OutOfMemory) => Err(AllocError),
+        answer => Ok(GatherReply::CreatePermission(answer)),
+    }
+}
+
+/// Sends data to a peer: the packet is built at once.
+fn send_to<C: TurnClientApi>(
+    alloc: Global,
+    gatherer: &mut Gatherer<C>,
+    transport: TransportType,
+    to: SocketAddr,
+    payload: &Data,
+    now: Instant,
+) -> Result<GatherReply, AllocError>
+    requires moment { now ≤ 2 ^ 62 }
+    requires short { IsShort gatherer.old.client.config.allocation_transport payload.now }
+    ensures { IfOk result (λ reply. (reply, gatherer.new) ≡ step gatherer.old (GatherCall.SendTo transport to payload.now now)) }
+{
+    match gatherer.send_to(transport, to, payload.as_bytes(), now) {
+        Ok(Some(packet)) => Ok(GatherReply::SendTo(Ok(packet.build(alloc)?))),
+        Ok(None) => unreachable!(),
+        Err(refusal) => Ok(GatherReply::SendTo(Err(refusal))),
+    }
+}

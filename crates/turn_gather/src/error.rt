@@ -1,0 +1,26 @@
+//! Why a gatherer refuses a pair.
+
+use std::alloc::AllocError;
+use thiserror::Error;
+
+/// Why a pair is not checked. Nothing changes then.
+#[derive(Clone, Copy, Debug, PartialEq, Eq, Error)]
+pub enum GatherError {
+    /// There are 1,024 pairs already, and this is not one of them.
+    #[error("There are too many checked pairs.")]
+    Full,
+    /// There is no memory for the pair.
+    #[error("out of memory")]
+    OutOfMemory,
+}
+
+impl From<AllocError> for GatherError {
+    ghost use Rattle.std.specs.Prelude.{◌≡◌};
+    ghost use Rattle.turn_gather.specs.declared.error.GatherError.TheVariants.{OutOfMemory};
+
+    ghost from_gives = { λ _ error. error ≡ OutOfMemory };
+
+    fn from(_error: AllocError) -> GatherError {
+        GatherError::OutOfMemory
+    }
+}

@@ -1,0 +1,377 @@
+//! What a gatherer passes up of what comes to its client, by single calls and by a list of them.
+//!
+//! A row says what is asked, and what comes of it.
+
+ghost use Rattle.std.specs.Prelude.{◌≡◌, All, IfOk, length};
+ghost use Rattle.turn_gather.specs.Drive.{IsCallable};
+
+use crate::caller::Caller;
+use crate::exchange::{DATA, GENEROUS, OTHER, PEER, RELAYED};
+use crate::fixture::{IPV4, Place, at, client_for, local, server};
+use std::alloc::{AllocError, Global};
+use std::net::SocketAddr;
+use std::process::Abort;
+use std::test::Fail;
+use turn_client_api::{CreatePermissionError, SendError, TurnClientApi};
+use turn_gather::{Driven, GatherCall, GatherError, GatherRecv, GatherReply, Gatherer, drive};
+use turn_stun::data::Data;
+use turn_stun::transport::{Transmit, TransportType};
+use turn_types::transmit::DelayedTransmitBuild;
+
+/// When all is asked, in milliseconds after the start.
+const NOW: u32 = 500;
+
+/// The peer's other port.
+const OTHER_PORT: Place = Place::V4(3, 9_001);
+
+/// How many pairs can be checked.
+const MOST: u16 = 1_024;
+
+/// What is asked.
+#[derive(Clone, Copy)]
+enum Ask<'a> {
+    Candidates,
+    IsChecked(TransportType, Place),
+    Check(TransportType, Place),
+    /// The server's datagram.
+    Hear(&'a [u8]),
+    /// What the client's streams hold, which has none over UDP.
+    Poll,
+    Permit(Place),
+    /// `hello` to this peer.
+    Greet(Place),
+    Event,
+}
+
+/// What is wanted.
+#[derive(Clone, Copy)]
+enum Want<'a> {
+    Addresses(&'a [Place]),
+    Yes,
+    No,
+    Done,
+    /// The payload of this peer.
+    Payload(Place, &'a [u8]),
+    Dropped,
+    Ignored,
+    Nothing,
+    AlreadyExists,
+    NoPermission,
+    /// A packet of so many bytes.
+    Packet(usize),
+}
+
+type Row<'a> = (Ask<'a>, Want<'a>);
+
+/// No message, and no frame.
+const NOISE: &[u8] = &[0xff, 0xff];
+
+/// Of the peer with the permission only the checked port is heard, and only over the checked transport.
+const ROWS: &[Row<'static>] = &[
+    (Ask::Candidates, Want::Addresses(&[RELAYED])),
+    (Ask::Hear(DATA), Want::Dropped),
+    (Ask::Check(TransportType::Udp, OTHER_PORT), Want::Done),
+    (Ask::Hear(DATA), Want::Dropped),
+    (Ask::Check(TransportType::Tcp, PEER), Want::Done),
+    (Ask::Hear(DATA), Want::Dropped),
+    (Ask::IsChecked(TransportType::Udp, PEER), Want::No),
+    (Ask::Check(TransportType::Udp, PEER), Want::Done),
+    (Ask::IsChecked(TransportType::Udp, PEER), Want::Yes),
+    (Ask::Hear(DATA), Want::Payload(PEER, b"hello")),
+    (Ask::Check(TransportType::Udp, PEER), Want::Done),
+    (Ask::Hear(DATA), Want::Payload(PEER, b"hello")),
+    (Ask::Hear(NOISE), Want::Ignored),
+    (Ask::Poll, Want::Nothing),
+    (Ask::Permit(PEER), Want::AlreadyExists),
+    (Ask::Greet(PEER), Want::Packet(44)),
+    (Ask::Greet(OTHER), Want::NoPermission),
+    (Ask::Event, Want::Nothing),
+];
+
+/// Brings a new client to an address and a permission for the peer. It has told of both.
+fn permitted<C: TurnClientApi>(alloc: Global, client: &mut C) -> Result<(), AllocError> {
+    let mut caller = Caller::new(alloc);
+    caller.wait(client, GENEROUS, 200)?;
+    let _ = client.create_permission(TransportType::Udp, PEER.ip(), at(200));
+    caller.wait(client, GENEROUS, NOW)
+}
+
+fn is(found: bool, want: &Want<'_>) -> bool {
+    match want {
+        Want::Yes => found,
+        Want::No => !found,
+        _ => false,
+    }
+}
+
+fn are_addresses(found: &[(TransportType, SocketAddr)], want: &Want<'_>) -> bool {
+    let Want::Addresses(places) = want else {
+        return false;
+    };
+    found.len() == places.len()
+        && found.iter().zip(places.iter()).all(|(found, place)| *found
+            == (TransportType::Udp, place.address()))
+}
+
+fn is_payload(transport: TransportType, peer: SocketAddr, bytes: &[u8], want: &Want<'_>) -> bool {
+    match want {
+        Want::Payload(place, data) => {
+            transport == TransportType::Udp && peer == place.address() && bytes == *data
+        }
+        _ => false,
+    }
+}
+
+fn is_checked(answer: Result<(), GatherError>, want: &Want<'_>) -> bool {
+    match answer {
+        Ok(()) => matches!(want, Want::Done),
+        Err(_) => false,
+    }
+}
+
+fn is_permitted(answer: Result<(), CreatePermissionError>, want: &Want<'_>) -> bool {
+    match answer {
+        Err(CreatePermissionError::AlreadyExists) => matches!(want, Want::AlreadyExists),
+        _ => false,
+    }
+}
+
+fn is_refused(refusal: SendError, want: &Want<'_>) -> bool {
+    matches!(refusal, SendError::NoPermission) && matches!(want, Want::NoPermission)
+}
+
+fn is_packet(len: usize, want: &Want<'_>) -> bool {
+    match want {
+        Want::Packet(bytes) => len == *bytes,
+        _ => false,
+    }
+}
+
+/// Whether what comes of the datagram is what is wanted.
+fn hears<C: TurnClientApi>(
+    gatherer: &mut Gatherer<C>,
+    bytes: &[u8],
+    want: &Want<'_>,
+) -> Result<bool, AllocError> {
+    let packet = Transmit::new(bytes, TransportType::Udp, server(), local());
+    match gatherer.recv(packet, at(NOW))? {
+        GatherRecv::Handled => Ok(false),
+        GatherRecv::Ignored(back) => Ok(matches!(want, Want::Ignored) && back.payload == bytes),
+        GatherRecv::Payload(given) => Ok(is_payload(
+            given.transport,
+            given.peer,
+            given.data(),
+            want,
+        )),
+        GatherRecv::Dropped => Ok(matches!(want, Want::Dropped)),
+    }
+}
+
+/// Whether the packet for this peer is what is wanted.
+fn greets<C: TurnClientApi>(gatherer: &mut Gatherer<C>, to: SocketAddr, want: &Want<'_>) -> bool {
+    let hello: &[u8] = b"hello";
+    match gatherer.send_to(TransportType::Udp, to, hello, at(NOW)) {
+        Ok(Some(packet)) => is_packet(packet.payload.len(), want),
+        Ok(None) => false,
+        Err(refusal) => is_refused(refusal, want),
+    }
+}
+
+/// Whether the row holds of the gatherer.
+fn holds<C: TurnClientApi>(
+    alloc: Global,
+    gatherer: &mut Gatherer<C>,
+    row: &Row<'_>,
+) -> Result<bool, AllocError> {
+    let (ask, want) = row;
+    match ask {
+        Ask::Candidates => {
+            let found = gatherer.candidates(alloc)?;
+            Ok(are_addresses(found.as_slice(), want))
+        }
+        Ask::IsChecked(transport, place) => {
+            Ok(is(gatherer.is_checked(*transport, place.address()), want))
+        }
+        Ask::Check(transport, place) => {
+            Ok(is_checked(gatherer.check(*transport, place.address()), want))
+        }
+        Ask::Hear(bytes) => hears(gatherer, bytes, want),
+        Ask::Poll => {
+            let given = gatherer.poll_recv(at(NOW))?;
+            Ok(given.is_none() && matches!(want, Want::Nothing))
+        }
+        Ask::Permit(place) => {
+            let answer = gatherer.create_permission(TransportType::Udp, place.ip(), at(NOW));
+            Ok(is_permitted(answer, want))
+        }
+        Ask::Greet(place) => Ok(greets(gatherer, place.address(), want)),
+        Ask::Event => Ok(gatherer.poll_event().is_none() && matches!(want, Want::Nothing)),
+    }
+}
+
+/// Asserts that each row holds of a gatherer over this client.
+fn follow<C: TurnClientApi>(
+    rt: &impl Abort,
+    alloc: Global,
+    mut client: C,
+    rows: &[Row<'_>],
+) -> Result<(), Fail> {
+    permitted(alloc, &mut client)?;
+    let mut gatherer = Gatherer::new(alloc, client);
+    for (number, row) in rows.iter().enumerate() {
+        let is_so = holds(alloc, &mut gatherer, row)?;
+        assert_eq!(rt; (number, is_so), (number, true));
+    }
+    Ok(())
+}
+
+#[test]
+fn only_checked_pairs_are_heard(rt: HostRuntime) -> Result<(), Fail> {
+    follow(&rt, rt.alloc(), client_for(rt.alloc(), IPV4)?, ROWS)
+}
+
+fn greeting(alloc: Global) -> Result<Data, AllocError>
+    ensures { IfOk result (λ greeting. length greeting ≡ 5) }
+{
+    Ok(Data::from(Vec::from_slice(alloc, b"hello")?))
+}
+
+/// The call of this gatherer.
+fn call<C: TurnClientApi>(
+    alloc: Global,
+    _gatherer: &Gatherer<C>,
+    ask: &Ask<'_>,
+) -> Result<GatherCall, AllocError>
+    ensures { IfOk result (IsCallable _gatherer.now.client.config.allocation_transport) }
+{
+    let now = at(NOW);
+    match ask {
+        Ask::Candidates => Ok(GatherCall::Candidates),
+        Ask::IsChecked(transport, place) => Ok(GatherCall::IsChecked {
+            transport: *transport,
+            peer: place.address(),
+        }),
+        Ask::Check(transport, place) => Ok(GatherCall::Check {
+            transport: *transport,
+            peer: place.address(),
+        }),
+        Ask::Hear(bytes) => {
+            let data = Data::from(bytes.to_vec(alloc)?);
+            let transmit = Transmit::new(data, TransportType::Udp, server(), local());
+            Ok(GatherCall::Recv { transmit, now })
+        }
+        Ask::Poll => Ok(GatherCall::PollRecv { now }),
+        Ask::Permit(place) => Ok(GatherCall::CreatePermission {
+            transport: TransportType::Udp,
+            peer_addr: place.ip(),
+            now,
+        }),
+        Ask::Greet(place) => Ok(GatherCall::SendTo {
+            transport: TransportType::Udp,
+            to: place.address(),
+            data: greeting(alloc)?,
+            now,
+        }),
+        Ask::Event => Ok(GatherCall::PollEvent),
+    }
+}
+
+fn calls_of<C: TurnClientApi>(
+    alloc: Global,
+    gatherer: &Gatherer<C>,
+    rows: &[Row<'_>],
+) -> Result<Vec<GatherCall>, AllocError>
+    ensures { IfOk result (λ calls. All (IsCallable gatherer.now.client.config.allocation_transport) calls.items) }
+{
+    let mut calls = Vec::new(alloc);
+    for (ask, _) in rows {
+        calls.push(call(alloc, gatherer, ask)?)?;
+    }
+    Ok(calls)
+}
+
+/// Whether the answer is the one that is wanted.
+fn is_wanted(reply: &GatherReply, want: &Want<'_>) -> bool {
+    match reply {
+        GatherReply::Candidates(found) => are_addresses(found.as_slice(), want),
+        GatherReply::IsChecked(found) => is(*found, want),
+        GatherReply::Check(answer) => is_checked(*answer, want),
+        GatherReply::Handled => false,
+        GatherReply::Ignored => matches!(want, Want::Ignored),
+        GatherReply::Payload(payload) => {
+            is_payload(
+                payload.transport,
+                payload.peer,
+                payload.data.as_bytes(),
+                want,
+            )
+        }
+        GatherReply::Dropped => matches!(want, Want::Dropped),
+        GatherReply::NoPayload => matches!(want, Want::Nothing),
+        GatherReply::CreatePermission(answer) => is_permitted(*answer, want),
+        GatherReply::SendTo(Ok(packet)) => is_packet(packet.payload.as_bytes().len(), want),
+        GatherReply::SendTo(Err(refusal)) => is_refused(*refusal, want),
+        GatherReply::Poll(_) => false,
+        GatherReply::Transmit(_) => false,
+        GatherReply::Event(event) => event.is_none() && matches!(want, Want::Nothing),
+    }
+}
+
+/// Asserts that a list of calls of a gatherer over this client is answered row by row.
+fn drive_all<C: TurnClientApi>(
+    rt: &impl Abort,
+    alloc: Global,
+    mut client: C,
+    rows: &[Row<'_>],
+) -> Result<(), Fail> {
+    permitted(alloc, &mut client)?;
+    let gatherer = Gatherer::new(alloc, client);
+    let calls = calls_of(alloc, &gatherer, rows)?;
+    let Driven { replies, gatherer } = drive(alloc, gatherer, calls.as_slice())?;
+    drop(gatherer);
+    assert_eq!(rt; replies.len(), rows.len());
+    for (number, (reply, row)) in replies.as_slice().iter().zip(rows.iter()).enumerate() {
+        assert_eq!(rt; (number, is_wanted(reply, &row.1)), (number, true));
+    }
+    Ok(())
+}
+
+#[test]
+fn a_list_of_calls_hears_only_checked_pairs(rt: HostRuntime) -> Result<(), Fail> {
+    drive_all(&rt, rt.alloc(), client_for(rt.alloc(), IPV4)?, ROWS)
+}
+
+/// Checks as many pairs as can be, and asserts that no other is taken, and each of them again.
+fn fills<C: TurnClientApi>(rt: &impl Abort, alloc: Global, client: C) -> Result<(), GatherError> {
+    let udp = TransportType::Udp;
+    let mut gatherer = Gatherer::new(alloc, client);
+    for port in 0..MOST {
+        gatherer.check(udp, Place::V4(3, port).address())?;
+    }
+    let refused = [
+        gatherer.check(udp, Place::V4(3, MOST).address()),
+        gatherer.check(TransportType::Tcp, Place::V4(3, 0).address()),
+        gatherer.check(udp, Place::V4(3, 0).address()),
+        gatherer.check(udp, Place::V4(3, MOST - 1).address()),
+    ];
+    assert_eq!(rt;
+        refused,
+        [
+            Err(GatherError::Full),
+            Err(GatherError::Full),
+            Ok(()),
+            Ok(())
+        ]
+    );
+    let checked = [
+        gatherer.is_checked(udp, Place::V4(3, MOST).address()),
+        gatherer.is_checked(udp, Place::V4(3, MOST - 1).address()),
+    ];
+    assert_eq!(rt; checked, [false, true]);
+    Ok(())
+}
+
+#[test]
+fn no_pair_is_checked_past_the_last_place(rt: HostRuntime) -> Result<(), Fail> {
+    Ok(fills(&rt, rt.alloc(), client_for(rt.alloc(), IPV4)?)?)
+}
