@@ -2,7 +2,6 @@
 
 use crate::tests::states::{ALLOCATED, BOTH_ALLOCATED, BOUND};
 use crate::tests::transcript::follow_transcript;
-use std::alloc::{AllocError, Global};
 use std::test::Fail;
 
 // RFC 8656, section 12.1: the least free number from 4000, of both families together. A channel brings its
@@ -263,44 +262,4 @@ refused expired 900100000000
 wait 940050000000
 ";
     follow_transcript(&rt, rt.alloc(), &[ALLOCATED, BOUND, transcript])
-}
-
-/// A channel to each of 4096 ports of a peer.
-fn all_channels(alloc: Global) -> Result<String, AllocError> {
-    let mut calls = String::new(alloc);
-    for port in 1..=4_096 {
-        let call = format!(in alloc; "50000000 bind udp 10.0.0.3:{port}\nok\n")?;
-        calls.push_str(call.as_str())?;
-    }
-    Ok(calls)
-}
-
-// RFC 8656, section 12: numbers from 4000 to 4FFF, of both families together.
-#[test]
-fn there_are_4096_channels(rt: HostRuntime) -> Result<(), Fail> {
-    let calls = all_channels(rt.alloc())?;
-    let transcript = "50000000 bind udp 10.0.0.3:4097
-refused already-exists
-50000000 bind udp [00000000000000000000000000000001]:1
-refused already-exists
-100000000 transmit
-send udp 192.168.0.1:1000 10.0.0.2:2000 0009004c2112a442a836efcc8b770dc7da41597c000c00044000000000120008000121132b12a4410006000475736572001400057265616c6d000000001500056e6f6e636500000000080014be593a7894f37913e15a34d9022e02bd926e00c6
-100000000 recv udp 10.0.0.2:2000 192.168.0.1:1000 011900202112a442a836efcc8b770dc7da41597c000900040000050800080014335c8edb032482a76fa5bf434e4c67599b2a79ca
-handled
-100000000 event
-bind-failed udp 10.0.0.3:1
-100000000 event
-permit-failed udp 10.0.0.3
-100000000 event
-none
-100000000 bind udp [00000000000000000000000000000001]:1
-ok
-100000000 bind udp 10.0.0.3:4097
-refused already-exists
-";
-    follow_transcript(
-        &rt,
-        rt.alloc(),
-        &[BOTH_ALLOCATED, calls.as_str(), transcript],
-    )
 }
