@@ -54,18 +54,6 @@ none
     follow_transcript(&rt, rt.alloc(), &[ALLOCATED, PERMITTED, transcript])
 }
 
-// RFC 8656, section 11.4.
-#[test]
-fn before_a_permission_data_is_ignored(rt: HostRuntime) -> Result<(), Fail> {
-    let transcript =
-        "50000000 recv udp 10.0.0.2:2000 192.168.0.1:1000 001700182112a442000000000000000000000001001200080001023a2b12a4410013000568656c6c6f000000
-ignored
-50000000 send udp 10.0.0.3:9000 68656c6c6f
-refused no-permission
-";
-    follow_transcript(&rt, rt.alloc(), &[ALLOCATED, transcript])
-}
-
 // RFC 8656, section 11.1: XOR-PEER-ADDRESS and DATA, each indication under an ID of its own, and at once.
 #[test]
 fn data_goes_out_in_send_indications(rt: HostRuntime) -> Result<(), Fail> {

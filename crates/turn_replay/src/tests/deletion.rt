@@ -128,7 +128,7 @@ closed
     follow_transcript(&rt, rt.alloc(), &[ALLOCATED, BOUND, transcript])
 }
 
-// RFC 8656, section 9.3: the answer to a request that was out before. The permission is of no use.
+// RFC 8656, section 10.3: the answer to a request that was out before. The permission is of no use.
 #[test]
 fn what_is_asked_for_already_may_still_be_granted(rt: HostRuntime) -> Result<(), Fail> {
     let transcript = "50000000 permit udp 10.0.0.3

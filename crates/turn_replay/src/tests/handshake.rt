@@ -4,7 +4,7 @@
 use crate::tests::transcript::follow_transcript;
 use std::test::Fail;
 
-// RFC 8489, sections 9.2.3 and 9.2.4: the request is made again under a new ID, signed. Between two requests 50 ms
+// RFC 8489, sections 9.2.3 and 9.2.5: the request is made again under a new ID, signed. Between two requests 50 ms
 // pass.
 #[test]
 fn a_challenge_is_answered_once_the_pause_is_over(rt: HostRuntime) -> Result<(), Fail> {
@@ -109,7 +109,7 @@ wait 940050000000
     follow_transcript(&rt, rt.alloc(), &[transcript])
 }
 
-// RFC 8489, sections 9.2.4, 14.4, 14.6, 14.11 and 14.12: the offer is sent back with the pick, and the user is not
+// RFC 8489, sections 9.2.5, 14.4, 14.6, 14.11 and 14.12: the offer is sent back with the pick, and the user is not
 // named. What is signed with SHA-1 from then on counts as unsigned.
 #[test]
 fn sha256_is_picked_and_kept(rt: HostRuntime) -> Result<(), Fail> {

@@ -4,7 +4,8 @@ use crate::tests::states::{ALLOCATED, PERMITTED};
 use crate::tests::transcript::follow_transcript;
 use std::test::Fail;
 
-// RFC 8656, sections 9.1 and 9.3: the port of the peer is 0. An unsigned grant and a second copy are ignored.
+// RFC 8656, sections 10.1 and 10.3: the port of the peer is 0. An unsigned grant and a second copy are ignored, and
+// so is data of the peer before (section 11.4).
 #[test]
 fn a_permission_is_granted_by_a_signed_success(rt: HostRuntime) -> Result<(), Fail> {
     let transcript = "50000000 permit udp 10.0.0.3
@@ -13,6 +14,10 @@ ok
 refused already-exists
 50000000 have udp 10.0.0.3
 no
+50000000 recv udp 10.0.0.2:2000 192.168.0.1:1000 001700182112a442000000000000000000000001001200080001023a2b12a4410013000568656c6c6f000000
+ignored
+50000000 send udp 10.0.0.3:9000 68656c6c6f
+refused no-permission
 50000000 poll
 wait 100000000
 99999999 transmit
@@ -104,7 +109,7 @@ yes
     follow_transcript(&rt, rt.alloc(), &[ALLOCATED, PERMITTED, transcript])
 }
 
-// RFC 8656, section 9.3: 403 (Forbidden). That a peer is lost is told before what waits.
+// RFC 8656, section 10.3: 403 (Forbidden). That a peer is lost is told before what waits.
 #[test]
 fn a_permission_whose_renewal_is_refused_is_gone_at_once(rt: HostRuntime) -> Result<(), Fail> {
     let transcript = "240000000000 permit udp 10.0.0.5
@@ -131,7 +136,7 @@ wait 480100000000
     follow_transcript(&rt, rt.alloc(), &[ALLOCATED, PERMITTED, transcript])
 }
 
-// RFC 8656, section 9.3: 403 (Forbidden).
+// RFC 8656, section 10.3: 403 (Forbidden).
 #[test]
 fn a_refused_permission_may_be_asked_for_again(rt: HostRuntime) -> Result<(), Fail> {
     let transcript = "50000000 permit udp 10.0.0.3
@@ -193,7 +198,7 @@ wait 240150000000
     follow_transcript(&rt, rt.alloc(), &[ALLOCATED, transcript])
 }
 
-// RFC 8656, section 9.1: and one that has not ended. A call at its end puts an allocation out of use for good (our
+// RFC 8656, section 10.1: and one that has not ended. A call at its end puts an allocation out of use for good (our
 // choice).
 #[test]
 fn a_permission_needs_an_allocation_of_its_family(rt: HostRuntime) -> Result<(), Fail> {

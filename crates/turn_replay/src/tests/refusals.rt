@@ -3,7 +3,7 @@
 use crate::tests::transcript::follow_transcript;
 use std::test::Fail;
 
-// RFC 8489, section 6.3.4: what has no outstanding ID is ignored, and nothing of it is taken.
+// RFC 8489, section 6.3: what has no outstanding ID is ignored, and nothing of it is taken.
 #[test]
 fn a_challenge_to_another_request_is_ignored(rt: HostRuntime) -> Result<(), Fail> {
     let transcript =
@@ -22,29 +22,6 @@ handled
 wait 50000000
 50000000 transmit
 send udp 192.168.0.1:1000 10.0.0.2:2000 000300482112a4425386bd28bdd219b8a08ded1a0019000411000000000d0004000007080006000475736572001400057265616c6d000000001500056e6f6e636500000000080014b814c0a6fa0b9345159d747e20f8b9da8e795041
-";
-    follow_transcript(&rt, rt.alloc(), &[transcript])
-}
-
-// RFC 8489, section 9.2.5: before the first challenge nothing can be signed.
-#[test]
-fn an_unsigned_refusal_of_the_first_request_ends_the_client(rt: HostRuntime) -> Result<(), Fail> {
-    let transcript =
-        "udp 192.168.0.1:1000 10.0.0.2:2000 udp 4 sha1 auto 75736572 70617373 0000000000000000000000000000000000000000000000000000000000000000
-0 transmit
-send udp 192.168.0.1:1000 10.0.0.2:2000 000300142112a44276b8e0ada0f13d90405d6ae5000d0004000007080019000411000000001a0000
-0 recv udp 10.0.0.2:2000 192.168.0.1:1000 011300082112a44276b8e0ada0f13d90405d6ae50009000400000400
-handled
-0 poll
-wait 0
-0 event
-allocate-failed 4
-0 event
-none
-0 poll
-closed
-0 transmit
-none
 ";
     follow_transcript(&rt, rt.alloc(), &[transcript])
 }

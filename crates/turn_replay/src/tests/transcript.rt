@@ -1,7 +1,8 @@
 //! Transcripts: a trace, with what each of its calls is to be answered on the line after it.
 //!
 //! The bytes in them were spelled and signed apart from this client, by RFC 8489, under the MD5 digest of
-//! `user:realm:pass` (section 9.2.2), and IDs are those of ChaCha20 under the seed of zeros (RFC 8439, section 2.4).
+//! `user:realm:pass` or its SHA-256 digest (section 18.5.1). IDs are those of ChaCha20 under the seed of zeros (RFC 8439,
+//! section 2.4).
 
 use crate::status::Status;
 use crate::tests::fixture::is_answered;
