@@ -10,7 +10,7 @@ use Rattle.turn_client_api.proofs.DistinctNumbers.{initial-numbers, leaves-apart
 use Rattle.turn_client_runs.specs.Challenges.{IsPatient}
 use Rattle.turn_client_runs.specs.Promises.{AfterEach, BoundHaveSuccess, CutsAgree, FewAreAnswered, GrantsHaveReplies, HearsLetIn, NumbersAreDistinct, RealmStays, RepliesCountOnce}
 use Rattle.turn_client_runs.specs.Run.{state_behind}
-use Rattle.turn_client_runs.proofs.BoundLemmas.{connections-have-success, streams-have-success}
+use Rattle.turn_client_runs.proofs.BoundLemmas.{connections-have-success, streams-are-bound-before, streams-have-success}
 use Rattle.turn_client_runs.proofs.ChallengeLemmas.{few-answered, initial-patient, leaves-patient, realm-stays}
 use Rattle.turn_client_runs.proofs.HoldLemmas.{holds-found, reaches-behind}
 use Rattle.turn_client_runs.proofs.PeerLemmas.{received, tells-permitted}
@@ -29,8 +29,11 @@ module _ (transport : TransportType) (local remote : SocketAddr) (config : Confi
   run-numbers earlier later e = holds-found HasDistinctNumbers leaves-apart initial-numbers transport local remote config seed earlier
 
   pub run-bound : AfterEach BoundHaveSuccess first calls
-  run-bound earlier later e =
-    (streams-have-success transport local remote config seed earlier, connections-have-success transport local remote config seed earlier)
+  run-bound earlier later e = (
+    streams-have-success transport local remote config seed earlier,
+    connections-have-success transport local remote config seed earlier,
+    streams-are-bound-before transport local remote config seed earlier,
+  )
 
   pub run-hears : HearsLetIn first calls
   run-hears = (λ payload. received payload first calls, λ one there. tells-permitted one)

@@ -8,7 +8,7 @@ use Rattle.turn_client_api.specs.LawsNumbers.{HasDistinctNumbers}
 use Rattle.turn_client_api.specs.LawsSteps.{KeepsRealm}
 use Rattle.turn_client_api.specs.declared.call.Call.{Call}
 use Rattle.turn_client_api.specs.declared.grant.Grant.{Grant}
-use Rattle.turn_client_runs.specs.Bound.{BoundConnectionsHaveSuccess, BoundStreamsHaveSuccess}
+use Rattle.turn_client_runs.specs.Bound.{BoundConnectionsHaveSuccess, BoundStreamsHaveSuccess, StreamsAreBoundBefore}
 use Rattle.turn_client_runs.specs.Challenges.{AnswersFew, IsPatient}
 use Rattle.turn_client_runs.specs.Cut.{ArePieces, IsQuiet, given_in_run, joined, whole_of}
 use Rattle.turn_client_runs.specs.Granted.{HasReply}
@@ -34,9 +34,11 @@ GrantsHaveReplies first calls =
 abbrev pub NumbersAreDistinct : State → List Call → Type 0
 NumbersAreDistinct first calls = HasDistinctNumbers (state_behind first calls)
 
--- each bound stream and each bound data connection has the signed success that bound it
+-- Each bound stream and each bound data connection has the signed success that bound it. So has each stream that
+-- is bound when a turn comes.
 abbrev pub BoundHaveSuccess : State → List Call → Type 0
-BoundHaveSuccess first calls = BoundStreamsHaveSuccess first calls × BoundConnectionsHaveSuccess first calls
+BoundHaveSuccess first calls =
+    BoundStreamsHaveSuccess first calls × BoundConnectionsHaveSuccess first calls × StreamsAreBoundBefore first calls
 
 -- each payload is of a peer that was let in, and what ICMP tells is about a permitted one
 abbrev pub HearsLetIn : State → List Call → Type 0
