@@ -82,11 +82,11 @@ class Caller:
 
     def run(self):
         while True:
+            answer = self.call("poll")
             for event in self.answers("event"):
                 self.take_event(*event)
             for packet in self.answers("transmit"):
                 self.send(*packet)
-            answer = self.call("poll")
             if answer[0] == "closed":
                 sys.exit("the client has ended")
             if answer[0] == "socket":
