@@ -1,0 +1,96 @@
+//! One turn of a caller's loop.
+
+ghost use Rattle.std.specs.Prelude.{◌≡◌, ◌≤◌, ◌^◌, IfOk, OnErr, OnOk, Some, map, option_map};
+ghost use Rattle.turn_uses.specs.Given.{given_of, packet_of};
+ghost use Rattle.turn_uses.specs.Next.{IsRestful};
+ghost use Rattle.turn_uses.specs.Turned.{Draws, Stops, StopsAtHand, begun, going, turned};
+
+use crate::next::{Next, next_task};
+use crate::task::{Rest, Task};
+use std::alloc::AllocError;
+use turn_client_api::{TurnClientApi, TurnRecvRet};
+use turn_stun::instant::Instant;
+use turn_stun::transport::Transmit;
+
+/// One turn of a caller's loop: hands in what came, if anything, and then asks the client for what is to be
+/// done until there is nothing, at most so many times. All that it gives goes to the end of the list, in order,
+/// and the answer says what follows.
+///
+/// # Errors
+///
+/// There is no memory for the list, and the client was not called then; or for the client, which has ended as
+/// its own call says. What it gave before is in the list.
+pub fn turn<C: TurnClientApi>(
+    client: &mut C,
+    came: Option<Transmit<Vec<u8>>>,
+    now: Instant,
+    most: u32,
+    tasks: &mut Vec<Task>,
+) -> Result<Rest, AllocError>
+    requires moment { now ≤ 2 ^ 62 }
+    ensures ok { IfOk result (λ rest. record { given = map given_of tasks.new.items; rest = rest; client = C.state client.new } ≡ turned most now (begun (option_map (packet_of (λ v. v.items)) came) now (map given_of tasks.old.items) (C.state client.old))) }
+    ensures restful { IfOk result (λ rest. IsRestful rest now (C.state client.new)) }
+    ensures no_memory { OnErr result (Stops most (option_map (packet_of (λ v. v.items)) came) now (map given_of tasks.old.items) (C.state client.old) (map given_of tasks.new.items) (C.state client.new)) }
+{
+    if let Some(packet) = came {
+        hand_in(client, packet, now, tasks)?;
+    }
+    draw(client, now, most, tasks)
+}
+
+/// Hands a packet in. What is given at once goes to the end of the list.
+fn hand_in<C: TurnClientApi>(
+    client: &mut C,
+    packet: Transmit<Vec<u8>>,
+    now: Instant,
+    tasks: &mut Vec<Task>,
+) -> Result<(), AllocError>
+    requires moment { now ≤ 2 ^ 62 }
+    ensures ok { OnOk result (going (map given_of tasks.new.items) (C.state client.new) ≡ begun (Some (packet_of (λ v. v.items) packet)) now (map given_of tasks.old.items) (C.state client.old)) }
+    ensures list { OnErr result (tasks.new.items ≡ tasks.old.items) }
+    ensures no_memory { OnErr result (StopsAtHand (Some (packet_of (λ v. v.items) packet)) now (C.state client.old) (C.state client.new)) }
+{
+    tasks.reserve(1)?;
+    let task = match client.recv(packet, now)? {
+        TurnRecvRet::Handled => return Ok(()),
+        TurnRecvRet::Ignored(packet) => Task::Other(packet),
+        TurnRecvRet::PeerData(given) => Task::Payload(given),
+        TurnRecvRet::PeerIcmp {
+            transport,
+            peer,
+            icmp_type,
+            icmp_code,
+            icmp_data,
+        } => Task::Icmp {
+            transport,
+            peer,
+            icmp_type,
+            icmp_code,
+            icmp_data,
+        },
+    };
+    Ok(tasks.push(task)?)
+}
+
+/// Asks for what is to be done until there is nothing, at most so many times.
+fn draw<C: TurnClientApi>(
+    client: &mut C,
+    now: Instant,
+    most: u32,
+    tasks: &mut Vec<Task>,
+) -> Result<Rest, AllocError>
+    requires moment { now ≤ 2 ^ 62 }
+    ensures ok { IfOk result (λ rest. record { given = map given_of tasks.new.items; rest = rest; client = C.state client.new } ≡ turned most now (going (map given_of tasks.old.items) (C.state client.old))) }
+    ensures restful { IfOk result (λ rest. IsRestful rest now (C.state client.new)) }
+    ensures no_memory { OnErr result (Draws most now (going (map given_of tasks.old.items) (C.state client.old)) (map given_of tasks.new.items) (C.state client.new)) }
+{
+    for _ in 0..most {
+        tasks.reserve(1)?;
+        match next_task(client, now)? {
+            Next::Do(task) => tasks.push(task)?,
+            Next::Rest(Rest::Now) => {}
+            Next::Rest(rest) => return Ok(rest),
+        }
+    }
+    Ok(Rest::Now)
+}
