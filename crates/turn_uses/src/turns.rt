@@ -88,8 +88,11 @@ fn draw<C: TurnClientApi>(
         tasks.reserve(1)?;
         match next_task(client, now)? {
             Next::Do(task) => tasks.push(task)?,
-            Next::Rest(Rest::Now) => {}
-            Next::Rest(rest) => return Ok(rest),
+            Next::Rest(rest) => {
+                if rest != Rest::Now {
+                    return Ok(rest);
+                }
+            }
         }
     }
     Ok(Rest::Now)
