@@ -39,10 +39,10 @@ pub on_err : {T E P : Type 0} (r : Result T E) → P → OnErr r P
 on_err (Ok x) p = tt
 on_err (Err e) p = p
 
-pub stops-list : (n most now : ℕ) (start : Turned) (given is : List Given) (s t : State) → n < most → turned n now start ≡ going given s → is ≡ given → t ≡ s → Draws most now start is t
+pub stops-list : (n most now : ℕ) (start : Turned) (given is : List Given) (s t : State) → n < most → turned n now start ≡ going given s → is ≡ given → t ≡ s → Draws most now start (going is t)
 stops-list n most now start given is s t less e same stays =
     (n, less, (ap (λ (u : Turned). u.rest) e, same ∙ sym (ap (λ (u : Turned). u.given) e), inl (stays ∙ sym (ap (λ (u : Turned). u.client) e))))
 
-pub stops-client : (n most now : ℕ) (start : Turned) (given is : List Given) (s t : State) → n < most → turned n now start ≡ going given s → is ≡ given → NextEnds now s t → Draws most now start is t
+pub stops-client : (n most now : ℕ) (start : Turned) (given is : List Given) (s t : State) → n < most → turned n now start ≡ going given s → is ≡ given → NextEnds now s t → Draws most now start (going is t)
 stops-client n most now start given is s t less e same ends =
     (n, less, (ap (λ (u : Turned). u.rest) e, same ∙ sym (ap (λ (u : Turned). u.given) e), inr (subst (λ (u : State). NextEnds now u t) (sym (ap (λ (u : Turned). u.client) e)) ends)))

@@ -1,6 +1,8 @@
 -- What a client gives its caller, whoever holds the bytes.
-use Rattle.std.specs.Prelude.{ℕ, List, Option, Some, None}
+use Rattle.std.specs.Prelude.{ℕ, List, Option, Some, None, option_map}
+use Rattle.std.specs.declared.alloc.Global.{Global}
 use Rattle.std.specs.declared.net.socket_addr.SocketAddr.{SocketAddr}
+use Rattle.std.specs.declared.vec.Vec.{Vec}
 use Rattle.turn_stun.specs.declared.transport.TransportType.{TransportType}
 use Rattle.turn_stun.specs.declared.transport.Transmit.{Transmit}
 use Rattle.turn_types.specs.declared.attribute.icmp_report.Icmp.{Icmp}
@@ -21,21 +23,24 @@ pub data Given : Type 0 where
   ToOpen : ℕ → Socket5Tuple → SocketAddr → Given
   ToClose : SocketAddr → SocketAddr → Given
 
--- a packet by its bytes
-abbrev pub packet_of : {T : Type 0} → (T → List ℕ) → Transmit T → Transmit (List ℕ)
-packet_of bytes packet = record {
-  payload = bytes packet.payload;
+-- a packet that the caller owns, by its bytes
+abbrev pub packet_of : Transmit (Vec ℕ Global) → Transmit (List ℕ)
+packet_of packet = record {
+  payload = packet.payload.items;
   transport = packet.transport;
   from = packet.from;
   to = packet.to;
 }
+
+abbrev pub packet_in : Option (Transmit (Vec ℕ Global)) → Option (Transmit (List ℕ))
+packet_in came = option_map packet_of came
 
 -- what a task stands for
 abbrev pub given_of : Task → Given
 given_of (Task.Payload given) = FromPeer (given_payload given)
 given_of (Task.Icmp transport peer icmp_type icmp_code icmp_data) =
     FromIcmp transport peer (record { icmp_type = icmp_type; code = icmp_code; «data» = icmp_data })
-given_of (Task.Other packet) = NotOurs (packet_of (λ v. v.items) packet)
+given_of (Task.Other packet) = NotOurs (packet_of packet)
 given_of (Task.Event event) = Happened event
 given_of (Task.Send packet) = ToSend packet
 given_of (Task.Open id socket peer) = ToOpen id socket peer

@@ -1,13 +1,14 @@
 -- One turn of a caller's loop.
-use Rattle.std.specs.Prelude.{◌≡◌, ◌⊎◌, ℕ, zero, suc, ◌<◌, false, List, [], ◌∷◌, ◌++◌, Option, Some, None, IsSomeAnd, option_to_list}
+use Rattle.std.specs.Prelude.{◌≡◌, ◌⊎◌, ℕ, zero, suc, ◌<◌, false, List, [], ◌∷◌, ◌++◌, map, Option, Some, None, option_to_list}
 use Rattle.turn_stun.specs.declared.transport.Transmit.{Transmit}
 use Rattle.turn_client_api.specs.State.{State}
 use Rattle.turn_client_api.specs.Answers.{RecvEnds, takes_no_memory}
 use Rattle.turn_client_api.specs.Payloads.{Outcome}
 use Rattle.turn_client_api.specs.Steps.{packet_step}
-use Rattle.turn_uses.specs.Given.{Given, given_in}
+use Rattle.turn_uses.specs.Given.{Given, given_in, given_of}
 use Rattle.turn_uses.specs.Next.{Answer, Does, Rests, NextEnds, next_step}
 use Rattle.turn_uses.specs.declared.task.Rest.{Rest}
+use Rattle.turn_uses.specs.declared.task.Task.{Task}
 use Rattle.turn_uses.specs.declared.task.Rest.TheVariants.{Until, Now, Ended}
 
 -- all that was given, what follows, and the client
@@ -15,6 +16,10 @@ pub record Turned : Type 0 where
   pub given : List Given
   pub rest : Rest
   pub client : State
+
+-- a list of tasks and a client, with what follows
+abbrev pub stands : List Task → Rest → State → Turned
+stands tasks rest s = record { given = map given_of tasks; rest = rest; client = s }
 
 -- something may be left to do
 abbrev pub going : List Given → State → Turned
@@ -26,9 +31,9 @@ abbrev pub handed : Transmit (List ℕ) → List Given → Outcome × State → 
 handed packet given (outcome, s) = going (given ++ option_to_list (given_in packet outcome)) s
 
 -- a turn begins with what came in, if anything did
-abbrev pub begun : Option (Transmit (List ℕ)) → ℕ → List Given → State → Turned
-begun None now given s = going given s
-begun (Some packet) now given s = handed packet given (packet_step packet now s)
+abbrev pub begun : Option (Transmit (List ℕ)) → ℕ → Turned → Turned
+begun None now t = t
+begun (Some packet) now t = handed packet t.given (packet_step packet now t.client)
 
 -- ---- what is asked for
 
@@ -49,7 +54,11 @@ unfoldable pub turned : ℕ → ℕ → Turned → Turned
 turned zero now t = t
 turned (suc n) now t = once_more now (turned n now t)
 
--- ---- want of memory: these are the lists and the clients before and after
+-- a whole turn, from these tasks and this client on
+abbrev pub turn_step : ℕ → Option (Transmit (List ℕ)) → ℕ → List Task → State → Turned
+turn_step most came now tasks s = turned most now (begun came now (stands tasks Now s))
+
+-- ---- want of memory
 
 -- there was none to hand the packet in
 abbrev pub StopsAtHand : Option (Transmit (List ℕ)) → ℕ → State → State → Type 0
@@ -58,12 +67,13 @@ StopsAtHand (Some packet) now s t =
     (t ≡ s) ⊎ ((takes_no_memory packet.transport packet.from packet.to packet.payload s ≡ false) × RecvEnds packet.to packet.payload now s t)
 
 -- there was none for the list, or for the client, when it was asked once more
-abbrev pub StopsAt : ℕ → Turned → List Given → State → Type 0
-StopsAt now t given s = (t.rest ≡ Now) × (given ≡ t.given) × ((s ≡ t.client) ⊎ NextEnds now t.client s)
+abbrev pub StopsAt : ℕ → Turned → Turned → Type 0
+StopsAt now t is = (t.rest ≡ Now) × (is.given ≡ t.given) × ((is.client ≡ t.client) ⊎ NextEnds now t.client is.client)
 
-abbrev pub Draws : ℕ → ℕ → Turned → List Given → State → Type 0
-Draws most now t given s = (n : ℕ) × (n < most) × StopsAt now (turned n now t) given s
+-- what was given before stays
+abbrev pub Draws : ℕ → ℕ → Turned → Turned → Type 0
+Draws most now was is = (n : ℕ) × (n < most) × StopsAt now (turned n now was) is
 
-abbrev pub Stops : ℕ → Option (Transmit (List ℕ)) → ℕ → List Given → State → List Given → State → Type 0
-Stops most came now was s is t =
-    ((is ≡ was) × StopsAtHand came now s t) ⊎ Draws most now (begun came now was s) is t
+abbrev pub Stops : ℕ → Option (Transmit (List ℕ)) → ℕ → Turned → Turned → Type 0
+Stops most came now was is =
+    ((is.given ≡ was.given) × StopsAtHand came now was.client is.client) ⊎ Draws most now (begun came now was) is

@@ -1,9 +1,11 @@
 //! One turn of a caller's loop.
 
-ghost use Rattle.std.specs.Prelude.{◌≡◌, ◌≤◌, ◌^◌, IfOk, OnErr, OnOk, Some, map, option_map};
-ghost use Rattle.turn_uses.specs.Given.{given_of, packet_of};
+ghost use Rattle.std.specs.Prelude.{◌≡◌, ◌≤◌, ◌^◌, IfOk, OnErr, OnOk, Some};
+ghost use Rattle.turn_uses.specs.Given.{packet_in, packet_of};
 ghost use Rattle.turn_uses.specs.Next.{IsRestful};
-ghost use Rattle.turn_uses.specs.Turned.{Draws, Stops, StopsAtHand, begun, going, turned};
+ghost use Rattle.turn_uses.specs.Run.{IsWhole};
+ghost use Rattle.turn_uses.specs.Turned.{Draws, Stops, StopsAtHand, begun, stands, turn_step, turned};
+ghost use Rattle.turn_uses.specs.declared.task.Rest.TheVariants.{Now};
 
 use crate::next::{Next, next_task};
 use crate::task::{Rest, Task};
@@ -28,9 +30,10 @@ pub fn turn<C: TurnClientApi>(
     tasks: &mut Vec<Task>,
 ) -> Result<Rest, AllocError>
     requires moment { now ≤ 2 ^ 62 }
-    ensures ok { IfOk result (λ rest. record { given = map given_of tasks.new.items; rest = rest; client = C.state client.new } ≡ turned most now (begun (option_map (packet_of (λ v. v.items)) came) now (map given_of tasks.old.items) (C.state client.old))) }
+    ensures ok { IfOk result (λ rest. stands tasks.new.items rest (C.state client.new) ≡ turn_step most (packet_in came) now tasks.old.items (C.state client.old)) }
+    ensures whole { OnOk result (IsWhole (packet_in came) now (stands tasks.old.items Now (C.state client.old)) (stands tasks.new.items Now (C.state client.new))) }
     ensures restful { IfOk result (λ rest. IsRestful rest now (C.state client.new)) }
-    ensures no_memory { OnErr result (Stops most (option_map (packet_of (λ v. v.items)) came) now (map given_of tasks.old.items) (C.state client.old) (map given_of tasks.new.items) (C.state client.new)) }
+    ensures no_memory { OnErr result (Stops most (packet_in came) now (stands tasks.old.items Now (C.state client.old)) (stands tasks.new.items Now (C.state client.new))) }
 {
     if let Some(packet) = came {
         hand_in(client, packet, now, tasks)?;
@@ -46,9 +49,9 @@ fn hand_in<C: TurnClientApi>(
     tasks: &mut Vec<Task>,
 ) -> Result<(), AllocError>
     requires moment { now ≤ 2 ^ 62 }
-    ensures ok { OnOk result (going (map given_of tasks.new.items) (C.state client.new) ≡ begun (Some (packet_of (λ v. v.items) packet)) now (map given_of tasks.old.items) (C.state client.old)) }
+    ensures ok { OnOk result (stands tasks.new.items Now (C.state client.new) ≡ begun (Some (packet_of packet)) now (stands tasks.old.items Now (C.state client.old))) }
     ensures list { OnErr result (tasks.new.items ≡ tasks.old.items) }
-    ensures no_memory { OnErr result (StopsAtHand (Some (packet_of (λ v. v.items) packet)) now (C.state client.old) (C.state client.new)) }
+    ensures no_memory { OnErr result (StopsAtHand (Some (packet_of packet)) now (C.state client.old) (C.state client.new)) }
 {
     tasks.reserve(1)?;
     let task = match client.recv(packet, now)? {
@@ -80,9 +83,9 @@ fn draw<C: TurnClientApi>(
     tasks: &mut Vec<Task>,
 ) -> Result<Rest, AllocError>
     requires moment { now ≤ 2 ^ 62 }
-    ensures ok { IfOk result (λ rest. record { given = map given_of tasks.new.items; rest = rest; client = C.state client.new } ≡ turned most now (going (map given_of tasks.old.items) (C.state client.old))) }
+    ensures ok { IfOk result (λ rest. stands tasks.new.items rest (C.state client.new) ≡ turned most now (stands tasks.old.items Now (C.state client.old))) }
     ensures restful { IfOk result (λ rest. IsRestful rest now (C.state client.new)) }
-    ensures no_memory { OnErr result (Draws most now (going (map given_of tasks.old.items) (C.state client.old)) (map given_of tasks.new.items) (C.state client.new)) }
+    ensures no_memory { OnErr result (Draws most now (stands tasks.old.items Now (C.state client.old)) (stands tasks.new.items Now (C.state client.new))) }
 {
     for _ in 0..most {
         tasks.reserve(1)?;
