@@ -1,5 +1,5 @@
 -- What a client gives next.
-use Rattle.std.specs.Prelude.{◌≡◌, ◌⊎◌, ℕ, ◌<◌, ◌≤◌, nat_lt, List, Option, Some, None, if◌then◌else◌, ⊤}
+use Rattle.std.specs.Prelude.{◌≡◌, ◌⊎◌, ℕ, ◌<◌, ◌≤◌, nat_lt, List, [], Option, Some, None, if◌then◌else◌, ⊤}
 use Rattle.turn_stun.specs.declared.transport.Transmit.{Transmit}
 use Rattle.turn_client_api.specs.State.{State}
 use Rattle.turn_client_api.specs.Alarm.{IsSilent}
@@ -64,10 +64,11 @@ next_step now s = by_streams now (poll_recv_step now s)
 -- ---- what a rest means
 
 -- Up to the moment that is told nothing is to be done: no packet is due, nothing waits, no request is given up,
--- and no grant ends.
+-- and no grant ends. A client that has ended has nothing left to tell or to send.
 abbrev pub IsRestful : Rest → ℕ → State → Type 0
 IsRestful (Until moment) now s = (now < moment) × IsSilent now moment s
-IsRestful _ now s = ⊤
+IsRestful Now now s = ⊤
+IsRestful Ended now s = (s.events ≡ []) × (transmit_step now s ≡ (None, s))
 
 abbrev pub AnswersRest : Answer → ℕ → State → Type 0
 AnswersRest (Does given) now s = ⊤
