@@ -1,5 +1,5 @@
 -- A client that has ended and gives nothing has nothing left.
-use Rattle.std.proofs.Common.{◌≡◌, ◌∙◌, ℕ, Bool, true, false, cond, drop, List, [], ◌∷◌, Option, Some, None, ap, filter_map, refl, slice_get, subst, sym}
+use Rattle.std.proofs.Common.{◌≡◌, ◌∙◌, ℕ, Bool, true, false, cond, List, [], ◌∷◌, Option, Some, None, ap, filter_map, refl, slice_get, subst, sym}
 use Rattle.std.specs.Option.{option_map_or}
 use Rattle.std.specs.List.{cons_option}
 use Rattle.turn_stun.specs.declared.transport.Transmit.{Transmit}
@@ -13,7 +13,7 @@ use Rattle.turn_client_api.specs.Due.{is_paused}
 use Rattle.turn_client_api.specs.Transmit.{idle_step, queue_step, refresh_step, reply_in, reply_step, transmit_step, without_first_reply}
 use Rattle.turn_client_api.specs.declared.event.TurnEvent.{TurnEvent}
 use Rattle.turn_client_api.specs.Answers.{event_step}
-use Rattle.turn_uses.specs.Next.{Answer, AnswersRest, answer_of, to_send, to_tell, waiting}
+use Rattle.turn_uses.specs.Next.{AnswersRest, answer_of, to_send, to_tell, waiting}
 use Rattle.turn_uses.specs.declared.next.Next.{Next}
 use Rattle.turn_uses.specs.declared.task.Rest.{Rest}
 use Rattle.turn_uses.specs.declared.task.Rest.TheVariants.{Now, Ended}

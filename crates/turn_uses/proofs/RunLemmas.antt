@@ -1,5 +1,5 @@
 -- A turn is a run of calls, of which nothing is lost.
-use Rattle.std.proofs.Common.{◌≡◌, ◌∙◌, ◌⊎◌, ℕ, zero, suc, Bool, true, false, nat_lt, cond, List, [], ◌∷◌, ◌++◌, Option, Some, None, ap, inl, inr, map, option_map, refl, subst, sym}
+use Rattle.std.proofs.Common.{◌≡◌, ◌∙◌, ℕ, zero, suc, Bool, true, false, nat_lt, cond, List, [], ◌∷◌, ◌++◌, Option, Some, None, ap, inl, inr, option_map, refl, subst, sym}
 use Rattle.std.specs.Prelude.{IfOk, OnOk, Result, Ok, Err, option_to_list}
 use Rattle.std.specs.List.{AllByRecursion}
 use Rattle.turn_uses.specs.declared.task.Task.{Task}
@@ -7,9 +7,9 @@ use Rattle.std.proofs.lemmas.List.{append-nil, append_assoc}
 use Rattle.turn_stun.specs.declared.transport.Transmit.{Transmit}
 use Rattle.turn_client_api.specs.State.{State}
 use Rattle.turn_client_api.specs.Answers.{event_step}
-use Rattle.turn_client_api.specs.Payloads.{Outcome, Payload}
+use Rattle.turn_client_api.specs.Payloads.{Payload}
 use Rattle.turn_client_api.specs.Poll.{poll_step}
-use Rattle.turn_client_api.specs.Steps.{packet_step, state_after}
+use Rattle.turn_client_api.specs.Steps.{state_after}
 use Rattle.turn_client_api.specs.Streams.{poll_recv_step}
 use Rattle.turn_client_api.specs.Transmit.{transmit_step}
 use Rattle.turn_client_api.specs.declared.call.Call.{Call}
@@ -17,9 +17,9 @@ use Rattle.turn_client_api.specs.declared.call.Call.TheVariants.{Recv, PollRecv,
 use Rattle.turn_client_api.specs.declared.event.TurnEvent.{TurnEvent}
 use Rattle.turn_client_api.specs.declared.poll.TurnPollRet.{TurnPollRet}
 use Rattle.turn_client_api.specs.declared.poll.TurnPollRet.TheVariants as Poll
-use Rattle.turn_uses.specs.Given.{Given, FromPeer, Happened, ToSend, given_in}
+use Rattle.turn_uses.specs.Given.{Given, FromPeer, Happened, ToSend}
 use Rattle.turn_uses.specs.Next.{Answer, Does, Rests, by_streams, by_time, next_step, to_send, to_tell, waiting}
-use Rattle.turn_uses.specs.Run.{IsAsk, IsRun, IsWhole, all_given, asked_for, given_by, hand_in_calls, state_behind}
+use Rattle.turn_uses.specs.Run.{IsAsk, IsRun, IsWhole, all_given, asked_for, given_by, state_behind}
 use Rattle.turn_uses.specs.Turned.{Turned, begun, going, once_more, stands, turned, with_answer}
 use Rattle.turn_uses.specs.declared.task.Rest.{Rest}
 use Rattle.turn_uses.specs.declared.task.Rest.TheVariants.{Until, Now, Ended}
@@ -83,13 +83,14 @@ asks-append now [] more all others = others
 asks-append now (call ∷ calls) more (asks, all) others = (asks, asks-append now calls more all others)
 
 IsRun-append : (calls more : List Call) (t u v : Turned) → IsRun calls t u → IsRun more u v → IsRun (calls ++ more) t v
-IsRun-append calls more t u v one other =
-    (other.0
+IsRun-append calls more t u v one other = (
+  other.0
       ∙ (ap (λ given. given ++ all_given u.client more) one.0
       ∙ (ap (λ (s : State). (t.given ++ all_given t.client calls) ++ all_given s more) one.1
       ∙ (append_assoc t.given (all_given t.client calls) (all_given (state_behind t.client calls) more)
       ∙ sym (ap (λ given. t.given ++ given) (given-append t.client calls more))))),
-    other.1 ∙ (ap (λ (s : State). state_behind s more) one.1 ∙ sym (behind-append t.client calls more)))
+  other.1 ∙ (ap (λ (s : State). state_behind s more) one.1 ∙ sym (behind-append t.client calls more)),
+)
 
 -- ---- a turn
 

@@ -1,5 +1,5 @@
 -- What holds of a turn as it goes on.
-use Rattle.std.proofs.Common.{◌≡◌, ◌∙◌, ◌⊎◌, ℕ, zero, suc, ◌+◌, ◌-◌, ◌<◌, List, add-one, ap, arith, inl, inr, refl, subst, suc-add, sym, zero-add}
+use Rattle.std.proofs.Common.{◌≡◌, ◌∙◌, ℕ, zero, suc, ◌+◌, ◌-◌, ◌<◌, List, add-one, ap, arith, inl, inr, refl, subst, suc-add, sym, zero-add}
 use Rattle.std.specs.Prelude.{OnErr, Result, Ok, Err}
 use Rattle.turn_client_api.specs.State.{State}
 use Rattle.turn_uses.specs.Given.{Given}

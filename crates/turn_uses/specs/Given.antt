@@ -12,7 +12,6 @@ use Rattle.turn_client_api.specs.Payloads as O
 use Rattle.turn_client_api.specs.declared.event.TurnEvent.{TurnEvent}
 use Rattle.turn_client_api.specs.declared.poll.Socket5Tuple.{Socket5Tuple}
 use Rattle.turn_uses.specs.declared.task.Task.{Task}
-use Rattle.turn_uses.specs.declared.task.Task.TheVariants as Task
 
 pub data Given : Type 0 where
   FromPeer : Payload → Given

@@ -9,7 +9,7 @@ use Rattle.turn_uses.specs.Given.{Given, given_in, given_of}
 use Rattle.turn_uses.specs.Next.{Answer, Does, Rests, NextEnds, next_step}
 use Rattle.turn_uses.specs.declared.task.Rest.{Rest}
 use Rattle.turn_uses.specs.declared.task.Task.{Task}
-use Rattle.turn_uses.specs.declared.task.Rest.TheVariants.{Until, Now, Ended}
+use Rattle.turn_uses.specs.declared.task.Rest.TheVariants.{Now}
 
 -- all that was given, what follows, and the client
 pub record Turned : Type 0 where

@@ -1,4 +1,4 @@
-use Rattle.std.proofs.Common.{rules, ◌≡◌, ◌∙◌, Vec, Global, ℕ, List, Option, Some, None, ap, inl, inr, refl, subst, sym}
+use Rattle.std.proofs.Common.{◌≡◌, ◌∙◌, Vec, Global, ℕ, List, Option, Some, None, ap, inr, refl, subst, sym}
 use Rattle.std.specs.Prelude.{IfOk}
 use Rattle.std.proofs.lemmas.Result.{on_err_weaker}
 use Rattle.turn_stun.specs.declared.transport.Transmit.{Transmit}
@@ -19,15 +19,15 @@ starts : (g : Over) (c : goal.After-draw g) → stands c.match-came.tasks.items 
 starts g c =
     let state = g.C.TurnClientApi.state in
     elim c.match-came.branch [
-      in-Some+in_ok-hand_in w ↦
-        ap (λ (v : Vec Task Global). stands v.items Now (state c.match-came.client)) w.tasks-is
-        ∙ (ap (λ client. stands w.hand_in.new.tasks.items Now (state client)) w.client-is
-        ∙ begins c.args.came c.args.now _ _ (Some (packet_of w.in-Some.packet)) (ap packet_in w.in-Some.is) w.in_ok-hand_in.ensures.ok)
+      | in-Some+in_ok-hand_in w ↦
+          ap (λ (v : Vec Task Global). stands v.items Now (state c.match-came.client)) w.tasks-is
+          ∙ (ap (λ client. stands w.hand_in.new.tasks.items Now (state client)) w.client-is
+          ∙ begins c.args.came c.args.now _ _ (Some (packet_of w.in-Some.packet)) (ap packet_in w.in-Some.is) w.in_ok-hand_in.ensures.ok)
       | in_default w ↦
-        ap (λ (v : Vec Task Global). stands v.items Now (state c.match-came.client)) w.tasks-is
-        ∙ (ap (λ client. stands c.args.tasks.now.items Now (state client)) w.client-is
-        ∙ begins c.args.came c.args.now _ _ None (ap packet_in w.in_default.is) refl)
-      ]
+          ap (λ (v : Vec Task Global). stands v.items Now (state c.match-came.client)) w.tasks-is
+          ∙ (ap (λ client. stands c.args.tasks.now.items Now (state client)) w.client-is
+          ∙ begins c.args.came c.args.now _ _ None (ap packet_in w.in_default.is) refl)
+    ]
 
 pub returns-clause-whole : goal.returns-clause-whole
 returns-clause-whole g c =
