@@ -77,6 +77,8 @@ struct Looped<'a> {
     done: usize,
     /// How much was done that no row wants.
     wrong: u32,
+    /// Whether something may be left to do, so that nothing is handed in.
+    has_more: bool,
     has_ended: bool,
 }
 
@@ -92,6 +94,7 @@ impl<'a> Looped<'a> {
             rows,
             done: 0,
             wrong: 0,
+            has_more: false,
             has_ended: false,
         }
     }
@@ -127,7 +130,7 @@ impl<'a> Looped<'a> {
         Ok(rest)
     }
 
-    /// The next packet that has come, if one has.
+    /// The next packet that has come, if one has. While something may be left to do, it waits.
     fn next_packet<C: TurnClientApi>(
         &mut self,
         client: &C,
@@ -135,7 +138,7 @@ impl<'a> Looped<'a> {
         let Some((comes, bytes)) = self.coming.as_slice().get(self.came) else {
             return Ok(None);
         };
-        if *comes > self.now {
+        if self.has_more || *comes > self.now {
             return Ok(None);
         }
         let bytes = Vec::from_slice(self.alloc, bytes.as_slice())?;
@@ -145,6 +148,7 @@ impl<'a> Looped<'a> {
 
     /// When the next turn is to be taken. A caller with a clock of milliseconds wakes at the next of them.
     fn wakes(&mut self, rest: Rest) -> u32 {
+        self.has_more = rest == Rest::Now;
         let told = match rest {
             Rest::Until(moment) => {
                 let millis = moment.as_nanos().div_ceil(1_000_000);

@@ -55,7 +55,7 @@ pub enum Rest {
     /// Nothing is to be done before this moment, which is later than now, unless something comes in or the
     /// client is asked for something.
     Until(Instant),
-    /// Something may be left to do: ask again at once.
+    /// Something may be left to do: ask again at once, and before anything else is handed in.
     Now,
     /// Nothing any more: the client has ended, and has told what there was.
     Ended,
