@@ -17,6 +17,8 @@ mod gathered;
 #[cfg(test)]
 mod hostile;
 #[cfg(test)]
+mod looped;
+#[cfg(test)]
 mod replayed;
 #[cfg(test)]
 mod run;

@@ -1,0 +1,283 @@
+//! The loop of `turn_uses` over a client over UDP and over TCP: an allocation, a permission, and data both ways.
+//!
+//! A request and its answer take 20 ms, and packets go out 50 ms apart. Moments were added up by hand. A turn that
+//! may ask the client only once comes to the same as one that may ask often.
+
+use crate::exchange::{DATA, GENEROUS, PEER, RELAYED, SEND};
+use crate::fixture::{IPV4, Place, at, client_for, client_over_tcp, local, server};
+use crate::server::Server;
+use std::alloc::{AllocError, Global};
+use std::net::SocketAddr;
+use std::process::Abort;
+use std::test::Fail;
+use turn_client_api::{TurnClientApi, TurnEvent};
+use turn_stun::transport::{Transmit, TransportType};
+use turn_types::transmit::DelayedTransmitBuild;
+use turn_uses::{Rest, Task, turn};
+
+/// How many milliseconds a request is on its way with its answer.
+const DELAY: u32 = 20;
+
+/// More turns than are ever taken here.
+const MANY: u32 = 256;
+
+/// No message, and no frame.
+const NOISE: &[u8] = &[0xff, 0xff];
+
+/// What the loop is to do.
+#[derive(Clone, Copy)]
+enum Want<'a> {
+    Sent,
+    Allocated(Place),
+    Granted(Place),
+    Data(Place, &'a [u8]),
+    /// These bytes are not for the client.
+    Back(&'a [u8]),
+}
+
+/// Milliseconds since the start, and what is to be done then.
+type Row<'a> = (u32, Want<'a>);
+
+const OVER_UDP: &[Row<'static>] = &[
+    (0, Want::Sent),
+    (50, Want::Sent),
+    (70, Want::Allocated(RELAYED)),
+    (200, Want::Sent),
+    (220, Want::Granted(PEER)),
+    (300, Want::Data(PEER, b"hello")),
+    (300, Want::Back(NOISE)),
+    (300, Want::Data(PEER, b"hello")),
+];
+
+/// Two payloads come in one piece.
+const OVER_TCP: &[Row<'static>] = &[
+    (0, Want::Sent),
+    (50, Want::Sent),
+    (70, Want::Allocated(RELAYED)),
+    (200, Want::Sent),
+    (220, Want::Granted(PEER)),
+    (300, Want::Data(PEER, b"hello")),
+    (300, Want::Data(PEER, b"hello")),
+];
+
+/// A caller's clock and network, and what it is to do.
+#[derive(Drop)]
+struct Looped<'a> {
+    alloc: Global,
+    server: Server,
+    /// How often a turn may ask the client.
+    most: u32,
+    now: u32,
+    /// What is on its way to the client, with the moments at which it comes.
+    coming: Vec<(u32, Vec<u8>)>,
+    /// How much of that came.
+    came: usize,
+    rows: &'a [Row<'a>],
+    /// How many rows are done.
+    done: usize,
+    /// How much was done that no row wants.
+    wrong: u32,
+    /// Whether something may be left to do, so that nothing is handed in.
+    has_more: bool,
+    has_ended: bool,
+}
+
+impl<'a> Looped<'a> {
+    fn new(alloc: Global, most: u32, rows: &'a [Row<'a>]) -> Looped<'a> {
+        Looped {
+            alloc,
+            server: Server::new(alloc),
+            most,
+            now: 0,
+            coming: Vec::new(alloc),
+            came: 0,
+            rows,
+            done: 0,
+            wrong: 0,
+            has_more: false,
+            has_ended: false,
+        }
+    }
+
+    /// These bytes come from the server now.
+    fn hear(&mut self, bytes: &[u8]) -> Result<(), AllocError> {
+        let bytes = Vec::from_slice(self.alloc, bytes)?;
+        Ok(self.coming.push((self.now, bytes))?)
+    }
+
+    /// Does all that is to be done up to this moment, and sleeps in between.
+    fn wait<C: TurnClientApi>(&mut self, client: &mut C, moment: u32) -> Result<(), AllocError> {
+        for _ in 0..MANY {
+            let rest = self.turn(client)?;
+            let until = self.wakes(rest);
+            if until > moment || self.has_ended {
+                break;
+            }
+            self.now = until;
+        }
+        self.now = moment;
+        Ok(())
+    }
+
+    /// One turn of the loop.
+    fn turn<C: TurnClientApi>(&mut self, client: &mut C) -> Result<Rest, AllocError> {
+        let mut tasks = Vec::new(self.alloc);
+        let came = self.next_packet(client)?;
+        let rest = turn(client, came, at(self.now), self.most, &mut tasks)?;
+        for task in tasks {
+            self.carry_out(&task)?;
+        }
+        Ok(rest)
+    }
+
+    /// The next packet that has come, if one has. While something may be left to do, it waits.
+    fn next_packet<C: TurnClientApi>(
+        &mut self,
+        client: &C,
+    ) -> Result<Option<Transmit<Vec<u8>>>, AllocError> {
+        let Some((comes, bytes)) = self.coming.as_slice().get(self.came) else {
+            return Ok(None);
+        };
+        if self.has_more || *comes > self.now {
+            return Ok(None);
+        }
+        let bytes = Vec::from_slice(self.alloc, bytes.as_slice())?;
+        self.came = self.came.saturating_add(1);
+        Ok(Some(Transmit::new(bytes, client.transport(), server(), local())))
+    }
+
+    /// When the next turn is to be taken. A caller with a clock of milliseconds wakes at the next of them.
+    fn wakes(&mut self, rest: Rest) -> u32 {
+        self.has_more = rest == Rest::Now;
+        let told = match rest {
+            Rest::Until(moment) => {
+                let millis = moment.as_nanos().div_ceil(1_000_000);
+                u32::try_from(millis).unwrap_or(u32::MAX)
+            }
+            Rest::Now => self.now,
+            Rest::Ended => {
+                self.has_ended = true;
+                u32::MAX
+            }
+        };
+        let until = match self.coming.as_slice().get(self.came) {
+            Some((comes, _)) => told.min(*comes),
+            None => told,
+        };
+        until.max(self.now)
+    }
+
+    /// Does what the client gives.
+    fn carry_out(&mut self, task: &Task) -> Result<(), AllocError> {
+        if !is_wanted(task, self.next_want()) {
+            self.wrong = self.wrong.saturating_add(1);
+        }
+        if let Task::Send(packet) = task {
+            match self.server.answer(GENEROUS, packet.payload.as_bytes())? {
+                Some(answer) => self.coming.push((self.now.saturating_add(DELAY), answer))?,
+                None => {}
+            }
+        }
+        Ok(())
+    }
+
+    /// What is to be done now, if anything is.
+    fn next_want(&mut self) -> Option<Want<'a>> {
+        let (moment, want) = *self.rows.get(self.done)?;
+        self.done = self.done.saturating_add(1);
+        if moment == self.now { Some(want) } else { None }
+    }
+}
+
+/// Whether it is this that is given.
+fn is_wanted(task: &Task, want: Option<Want<'_>>) -> bool {
+    match (task, want) {
+        (Task::Send(_), Some(Want::Sent)) => true,
+        (Task::Event(event), Some(want)) => is_told(*event, want),
+        (Task::Payload(given), Some(Want::Data(place, bytes))) => {
+            given.peer == place.address() && given.data() == bytes
+        }
+        (Task::Other(packet), Some(Want::Back(bytes))) => packet.payload.as_slice() == bytes,
+        _ => false,
+    }
+}
+
+/// Whether the event is wanted.
+fn is_told(event: TurnEvent, want: Want<'_>) -> bool {
+    let udp = TransportType::Udp;
+    match want {
+        Want::Allocated(place) => event == TurnEvent::AllocationCreated(udp, place.address()),
+        Want::Granted(place) => event == TurnEvent::PermissionCreated(udp, place.ip()),
+        _ => false,
+    }
+}
+
+/// Whether `hello` for the peer goes out as a Send indication.
+fn greets<C: TurnClientApi>(alloc: Global, client: &mut C, now: u32) -> Result<bool, AllocError> {
+    match client.send_to(TransportType::Udp, PEER.address(), b"hello", at(now)) {
+        Ok(Some(packet)) => {
+            let packet = packet.build(alloc)?;
+            let is_so = packet.to == server() && packet.payload.as_bytes().get(20..) == Some(SEND);
+            Ok(is_so)
+        }
+        _ => Ok(false),
+    }
+}
+
+/// Asserts that the loop does what the rows say, and nothing else, and that it ends with its client.
+fn loops<C: TurnClientApi>(
+    rt: &impl Abort,
+    alloc: Global,
+    mut client: C,
+    most: u32,
+    pieces: &[&[u8]],
+    rows: &[Row<'_>],
+) -> Result<(), Fail> {
+    let mut looped = Looped::new(alloc, most, rows);
+    looped.wait(&mut client, 200)?;
+    let _ = client.create_permission(TransportType::Udp, PEER.ip(), at(200));
+    looped.wait(&mut client, 300)?;
+    for piece in pieces {
+        looped.hear(piece)?;
+    }
+    looped.wait(&mut client, 400)?;
+    let greeted = greets(alloc, &mut client, 400)?;
+    client.protocol_error()?;
+    looped.wait(&mut client, 500)?;
+    assert_eq!(rt;
+        (looped.done, looped.wrong, greeted, looped.has_ended),
+        (rows.len(), 0, true, true)
+    );
+    Ok(())
+}
+
+/// What comes over UDP.
+const DATAGRAMS: &[&[u8]] = &[DATA, NOISE, DATA];
+
+/// `hello` of 10.0.0.3:9000, twice.
+const TWICE: &[u8] = &[
+    0x00, 0x17, 0x00, 0x18, 0x21, 0x12, 0xa4, 0x42, 0x00, 0x00, 0x00, 0x00, 0x00, 0x00, 0x00, 0x00,
+    0x00, 0x00, 0x00, 0x01, 0x00, 0x12, 0x00, 0x08, 0x00, 0x01, 0x02, 0x3a, 0x2b, 0x12, 0xa4, 0x41,
+    0x00, 0x13, 0x00, 0x05, 0x68, 0x65, 0x6c, 0x6c, 0x6f, 0x00, 0x00, 0x00, 0x00, 0x17, 0x00, 0x18,
+    0x21, 0x12, 0xa4, 0x42, 0x00, 0x00, 0x00, 0x00, 0x00, 0x00, 0x00, 0x00, 0x00, 0x00, 0x00, 0x01,
+    0x00, 0x12, 0x00, 0x08, 0x00, 0x01, 0x02, 0x3a, 0x2b, 0x12, 0xa4, 0x41, 0x00, 0x13, 0x00, 0x05,
+    0x68, 0x65, 0x6c, 0x6c, 0x6f, 0x00, 0x00, 0x00,
+];
+
+#[test]
+fn the_loop_carries_datagrams(rt: HostRuntime) -> Result<(), Fail> {
+    for most in [1, 64] {
+        let client = client_for(rt.alloc(), IPV4)?;
+        loops(&rt, rt.alloc(), client, most, DATAGRAMS, OVER_UDP)?;
+    }
+    Ok(())
+}
+
+#[test]
+fn the_loop_carries_a_stream(rt: HostRuntime) -> Result<(), Fail> {
+    for most in [1, 64] {
+        let client = client_over_tcp(rt.alloc(), IPV4)?;
+        loops(&rt, rt.alloc(), client, most, &[TWICE], OVER_TCP)?;
+    }
+    Ok(())
+}

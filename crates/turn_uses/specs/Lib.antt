@@ -1,0 +1,4 @@
+pub mod Given
+pub mod Next
+pub mod Run
+pub mod Turned

@@ -1,0 +1,79 @@
+-- One turn of a caller's loop.
+use Rattle.std.specs.Prelude.{◌≡◌, ◌⊎◌, ℕ, zero, suc, ◌<◌, false, List, [], ◌∷◌, ◌++◌, map, Option, Some, None, option_to_list}
+use Rattle.turn_stun.specs.declared.transport.Transmit.{Transmit}
+use Rattle.turn_client_api.specs.State.{State}
+use Rattle.turn_client_api.specs.Answers.{RecvEnds, takes_no_memory}
+use Rattle.turn_client_api.specs.Payloads.{Outcome}
+use Rattle.turn_client_api.specs.Steps.{packet_step}
+use Rattle.turn_uses.specs.Given.{Given, given_in, given_of}
+use Rattle.turn_uses.specs.Next.{Answer, Does, Rests, NextEnds, next_step}
+use Rattle.turn_uses.specs.declared.task.Rest.{Rest}
+use Rattle.turn_uses.specs.declared.task.Task.{Task}
+use Rattle.turn_uses.specs.declared.task.Rest.TheVariants.{Now}
+
+-- all that was given, what follows, and the client
+pub record Turned : Type 0 where
+  pub given : List Given
+  pub rest : Rest
+  pub client : State
+
+-- a list of tasks and a client, with what follows
+abbrev pub stands : List Task → Rest → State → Turned
+stands tasks rest s = record { given = map given_of tasks; rest = rest; client = s }
+
+-- something may be left to do
+abbrev pub going : List Given → State → Turned
+going given s = record { given = given; rest = Now; client = s }
+
+-- ---- what came in
+
+abbrev pub handed : Transmit (List ℕ) → List Given → Outcome × State → Turned
+handed packet given (outcome, s) = going (given ++ option_to_list (given_in packet outcome)) s
+
+-- a turn begins with what came in, if anything did
+abbrev pub begun : Option (Transmit (List ℕ)) → ℕ → Turned → Turned
+begun None now t = t
+begun (Some packet) now t = handed packet t.given (packet_step packet now t.client)
+
+-- ---- what is asked for
+
+abbrev pub with_answer : List Given → Answer × State → Turned
+with_answer given (Does one, s) = going (given ++ one ∷ []) s
+with_answer given (Rests rest, s) = record { given = given; rest = rest; client = s }
+
+-- the client is asked once more where something may be left
+abbrev pub once_more : ℕ → Turned → Turned
+once_more now t = by t.rest
+  where
+    by : Rest → Turned
+    by Now = with_answer t.given (next_step now t.client)
+    by _ = t
+
+-- so many times at most
+unfoldable pub turned : ℕ → ℕ → Turned → Turned
+turned zero now t = t
+turned (suc n) now t = once_more now (turned n now t)
+
+-- a whole turn, from these tasks and this client on
+abbrev pub turn_step : ℕ → Option (Transmit (List ℕ)) → ℕ → List Task → State → Turned
+turn_step most came now tasks s = turned most now (begun came now (stands tasks Now s))
+
+-- ---- want of memory
+
+-- there was none to hand the packet in
+abbrev pub StopsAtHand : Option (Transmit (List ℕ)) → ℕ → State → State → Type 0
+StopsAtHand None now s t = ⊥
+StopsAtHand (Some packet) now s t =
+    (t ≡ s) ⊎ ((takes_no_memory packet.transport packet.from packet.to packet.payload s ≡ false) × RecvEnds packet.to packet.payload now s t)
+
+-- there was none for the list, or for the client, when it was asked once more
+abbrev pub StopsAt : ℕ → Turned → Turned → Type 0
+StopsAt now t is = (t.rest ≡ Now) × (is.given ≡ t.given) × ((is.client ≡ t.client) ⊎ NextEnds now t.client is.client)
+
+-- what was given before stays
+abbrev pub Draws : ℕ → ℕ → Turned → Turned → Type 0
+Draws most now was is = (n : ℕ) × (n < most) × StopsAt now (turned n now was) is
+
+abbrev pub Stops : ℕ → Option (Transmit (List ℕ)) → ℕ → Turned → Turned → Type 0
+Stops most came now was is =
+    ((is.given ≡ was.given) × StopsAtHand came now was.client is.client) ⊎ Draws most now (begun came now was) is

@@ -1,0 +1,94 @@
+//! The next thing that a client gives.
+
+ghost use Rattle.std.specs.Prelude.{◌≡◌, ◌≤◌, ◌^◌, IfOk, OnErr, OnOk};
+ghost use Rattle.turn_uses.specs.Next.{AnswersRest, NextEnds, PollEnds, SendEnds, answer_of, next_step, poll_answer, waiting};
+
+use crate::task::{Rest, Task};
+use std::alloc::AllocError;
+use turn_client_api::{TurnClientApi, TurnPollRet};
+use turn_stun::instant::Instant;
+
+/// What comes next of a client.
+#[derive(Debug, Drop)]
+pub enum Next {
+    /// Do this, and ask again.
+    Do(Task),
+    /// There is nothing to do now.
+    Rest(Rest),
+}
+
+/// The next thing that the client gives: a payload that its streams hold, a connection to open or to close,
+/// an event, or a packet to send. Where there is none, what follows.
+///
+/// # Errors
+///
+/// There is no memory for the call of the client that was made last: `poll_recv`, `poll` or
+/// `poll_transmit`. The client has ended then, as that call says.
+pub fn next_task<C: TurnClientApi>(client: &mut C, now: Instant) -> Result<Next, AllocError>
+    requires moment { now ≤ 2 ^ 62 }
+    ensures answer { IfOk result (λ next. answer_of next ≡ (next_step now (C.state client.old)).0) }
+    ensures after { OnOk result (C.state client.new ≡ (next_step now (C.state client.old)).1) }
+    ensures restful { IfOk result (λ next. AnswersRest (answer_of next) now (C.state client.new)) }
+    ensures no_memory { OnErr result (NextEnds now (C.state client.old) (C.state client.new)) }
+{
+    match client.poll_recv(now)? {
+        Some(payload) => Ok(Next::Do(Task::Payload(payload))),
+        None => poll(client, now),
+    }
+}
+
+/// What time asks for next, or else what waits.
+fn poll<C: TurnClientApi>(client: &mut C, now: Instant) -> Result<Next, AllocError>
+    requires moment { now ≤ 2 ^ 62 }
+    ensures answer { IfOk result (λ next. answer_of next ≡ (poll_answer now (C.state client.old)).0) }
+    ensures after { OnOk result (C.state client.new ≡ (poll_answer now (C.state client.old)).1) }
+    ensures restful { IfOk result (λ next. AnswersRest (answer_of next) now (C.state client.new)) }
+    ensures no_memory { OnErr result (PollEnds now (C.state client.old) (C.state client.new)) }
+{
+    match client.poll(now)? {
+        TurnPollRet::AllocateTcpSocket {
+            id,
+            socket,
+            peer_addr,
+        } => Ok(Next::Do(Task::Open {
+            id,
+            socket,
+            peer_addr,
+        })),
+        TurnPollRet::TcpClose {
+            local_addr,
+            remote_addr,
+        } => Ok(Next::Do(Task::Close {
+            local_addr,
+            remote_addr,
+        })),
+        TurnPollRet::WaitUntil(moment) => {
+            if now < moment {
+                Ok(Next::Rest(Rest::Until(moment)))
+            } else {
+                what_waits(client, now, Rest::Now)
+            }
+        }
+        TurnPollRet::Closed => what_waits(client, now, Rest::Ended),
+    }
+}
+
+/// An event or a packet that waits, or else this rest.
+fn what_waits<C: TurnClientApi>(
+    client: &mut C,
+    now: Instant,
+    rest: Rest,
+) -> Result<Next, AllocError>
+    requires moment { now ≤ 2 ^ 62 }
+    ensures answer { IfOk result (λ next. answer_of next ≡ (waiting now rest (C.state client.old)).0) }
+    ensures after { OnOk result (C.state client.new ≡ (waiting now rest (C.state client.old)).1) }
+    ensures no_memory { OnErr result (SendEnds now (C.state client.old) (C.state client.new)) }
+{
+    if let Some(event) = client.poll_event() {
+        return Ok(Next::Do(Task::Event(event)));
+    }
+    match client.poll_transmit(now)? {
+        Some(packet) => Ok(Next::Do(Task::Send(packet))),
+        None => Ok(Next::Rest(rest)),
+    }
+}

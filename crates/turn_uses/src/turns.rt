@@ -1,0 +1,102 @@
+//! One turn of a caller's loop.
+
+ghost use Rattle.std.specs.Prelude.{◌≡◌, ◌≤◌, ◌^◌, IfOk, OnErr, OnOk, Some};
+ghost use Rattle.turn_uses.specs.Given.{packet_in, packet_of};
+ghost use Rattle.turn_uses.specs.Next.{IsRestful};
+ghost use Rattle.turn_uses.specs.Run.{IsWhole};
+ghost use Rattle.turn_uses.specs.Turned.{Draws, Stops, StopsAtHand, begun, stands, turn_step, turned};
+ghost use Rattle.turn_uses.specs.declared.task.Rest.TheVariants.{Now};
+
+use crate::next::{Next, next_task};
+use crate::task::{Rest, Task};
+use std::alloc::AllocError;
+use turn_client_api::{TurnClientApi, TurnRecvRet};
+use turn_stun::instant::Instant;
+use turn_stun::transport::Transmit;
+
+/// One turn of a caller's loop: hands in what came, if anything, and then asks the client for what is to be
+/// done until there is nothing, at most so many times. All that it gives goes to the end of the list, in order,
+/// and the answer says what follows.
+///
+/// # Errors
+///
+/// There is no memory for the list, and the client was not called then; or for the client, which has ended as
+/// its own call says. What it gave before is in the list.
+pub fn turn<C: TurnClientApi>(
+    client: &mut C,
+    came: Option<Transmit<Vec<u8>>>,
+    now: Instant,
+    most: u32,
+    tasks: &mut Vec<Task>,
+) -> Result<Rest, AllocError>
+    requires moment { now ≤ 2 ^ 62 }
+    ensures ok { IfOk result (λ rest. stands tasks.new.items rest (C.state client.new) ≡ turn_step most (packet_in came) now tasks.old.items (C.state client.old)) }
+    ensures whole { OnOk result (IsWhole (packet_in came) now (stands tasks.old.items Now (C.state client.old)) (stands tasks.new.items Now (C.state client.new))) }
+    ensures restful { IfOk result (λ rest. IsRestful rest now (C.state client.new)) }
+    ensures no_memory { OnErr result (Stops most (packet_in came) now (stands tasks.old.items Now (C.state client.old)) (stands tasks.new.items Now (C.state client.new))) }
+{
+    if let Some(packet) = came {
+        hand_in(client, packet, now, tasks)?;
+    }
+    draw(client, now, most, tasks)
+}
+
+/// Hands a packet in. What is given at once goes to the end of the list.
+fn hand_in<C: TurnClientApi>(
+    client: &mut C,
+    packet: Transmit<Vec<u8>>,
+    now: Instant,
+    tasks: &mut Vec<Task>,
+) -> Result<(), AllocError>
+    requires moment { now ≤ 2 ^ 62 }
+    ensures ok { OnOk result (stands tasks.new.items Now (C.state client.new) ≡ begun (Some (packet_of packet)) now (stands tasks.old.items Now (C.state client.old))) }
+    ensures list { OnErr result (tasks.new.items ≡ tasks.old.items) }
+    ensures no_memory { OnErr result (StopsAtHand (Some (packet_of packet)) now (C.state client.old) (C.state client.new)) }
+{
+    tasks.reserve(1)?;
+    let task = match client.recv(packet, now)? {
+        TurnRecvRet::Handled => return Ok(()),
+        TurnRecvRet::Ignored(packet) => Task::Other(packet),
+        TurnRecvRet::PeerData(given) => Task::Payload(given),
+        TurnRecvRet::PeerIcmp {
+            transport,
+            peer,
+            icmp_type,
+            icmp_code,
+            icmp_data,
+        } => Task::Icmp {
+            transport,
+            peer,
+            icmp_type,
+            icmp_code,
+            icmp_data,
+        },
+    };
+    Ok(tasks.push(task)?)
+}
+
+/// Asks for what is to be done until there is nothing, at most so many times.
+fn draw<C: TurnClientApi>(
+    client: &mut C,
+    now: Instant,
+    most: u32,
+    tasks: &mut Vec<Task>,
+) -> Result<Rest, AllocError>
+    requires moment { now ≤ 2 ^ 62 }
+    ensures ok { IfOk result (λ rest. stands tasks.new.items rest (C.state client.new) ≡ turned most now (stands tasks.old.items Now (C.state client.old))) }
+    ensures restful { IfOk result (λ rest. IsRestful rest now (C.state client.new)) }
+    ensures no_memory { OnErr result (Draws most now (stands tasks.old.items Now (C.state client.old)) (stands tasks.new.items Now (C.state client.new))) }
+{
+    for _ in 0..most {
+        tasks.reserve(1)?;
+        match next_task(client, now)? {
+            Next::Do(task) => tasks.push(task)?,
+            Next::Rest(rest) => {
+                if rest != Rest::Now {
+                    return Ok(rest);
+                }
+            }
+        }
+    }
+    Ok(Rest::Now)
+}
