@@ -6,6 +6,9 @@ pub mod BoundLemmas
 pub mod CallGrants
 pub mod ChallengeLemmas
 pub mod ComingLemmas
+pub mod CostLemmas
+pub mod CostMessages
+pub mod CostReplies
 pub mod FedTurnLemmas
 pub mod FollowLemmas
 pub mod GrantTurns
