@@ -6,9 +6,11 @@ pub mod BoundLemmas
 pub mod CallGrants
 pub mod ChallengeLemmas
 pub mod ComingLemmas
+pub mod CostCalls
 pub mod CostLemmas
 pub mod CostMessages
 pub mod CostReplies
+pub mod CostTime
 pub mod FedTurnLemmas
 pub mod FollowLemmas
 pub mod GrantTurns
