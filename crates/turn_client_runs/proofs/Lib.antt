@@ -31,5 +31,8 @@ pub mod RunLemmas
 pub mod SleepLemmas
 pub mod StreamAtLemmas
 pub mod TogetherLemmas
+pub mod TurnBytes
 pub mod TurnsOfRuns
+pub mod TwoAllocations
+pub mod WeightLemmas
 pub mod WholeLemmas
