@@ -25,7 +25,7 @@ framed : List ℕ → Option ℕ
 framed bytes = cond (begins_no_frame bytes) (Some (length bytes)) (frame_len bytes)
 
 -- bytes wait in a stream that is ready
-ready-waits : (mode : Mode) (stream : Stream) (bytes : List ℕ) → is_ready (record stream { mode = mode; bytes = bytes }) ≡ true → 0 < length bytes
+pub ready-waits : (mode : Mode) (stream : Stream) (bytes : List ℕ) → is_ready (record stream { mode = mode; bytes = bytes }) ≡ true → 0 < length bytes
 ready-waits mode stream (b ∷ bytes) e = omega arith
 ready-waits Control stream [] e = cc
 ready-waits Waiting stream [] e = cc
@@ -43,7 +43,7 @@ broken_by local x = cond (same_address x.local local) (record x { mode = Broken;
 unfoldable pub mode_by : SocketAddr → Mode → Stream → Stream
 mode_by local mode x = cond (same_address x.local local) (record x { mode = mode }) x
 
-bytes_by-Sets : (local : SocketAddr) (bytes : List ℕ) → Sets local bytes (bytes_by local bytes)
+pub bytes_by-Sets : (local : SocketAddr) (bytes : List ℕ) → Sets local bytes (bytes_by local bytes)
 unfolding bytes_by
 bytes_by-Sets local bytes = record {
   keeps = λ x. by (same_address x.local local) x;
@@ -55,7 +55,7 @@ bytes_by-Sets local bytes = record {
     by true x = refl
     by false x = refl
 
-broken_by-Sets : (local : SocketAddr) → Sets local [] (broken_by local)
+pub broken_by-Sets : (local : SocketAddr) → Sets local [] (broken_by local)
 unfolding broken_by
 broken_by-Sets local = record {
   keeps = λ x. by (same_address x.local local) x;
@@ -67,7 +67,7 @@ broken_by-Sets local = record {
     by true x = refl
     by false x = refl
 
-mode_by-KeepsHeld : (local : SocketAddr) (mode : Mode) → KeepsHeld (mode_by local mode)
+pub mode_by-KeepsHeld : (local : SocketAddr) (mode : Mode) → KeepsHeld (mode_by local mode)
 unfolding mode_by
 mode_by-KeepsHeld local mode = record {
   local = λ x. ends (same_address x.local local) x;

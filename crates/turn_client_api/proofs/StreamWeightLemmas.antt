@@ -75,7 +75,7 @@ later-Sets local first later f g is then = record {
   others = λ x e. then.others (f x) (ap (λ a. same_address a local) (is.keeps x) ∙ e) ∙ is.others x e;
 }
 
-top-set : (local : SocketAddr) (bytes : List ℕ) (f : Stream → Stream) → Sets local bytes f → (xs : List Stream) → top local (map f xs) ≤ length bytes
+pub top-set : (local : SocketAddr) (bytes : List ℕ) (f : Stream → Stream) → Sets local bytes f → (xs : List Stream) → top local (map f xs) ≤ length bytes
 unfolding top
 top-set local bytes f is [] = omega arith
 top-set local bytes f is (x ∷ xs) = rw (is.keeps x) (by (same_address x.local local) refl (top-set local bytes f is xs))
@@ -120,7 +120,7 @@ IsMovedBy f local x xs old new =
     weight (map f xs) + (length (f x).bytes - top x.local (map f xs)) + max old (top local xs)
     ≡ weight xs + (length x.bytes - top x.local xs) + max new (top local (map f xs))
 
-weight-set : (local : SocketAddr) (bytes : List ℕ) (f : Stream → Stream) → Sets local bytes f → (xs : List Stream) → IsMoved f local xs
+pub weight-set : (local : SocketAddr) (bytes : List ℕ) (f : Stream → Stream) → Sets local bytes f → (xs : List Stream) → IsMoved f local xs
 unfolding weight top
 weight-set local bytes f is [] = refl
 weight-set local bytes f is (x ∷ xs) = rw (is.keeps x) (by (same_address x.local local) refl (weight-set local bytes f is xs))

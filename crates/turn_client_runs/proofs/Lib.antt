@@ -6,6 +6,11 @@ pub mod BoundLemmas
 pub mod CallGrants
 pub mod ChallengeLemmas
 pub mod ComingLemmas
+pub mod CostCalls
+pub mod CostLemmas
+pub mod CostMessages
+pub mod CostReplies
+pub mod CostTime
 pub mod FedTurnLemmas
 pub mod FollowLemmas
 pub mod GrantTurns
@@ -26,5 +31,8 @@ pub mod RunLemmas
 pub mod SleepLemmas
 pub mod StreamAtLemmas
 pub mod TogetherLemmas
+pub mod TurnBytes
 pub mod TurnsOfRuns
+pub mod TwoAllocations
+pub mod WeightLemmas
 pub mod WholeLemmas

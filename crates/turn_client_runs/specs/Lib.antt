@@ -11,3 +11,4 @@ pub mod Replies
 pub mod Run
 pub mod Sleeps
 pub mod Turns
+pub mod Weight

@@ -19,7 +19,8 @@ ghost use Rattle.turn_client_runs.specs.Granted.{HaveReplies};
 ///
 /// The request was the client's own: an earlier call made it, or an earlier turn of the same call, as one for
 /// the grant, or for a channel whose peer has the IP address of a permission. That holds while fewer IDs are
-/// taken than the 2^96 that there are, in each state of the run.
+/// taken than the 2^96 that there are, in each state of the run: `few_ids_are_taken` says that so it is for any
+/// number of calls and bytes that a client may get.
 pub fn grants_have_replies()
     ensures { HaveReplies IsStanding }
 {}

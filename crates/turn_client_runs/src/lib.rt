@@ -12,6 +12,7 @@ mod peers;
 mod promises;
 mod replies;
 mod sleeps;
+mod weight;
 
 pub use bound::{bound_connections_have_their_success, bound_streams_have_their_success};
 pub use challenges::{few_challenges_are_answered, realm_stays_in_runs};
@@ -25,3 +26,4 @@ pub use peers::only_let_in_is_received;
 pub use promises::runs_keep_their_promises;
 pub use replies::replies_count_once_in_runs;
 pub use sleeps::runs_sleep_through_nothing;
+pub use weight::few_ids_are_taken;

@@ -1,0 +1,268 @@
+-- Each turn of a stream takes a byte at least from what the streams hold.
+use Rattle.std.proofs.Common.{◌≡◌, ◌≤◌, ◌<◌, ◌+◌, ◌-◌, ℕ, zero, suc, max, Bool, true, false, not, cond, List, [], ◌∷◌, ◌++◌, length, map, filter, take, drop, Option, Some, None, inl, inr, refl, sym, ◌∙◌, arith}
+use Rattle.std.specs.Prelude.{find, is_some}
+use Rattle.std.proofs.lemmas.Bool.{false_from_ne_true}
+use Rattle.std.proofs.lemmas.List.{length-append, length-drop}
+use Rattle.std.specs.declared.net.socket_addr.SocketAddr.{SocketAddr}
+use Rattle.turn_stun.specs.declared.transport.TransportType.{TransportType}
+use Rattle.turn_stun.specs.declared.transport.TransportType.TheVariants.{Udp, Tcp}
+use Rattle.turn_stun.specs.declared.transport.Transmit.{Transmit}
+use Rattle.turn_types.specs.Frames.{begins_no_frame, frame_len}
+use Rattle.turn_types.proofs.FrameLemmas.{frame_len-IsWhole}
+use Rattle.turn_agent.specs.Agent.{same_address}
+use Rattle.turn_client_api.specs.State.{State}
+use Rattle.turn_client_api.specs.declared.state.Mode.{Mode}
+use Rattle.turn_client_api.specs.declared.state.Mode.TheVariants.{Control, Waiting, Bound, Broken}
+use Rattle.turn_client_api.specs.declared.state.Stream.{Stream}
+use Rattle.turn_client_api.specs.Payloads.{Payload, Outcome, Handled, Ignored, PeerData, PeerIcmp, channel_sent, datagram_step, is_channel_frame, is_message, message_step}
+use Rattle.turn_client_api.specs.Streams.{broken_at, frame_step, framed_by, framed_turn, go_on, is_ready, most_turns, payload_in, poll_recv_step, stream_at, turn, turn_of_first, turned, turns_until_payload, with_bytes, without_stream}
+use Rattle.turn_client_api.specs.Receive.{connection_gone, first_turn, is_from_server, piece_step, recv_step, stream_step, then_all}
+use Rattle.turn_client_api.specs.Connections.{connection_at}
+use Rattle.turn_client_api.specs.Handled.{Turn, datagram_turn, fed_taken, frame_taken, handled, is_front, piece_turns, poll_recv_turns, recv_turns, stream_turns, taken, taken_first, taken_in, taken_of_len, then_taken, turns_taken, unless_given}
+use Rattle.turn_client_api.specs.LawsHandled.{TakesTurns}
+use Rattle.turn_client_api.specs.Steps.{state_after}
+use Rattle.turn_client_api.specs.declared.call.Call.{Call}
+use Rattle.turn_client_api.specs.declared.call.Call.TheVariants.{Recv, PollRecv}
+use Rattle.turn_client_api.proofs.AddressLemmas.{same_address-true}
+use Rattle.turn_client_api.proofs.StreamCallLemmas.{IsOpened, others-opened}
+use Rattle.turn_client_api.proofs.StreamDrainLemmas.{broken_by, broken_by-Sets, bytes_by, bytes_by-Sets, found-ready, map-map, mode_by, mode_by-KeepsHeld, ready-waits}
+use Rattle.turn_client_api.proofs.StreamMessageLemmas.{Rebound, Same, frame-rebound, message-same, same-cond}
+use Rattle.turn_client_api.proofs.StreamWeightLemmas.{Sets, found-le-top, kept-Sets, later-Sets, top, top-set, weight, weight-set}
+
+-- ---- one stream
+
+-- These many bytes stand at its local end now, in place of those that the stream held.
+module _ (p : Stream → Bool) (stream : Stream) (s : State) (found : find p s.streams ≡ Some stream) where
+  abbrev out : State
+  out = with_bytes stream.local [] s
+
+  abbrev Holds : List ℕ → State → Type 0
+  Holds bytes t = weight t.streams + length stream.bytes ≤ weight s.streams + length bytes
+
+  moved : (bytes : List ℕ) (f : Stream → Stream) → Sets stream.local bytes f → weight (map f s.streams) + length stream.bytes ≤ weight s.streams + length bytes
+  moved bytes f is =
+      omega (arith, weight-set stream.local bytes f is s.streams, top-set stream.local bytes f is s.streams, found-le-top p s.streams stream found)
+
+  moved-twice : (bytes : List ℕ) (f g : Stream → Stream) → Sets stream.local bytes (λ x. g (f x)) → weight (map g (map f s.streams)) + length stream.bytes ≤ weight s.streams + length bytes
+  moved-twice bytes f g is = rw (← map-map f g s.streams) (moved bytes (λ x. g (f x)) is)
+
+  emptied : Holds [] out
+  unfolding bytes_by
+  emptied = moved [] (bytes_by stream.local []) (bytes_by-Sets stream.local [])
+
+  broken : Holds [] (broken_at stream.local out)
+  unfolding bytes_by broken_by
+  broken =
+      let empty = bytes_by stream.local [] in
+      moved-twice [] empty (broken_by stream.local)
+      (later-Sets stream.local [] [] empty (broken_by stream.local) (bytes_by-Sets stream.local []) (broken_by-Sets stream.local))
+
+  put_back : (rest : List ℕ) (t : State) → Rebound out t → Holds rest (with_bytes stream.local rest t)
+  unfolding bytes_by mode_by
+  put_back rest t (inl same) =
+      let empty = bytes_by stream.local [] in
+      let fill = bytes_by stream.local rest in
+      rw same
+      (moved-twice rest empty fill (later-Sets stream.local [] rest empty fill (bytes_by-Sets stream.local []) (bytes_by-Sets stream.local rest)))
+  put_back rest t (inr (local, peer, is)) =
+      let empty = bytes_by stream.local [] in
+      let bind = mode_by local (Bound peer) in
+      let fill = bytes_by stream.local rest in
+      let bound = kept-Sets stream.local [] empty bind (bytes_by-Sets stream.local []) (mode_by-KeepsHeld local (Bound peer)) in
+      rw (is, ← map-map empty bind s.streams)
+      (moved-twice rest (λ x. bind (empty x)) fill (later-Sets stream.local [] rest (λ x. bind (empty x)) fill bound (bytes_by-Sets stream.local rest)))
+
+  -- a turn of these bytes, whatever of them the stream held before
+  abbrev TakesOut : List ℕ → List Turn → Outcome × State → Type 0
+  TakesOut bytes turns q = length turns + (weight q.1.streams + length stream.bytes) ≤ weight s.streams + length bytes
+
+  framed-takes : (l : Bool) (mode : Mode) (bytes : List ℕ) (now : ℕ) → (let u = record stream { mode = mode; bytes = bytes } in TakesOut bytes (frame_taken l u now out) (framed_turn u now out))
+  framed-takes l mode bytes now = by (begins_no_frame bytes) (frame_len bytes) refl
+    where
+      u : Stream
+      u = record stream { mode = mode; bytes = bytes }
+
+      by : (b : Bool) (o : Option ℕ) → frame_len bytes ≡ o → TakesOut bytes (cond b [] (taken_of_len l u now out o)) (cond {A = Outcome × State} b (Handled, broken_at stream.local out) (framed_by u now out o))
+      by true o e = let less = broken in omega (arith, less)
+      by false None e = let less = put_back bytes out (inl refl) in omega (arith, less)
+      by false (Some len) e =
+          let is = frame_len-IsWhole bytes len e in
+          let t = (frame_step u (take len bytes) now out).1 in
+          let less = put_back (drop len bytes) t (frame-rebound u (take len bytes) now out) in
+          let behind = length-drop len bytes in
+          omega (arith, less, behind, is.least, is.within)
+
+  turned-takes : (l : Bool) (mode : Mode) (bytes : List ℕ) (now : ℕ) → 0 < length bytes → (let u = record stream { mode = mode; bytes = bytes } in TakesOut bytes (taken_in l u now out) (turned u now out))
+  turned-takes l Control bytes now some = framed-takes l Control bytes now
+  turned-takes l Waiting bytes now some = framed-takes l Waiting bytes now
+  turned-takes l (Bound peer) bytes now some = let less = emptied in omega (arith, less, some)
+  turned-takes l Broken bytes now some = let less = emptied in omega (arith, less)
+
+  pub turn-takes : (l : Bool) (bytes : List ℕ) (now : ℕ) → 0 < length bytes → (let u = record stream { bytes = bytes } in TakesOut bytes (taken l u now s) (turn u now s))
+  turn-takes l bytes now some = turned-takes l stream.mode bytes now some
+
+-- ---- all streams
+
+-- the turns and what the streams hold then are no more than what they held
+abbrev Takes : List Turn → State → State → Type 0
+Takes turns s t = length turns + weight t.streams ≤ weight s.streams
+
+go_on-takes : (next : State → Option Payload × State) (later : State → List Turn) (front : List Turn) (s : State) (q : Outcome × State) → Takes front s q.1 → Takes (later q.1) q.1 (next q.1).1 → Takes (front ++ unless_given (payload_in q.0) (later q.1)) s (go_on next q).1
+go_on-takes next later front s (PeerData payload, t) first more = let sum = length-append front [] in omega (arith, sum, first)
+go_on-takes next later front s (Handled, t) first more = let sum = length-append front (later t) in omega (arith, sum, first, more)
+go_on-takes next later front s (Ignored, t) first more = let sum = length-append front (later t) in omega (arith, sum, first, more)
+go_on-takes next later front s (PeerIcmp transport peer icmp, t) first more = let sum = length-append front (later t) in omega (arith, sum, first, more)
+
+turns-take : (n now : ℕ) (s : State) → Takes (turns_taken n now s) s (turns_until_payload n now s).1
+unfolding turns_until_payload turns_taken
+turns-take zero now s = omega arith
+turns-take (suc n) now s = by (find is_ready s.streams) refl (λ t. turns-take n now t)
+  where
+    by : (o : Option Stream) → find is_ready s.streams ≡ o → ((t : State) → Takes (turns_taken n now t) t (turns_until_payload n now t).1) → Takes (taken_first (turns_taken n now) now s o) s (turn_of_first (turns_until_payload n now) now s o).1
+    by None e more = omega arith
+    by (Some stream) e more =
+        let some = ready-waits stream.mode stream stream.bytes (found-ready s.streams stream e) in
+        let takes = turn-takes is_ready stream s e false stream.bytes now some in
+        go_on-takes (turns_until_payload n now) (turns_taken n now) (taken false stream now s) s (turn stream now s) (omega (arith, takes)) (more (turn stream now s).1)
+
+poll-takes : (now : ℕ) (s : State) → Takes (poll_recv_turns now s) s (poll_recv_step now s).1
+poll-takes now s = turns-take (most_turns s) now s
+
+-- ---- a piece of a stream
+
+-- so many bytes came in
+abbrev TakesOf : List ℕ → List Turn → State → State → Type 0
+TakesOf piece turns s t = length turns + weight t.streams ≤ weight s.streams + length piece
+
+then_all-takes : (now : ℕ) (piece : List ℕ) (front : List Turn) (s : State) (q : Outcome × State) → TakesOf piece front s q.1 → TakesOf piece (front ++ then_taken now q) s (then_all now q).1
+then_all-takes now piece front s (PeerData payload, t) first = let sum = length-append front [] in omega (arith, sum, first)
+then_all-takes now piece front s (PeerIcmp transport peer icmp, t) first = let sum = length-append front [] in omega (arith, sum, first)
+then_all-takes now piece front s (Handled, t) first = let sum = length-append front (poll_recv_turns now t) in let more = poll-takes now t in omega (arith, sum, first, more)
+then_all-takes now piece front s (Ignored, t) first = let sum = length-append front (poll_recv_turns now t) in let more = poll-takes now t in omega (arith, sum, first, more)
+
+module _ (to : SocketAddr) (s : State) where
+  fed-takes : (stream : Stream) (piece : List ℕ) (now : ℕ) → stream_at to s ≡ Some stream → 0 < length piece → TakesOf piece (fed_taken stream piece now s) s (first_turn stream piece now s).1
+  fed-takes stream piece now found some =
+      let all = length-append stream.bytes piece in
+      let takes = turn-takes (λ x. same_address x.local to) stream s found (is_front stream.bytes) (stream.bytes ++ piece) now (omega (arith, all, some)) in
+      omega (arith, all, takes)
+
+  piece-takes : (m : Mode) (stream : Stream) (piece : List ℕ) (now : ℕ) → stream_at to s ≡ Some (record stream { mode = m }) → 0 < length piece → TakesOf piece (piece_turns (record stream { mode = m }) piece now s) s (piece_step (record stream { mode = m }) piece now s).1
+  piece-takes Control stream piece now found some =
+      let u = record stream { mode = Control } in
+      then_all-takes now piece (fed_taken u piece now s) s (first_turn u piece now s) (fed-takes u piece now found some)
+  piece-takes Waiting stream piece now found some = fed-takes (record stream { mode = Waiting }) piece now found some
+  piece-takes (Bound peer) stream piece now found some = fed-takes (record stream { mode = Bound peer }) piece now found some
+  piece-takes Broken stream piece now found some = by (same_address stream.local s.local)
+    where
+      by : (b : Bool) → TakesOf piece (cond b (poll_recv_turns now s) []) s (cond {A = Outcome × State} b (then_all now (Handled, s)) (Handled, s)).1
+      by true = let takes = poll-takes now s in omega (arith, takes)
+      by false = omega arith
+
+-- ---- streams come and go
+
+-- what counts at another local end stays
+top-left : (local other : SocketAddr) → same_address other local ≡ false → (xs : List Stream) → top other (filter (λ x. not (same_address x.local local)) xs) ≡ top other xs
+unfolding top
+top-left local other differ [] = refl
+top-left local other differ (x ∷ xs) = by (same_address x.local local) refl (top-left local other differ xs)
+  where
+    kept : List Stream
+    kept = filter (λ y. not (same_address y.local local)) xs
+
+    apart : same_address x.local local ≡ true → same_address x.local other ≡ false
+    apart here = false_from_ne_true (same_address x.local other) (λ too.
+        let first = same_address-true x.local other too in
+        let there : same_address other local ≡ true = rw (← first) here in
+        let clash : true ≡ false = sym there ∙ differ in
+        cc)
+
+    by : (b : Bool) → same_address x.local local ≡ b → top other kept ≡ top other xs → top other (cond (not b) (x ∷ kept) kept) ≡ max (cond (same_address x.local other) (length x.bytes) 0) (top other xs)
+    by true e later = rw (apart e) (omega (arith, later))
+    by false e later = omega (arith, later)
+
+weight-left : (local : SocketAddr) (xs : List Stream) → weight (filter (λ x. not (same_address x.local local)) xs) ≤ weight xs
+unfolding weight
+weight-left local [] = omega arith
+weight-left local (x ∷ xs) = by (same_address x.local local) refl (weight-left local xs)
+  where
+    kept : List Stream
+    kept = filter (λ y. not (same_address y.local local)) xs
+
+    by : (b : Bool) → same_address x.local local ≡ b → weight kept ≤ weight xs → weight (cond (not b) (x ∷ kept) kept) ≤ weight xs + (length x.bytes - top x.local xs)
+    by true e later = omega (arith, later)
+    by false e later = omega (arith, later, top-left local x.local e xs)
+
+top-more : (local other : SocketAddr) (mode : Mode) (xs : List Stream) → top other (xs ++ record { local = local; mode = mode; bytes = [] } ∷ []) ≡ top other xs
+unfolding top
+top-more local other mode [] = by (same_address local other)
+  where
+    by : (b : Bool) → max (cond {A = ℕ} b 0 0) 0 ≡ 0
+    by true = omega arith
+    by false = omega arith
+top-more local other mode (x ∷ xs) = let later = top-more local other mode xs in omega (arith, later)
+
+weight-more : (local : SocketAddr) (mode : Mode) (xs : List Stream) → weight (xs ++ record { local = local; mode = mode; bytes = [] } ∷ []) ≡ weight xs
+unfolding weight
+weight-more local mode [] = omega arith
+weight-more local mode (x ∷ xs) = let later = weight-more local mode xs in omega (arith, later, top-more local x.local mode xs)
+
+opened-weight : (s t : State) → IsOpened s t → weight t.streams ≤ weight s.streams
+opened-weight s t (inl same) = rw same (omega arith)
+opened-weight s t (inr (local, is)) = rw is (let less = weight-left local s.streams in let more = weight-more local Waiting (without_stream local s).streams in omega (arith, less, more))
+
+-- ---- what comes in
+
+gone-same : (local : SocketAddr) (s : State) → Same s (connection_gone local s)
+gone-same local s = same-cond (is_some (connection_at local s)) s _ _ refl refl
+
+stream-takes : (to : SocketAddr) (stream : Stream) (piece : List ℕ) (now : ℕ) (s : State) → stream_at to s ≡ Some stream → TakesOf piece (stream_turns stream piece now s) s (stream_step stream piece now s).1
+stream-takes to stream [] now s found =
+    let same = gone-same stream.local s in
+    let less = weight-left stream.local (connection_gone stream.local s).streams in
+    let as_many : weight (connection_gone stream.local s).streams ≡ weight s.streams = rw same refl in
+    omega (arith, less, as_many)
+stream-takes to stream (b ∷ bytes) now s found = piece-takes to s stream.mode stream (b ∷ bytes) now found (omega arith)
+
+datagram-weight : (bytes : List ℕ) (now : ℕ) (s : State) → weight (datagram_step bytes now s).1.streams ≡ weight s.streams
+datagram-weight bytes now s = by (is_message bytes) (is_channel_frame bytes)
+  where
+    by : (b c : Bool) → weight (cond {A = Outcome × State} b (message_step bytes now s) (cond {A = Outcome × State} c (channel_sent s bytes, s) (Ignored, s))).1.streams ≡ weight s.streams
+    by true c = rw (message-same bytes now s) refl
+    by false true = refl
+    by false false = refl
+
+-- one turn of a datagram, or turns of bytes
+abbrev TakesOfPacket : List ℕ → List Turn → State → State → Type 0
+TakesOfPacket bytes turns s t = length turns + weight t.streams ≤ weight s.streams + (1 + length bytes)
+
+recv_over : (carrier : TransportType) (transport : TransportType) (from to : SocketAddr) (bytes : List ℕ) (now : ℕ) (s : State)
+    → (let u = record s { transport = carrier } in TakesOfPacket bytes (recv_turns transport from to bytes now u) u (recv_step transport from to bytes now u).1)
+recv_over Udp transport from to bytes now s = by (is_from_server transport from u) (same_address to s.local)
+  where
+    u : State
+    u = record s { transport = Udp }
+
+    by : (b c : Bool) → TakesOfPacket bytes (cond b (cond c (datagram_turn bytes now u ∷ []) []) []) u (cond {A = Outcome × State} b (cond {A = Outcome × State} c (datagram_step bytes now u) (Ignored, u)) (Ignored, u)).1
+    by true true = let kept = datagram-weight bytes now u in omega (arith, kept)
+    by true false = omega arith
+    by false c = omega arith
+recv_over Tcp transport from to bytes now s = by (is_from_server transport from u) refl (stream_at to s) refl
+  where
+    u : State
+    u = record s { transport = Tcp }
+
+    by : (b : Bool) → is_from_server transport from u ≡ b → (o : Option Stream) → stream_at to s ≡ o → TakesOfPacket bytes (recv_turns transport from to bytes now u) u (recv_step transport from to bytes now u).1
+    by false e o f = rw e (omega arith)
+    by true e None f = rw (e, f) (omega arith)
+    by true e (Some stream) f = let takes = stream-takes to stream bytes now u f in rw (e, f) (omega (arith, takes))
+
+-- the turns of a call, and what the streams hold then
+pub recv-takes : (packet : Transmit (List ℕ)) (now : ℕ) (s : State) → length (handled (Recv packet now) s) + weight (state_after (Recv packet now) s).streams ≤ weight s.streams + (1 + length packet.payload)
+recv-takes packet now s = recv_over s.transport packet.transport packet.from packet.to packet.payload now s
+
+pub poll_recv-takes : (now : ℕ) (s : State) → length (handled (PollRecv now) s) + weight (state_after (PollRecv now) s).streams ≤ weight s.streams
+poll_recv-takes now s = poll-takes now s
+
+pub others-weight : (call : Call) (s : State) → (TakesTurns call → ⊥) → weight (state_after call s).streams ≤ weight s.streams
+others-weight call s other = opened-weight s (state_after call s) (others-opened call s other)
