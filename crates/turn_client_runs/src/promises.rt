@@ -2,13 +2,15 @@
 
 ghost use Rattle.turn_client_runs.specs.Holds.{HoldsOfRuns};
 ghost use Rattle.turn_client_runs.specs.Promises.{AfterEach, BoundHaveSuccess, CutsAgree, FewAreAnswered, GrantsHaveReplies, HearsLetIn, NumbersAreDistinct, RealmStays, RepliesCountOnce};
+ghost use Rattle.turn_client_runs.specs.Weight.{FewDrawFreeIds};
 
 /// What a run of a new client keeps, whatever its configuration, its seed and its calls, which all find
 /// memory. After each call every standing grant has its signed reply to an own request, no channel number
 /// names two peers, and what is bound has the success that bound it (RFC 8656, sections 7.3, 9, 12; RFC
 /// 6062, section 4.3). Each payload is of a peer that was let in, a reply counts once, and of any calls that
 /// follow each other at most nine challenges are answered before a signed reply, realm and algorithm stay,
-/// and the pieces of a stream give what their joined bytes give. Each clause is a law of this crate, spoken
+/// and the pieces of a stream give what their joined bytes give. Where calls and their bytes are fewer than 2^90,
+/// each ID that is drawn is free. Each clause is a law of this crate, spoken
 /// of one run.
 pub fn runs_keep_their_promises()
     ensures granted { HoldsOfRuns (AfterEach GrantsHaveReplies) }
@@ -19,4 +21,5 @@ pub fn runs_keep_their_promises()
     ensures challenges { HoldsOfRuns FewAreAnswered }
     ensures realm { HoldsOfRuns RealmStays }
     ensures cuts { HoldsOfRuns CutsAgree }
+    ensures ids { HoldsOfRuns FewDrawFreeIds }
 {}

@@ -6,6 +6,7 @@ ghost use Rattle.turn_client_proto.specs.Client.{state_of};
 ghost use Rattle.turn_client_runs.specs.Promises.{AfterEach, BoundHaveSuccess, CutsAgree, FewAreAnswered, GrantsHaveReplies, HearsLetIn, NumbersAreDistinct, RealmStays, RepliesCountOnce};
 ghost use Rattle.turn_client_runs.specs.Run.{state_behind};
 ghost use Rattle.turn_client_runs.specs.Sleeps.{SleepsThroughNothing};
+ghost use Rattle.turn_client_runs.specs.Weight.{FewDrawFreeIds};
 ghost use Rattle.turn_client_proto.specs.Heard.{GivesLetIn};
 ghost use Rattle.turn_client_proto.specs.Run.{IsCallable, replies_of, run};
 
@@ -41,8 +42,8 @@ pub struct Replayed {
 ///
 /// Moments are at most 2^62 nanoseconds, and may go back from call to call. Where the allocation relays over
 /// UDP, data for a peer is at most 65,504 bytes. A client over UDP asks for such an allocation, since one over
-/// TCP needs a client over TCP (RFC 6062, section 4.1). That an own request was made is said where IDs that
-/// are drawn are free: while fewer than 2^96 are taken.
+/// TCP needs a client over TCP (RFC 6062, section 4.1). That an own request was made is said where each ID that
+/// is drawn is free, and it is where the calls and their bytes are fewer than 2^90.
 ///
 /// # Errors
 ///
@@ -69,6 +70,7 @@ pub fn replay(
     ensures challenges { FewAreAnswered (initial transport local remote config seed) calls.now }
     ensures realm { RealmStays (initial transport local remote config seed) calls.now }
     ensures cuts { CutsAgree (initial transport local remote config seed) calls.now }
+    ensures ids { FewDrawFreeIds (initial transport local remote config seed) calls.now }
     ensures alarm { SleepsThroughNothing (initial transport local remote config seed) calls.now }
 {
     make_run(alloc, transport, local, remote, config, seed, calls)

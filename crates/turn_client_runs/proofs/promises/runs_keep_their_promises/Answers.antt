@@ -1,4 +1,5 @@
 use Rattle.turn_client_runs.proofs.PromiseLemmas.{run-bound, run-cuts, run-few, run-granted, run-hears, run-numbers, run-realm, run-replies}
+use Rattle.turn_client_runs.proofs.WeightLemmas.{run-ids}
 use Rattle.turn_client_runs.proofs.promises.runs_keep_their_promises.Goals as goal
 
 pub returns-clause-granted : goal.returns-clause-granted
@@ -24,3 +25,6 @@ returns-clause-realm c = run-realm
 
 pub returns-clause-cuts : goal.returns-clause-cuts
 returns-clause-cuts c = run-cuts
+
+pub returns-clause-ids : goal.returns-clause-ids
+returns-clause-ids c = run-ids

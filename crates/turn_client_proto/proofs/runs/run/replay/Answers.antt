@@ -1,4 +1,5 @@
 use Rattle.turn_client_runs.proofs.PromiseLemmas.{run-bound, run-cuts, run-few, run-granted, run-hears, run-numbers, run-realm, run-replies}
+use Rattle.turn_client_runs.proofs.WeightLemmas.{run-ids}
 use Rattle.turn_client_api.specs.State.{initial}
 use Rattle.turn_client_proto.proofs.HeardLemmas.{gives-let-in}
 use Rattle.turn_client_proto.proofs.RunLemmas.{timely}
@@ -30,6 +31,9 @@ returns-clause-realm c = run-realm c.args.transport c.args.local c.args.remote c
 
 pub returns-clause-cuts : goal.returns-clause-cuts
 returns-clause-cuts c = run-cuts c.args.transport c.args.local c.args.remote c.args.config c.args.seed c.args.calls.now
+
+pub returns-clause-ids : goal.returns-clause-ids
+returns-clause-ids c = run-ids c.args.transport c.args.local c.args.remote c.args.config c.args.seed c.args.calls.now
 
 pub returns-clause-alarm : goal.returns-clause-alarm
 returns-clause-alarm c = timely c.args.transport c.args.local c.args.remote c.args.config c.args.seed c.args.calls.now c.requires.callable
