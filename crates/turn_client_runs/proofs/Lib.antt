@@ -1,5 +1,6 @@
 pub mod AllTurnsLemmas
 pub mod AnsweredTurns
+pub mod AskedFamilies
 pub mod AskedLemmas
 pub mod AskedPeers
 pub mod BoundLemmas

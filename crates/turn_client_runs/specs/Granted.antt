@@ -25,6 +25,7 @@ use Rattle.turn_client_api.specs.Effect.{channel_lifetime, least_lifetime, permi
 use Rattle.turn_client_api.specs.Payloads.{is_message}
 use Rattle.turn_client_api.specs.Handled.{Turn, handled, made_of}
 use Rattle.turn_client_api.specs.Steps.{state_after}
+use Rattle.turn_client_api.specs.LawsAllocates.{IsAskedForFamilies}
 use Rattle.turn_client_api.specs.LawsGranted.{Stood}
 use Rattle.turn_client_api.specs.LawsHandled.{IsDoneBy, IsOverControl, IsOverWaiting}
 use Rattle.turn_client_api.specs.LawsPurposes.{DrawsFreeIds}
@@ -58,6 +59,12 @@ IsGivenIn one (ForChannel number peer) (Channel other to (Active expiry)) =
 IsGivenIn one (ForBind local peer id) (Connection c) = (c.local ≡ local) × (c.deadline ≡ None)
 IsGivenIn one _ _ = ⊥
 
+-- An ALLOCATE that the turn answers asks by its bytes for the families of which the client still asks for an
+-- address, and one of those is the family of what the success gives (RFC 8656, sections 7.1 and 7.3).
+abbrev pub AsksForItsFamily : Purpose → Turn → Type 0
+AsksForItsFamily ForAllocation one = IsAskedForFamilies (id_of one.bytes) one.before
+AsksForItsFamily _ one = ⊤
+
 -- The turn granted it, with this end. It is that of a success, which is signed under the realm, the key and
 -- the algorithm that are held then. It answers a request that was made for this purpose: outstanding just
 -- before the turn, and not just after it.
@@ -69,6 +76,7 @@ pub record IsGranting (g : Grant) (purpose : Purpose) (one : Turn) : Type 0 wher
   pub listed : Contains (purposes_of (id_of one.bytes) one.before) purpose
   pub outstanding : IsAwaited one.bytes one.before
   pub ended : IsNotAwaited one.bytes (made_of one).1
+  pub asks : AsksForItsFamily purpose one
   pub given : IsGivenIn one purpose g
 
 -- ---- when a turn comes
