@@ -24,6 +24,8 @@ pub mod ReplyLemmas
 pub mod RunCutLemmas
 pub mod RunGrants
 pub mod RunLemmas
+pub mod SignedCalls
+pub mod SignedLemmas
 pub mod SleepLemmas
 pub mod StreamAtLemmas
 pub mod TogetherLemmas

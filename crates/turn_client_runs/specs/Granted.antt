@@ -1,6 +1,6 @@
 -- What the replies of a run granted (RFC 8489, section 9.2.5; RFC 8656, sections 7.3 to 12.3; RFC 6062,
 -- section 4.3).
-use Rattle.std.specs.Prelude.{◌≡◌, ◌⊎◌, ◌≤◌, ℕ, true, List, [], ◌∷◌, ◌++◌, Option, Some, None, Ok, ⊤}
+use Rattle.std.specs.Prelude.{◌≡◌, ◌⊎◌, ◌≤◌, ℕ, true, List, [], ◌∷◌, ◌++◌, Option, Some, None, IsSome, Ok, ⊤}
 use Rattle.std.specs.declared.net.socket_addr.SocketAddr.{SocketAddr}
 use Rattle.turn_stun.specs.declared.transport.TransportType.{TransportType}
 use Rattle.turn_client_api.specs.Config.{Config}
@@ -8,6 +8,7 @@ use Rattle.std.specs.List.{Contains, list_any}
 use Rattle.turn_stun.specs.Message.{id_of}
 use Rattle.turn_stun.specs.declared.message.header.MessageClass.TheVariants.{Success}
 use Rattle.turn_auth.specs.Validation.{IsValidated, validation_of}
+use Rattle.turn_agent.specs.declared.transaction.Transaction.{Transaction}
 use Rattle.turn_client_api.specs.State.{State, auth_of, initial, later_by, seconds}
 use Rattle.turn_client_api.specs.declared.call.Call.{Call}
 use Rattle.turn_client_api.specs.declared.grant.Grant.{Grant}
@@ -31,7 +32,7 @@ use Rattle.turn_client_api.specs.LawsHandled.{IsDoneBy, IsOverControl, IsOverWai
 use Rattle.turn_client_api.specs.LawsPurposes.{DrawsFreeIds}
 use Rattle.turn_client_api.specs.LawsReplies.{IsAwaited, IsNotAwaited}
 use Rattle.turn_client_api.specs.LawsRequests.{AsksFor, IsListedFor, IsMade}
-use Rattle.turn_client_api.specs.Requests.{fresh_id}
+use Rattle.turn_client_api.specs.Requests.{fresh_id, request_for}
 use Rattle.turn_client_runs.specs.Received.{IsReceived}
 use Rattle.turn_client_runs.specs.Run.{state_behind}
 
@@ -59,10 +60,20 @@ IsGivenIn one (ForChannel number peer) (Channel other to (Active expiry)) =
 IsGivenIn one (ForBind local peer id) (Connection c) = (c.local ≡ local) × (c.deadline ≡ None)
 IsGivenIn one _ _ = ⊥
 
--- An ALLOCATE that the turn answers asks by its bytes for the families of which the client still asks for an
--- address, and one of those is the family of what the success gives (RFC 8656, sections 7.1 and 7.3).
+-- an ALLOCATE that is signed under what a client holds
+abbrev pub IsSignedAllocate : Transaction → Type 0
+IsSignedAllocate x = (t : State) × IsSome t.held × (x.request ≡ request_for t ForAllocation x.id)
+
+-- What the turn's reply answers asks by its bytes for the families of which the client still asks for an
+-- address (RFC 8656, sections 7.1 and 7.3). It is a signed ALLOCATE, and not the first one, which is not
+-- signed and brings the challenge (RFC 8489, section 9.2.3).
+pub record AsksToAllocate (one : Turn) : Type 0 where
+  pub families : IsAskedForFamilies (id_of one.bytes) one.before
+  pub signed : (x : Transaction) → Contains one.before.transactions x → x.id ≡ id_of one.bytes → IsSignedAllocate x
+
+-- a first allocation is granted in answer to such a request, and is of one of these families
 abbrev pub AsksForItsFamily : Purpose → Turn → Type 0
-AsksForItsFamily ForAllocation one = IsAskedForFamilies (id_of one.bytes) one.before
+AsksForItsFamily ForAllocation one = AsksToAllocate one
 AsksForItsFamily _ one = ⊤
 
 -- The turn granted it, with this end. It is that of a success, which is signed under the realm, the key and

@@ -11,13 +11,15 @@ ghost use Rattle.turn_client_runs.specs.Granted.{HaveReplies};
 /// among the joined pieces that the stream took in up to that call. It has the ID of a request that was made
 /// for the grant: for a permission of this IP address, for a channel of this number and this peer, for an
 /// allocation, or to refresh one of its family, for more than 0 s, to bind the connection from this local end.
-/// That request was outstanding just before the turn, and was not just after it. Where it was made for an
-/// allocation, its bytes are those of an ALLOCATE that asks for the families of which the client still asked
-/// for an address, and the address that is granted is of one of these (RFC 8656, sections 7.1 and 7.3). The grant ends as this turn
+/// That request was outstanding just before the turn, and was not just after it. The grant ends as this turn
 /// says: 300 s after its moment for a permission, 600 s for a channel (RFC 8656, sections 9 and 12), for an
 /// allocation the LIFETIME that is seen first, and at least 600 s in reply to a REFRESH; or an accepted
 /// `delete`, after the turn that granted the allocation, ended it at its own moment. No later call dropped the
 /// grant or gave it another end.
+///
+/// Where the request was made for an allocation, it is by its bytes a signed ALLOCATE, never the first one, which
+/// is not signed (RFC 8489, section 9.2.3), and it asks for the families of which the client still asked for an
+/// address; the address that is granted is of one of these (RFC 8656, sections 7.1 and 7.3).
 ///
 /// The request was the client's own: an earlier call made it, or an earlier turn of the same call, as one for
 /// the grant, or for a channel whose peer has the IP address of a permission. That holds while fewer IDs are
