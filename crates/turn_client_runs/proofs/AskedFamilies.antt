@@ -28,16 +28,16 @@ turns-signed call s order one among = before-kept StaySigned StaySigned-IsKept c
 
 -- where a reply may grant, and answers an ALLOCATE, the first challenge was answered
 module _ (one : Turn) (order : AllocatesInOrder one.before) (signs : Signs one.before) (heard : one.before.phase ≡ Requesting → ⊥) (awaited : IsAwaited one.bytes one.before) (asked : IsAllocate (id_of one.bytes) one.before) where
-  answers-signed : AreSigned one.before.transactions
+  answers-signed : AreSigned one.before.config one.before.held one.before.transactions
   answers-signed = by one.before.phase refl
     where
-      in_phase : (p : Phase) → one.before.phase ≡ p → SignsIn p one.before.held one.before.transactions
-      in_phase p e = subst (λ (q : Phase). SignsIn q one.before.held one.before.transactions) e signs
+      in_phase : (p : Phase) → one.before.phase ≡ p → SignsIn p one.before.config one.before.held one.before.transactions
+      in_phase p e = subst (λ (q : Phase). SignsIn q one.before.config one.before.held one.before.transactions) e signs
 
       none : one.before.transactions ≡ [] → ⊥
       none e = let no : is_outstanding (id_of one.bytes) [] ≡ true = subst (λ (xs : List Transaction). is_outstanding (id_of one.bytes) xs ≡ true) e awaited in cc
 
-      by : (p : Phase) → one.before.phase ≡ p → AreSigned one.before.transactions
+      by : (p : Phase) → one.before.phase ≡ p → AreSigned one.before.config one.before.held one.before.transactions
       by New e = absurd (none (in_phase New e))
       by Requesting e = absurd (heard e)
       by Authenticating e = (in_phase Authenticating e).1

@@ -35,6 +35,7 @@ use Rattle.turn_client_api.proofs.RunKeepLemmas.{poll_recv-kept, recv-kept}
 use Rattle.turn_client_api.proofs.SendOrderLemmas.{leaves-steadies}
 use Rattle.turn_client_api.proofs.StandLemmas.{contains-has, has-contains}
 use Rattle.turn_client_runs.specs.Granted.{IsSignedAllocate}
+use Rattle.turn_client_runs.proofs.ConfiguredLemmas.{call-configured}
 use Rattle.turn_client_runs.proofs.SignedLemmas.{AreSigned, Signs, SignsIn, StaySigned, StaySigned-IsKept, further-signs, later-signs, same-signs}
 
 -- ---- what a caller asks for, an allocation has to be there for
@@ -158,8 +159,8 @@ quiet-signs call s quiet asks steady h = by s.phase refl
         of (inl old) = inl (x, contains-has x s.transactions old, refl, refl)
         of (inr is) = asks x is
 
-    in_phase : (p : Phase) → s.phase ≡ p → SignsIn p s.held s.transactions
-    in_phase p e = subst (λ (q : Phase). SignsIn q s.held s.transactions) e h
+    in_phase : (p : Phase) → s.phase ≡ p → SignsIn p s.config s.held s.transactions
+    in_phase p e = subst (λ (q : Phase). SignsIn q s.config s.held s.transactions) e h
 
     on : (p q : Phase) → s.phase ≡ p → t.phase ≡ q → rank p ≤ rank q
     on p q e f = subst (λ (r : Phase). rank p ≤ rank r) f (subst (λ (r : Phase). rank r ≤ rank t.phase) e (call-keeps call s).3.0)
@@ -176,19 +177,19 @@ quiet-signs call s quiet asks steady h = by s.phase refl
     sent p e other further x (inr (inl (new, named))) = absurd (other (sym e ∙ new))
     sent p e other further x (inr (inr allocated)) = absurd (further (sym e ∙ allocated))
 
-    signed : s.phase ≡ Authenticating → (x : Transaction) → AreSigned s.transactions → WasSent s x → IsSignedAllocate x
-    signed e x are (was, there, named, text) =
-        let (u, held, spelled) = are was there in
-        (u, held, text ∙ (spelled ∙ ap (request_for u ForAllocation) (sym named)))
+    signed : (x : Transaction) → AreSigned t.config t.held s.transactions → WasSent s x → IsSignedAllocate t.config t.held x
+    signed x are (was, there, named, text) =
+        let (u, configured, realm, spelled) = are was there in
+        (u, configured, realm, text ∙ (spelled ∙ ap (request_for u ForAllocation) (sym named)))
 
-    from-new : s.phase ≡ New → (q : Phase) → t.phase ≡ q → SignsIn q t.held t.transactions
+    from-new : s.phase ≡ New → (q : Phase) → t.phase ≡ q → SignsIn q t.config t.held t.transactions
     from-new e New f = ((leaves-steadies call s t (inl refl) steady).0 f).2
     from-new e Requesting f = λ x y here there. begun e x (source x here) ∙ sym (begun e y (source y there))
     from-new e Authenticating f = let no : New ≡ Authenticating = sym e ∙ awaits f in cc
     from-new e Allocated f = tt
     from-new e Closed f = tt
 
-    from-requesting : s.phase ≡ Requesting → (q : Phase) → t.phase ≡ q → SignsIn q t.held t.transactions
+    from-requesting : s.phase ≡ Requesting → (q : Phase) → t.phase ≡ q → SignsIn q t.config t.held t.transactions
     from-requesting e New f = let no : 1 ≤ 0 = on Requesting New e f in absurd (omega (arith, no))
     from-requesting e Requesting f = λ x y here there.
         let (a, among, named, text) = sent Requesting e (λ g. cc) (λ g. cc) x (source x here) in
@@ -204,7 +205,9 @@ quiet-signs call s quiet asks steady h = by s.phase refl
     by : (p : Phase) → s.phase ≡ p → Signs t
     by New e = from-new e t.phase refl
     by Requesting e = from-requesting e t.phase refl
-    by Authenticating e = later-signs s t e h (call-keeps call s) (λ x there phase held are. signed e x are (sent Authenticating e (λ g. cc) (λ g. cc) x (source x there)))
+    by Authenticating e =
+        later-signs s t e h (call-keeps call s) (call-configured call s)
+        (λ x there phase held are. signed x are (sent Authenticating e (λ g. cc) (λ g. cc) x (source x there)))
     by Allocated e = far Allocated e (omega arith)
     by Closed e = far Closed e (omega arith)
 

@@ -8,6 +8,7 @@ use Rattle.turn_stun.specs.Message.{id_of}
 use Rattle.turn_auth.specs.LongTerm.{Challenge}
 use Rattle.turn_agent.specs.Agent.{first_sent, is_outstanding, is_response, without}
 use Rattle.turn_agent.specs.declared.transaction.Transaction.{Transaction}
+use Rattle.turn_client_api.specs.Config.{Config}
 use Rattle.turn_client_api.specs.State.{State}
 use Rattle.turn_client_api.specs.declared.grant.Purpose.{Purpose}
 use Rattle.turn_client_api.specs.declared.grant.Purpose.TheVariants.{ForAllocation}
@@ -33,26 +34,27 @@ use Rattle.turn_client_api.proofs.MoveMessageLemmas.{message-turns}
 use Rattle.turn_client_api.proofs.PhasesGoOn.{Keeps, bind-keeps, message-keeps}
 use Rattle.turn_client_api.proofs.RunKeepLemmas.{IsKept}
 use Rattle.turn_client_api.proofs.StandLemmas.{contains-has, has-contains}
-use Rattle.turn_client_runs.specs.Granted.{IsSignedAllocate}
+use Rattle.turn_client_runs.specs.Granted.{HaveOneRealm, IsSignedAllocate}
+use Rattle.turn_client_runs.proofs.ConfiguredLemmas.{message-configured}
 
 -- ---- what is kept
 
 abbrev pub IsOfOneId : List Transaction → Type 0
 IsOfOneId xs = (x y : Transaction) → Has x xs → Has y xs → x.id ≡ y.id
 
-abbrev pub AreSigned : List Transaction → Type 0
-AreSigned xs = (x : Transaction) → Has x xs → IsSignedAllocate x
+abbrev pub AreSigned : Config → Option Challenge → List Transaction → Type 0
+AreSigned config held xs = (x : Transaction) → Has x xs → IsSignedAllocate config held x
 
 -- nothing is outstanding, then the first ALLOCATE alone, then signed ones
-abbrev pub SignsIn : Phase → Option Challenge → List Transaction → Type 0
-SignsIn New held xs = xs ≡ []
-SignsIn Requesting held xs = IsOfOneId xs
-SignsIn Authenticating held xs = IsSome held × AreSigned xs
-SignsIn Allocated held xs = ⊤
-SignsIn Closed held xs = ⊤
+abbrev pub SignsIn : Phase → Config → Option Challenge → List Transaction → Type 0
+SignsIn New config held xs = xs ≡ []
+SignsIn Requesting config held xs = IsOfOneId xs
+SignsIn Authenticating config held xs = IsSome held × AreSigned config held xs
+SignsIn Allocated config held xs = ⊤
+SignsIn Closed config held xs = ⊤
 
 abbrev pub Signs : State → Type 0
-Signs s = SignsIn s.phase s.held s.transactions
+Signs s = SignsIn s.phase s.config s.held s.transactions
 
 -- ---- phases
 
@@ -60,7 +62,7 @@ Signs s = SignsIn s.phase s.held s.transactions
 pub far-signs : (t : State) → 3 ≤ rank t.phase → Signs t
 far-signs t far = by t.phase far
   where
-    by : (p : Phase) → 3 ≤ rank p → SignsIn p t.held t.transactions
+    by : (p : Phase) → 3 ≤ rank p → SignsIn p t.config t.held t.transactions
     by New far = absurd (omega (arith, far))
     by Requesting far = absurd (omega (arith, far))
     by Authenticating far = absurd (omega (arith, far))
@@ -87,23 +89,40 @@ held-on s t keeps some =
     let (d, f, realm, algorithm) = keeps.2 c e in
     rw f refl
 
+-- and its realm
+realm-on : (was : Option Challenge) (s t : State) → Keeps s t → HaveOneRealm was s.held → HaveOneRealm was t.held
+realm-on was s t keeps (c, d, e, f, realm, algorithm) =
+    let (next, is, same, alike) = keeps.2 d f in
+    (c, next, e, is, realm ∙ sym same, algorithm ∙ sym alike)
+
+-- that of one challenge
+own-realm : (held : Option Challenge) → IsSome held → HaveOneRealm held held
+own-realm held some = let (c, e) = some-held held some in (c, c, e, e, refl, refl)
+
 -- where a challenge is answered, what was signed stays so, and what comes is
-pub later-signs : (s t : State) → s.phase ≡ Authenticating → Signs s → Keeps s t → ((x : Transaction) → Has x t.transactions → t.phase ≡ Authenticating → IsSome t.held → AreSigned s.transactions → IsSignedAllocate x) → Signs t
-later-signs s t e h keeps each = by t.phase refl
+pub later-signs : (s t : State) → s.phase ≡ Authenticating → Signs s → Keeps s t → t.config ≡ s.config
+    → ((x : Transaction) → Has x t.transactions → t.phase ≡ Authenticating → IsSome t.held → AreSigned t.config t.held s.transactions → IsSignedAllocate t.config t.held x)
+    → Signs t
+later-signs s t e h keeps same each = by t.phase refl
   where
-    signs : IsSome s.held × AreSigned s.transactions
-    signs = subst (λ (p : Phase). SignsIn p s.held s.transactions) e h
+    signs : IsSome s.held × AreSigned s.config s.held s.transactions
+    signs = subst (λ (p : Phase). SignsIn p s.config s.held s.transactions) e h
 
     held : IsSome t.held
     held = held-on s t keeps signs.0
 
+    signed : AreSigned t.config t.held s.transactions
+    signed x there =
+        let (u, configured, realm, spelled) = signs.1 x there in
+        (u, configured ∙ sym same, realm-on u.held s t keeps realm, spelled)
+
     on : (p : Phase) → t.phase ≡ p → 2 ≤ rank p
     on p f = subst (λ (q : Phase). 2 ≤ rank q) f (subst (λ (q : Phase). rank q ≤ rank t.phase) e keeps.3.0)
 
-    by : (p : Phase) → t.phase ≡ p → SignsIn p t.held t.transactions
+    by : (p : Phase) → t.phase ≡ p → SignsIn p t.config t.held t.transactions
     by New f = let no : 2 ≤ 0 = on New f in absurd (omega (arith, no))
     by Requesting f = let no : 2 ≤ 1 = on Requesting f in absurd (omega (arith, no))
-    by Authenticating f = (held, λ x there. each x there f held signs.1)
+    by Authenticating f = (held, λ x there. each x there f held signed)
     by Allocated f = tt
     by Closed f = tt
 
@@ -114,18 +133,19 @@ pub for-allocation : (id : ℕ) (s : State) (p : Purpose) → AllocatesInOrder s
 for-allocation id s p order u there =
     let (l, listed, e) = purposes-listed id s p there in sym e ∙ order.0.0 u l (has-contains l s.listed listed)
 
-signed-as : (t : State) (purpose : Purpose) (id : ℕ) (x : Transaction) → IsSome t.held → purpose ≡ ForAllocation → x.id ≡ id → x.request ≡ request_for t purpose id → IsSignedAllocate x
-signed-as t purpose id x held is named spelled =
-    (t, held, spelled ∙ (ap (λ (p : Purpose). request_for t p id) is ∙ ap (request_for t ForAllocation) (sym named)))
+signed-as : (t : State) (config : Config) (held : Option Challenge) (purpose : Purpose) (id : ℕ) (x : Transaction) → t.config ≡ config → HaveOneRealm t.held held → purpose ≡ ForAllocation → x.id ≡ id → x.request ≡ request_for t purpose id
+    → IsSignedAllocate config held x
+signed-as t config held purpose id x same realm is named spelled =
+    (t, same, realm, spelled ∙ (ap (λ (p : Purpose). request_for t p id) is ∙ ap (request_for t ForAllocation) (sym named)))
 
-made-signed : (purpose : Purpose) (now : ℕ) (s t : State) (x : Transaction) → purpose ≡ ForAllocation → IsMadeAs purpose now s t x → t.phase ≡ Authenticating → IsSome t.held → IsSignedAllocate x
+made-signed : (purpose : Purpose) (now : ℕ) (s t : State) (x : Transaction) → purpose ≡ ForAllocation → IsMadeAs purpose now s t x → t.phase ≡ Authenticating → IsSome t.held → IsSignedAllocate t.config t.held x
 made-signed purpose now s t x is (made, e) phase held = by made.spelled
   where
     named : x.id ≡ fresh_id s
     named = ap (λ (y : Transaction). y.id) e
 
-    by : (made.text ≡ request_for t purpose (fresh_id s)) ⊎ ((purpose ≡ ForAllocation) × (t.phase ≡ Requesting) × (made.text ≡ first_allocate t (fresh_id s))) → IsSignedAllocate x
-    by (inl text) = signed-as t purpose (fresh_id s) x held is named (ap (λ (y : Transaction). y.request) e ∙ text)
+    by : (made.text ≡ request_for t purpose (fresh_id s)) ⊎ ((purpose ≡ ForAllocation) × (t.phase ≡ Requesting) × (made.text ≡ first_allocate t (fresh_id s))) → IsSignedAllocate t.config t.held x
+    by (inl text) = signed-as t t.config t.held purpose (fresh_id s) x refl (own-realm t.held held) is named (ap (λ (y : Transaction). y.request) e ∙ text)
     by (inr (first, begins, text)) = let no : Requesting ≡ Authenticating = sym begins ∙ phase in cc
 
 -- ---- messages
@@ -136,23 +156,27 @@ after message now s = (message_step message now s).1
 module _ (message : List ℕ) (now : ℕ) (s : State) (order : AllocatesInOrder s) (h : Signs s) where
   -- a challenge is answered
   authenticating-signs : s.phase ≡ Authenticating → Signs (after message now s)
-  authenticating-signs e = later-signs s (after message now s) e h (message-keeps message now s) each
+  authenticating-signs e = later-signs s t e h (message-keeps message now s) (message-configured message now s) each
     where
-      again : (x : Transaction) → IsMadeAgain message now s (after message now s) x → (after message now s).phase ≡ Authenticating → IsSome (after message now s).held → IsSignedAllocate x
+      t : State
+      t = after message now s
+
+      again : (x : Transaction) → IsMadeAgain message now s t x → t.phase ≡ Authenticating → IsSome t.held → IsSignedAllocate t.config t.held x
       again x (purpose, answers, made) phase held =
-          made-signed purpose now s (after message now s) x
+          made-signed purpose now s t x
           (for-allocation (id_of message) s purpose order (rw e tt) (contains-has purpose (purposes_of (id_of message) s) answers)) made phase held
 
-      each : (x : Transaction) → Has x (after message now s).transactions → (after message now s).phase ≡ Authenticating → IsSome (after message now s).held → AreSigned s.transactions → IsSignedAllocate x
+      each : (x : Transaction) → Has x t.transactions → t.phase ≡ Authenticating → IsSome t.held → AreSigned t.config t.held s.transactions → IsSignedAllocate t.config t.held x
       each x there phase held signed = by ((message-turns message now s).0 x there)
         where
-          by : Has x s.transactions ⊎ IsMadeAgain message now s (after message now s) x → IsSignedAllocate x
+          by : Has x s.transactions ⊎ IsMadeAgain message now s t x → IsSignedAllocate t.config t.held x
           by (inl old) = signed x old
           by (inr made) = again x made phase held
 
   -- the first one ends as it is made again, and then nothing else is outstanding
-  retried-signs : (id : ℕ) (purpose : Purpose) (d : Challenge) (u : State) → IsOfOneId s.transactions → is_outstanding id s.transactions ≡ true → purpose ≡ ForAllocation → IsSome u.held → AreSigned (without id s.transactions ++ first_sent (fresh_id s) s.remote now (request_for u purpose (fresh_id s)) ∷ [])
-  retried-signs id purpose d u one outstanding is held x there = by (has-append x (without id s.transactions) _ there)
+  retried-signs : (id : ℕ) (purpose : Purpose) (d : Challenge) (u : State) → IsOfOneId s.transactions → is_outstanding id s.transactions ≡ true → purpose ≡ ForAllocation → u.config ≡ s.config → u.held ≡ Some d
+      → AreSigned s.config (Some d) (without id s.transactions ++ first_sent (fresh_id s) s.remote now (request_for u purpose (fresh_id s)) ∷ [])
+  retried-signs id purpose d u one outstanding is same held x there = by (has-append x (without id s.transactions) _ there)
     where
       old : Has x (without id s.transactions) → ⊥
       old left =
@@ -160,9 +184,9 @@ module _ (message : List ℕ) (now : ℕ) (s : State) (order : AllocatesInOrder 
           let (y, here, same) = any-has (λ (z : Transaction). eqb z.id id) s.transactions outstanding in
           not-both (eqb x.id id) (eq-eqb x.id id (one x y before here ∙ eqb-true y.id id same)) other
 
-      by : Has x (without id s.transactions) ⊎ Has x (first_sent (fresh_id s) s.remote now (request_for u purpose (fresh_id s)) ∷ []) → IsSignedAllocate x
+      by : Has x (without id s.transactions) ⊎ Has x (first_sent (fresh_id s) s.remote now (request_for u purpose (fresh_id s)) ∷ []) → IsSignedAllocate s.config (Some d) x
       by (inl left) = absurd (old left)
-      by (inr (inl e)) = signed-as u purpose (fresh_id s) x held is (ap (λ (z : Transaction). z.id) e) (ap (λ (z : Transaction). z.request) e)
+      by (inr (inl e)) = signed-as u s.config (Some d) purpose (fresh_id s) x same (d, d, held, refl, refl, refl) is (ap (λ (z : Transaction). z.id) e) (ap (λ (z : Transaction). z.request) e)
       by (inr (inr none)) = absurd none
 
   -- the first challenge is answered, or the client ends
@@ -176,13 +200,13 @@ module _ (message : List ℕ) (now : ℕ) (s : State) (order : AllocatesInOrder 
       by false f o g = let is : (challenge_step message d now s).1 ≡ closed (fail_all s) = rw f refl in closed-signs (fail_all s) end is
       by true f None g = let is : (challenge_step message d now s).1 ≡ s = rw (f, g) refl in same-signs s end is h
       by true f (Some purpose) g =
-          let one : IsOfOneId s.transactions = subst (λ (p : Phase). SignsIn p s.held s.transactions) e h in
+          let one : IsOfOneId s.transactions = subst (λ (p : Phase). SignsIn p s.config s.held s.transactions) e h in
           let u = with_held d (record (ended (id_of message) s) { phase = phase_after s.phase; challenges = s.challenges + 1 }) in
-          let all = retried-signs (id_of message) purpose d u one awaited (for-allocation (id_of message) s purpose order (rw e tt) (retried-has (purposes_of (id_of message) s) purpose g)) refl in
+          let all = retried-signs (id_of message) purpose d u one awaited (for-allocation (id_of message) s purpose order (rw e tt) (retried-has (purposes_of (id_of message) s) purpose g)) refl refl in
           let is : (challenge_step message d now s).1 ≡ state_after_retry s (id_of message) purpose d now = rw (f, g) refl in
           let phase : phase_after s.phase ≡ Authenticating = ap phase_after e in
           same-signs (state_after_retry s (id_of message) purpose d now) end is
-          (subst (λ (p : Phase). SignsIn p (Some d) (state_after_retry s (id_of message) purpose d now).transactions) (sym phase) (refl, all))
+          (subst (λ (p : Phase). SignsIn p s.config (Some d) (state_after_retry s (id_of message) purpose d now).transactions) (sym phase) (refl, all))
 
   requesting-signs : s.phase ≡ Requesting → Signs (after message now s)
   requesting-signs e = by (answers_one s message) refl (challenge_in s message) refl

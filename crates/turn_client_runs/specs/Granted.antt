@@ -1,12 +1,13 @@
 -- What the replies of a run granted (RFC 8489, section 9.2.5; RFC 8656, sections 7.3 to 12.3; RFC 6062,
 -- section 4.3).
-use Rattle.std.specs.Prelude.{◌≡◌, ◌⊎◌, ◌≤◌, ℕ, true, List, [], ◌∷◌, ◌++◌, Option, Some, None, IsSome, Ok, ⊤}
+use Rattle.std.specs.Prelude.{◌≡◌, ◌⊎◌, ◌≤◌, ℕ, true, List, [], ◌∷◌, ◌++◌, Option, Some, None, Ok, ⊤}
 use Rattle.std.specs.declared.net.socket_addr.SocketAddr.{SocketAddr}
 use Rattle.turn_stun.specs.declared.transport.TransportType.{TransportType}
 use Rattle.turn_client_api.specs.Config.{Config}
 use Rattle.std.specs.List.{Contains, list_any}
 use Rattle.turn_stun.specs.Message.{id_of}
 use Rattle.turn_stun.specs.declared.message.header.MessageClass.TheVariants.{Success}
+use Rattle.turn_auth.specs.LongTerm.{Challenge}
 use Rattle.turn_auth.specs.Validation.{IsValidated, validation_of}
 use Rattle.turn_agent.specs.declared.transaction.Transaction.{Transaction}
 use Rattle.turn_client_api.specs.State.{State, auth_of, initial, later_by, seconds}
@@ -60,16 +61,24 @@ IsGivenIn one (ForChannel number peer) (Channel other to (Active expiry)) =
 IsGivenIn one (ForBind local peer id) (Connection c) = (c.local ≡ local) × (c.deadline ≡ None)
 IsGivenIn one _ _ = ⊥
 
--- an ALLOCATE that is signed under what a client holds
-abbrev pub IsSignedAllocate : Transaction → Type 0
-IsSignedAllocate x = (t : State) × IsSome t.held × (x.request ≡ request_for t ForAllocation x.id)
+-- both are held, of one realm and one algorithm
+abbrev pub HaveOneRealm : Option Challenge → Option Challenge → Type 0
+HaveOneRealm held other =
+    (c d : Challenge) × (held ≡ Some c) × (other ≡ Some d) × (c.realm ≡ d.realm) × (c.algorithm ≡ d.algorithm)
 
--- What the turn's reply answers asks by its bytes for the families of which the client still asks for an
--- address (RFC 8656, sections 7.1 and 7.3). It is a signed ALLOCATE, and not the first one, which is not
--- signed and brings the challenge (RFC 8489, section 9.2.3).
+-- The request is an ALLOCATE, signed as a client of this configuration signs under this realm and this
+-- algorithm, whatever nonce it held then.
+abbrev pub IsSignedAllocate : Config → Option Challenge → Transaction → Type 0
+IsSignedAllocate config held x =
+    (t : State) × (t.config ≡ config) × HaveOneRealm t.held held × (x.request ≡ request_for t ForAllocation x.id)
+
+-- What the turn's reply answers is a signed ALLOCATE, and not the first one, which is not signed and brings the
+-- challenge (RFC 8489, section 9.2.3): it is signed under the realm, the key and the algorithm under which the
+-- reply is. By its bytes it asks for the families of which the client still asks for an address (RFC 8656,
+-- sections 7.1 and 7.3).
 pub record AsksToAllocate (one : Turn) : Type 0 where
   pub families : IsAskedForFamilies (id_of one.bytes) one.before
-  pub signed : (x : Transaction) → Contains one.before.transactions x → x.id ≡ id_of one.bytes → IsSignedAllocate x
+  pub signed : (x : Transaction) → Contains one.before.transactions x → x.id ≡ id_of one.bytes → IsSignedAllocate one.before.config one.before.held x
 
 -- a first allocation is granted in answer to such a request, and is of one of these families
 abbrev pub AsksForItsFamily : Purpose → Turn → Type 0
