@@ -143,73 +143,74 @@ transmit-asks now s x (inl (was, there, e)) =
 transmit-asks now s x (inr (purpose, at, (same, inl (new, first)), (made, e))) = inr (inl (new, ap (λ (y : Transaction). y.id) e))
 transmit-asks now s x (inr (purpose, at, (same, inr (allocated, due)), made)) = inr (inr allocated)
 
-quiet-signs : (call : Call) (s : State) → IsQuiet call → AsksSo call s → IsSteady s → Signs s → Signs (state_after call s)
-quiet-signs call s quiet asks steady h = by s.phase refl
-  where
-    t : State
-    t = state_after call s
+module _ (call : Call) (s : State) (quiet : IsQuiet call) (asks : AsksSo call s) (steady : IsSteady s) (h : Signs s) where
+  abbrev t : State
+  t = state_after call s
 
-    awaits : Awaits s t
-    awaits = quiet-walk Awaits Awaits-KeepsEdits call s quiet
+  awaits : Awaits s t
+  awaits = quiet-walk Awaits Awaits-KeepsEdits call s quiet
 
-    source : (x : Transaction) → Has x t.transactions → Asks s x
-    source x there = of (requests-made call s t x (inl refl) (has-contains x t.transactions there))
-      where
-        of : Contains s.transactions x ⊎ IsRequestOf call s x → Asks s x
-        of (inl old) = inl (x, contains-has x s.transactions old, refl, refl)
-        of (inr is) = asks x is
+  source : (x : Transaction) → Has x t.transactions → Asks s x
+  source x there = of (requests-made call s t x (inl refl) (has-contains x t.transactions there))
+    where
+      of : Contains s.transactions x ⊎ IsRequestOf call s x → Asks s x
+      of (inl old) = inl (x, contains-has x s.transactions old, refl, refl)
+      of (inr is) = asks x is
 
-    in_phase : (p : Phase) → s.phase ≡ p → SignsIn p s.config s.held s.transactions
-    in_phase p e = subst (λ (q : Phase). SignsIn q s.config s.held s.transactions) e h
+  in_phase : (p : Phase) → s.phase ≡ p → SignsIn p s.config s.held s.transactions
+  in_phase p e = subst (λ (q : Phase). SignsIn q s.config s.held s.transactions) e h
 
-    on : (p q : Phase) → s.phase ≡ p → t.phase ≡ q → rank p ≤ rank q
-    on p q e f = subst (λ (r : Phase). rank p ≤ rank r) f (subst (λ (r : Phase). rank r ≤ rank t.phase) e (call-keeps call s).3.0)
+  on : (p q : Phase) → s.phase ≡ p → t.phase ≡ q → rank p ≤ rank q
+  on p q e f = subst (λ (r : Phase). rank p ≤ rank r) f (subst (λ (r : Phase). rank r ≤ rank t.phase) e (call-keeps call s).3.0)
 
-    -- the first ALLOCATE
-    begun : s.phase ≡ New → (x : Transaction) → Asks s x → x.id ≡ fresh_id s
-    begun e x (inl (was, there, named, text)) = absurd (subst (Has was) (in_phase New e) there)
-    begun e x (inr (inl (new, named))) = named
-    begun e x (inr (inr allocated)) = let no : New ≡ Allocated = sym e ∙ allocated in cc
+  -- the first ALLOCATE
+  begun : s.phase ≡ New → (x : Transaction) → Asks s x → x.id ≡ fresh_id s
+  begun e x (inl (was, there, named, text)) = absurd (subst (Has was) (in_phase New e) there)
+  begun e x (inr (inl (new, named))) = named
+  begun e x (inr (inr allocated)) = let no : New ≡ Allocated = sym e ∙ allocated in cc
 
-    -- and later what was
-    sent : (p : Phase) → s.phase ≡ p → (p ≡ New → ⊥) → (p ≡ Allocated → ⊥) → (x : Transaction) → Asks s x → WasSent s x
-    sent p e other further x (inl was) = was
-    sent p e other further x (inr (inl (new, named))) = absurd (other (sym e ∙ new))
-    sent p e other further x (inr (inr allocated)) = absurd (further (sym e ∙ allocated))
+  -- and later what was
+  sent : (p : Phase) → s.phase ≡ p → (p ≡ New → ⊥) → (p ≡ Allocated → ⊥) → (x : Transaction) → Asks s x → WasSent s x
+  sent p e other further x (inl was) = was
+  sent p e other further x (inr (inl (new, named))) = absurd (other (sym e ∙ new))
+  sent p e other further x (inr (inr allocated)) = absurd (further (sym e ∙ allocated))
 
-    signed : (x : Transaction) → AreSigned t.config t.held s.transactions → WasSent s x → IsSignedAllocate t.config t.held x
-    signed x are (was, there, named, text) =
-        let (u, configured, realm, spelled) = are was there in
-        (u, configured, realm, text ∙ (spelled ∙ ap (request_for u ForAllocation) (sym named)))
+  signed : (x : Transaction) → AreSigned t.config t.held s.transactions → WasSent s x → IsSignedAllocate t.config t.held x
+  signed x are (was, there, named, text) =
+      let (u, configured, realm, spelled) = are was there in
+      (u, configured, realm, text ∙ (spelled ∙ ap (request_for u ForAllocation) (sym named)))
 
-    from-new : s.phase ≡ New → (q : Phase) → t.phase ≡ q → SignsIn q t.config t.held t.transactions
-    from-new e New f = ((leaves-steadies call s t (inl refl) steady).0 f).2
-    from-new e Requesting f = λ x y here there. begun e x (source x here) ∙ sym (begun e y (source y there))
-    from-new e Authenticating f = let no : New ≡ Authenticating = sym e ∙ awaits f in cc
-    from-new e Allocated f = tt
-    from-new e Closed f = tt
+  from-new : s.phase ≡ New → (q : Phase) → t.phase ≡ q → SignsIn q t.config t.held t.transactions
+  from-new e New f = ((leaves-steadies call s t (inl refl) steady).0 f).2
+  from-new e Requesting f = λ x y here there. begun e x (source x here) ∙ sym (begun e y (source y there))
+  from-new e Authenticating f = let no : New ≡ Authenticating = sym e ∙ awaits f in cc
+  from-new e Allocated f = tt
+  from-new e Closed f = tt
 
-    from-requesting : s.phase ≡ Requesting → (q : Phase) → t.phase ≡ q → SignsIn q t.config t.held t.transactions
-    from-requesting e New f = let no : 1 ≤ 0 = on Requesting New e f in absurd (omega (arith, no))
-    from-requesting e Requesting f = λ x y here there.
-        let (a, among, named, text) = sent Requesting e (λ g. cc) (λ g. cc) x (source x here) in
-        let (b, besides, called, other) = sent Requesting e (λ g. cc) (λ g. cc) y (source y there) in
-        named ∙ (in_phase Requesting e a b among besides ∙ sym called)
-    from-requesting e Authenticating f = let no : Requesting ≡ Authenticating = sym e ∙ awaits f in cc
-    from-requesting e Allocated f = tt
-    from-requesting e Closed f = tt
+  from-requesting : s.phase ≡ Requesting → (q : Phase) → t.phase ≡ q → SignsIn q t.config t.held t.transactions
+  from-requesting e New f = let no : 1 ≤ 0 = on Requesting New e f in absurd (omega (arith, no))
+  from-requesting e Requesting f = λ x y here there.
+      let (a, among, named, text) = sent Requesting e (λ g. cc) (λ g. cc) x (source x here) in
+      let (b, besides, called, other) = sent Requesting e (λ g. cc) (λ g. cc) y (source y there) in
+      named ∙ (in_phase Requesting e a b among besides ∙ sym called)
+  from-requesting e Authenticating f = let no : Requesting ≡ Authenticating = sym e ∙ awaits f in cc
+  from-requesting e Allocated f = tt
+  from-requesting e Closed f = tt
 
-    far : (p : Phase) → s.phase ≡ p → 3 ≤ rank p → Signs t
-    far p e three = further-signs s t (subst (λ (q : Phase). 3 ≤ rank q) (sym e) three) (call-keeps call s)
+  far : (p : Phase) → s.phase ≡ p → 3 ≤ rank p → Signs t
+  far p e three = further-signs s t (subst (λ (q : Phase). 3 ≤ rank q) (sym e) three) (call-keeps call s)
 
-    by : (p : Phase) → s.phase ≡ p → Signs t
-    by New e = from-new e t.phase refl
-    by Requesting e = from-requesting e t.phase refl
-    by Authenticating e =
-        later-signs s t e h (call-keeps call s) (call-configured call s)
-        (λ x there phase held are. signed x are (sent Authenticating e (λ g. cc) (λ g. cc) x (source x there)))
-    by Allocated e = far Allocated e (omega arith)
-    by Closed e = far Closed e (omega arith)
+  quiet-signs : Signs t
+  quiet-signs = by s.phase refl
+    where
+      by : (p : Phase) → s.phase ≡ p → Signs t
+      by New e = from-new e t.phase refl
+      by Requesting e = from-requesting e t.phase refl
+      by Authenticating e =
+          later-signs s t e h (call-keeps call s) (call-configured call s)
+          (λ x there phase held are. signed x are (sent Authenticating e (λ g. cc) (λ g. cc) x (source x there)))
+      by Allocated e = far Allocated e (omega arith)
+      by Closed e = far Closed e (omega arith)
 
 -- ---- all calls
 
