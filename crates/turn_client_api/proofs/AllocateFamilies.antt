@@ -52,7 +52,7 @@ AllAsked s = (y : Transaction) → Has y s.transactions → Has (listing y.id Fo
 abbrev IsInOrder : State → Type 0
 IsInOrder s = Alone s × NoneLater s × AllAsked s × HasConfiguredFamilies s
 
-abbrev StayInOrder : State → State → Type 0
+abbrev pub StayInOrder : State → State → Type 0
 StayInOrder s t = IsInOrder s → IsInOrder t
 
 -- ---- requests are listed no more
@@ -271,7 +271,7 @@ StayInOrder-KeepsEdits = record {
   reserves = λ number peer was until s there. gone (is_channel_of number) s;
 }
 
-StayInOrder-KeepsAllEdits : KeepsAllEdits StayInOrder
+pub StayInOrder-KeepsAllEdits : KeepsAllEdits StayInOrder
 StayInOrder-KeepsAllEdits = record {
   edits = StayInOrder-KeepsEdits;
   reshapes = λ grants s e h. h;
@@ -288,7 +288,7 @@ StayInOrder-KeepsAllEdits = record {
 
 -- ---- all calls
 
-in_order-stated : (s : State) → IsInOrder s → AllocatesInOrder s
+pub in_order-stated : (s : State) → IsInOrder s → AllocatesInOrder s
 in_order-stated s h = ((λ u l there. h.0 u l (contains-has l s.listed there), λ granted id there. h.1 granted id (contains-has _ s.listed there)), asked, h.3)
   where
     asked : (id : ℕ) → IsAllocate id s → is_outstanding id s.transactions ≡ true → IsAskedForFamilies id s
@@ -298,7 +298,7 @@ in_order-stated s h = ((λ u l there. h.0 u l (contains-has l s.listed there), �
         let (x, is, same, asks) = h.2 y here (subst (λ (n : ℕ). Has (listing n ForAllocation) s.listed) (sym named) (contains-has (listing id ForAllocation) s.listed listed)) in
         (x, has-contains x s.transactions is, same ∙ named, asks)
 
-stated-in_order : (s : State) → AllocatesInOrder s → IsInOrder s
+pub stated-in_order : (s : State) → AllocatesInOrder s → IsInOrder s
 stated-in_order s ((alone, none), asked, configured) = (λ u l there. alone u l (has-contains l s.listed there), λ granted id there. none granted id (has-contains (listing id ForAllocation) s.listed there), all, configured)
   where
     all : AllAsked s

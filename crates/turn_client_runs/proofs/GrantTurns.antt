@@ -1,9 +1,10 @@
 -- What stands after a turn stood before it, or the turn granted it and ended the request that it answers.
-use Rattle.std.proofs.Common.{◌≡◌, ◌⊎◌, ◌∙◌, ℕ, Bool, true, false, List, Some, None, refl, subst, sym, ap, inl, inr}
+use Rattle.std.proofs.Common.{◌≡◌, ◌⊎◌, ◌∙◌, ℕ, Bool, true, false, cond, List, Option, Some, None, refl, subst, sym, ap, inl, inr}
 use Rattle.std.specs.List.{Contains}
 use Rattle.std.specs.declared.net.socket_addr.SocketAddr.{SocketAddr}
 use Rattle.turn_stun.specs.Message.{id_of}
 use Rattle.turn_stun.specs.declared.message.header.MessageClass.TheVariants.{Success}
+use Rattle.turn_auth.specs.LongTerm.{Challenge}
 use Rattle.turn_auth.specs.Validation.{IsValidated, validation_of}
 use Rattle.turn_agent.specs.Agent.{same_address}
 use Rattle.turn_client_api.specs.State.{State, auth_of}
@@ -21,7 +22,7 @@ use Rattle.turn_client_api.specs.declared.state.Stream.{Stream}
 use Rattle.turn_client_api.specs.Grants.{purposes_of}
 use Rattle.turn_client_api.specs.Connections.{bind_answered, bind_step, deadline_set}
 use Rattle.turn_client_api.specs.Handled.{Turn, made_of}
-use Rattle.turn_client_api.specs.Judgement.{SignedSuccess, bind_judgement, class_in, judgement_of}
+use Rattle.turn_client_api.specs.Judgement.{Fatal, SignedSuccess, Unrelated, answers_one, bind_judgement, challenge_in, challenged_or, class_in, judgement_of, requesting_judgement}
 use Rattle.turn_client_api.specs.LawsBound.{IsBindTurn}
 use Rattle.turn_client_api.specs.LawsGranted.{IsGivenFor, IsGrant, IsGrantedBy, IsKeptAs}
 use Rattle.turn_client_api.specs.LawsHandled.{IsOverControl}
@@ -112,6 +113,14 @@ pub record IsAccepting (purpose : Purpose) (one : Turn) : Type 0 where
   pub listed : Contains (purposes_of (id_of one.bytes) one.before) purpose
   pub outstanding : IsAwaited one.bytes one.before
   pub ended : IsNotAwaited one.bytes (made_of one).1
+  -- the first challenge was answered
+  pub heard : one.before.phase ≡ Requesting → ⊥
+
+-- before the first challenge is answered no reply is signed
+requesting-unsigned : (b : Bool) (o : Option Challenge) → cond b (challenged_or Fatal o) Unrelated ≡ SignedSuccess → ⊥
+requesting-unsigned true (Some challenge) e = cc
+requesting-unsigned true None e = cc
+requesting-unsigned false o e = cc
 
 -- the turn granted it
 pub record Granting (g : Grant) (one : Turn) : Type 0 where
@@ -130,7 +139,13 @@ module _ (one : Turn) (over : IsOverControl one) (whole : is_message one.bytes �
     listed = is.listed;
     outstanding = is.outstanding;
     ended = rw (made-control one over whole) (success-ends one.bytes one.moment one.before judged);
+    heard = heard;
   }
+    where
+      heard : one.before.phase ≡ Requesting → ⊥
+      heard e =
+          let is : judgement_of one.before one.bytes ≡ requesting_judgement one.before one.bytes = rw e refl in
+          requesting-unsigned (answers_one one.before one.bytes) (challenge_in one.before one.bytes) (sym is ∙ judged)
 
   granted : (g : Grant) → judgement_of one.before one.bytes ≡ SignedSuccess → IsGrant g one.bytes one.moment one.before → Granting g one
   granted g judged (was, is, kept) = by g (accepting judged was is) (given-kept is.purpose was g one.bytes one.moment one.before kept is.given)
@@ -189,6 +204,7 @@ module _ (one : Turn) (stream : Stream) (of : one.stream ≡ Some stream) (waits
     listed = turn.listed;
     outstanding = turn.outstanding;
     ended = bind-ends b phase;
+    heard = λ e. let no : Requesting ≡ Allocated = sym e ∙ phase in cc;
   }
 
   -- the connection is the one from the local end over which the message came

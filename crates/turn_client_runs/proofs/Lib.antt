@@ -1,5 +1,6 @@
 pub mod AllTurnsLemmas
 pub mod AnsweredTurns
+pub mod AskedFamilies
 pub mod AskedLemmas
 pub mod AskedPeers
 pub mod BoundLemmas
@@ -11,6 +12,7 @@ pub mod CostLemmas
 pub mod CostMessages
 pub mod CostReplies
 pub mod CostTime
+pub mod ConfiguredLemmas
 pub mod FedTurnLemmas
 pub mod FollowLemmas
 pub mod GrantTurns
@@ -28,6 +30,8 @@ pub mod ReplyLemmas
 pub mod RunCutLemmas
 pub mod RunGrants
 pub mod RunLemmas
+pub mod SignedCalls
+pub mod SignedLemmas
 pub mod SleepLemmas
 pub mod StreamAtLemmas
 pub mod TogetherLemmas

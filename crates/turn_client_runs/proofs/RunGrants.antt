@@ -18,18 +18,23 @@ use Rattle.turn_client_api.specs.declared.grant.Purpose.TheVariants.{ForAllocati
 use Rattle.turn_client_api.specs.Calls.{delete_step}
 use Rattle.turn_client_api.specs.Grants.{purposes_of}
 use Rattle.turn_client_api.specs.Handled.{Turn, handled}
+use Rattle.turn_client_api.specs.LawsAllocates.{AllocatesInOrder}
 use Rattle.turn_client_api.specs.LawsGranted.{HasChannelTo, IsKeptAs, IsStanding, Stood}
 use Rattle.turn_client_api.specs.LawsHandled.{IsDoneBy}
 use Rattle.turn_client_api.specs.LawsGone.{GivesBack}
 use Rattle.turn_client_api.specs.LawsNumbers.{HasDistinctNumbers}
+use Rattle.turn_client_api.specs.LawsOrder.{IsSteady}
 use Rattle.turn_client_api.specs.LawsStates.{HasGrantsAsked}
 use Rattle.turn_client_api.specs.Steps.{state_after}
+use Rattle.turn_client_api.proofs.AllocateFamilies.{initial-AllocatesInOrder, leaves-AllocatesInOrder}
 use Rattle.turn_client_api.proofs.DistinctNumbers.{initial-numbers, leaves-apart}
 use Rattle.turn_client_api.proofs.HasLemmas.{Has, has-right}
 use Rattle.turn_client_api.proofs.ListedGrants.{initial-HasGrantsAsked, leaves-HasGrantsAsked}
+use Rattle.turn_client_api.proofs.SendOrderLemmas.{initial-steady, leaves-steadies}
 use Rattle.turn_client_api.proofs.StandLemmas.{contains-has, covers-has, covers-stood}
 use Rattle.turn_client_runs.specs.Granted.{DrawFreeIds, GrantsAddress, HasReply, IsAllocated, IsAnsweredIn, IsGivenBack, IsGivenIn, IsGranted, IsGranting, IsRelayed, HoldsThrough}
 use Rattle.turn_client_runs.specs.Run.{state_behind}
+use Rattle.turn_client_runs.proofs.AskedFamilies.{asks-family, turns-signed}
 use Rattle.turn_client_runs.proofs.AskedLemmas.{was-asked}
 use Rattle.turn_client_runs.proofs.AskedPeers.{HasAskedPeers, turns-ask-peers}
 use Rattle.turn_client_runs.proofs.CallGrants.{IsCaused, IsEndedBy, call-causes, delete-accepted, same-allocation}
@@ -37,6 +42,8 @@ use Rattle.turn_client_runs.proofs.ComingLemmas.{turns-come}
 use Rattle.turn_client_runs.proofs.GrantTurns.{Granting, IsGivenAt}
 use Rattle.turn_client_runs.proofs.ReceivedRuns.{HoldNothing, turns-received}
 use Rattle.turn_client_runs.proofs.RunLemmas.{IsDoneLast, run-did}
+use Rattle.turn_client_runs.proofs.SignedCalls.{call-signs}
+use Rattle.turn_client_runs.proofs.SignedLemmas.{Signs}
 
 -- ---- one turn
 
@@ -77,8 +84,8 @@ module _ (one : Turn) where
   given-in (Connect to) p stands peers h = absurd stands
   given-in (Offer offer) p stands peers h = absurd stands
 
-  granting : (g : Grant) → IsStanding g → HasAskedPeers one → (is : Granting g one) → IsGranting g is.purpose one
-  granting g stands asked is = record {
+  granting : (g : Grant) → IsStanding g → HasAskedPeers one → AllocatesInOrder one.before × Signs one.before → (is : Granting g one) → IsGranting g is.purpose one
+  granting g stands asked order is = record {
     over = is.over;
     whole = is.accepting.whole;
     success = is.accepting.success;
@@ -86,6 +93,7 @@ module _ (one : Turn) where
     listed = is.accepting.listed;
     outstanding = is.accepting.outstanding;
     ended = is.accepting.ended;
+    asks = asks-family one order is.accepting.heard is.accepting.outstanding is.purpose is.accepting.listed;
     given = given-in g is.purpose stands peers is.given;
   }
     where
@@ -94,20 +102,26 @@ module _ (one : Turn) where
 
 -- ---- one call
 
--- what every client keeps that speaks of channels
+-- what every client keeps that speaks of channels, and of what an ALLOCATE asks for and how
 abbrev Keeps : State → Type 0
-Keeps s = HasGrantsAsked s × HasDistinctNumbers s
+Keeps s = HasGrantsAsked s × HasDistinctNumbers s × AllocatesInOrder s × IsSteady s × Signs s
 
 call-keeps : (call : Call) (s : State) → Keeps s → Keeps (state_after call s)
-call-keeps call s (asked, distinct) = (leaves-HasGrantsAsked call s (state_after call s) (inl refl) asked, leaves-apart call s (state_after call s) (inl refl) distinct)
+call-keeps call s (asked, distinct, order, steady, signs) = (
+  leaves-HasGrantsAsked call s (state_after call s) (inl refl) asked,
+  leaves-apart call s (state_after call s) (inl refl) distinct,
+  leaves-AllocatesInOrder call s (state_after call s) (inl refl) order,
+  leaves-steadies call s (state_after call s) (inl refl) steady,
+  call-signs call s order steady signs,
+)
 
 -- a turn of the call answered a request for a purpose, and did this for it
 abbrev IsDoneFor : (Purpose → Turn → Type 0) → Call → State → Type 0
 IsDoneFor Did call s = (one : Turn) × Contains (handled call s) one × ((p : Purpose) × Did p one)
 
 granted-in : (g : Grant) (call : Call) (s : State) → IsStanding g → Keeps s → IsDoneBy (Granting g) call s → IsDoneFor (IsGranting g) call s
-granted-in g call s stands (asked, distinct) (one, among, is) =
-    (one, among, (is.purpose, granting one g stands (turns-ask-peers call s asked distinct one among) is))
+granted-in g call s stands (asked, distinct, order, steady, signs) (one, among, is) =
+    (one, among, (is.purpose, granting one g stands (turns-ask-peers call s asked distinct one among) (turns-signed call s (order, signs) one among) is))
 
 -- a `delete` that the client accepted
 abbrev IsAcceptedEnd : Grant → Call → State → Type 0
@@ -285,4 +299,4 @@ first-hold Tcp local remote config seed x (inr absent) = absurd absent
 
 pub grants-have-replies : (transport : TransportType) (local remote : SocketAddr) (config : Config) (seed : List ℕ) (calls : List Call) (g : Grant) → IsStanding g → Contains (state_behind (initial transport local remote config seed) calls).grants g → HasReply g calls (initial transport local remote config seed)
 grants-have-replies transport local remote config seed =
-    run-grants (initial transport local remote config seed) refl refl (first-hold transport local remote config seed) (initial-HasGrantsAsked transport local remote config seed, initial-numbers transport local remote config seed)
+    run-grants (initial transport local remote config seed) refl refl (first-hold transport local remote config seed) (initial-HasGrantsAsked transport local remote config seed, initial-numbers transport local remote config seed, initial-AllocatesInOrder transport local remote config seed, initial-steady transport local remote config seed, refl)

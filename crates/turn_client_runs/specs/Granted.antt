@@ -7,7 +7,9 @@ use Rattle.turn_client_api.specs.Config.{Config}
 use Rattle.std.specs.List.{Contains, list_any}
 use Rattle.turn_stun.specs.Message.{id_of}
 use Rattle.turn_stun.specs.declared.message.header.MessageClass.TheVariants.{Success}
+use Rattle.turn_auth.specs.LongTerm.{Challenge}
 use Rattle.turn_auth.specs.Validation.{IsValidated, validation_of}
+use Rattle.turn_agent.specs.declared.transaction.Transaction.{Transaction}
 use Rattle.turn_client_api.specs.State.{State, auth_of, initial, later_by, seconds}
 use Rattle.turn_client_api.specs.declared.call.Call.{Call}
 use Rattle.turn_client_api.specs.declared.grant.Grant.{Grant}
@@ -25,12 +27,13 @@ use Rattle.turn_client_api.specs.Effect.{channel_lifetime, least_lifetime, permi
 use Rattle.turn_client_api.specs.Payloads.{is_message}
 use Rattle.turn_client_api.specs.Handled.{Turn, handled, made_of}
 use Rattle.turn_client_api.specs.Steps.{state_after}
+use Rattle.turn_client_api.specs.LawsAllocates.{IsAskedForFamilies}
 use Rattle.turn_client_api.specs.LawsGranted.{Stood}
 use Rattle.turn_client_api.specs.LawsHandled.{IsDoneBy, IsOverControl, IsOverWaiting}
 use Rattle.turn_client_api.specs.LawsPurposes.{DrawsFreeIds}
 use Rattle.turn_client_api.specs.LawsReplies.{IsAwaited, IsNotAwaited}
 use Rattle.turn_client_api.specs.LawsRequests.{AsksFor, IsListedFor, IsMade}
-use Rattle.turn_client_api.specs.Requests.{fresh_id}
+use Rattle.turn_client_api.specs.Requests.{fresh_id, request_for}
 use Rattle.turn_client_runs.specs.Received.{IsReceived}
 use Rattle.turn_client_runs.specs.Run.{state_behind}
 
@@ -58,6 +61,30 @@ IsGivenIn one (ForChannel number peer) (Channel other to (Active expiry)) =
 IsGivenIn one (ForBind local peer id) (Connection c) = (c.local ≡ local) × (c.deadline ≡ None)
 IsGivenIn one _ _ = ⊥
 
+-- both are held, of one realm and one algorithm
+abbrev pub HaveOneRealm : Option Challenge → Option Challenge → Type 0
+HaveOneRealm held other =
+    (c d : Challenge) × (held ≡ Some c) × (other ≡ Some d) × (c.realm ≡ d.realm) × (c.algorithm ≡ d.algorithm)
+
+-- The request is an ALLOCATE, signed as a client of this configuration signs under this realm and this
+-- algorithm, whatever nonce it held then.
+abbrev pub IsSignedAllocate : Config → Option Challenge → Transaction → Type 0
+IsSignedAllocate config held x =
+    (t : State) × (t.config ≡ config) × HaveOneRealm t.held held × (x.request ≡ request_for t ForAllocation x.id)
+
+-- What the turn's reply answers is a signed ALLOCATE, and not the first one, which is not signed and brings the
+-- challenge (RFC 8489, section 9.2.3): it is signed under the realm, the key and the algorithm under which the
+-- reply is. By its bytes it asks for the families of which the client still asks for an address (RFC 8656,
+-- sections 7.1 and 7.3).
+pub record AsksToAllocate (one : Turn) : Type 0 where
+  pub families : IsAskedForFamilies (id_of one.bytes) one.before
+  pub signed : (x : Transaction) → Contains one.before.transactions x → x.id ≡ id_of one.bytes → IsSignedAllocate one.before.config one.before.held x
+
+-- a first allocation is granted in answer to such a request, and is of one of these families
+abbrev pub AsksForItsFamily : Purpose → Turn → Type 0
+AsksForItsFamily ForAllocation one = AsksToAllocate one
+AsksForItsFamily _ one = ⊤
+
 -- The turn granted it, with this end. It is that of a success, which is signed under the realm, the key and
 -- the algorithm that are held then. It answers a request that was made for this purpose: outstanding just
 -- before the turn, and not just after it.
@@ -69,6 +96,7 @@ pub record IsGranting (g : Grant) (purpose : Purpose) (one : Turn) : Type 0 wher
   pub listed : Contains (purposes_of (id_of one.bytes) one.before) purpose
   pub outstanding : IsAwaited one.bytes one.before
   pub ended : IsNotAwaited one.bytes (made_of one).1
+  pub asks : AsksForItsFamily purpose one
   pub given : IsGivenIn one purpose g
 
 -- ---- when a turn comes

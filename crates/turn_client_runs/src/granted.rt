@@ -17,6 +17,12 @@ ghost use Rattle.turn_client_runs.specs.Granted.{HaveReplies};
 /// `delete`, after the turn that granted the allocation, ended it at its own moment. No later call dropped the
 /// grant or gave it another end.
 ///
+/// Where the request was made for an allocation, it is by its bytes a signed ALLOCATE, and never the first one,
+/// which is not signed and brings the challenge (RFC 8489, section 9.2.3): it is signed with the client's own
+/// credentials, under the realm and the algorithm under which the reply is signed. It asks for the families of
+/// which the client still asked for an address when the reply came, and the address that is granted is of one
+/// of these (RFC 8656, sections 7.1 and 7.3).
+///
 /// The request was the client's own: an earlier call made it, or an earlier turn of the same call, as one for
 /// the grant, or for a channel whose peer has the IP address of a permission. That holds while fewer IDs are
 /// taken than the 2^96 that there are, in each state of the run: `few_ids_are_taken` says that so it is for any

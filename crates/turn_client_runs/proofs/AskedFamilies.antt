@@ -1,0 +1,59 @@
+-- An ALLOCATE whose success grants asks for the families of which the client still asks for an address, and is
+-- signed.
+use Rattle.std.proofs.Common.{◌≡◌, List, [], refl, subst, true}
+use Rattle.std.specs.List.{Contains}
+use Rattle.turn_stun.specs.Message.{id_of}
+use Rattle.turn_agent.specs.Agent.{is_outstanding}
+use Rattle.turn_agent.specs.declared.transaction.Transaction.{Transaction}
+use Rattle.turn_client_api.specs.State.{State}
+use Rattle.turn_client_api.specs.declared.call.Call.{Call}
+use Rattle.turn_client_api.specs.declared.grant.Purpose.{Purpose}
+use Rattle.turn_client_api.specs.declared.grant.Purpose.TheVariants.{ForAllocation, ForRefresh, ForPermission, ForChannel, ForConnect, ForBind}
+use Rattle.turn_client_api.specs.declared.state.Phase.{Phase}
+use Rattle.turn_client_api.specs.declared.state.Phase.TheVariants.{New, Requesting, Authenticating, Allocated, Closed}
+use Rattle.turn_client_api.specs.Grants.{purposes_of}
+use Rattle.turn_client_api.specs.Handled.{Turn, handled}
+use Rattle.turn_client_api.specs.LawsAllocates.{AllocatesInOrder, IsAllocate}
+use Rattle.turn_client_api.specs.LawsReplies.{IsAwaited}
+use Rattle.turn_client_api.proofs.Edits.{listing}
+use Rattle.turn_client_api.proofs.StandLemmas.{contains-has, has-contains}
+use Rattle.turn_client_api.proofs.TurnKeepLemmas.{before-kept}
+use Rattle.turn_client_api.proofs.TwoPurposes.{purpose-with}
+use Rattle.turn_client_runs.specs.Granted.{AsksForItsFamily}
+use Rattle.turn_client_runs.proofs.SignedLemmas.{AreSigned, Signs, SignsIn, StaySigned, StaySigned-IsKept}
+
+-- what calls keep, each turn of a call finds
+pub turns-signed : (call : Call) (s : State) → AllocatesInOrder s × Signs s → (one : Turn) → Contains (handled call s) one → AllocatesInOrder one.before × Signs one.before
+turns-signed call s order one among = before-kept StaySigned StaySigned-IsKept call s one among order
+
+-- where a reply may grant, and answers an ALLOCATE, the first challenge was answered
+module _ (one : Turn) (order : AllocatesInOrder one.before) (signs : Signs one.before) (heard : one.before.phase ≡ Requesting → ⊥) (awaited : IsAwaited one.bytes one.before) (asked : IsAllocate (id_of one.bytes) one.before) where
+  answers-signed : AreSigned one.before.config one.before.held one.before.transactions
+  answers-signed = by one.before.phase refl
+    where
+      in_phase : (p : Phase) → one.before.phase ≡ p → SignsIn p one.before.config one.before.held one.before.transactions
+      in_phase p e = subst (λ (q : Phase). SignsIn q one.before.config one.before.held one.before.transactions) e signs
+
+      none : one.before.transactions ≡ [] → ⊥
+      none e = let no : is_outstanding (id_of one.bytes) [] ≡ true = subst (λ (xs : List Transaction). is_outstanding (id_of one.bytes) xs ≡ true) e awaited in cc
+
+      by : (p : Phase) → one.before.phase ≡ p → AreSigned one.before.config one.before.held one.before.transactions
+      by New e = absurd (none (in_phase New e))
+      by Requesting e = absurd (heard e)
+      by Authenticating e = (in_phase Authenticating e).1
+      by Allocated e = absurd (order.0.1 (rw e (λ u. u)) (id_of one.bytes) asked)
+      by Closed e = absurd (order.0.1 (rw e (λ u. u)) (id_of one.bytes) asked)
+
+pub asks-family : (one : Turn) → AllocatesInOrder one.before × Signs one.before → (one.before.phase ≡ Requesting → ⊥) → IsAwaited one.bytes one.before → (p : Purpose) → Contains (purposes_of (id_of one.bytes) one.before) p → AsksForItsFamily p one
+asks-family one (order, signs) heard awaited ForAllocation answers =
+    let there = purpose-with (id_of one.bytes) ForAllocation one.before (contains-has ForAllocation (purposes_of (id_of one.bytes) one.before) answers) in
+    let asked = has-contains (listing (id_of one.bytes) ForAllocation) one.before.listed there in
+    record {
+      families = order.1 (id_of one.bytes) asked awaited;
+      signed = λ x here named. answers-signed one order signs heard awaited asked x (contains-has x one.before.transactions here);
+    }
+asks-family one kept heard awaited (ForRefresh family lifetime) answers = tt
+asks-family one kept heard awaited (ForPermission ip) answers = tt
+asks-family one kept heard awaited (ForChannel number peer) answers = tt
+asks-family one kept heard awaited (ForConnect peer) answers = tt
+asks-family one kept heard awaited (ForBind local peer id) answers = tt

@@ -1,0 +1,237 @@
+-- Once the first challenge is answered, and up to the allocation, all that is outstanding is a signed ALLOCATE:
+-- calls keep that.
+use Rattle.std.proofs.Common.{◌≡◌, ◌⊎◌, ◌≤◌, ◌∙◌, ℕ, Bool, true, false, cond, ◌&&◌, [], Option, None, inl, inr, refl, sym, subst, ap, arith}
+use Rattle.std.specs.List.{Contains}
+use Rattle.std.specs.Net.Socket.{socket_ip}
+use Rattle.std.specs.declared.net.ip_addr.IpAddr.{IpAddr}
+use Rattle.std.specs.declared.net.socket_addr.SocketAddr.{SocketAddr}
+use Rattle.turn_stun.specs.declared.transport.TransportType.{TransportType}
+use Rattle.turn_stun.specs.declared.transport.TransportType.TheVariants.{Tcp}
+use Rattle.turn_agent.specs.declared.transaction.Transaction.{Transaction}
+use Rattle.turn_client_api.specs.State.{State}
+use Rattle.turn_client_api.specs.declared.call.Call.{Call}
+use Rattle.turn_client_api.specs.declared.call.Call.TheVariants.{Delete, CreatePermission, BindChannel, TcpConnect, AllocatedTcpSocket, TcpClosed, SendTo, Recv, PollRecv, Poll, PollTransmit, PollEvent, RelayedAddresses, Permissions, HavePermission, ProtocolError}
+use Rattle.turn_client_api.specs.declared.grant.Relay.{Relay}
+use Rattle.turn_client_api.specs.declared.grant.Purpose.{Purpose}
+use Rattle.turn_client_api.specs.declared.grant.Purpose.TheVariants.{ForAllocation}
+use Rattle.turn_client_api.specs.declared.poll.Socket5Tuple.{Socket5Tuple}
+use Rattle.turn_client_api.specs.declared.state.Phase.{Phase}
+use Rattle.turn_client_api.specs.declared.state.Phase.TheVariants.{New, Requesting, Authenticating, Allocated, Closed}
+use Rattle.turn_client_api.specs.Calls.{allocated_tcp_socket_step, bind_channel_step, create_permission_step, delete_step, is_allocated, is_control, tcp_connect_step}
+use Rattle.turn_client_api.specs.Grants.{allocation_for, same_transport}
+use Rattle.turn_client_api.specs.LawsAllocates.{AllocatesInOrder}
+use Rattle.turn_client_api.specs.LawsOrder.{IsSteady, IsUngranted}
+use Rattle.turn_client_api.specs.LawsRequests.{AsksFor, IsMadeAs, IsRequestOf, IsSentAgain}
+use Rattle.turn_client_api.specs.LawsSteps.{rank}
+use Rattle.turn_client_api.specs.Requests.{fresh_id, request_for}
+use Rattle.turn_client_api.specs.Steps.{state_after}
+use Rattle.turn_client_api.proofs.Edits.{KeepsEdits}
+use Rattle.turn_client_api.proofs.EditsOfCalls.{IsQuiet, quiet-walk}
+use Rattle.turn_client_api.proofs.EditsOfReplies.{and-false}
+use Rattle.turn_client_api.proofs.HasLemmas.{Has}
+use Rattle.turn_client_api.proofs.MoveTurnLemmas.{requests-made}
+use Rattle.turn_client_api.proofs.PhasesGoOn.{call-keeps}
+use Rattle.turn_client_api.proofs.RunKeepLemmas.{poll_recv-kept, recv-kept}
+use Rattle.turn_client_api.proofs.SendOrderLemmas.{leaves-steadies}
+use Rattle.turn_client_api.proofs.StandLemmas.{contains-has, has-contains}
+use Rattle.turn_client_runs.specs.Granted.{IsSignedAllocate}
+use Rattle.turn_client_runs.proofs.ConfiguredLemmas.{call-configured}
+use Rattle.turn_client_runs.proofs.SignedLemmas.{AreSigned, Signs, SignsIn, StaySigned, StaySigned-IsKept, further-signs, later-signs, same-signs}
+
+-- ---- what a caller asks for, an allocation has to be there for
+
+unallocated : (p : Phase) → IsUngranted p → is_allocated p ≡ false
+unallocated New u = refl
+unallocated Requesting u = refl
+unallocated Authenticating u = refl
+unallocated Allocated u = absurd u
+unallocated Closed u = absurd u
+
+no-allocation : (transport : TransportType) (ip : IpAddr) (s : State) → s.grants ≡ [] → allocation_for transport ip s ≡ None
+no-allocation transport ip s e = rw e (none (same_transport transport s.config.allocation_transport))
+  where
+    none : (b : Bool) → cond {A = Option Relay} b None None ≡ None
+    none true = refl
+    none false = refl
+
+-- so that before nothing changes
+abbrev IsIdle : Call → State → Type 0
+IsIdle call s = IsUngranted s.phase → s.grants ≡ [] → state_after call s ≡ s
+
+idle-delete : (now : ℕ) (s : State) → IsIdle (Delete now) s
+idle-delete now s u empty = let is : (delete_step now s).1 ≡ s = rw (unallocated s.phase u) refl in is
+
+idle-permission : (transport : TransportType) (ip : IpAddr) (now : ℕ) (s : State) → IsIdle (CreatePermission transport ip now) s
+idle-permission transport ip now s u empty = let is : (create_permission_step transport ip now s).1 ≡ s = rw (no-allocation transport ip s empty) refl in is
+
+idle-channel : (transport : TransportType) (peer : SocketAddr) (now : ℕ) (s : State) → IsIdle (BindChannel transport peer now) s
+idle-channel transport peer now s u empty = let is : (bind_channel_step transport peer now s).1 ≡ s = rw (no-allocation transport (socket_ip peer) s empty) refl in is
+
+idle-connect : (peer : SocketAddr) (now : ℕ) (s : State) → IsIdle (TcpConnect peer now) s
+idle-connect peer now s u empty = let is : (tcp_connect_step peer now s).1 ≡ s = rw (no-allocation Tcp (socket_ip peer) s empty) refl in is
+
+idle-socket : (id : ℕ) (tuple : Socket5Tuple) (peer : SocketAddr) (local : Option SocketAddr) (now : ℕ) (s : State) → IsIdle (AllocatedTcpSocket id tuple peer local now) s
+idle-socket id tuple peer local now s u empty =
+    let none = and-false (same_transport s.config.allocation_transport Tcp && is_control tuple s) in
+    let is : (allocated_tcp_socket_step id tuple peer local now s).1 ≡ s = rw (unallocated s.phase u, none) refl in
+    is
+
+idle-signs : (call : Call) (s : State) → IsIdle call s → IsSteady s → Signs s → Signs (state_after call s)
+idle-signs call s idle steady h = by s.phase refl
+  where
+    t : State
+    t = state_after call s
+
+    same : IsUngranted s.phase → Signs t
+    same u = same-signs s t (idle u (steady.3 u)) h
+
+    far : (p : Phase) → s.phase ≡ p → 3 ≤ rank p → Signs t
+    far p e three = further-signs s t (subst (λ (q : Phase). 3 ≤ rank q) (sym e) three) (call-keeps call s)
+
+    by : (p : Phase) → s.phase ≡ p → Signs t
+    by New e = same (rw e tt)
+    by Requesting e = same (rw e tt)
+    by Authenticating e = same (rw e tt)
+    by Allocated e = far Allocated e (omega arith)
+    by Closed e = far Closed e (omega arith)
+
+-- ---- all other calls answer no challenge
+
+abbrev Awaits : State → State → Type 0
+Awaits s t = t.phase ≡ Authenticating → s.phase ≡ Authenticating
+
+Awaits-KeepsEdits : KeepsEdits Awaits
+Awaits-KeepsEdits = record {
+  same = λ s h. h;
+  trans = λ s t u first second h. first (second h);
+  aside = λ s t h. h;
+  queues = λ queue s begun h. h;
+  dequeues = λ queue s fewer h. h;
+  families = λ families s may h. h;
+  sends = λ now s waits h. h;
+  begins = λ now s new h. cc;
+  ends = λ s none h. cc;
+  asks = λ id text purposes now s begun askable spelled h. h;
+  finishes = λ id s h. h;
+  resends = λ id now s h. h;
+  unlists = λ which s h. h;
+  removes = λ which s spares h. h;
+  removes_family = λ family s h. h;
+  takes_offer = λ id peer s h. h;
+  ages = λ grants s e h. h;
+  permission = λ ip s phase room none h. h;
+  channel = λ number peer s phase room none within h. h;
+  connect = λ peer s phase room none h. h;
+  connection = λ id c origin s phase offer none waits h. h;
+  reserves = λ number peer was until s there h. h;
+}
+
+-- what is outstanding was so before, under this ID and with these bytes
+abbrev WasSent : State → Transaction → Type 0
+WasSent s x = (was : Transaction) × Has was s.transactions × (x.id ≡ was.id) × (x.request ≡ was.request)
+
+-- or the client asks for itself
+abbrev Asks : State → Transaction → Type 0
+Asks s x = WasSent s x ⊎ (((s.phase ≡ New) × (x.id ≡ fresh_id s)) ⊎ (s.phase ≡ Allocated))
+
+abbrev AsksSo : Call → State → Type 0
+AsksSo call s = (x : Transaction) → IsRequestOf call s x → Asks s x
+
+transmit-asks : (now : ℕ) (s : State) → AsksSo (PollTransmit now) s
+transmit-asks now s x (inl (was, there, e)) =
+    inl (was, contains-has was s.transactions there, ap (λ (y : Transaction). y.id) e, ap (λ (y : Transaction). y.request) e)
+transmit-asks now s x (inr (purpose, at, (same, inl (new, first)), (made, e))) = inr (inl (new, ap (λ (y : Transaction). y.id) e))
+transmit-asks now s x (inr (purpose, at, (same, inr (allocated, due)), made)) = inr (inr allocated)
+
+module _ (call : Call) (s : State) (quiet : IsQuiet call) (asks : AsksSo call s) (steady : IsSteady s) (h : Signs s) where
+  abbrev t : State
+  t = state_after call s
+
+  awaits : Awaits s t
+  awaits = quiet-walk Awaits Awaits-KeepsEdits call s quiet
+
+  source : (x : Transaction) → Has x t.transactions → Asks s x
+  source x there = of (requests-made call s t x (inl refl) (has-contains x t.transactions there))
+    where
+      of : Contains s.transactions x ⊎ IsRequestOf call s x → Asks s x
+      of (inl old) = inl (x, contains-has x s.transactions old, refl, refl)
+      of (inr is) = asks x is
+
+  in_phase : (p : Phase) → s.phase ≡ p → SignsIn p s.config s.held s.transactions
+  in_phase p e = subst (λ (q : Phase). SignsIn q s.config s.held s.transactions) e h
+
+  on : (p q : Phase) → s.phase ≡ p → t.phase ≡ q → rank p ≤ rank q
+  on p q e f = subst (λ (r : Phase). rank p ≤ rank r) f (subst (λ (r : Phase). rank r ≤ rank t.phase) e (call-keeps call s).3.0)
+
+  -- the first ALLOCATE
+  begun : s.phase ≡ New → (x : Transaction) → Asks s x → x.id ≡ fresh_id s
+  begun e x (inl (was, there, named, text)) = absurd (subst (Has was) (in_phase New e) there)
+  begun e x (inr (inl (new, named))) = named
+  begun e x (inr (inr allocated)) = let no : New ≡ Allocated = sym e ∙ allocated in cc
+
+  -- and later what was
+  sent : (p : Phase) → s.phase ≡ p → (p ≡ New → ⊥) → (p ≡ Allocated → ⊥) → (x : Transaction) → Asks s x → WasSent s x
+  sent p e other further x (inl was) = was
+  sent p e other further x (inr (inl (new, named))) = absurd (other (sym e ∙ new))
+  sent p e other further x (inr (inr allocated)) = absurd (further (sym e ∙ allocated))
+
+  signed : (x : Transaction) → AreSigned t.config t.held s.transactions → WasSent s x → IsSignedAllocate t.config t.held x
+  signed x are (was, there, named, text) =
+      let (u, configured, realm, spelled) = are was there in
+      (u, configured, realm, text ∙ (spelled ∙ ap (request_for u ForAllocation) (sym named)))
+
+  from-new : s.phase ≡ New → (q : Phase) → t.phase ≡ q → SignsIn q t.config t.held t.transactions
+  from-new e New f = ((leaves-steadies call s t (inl refl) steady).0 f).2
+  from-new e Requesting f = λ x y here there. begun e x (source x here) ∙ sym (begun e y (source y there))
+  from-new e Authenticating f = let no : New ≡ Authenticating = sym e ∙ awaits f in cc
+  from-new e Allocated f = tt
+  from-new e Closed f = tt
+
+  from-requesting : s.phase ≡ Requesting → (q : Phase) → t.phase ≡ q → SignsIn q t.config t.held t.transactions
+  from-requesting e New f = let no : 1 ≤ 0 = on Requesting New e f in absurd (omega (arith, no))
+  from-requesting e Requesting f = λ x y here there.
+      let (a, among, named, text) = sent Requesting e (λ g. cc) (λ g. cc) x (source x here) in
+      let (b, besides, called, other) = sent Requesting e (λ g. cc) (λ g. cc) y (source y there) in
+      named ∙ (in_phase Requesting e a b among besides ∙ sym called)
+  from-requesting e Authenticating f = let no : Requesting ≡ Authenticating = sym e ∙ awaits f in cc
+  from-requesting e Allocated f = tt
+  from-requesting e Closed f = tt
+
+  far : (p : Phase) → s.phase ≡ p → 3 ≤ rank p → Signs t
+  far p e three = further-signs s t (subst (λ (q : Phase). 3 ≤ rank q) (sym e) three) (call-keeps call s)
+
+  quiet-signs : Signs t
+  quiet-signs = by s.phase refl
+    where
+      by : (p : Phase) → s.phase ≡ p → Signs t
+      by New e = from-new e t.phase refl
+      by Requesting e = from-requesting e t.phase refl
+      by Authenticating e =
+          later-signs s t e h (call-keeps call s) (call-configured call s)
+          (λ x there phase held are. signed x are (sent Authenticating e (λ g. cc) (λ g. cc) x (source x there)))
+      by Allocated e = far Allocated e (omega arith)
+      by Closed e = far Closed e (omega arith)
+
+-- ---- all calls
+
+asks-nothing : (call : Call) (s : State) (x : Transaction) → (IsSentAgain call s x → ⊥) → ((purpose : Purpose) (at : ℕ) → AsksFor call s purpose at → ⊥) → IsSentAgain call s x ⊎ ((purpose : Purpose) × (at : ℕ) × AsksFor call s purpose at × IsMadeAs purpose at s (state_after call s) x) → Asks s x
+asks-nothing call s x again never (inl is) = absurd (again is)
+asks-nothing call s x again never (inr (purpose, at, asks, made)) = absurd (never purpose at asks)
+
+pub call-signs : (call : Call) (s : State) → AllocatesInOrder s → IsSteady s → Signs s → Signs (state_after call s)
+call-signs (Recv packet now) s order steady h = (recv-kept StaySigned StaySigned-IsKept packet.transport packet.from packet.to packet.payload now s (order, h)).1
+call-signs (PollRecv now) s order steady h = (poll_recv-kept StaySigned StaySigned-IsKept now s (order, h)).1
+call-signs (Delete now) s order steady h = idle-signs (Delete now) s (idle-delete now s) steady h
+call-signs (CreatePermission transport ip now) s order steady h = idle-signs (CreatePermission transport ip now) s (idle-permission transport ip now s) steady h
+call-signs (BindChannel transport peer now) s order steady h = idle-signs (BindChannel transport peer now) s (idle-channel transport peer now s) steady h
+call-signs (TcpConnect peer now) s order steady h = idle-signs (TcpConnect peer now) s (idle-connect peer now s) steady h
+call-signs (AllocatedTcpSocket id tuple peer local now) s order steady h = idle-signs (AllocatedTcpSocket id tuple peer local now) s (idle-socket id tuple peer local now s) steady h
+call-signs (PollTransmit now) s order steady h = quiet-signs (PollTransmit now) s tt (transmit-asks now s) steady h
+call-signs (TcpClosed local remote now) s order steady h = quiet-signs (TcpClosed local remote now) s tt (λ x. asks-nothing (TcpClosed local remote now) s x (λ no. no) (λ p at no. no)) steady h
+call-signs (SendTo transport peer bytes now) s order steady h = quiet-signs (SendTo transport peer bytes now) s tt (λ x. asks-nothing (SendTo transport peer bytes now) s x (λ no. no) (λ p at no. no)) steady h
+call-signs (Poll now) s order steady h = quiet-signs (Poll now) s tt (λ x. asks-nothing (Poll now) s x (λ no. no) (λ p at no. no)) steady h
+call-signs PollEvent s order steady h = quiet-signs PollEvent s tt (λ x. asks-nothing PollEvent s x (λ no. no) (λ p at no. no)) steady h
+call-signs ProtocolError s order steady h = quiet-signs ProtocolError s tt (λ x. asks-nothing ProtocolError s x (λ no. no) (λ p at no. no)) steady h
+call-signs RelayedAddresses s order steady h = h
+call-signs (Permissions transport relayed) s order steady h = h
+call-signs (HavePermission transport to) s order steady h = h
