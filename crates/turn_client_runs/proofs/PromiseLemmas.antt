@@ -49,7 +49,7 @@ module _ (transport : TransportType) (local remote : SocketAddr) (config : Confi
 
   pub run-realm : RealmStays first calls
   run-realm earlier middle later e =
-    realm-stays (state_behind first earlier) middle (state_behind (state_behind first earlier) middle) (reaches-behind (state_behind first earlier) middle)
+      realm-stays (state_behind first earlier) middle (state_behind (state_behind first earlier) middle) (reaches-behind (state_behind first earlier) middle)
 
   pub run-cuts : CutsAgree first calls
   run-cuts earlier middle later e = λ at pieces now quiet are. run-cut at pieces now (state_behind first earlier) quiet middle are
