@@ -1,11 +1,13 @@
 -- One turn of a caller's loop.
 use Rattle.std.specs.Prelude.{◌≡◌, ◌⊎◌, ℕ, zero, suc, ◌<◌, false, List, [], ◌∷◌, ◌++◌, map, Option, Some, None, option_to_list}
+use Rattle.std.specs.declared.alloc.Global.{Global}
+use Rattle.std.specs.declared.vec.Vec.{Vec}
 use Rattle.turn_stun.specs.declared.transport.Transmit.{Transmit}
 use Rattle.turn_client_api.specs.State.{State}
 use Rattle.turn_client_api.specs.Answers.{RecvEnds, takes_no_memory}
 use Rattle.turn_client_api.specs.Payloads.{Outcome}
 use Rattle.turn_client_api.specs.Steps.{packet_step}
-use Rattle.turn_uses.specs.Given.{Given, given_in, given_of}
+use Rattle.turn_uses.specs.Given.{Given, given_in, given_of, packet_in}
 use Rattle.turn_uses.specs.Next.{Answer, Does, Rests, NextEnds, next_step}
 use Rattle.turn_uses.specs.declared.task.Rest.{Rest}
 use Rattle.turn_uses.specs.declared.task.Task.{Task}
@@ -21,7 +23,10 @@ pub record Turned : Type 0 where
 abbrev pub stands : List Task → Rest → State → Turned
 stands tasks rest s = record { given = map given_of tasks; rest = rest; client = s }
 
--- something may be left to do
+-- where something may be left to do
+abbrev pub so_far : List Task → State → Turned
+so_far tasks s = stands tasks Now s
+
 abbrev pub going : List Given → State → Turned
 going given s = record { given = given; rest = Now; client = s }
 
@@ -55,8 +60,8 @@ turned zero now t = t
 turned (suc n) now t = once_more now (turned n now t)
 
 -- a whole turn, from these tasks and this client on
-abbrev pub turn_step : ℕ → Option (Transmit (List ℕ)) → ℕ → List Task → State → Turned
-turn_step most came now tasks s = turned most now (begun came now (stands tasks Now s))
+abbrev pub turn_step : ℕ → Option (Transmit (Vec ℕ Global)) → ℕ → List Task → State → Turned
+turn_step most came now tasks s = turned most now (begun (packet_in came) now (so_far tasks s))
 
 -- ---- want of memory
 
@@ -74,6 +79,7 @@ StopsAt now t is = (t.rest ≡ Now) × (is.given ≡ t.given) × ((is.client ≡
 abbrev pub Draws : ℕ → ℕ → Turned → Turned → Type 0
 Draws most now was is = (n : ℕ) × (n < most) × StopsAt now (turned n now was) is
 
-abbrev pub Stops : ℕ → Option (Transmit (List ℕ)) → ℕ → Turned → Turned → Type 0
+abbrev pub Stops : ℕ → Option (Transmit (Vec ℕ Global)) → ℕ → Turned → Turned → Type 0
 Stops most came now was is =
-    ((is.given ≡ was.given) × StopsAtHand came now was.client is.client) ⊎ Draws most now (begun came now was) is
+    ((is.given ≡ was.given) × StopsAtHand (packet_in came) now was.client is.client)
+    ⊎ Draws most now (begun (packet_in came) now was) is

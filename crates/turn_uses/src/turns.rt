@@ -4,8 +4,7 @@ ghost use Rattle.std.specs.Prelude.{◌≡◌, ◌≤◌, ◌^◌, IfOk, OnErr, 
 ghost use Rattle.turn_uses.specs.Given.{packet_in, packet_of};
 ghost use Rattle.turn_uses.specs.Next.{IsRestful};
 ghost use Rattle.turn_uses.specs.Run.{IsWhole};
-ghost use Rattle.turn_uses.specs.Turned.{Draws, Stops, StopsAtHand, begun, stands, turn_step, turned};
-ghost use Rattle.turn_uses.specs.declared.task.Rest.TheVariants.{Now};
+ghost use Rattle.turn_uses.specs.Turned.{Draws, Stops, StopsAtHand, begun, so_far, stands, turn_step, turned};
 
 use crate::next::{Next, next_task};
 use crate::task::{Rest, Task};
@@ -30,10 +29,10 @@ pub fn turn<C: TurnClientApi>(
     tasks: &mut Vec<Task>,
 ) -> Result<Rest, AllocError>
     requires moment { now ≤ 2 ^ 62 }
-    ensures ok { IfOk result (λ rest. stands tasks.new.items rest (C.state client.new) ≡ turn_step most (packet_in came) now tasks.old.items (C.state client.old)) }
-    ensures whole { OnOk result (IsWhole (packet_in came) now (stands tasks.old.items Now (C.state client.old)) (stands tasks.new.items Now (C.state client.new))) }
+    ensures ok { IfOk result (λ rest. stands tasks.new.items rest (C.state client.new) ≡ turn_step most came now tasks.old.items (C.state client.old)) }
+    ensures whole { OnOk result (IsWhole (packet_in came) now (so_far tasks.old.items (C.state client.old)) (so_far tasks.new.items (C.state client.new))) }
     ensures restful { IfOk result (λ rest. IsRestful rest now (C.state client.new)) }
-    ensures no_memory { OnErr result (Stops most (packet_in came) now (stands tasks.old.items Now (C.state client.old)) (stands tasks.new.items Now (C.state client.new))) }
+    ensures no_memory { OnErr result (Stops most came now (so_far tasks.old.items (C.state client.old)) (so_far tasks.new.items (C.state client.new))) }
 {
     if let Some(packet) = came {
         hand_in(client, packet, now, tasks)?;
@@ -44,17 +43,17 @@ pub fn turn<C: TurnClientApi>(
 /// Hands a packet in. What is given at once goes to the end of the list.
 fn hand_in<C: TurnClientApi>(
     client: &mut C,
-    packet: Transmit<Vec<u8>>,
+    came: Transmit<Vec<u8>>,
     now: Instant,
     tasks: &mut Vec<Task>,
 ) -> Result<(), AllocError>
     requires moment { now ≤ 2 ^ 62 }
-    ensures ok { OnOk result (stands tasks.new.items Now (C.state client.new) ≡ begun (Some (packet_of packet)) now (stands tasks.old.items Now (C.state client.old))) }
+    ensures ok { OnOk result (so_far tasks.new.items (C.state client.new) ≡ begun (Some (packet_of came)) now (so_far tasks.old.items (C.state client.old))) }
     ensures list { OnErr result (tasks.new.items ≡ tasks.old.items) }
-    ensures no_memory { OnErr result (StopsAtHand (Some (packet_of packet)) now (C.state client.old) (C.state client.new)) }
+    ensures no_memory { OnErr result (StopsAtHand (Some (packet_of came)) now (C.state client.old) (C.state client.new)) }
 {
     tasks.reserve(1)?;
-    let task = match client.recv(packet, now)? {
+    let task = match client.recv(came, now)? {
         TurnRecvRet::Handled => return Ok(()),
         TurnRecvRet::Ignored(packet) => Task::Other(packet),
         TurnRecvRet::PeerData(given) => Task::Payload(given),
@@ -83,9 +82,9 @@ fn draw<C: TurnClientApi>(
     tasks: &mut Vec<Task>,
 ) -> Result<Rest, AllocError>
     requires moment { now ≤ 2 ^ 62 }
-    ensures ok { IfOk result (λ rest. stands tasks.new.items rest (C.state client.new) ≡ turned most now (stands tasks.old.items Now (C.state client.old))) }
+    ensures ok { IfOk result (λ rest. stands tasks.new.items rest (C.state client.new) ≡ turned most now (so_far tasks.old.items (C.state client.old))) }
     ensures restful { IfOk result (λ rest. IsRestful rest now (C.state client.new)) }
-    ensures no_memory { OnErr result (Draws most now (stands tasks.old.items Now (C.state client.old)) (stands tasks.new.items Now (C.state client.new))) }
+    ensures no_memory { OnErr result (Draws most now (so_far tasks.old.items (C.state client.old)) (so_far tasks.new.items (C.state client.new))) }
 {
     for _ in 0..most {
         tasks.reserve(1)?;
