@@ -1,4 +1,27 @@
 //! HMAC, keys, challenges and the long-term credentials of STUN (RFC 8489, section 9.2), with no IO.
+//!
+//! ```text
+//!  client                                              server
+//!    |--- request, not signed ------------------------->|
+//!    |<-- 401 or 438 with realm and nonce --------------|   take_challenge
+//!    |--- request, signed ----------------------------->|   sign_outgoing_message
+//!    |<-- response, signed -----------------------------|   validate_incoming_message
+//! ```
+//!
+//! Begin with [`LongTermClientAuth`], which judges what comes in and signs what goes out.
+//!
+//! ```rust
+//! match auth.validate_incoming_message(&response) {
+//!     Validation::ResendRequest(_) => {
+//!         auth.take_challenge(&response)?;
+//!         auth.sign_outgoing_message(&mut again)?;
+//!     }
+//!     Validation::Validated(_) => accept(&response),
+//!     Validation::Refused { .. } => {}
+//! }
+//! ```
+//!
+//! Which requests are made, and when, is left to the crates above.
 #![tactic(auto)]
 
 mod challenge;

@@ -1,13 +1,48 @@
 //! What every TURN client does (RFC 8656, 6062 and 6156), and what its caller hands in and gets back.
 //! No IO.
 //!
+//! ```text
+//!  bytes that came ---- recv ----> +--------+ ---- poll_transmit ---> packets to send
+//!  data for a peer --- send_to --> | client | -- recv, poll_recv ---> data of a peer
+//!  the time ----------- poll ----> +--------+ ---- poll_event ------> what came of requests
+//!                                      +---------- poll ------------> the moment to call again
+//! ```
+//!
 //! Begin with [`TurnClientApi`], the trait of all clients: its contracts say of each call what it
 //! answers and what the client is after it, step by step of the machine that `docs/MACHINE.md`
-//! describes. A caller makes a [`TurnConfig`] for a client, asks it by the calls of the trait, and is
-//! answered by [`TurnPollRet`], [`TurnRecvRet`], [`TurnEvent`], an error enum for each call that can be
-//! refused, [`RelayedAddressesIter`] and [`PermissionAddressesIter`]. What a peer sent is a part of the
-//! caller's own bytes ([`TurnPeerData`]), and what goes to a peer is built when it is sent
-//! ([`TransmitBuild`]).
+//! describes. A caller's loop over any of them:
+//!
+//! ```rust
+//! match client.poll(now)? {
+//!     TurnPollRet::WaitUntil(moment) => wake_at(moment),
+//!     TurnPollRet::AllocateTcpSocket { id, socket, peer_addr } => open(id, socket, peer_addr),
+//!     TurnPollRet::TcpClose { local_addr, .. } => close(local_addr),
+//!     TurnPollRet::Closed => end(),
+//! }
+//! while let Some(event) = client.poll_event() {
+//!     tell(event);
+//! }
+//! while let Some(packet) = client.poll_transmit(now)? {
+//!     send(packet);
+//! }
+//! ```
+//!
+//! and where a packet came:
+//!
+//! ```rust
+//! match client.recv(packet, now)? {
+//!     TurnRecvRet::PeerData(given) => deliver(given.peer, given.data()),
+//!     TurnRecvRet::PeerIcmp { peer, .. } => unreachable_peer(peer),
+//!     TurnRecvRet::Ignored(packet) => not_for_turn(packet),
+//!     TurnRecvRet::Handled => {}
+//! }
+//! while let Some(given) = client.poll_recv(now)? {
+//!     deliver(given.peer, given.data());
+//! }
+//! ```
+//!
+//! A caller makes a [`TurnConfig`] for a client. What a peer sent is a part of the caller's own bytes
+//! ([`TurnPeerData`]), and what goes to a peer is built when it is sent ([`TransmitBuild`]).
 //!
 //! The functions of [`laws`] do nothing: their contracts say what holds of every client that meets the
 //! trait, such as that a caller that sleeps until the moment that `poll` tells misses nothing. The

@@ -1,9 +1,23 @@
 //! The grants of a TURN client: allocations, permissions, channels and data connections (RFC 8656 and
 //! RFC 6062), what its requests were made for, and the events that come of them. No IO.
 //!
-//! Begin with `GrantLedger`, which each change goes through. What is read is read off its `GrantTable`;
-//! `Purposes` is what one request was made for. How requests are written and when they are sent is left
-//! to the crates above.
+//! ```text
+//!  ask --> pending --granted--> active --lapse--> gone; a channel is reserved for a while first
+//!             |                    |
+//!             +--refused, silence--+--refused--> gone, and an event tells it
+//! ```
+//!
+//! Begin with [`GrantLedger`], which each change goes through. What is read is read off its
+//! [`GrantTable`]; [`Purposes`] is what one request was made for.
+//!
+//! ```rust
+//! ledger.reserve(1, 2, 0)?;
+//! ledger.ask(id, &[Grant::Permission(ip, Progress::Pending)], &Purposes::one(Purpose::ForPermission(ip)));
+//! // when the server has answered
+//! ledger.permission_answered(ip, true, now);
+//! ```
+//!
+//! How requests are written and when they are sent is left to the crates above.
 #![tactic(auto)]
 
 mod changes;

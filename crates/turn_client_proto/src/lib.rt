@@ -1,8 +1,29 @@
 //! TURN clients without IO: the caller hands in bytes, moments and a seed, and gets packets, events
 //! and the next moment to call again.
 //!
+//! ```text
+//!           sockets, clock                 this crate
+//!  network <-------------> the caller <-----------------> TurnClientUdp, TurnClientTcp
+//!                                      calls and answers
+//! ```
+//!
 //! Begin with [`udp::TurnClientUdp`] or [`tcp::TurnClientTcp`], and with [`api::TurnClientApi`] for the
-//! calls of a client. [`client::TurnClient`] is either of them.
+//! calls of a client, which has a caller's loop. [`client::TurnClient`] is either of them.
+//!
+//! ```rust
+//! let config = TurnConfig::new(alloc, TurnCredentials::new(alloc, b"user", b"pass")?);
+//! let mut client = TurnClientUdp::allocate(alloc, local, server, config, seed)?;
+//! while let Some(packet) = client.poll_transmit(now)? {
+//!     send(packet);
+//! }
+//! // once poll_event told of an address
+//! client.create_permission(TransportType::Udp, peer.ip(), now)?;
+//! // and once it told of the permission
+//! if let Some(packet) = client.send_to(TransportType::Udp, peer, data, now)? {
+//!     send(packet.build(alloc)?);
+//! }
+//! ```
+//!
 //! [`reply_to`] makes a call that is a value on any client, and [`replay`] a list of them on a new one.
 #![tactic(auto)]
 

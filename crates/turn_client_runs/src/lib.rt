@@ -1,6 +1,17 @@
 //! Laws over whole runs of a client: what holds after any list of calls (RFC 8656, RFC 6062).
 //!
-//! The functions of this crate do nothing: their contracts are the laws.
+//! ```text
+//!  a new client --call--> state --call--> state --call--> ..    each by its own step of the machine
+//!                 |               |               |
+//!               answer          answer          answer          the laws speak of all of these
+//! ```
+//!
+//! The functions of this crate do nothing: their contracts are the laws. A proof takes one by calling its
+//! function, or names it.
+//!
+//! ```rust
+//! replies_count_once_in_runs();
+//! ```
 #![tactic(auto)]
 
 mod bound;

@@ -2,6 +2,11 @@
 //!
 //! The gate proves a crate that has tests twice, with them and without. So the tests stand here, a module for each
 //! crate, and the crates that they test are proved once.
+//! To run them, unproved, in this folder:
+//!
+//! ```text
+//! rt try --test
+//! ```
 #![tactic(auto)]
 
 #[cfg(test)]

@@ -1,7 +1,16 @@
 //! Runs a client by the calls of a trace, and prints what each of them answered.
 //!
-//! The trace comes on standard input, and the answers go to standard output. A trace is a line that
-//! names a client and its server, and then a line for each call. Begin with [`run`].
+//! ```text
+//!  standard input: a head, and a line a call --run--> standard output: a line an answer
+//! ```
+//!
+//! The head names a client and its server; `docs/PROTOCOL.md` has the format. From the crate's folder
+//!
+//! ```text
+//! rt try < stdin
+//! ```
+//!
+//! runs the trace of its file `stdin`, unproved. Begin with [`run`].
 #![tactic(auto)]
 
 mod address;

@@ -1,7 +1,17 @@
 //! Whole lives of a client over UDP or over TCP, against a server that is a table, on a clock of their own.
 //!
-//! The server signs by the key that the password gives, and checks what the client signs. A caller polls, sends what
-//! is due, hands in what comes, and sleeps until the moment that `poll` tells.
+//! ```text
+//!  Caller: a clock, and what is on its way <--calls, answers--> client
+//!    ^
+//!    +--packets, after a delay--> Server: signs by the key of the password, and checks what the client signs
+//! ```
+//!
+//! A caller polls, sends what is due, hands in what comes, and sleeps until the moment that `poll` tells. To run the
+//! scenarios, unproved, in this folder:
+//!
+//! ```text
+//! rt try --test
+//! ```
 #![tactic(auto)]
 
 #[cfg(test)]

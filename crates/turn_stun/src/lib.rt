@@ -1,10 +1,27 @@
 //! STUN messages (RFC 8489), moments and packets, with no IO: nothing here opens a socket or reads a
 //! clock.
 //!
+//! ```text
+//!  bytes --Message::from_bytes--> Message --attribute--> ErrorCode, Realm, Nonce ..
+//!  bytes <------- finish ------- MessageWriteVec <--add_attribute-- ErrorCode, Realm, Nonce ..
+//! ```
+//!
 //! Begin with [`message::Message::from_bytes`], which says whether bytes are a message and lets the
 //! caller look into it without memory, and with [`message::write::MessageWriteVec`], which makes
-//! one. The values of attributes are in [`attribute`]. Integrity, keys and retransmission are left
-//! to the crates above, and so are TURN's own attributes.
+//! one. The values of attributes are in [`attribute`].
+//!
+//! ```rust
+//! let message = Message::from_bytes(bytes)?;
+//! if message.has_class(MessageClass::Error) {
+//!     let error: ErrorCode<'_> = message.attribute()?;
+//!     report(error.code());
+//! }
+//! let mut answer = MessageWriteVec::builder_error(alloc, message.method(), message.transaction_id())?;
+//! answer.add_attribute(&ErrorCode::new(400, b"Bad Request"))?;
+//! send(answer.finish());
+//! ```
+//!
+//! Integrity, keys and retransmission are left to the crates above, and so are TURN's own attributes.
 #![tactic(auto)]
 
 pub mod attribute;

@@ -1,8 +1,23 @@
-//! What TURN (RFC 8656, RFC 6062) adds to STUN: its attributes, its channel frames, and packets that
-//! are built when they are sent. No IO.
+//! What TURN (RFC 8656, RFC 6062) adds to STUN: its attributes, its channel frames, streams that are cut
+//! into frames, and packets that are built when they are sent. No IO.
 //!
-//! Begin with `attribute` and `channel` for what a server sends, and with `transmit` for what goes
-//! to it. Messages themselves are STUN's, in `stun`, and who signed one is not judged here.
+//! ```text
+//!  pieces of a stream --TurnTcpBuffer--> messages, and channel frames --ChannelData::parse--> number, payload
+//!  payload for a peer --DelayedChannel, DelayedMessage--> TransmitBuild --write_into--> bytes of a packet
+//! ```
+//!
+//! Begin with [`attribute`], [`channel`] and [`tcp`] for what a server sends, and with [`transmit`] for
+//! what goes to it.
+//!
+//! ```rust
+//! stream.feed(piece)?;
+//! while let Some(frame) = stream.front() {
+//!     take(frame);
+//!     stream.pass();
+//! }
+//! ```
+//!
+//! Messages themselves are STUN's, in `stun`, and who signed one is not judged here.
 #![tactic(auto)]
 
 mod address;
