@@ -214,11 +214,11 @@ fn is_told(event: TurnEvent, want: Want<'_>) -> bool {
 
 /// Whether `hello` for the peer goes out as a Send indication.
 fn greets<C: TurnClientApi>(alloc: Global, client: &mut C, now: u32) -> Result<bool, AllocError> {
-    match client.send_to(TransportType::Udp, PEER.address(), b"hello", at(now)) {
+    match client.send_to(TransportType::Udp, PEER.address(), *b"hello", at(now)) {
         Ok(Some(packet)) => {
-            let packet = packet.build(alloc)?;
-            let is_so = packet.to == server() && packet.payload.as_bytes().get(20..) == Some(SEND);
-            Ok(is_so)
+            let (from, to) = (packet.from, packet.to);
+            let bytes = packet.payload.build(alloc)?;
+            Ok(bytes.as_slice().get(20..) == Some(SEND) && from == local() && to == server())
         }
         _ => Ok(false),
     }
