@@ -7,6 +7,8 @@
 #[cfg(test)]
 mod caller;
 #[cfg(test)]
+mod cuts;
+#[cfg(test)]
 mod exchange;
 #[cfg(test)]
 mod families;
@@ -16,6 +18,8 @@ mod fixture;
 mod gathered;
 #[cfg(test)]
 mod hostile;
+#[cfg(test)]
+mod memory;
 #[cfg(test)]
 mod replayed;
 #[cfg(test)]
