@@ -4,6 +4,7 @@ ghost use Rattle.std.specs.Prelude.{◌≡◌, ◌≤◌, ◌*◌, ◌^◌, IfOk
 
 use std::alloc::Global;
 use std::net::{IpAddr, Ipv4Addr, Ipv6Addr, SocketAddr};
+use std::process::Abort;
 use turn_auth::credentials::{CredentialsError, TurnCredentials};
 use turn_client_api::TurnConfig;
 use turn_client_proto::tcp::TurnClientTcp;
@@ -18,6 +19,11 @@ pub(crate) fn local() -> SocketAddr {
 
 pub(crate) fn server() -> SocketAddr {
     SocketAddr::new(IpAddr::V4(Ipv4Addr::new(10, 0, 0, 2)), 2_000)
+}
+
+/// The client's end of a data connection.
+pub(crate) fn data_end() -> SocketAddr {
+    SocketAddr::new(IpAddr::V4(Ipv4Addr::new(192, 168, 0, 1)), 1_001)
 }
 
 /// So many milliseconds after the start.
@@ -86,4 +92,16 @@ pub(crate) fn client_over_tcp(
 ) -> Result<TurnClientTcp, CredentialsError> {
     let config = config_for(alloc, families)?;
     Ok(TurnClientTcp::allocate(alloc, local(), server(), config, [0; 32])?)
+}
+
+/// The same, whose address is for connections of its peers (RFC 6062, section 4.1).
+pub(crate) fn client_with_connections(alloc: Global) -> Result<TurnClientTcp, CredentialsError> {
+    let mut config = config_for(alloc, IPV4)?;
+    config.set_allocation_transport(TransportType::Tcp);
+    Ok(TurnClientTcp::allocate(alloc, local(), server(), config, [0; 32])?)
+}
+
+/// Asserts that the case of this number is as it is to be.
+pub(crate) fn check(rt: &impl Abort, is_so: bool, case: u32) {
+    assert!(rt; is_so, "case {case}");
 }

@@ -17,6 +17,8 @@
 #[cfg(test)]
 mod caller;
 #[cfg(test)]
+mod cuts;
+#[cfg(test)]
 mod exchange;
 #[cfg(test)]
 mod families;
@@ -28,6 +30,8 @@ mod gathered;
 mod hostile;
 #[cfg(test)]
 mod looped;
+#[cfg(test)]
+mod memory;
 #[cfg(test)]
 mod replayed;
 #[cfg(test)]

@@ -37,10 +37,10 @@ fn divide(alloc: Global, transcript: &str) -> Result<(String, String), AllocErro
     Ok((trace, answers))
 }
 
-/// Whether it is the head, which begins with `udp`, or a call, which begins with its moment. No answer begins so.
+/// Whether it is the head, which begins with a transport, or a call, which begins with its moment. No answer begins so.
 fn is_of_the_trace(line: &str) -> bool {
     match line.as_bytes() {
-        [first, ..] => first.is_ascii_digit() || *first == b'u',
+        [first, ..] => first.is_ascii_digit() || *first == b'u' || *first == b't',
         [] => false,
     }
 }

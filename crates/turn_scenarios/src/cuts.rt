@@ -1,0 +1,324 @@
+//! Streams that come in pieces of any length give what they give as a whole (RFC 8656, section 12.5; RFC 6062, section
+//! 4.5).
+
+use crate::caller::Caller;
+use crate::exchange::{GENEROUS, PEER};
+use crate::fixture::{
+    IPV4, at, check, client_over_tcp, client_with_connections, data_end, local, server,
+};
+use crate::server::{Signer, message};
+use std::alloc::{AllocError, Global};
+use std::net::SocketAddr;
+use std::test::Fail;
+use turn_client_api::{Socket5Tuple, TurnClientApi, TurnEvent, TurnPollRet, TurnRecvRet};
+use turn_client_proto::tcp::TurnClientTcp;
+use turn_stun::transport::{Transmit, TransportType};
+
+/// `hello` over channel 4000, `to` of 10.0.0.3:9001, nothing over channel 4000, a byte over a channel that is not bound, a
+/// message of another method, `ff00` of 10.0.0.3:9002, and `you` over channel 4000.
+const FRAMES: &[u8] = &[
+    0x40, 0x00, 0x00, 0x05, 0x68, 0x65, 0x6c, 0x6c, 0x6f, 0x00, 0x00, 0x00, 0x00, 0x17, 0x00, 0x14,
+    0x21, 0x12, 0xa4, 0x42, 0x00, 0x00, 0x00, 0x00, 0x00, 0x00, 0x00, 0x00, 0x00, 0x00, 0x00, 0x01,
+    0x00, 0x12, 0x00, 0x08, 0x00, 0x01, 0x02, 0x3b, 0x2b, 0x12, 0xa4, 0x41, 0x00, 0x13, 0x00, 0x02,
+    0x74, 0x6f, 0x00, 0x00, 0x40, 0x00, 0x00, 0x00, 0x40, 0x01, 0x00, 0x01, 0xff, 0x00, 0x00, 0x00,
+    0x00, 0x11, 0x00, 0x00, 0x21, 0x12, 0xa4, 0x42, 0x00, 0x00, 0x00, 0x00, 0x00, 0x00, 0x00, 0x00,
+    0x00, 0x00, 0x00, 0x02, 0x00, 0x17, 0x00, 0x14, 0x21, 0x12, 0xa4, 0x42, 0x00, 0x00, 0x00, 0x00,
+    0x00, 0x00, 0x00, 0x00, 0x00, 0x00, 0x00, 0x03, 0x00, 0x12, 0x00, 0x08, 0x00, 0x01, 0x02, 0x38,
+    0x2b, 0x12, 0xa4, 0x41, 0x00, 0x13, 0x00, 0x02, 0xff, 0x00, 0x00, 0x00, 0x40, 0x00, 0x00, 0x03,
+    0x79, 0x6f, 0x75, 0x00,
+];
+
+/// What comes of them: the last byte of each peer's port, the length of its data, and the data.
+const OVER_UDP: &[u8] = &[
+    0x28, 5, b'h', b'e', b'l', b'l', b'o', 0x29, 2, b't', b'o', 0x28, 0, 0x2a, 2, 0xff, 0x00, 0x28,
+    3, b'y', b'o', b'u',
+];
+
+/// The same where no channel is bound.
+const OVER_TCP: &[u8] = &[0x29, 2, b't', b'o', 0x2a, 2, 0xff, 0x00];
+
+/// Bytes of a peer, some of which could begin a frame, and some not.
+const BYTES: &[u8] = b"\x00\x17\x00\x04\x40\x00\x00\x02hello\x80\xff\x00\xc0over a connection\x40";
+
+/// 10.0.0.3:9000 connected, under the number 9 (RFC 6062, section 4.4).
+const OFFER: &[u8] = &[
+    0x00, 0x1c, 0x00, 0x14, 0x21, 0x12, 0xa4, 0x42, 0x00, 0x00, 0x00, 0x00, 0x00, 0x00, 0x00, 0x00,
+    0x00, 0x00, 0x00, 0x04, 0x00, 0x2a, 0x00, 0x04, 0x00, 0x00, 0x00, 0x09, 0x00, 0x12, 0x00, 0x08,
+    0x00, 0x01, 0x02, 0x3a, 0x2b, 0x12, 0xa4, 0x41,
+];
+
+/// How often streams are drawn, but for the first two runs.
+const SEEDS: u32 = 200;
+
+/// More than streams here give.
+const MANY: usize = 1_024;
+
+/// How long the pieces are.
+#[derive(Clone, Copy)]
+enum Cut {
+    Whole,
+    Bytes,
+    /// Up to 24 bytes.
+    Drawn,
+}
+
+impl Cut {
+    /// All at once, then byte by byte, and then drawn.
+    fn of(seed: u32) -> Cut {
+        match seed {
+            0 => Cut::Whole,
+            1 => Cut::Bytes,
+            _ => Cut::Drawn,
+        }
+    }
+
+    fn len(self, draw: u64) -> usize {
+        match self {
+            Cut::Whole => usize::MAX,
+            Cut::Bytes => 1,
+            Cut::Drawn => usize::try_from(draw % 24).unwrap_or(0).saturating_add(1),
+        }
+    }
+}
+
+/// Numbers that are drawn one after the other, by a linear congruence.
+#[derive(Drop)]
+struct Draws {
+    state: u64,
+}
+
+impl Draws {
+    fn new(seed: u32) -> Draws {
+        Draws {
+            state: u64::from(seed),
+        }
+    }
+
+    fn draw(&mut self) -> u64 {
+        let product = self.state.wrapping_mul(6_364_136_223_846_793_005);
+        self.state = product.wrapping_add(1_442_695_040_888_963_407);
+        self.state >> 33
+    }
+}
+
+/// What is still to come of the control stream and of a data connection.
+#[derive(Drop)]
+struct Streams<'a> {
+    control: &'a [u8],
+    data: &'a [u8],
+}
+
+impl<'a> Streams<'a> {
+    /// The next piece, and the end to which it comes.
+    fn next(&mut self, cut: Cut, draws: &mut Draws) -> Option<(SocketAddr, &'a [u8])> {
+        let len = cut.len(draws.draw());
+        let is_control = draws.draw() % 2 == 0;
+        if self.data.is_empty() || (is_control && !self.control.is_empty()) {
+            let (piece, rest) = self.control.split_at(len.min(self.control.len()));
+            self.control = rest;
+            if piece.is_empty() {
+                None
+            } else {
+                Some((local(), piece))
+            }
+        } else {
+            let (piece, rest) = self.data.split_at(len.min(self.data.len()));
+            self.data = rest;
+            Some((data_end(), piece))
+        }
+    }
+}
+
+/// What came of streams.
+#[derive(Drop)]
+struct Heard {
+    /// What came in frames: the last byte of each peer's port, the length of its data, and the data.
+    frames: Vec<u8>,
+    /// What came over the data connection.
+    bytes: Vec<u8>,
+}
+
+impl Heard {
+    fn new(alloc: Global) -> Heard {
+        Heard {
+            frames: Vec::new(alloc),
+            bytes: Vec::new(alloc),
+        }
+    }
+
+    /// Notes data of this peer.
+    fn note(
+        &mut self,
+        transport: TransportType,
+        peer: SocketAddr,
+        data: &[u8],
+    ) -> Result<(), AllocError> {
+        if transport == TransportType::Tcp && peer == PEER.address() {
+            return self.bytes.extend_from_slice(data);
+        }
+        let [_, port] = peer.port().to_be_bytes();
+        let len = u8::try_from(data.len()).unwrap_or(u8::MAX);
+        self.frames.extend_from_slice(&[port, len])?;
+        self.frames.extend_from_slice(data)
+    }
+
+    fn is(&self, frames: &[u8], bytes: &[u8]) -> bool {
+        self.frames.as_slice() == frames && self.bytes.as_slice() == bytes
+    }
+}
+
+/// Hands a piece in.
+fn hear<C: TurnClientApi>(
+    client: &mut C,
+    to: SocketAddr,
+    piece: &[u8],
+    now: u32,
+    heard: &mut Heard,
+) -> Result<(), AllocError> {
+    let packet = Transmit::new(piece, TransportType::Tcp, server(), to);
+    match client.recv(packet, at(now))? {
+        TurnRecvRet::PeerData(given) => heard.note(given.transport, given.peer, given.data()),
+        _ => Ok(()),
+    }
+}
+
+/// Takes all that the streams hold.
+fn drain<C: TurnClientApi>(client: &mut C, now: u32, heard: &mut Heard) -> Result<(), AllocError> {
+    for _ in 0..MANY {
+        match client.poll_recv(at(now))? {
+            Some(given) => heard.note(given.transport, given.peer, given.data())?,
+            None => break,
+        }
+    }
+    Ok(())
+}
+
+/// What comes of these streams where they are cut and drained as the seed says.
+fn heard_of<C: TurnClientApi>(
+    client: &mut C,
+    alloc: Global,
+    mut streams: Streams<'_>,
+    seed: u32,
+    now: u32,
+) -> Result<Heard, AllocError> {
+    let mut heard = Heard::new(alloc);
+    let mut draws = Draws::new(seed);
+    for _ in 0..MANY {
+        let Some((to, piece)) = streams.next(Cut::of(seed), &mut draws) else {
+            break;
+        };
+        hear(client, to, piece, now, &mut heard)?;
+        if draws.draw() % 2 == 0 {
+            drain(client, now, &mut heard)?;
+        }
+    }
+    drain(client, now, &mut heard)?;
+    Ok(heard)
+}
+
+/// A client with a channel to 10.0.0.3:9000, of the number 4000.
+fn client_with_channel(alloc: Global) -> Result<TurnClientTcp, Fail> {
+    let mut client = client_over_tcp(alloc, IPV4)?;
+    let mut caller = Caller::new(alloc);
+    caller.wait(&mut client, GENEROUS, 200)?;
+    client.bind_channel(TransportType::Udp, PEER.address(), at(200))?;
+    caller.wait(&mut client, GENEROUS, 300)?;
+    Ok(client)
+}
+
+/// Whether the frames give their payloads.
+fn frames_are_heard<C: TurnClientApi>(
+    client: &mut C,
+    alloc: Global,
+    seed: u32,
+) -> Result<bool, AllocError> {
+    let streams = Streams {
+        control: FRAMES,
+        data: &[],
+    };
+    let heard = heard_of(client, alloc, streams, seed, 1_000)?;
+    Ok(heard.is(OVER_UDP, &[]))
+}
+
+#[test]
+fn frames_come_in_any_pieces(rt: HostRuntime) -> Result<(), Fail> {
+    let mut client = client_with_channel(rt.alloc())?;
+    for seed in 0..SEEDS + 2 {
+        let is_so = frames_are_heard(&mut client, rt.alloc(), seed)?;
+        check(&rt, is_so, seed);
+    }
+    Ok(())
+}
+
+/// A client with a permission for 10.0.0.3, whose peers connect.
+fn client_with_permission(alloc: Global) -> Result<TurnClientTcp, Fail> {
+    let mut client = client_with_connections(alloc)?;
+    let mut caller = Caller::new(alloc);
+    caller.wait(&mut client, GENEROUS, 200)?;
+    client.create_permission(TransportType::Tcp, PEER.ip(), at(200))?;
+    caller.wait(&mut client, GENEROUS, 300)?;
+    Ok(client)
+}
+
+/// Opens the connection that is offered, and gives what it carries then: the response that binds it, and the bytes.
+fn opened<C: TurnClientApi>(client: &mut C, alloc: Global, now: u32) -> Result<Vec<u8>, Fail> {
+    let control = Socket5Tuple {
+        transport: TransportType::Tcp,
+        from: local(),
+        to: server(),
+    };
+    hear(client, local(), OFFER, now, &mut Heard::new(alloc))?;
+    client.allocated_tcp_socket(9, control, PEER.address(), Some(data_end()), at(now))?;
+    let request = client
+        .poll_transmit(at(now))?
+        .ok_or("nothing is asked for")?;
+    let (_, id) = request
+        .payload
+        .as_bytes()
+        .split_first_chunk::<8>()
+        .ok_or("there is no ID")?;
+    let id = id.first_chunk::<12>().ok_or("there is no ID")?;
+    let mut stream = message(alloc, 0x010b, *id, &[], Signer::Server)?;
+    stream.extend_from_slice(BYTES)?;
+    Ok(stream)
+}
+
+/// Whether one connection was bound, and is to be closed once the server has ended it.
+fn ends<C: TurnClientApi>(client: &mut C, now: u32) -> Result<bool, AllocError> {
+    let event = client.poll_event();
+    let is_bound = event == Some(TurnEvent::TcpConnected(PEER.address()));
+    let piece: &[u8] = &[];
+    let packet = Transmit::new(piece, TransportType::Tcp, server(), data_end());
+    let is_handled = matches!(client.recv(packet, at(now))?, TurnRecvRet::Handled);
+    let close = TurnPollRet::TcpClose {
+        local_addr: data_end(),
+        remote_addr: server(),
+    };
+    Ok(is_bound && is_handled && client.poll_event().is_none() && client.poll(at(now))? == close)
+}
+
+/// Whether frames and connection give their payloads.
+fn both_are_heard<C: TurnClientApi>(
+    client: &mut C,
+    alloc: Global,
+    seed: u32,
+) -> Result<bool, Fail> {
+    let now = seed.saturating_mul(100).saturating_add(1_000);
+    let data = opened(client, alloc, now)?;
+    let streams = Streams {
+        control: FRAMES,
+        data: data.as_slice(),
+    };
+    let heard = heard_of(client, alloc, streams, seed, now)?;
+    Ok(heard.is(OVER_TCP, BYTES) && ends(client, now)?)
+}
+
+#[test]
+fn connections_come_in_any_pieces(rt: HostRuntime) -> Result<(), Fail> {
+    let mut client = client_with_permission(rt.alloc())?;
+    for seed in 0..SEEDS + 2 {
+        let is_so = both_are_heard(&mut client, rt.alloc(), seed)?;
+        check(&rt, is_so, seed);
+    }
+    Ok(())
+}
