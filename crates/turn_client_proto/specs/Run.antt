@@ -12,10 +12,10 @@ use Rattle.turn_client_api.specs.Calls.{allocated_tcp_socket_step, bind_channel_
 use Rattle.turn_client_api.specs.Poll.{poll_step}
 use Rattle.turn_client_api.specs.Transmit.{transmit_step}
 use Rattle.turn_client_api.specs.Answers.{event_step}
-use Rattle.turn_client_api.specs.Alarm.{IsTimely}
 use Rattle.turn_client_api.specs.Steps.{packet_step, state_after}
 use Rattle.turn_client_api.specs.declared.call.Call.{Call}
 use Rattle.turn_client_api.specs.declared.call.Call.TheVariants.{Delete, CreatePermission, BindChannel, TcpConnect, AllocatedTcpSocket, TcpClosed, SendTo, Recv, PollRecv, Poll, PollTransmit, PollEvent, ProtocolError, RelayedAddresses, Permissions, HavePermission}
+use Rattle.turn_client_runs.specs.Run.{state_behind}
 use Rattle.turn_client_proto.specs.declared.runs.reply.PeerData.{PeerData}
 use Rattle.turn_client_proto.specs.declared.runs.reply.Reply.{Reply}
 use Rattle.turn_client_proto.specs.declared.runs.reply.Reply.TheVariants as Replies
@@ -94,24 +94,9 @@ abbrev pub replies_of : State → List Call → List Reply
 replies_of s [] = []
 replies_of s (call ∷ calls) = reply_of call s ∷ replies_of (state_after call s) calls
 
--- the client after them
-abbrev pub state_behind : State → List Call → State
-state_behind s [] = s
-state_behind s (call ∷ calls) = state_behind (state_after call s) calls
-
 -- the answers of a new client and its last state
 abbrev pub run : TransportType → SocketAddr → SocketAddr → Config → List ℕ → List Call → List Reply × State
 run transport local remote config seed calls = (
   replies_of (initial transport local remote config seed) calls,
   state_behind (initial transport local remote config seed) calls,
 )
-
--- what the call tells, if it is `poll`, is timely
-abbrev pub TellsTimely : State → Call → Type 0
-TellsTimely s (Poll now) = IsTimely (poll_step now s).0 now s (poll_step now s).1
-TellsTimely s _ = ⊤
-
--- a caller that sleeps until the moment that each `poll` of the run tells sleeps through nothing
-abbrev pub SleepsThroughNothing : State → List Call → Type 0
-SleepsThroughNothing s [] = ⊤
-SleepsThroughNothing s (call ∷ calls) = TellsTimely s call × SleepsThroughNothing (state_after call s) calls

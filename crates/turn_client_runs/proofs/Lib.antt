@@ -14,6 +14,7 @@ pub mod MadeLemmas
 pub mod PeerLemmas
 pub mod PieceLemmas
 pub mod PiecesLemmas
+pub mod PromiseLemmas
 pub mod QuietLemmas
 pub mod ReceivedLemmas
 pub mod ReceivedRuns

@@ -5,6 +5,7 @@ pub mod CutRows
 pub mod Granted
 pub mod Holds
 pub mod Peers
+pub mod Promises
 pub mod Received
 pub mod Replies
 pub mod Run

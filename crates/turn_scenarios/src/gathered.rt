@@ -7,12 +7,13 @@ ghost use Rattle.turn_gather.specs.Drive.{IsCallable};
 
 use crate::caller::Caller;
 use crate::exchange::{DATA, GENEROUS, OTHER, PEER, RELAYED};
-use crate::fixture::{IPV4, Place, at, client_for, local, server};
+use crate::fixture::{IPV4, Place, at, client_for, client_over_tcp, local, server};
 use std::alloc::{AllocError, Global};
 use std::net::SocketAddr;
 use std::process::Abort;
 use std::test::Fail;
 use turn_client_api::{CreatePermissionError, SendError, TurnClientApi};
+use turn_client_proto::client::TurnClient;
 use turn_gather::{Driven, GatherCall, GatherError, GatherRecv, GatherReply, Gatherer, drive};
 use turn_stun::data::Data;
 use turn_stun::transport::{Transmit, TransportType};
@@ -80,13 +81,15 @@ const ROWS: &[Row<'static>] = &[
     (Ask::Hear(DATA), Want::Payload(PEER, b"hello")),
     (Ask::Check(TransportType::Udp, PEER), Want::Done),
     (Ask::Hear(DATA), Want::Payload(PEER, b"hello")),
-    (Ask::Hear(NOISE), Want::Ignored),
     (Ask::Poll, Want::Nothing),
     (Ask::Permit(PEER), Want::AlreadyExists),
     (Ask::Greet(PEER), Want::Packet(44)),
     (Ask::Greet(OTHER), Want::NoPermission),
     (Ask::Event, Want::Nothing),
 ];
+
+/// Over UDP such a packet is somebody else's. Over TCP it would break the stream.
+const NOISE_ROWS: &[Row<'static>] = &[(Ask::Hear(NOISE), Want::Ignored)];
 
 /// Brings a new client to an address and a permission for the peer. It has told of both.
 fn permitted<C: TurnClientApi>(alloc: Global, client: &mut C) -> Result<(), AllocError> {
@@ -153,7 +156,7 @@ fn hears<C: TurnClientApi>(
     bytes: &[u8],
     want: &Want<'_>,
 ) -> Result<bool, AllocError> {
-    let packet = Transmit::new(bytes, TransportType::Udp, server(), local());
+    let packet = Transmit::new(bytes, gatherer.client().transport(), server(), local());
     match gatherer.recv(packet, at(NOW))? {
         GatherRecv::Handled => Ok(false),
         GatherRecv::Ignored(back) => Ok(matches!(want, Want::Ignored) && back.payload == bytes),
@@ -230,6 +233,24 @@ fn only_checked_pairs_are_heard(rt: HostRuntime) -> Result<(), Fail> {
     follow(&rt, rt.alloc(), client_for(rt.alloc(), IPV4)?, ROWS)
 }
 
+#[test]
+fn only_checked_pairs_are_heard_over_tcp(rt: HostRuntime) -> Result<(), Fail> {
+    follow(&rt, rt.alloc(), client_over_tcp(rt.alloc(), IPV4)?, ROWS)
+}
+
+#[test]
+fn only_checked_pairs_are_heard_of_either_client(rt: HostRuntime) -> Result<(), Fail> {
+    let over_udp = TurnClient::from(client_for(rt.alloc(), IPV4)?);
+    follow(&rt, rt.alloc(), over_udp, ROWS)?;
+    let over_tcp = TurnClient::from(client_over_tcp(rt.alloc(), IPV4)?);
+    follow(&rt, rt.alloc(), over_tcp, ROWS)
+}
+
+#[test]
+fn what_is_no_turn_is_ignored(rt: HostRuntime) -> Result<(), Fail> {
+    follow(&rt, rt.alloc(), client_for(rt.alloc(), IPV4)?, NOISE_ROWS)
+}
+
 fn greeting(alloc: Global) -> Result<Data, AllocError>
     ensures { IfOk result (λ greeting. length greeting ≡ 5) }
 {
@@ -239,10 +260,10 @@ fn greeting(alloc: Global) -> Result<Data, AllocError>
 /// The call of this gatherer.
 fn call<C: TurnClientApi>(
     alloc: Global,
-    _gatherer: &Gatherer<C>,
+    gatherer: &Gatherer<C>,
     ask: &Ask<'_>,
 ) -> Result<GatherCall, AllocError>
-    ensures { IfOk result (IsCallable _gatherer.now.client.config.allocation_transport) }
+    ensures { IfOk result (IsCallable gatherer.now.client.config.allocation_transport) }
 {
     let now = at(NOW);
     match ask {
@@ -257,7 +278,7 @@ fn call<C: TurnClientApi>(
         }),
         Ask::Hear(bytes) => {
             let data = Data::from(bytes.to_vec(alloc)?);
-            let transmit = Transmit::new(data, TransportType::Udp, server(), local());
+            let transmit = Transmit::new(data, gatherer.client().transport(), server(), local());
             Ok(GatherCall::Recv { transmit, now })
         }
         Ask::Poll => Ok(GatherCall::PollRecv { now }),
@@ -341,6 +362,19 @@ fn a_list_of_calls_hears_only_checked_pairs(rt: HostRuntime) -> Result<(), Fail>
     drive_all(&rt, rt.alloc(), client_for(rt.alloc(), IPV4)?, ROWS)
 }
 
+#[test]
+fn a_list_of_calls_hears_only_checked_pairs_over_tcp(rt: HostRuntime) -> Result<(), Fail> {
+    drive_all(&rt, rt.alloc(), client_over_tcp(rt.alloc(), IPV4)?, ROWS)
+}
+
+#[test]
+fn a_list_of_calls_hears_only_checked_pairs_of_either_client(rt: HostRuntime) -> Result<(), Fail> {
+    let over_udp = TurnClient::from(client_for(rt.alloc(), IPV4)?);
+    drive_all(&rt, rt.alloc(), over_udp, ROWS)?;
+    let over_tcp = TurnClient::from(client_over_tcp(rt.alloc(), IPV4)?);
+    drive_all(&rt, rt.alloc(), over_tcp, ROWS)
+}
+
 /// Checks as many pairs as can be, and asserts that no other is taken, and each of them again.
 fn fills<C: TurnClientApi>(rt: &impl Abort, alloc: Global, client: C) -> Result<(), GatherError> {
     let udp = TransportType::Udp;
@@ -374,4 +408,58 @@ fn fills<C: TurnClientApi>(rt: &impl Abort, alloc: Global, client: C) -> Result<
 #[test]
 fn no_pair_is_checked_past_the_last_place(rt: HostRuntime) -> Result<(), Fail> {
     Ok(fills(&rt, rt.alloc(), client_for(rt.alloc(), IPV4)?)?)
+}
+
+/// Takes each refusal of memory as an answer, and asserts the state after it.
+mod memory {
+    use super::{RELAYED, Want, are_addresses, permitted};
+    use crate::exchange::PEER;
+    use crate::fixture::{IPV4, client_for};
+    use std::process::Abort;
+    use std::test::Fail;
+    use turn_client_api::TurnClientApi;
+    use turn_gather::{GatherError, Gatherer};
+    use turn_stun::transport::TransportType;
+
+    /// Asserts that the pair is checked where that was not refused.
+    fn check<C: TurnClientApi>(rt: &impl Abort, gatherer: &mut Gatherer<C>) {
+        let answer = gatherer.check(TransportType::Udp, PEER.address());
+        let checked = gatherer.is_checked(TransportType::Udp, PEER.address());
+        match answer {
+            Ok(()) => assert_eq!(rt; checked, true),
+            Err(refusal) => assert_eq!(rt; (refusal, checked), (GatherError::OutOfMemory, false)),
+        }
+    }
+
+    #[test]
+    fn a_pair_is_checked_or_refused(rt: HostRuntime) -> Result<(), Fail> {
+        let Ok(client) = client_for(rt.alloc(), IPV4) else {
+            return Ok(());
+        };
+        let mut gatherer = Gatherer::new(rt.alloc(), client);
+        check(&rt, &mut gatherer);
+        // a refusal is not kept
+        check(&rt, &mut gatherer);
+        Ok(())
+    }
+
+    #[test]
+    fn candidates_are_told_or_refused(rt: HostRuntime) -> Result<(), Fail> {
+        let Ok(mut client) = client_for(rt.alloc(), IPV4) else {
+            return Ok(());
+        };
+        if permitted(rt.alloc(), &mut client).is_err() {
+            return Ok(());
+        }
+        let gatherer = Gatherer::new(rt.alloc(), client);
+        let first = gatherer.candidates(rt.alloc());
+        if let Ok(found) = &first {
+            assert!(rt; are_addresses(found.as_slice(), &Want::Addresses(&[RELAYED])));
+            return Ok(());
+        }
+        // the next one finds memory, and the client has lost nothing
+        let found = gatherer.candidates(rt.alloc())?;
+        assert!(rt; are_addresses(found.as_slice(), &Want::Addresses(&[RELAYED])));
+        Ok(())
+    }
 }

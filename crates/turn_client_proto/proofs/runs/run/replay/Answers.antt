@@ -1,11 +1,35 @@
-use Rattle.turn_client_proto.proofs.RunLemmas.{run-sleeps}
+use Rattle.turn_client_runs.proofs.PromiseLemmas.{run-bound, run-cuts, run-few, run-granted, run-hears, run-numbers, run-realm, run-replies}
+use Rattle.turn_client_api.specs.State.{initial}
+use Rattle.turn_client_proto.proofs.HeardLemmas.{gives-let-in}
+use Rattle.turn_client_proto.proofs.RunLemmas.{timely}
 use Rattle.turn_client_proto.proofs.runs.run.replay.Goals as goal
 
+pub returns-clause-granted : goal.returns-clause-granted
+returns-clause-granted c = run-granted c.args.transport c.args.local c.args.remote c.args.config c.args.seed c.args.calls.now
+
+pub returns-clause-numbers : goal.returns-clause-numbers
+returns-clause-numbers c = run-numbers c.args.transport c.args.local c.args.remote c.args.config c.args.seed c.args.calls.now
+
+pub returns-clause-bound : goal.returns-clause-bound
+returns-clause-bound c = run-bound c.args.transport c.args.local c.args.remote c.args.config c.args.seed c.args.calls.now
+
+pub returns-clause-given : goal.returns-clause-given
+returns-clause-given c = gives-let-in (initial c.args.transport c.args.local c.args.remote c.args.config c.args.seed) c.args.calls.now
+
+pub returns-clause-heard : goal.returns-clause-heard
+returns-clause-heard c = run-hears c.args.transport c.args.local c.args.remote c.args.config c.args.seed c.args.calls.now
+
+pub returns-clause-counted : goal.returns-clause-counted
+returns-clause-counted c = run-replies c.args.transport c.args.local c.args.remote c.args.config c.args.seed c.args.calls.now
+
+pub returns-clause-challenges : goal.returns-clause-challenges
+returns-clause-challenges c = run-few c.args.transport c.args.local c.args.remote c.args.config c.args.seed c.args.calls.now
+
+pub returns-clause-realm : goal.returns-clause-realm
+returns-clause-realm c = run-realm c.args.transport c.args.local c.args.remote c.args.config c.args.seed c.args.calls.now
+
+pub returns-clause-cuts : goal.returns-clause-cuts
+returns-clause-cuts c = run-cuts c.args.transport c.args.local c.args.remote c.args.config c.args.seed c.args.calls.now
+
 pub returns-clause-alarm : goal.returns-clause-alarm
-returns-clause-alarm c = run-sleeps c.args.transport c.args.local c.args.remote c.args.config c.args.seed c.args.calls.now c.requires.callable
-
-pub returns-in_err-client-clause-alarm : goal.returns-in_err-client-clause-alarm
-returns-in_err-client-clause-alarm c = run-sleeps c.args.transport c.args.local c.args.remote c.args.config c.args.seed c.args.calls.now c.requires.callable
-
-pub returns-in_err-replies-clause-alarm : goal.returns-in_err-replies-clause-alarm
-returns-in_err-replies-clause-alarm c = run-sleeps c.args.transport c.args.local c.args.remote c.args.config c.args.seed c.args.calls.now c.requires.callable
+returns-clause-alarm c = timely c.args.transport c.args.local c.args.remote c.args.config c.args.seed c.args.calls.now c.requires.callable

@@ -1,5 +1,6 @@
 use Rattle.std.proofs.Common.{◌≡◌, ◌++◌, drop}
-use Rattle.turn_client_proto.specs.Run.{replies_of, state_behind}
+use Rattle.turn_client_runs.specs.Run.{state_behind}
+use Rattle.turn_client_proto.specs.Run.{replies_of}
 use Rattle.turn_client_proto.proofs.runs.run.replies_to.Given as goal
 
 abbrev pub invariant-loop-call : goal.invariant-loop-call
