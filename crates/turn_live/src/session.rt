@@ -37,10 +37,10 @@ pub fn hold_session<R: Read, W: Write>(
     let head = read_head(alloc, line.as_slice())?;
     let relays = head.request.allocation;
     let client = new_client(alloc, head)?;
-    if end != LineEnd::Feed {
-        return Ok(());
+    match end {
+        LineEnd::Feed => answer_calls(alloc, client, relays, reader, writer),
+        LineEnd::Input | LineEnd::Size => Ok(()),
     }
-    answer_calls(alloc, client, relays, reader, writer)
 }
 
 /// The client of the first line.
@@ -99,7 +99,10 @@ pub fn answer_next<C: TurnClientApi, R: Read, W: Write>(
         return Ok(false);
     }
     answer_line(alloc, client, relays, number, line.as_slice(), writer)?;
-    Ok(end == LineEnd::Feed)
+    match end {
+        LineEnd::Feed => Ok(true),
+        LineEnd::Input | LineEnd::Size => Ok(false),
+    }
 }
 
 /// Makes the call of a line, and writes its answer.
