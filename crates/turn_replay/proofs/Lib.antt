@@ -1,11 +1,3 @@
-pub mod AddressLemmas
-pub mod CallLemmas
-pub mod CallableLemmas
-pub mod HeadLemmas
 pub mod InputLemmas
-pub mod LawLemmas
-pub mod ListLemmas
-pub mod NumberLemmas
-pub mod PartsLemmas
-pub mod StepLemmas
+pub mod ReadyLemmas
 pub mod TraceLemmas

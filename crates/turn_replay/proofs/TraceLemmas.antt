@@ -3,11 +3,11 @@ use Rattle.std.proofs.Common.{◌≡◌, ℕ, ◌+◌, List, [], ◌∷◌, ◌+
 use Rattle.std.proofs.lemmas.List.{append-nil}
 use Rattle.turn_stun.specs.declared.transport.TransportType.{TransportType}
 use Rattle.turn_client_api.specs.declared.call.Call.{Call}
-use Rattle.turn_replay.specs.Fault.{Reads, ◌>>=◌}
-use Rattle.turn_replay.specs.declared.fault.ReadError.{ReadError}
-use Rattle.turn_replay.specs.declared.fault.ReadError.TheVariants.{Bad, OutOfMemory}
+use Rattle.turn_lines.specs.Fault.{Reads, ◌>>=◌}
+use Rattle.turn_lines.specs.declared.fault.ReadError.{ReadError}
+use Rattle.turn_lines.specs.declared.fault.ReadError.TheVariants.{Bad, OutOfMemory}
 use Rattle.turn_replay.specs.Trace.{calls_of, numbered_call_of}
-use Rattle.turn_replay.specs.declared.fault.BadLine.{BadLine}
+use Rattle.turn_lines.specs.declared.fault.BadLine.{BadLine}
 
 -- these calls, and then those that are read
 abbrev pub with_front : List Call → Result (List Call) BadLine → Result (List Call) BadLine

@@ -1,15 +1,15 @@
 -- What a run of the program reads and writes.
 use Rattle.std.specs.Prelude.{◌≡◌, ℕ, ◌≤◌, ◌⊎◌, Bool, false, List, ◌++◌, length, take, codes, Option, IfSome, Result, Ok, Err, ⊤}
 use Rattle.std.specs.Io.KnownBytes.{Appends, Consumes, IsAtEnd}
-use Rattle.turn_client_proto.specs.Run.{run}
 use Rattle.turn_client_api.specs.declared.call.Call.{Call}
-use Rattle.turn_replay.specs.Configuration.{config_with}
-use Rattle.turn_replay.specs.Text.{answers_text, bad_text}
+use Rattle.turn_lines.specs.Answered.{answered_text}
+use Rattle.turn_lines.specs.Status.{code_of}
+use Rattle.turn_lines.specs.Text.{bad_text}
 use Rattle.turn_replay.specs.Trace.{trace_of}
-use Rattle.turn_replay.specs.declared.fault.BadLine.{BadLine}
-use Rattle.turn_replay.specs.declared.head.Head.{Head}
-use Rattle.turn_replay.specs.declared.status.Status.{Status}
-use Rattle.turn_replay.specs.declared.status.Status.TheVariants.{Answered, Malformed, OutOfMemory, ReadFailed, WriteFailed}
+use Rattle.turn_lines.specs.declared.fault.BadLine.{BadLine}
+use Rattle.turn_lines.specs.declared.head.Head.{Head}
+use Rattle.turn_lines.specs.declared.status.Status.{Status}
+use Rattle.turn_lines.specs.declared.status.Status.TheVariants.{Answered, Malformed, OutOfMemory, ReadFailed, WriteFailed}
 
 -- all of the input, or of a longer one a byte more than a trace may have
 abbrev pub taken : List ℕ → List ℕ
@@ -29,11 +29,6 @@ pub record ReadsMore (old new : Option (List ℕ)) (before after : List ℕ) (go
   pub end : goes_on ≡ false → IsAtEnd new
 
 -- ---- what is written
-
--- a line for each answer of the client to the calls
-abbrev pub answered_text : Head → List Call → List ℕ
-answered_text head calls =
-    answers_text (run head.ends.transport head.ends.local head.ends.remote (config_with head.request head.credentials head.waits) head.seed calls).0
 
 -- the status and the text for a trace: a line for each call, or the one line for its first bad line
 abbrev pub answer_of : Result (Head × List Call) BadLine → Status × List ℕ
@@ -62,14 +57,6 @@ Runs input left old new Malformed = Answers input left old new Malformed
 Runs input left old new OutOfMemory = Appends old new (codes "no memory\n")
 Runs input left old new ReadFailed = Appends old new (codes "read failed\n")
 Runs input left old new WriteFailed = ⊤
-
--- the exit status
-abbrev pub code_of : Status → ℕ
-code_of Answered = 0
-code_of Malformed = 2
-code_of OutOfMemory = 3
-code_of ReadFailed = 4
-code_of WriteFailed = 4
 
 -- a run that ends with this exit status, and does what goes with it
 abbrev pub Exits : Option (List ℕ) → Option (List ℕ) → Option (List ℕ) → Option (List ℕ) → ℕ → Type 0

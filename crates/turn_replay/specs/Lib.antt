@@ -1,14 +1,2 @@
-pub mod Address
 pub mod Answer
-pub mod Arguments
-pub mod Call
-pub mod Configuration
-pub mod Fault
-pub mod Field
-pub mod Head
-pub mod Line
-pub mod Number
-pub mod Parts
-pub mod Refusal
-pub mod Text
 pub mod Trace

@@ -2,27 +2,18 @@
 use Rattle.std.specs.Prelude.{ℕ, ◌+◌, ◌-◌, ◌==◌, ◌&&◌, nat_lt, if◌then◌else◌, List, [], ◌∷◌, length, take, slice_index, Result, Ok, Err}
 use Rattle.turn_stun.specs.declared.transport.TransportType.{TransportType}
 use Rattle.turn_client_api.specs.declared.call.Call.{Call}
-use Rattle.turn_replay.specs.Call.{call_of}
-use Rattle.turn_replay.specs.Fault.{needed, ◌>>=◌}
-use Rattle.turn_replay.specs.Head.{head_of}
-use Rattle.turn_replay.specs.Parts.{parts_of}
-use Rattle.turn_replay.specs.declared.fault.BadKind.{BadKind}
-use Rattle.turn_replay.specs.declared.fault.BadKind.TheVariants as Bad
-use Rattle.turn_replay.specs.declared.fault.BadLine.{BadLine}
-use Rattle.turn_replay.specs.declared.head.Head.{Head}
-
-abbrev pub bad_line : ℕ → BadKind → BadLine
-bad_line number kind = record { number = number; kind = kind }
+use Rattle.turn_lines.specs.Call.{call_of}
+use Rattle.turn_lines.specs.Fault.{at_line, bad_line, needed, ◌>>=◌}
+use Rattle.turn_lines.specs.Head.{head_of}
+use Rattle.turn_lines.specs.Parts.{parts_of}
+use Rattle.turn_lines.specs.declared.fault.BadKind.TheVariants as Bad
+use Rattle.turn_lines.specs.declared.fault.BadLine.{BadLine}
+use Rattle.turn_lines.specs.declared.head.Head.{Head}
 
 -- the first line is the head
 abbrev pub head_line_of : List (List ℕ) → Result (Head × List (List ℕ)) BadLine
 head_line_of [] = Err (bad_line 1 Bad.Head)
 head_line_of (line ∷ lines) = needed (head_of line) (bad_line 1 Bad.Head) (λ head. Ok (head, lines))
-
--- the fault of a line, with its number
-abbrev pub at_line : {A : Type 0} → ℕ → Result A BadKind → Result A BadLine
-at_line number (Ok value) = Ok value
-at_line number (Err kind) = Err (bad_line number kind)
 
 -- the 10,000th call stands on line 10,001
 abbrev pub numbered_call_of : TransportType → ℕ → List ℕ → Result Call BadLine

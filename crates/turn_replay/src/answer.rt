@@ -4,14 +4,14 @@ ghost use Rattle.std.specs.Prelude.{◌≡◌, All, IfOk, string_bytes};
 ghost use Rattle.turn_client_proto.specs.Run.{IsCallable};
 ghost use Rattle.turn_replay.specs.Answer.{answer_to, answered_text};
 
-use crate::configuration::configuration;
-use crate::fault::ReadError;
-use crate::head::Head;
-use crate::print::{answers_text, bad_text};
-use crate::status::Status;
 use crate::trace::{Trace, parse_trace};
 use std::alloc::{AllocError, Global};
 use turn_client_proto::runs::replay;
+use turn_lines::configuration::configuration;
+use turn_lines::fault::ReadError;
+use turn_lines::head::Head;
+use turn_lines::print::{answers_text, bad_text};
+use turn_lines::status::Status;
 use turn_types::TransportType;
 
 /// The text that answers a trace: a line for each call of it, or the one line that says which line

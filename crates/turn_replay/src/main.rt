@@ -13,21 +13,9 @@
 //! runs the trace of its file `stdin`, unproved. Begin with [`run`].
 #![tactic(auto)]
 
-mod address;
 mod answer;
-mod call;
-mod configuration;
-mod fault;
-mod field;
-mod head;
 mod input;
-mod laws;
-mod number;
-mod parts;
-mod print;
 mod program;
-mod refusal;
-mod status;
 mod trace;
 
 pub use program::{exit_code, run};
@@ -39,3 +27,5 @@ fn main(rt: HostRuntime) -> ExitCode {
 
 #[cfg(test)]
 mod tests;
+#[cfg(test)]
+use turn_lines::{print, status};

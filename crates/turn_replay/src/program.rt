@@ -7,10 +7,10 @@ ghost use Rattle.turn_replay.specs.Answer.{Told, Runs, Exits};
 
 use crate::answer::answer;
 use crate::input::{InputError, read_input};
-use crate::status::Status;
 use std::alloc::Global;
 use std::io::{Read, Write};
 use std::process::ExitCode;
+use turn_lines::status::Status;
 
 /// Reads a trace, and writes its answers, as [`run`] does. The exit status tells what was written:
 /// 0 the answers to the calls, 2 which line of the trace is bad, 3 that there was no memory, and 4

@@ -2,16 +2,16 @@
 
 ghost use Rattle.std.specs.Prelude.{◌≡◌, List};
 ghost use Rattle.turn_client_api.specs.declared.call.Call.{Call};
-ghost use Rattle.turn_replay.specs.Fault.{Reads};
+ghost use Rattle.turn_lines.specs.Fault.{Reads};
 ghost use Rattle.turn_replay.specs.Trace.{trace_of, calls_of, head_line_of, numbered_call_of, without_last_feed};
 
-use crate::call::parse_call;
-use crate::fault::{BadKind, BadLine, ReadError};
-use crate::field::FieldError;
-use crate::head::{Head, parse_head};
-use crate::parts::Parts;
 use std::alloc::Global;
 use turn_client_proto::runs::Call;
+use turn_lines::call::parse_call;
+use turn_lines::fault::{BadKind, BadLine, ReadError};
+use turn_lines::field::FieldError;
+use turn_lines::head::{Head, parse_head};
+use turn_lines::parts::Parts;
 use turn_types::TransportType;
 
 /// The most bytes that a trace may have.

@@ -1,4 +1,4 @@
-use Rattle.turn_replay.proofs.CallableLemmas.{allocation_of_trace, calls_are_callable}
+use Rattle.turn_replay.proofs.ReadyLemmas.{allocation_of_trace, calls_are_callable}
 use Rattle.turn_replay.proofs.answer.answer.Goals as goal
 
 pub replayed_text-requires-clause-allocation : goal.replayed_text-requires-clause-allocation

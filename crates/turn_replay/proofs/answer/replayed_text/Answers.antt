@@ -1,8 +1,8 @@
 use Rattle.std.proofs.Common.{◌≡◌, IfOk, List, ap, subst, ◌∙◌, string_bytes}
 use Rattle.turn_client_proto.specs.Run.{run}
 use Rattle.turn_client_proto.specs.declared.runs.reply.Reply.{Reply}
-use Rattle.turn_replay.specs.Configuration.{config_with}
-use Rattle.turn_replay.specs.Text.{answers_text}
+use Rattle.turn_lines.specs.Configuration.{config_with}
+use Rattle.turn_lines.specs.Text.{answers_text}
 use Rattle.turn_replay.proofs.answer.replayed_text.Goals as goal
 
 pub returns : goal.returns

@@ -1,0 +1,9 @@
+pub mod AddressLemmas
+pub mod CallLemmas
+pub mod CallableLemmas
+pub mod HeadLemmas
+pub mod LawLemmas
+pub mod ListLemmas
+pub mod NumberLemmas
+pub mod PartsLemmas
+pub mod StepLemmas

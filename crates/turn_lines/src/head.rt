@@ -1,0 +1,132 @@
+//! The first line of a trace: the client and its server.
+
+ghost use Rattle.std.specs.Prelude.{◌≡◌, Some, None, MatchOption};
+ghost use Rattle.turn_lines.specs.Field.{Gives};
+ghost use Rattle.turn_lines.specs.Head.{head_of, ends_of, request_of, credentials_of};
+
+use crate::address::parse_address;
+use crate::field::{FieldError, parse_bytes, parse_seed, parse_transport};
+use crate::head::waits::take_waits;
+use crate::head::words::{parse_algorithms, parse_families, parse_feature, relayed_for};
+use crate::parts::Parts;
+use std::alloc::Global;
+use std::net::SocketAddr;
+use turn_auth::credentials::{CredentialsError, TurnCredentials};
+use turn_auth::feature::Feature;
+use turn_auth::integrity::IntegrityAlgorithm;
+use turn_types::{AddressFamily, TransportType};
+
+mod waits;
+mod words;
+
+pub use waits::Waits;
+
+/// The client and its server, as the first line names them.
+#[derive(Debug, Drop)]
+pub struct Head {
+    /// Where the client is, and where its server.
+    pub ends: Ends,
+    /// What the client asks for, and how.
+    pub request: Request,
+    /// Who the client is.
+    pub credentials: TurnCredentials,
+    /// What its transaction IDs are drawn from.
+    pub seed: [u8; 32],
+    /// When requests are sent again, if that is not left to the default.
+    pub waits: Option<Waits>,
+}
+
+/// Where the client is, and where its server.
+#[derive(Clone, Copy, Debug, PartialEq, Eq)]
+pub struct Ends {
+    /// What carries the packets between them.
+    pub transport: TransportType,
+    /// The client's address.
+    pub local: SocketAddr,
+    /// The server's address.
+    pub remote: SocketAddr,
+}
+
+/// What a client asks for, and how.
+#[derive(Clone, Copy, Debug, PartialEq, Eq)]
+pub struct Request {
+    /// What the server is to relay over. It is UDP where the client reaches its server over UDP.
+    pub allocation: TransportType,
+    /// The family of the address that is asked for first, and the other where it is asked for too.
+    pub families: (AddressFamily, Option<AddressFamily>),
+    /// The algorithm that is named first, and the other where it is named too.
+    pub algorithms: (IntegrityAlgorithm, Option<IntegrityAlgorithm>),
+    /// Whether the user name is kept from those who look on.
+    pub anonymous: Feature,
+}
+
+/// The client and its server.
+///
+/// # Errors
+///
+/// `Malformed` where the line is no head, `OutOfMemory` where there is no memory for the
+/// credentials.
+#[tactic(auto, unfolding(crate::specs::Head::head_of))]
+pub fn parse_head(alloc: Global, line: &[u8]) -> Result<Head, FieldError>
+    ensures { Gives (λ head. head) result (head_of line.now) }
+{
+    let mut fields = Parts::new(line, b' ');
+    let ends = take_ends(&mut fields).ok_or(FieldError::Malformed)?;
+    let request = take_request(&mut fields).ok_or(FieldError::Malformed)?;
+    relayed_for(ends.transport, request.allocation).ok_or(FieldError::Malformed)?;
+    let credentials = take_credentials(alloc, &mut fields)?;
+    let seed = parse_seed(fields.next().ok_or(FieldError::Malformed)?).ok_or(
+        FieldError::Malformed,
+    )?;
+    let waits = take_waits(&mut fields).ok_or(FieldError::Malformed)?;
+    Ok(Head {
+        ends,
+        request,
+        credentials,
+        seed,
+        waits,
+    })
+}
+
+#[tactic(auto, unfolding(crate::specs::Head::ends_of))]
+fn take_ends(fields: &mut Parts<'_>) -> Option<Ends>
+    ensures { MatchOption result (ends_of fields.old ≡ None) (λ ends. ends_of fields.old ≡ Some (ends, fields.new)) }
+{
+    let transport = parse_transport(fields.next()?)?;
+    let local = parse_address(fields.next()?)?;
+    let remote = parse_address(fields.next()?)?;
+    Some(Ends {
+        transport,
+        local,
+        remote,
+    })
+}
+
+#[tactic(auto, unfolding(crate::specs::Head::request_of))]
+fn take_request(fields: &mut Parts<'_>) -> Option<Request>
+    ensures { MatchOption result (request_of fields.old ≡ None) (λ request. request_of fields.old ≡ Some (request, fields.new)) }
+{
+    let allocation = parse_transport(fields.next()?)?;
+    let families = parse_families(fields.next()?)?;
+    let algorithms = parse_algorithms(fields.next()?)?;
+    let anonymous = parse_feature(fields.next()?)?;
+    Some(Request {
+        allocation,
+        families,
+        algorithms,
+        anonymous,
+    })
+}
+
+#[tactic(auto, unfolding(crate::specs::Head::credentials_of))]
+fn take_credentials(alloc: Global, fields: &mut Parts<'_>) -> Result<TurnCredentials, FieldError>
+    ensures { Gives (λ credentials. (credentials, fields.new)) result (credentials_of fields.old) }
+{
+    let user = parse_bytes(alloc, fields.next().ok_or(FieldError::Malformed)?)?;
+    let password = parse_bytes(alloc, fields.next().ok_or(FieldError::Malformed)?)?;
+    match TurnCredentials::new(alloc, user.as_slice(), password.as_slice()) {
+        Ok(credentials) => Ok(credentials),
+        Err(CredentialsError::OutOfMemory) => Err(FieldError::OutOfMemory),
+        Err(_) => Err(FieldError::Malformed),
+    }
+}

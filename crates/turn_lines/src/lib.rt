@@ -1,0 +1,27 @@
+//! The lines that name a client and make its calls, and those that answer them.
+//!
+//! [`parse_head`](head::parse_head) reads the line that names a client and its server,
+//! [`parse_call`](call::parse_call) one that makes a call, and [`answers_text`](print::answers_text) writes what
+//! calls answered:
+//!
+//! ```text
+//! udp 192.168.0.1:1000 10.0.0.2:2000 udp 4 sha1 auto 75736572 70617373 <seed>     the head
+//! 0 poll                                                                          a call, at moment 0
+//! wait 0                                                                          its answer
+//! ```
+//!
+//! `turn_replay` reads a whole trace of such lines, and `turn_live` answers each as it comes.
+#![tactic(auto)]
+
+pub mod address;
+pub mod call;
+pub mod configuration;
+pub mod fault;
+pub mod field;
+pub mod head;
+mod laws;
+pub mod number;
+pub mod parts;
+pub mod print;
+pub mod refusal;
+pub mod status;

@@ -1,0 +1,116 @@
+//! Why a call was refused, whatever the call.
+
+use turn_client_api::{
+    BindChannelError, CreatePermissionError, DeleteError, SendError, TcpAllocateError,
+    TcpConnectError,
+};
+use turn_stun::instant::Instant;
+
+/// Why a call was refused.
+#[derive(Clone, Copy, Debug, PartialEq, Eq)]
+pub enum Refusal {
+    /// What is asked for is there, or is asked for already.
+    AlreadyExists,
+    /// There is no allocation for it.
+    NoAllocation,
+    /// The peer has no permission.
+    NoPermission,
+    /// No data connection to the peer is bound.
+    NoSocket,
+    /// The peer had a channel, and may have another only once this moment has passed.
+    Expired(Instant),
+    /// There is no memory. A run ends there, so that no answer of a run says it.
+    OutOfMemory,
+}
+
+impl From<SendError> for Refusal {
+    ghost use Rattle.std.specs.Prelude.{◌≡◌};
+    ghost use Rattle.turn_lines.specs.Refusal.{send_refusal};
+
+    ghost from_gives = { λ error refusal. refusal ≡ send_refusal error };
+
+    fn from(error: SendError) -> Refusal {
+        match error {
+            SendError::NoAllocation => Refusal::NoAllocation,
+            SendError::NoPermission => Refusal::NoPermission,
+            SendError::NoTcpSocket => Refusal::NoSocket,
+            SendError::OutOfMemory => Refusal::OutOfMemory,
+        }
+    }
+}
+
+impl From<CreatePermissionError> for Refusal {
+    ghost use Rattle.std.specs.Prelude.{◌≡◌};
+    ghost use Rattle.turn_lines.specs.Refusal.{create_permission_refusal};
+
+    ghost from_gives = { λ error refusal. refusal ≡ create_permission_refusal error };
+
+    fn from(error: CreatePermissionError) -> Refusal {
+        match error {
+            CreatePermissionError::AlreadyExists => Refusal::AlreadyExists,
+            CreatePermissionError::NoAllocation => Refusal::NoAllocation,
+            CreatePermissionError::OutOfMemory => Refusal::OutOfMemory,
+        }
+    }
+}
+
+impl From<BindChannelError> for Refusal {
+    ghost use Rattle.std.specs.Prelude.{◌≡◌};
+    ghost use Rattle.turn_lines.specs.Refusal.{bind_channel_refusal};
+
+    ghost from_gives = { λ error refusal. refusal ≡ bind_channel_refusal error };
+
+    fn from(error: BindChannelError) -> Refusal {
+        match error {
+            BindChannelError::AlreadyExists => Refusal::AlreadyExists,
+            BindChannelError::ExpiredChannelExists(until) => Refusal::Expired(until),
+            BindChannelError::NoAllocation => Refusal::NoAllocation,
+            BindChannelError::OutOfMemory => Refusal::OutOfMemory,
+        }
+    }
+}
+
+impl From<TcpConnectError> for Refusal {
+    ghost use Rattle.std.specs.Prelude.{◌≡◌};
+    ghost use Rattle.turn_lines.specs.Refusal.{tcp_connect_refusal};
+
+    ghost from_gives = { λ error refusal. refusal ≡ tcp_connect_refusal error };
+
+    fn from(error: TcpConnectError) -> Refusal {
+        match error {
+            TcpConnectError::AlreadyExists => Refusal::AlreadyExists,
+            TcpConnectError::NoAllocation => Refusal::NoAllocation,
+            TcpConnectError::NoPermission => Refusal::NoPermission,
+            TcpConnectError::OutOfMemory => Refusal::OutOfMemory,
+        }
+    }
+}
+
+impl From<TcpAllocateError> for Refusal {
+    ghost use Rattle.std.specs.Prelude.{◌≡◌};
+    ghost use Rattle.turn_lines.specs.Refusal.{tcp_allocate_refusal};
+
+    ghost from_gives = { λ error refusal. refusal ≡ tcp_allocate_refusal error };
+
+    fn from(error: TcpAllocateError) -> Refusal {
+        match error {
+            TcpAllocateError::AlreadyExists => Refusal::AlreadyExists,
+            TcpAllocateError::NoAllocation => Refusal::NoAllocation,
+            TcpAllocateError::OutOfMemory => Refusal::OutOfMemory,
+        }
+    }
+}
+
+impl From<DeleteError> for Refusal {
+    ghost use Rattle.std.specs.Prelude.{◌≡◌};
+    ghost use Rattle.turn_lines.specs.Refusal.{delete_refusal};
+
+    ghost from_gives = { λ error refusal. refusal ≡ delete_refusal error };
+
+    fn from(error: DeleteError) -> Refusal {
+        match error {
+            DeleteError::NoAllocation => Refusal::NoAllocation,
+            DeleteError::OutOfMemory => Refusal::OutOfMemory,
+        }
+    }
+}

@@ -1,0 +1,139 @@
+-- What a session reads and writes.
+use Rattle.std.specs.Prelude.{◌≡◌, ◌⊎◌, ℕ, Bool, true, false, List, [], ◌∷◌, ◌++◌, All, take, codes, Option, Some, None, Result, Ok, Err}
+use Rattle.std.specs.Io.KnownBytes.{Appends, Consumes, IsAtEnd}
+use Rattle.turn_stun.specs.declared.transport.TransportType.{TransportType}
+use Rattle.turn_client_api.specs.declared.call.Call.{Call}
+use Rattle.turn_client_api.specs.State.{State}
+use Rattle.turn_client_api.specs.Steps.{state_after}
+use Rattle.turn_lines.specs.Status.{code_of}
+use Rattle.turn_lines.specs.Text.{bad_text}
+use Rattle.turn_lines.specs.declared.fault.BadKind.TheVariants as Bad
+use Rattle.turn_lines.specs.declared.fault.BadLine.{BadLine}
+use Rattle.turn_lines.specs.declared.head.Head.{Head}
+use Rattle.turn_lines.specs.declared.status.Status.{Status}
+use Rattle.turn_lines.specs.declared.status.Status.TheVariants.{Answered, Malformed, OutOfMemory, ReadFailed, WriteFailed}
+use Rattle.turn_live.specs.Line.{EndsSo, IsLine, IsTaken, missing_at}
+use Rattle.turn_live.specs.Lines.{answered, fed, line_call, line_head, session_of}
+use Rattle.turn_live.specs.declared.line.LineEnd.{LineEnd}
+use Rattle.turn_live.specs.declared.line.LineEnd.TheVariants.{Feed, Input}
+use Rattle.turn_live.specs.declared.stop.Stop.{Stop}
+use Rattle.turn_live.specs.declared.stop.Stop.TheVariants as Stops
+
+-- ---- writing
+
+-- a text was written, or the beginning of it where the writer failed
+abbrev pub Writes : Option (List ℕ) → Option (List ℕ) → List ℕ → Result (Unit {0}) Stop → Type 0
+Writes old new text (Ok _) = Appends old new text
+Writes old new text (Err stop) = (stop ≡ Stops.WriteFailed) × (count : ℕ) × Appends old new (take count text)
+
+-- a text was written and the answer is that status, or the writer failed
+abbrev pub Told : Option (List ℕ) → Option (List ℕ) → Status → List ℕ → Status → Type 0
+Told old new status text result =
+    ((result ≡ WriteFailed) × (count : ℕ) × Appends old new (take count text)) ⊎ ((result ≡ status) × Appends old new text)
+
+-- ---- one line
+
+abbrev pub ReadsHead : List ℕ → Result Head Stop → Type 0
+ReadsHead line (Ok head) = line_head line ≡ Ok head
+ReadsHead line (Err (Stops.Bad bad)) = line_head line ≡ Err bad
+ReadsHead line (Err stop) = stop ≡ Stops.OutOfMemory
+
+abbrev pub ReadsCall : TransportType → ℕ → List ℕ → Result Call Stop → Type 0
+ReadsCall relays number line (Ok call) = line_call relays number line ≡ Ok call
+ReadsCall relays number line (Err (Stops.Bad bad)) = line_call relays number line ≡ Err bad
+ReadsCall relays number line (Err stop) = stop ≡ Stops.OutOfMemory
+
+-- a line was answered by the answer of its call, and the client is in the state after it
+pub record IsAnswered (relays : TransportType) (number : ℕ) (s after : State) (line : List ℕ) (old new : Option (List ℕ)) : Type 0 where
+  pub call : Call
+  pub says : line_call relays number line ≡ Ok call
+  pub told : Appends old new (answered s (call ∷ []))
+  pub state : after ≡ state_after call s
+
+-- the writer failed at that answer
+pub record IsCutOff (relays : TransportType) (number : ℕ) (s : State) (line : List ℕ) (old new : Option (List ℕ)) : Type 0 where
+  pub call : Call
+  pub says : line_call relays number line ≡ Ok call
+  pub count : ℕ
+  pub told : Appends old new (take count (answered s (call ∷ [])))
+
+abbrev pub AnswersLine : TransportType → ℕ → State → State → List ℕ → Option (List ℕ) → Option (List ℕ) → Result (Unit {0}) Stop → Type 0
+AnswersLine relays number s after line old new (Ok _) = IsAnswered relays number s after line old new
+AnswersLine relays number s after line old new (Err (Stops.Bad bad)) = (line_call relays number line ≡ Err bad) × Appends old new []
+AnswersLine relays number s after line old new (Err Stops.OutOfMemory) = Appends old new []
+AnswersLine relays number s after line old new (Err Stops.ReadFailed) = ⊥
+AnswersLine relays number s after line old new (Err Stops.WriteFailed) = IsCutOff relays number s line old new
+
+-- One step of a session: it reads at most one line, and what it answers is written before it ends. It tells whether there
+-- may be more lines.
+abbrev pub Steps : TransportType → ℕ → State → State → Option (List ℕ) → Option (List ℕ) → Option (List ℕ) → Option (List ℕ) → Result Bool Stop → Type 0
+Steps relays number s after input left old new (Ok true) =
+    (line : List ℕ) × IsTaken input left line Feed × IsAnswered relays number s after line old new
+Steps relays number s after input left old new (Ok false) =
+    (line : List ℕ) × IsTaken input left line Input
+    × (((line ≡ []) × Appends old new []) ⊎ IsAnswered relays number s after line old new)
+Steps relays number s after input left old new (Err (Stops.Bad bad)) =
+    (line : List ℕ) × (end : LineEnd) × IsTaken input left line end × (line_call relays number line ≡ Err bad) × Appends old new []
+Steps relays number s after input left old new (Err Stops.OutOfMemory) = (bytes : List ℕ) × Consumes input left bytes × Appends old new []
+Steps relays number s after input left old new (Err Stops.ReadFailed) =
+    (bytes : List ℕ) × Consumes input left bytes × IsLine bytes × Appends old new []
+Steps relays number s after input left old new (Err Stops.WriteFailed) =
+    (line : List ℕ) × (end : LineEnd) × IsTaken input left line end × IsCutOff relays number s line old new
+
+-- ---- many lines
+
+-- These lines were read, and then this much of the next. The last line may lack its LF.
+pub record AreRead (input left : Option (List ℕ)) (lines : List (List ℕ)) (rest : List ℕ) (end : LineEnd) : Type 0 where
+  pub bytes : List ℕ
+  pub consumed : Consumes input left bytes
+  pub whole : fed lines ++ rest ≡ bytes ++ missing_at end
+  pub each : All IsLine lines
+
+-- what is said of these lines is as told: the answers, and the first bad line
+pub record Goes (said : List (List ℕ) → List ℕ × Option BadLine) (input left : Option (List ℕ)) (lines : List (List ℕ)) (rest : List ℕ) (end : LineEnd) (bad : Option BadLine) : Type 0 where
+  pub read : AreRead input left lines rest end
+  pub bad_is : (said lines).1 ≡ bad
+
+-- What a session does that says this of lines, by how it ends.
+abbrev pub Talks : (List (List ℕ) → List ℕ × Option BadLine) → Option (List ℕ) → Option (List ℕ) → Option (List ℕ) → Option (List ℕ) → Result (Unit {0}) Stop → Type 0
+-- to the end of the input, with each line answered
+Talks said input left old new (Ok _) =
+    (lines : List (List ℕ)) × (end : LineEnd) × Goes said input left lines [] end None × IsAtEnd left × Appends old new (said lines).0
+-- up to a bad line, which is the last that was read
+Talks said input left old new (Err (Stops.Bad bad)) =
+    (lines : List (List ℕ)) × (line : List ℕ) × (end : LineEnd) × Goes said input left (lines ++ line ∷ []) [] end (Some bad)
+    × EndsSo left line end × Appends old new (said (lines ++ line ∷ [])).0
+-- up to a line that finds no memory
+Talks said input left old new (Err Stops.OutOfMemory) =
+    (lines : List (List ℕ)) × (rest : List ℕ) × Goes said input left lines rest Feed None × Appends old new (said lines).0
+-- up to a line that could not be read whole
+Talks said input left old new (Err Stops.ReadFailed) =
+    (lines : List (List ℕ)) × (rest : List ℕ) × Goes said input left lines rest Feed None × IsLine rest × Appends old new (said lines).0
+-- up to a line whose answer could not be written
+Talks said input left old new (Err Stops.WriteFailed) =
+    (lines : List (List ℕ)) × (line : List ℕ) × (end : LineEnd) × (count : ℕ) × Goes said input left (lines ++ line ∷ []) [] end None
+    × EndsSo left line end × Appends old new (take count (said (lines ++ line ∷ [])).0)
+
+-- a session from its first line on
+abbrev pub IsHeld : Option (List ℕ) → Option (List ℕ) → Option (List ℕ) → Option (List ℕ) → Result (Unit {0}) Stop → Type 0
+IsHeld = Talks session_of
+
+-- ---- the program
+
+-- the last text, by why the session ended
+abbrev pub Closes : Stop → Option (List ℕ) → Option (List ℕ) → Status → Type 0
+Closes (Stops.Bad bad) old new status = Told old new Malformed (bad_text bad) status ⊎ Told old new OutOfMemory (codes "no memory\n") status
+Closes Stops.OutOfMemory old new status = Told old new OutOfMemory (codes "no memory\n") status
+Closes Stops.ReadFailed old new status = Told old new ReadFailed (codes "read failed\n") status
+Closes Stops.WriteFailed old new status = (status ≡ WriteFailed) × Appends old new []
+
+-- What a run of the program does. `input` is what the reader has, `left` what it has afterwards, `old` what the writer
+-- holds and `new` what it holds afterwards, where these are known.
+abbrev pub Runs : Option (List ℕ) → Option (List ℕ) → Option (List ℕ) → Option (List ℕ) → Status → Type 0
+Runs input left old new status =
+    ((status ≡ Answered) × IsHeld input left old new (Ok tt))
+    ⊎ ((stop : Stop) × (answers : Option (List ℕ)) × IsHeld input left old answers (Err stop) × Closes stop answers new status)
+
+-- a run that ends with this exit status, and does what goes with it
+abbrev pub Exits : Option (List ℕ) → Option (List ℕ) → Option (List ℕ) → Option (List ℕ) → ℕ → Type 0
+Exits input left old new code = (status : Status) × (code ≡ code_of status) × Runs input left old new status

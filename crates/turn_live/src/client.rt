@@ -1,0 +1,30 @@
+//! The client that a head names.
+
+ghost use Rattle.std.specs.Prelude.{◌≡◌, IfOk};
+ghost use Rattle.turn_client_proto.specs.Client.{state_of};
+ghost use Rattle.turn_live.specs.Lines.{client_of};
+
+use std::alloc::{AllocError, Global};
+use turn_client_proto::client::TurnClient;
+use turn_client_proto::runs::replay;
+use turn_lines::configuration::configuration;
+use turn_lines::head::Head;
+use turn_types::TransportType;
+
+/// A new client, as the head names it.
+pub fn new_client(alloc: Global, head: Head) -> Result<TurnClient, AllocError>
+    requires allocation { head.ends.transport ≡ TransportType.Udp → head.request.allocation ≡ TransportType.Udp }
+    ensures { IfOk result (λ client. state_of client ≡ client_of head) }
+{
+    let Head {
+        ends,
+        request,
+        credentials,
+        seed,
+        waits,
+    } = head;
+    let config = configuration(alloc, request, credentials, waits);
+    // After no calls the client of a run is a new one.
+    let replayed = replay(alloc, ends.transport, ends.local, ends.remote, config, seed, &[])?;
+    Ok(replayed.client)
+}

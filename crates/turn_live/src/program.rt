@@ -1,0 +1,48 @@
+//! The program: lines in, answers out.
+
+ghost use Rattle.std.specs.Process.{exit_status};
+ghost use Rattle.turn_live.specs.Session.{Closes, Exits, Runs};
+
+use crate::session::hold_session;
+use crate::stop::Stop;
+use crate::write::tell;
+use std::alloc::Global;
+use std::io::{Read, Write};
+use std::process::ExitCode;
+use turn_lines::print::bad_text;
+use turn_lines::status::Status;
+
+/// Answers lines as [`run`] does. The exit status tells how that ended: 0 with the end of the input, 2 by a bad line, 3
+/// without memory, and 4 where reading or writing failed.
+pub fn exit_code<R: Read, W: Write>(alloc: Global, reader: &mut R, writer: &mut W) -> ExitCode
+    ensures { Exits (R.remaining reader.old) (R.remaining reader.new) (W.contents writer.old) (W.contents writer.new) (exit_status result) }
+{
+    ExitCode::from(run(alloc, reader, writer).code())
+}
+
+/// Reads the line that names a client, and then its calls. The answer to each call is written, and the writer flushed,
+/// before the next line is read. A bad line ends it with the one line that says so, want of memory with `no memory`, and
+/// a reader that fails with `read failed`. It writes nothing else.
+pub fn run<R: Read, W: Write>(alloc: Global, reader: &mut R, writer: &mut W) -> Status
+    ensures { Runs (R.remaining reader.old) (R.remaining reader.new) (W.contents writer.old) (W.contents writer.new) result }
+{
+    match hold_session(alloc, reader, writer) {
+        Ok(()) => Status::Answered,
+        Err(stop) => close(alloc, stop, writer),
+    }
+}
+
+/// Writes the last text of a session that was stopped.
+fn close<W: Write>(alloc: Global, stop: Stop, writer: &mut W) -> Status
+    ensures { Closes stop (W.contents writer.old) (W.contents writer.new) result }
+{
+    match stop {
+        Stop::Bad(bad) => match bad_text(alloc, bad) {
+            Ok(text) => tell(writer, Status::Malformed, text.as_str()),
+            Err(_) => tell(writer, Status::OutOfMemory, "no memory\n"),
+        },
+        Stop::OutOfMemory => tell(writer, Status::OutOfMemory, "no memory\n"),
+        Stop::ReadFailed => tell(writer, Status::ReadFailed, "read failed\n"),
+        Stop::WriteFailed => Status::WriteFailed,
+    }
+}

@@ -1,0 +1,39 @@
+//! Why a session ends before its input does.
+
+use std::alloc::{AllocError, AllocFailed};
+use turn_lines::fault::BadLine;
+
+/// Why a session ends before its input does.
+#[derive(Clone, Copy, Debug, PartialEq, Eq)]
+pub enum Stop {
+    /// This line is bad.
+    Bad(BadLine),
+    /// There is no memory for a line, for the client or for an answer.
+    OutOfMemory,
+    /// The reader failed.
+    ReadFailed,
+    /// The writer failed.
+    WriteFailed,
+}
+
+impl From<AllocError> for Stop {
+    ghost use Rattle.std.specs.Prelude.{◌≡◌};
+    ghost use Rattle.turn_live.specs.declared.stop.Stop.TheVariants.{OutOfMemory};
+
+    ghost from_gives = { λ _ error. error ≡ OutOfMemory };
+
+    fn from(_error: AllocError) -> Stop {
+        Stop::OutOfMemory
+    }
+}
+
+impl<T: Drop> From<AllocFailed<T>> for Stop {
+    ghost use Rattle.std.specs.Prelude.{◌≡◌};
+    ghost use Rattle.turn_live.specs.declared.stop.Stop.TheVariants.{OutOfMemory};
+
+    ghost from_gives = { λ _ error. error ≡ OutOfMemory };
+
+    fn from(_error: AllocFailed<T>) -> Stop {
+        Stop::OutOfMemory
+    }
+}

@@ -1,0 +1,54 @@
+//! Text, to a writer.
+
+ghost use Rattle.turn_live.specs.Session.{Told, Writes};
+
+use crate::stop::Stop;
+use std::io::{ErrorKind, Write};
+use turn_lines::status::Status;
+
+/// Writes a text and flushes the writer. Where the writer fails, what was written is the beginning of the text.
+///
+/// # Errors
+///
+/// `WriteFailed` where the writer fails, other than by an interruption, which is tried again.
+pub fn write_text<W: Write>(writer: &mut W, text: &str) -> Result<(), Stop>
+    ensures { Writes (W.contents writer.old) (W.contents writer.new) text.now result }
+{
+    write_bytes(writer, text.as_bytes())?;
+    if writer.flush().is_err() {
+        return Err(Stop::WriteFailed);
+    }
+    Ok(())
+}
+
+/// Writes all bytes, as often as it takes.
+fn write_bytes<W: Write>(writer: &mut W, bytes: &[u8]) -> Result<(), Stop>
+    ensures { Writes (W.contents writer.old) (W.contents writer.new) bytes.now result }
+{
+    let mut at = 0;
+    for _ in 0..u64::MAX {
+        if at >= bytes.len() {
+            return Ok(());
+        }
+        match writer.write(&bytes[at..]) {
+            Ok(0) => return Err(Stop::WriteFailed),
+            Ok(count) => at += count,
+            Err(error) => {
+                if error.kind() != ErrorKind::Interrupted {
+                    return Err(Stop::WriteFailed);
+                }
+            }
+        }
+    }
+    Err(Stop::WriteFailed)
+}
+
+/// Writes the last text of a session, and gives the status that goes with it, or `WriteFailed` where the writer fails.
+pub fn tell<W: Write>(writer: &mut W, status: Status, text: &str) -> Status
+    ensures { Told (W.contents writer.old) (W.contents writer.new) status text.now result }
+{
+    if write_text(writer, text).is_err() {
+        return Status::WriteFailed;
+    }
+    status
+}
