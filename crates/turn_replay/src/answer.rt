@@ -2,7 +2,8 @@
 
 ghost use Rattle.std.specs.Prelude.{◌≡◌, All, IfOk, string_bytes};
 ghost use Rattle.turn_client_proto.specs.Run.{IsCallable};
-ghost use Rattle.turn_replay.specs.Answer.{answer_to, answered_text};
+ghost use Rattle.turn_lines.specs.Answered.{answered_text};
+ghost use Rattle.turn_replay.specs.Answer.{answer_to};
 
 use crate::trace::{Trace, parse_trace};
 use std::alloc::{AllocError, Global};
