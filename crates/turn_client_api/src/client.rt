@@ -41,6 +41,22 @@ use turn_types::transmit::TransmitBuild;
 /// Contracts see a client as its `State`, and each call as one step of the machine that
 /// `docs/MACHINE.md` describes. A call that finds no memory says so; what it leaves is said at the
 /// call.
+///
+/// A caller's loop over any client, which is proved too, is `turn_uses::turn`:
+///
+/// ```rust
+/// loop {
+///     let rest = turn(&mut client, came.take(), clock.now(), 64, &mut tasks)?;
+///     for task in tasks.drain(..) {
+///         app.carry_out(task, &mut client);
+///     }
+///     match rest {
+///         Rest::Until(moment) => came = sockets.wait(moment),
+///         Rest::Now => {}
+///         Rest::Ended => break,
+///     }
+/// }
+/// ```
 pub trait TurnClientApi: Debug + Drop {
     /// The state of the machine.
     ghost state: { Self → State };

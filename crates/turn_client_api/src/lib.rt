@@ -13,17 +13,18 @@
 //! describes. A caller's loop over any of them:
 //!
 //! ```rust
-//! match client.poll(now)? {
-//!     TurnPollRet::WaitUntil(moment) => wake_at(moment),
-//!     TurnPollRet::AllocateTcpSocket { id, socket, peer_addr } => open(id, socket, peer_addr),
-//!     TurnPollRet::TcpClose { local_addr, .. } => close(local_addr),
-//!     TurnPollRet::Closed => end(),
-//! }
+//! let next = client.poll(now)?;
 //! while let Some(event) = client.poll_event() {
 //!     tell(event);
 //! }
 //! while let Some(packet) = client.poll_transmit(now)? {
 //!     send(packet);
+//! }
+//! match next {
+//!     TurnPollRet::WaitUntil(moment) => wake_at(moment),
+//!     TurnPollRet::AllocateTcpSocket { id, socket, peer_addr } => open(id, socket, peer_addr),
+//!     TurnPollRet::TcpClose { local_addr, .. } => close(local_addr),
+//!     TurnPollRet::Closed => end(),
 //! }
 //! ```
 //!
