@@ -127,7 +127,13 @@ static void measure(int count, double found[ROWS])
         skip(row);
     }
     channels = count;
-    if (bench_udp((uint16_t)count, room, sizeof room, place, sizeof place) != 0) {
+    switch (bench_udp((uint16_t)count, room, sizeof room, place, sizeof place)) {
+    case 0:
+        break;
+    case 2:
+        wrong("the channel after the last");
+        break;
+    default:
         wrong("memory");
     }
     for (uint32_t row = 0; row < ROWS; row++) {
