@@ -8,8 +8,9 @@ use Rattle.turn_stun.specs.declared.transport.TransportType.{TransportType}
 use Rattle.turn_client_api.specs.declared.call.Call.{Call}
 use Rattle.turn_client_api.specs.State.{State}
 use Rattle.turn_client_api.specs.Steps.{state_after}
-use Rattle.turn_client_proto.specs.Run.{IsCallable, replies_of, reply_of, state_behind}
+use Rattle.turn_client_proto.specs.Run.{IsCallable, replies_of, reply_of}
 use Rattle.turn_client_proto.specs.declared.runs.reply.Reply.{Reply}
+use Rattle.turn_client_runs.specs.Run.{state_behind}
 use Rattle.turn_client_proto.proofs.RunLemmas.{relays_stay}
 use Rattle.turn_lines.specs.Call.{call_of}
 use Rattle.turn_lines.specs.Fault.{at_line, bad_line, needed}
@@ -52,8 +53,10 @@ long_is_no_head line head long h =
 
 -- where all lines are good the first is
 of_first : (r : Result Call BadLine) (rest : Calls) (calls : List Call) → with_first r rest ≡ (calls, None) → (call : Call) × (more : List Call) × (r ≡ Ok call) × (rest ≡ (more, None)) × (calls ≡ call ∷ more)
-of_first (Ok call) (more, bad) calls h = (call, more, refl, cc, cc)
-of_first (Err bad) rest calls h = cc
+of_first (Ok call) (more, bad) calls h =
+    let none : bad ≡ None = ap (λ (c : Calls). c.1) h in
+    (call, more, refl, ap (λ (b : Option BadLine). (more, b)) none, sym (ap (λ (c : Calls). c.0) h))
+of_first (Err bad) rest calls h = let wrong : Some bad ≡ None = ap (λ (c : Calls). c.1) h in cc
 
 -- these calls before others
 abbrev pub before : List Call → Calls → Calls
@@ -62,7 +65,7 @@ before calls rest = (calls ++ rest.0, rest.1)
 -- good lines, and what is behind them
 pub calls_until-append : (relays : TransportType) (number at : ℕ) (lines more : List (List ℕ)) (calls : List Call) → at ≡ number + length lines → calls_until relays number lines ≡ (calls, None) → calls_until relays number (lines ++ more) ≡ before calls (calls_until relays at more)
 calls_until-append relays number at [] more calls place good =
-    let none : calls ≡ [] = cc in
+    let none : calls ≡ [] = sym (ap (λ (c : Calls). c.0) good) in
     let same : at ≡ number = omega (arith, place) in
     rw (none, same) refl
 calls_until-append relays number at (line ∷ lines) more calls place good =
