@@ -21,7 +21,8 @@ use Rattle.turn_lines.specs.declared.fault.BadKind.TheVariants as Bad
 use Rattle.turn_lines.specs.declared.fault.BadLine.{BadLine}
 use Rattle.turn_lines.specs.declared.head.Head.{Head}
 use Rattle.turn_lines.proofs.CallableLemmas.{callable_line}
-use Rattle.turn_lines.proofs.StepLemmas.{of_else, ok_is}
+use Rattle.turn_lines.proofs.HeadLemmas.{IsMade, made_line}
+use Rattle.turn_lines.proofs.StepLemmas.{of_else, of_needed, ok_is}
 use Rattle.turn_live.specs.Lines.{Calls, answered, calls_until, line_call, line_head, with_first}
 
 -- ---- one line
@@ -35,6 +36,13 @@ pub line_is_callable : (relays : TransportType) (number : ℕ) (line : List ℕ)
 line_is_callable relays number line call h =
     let read = of_else (nat_lt 1048576 (length line)) (bad_line number Bad.Size) (at_line number (call_of relays line)) call h in
     callable_line relays line call (of_line number (call_of relays line) call read)
+
+-- the client of a head can be made
+pub head_is_made : (line : List ℕ) (head : Head) → line_head line ≡ Ok head → IsMade head
+head_is_made line head h =
+    let read = of_else (nat_lt 1048576 (length line)) (bad_line 1 Bad.Size) (needed (head_of line) (bad_line 1 Bad.Head) Ok) head h in
+    let found = of_needed (head_of line) (bad_line 1 Bad.Head) Ok head read in
+    subst IsMade (ok_is found.0 head found.2) (made_line line found.0 found.1)
 
 -- a line that is too long is no call, and no head
 pub long_is_no_call : (relays : TransportType) (number : ℕ) (line : List ℕ) (call : Call) → 1048576 < length line → line_call relays number line ≡ Ok call → ⊥
@@ -70,10 +78,10 @@ calls_until-append relays number at [] more calls place good =
     rw (none, same) refl
 calls_until-append relays number at (line ∷ lines) more calls place good =
     let first = of_first (line_call relays number line) (calls_until relays (number + 1) lines) calls good in
-    let rest = calls_until-append relays (number + 1) at lines more first.1.0 (omega (arith, place)) first.1.1.1.0 in
-    ap (λ r. with_first r (calls_until relays (number + 1) (lines ++ more))) first.1.1.0
+    let rest = calls_until-append relays (number + 1) at lines more first.1 (omega (arith, place)) first.3 in
+    ap (λ r. with_first r (calls_until relays (number + 1) (lines ++ more))) first.2
     ∙ ap (with_first (Ok first.0)) rest
-    ∙ ap (λ front. before front (calls_until relays at more)) (sym first.1.1.1.1)
+    ∙ ap (λ front. before front (calls_until relays at more)) (sym first.4)
 
 -- one more line, which is a call
 pub calls_until-call : (relays : TransportType) (number at : ℕ) (lines : List (List ℕ)) (calls : List Call) (line : List ℕ) (call : Call) → at ≡ number + length lines → calls_until relays number lines ≡ (calls, None) → line_call relays at line ≡ Ok call → calls_until relays number (lines ++ line ∷ []) ≡ (calls ++ call ∷ [], None)

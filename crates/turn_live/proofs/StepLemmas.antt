@@ -35,7 +35,7 @@ head_unread a b w line end Stops.WriteFailed taken h = cc
 pub step_lost : (relays : TransportType) (number : ℕ) (s after : State) (a b w : Option (List ℕ)) (stop : Stop) → IsLost a b stop → Steps relays number s after a b w w (Err stop)
 step_lost relays number s after a b w (Stops.Bad bad) lost = absurd lost
 step_lost relays number s after a b w Stops.OutOfMemory lost = (lost.0, lost.1, Appends-none w)
-step_lost relays number s after a b w Stops.ReadFailed lost = (lost.0, lost.1.0, lost.1.1, Appends-none w)
+step_lost relays number s after a b w Stops.ReadFailed lost = (lost.0, lost.1, lost.2, Appends-none w)
 step_lost relays number s after a b w Stops.WriteFailed lost = absurd lost
 
 -- a line that is not answered
@@ -58,4 +58,4 @@ call_told relays number s after line call text w x (Err (Stops.Bad bad)) says sa
 call_told relays number s after line call text w x (Err Stops.OutOfMemory) says same state wrote = let wrong = wrote.0 in cc
 call_told relays number s after line call text w x (Err Stops.ReadFailed) says same state wrote = let wrong = wrote.0 in cc
 call_told relays number s after line call text w x (Err Stops.WriteFailed) says same state wrote =
-    record { call = call; says = says; count = wrote.1.0; told = subst (λ (t : List ℕ). Appends w x (take wrote.1.0 t)) same wrote.1.1 }
+    record { call = call; says = says; count = wrote.1; told = subst (λ (t : List ℕ). Appends w x (take wrote.1 t)) same wrote.2 }

@@ -170,7 +170,7 @@ head_lost a b w (Stops.Bad bad) lost = absurd lost
 head_lost a b w Stops.OutOfMemory lost =
     ([], lost.0, record { read = rest_read a a b [] lost.0 (none_read a) lost.1; bad_is = refl }, Appends-none w)
 head_lost a b w Stops.ReadFailed lost =
-    ([], lost.0, record { read = rest_read a a b [] lost.0 (none_read a) lost.1.0; bad_is = refl }, lost.1.1, Appends-none w)
+    ([], lost.0, record { read = rest_read a a b [] lost.0 (none_read a) lost.1; bad_is = refl }, lost.2, Appends-none w)
 head_lost a b w Stops.WriteFailed lost = absurd lost
 
 pub head_bad : (a b w : Option (List ℕ)) (line : List ℕ) (end : LineEnd) (bad : BadLine) → IsTaken a b line end → line_head line ≡ Err bad → Talks session_of a b w w (Err (Stops.Bad bad))
