@@ -1,14 +1,21 @@
-use Rattle.std.proofs.Common.{◌≡◌, ℕ, List, Ok, Err, subst}
+use Rattle.std.proofs.Common.{◌≡◌, ℕ, List, Ok, Err, inl, inr, subst}
+use Rattle.std.specs.Prelude.{◌⊎◌}
 use Rattle.std.proofs.lemmas.Result.{err_from_is_err_and}
 use Rattle.turn_client_api.specs.State.{State}
 use Rattle.turn_live.specs.Line.{IsTaken}
 use Rattle.turn_live.specs.Lines.{calls_said, line_head}
 use Rattle.turn_live.specs.Session.{ReadsHead, Talks}
 use Rattle.turn_live.specs.declared.line.LineEnd.{LineEnd}
+use Rattle.turn_live.specs.declared.line.LineEnd.TheVariants.{Feed, Input, Size}
 use Rattle.turn_live.proofs.CallsLemmas.{head_is_made}
 use Rattle.turn_live.proofs.StepLemmas.{head_unread}
 use Rattle.turn_live.proofs.TalkLemmas.{head_alone, head_heard, head_lost, head_unheard}
 use Rattle.turn_live.proofs.session.hold_session.Goals as goal
+
+-- a line that ended otherwise than by its LF
+no_feed : (end : LineEnd) → (end ≡ Input) ⊎ (end ≡ Size) → end ≡ Feed → ⊥
+no_feed end (inl input) feed = cc
+no_feed end (inr size) feed = cc
 
 pub returns-in_err-line : goal.returns-in_err-line
 returns-in_err-line g c =
@@ -48,5 +55,4 @@ returns g c =
     let line = c.in_ok-line.line.items in
     let head = c.in_ok-head.head in
     let says = subst (λ (text : List ℕ). line_head text ≡ Ok head) c.as_slice.ensures.value c.in_ok-head.ensures in
-    let alone = c.in-Input.is in
-    head_alone (g.R.Read.remaining c.args.reader.now) (g.R.Read.remaining c.take_line.new.reader) (g.W.Write.contents c.args.writer.now) line c.in_ok-line.end head c.in_ok-line.ensures says ?
+    head_alone (g.R.Read.remaining c.args.reader.now) (g.R.Read.remaining c.take_line.new.reader) (g.W.Write.contents c.args.writer.now) line c.in_ok-line.end head c.in_ok-line.ensures says (no_feed c.in_ok-line.end c.in-Input.is)
