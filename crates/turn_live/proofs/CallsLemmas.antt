@@ -8,8 +8,9 @@ use Rattle.turn_stun.specs.declared.transport.TransportType.{TransportType}
 use Rattle.turn_client_api.specs.declared.call.Call.{Call}
 use Rattle.turn_client_api.specs.State.{State}
 use Rattle.turn_client_api.specs.Steps.{state_after}
-use Rattle.turn_client_proto.specs.Run.{IsCallable, replies_of, reply_of, state_behind}
+use Rattle.turn_client_proto.specs.Run.{IsCallable, replies_of, reply_of}
 use Rattle.turn_client_proto.specs.declared.runs.reply.Reply.{Reply}
+use Rattle.turn_client_runs.specs.Run.{state_behind}
 use Rattle.turn_client_proto.proofs.RunLemmas.{relays_stay}
 use Rattle.turn_lines.specs.Call.{call_of}
 use Rattle.turn_lines.specs.Fault.{at_line, bad_line, needed}
@@ -20,7 +21,8 @@ use Rattle.turn_lines.specs.declared.fault.BadKind.TheVariants as Bad
 use Rattle.turn_lines.specs.declared.fault.BadLine.{BadLine}
 use Rattle.turn_lines.specs.declared.head.Head.{Head}
 use Rattle.turn_lines.proofs.CallableLemmas.{callable_line}
-use Rattle.turn_lines.proofs.StepLemmas.{of_else, ok_is}
+use Rattle.turn_lines.proofs.HeadLemmas.{IsMade, made_line}
+use Rattle.turn_lines.proofs.StepLemmas.{of_else, of_needed, ok_is}
 use Rattle.turn_live.specs.Lines.{Calls, answered, calls_until, line_call, line_head, with_first}
 
 -- ---- one line
@@ -34,6 +36,13 @@ pub line_is_callable : (relays : TransportType) (number : ℕ) (line : List ℕ)
 line_is_callable relays number line call h =
     let read = of_else (nat_lt 1048576 (length line)) (bad_line number Bad.Size) (at_line number (call_of relays line)) call h in
     callable_line relays line call (of_line number (call_of relays line) call read)
+
+-- the client of a head can be made
+pub head_is_made : (line : List ℕ) (head : Head) → line_head line ≡ Ok head → IsMade head
+head_is_made line head h =
+    let read = of_else (nat_lt 1048576 (length line)) (bad_line 1 Bad.Size) (needed (head_of line) (bad_line 1 Bad.Head) Ok) head h in
+    let found = of_needed (head_of line) (bad_line 1 Bad.Head) Ok head read in
+    subst IsMade (ok_is found.0 head found.2) (made_line line found.0 found.1)
 
 -- a line that is too long is no call, and no head
 pub long_is_no_call : (relays : TransportType) (number : ℕ) (line : List ℕ) (call : Call) → 1048576 < length line → line_call relays number line ≡ Ok call → ⊥
@@ -52,8 +61,10 @@ long_is_no_head line head long h =
 
 -- where all lines are good the first is
 of_first : (r : Result Call BadLine) (rest : Calls) (calls : List Call) → with_first r rest ≡ (calls, None) → (call : Call) × (more : List Call) × (r ≡ Ok call) × (rest ≡ (more, None)) × (calls ≡ call ∷ more)
-of_first (Ok call) (more, bad) calls h = (call, more, refl, cc, cc)
-of_first (Err bad) rest calls h = cc
+of_first (Ok call) (more, bad) calls h =
+    let none : bad ≡ None = ap (λ (c : Calls). c.1) h in
+    (call, more, refl, ap (λ (b : Option BadLine). (more, b)) none, sym (ap (λ (c : Calls). c.0) h))
+of_first (Err bad) rest calls h = let wrong : Some bad ≡ None = ap (λ (c : Calls). c.1) h in cc
 
 -- these calls before others
 abbrev pub before : List Call → Calls → Calls
@@ -62,15 +73,15 @@ before calls rest = (calls ++ rest.0, rest.1)
 -- good lines, and what is behind them
 pub calls_until-append : (relays : TransportType) (number at : ℕ) (lines more : List (List ℕ)) (calls : List Call) → at ≡ number + length lines → calls_until relays number lines ≡ (calls, None) → calls_until relays number (lines ++ more) ≡ before calls (calls_until relays at more)
 calls_until-append relays number at [] more calls place good =
-    let none : calls ≡ [] = cc in
+    let none : calls ≡ [] = sym (ap (λ (c : Calls). c.0) good) in
     let same : at ≡ number = omega (arith, place) in
     rw (none, same) refl
 calls_until-append relays number at (line ∷ lines) more calls place good =
     let first = of_first (line_call relays number line) (calls_until relays (number + 1) lines) calls good in
-    let rest = calls_until-append relays (number + 1) at lines more first.1.0 (omega (arith, place)) first.1.1.1.0 in
-    ap (λ r. with_first r (calls_until relays (number + 1) (lines ++ more))) first.1.1.0
+    let rest = calls_until-append relays (number + 1) at lines more first.1 (omega (arith, place)) first.3 in
+    ap (λ r. with_first r (calls_until relays (number + 1) (lines ++ more))) first.2
     ∙ ap (with_first (Ok first.0)) rest
-    ∙ ap (λ front. before front (calls_until relays at more)) (sym first.1.1.1.1)
+    ∙ ap (λ front. before front (calls_until relays at more)) (sym first.4)
 
 -- one more line, which is a call
 pub calls_until-call : (relays : TransportType) (number at : ℕ) (lines : List (List ℕ)) (calls : List Call) (line : List ℕ) (call : Call) → at ≡ number + length lines → calls_until relays number lines ≡ (calls, None) → line_call relays at line ≡ Ok call → calls_until relays number (lines ++ line ∷ []) ≡ (calls ++ call ∷ [], None)

@@ -1,5 +1,5 @@
 -- Known bytes that are read or written one after the other.
-use Rattle.std.proofs.Common.{◌≡◌, ℕ, ◌+◌, ◌≤◌, List, [], ◌∷◌, ◌++◌, Option, Some, None, length, take, drop, refl, sym, ap, subst, ◌∙◌, append_assoc}
+use Rattle.std.proofs.Common.{◌≡◌, ℕ, ◌+◌, ◌≤◌, List, [], ◌∷◌, ◌++◌, Option, Some, None, length, take, drop, refl, sym, ap, subst, ◌∙◌, append_assoc, arith}
 use Rattle.std.proofs.lemmas.List.{append-nil}
 use Rattle.std.proofs.lemmas.List.{take_all}
 use Rattle.std.proofs.Math.Seq.{take-add, take-append-add}
@@ -46,3 +46,11 @@ pub Consumes-kept : (a b : Option (List ℕ)) → Keeps a b → Consumes a b []
 Consumes-kept None b k = tt
 Consumes-kept (Some u) None k = absurd k
 Consumes-kept (Some u) (Some v) k = sym k
+
+-- all of a text was written, and then nothing
+pub flush_failed : (a b c : Option (List ℕ)) (text : List ℕ) → Appends a b text → Keeps b c → (count : ℕ) × Appends a c (take count text)
+flush_failed a b c text h k = (length text, subst (Appends a c) (sym (take_all (length text) text (omega arith))) (Appends-kept a b c text h k))
+
+-- a failed write writes nothing more
+pub cut_at : (a b c : Option (List ℕ)) (text : List ℕ) (at : ℕ) → Appends a b (take at text) → Appends b c [] → (count : ℕ) × Appends a c (take count text)
+cut_at a b c text at h k = (at, subst (Appends a c) (append-nil (take at text)) (Appends-then a b c (take at text) [] h k))

@@ -1,12 +1,14 @@
 -- One line of a session: what comes of its parts.
-use Rattle.std.proofs.Common.{◌≡◌, ℕ, true, false, List, [], ◌++◌, Option, Result, Ok, Err, inl, inr, refl}
+use Rattle.std.proofs.Common.{◌≡◌, ℕ, true, false, List, [], ◌∷◌, ◌++◌, Option, Result, Ok, Err, inl, inr, refl, subst, take}
 use Rattle.std.specs.Io.KnownBytes.{Appends}
 use Rattle.turn_stun.specs.declared.transport.TransportType.{TransportType}
+use Rattle.turn_client_api.specs.declared.call.Call.{Call}
 use Rattle.turn_client_api.specs.State.{State}
+use Rattle.turn_client_api.specs.Steps.{state_after}
 use Rattle.turn_lines.specs.declared.head.Head.{Head}
 use Rattle.turn_live.specs.Line.{IsLost, IsTaken, feed_at}
-use Rattle.turn_live.specs.Lines.{session_of}
-use Rattle.turn_live.specs.Session.{AnswersLine, IsAnswered, ReadsCall, ReadsHead, Steps, Talks}
+use Rattle.turn_live.specs.Lines.{answered, line_call, session_of}
+use Rattle.turn_live.specs.Session.{AnswersLine, IsAnswered, ReadsCall, ReadsHead, Steps, Talks, Writes}
 use Rattle.turn_live.specs.declared.line.LineEnd.{LineEnd}
 use Rattle.turn_live.specs.declared.line.LineEnd.TheVariants.{Feed, Input, Size}
 use Rattle.turn_live.specs.declared.stop.Stop.{Stop}
@@ -33,7 +35,7 @@ head_unread a b w line end Stops.WriteFailed taken h = cc
 pub step_lost : (relays : TransportType) (number : ℕ) (s after : State) (a b w : Option (List ℕ)) (stop : Stop) → IsLost a b stop → Steps relays number s after a b w w (Err stop)
 step_lost relays number s after a b w (Stops.Bad bad) lost = absurd lost
 step_lost relays number s after a b w Stops.OutOfMemory lost = (lost.0, lost.1, Appends-none w)
-step_lost relays number s after a b w Stops.ReadFailed lost = (lost.0, lost.1.0, lost.1.1, Appends-none w)
+step_lost relays number s after a b w Stops.ReadFailed lost = (lost.0, lost.1, lost.2, Appends-none w)
 step_lost relays number s after a b w Stops.WriteFailed lost = absurd lost
 
 -- a line that is not answered
@@ -48,3 +50,12 @@ pub step_last : (relays : TransportType) (number : ℕ) (s after : State) (line 
 step_last relays number s after line Feed a b w x taken answer last = absurd (last refl)
 step_last relays number s after line Input a b w x taken answer last = (line, taken, inr answer)
 step_last relays number s after line Size a b w x taken answer last = absurd (long_is_no_call relays number line answer.call taken.ends answer.says)
+
+-- a call that was made, and its answer written as far as the writer took it
+pub call_told : (relays : TransportType) (number : ℕ) (s after : State) (line : List ℕ) (call : Call) (text : List ℕ) (w x : Option (List ℕ)) (result : Result (Unit {0}) Stop) → line_call relays number line ≡ Ok call → text ≡ answered s (call ∷ []) → after ≡ state_after call s → Writes w x text result → AnswersLine relays number s after line w x result
+call_told relays number s after line call text w x (Ok _) says same state wrote = record { call = call; says = says; told = subst (Appends w x) same wrote; state = state }
+call_told relays number s after line call text w x (Err (Stops.Bad bad)) says same state wrote = let wrong = wrote.0 in cc
+call_told relays number s after line call text w x (Err Stops.OutOfMemory) says same state wrote = let wrong = wrote.0 in cc
+call_told relays number s after line call text w x (Err Stops.ReadFailed) says same state wrote = let wrong = wrote.0 in cc
+call_told relays number s after line call text w x (Err Stops.WriteFailed) says same state wrote =
+    record { call = call; says = says; count = wrote.1; told = subst (λ (t : List ℕ). Appends w x (take wrote.1 t)) same wrote.2 }

@@ -1,13 +1,12 @@
 -- A session, one step after the other.
 use Rattle.std.proofs.Common.{◌≡◌, ℕ, ◌+◌, All, true, false, List, [], ◌∷◌, ◌++◌, Option, Some, None, Result, Ok, Err, length, take, inl, inr, refl, sym, ap, subst, ◌∙◌, arith}
-use Rattle.std.specs.Prelude.{◌≢◌}
 use Rattle.std.proofs.lemmas.List.{append-nil, length-append}
 use Rattle.std.specs.Io.KnownBytes.{Appends, Consumes, IsAtEnd}
 use Rattle.turn_stun.specs.declared.transport.TransportType.{TransportType}
 use Rattle.turn_client_api.specs.declared.call.Call.{Call}
 use Rattle.turn_client_api.specs.State.{State}
 use Rattle.turn_client_api.specs.Steps.{state_after}
-use Rattle.turn_client_proto.specs.Run.{state_behind}
+use Rattle.turn_client_runs.specs.Run.{state_behind}
 use Rattle.turn_client_proto.proofs.RunLemmas.{relays_stay}
 use Rattle.turn_lines.specs.declared.fault.BadLine.{BadLine}
 use Rattle.turn_lines.specs.declared.head.Head.{Head}
@@ -171,7 +170,7 @@ head_lost a b w (Stops.Bad bad) lost = absurd lost
 head_lost a b w Stops.OutOfMemory lost =
     ([], lost.0, record { read = rest_read a a b [] lost.0 (none_read a) lost.1; bad_is = refl }, Appends-none w)
 head_lost a b w Stops.ReadFailed lost =
-    ([], lost.0, record { read = rest_read a a b [] lost.0 (none_read a) lost.1.0; bad_is = refl }, lost.1.1, Appends-none w)
+    ([], lost.0, record { read = rest_read a a b [] lost.0 (none_read a) lost.1; bad_is = refl }, lost.2, Appends-none w)
 head_lost a b w Stops.WriteFailed lost = absurd lost
 
 pub head_bad : (a b w : Option (List ℕ)) (line : List ℕ) (end : LineEnd) (bad : BadLine) → IsTaken a b line end → line_head line ≡ Err bad → Talks session_of a b w w (Err (Stops.Bad bad))
@@ -190,8 +189,8 @@ head_unheard a b w line end taken = head_lost a b w Stops.OutOfMemory (line ++ f
 
 -- the head is all there is
 pub head_alone : (a b w : Option (List ℕ)) (line : List ℕ) (end : LineEnd) (head : Head) → IsTaken a b line end → line_head line ≡ Ok head → (end ≡ Feed → ⊥) → Talks session_of a b w w (Ok tt)
-head_alone a b w line Feed head taken says open = absurd (open refl)
-head_alone a b w line Input head taken says open =
+head_alone a b w line Feed head taken says more = absurd (more refl)
+head_alone a b w line Input head taken says more =
     let said : session_of (line ∷ []) ≡ ([], None) = ap (λ (r : Result Head BadLine). session_with r []) says in (
       line ∷ [],
       Input,
@@ -199,7 +198,7 @@ head_alone a b w line Input head taken says open =
       taken.ends,
       subst (Appends w w) (sym (ap (λ (p : List ℕ × Option BadLine). p.0) said)) (Appends-none w),
     )
-head_alone a b w line Size head taken says open = absurd (long_is_no_head line head taken.ends says)
+head_alone a b w line Size head taken says more = absurd (long_is_no_head line head taken.ends says)
 
 -- lines behind a head
 goes_behind : (a b c : Option (List ℕ)) (line : List ℕ) (head : Head) (lines : List (List ℕ)) (rest : List ℕ) (end : LineEnd) (bad : Option BadLine) → IsTaken a b line Feed → line_head line ≡ Ok head → Goes (calls_said head.request.allocation (client_of head)) b c lines rest end bad → Goes session_of a c (line ∷ lines) rest end bad

@@ -1,5 +1,6 @@
 -- One line, off a reader.
-use Rattle.std.specs.Prelude.{◌≡◌, ◌≢◌, ℕ, ◌<◌, List, [], ◌∷◌, ◌++◌, All, length, Option, Result, Ok, Err, ⊤}
+use Rattle.std.specs.Prelude.{◌≡◌, ◌≢◌, ℕ, ◌<◌, List, [], ◌∷◌, ◌++◌, All, length, Option, Result, Ok, Err, Vec, ⊤}
+use Rattle.std.specs.Global.{Global}
 use Rattle.std.specs.Io.KnownBytes.{Consumes, IsAtEnd}
 use Rattle.turn_live.specs.declared.line.LineEnd.{LineEnd}
 use Rattle.turn_live.specs.declared.line.LineEnd.TheVariants.{Feed, Input, Size}

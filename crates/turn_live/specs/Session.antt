@@ -1,5 +1,5 @@
 -- What a session reads and writes.
-use Rattle.std.specs.Prelude.{◌≡◌, ◌⊎◌, ℕ, Bool, true, false, List, [], ◌∷◌, ◌++◌, All, take, codes, Option, Some, None, Result, Ok, Err}
+use Rattle.std.specs.Prelude.{◌≡◌, ◌≤◌, ◌⊎◌, ℕ, Bool, true, false, List, [], ◌∷◌, ◌++◌, All, length, take, codes, Option, Some, None, Result, Ok, Err}
 use Rattle.std.specs.Io.KnownBytes.{Appends, Consumes, IsAtEnd}
 use Rattle.turn_stun.specs.declared.transport.TransportType.{TransportType}
 use Rattle.turn_client_api.specs.declared.call.Call.{Call}
@@ -25,6 +25,11 @@ use Rattle.turn_live.specs.declared.stop.Stop.TheVariants as Stops
 abbrev pub Writes : Option (List ℕ) → Option (List ℕ) → List ℕ → Result (Unit {0}) Stop → Type 0
 Writes old new text (Ok _) = Appends old new text
 Writes old new text (Err stop) = (stop ≡ Stops.WriteFailed) × (count : ℕ) × Appends old new (take count text)
+
+-- the beginning of these bytes was written, of this length, or nothing where the writer failed
+abbrev pub WritesSome : Option (List ℕ) → Option (List ℕ) → List ℕ → Result ℕ Stop → Type 0
+WritesSome old new bytes (Ok count) = (count ≤ length bytes) × Appends old new (take count bytes)
+WritesSome old new bytes (Err stop) = (stop ≡ Stops.WriteFailed) × Appends old new []
 
 -- a text was written and the answer is that status, or the writer failed
 abbrev pub Told : Option (List ℕ) → Option (List ℕ) → Status → List ℕ → Status → Type 0

@@ -1,6 +1,6 @@
 //! Text, to a writer.
 
-ghost use Rattle.turn_live.specs.Session.{Told, Writes};
+ghost use Rattle.turn_live.specs.Session.{Told, Writes, WritesSome};
 
 use crate::stop::Stop;
 use std::io::{ErrorKind, Write};
@@ -30,17 +30,25 @@ fn write_bytes<W: Write>(writer: &mut W, bytes: &[u8]) -> Result<(), Stop>
         if at >= bytes.len() {
             return Ok(());
         }
-        match writer.write(&bytes[at..]) {
-            Ok(0) => return Err(Stop::WriteFailed),
-            Ok(count) => at += count,
-            Err(error) => {
-                if error.kind() != ErrorKind::Interrupted {
-                    return Err(Stop::WriteFailed);
-                }
-            }
-        }
+        at += write_some(writer, &bytes[at..])?;
     }
     Err(Stop::WriteFailed)
+}
+
+/// Writes once, and gives how many bytes were taken: none where it was interrupted.
+fn write_some<W: Write>(writer: &mut W, bytes: &[u8]) -> Result<usize, Stop>
+    ensures { WritesSome (W.contents writer.old) (W.contents writer.new) bytes.now result }
+{
+    match writer.write(bytes) {
+        Ok(0) => Err(Stop::WriteFailed),
+        Ok(count) => Ok(count),
+        Err(error) => {
+            if error.kind() == ErrorKind::Interrupted {
+                return Ok(0);
+            }
+            Err(Stop::WriteFailed)
+        }
+    }
 }
 
 /// Writes the last text of a session, and gives the status that goes with it, or `WriteFailed` where the writer fails.

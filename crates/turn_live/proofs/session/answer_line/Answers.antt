@@ -1,0 +1,11 @@
+use Rattle.std.proofs.Common.{sym, subst}
+use Rattle.turn_stun.specs.declared.transport.TransportType.{TransportType}
+use Rattle.turn_client_proto.specs.Run.{IsCallable}
+use Rattle.turn_live.proofs.CallsLemmas.{line_is_callable}
+use Rattle.turn_live.proofs.session.answer_line.Goals as goal
+
+pub reply_to-requires : goal.reply_to-requires
+reply_to-requires g c = record {
+  callable = subst (λ (relays : TransportType). IsCallable relays c.in_ok-call.call) (sym c.requires)
+      (line_is_callable c.args.relays c.args.number c.args.line.now c.in_ok-call.call c.in_ok-call.ensures);
+}
