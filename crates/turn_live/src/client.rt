@@ -25,6 +25,14 @@ pub fn new_client(alloc: Global, head: Head) -> Result<TurnClient, AllocError>
     } = head;
     let config = configuration(alloc, request, credentials, waits);
     // After no calls the client of a run is a new one.
-    let replayed = replay(alloc, ends.transport, ends.local, ends.remote, config, seed, &[])?;
+    let replayed = replay(
+        alloc,
+        ends.transport,
+        ends.local,
+        ends.remote,
+        config,
+        seed,
+        &[],
+    )?;
     Ok(replayed.client)
 }

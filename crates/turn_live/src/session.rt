@@ -124,12 +124,7 @@ fn answer_line<C: TurnClientApi, W: Write>(
 }
 
 /// The call of a line with this number.
-fn read_call(
-    alloc: Global,
-    relays: TransportType,
-    number: usize,
-    line: &[u8],
-) -> Result<Call, Stop>
+fn read_call(alloc: Global, relays: TransportType, number: usize, line: &[u8]) -> Result<Call, Stop>
     ensures { ReadsCall relays number line.now result }
 {
     if line.len() > MAX_LINE {

@@ -27,5 +27,6 @@ fn main(rt: HostRuntime) -> ExitCode {
 
 #[cfg(test)]
 mod tests;
+
 #[cfg(test)]
 use turn_lines::{print, status};

@@ -37,7 +37,9 @@ fn refused_memory_is_told(rt: HostRuntime) -> Result<(), Fail> {
     head.copy_from_slice(HEAD.as_bytes());
     calls.copy_from_slice(CALLS.as_bytes());
     let (status, left) = run_into(rt.alloc(), text, &mut room);
-    let end = 256usize.checked_sub(left).ok_or("more is left than there was")?;
+    let end = 256usize
+        .checked_sub(left)
+        .ok_or("more is left than there was")?;
     let written = room.get(..end).ok_or("more is left than there was")?;
     if is_cut_short(written, status) {
         return Ok(());

@@ -24,7 +24,13 @@ fn a_line_of_a_mebibyte_is_read(rt: HostRuntime) -> Result<(), Fail> {
 /// A session with this call behind another is to end by its size.
 fn is_too_long(rt: &impl Abort, alloc: Global, call: &str) -> Result<(), Fail> {
     let want = "none\nline 3: bad size\n";
-    follow(rt, alloc, &[HEAD, "0 event\n", call], Status::Malformed, want)?;
+    follow(
+        rt,
+        alloc,
+        &[HEAD, "0 event\n", call],
+        Status::Malformed,
+        want,
+    )?;
     let more = [HEAD, "0 event\n", call, "00\n0 event\n"];
     follow(rt, alloc, &more, Status::Malformed, want)
 }
