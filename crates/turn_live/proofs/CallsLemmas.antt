@@ -1,7 +1,6 @@
 -- The calls of lines, one line after the other.
-use Rattle.std.proofs.Common.{◌≡◌, ℕ, zero, suc, ◌+◌, ◌<◌, cond, true, false, List, [], ◌∷◌, ◌++◌, Option, Some, None, Result, Ok, Err, length, refl, sym, ap, subst, ◌∙◌, arith}
+use Rattle.std.proofs.Common.{◌≡◌, ℕ, ◌+◌, ◌<◌, cond, true, List, [], ◌∷◌, ◌++◌, Option, Some, None, Result, Ok, Err, length, refl, sym, ap, subst, ◌∙◌, arith}
 use Rattle.std.specs.Prelude.{nat_lt}
-use Rattle.std.specs.List.{flat_map}
 use Rattle.std.proofs.lemmas.Bool.{lt-ltb}
 use Rattle.std.proofs.lemmas.Grind.{flat_map-append}
 use Rattle.turn_stun.specs.declared.transport.TransportType.{TransportType}
@@ -11,7 +10,6 @@ use Rattle.turn_client_api.specs.Steps.{state_after}
 use Rattle.turn_client_proto.specs.Run.{IsCallable, replies_of, reply_of}
 use Rattle.turn_client_proto.specs.declared.runs.reply.Reply.{Reply}
 use Rattle.turn_client_runs.specs.Run.{state_behind}
-use Rattle.turn_client_proto.proofs.RunLemmas.{relays_stay}
 use Rattle.turn_lines.specs.Call.{call_of}
 use Rattle.turn_lines.specs.Fault.{at_line, bad_line, needed}
 use Rattle.turn_lines.specs.Head.{head_of}

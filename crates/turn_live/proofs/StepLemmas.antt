@@ -1,11 +1,10 @@
 -- One line of a session: what comes of its parts.
-use Rattle.std.proofs.Common.{◌≡◌, ℕ, true, false, List, [], ◌∷◌, ◌++◌, Option, Result, Ok, Err, inl, inr, refl, subst, take}
+use Rattle.std.proofs.Common.{◌≡◌, ℕ, false, List, [], ◌∷◌, ◌++◌, Option, Result, Ok, Err, inr, refl, subst, take}
 use Rattle.std.specs.Io.KnownBytes.{Appends}
 use Rattle.turn_stun.specs.declared.transport.TransportType.{TransportType}
 use Rattle.turn_client_api.specs.declared.call.Call.{Call}
 use Rattle.turn_client_api.specs.State.{State}
 use Rattle.turn_client_api.specs.Steps.{state_after}
-use Rattle.turn_lines.specs.declared.head.Head.{Head}
 use Rattle.turn_live.specs.Line.{IsLost, IsTaken, feed_at}
 use Rattle.turn_live.specs.Lines.{answered, line_call, session_of}
 use Rattle.turn_live.specs.Session.{AnswersLine, IsAnswered, ReadsCall, ReadsHead, Steps, Talks, Writes}

@@ -1,7 +1,7 @@
 -- A session, one step after the other.
-use Rattle.std.proofs.Common.{◌≡◌, ℕ, ◌+◌, All, true, false, List, [], ◌∷◌, ◌++◌, Option, Some, None, Result, Ok, Err, length, take, inl, inr, refl, sym, ap, subst, ◌∙◌, arith}
+use Rattle.std.proofs.Common.{◌≡◌, ℕ, ◌+◌, true, false, List, [], ◌∷◌, ◌++◌, Option, Some, None, Result, Ok, Err, length, take, inl, inr, refl, sym, ap, subst, ◌∙◌, arith}
 use Rattle.std.proofs.lemmas.List.{append-nil, length-append}
-use Rattle.std.specs.Io.KnownBytes.{Appends, Consumes, IsAtEnd}
+use Rattle.std.specs.Io.KnownBytes.{Appends}
 use Rattle.turn_stun.specs.declared.transport.TransportType.{TransportType}
 use Rattle.turn_client_api.specs.declared.call.Call.{Call}
 use Rattle.turn_client_api.specs.State.{State}
@@ -10,9 +10,9 @@ use Rattle.turn_client_runs.specs.Run.{state_behind}
 use Rattle.turn_client_proto.proofs.RunLemmas.{relays_stay}
 use Rattle.turn_lines.specs.declared.fault.BadLine.{BadLine}
 use Rattle.turn_lines.specs.declared.head.Head.{Head}
-use Rattle.turn_live.specs.Line.{EndsSo, IsLine, IsLost, IsTaken, feed_at}
+use Rattle.turn_live.specs.Line.{IsLine, IsLost, IsTaken, feed_at}
 use Rattle.turn_live.specs.Lines.{Calls, answered, calls_said, calls_until, client_of, line_head, session_of, session_with}
-use Rattle.turn_live.specs.Session.{AreRead, Goes, IsAnswered, IsCutOff, Steps, Talks}
+use Rattle.turn_live.specs.Session.{AreRead, Goes, Steps, Talks}
 use Rattle.turn_live.specs.declared.line.LineEnd.{LineEnd}
 use Rattle.turn_live.specs.declared.line.LineEnd.TheVariants.{Feed, Input, Size}
 use Rattle.turn_live.specs.declared.stop.Stop.{Stop}

@@ -9,7 +9,7 @@ use Rattle.turn_lines.specs.Call.{call_of}
 use Rattle.turn_lines.specs.Configuration.{config_with}
 use Rattle.turn_lines.specs.Fault.{at_line, bad_line, needed}
 use Rattle.turn_lines.specs.Head.{head_of}
-use Rattle.turn_lines.specs.Text.{answers_text, bad_text}
+use Rattle.turn_lines.specs.Text.{answers_text}
 use Rattle.turn_lines.specs.declared.fault.BadKind.TheVariants as Bad
 use Rattle.turn_lines.specs.declared.fault.BadLine.{BadLine}
 use Rattle.turn_lines.specs.declared.head.Head.{Head}

@@ -7,7 +7,6 @@ use Rattle.turn_client_api.specs.State.{State}
 use Rattle.turn_client_api.specs.Steps.{state_after}
 use Rattle.turn_lines.specs.Status.{code_of}
 use Rattle.turn_lines.specs.Text.{bad_text}
-use Rattle.turn_lines.specs.declared.fault.BadKind.TheVariants as Bad
 use Rattle.turn_lines.specs.declared.fault.BadLine.{BadLine}
 use Rattle.turn_lines.specs.declared.head.Head.{Head}
 use Rattle.turn_lines.specs.declared.status.Status.{Status}

@@ -11,7 +11,7 @@ fn call_of_size(alloc: Global, size: usize) -> Result<String, Fail> {
     let front = "0 recv udp 10.0.0.2:2000 192.168.0.1:1000 ";
     let room = size.checked_sub(front.len()).ok_or("too short")?;
     let digits = "0".repeat(alloc, room)?;
-    Ok([front, digits.as_str()].concat(alloc)?)
+    Ok(format!(in alloc; "{front}{digits}")?)
 }
 
 #[test]

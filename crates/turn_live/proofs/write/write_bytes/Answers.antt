@@ -1,4 +1,4 @@
-use Rattle.std.proofs.Common.{ℕ, ◌≤◌, List, length, take, drop, subst, arith, length-drop}
+use Rattle.std.proofs.Common.{ℕ, ◌≤◌, List, length, take, subst, arith, length-drop}
 use Rattle.std.proofs.lemmas.List.{take_rest}
 use Rattle.std.specs.Io.KnownBytes.{Appends}
 use Rattle.turn_live.proofs.KnownLemmas.{Appends-more}
