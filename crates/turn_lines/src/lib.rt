@@ -10,6 +10,14 @@
 //! wait 0                                                                          its answer
 //! ```
 //!
+//! In code:
+//!
+//! ```rust
+//! let head = parse_head(alloc, first_line)?;
+//! let call = parse_call(alloc, head.request.allocation, second_line)?;
+//! let text = answers_text(alloc, &[reply_to(alloc, &mut client, &call)?])?;
+//! ```
+//!
 //! `turn_replay` reads a whole trace of such lines, and `turn_live` answers each as it comes.
 #![tactic(auto)]
 
