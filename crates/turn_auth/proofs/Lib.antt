@@ -1,4 +1,5 @@
 pub mod ChallengeLemmas
+pub mod DenialLemmas
 pub mod DigestLemmas
 pub mod HmacLemmas
 pub mod IntegrityLemmas

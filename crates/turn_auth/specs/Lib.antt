@@ -1,5 +1,6 @@
 pub mod Challenge
 pub mod Credentials
+pub mod Denial
 pub mod Hmac
 pub mod Integrity
 pub mod Kept

@@ -4,14 +4,16 @@ ghost use Rattle.std.specs.Prelude.{◌≡◌, option_copied};
 ghost use Rattle.std.specs.Str.{bytes_eq};
 ghost use Rattle.turn_stun.specs.Attributes.{seen_of, first_of};
 ghost use Rattle.turn_auth.specs.LongTerm.{supports};
-ghost use Rattle.turn_auth.specs.Challenge.{value_in, realm_in, nonce_in, code_in, denial_in, offers_sha256, picked};
+ghost use Rattle.turn_auth.specs.Challenge.{value_in, denial_in, offers_sha256, picked};
 
+use crate::denial::DenialValues;
 use crate::integrity::IntegrityAlgorithm;
 use turn_stun::attribute::AttributeType;
 use turn_stun::attribute::error_code::ErrorCode;
 use turn_stun::attribute::nonce::Nonce;
 use turn_stun::attribute::password_algorithms::{PasswordAlgorithm, PasswordAlgorithms};
 use turn_stun::attribute::realm::Realm;
+use turn_stun::attribute::typed::AttributeFromRaw;
 use turn_stun::message::Message;
 use turn_stun::message::header::MessageClass;
 
@@ -31,39 +33,23 @@ pub(crate) struct Denial<'a> {
 
 impl<'a> Denial<'a> {
     /// What the message says, or `None` where it is no error response, or lacks one of the three
-    /// attributes in good form.
+    /// attributes in good form. The attributes are read once.
     pub(crate) fn in_message(message: &Message<'a>) -> Option<Denial<'a>>
         ensures { result ≡ denial_in message.now }
     {
         if !message.has_class(MessageClass::Error) {
             return None;
         }
+        let found = DenialValues::in_message(message);
+        let id = message.transaction_id();
+        let realm = Realm::from_value(found.realm?, id)?;
+        let nonce = Nonce::from_value(found.nonce?, id)?;
+        let error = ErrorCode::from_value(found.error_code?, id)?;
         Some(Denial {
-            realm: realm_in(message)?,
-            nonce: nonce_in(message)?,
-            code: code_in(message)?,
+            realm,
+            nonce,
+            code: error.code(),
         })
-    }
-}
-
-fn realm_in<'a>(message: &Message<'a>) -> Option<Realm<'a>>
-    ensures { result ≡ realm_in message.now }
-{
-    message.attribute::<Realm<'a>>().ok()
-}
-
-fn nonce_in<'a>(message: &Message<'a>) -> Option<Nonce<'a>>
-    ensures { result ≡ nonce_in message.now }
-{
-    message.attribute::<Nonce<'a>>().ok()
-}
-
-fn code_in(message: &Message<'_>) -> Option<u16>
-    ensures { result ≡ code_in message.now }
-{
-    match message.attribute::<ErrorCode<'_>>() {
-        Ok(error) => Some(error.code()),
-        Err(_) => None,
     }
 }
 

@@ -26,6 +26,7 @@
 
 mod challenge;
 pub mod credentials;
+mod denial;
 pub mod feature;
 mod held;
 pub mod hmac;

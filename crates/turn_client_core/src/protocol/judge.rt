@@ -40,8 +40,8 @@ pub(super) enum Judged {
 
 impl TurnClientProtocol {
     /// What the message is in the phase that the client is in. It takes no memory, and for a response
-    /// that is about nothing no digest is computed. Without a REALM the attributes are walked at most
-    /// twice, for that and for the integrity.
+    /// that is about nothing no digest is computed. The attributes are walked at most twice: for what a
+    /// challenge says, and for the integrity or the algorithms that a first challenge offers.
     pub(super) fn judge(&self, message: &Message<'_>) -> Judged
         ensures { result ≡ kind_of (judgement_of self.now message.now) }
     {
