@@ -39,7 +39,7 @@ class Caller:
         self.transport = "tcp" if options.tcp or options.tcp_peer else "udp"
         self.relayed = "tcp" if options.tcp_peer else "udp"
         self.server, self.peer, self.text = resolved(options.server), resolved(options.peer), options.text
-        self.sockets = {}  # by their local addresses
+        self.sockets, self.leaving = {}, False  # by their local addresses; whether Ctrl-C was pressed
         self.local = self.connect() or sys.exit(1)
         user, password = (word.encode().hex() or "-" for word in (options.user, options.password))
         head = [self.transport, self.local, written(*self.server), self.relayed, "6" if ":" in self.peer[0] else "4"]
@@ -52,7 +52,7 @@ class Caller:
         self.woken, self.waker = socket.socketpair()  # Ctrl-C is a byte here, so that it comes between two calls.
         self.waker.setblocking(False)
         signal.set_wakeup_fd(self.waker.fileno())
-        signal.signal(signal.SIGINT, lambda *_: None)
+        signal.signal(signal.SIGINT, lambda *_: setattr(self, "leaving", True))
 
     def connect(self):
         """Opens a socket to the server, and gives its local address, or None."""
@@ -88,7 +88,7 @@ class Caller:
             for packet in self.answers("transmit"):
                 self.send(*packet)
             if answer[0] == "closed":
-                sys.exit("the client has ended")
+                sys.exit(0 if self.leaving else "the client has ended")
             if answer[0] == "socket":
                 self.call(*answer, self.connect() or "-")
             elif answer[0] == "close" and answer[1] in self.sockets:

@@ -27,8 +27,6 @@ pub(crate) enum Ask<'a> {
     Event,
     Permit(Place),
     Bind(Place),
-    /// Channels to so many peers, from this port on.
-    BindAll(Place, u16),
     Delete,
     /// The peer is greeted.
     Greet(Place),
@@ -134,22 +132,6 @@ fn binds<C: TurnClientApi>(client: &mut C, now: u32, peer: SocketAddr, want: &Wa
         Err(BindChannelError::NoAllocation) => matches!(want, Want::NoAllocation),
         Err(BindChannelError::OutOfMemory) => false,
     }
-}
-
-/// Whether so many channels are asked for, or refused, as is wanted.
-fn binds_all<C: TurnClientApi>(
-    client: &mut C,
-    now: u32,
-    place: Place,
-    count: u16,
-    want: &Want<'_>,
-) -> bool {
-    for port in 0..count {
-        if !binds(client, now, SocketAddr::new(place.ip(), port), want) {
-            return false;
-        }
-    }
-    true
 }
 
 /// Whether all is given back, or not, as is wanted.
@@ -300,7 +282,6 @@ fn holds<C: TurnClientApi>(
         Ask::Event => Ok(happens(caller, *now, want)),
         Ask::Permit(place) => Ok(permits(client, *now, *place, want)),
         Ask::Bind(place) => Ok(binds(client, *now, place.address(), want)),
-        Ask::BindAll(place, count) => Ok(binds_all(client, *now, *place, *count, want)),
         Ask::Delete => Ok(deletes(client, *now, want)),
         Ask::Greet(place) => greets(client, alloc, *now, *place, want),
         Ask::Relayed => Ok(relays(client, want)),
