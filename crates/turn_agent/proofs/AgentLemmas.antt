@@ -1,4 +1,4 @@
--- The calls of an agent, by the place of the transaction that each is about.
+-- The calls of an agent, by the place of the transaction that each is for.
 use Rattle.std.proofs.Common.{◌≡◌, ℕ, suc, add-one, drop-cons, ◌+◌, ◌-◌, ◌<◌, ◌≤◌, ◌^◌, Bool, true, false, eqb, leb, ltb, ◌&&◌, List, [], ◌∷◌, length, drop, get_or, set, map, find, fold, min, Option, Some, None, refl, sym, ◌∙◌, arith}
 use Rattle.std.specs.Prelude.{slice_get, IsSome}
 use Rattle.std.specs.List.{list_any, position, position_or_len}
@@ -20,7 +20,7 @@ use Rattle.turn_agent.specs.declared.agent.StunAgentPollRet.TheVariants.{Transac
 use Rattle.turn_agent.specs.declared.transaction.Transaction.{Transaction}
 use Rattle.turn_agent.proofs.TransactionLemmas.{set-resent}
 
--- the first one that passes, and where it stands
+-- the first one that passes, and its place
 pub record IsFirst {X : Type 0} (p : X → Bool) (xs : List X) (i : ℕ) : Type 0 where
   pub within : i < length xs
   pub found : (d : X) → find p xs ≡ Some (get_or xs i d)
@@ -60,7 +60,7 @@ and_false_left : (x y : Bool) → y ≡ true → (x && y) ≡ false → x ≡ fa
 and_false_left true y passes fails = sym passes ∙ fails
 and_false_left false y passes fails = refl
 
--- none is found where none passes
+-- if one is found, at least one passes
 pub list_any-some : {X : Type 0} (p : X → Bool) (xs : List X) (x : X) → find p xs ≡ Some x → list_any p xs ≡ true
 list_any-some p [] x found = absurd (none-some x found)
 list_any-some p (y ∷ xs) x found = by (list_any-some p xs x) (p y) refl
@@ -92,7 +92,7 @@ handle_step-stray a message from is none =
     let unanswered = list_any-none _ a.transactions (position-none _ a.transactions none) in
     rw (IsResponse-true (class_of (type_of message)) is, unanswered) refl
 
--- the transaction at this place has this ID, and was outstanding
+-- the transaction at this place has this ID, and is outstanding
 pub record IsOf (id : ℕ) (ts : List Transaction) (t : Transaction) : Type 0 where
   pub same : t.id ≡ id
   pub was : is_outstanding id ts ≡ true
@@ -118,12 +118,12 @@ handle_step-ended a message from i t is at taken =
 
 -- ---- one pass over the transactions
 
--- those before the place were passed: none of them is given up, and the least moment counts them
+-- those before the place were passed: none of them times out, and `least` takes them into account
 pub record IsScanned (timers : Timers) (transport : TransportType) (now : ℕ) (ts : List Transaction) (i least : ℕ) : Type 0 where
   pub none : find (is_given_up timers transport now) (drop i ts) ≡ find (is_given_up timers transport now) ts
   pub rest : fold min least (map (next_moment timers transport) (drop i ts)) ≡ fold min (2 ^ 63 - 1) (map (next_moment timers transport) ts)
 
--- the one at the place is the first that is given up
+-- the one at the place is the first that times out
 pub IsScanned-found : (timers : Timers) (transport : TransportType) (now : ℕ) (ts : List Transaction) (i least : ℕ) (d : Transaction) → IsScanned timers transport now ts i least → i < length ts → is_given_up timers transport now (get_or ts i d) ≡ true → find (is_given_up timers transport now) ts ≡ slice_get ts i
 IsScanned-found timers transport now ts i least d is within over =
     let front : drop i ts ≡ get_or ts i d ∷ drop (i + 1) ts = rw add-one (drop-cons ts i d within) in
@@ -132,16 +132,16 @@ IsScanned-found timers transport now ts i least d is within over =
 
 -- ---- poll
 
--- the transaction at this place is given up
+-- the transaction at this place times out
 pub poll_step-over : (a : Agent) (now i : ℕ) (t : Transaction) → given_up a now ≡ slice_get a.transactions i → slice_get a.transactions i ≡ Some t → ◌≡◌ {A = StunAgentPollRet × Agent} (TransactionTimedOut t.id, ended t.id a) (poll_step a now)
 poll_step-over a now i t first taken = rw (first ∙ taken) refl
 
--- the least of all is not above where it began
+-- the least of all is not above the start value
 fold_min-le : (start : ℕ) (moments : List ℕ) → fold min start moments ≤ start
 fold_min-le start [] = omega arith
 fold_min-le start (m ∷ moments) = omega (arith, fold_min-le (min start m) moments, min-le_left start m)
 
--- before the least moment of all nothing passes that waits for its own
+-- before the earliest time of all none is found, if each fails the test before its own time
 find-before : (next : Transaction → ℕ) (p : Transaction → Bool) (moment : ℕ) → ((t : Transaction) → moment < next t → p t ≡ false) → (start : ℕ) (ts : List Transaction) → moment < fold min start (map next ts) → find p ts ≡ None
 find-before next p moment waits start [] before = refl
 find-before next p moment waits start (t ∷ ts) before =
@@ -155,7 +155,7 @@ IsSilentAt-before a moment before =
     let none_over = find-before next (is_given_up a.timers a.transport moment) moment (λ t later. and_right _ _ (lt-leb (next t) moment later)) (2 ^ 63 - 1) a.transactions before in
     record { sends_nothing = rw none_due refl; gives_nothing_up = none_over }
 
--- what is neither due nor given up waits on
+-- what is neither due nor timed out waits further
 waits_on : (timers : Timers) (transport : TransportType) (now : ℕ) (t : Transaction) → is_due timers transport now t ≡ false → is_given_up timers transport now t ≡ false → now < next_moment timers transport t
 waits_on timers transport now t not_due not_over = by (leb (next_moment timers transport t) now) refl
   where
@@ -166,7 +166,7 @@ waits_on timers transport now t not_due not_over = by (leb (next_moment timers t
         let last : leb (resends_of timers transport) t.resends ≡ false = and_false_left _ _ past not_over in
         absurd (omega (arith, ltb-false _ _ more, leb-false _ _ last))
 
--- where a wait is over and nothing is given up, a request is due
+-- if a wait is over and nothing times out, a request is due
 pub some_due : (timers : Timers) (transport : TransportType) (now start : ℕ) (ts : List Transaction) → find (is_given_up timers transport now) ts ≡ None → now < start → fold min start (map (next_moment timers transport) ts) ≤ now → IsSome (find (is_due timers transport now) ts)
 some_due timers transport now start [] none below past = absurd (omega arith)
 some_due timers transport now start (t ∷ ts) none below past =
@@ -193,16 +193,16 @@ transmit_step-sent a now i d distinct at =
 pub same_transmit : (packet : Transmit (List ℕ)) (payload : List ℕ) (transport : TransportType) (from to : SocketAddr) → packet.payload ≡ payload → packet.transport ≡ transport → packet.from ≡ from → packet.to ≡ to → packet ≡ record { payload = payload; transport = transport; from = from; to = to }
 same_transmit packet payload transport from to p k f t = rw (← p, ← k, ← f, ← t) refl
 
--- it is not sent more often than a number of 32 bits can tell
+-- it is not sent more often than a number of 32 bits can count
 pub is_due-counted : (timers : Timers) (transport : TransportType) (now : ℕ) (ts : List Transaction) (i : ℕ) (d : Transaction) → position (is_due timers transport now) ts ≡ Some i → (get_or ts i d).resends < resends_of timers transport
 is_due-counted timers transport now ts i d at =
     let first = position-IsFirst (is_due timers transport now) ts i at in
     let passes = find-passes (is_due timers transport now) ts (get_or ts i d) (first.found d) in
     ltb-true (get_or ts i d).resends (resends_of timers transport) (and_parts (ltb (get_or ts i d).resends (resends_of timers transport)) (leb (next_moment timers transport (get_or ts i d)) now) passes).0
 
--- ---- the moment that is kept
+-- ---- the time that is kept
 
--- before it nothing happens
+-- before it nothing is due
 pub IsSilentAt-quiet : (a : Agent) (now soonest moment : ℕ) → IsQuietUntil a now soonest → moment < soonest → IsSilentAt a moment
 IsSilentAt-quiet a now soonest moment quiet before = IsSilentAt-before a moment (rw (← quiet.1.1) before)
 
@@ -224,7 +224,7 @@ fold_min-min : (a b : ℕ) (moments : List ℕ) → fold min (min a b) moments �
 fold_min-min a b [] = refl
 fold_min-min a b (m ∷ moments) = rw (min_assoc a b m) (fold_min-min a (min b m) moments)
 
--- the least of all and of a moment that is not past the greatest
+-- the least of all and of a time that is not past the greatest
 pub earliest-known : (a : Agent) (moment soonest : ℕ) → IsSoonest a.timers a.transport a.transactions (Some soonest) → moment < 2 ^ 63 → min moment soonest ≡ earliest a moment
 earliest-known a moment soonest known range =
     let start : min moment (2 ^ 63 - 1) ≡ moment = min-eq_left (omega (arith, range)) in

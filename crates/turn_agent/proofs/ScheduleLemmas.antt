@@ -1,4 +1,4 @@
--- The waits of a schedule, one at a time and together.
+-- The waits of a schedule, singly and summed.
 use Rattle.std.proofs.Common.{◌≡◌, ℕ, zero, suc, ◌+◌, ◌-◌, ◌*◌, ◌^◌, ◌<◌, ◌≤◌, map, sum, refl, arith, add-one, ltb, true, false}
 use Rattle.std.proofs.Math.Nat.{pow-suc, pow-le-pow_right, min-eq_right, min-eq_left, mul-le-mul_right}
 use Rattle.std.proofs.lemmas.Bool.{lt-ltb, le-ltb}
@@ -10,7 +10,7 @@ use Rattle.turn_agent.specs.Schedule.{Timers, doubled_wait, doubled_sum, udp_wai
 pub doubled_once : (first place : ℕ) → first * 2 ^ (place + 1) ≡ first * 2 ^ place * 2
 doubled_once first place = rw (add-one, pow-suc) (omega arith)
 
--- once the doubled wait has come to the greatest, all others are the greatest
+-- once the doubled wait has reached the greatest, all later waits are the greatest
 pub doubled_sum-greatest : (first greatest place n : ℕ) → greatest ≤ first * 2 ^ place → doubled_sum first greatest place n ≡ n * greatest
 unfolding doubled_sum
 doubled_sum-greatest first greatest place zero h = omega arith
@@ -18,7 +18,7 @@ doubled_sum-greatest first greatest place (suc n) h =
     let others = doubled_sum-greatest first greatest (place + 1) n (omega (arith, doubled_once first place)) in
     rw (min-eq_right h, others) (omega arith)
 
--- a wait of more than nothing, doubled 64 times, is longer than any
+-- a wait of more than zero, doubled 64 times, is at least the greatest
 pub longer_than_any : (first greatest place : ℕ) → 0 < first → greatest < 2 ^ 64 → 64 ≤ place → greatest ≤ first * 2 ^ place
 longer_than_any first greatest place some small far =
     omega (arith, mul-le-mul_right (2 ^ place) some, pow-le-pow_right {n = 2} (omega arith) far)
@@ -31,7 +31,7 @@ doubled_sum-first first greatest place (suc n) h =
     let e : suc n - 1 ≡ n = omega arith in
     rw e
 
--- the waits from a place on, where the last send comes so many places later
+-- the waits from a place on, if the last send comes so many places later
 sum_from : (t : Timers) (place n : ℕ) → place + n ≡ udp_resends t → sum (map (udp_wait_at t) (range_with_len place (n + 1))) ≡ doubled_sum t.initial t.max place n + t.last
 unfolding doubled_sum
 sum_from t place zero h =
@@ -43,19 +43,19 @@ sum_from t place (suc n) h =
     let others = sum_from t (place + 1) n (omega arith) in
     rw (len, sum_by-cons (λ x. x) (udp_wait_at t place) (map (udp_wait_at t) (range_with_len (place + 1) (n + 1))), others, more) (omega arith)
 
--- all waits together: the doubled ones, and the last
+-- the sum of all waits: the doubled ones, and the last
 pub sum-schedule : (t : Timers) → sum (schedule t) ≡ doubled_sum t.initial t.max 0 (udp_resends t) + t.last
 unfolding schedule
 sum-schedule t = sum_from t 0 (udp_resends t) (omega arith)
 
--- how far the sum of the doubled waits has come: the next wait, how many are left, and their sum so far
+-- the progress of the sum of the doubled waits: the next wait, how many are left, and their sum so far
 pub record IsDoubling (first greatest count turn wait left so_far : ℕ) : Type 0 where
   pub next : wait ≡ first * 2 ^ turn
   pub places : turn + left ≡ count
   pub range : so_far ≤ turn * 2 ^ 64
   pub whole : so_far + doubled_sum first greatest turn left ≡ doubled_sum first greatest 0 count
 
--- one wait more
+-- one more wait
 pub IsDoubling-more : (first greatest count turn wait left so_far : ℕ) → IsDoubling first greatest count turn wait left so_far → (left ≡ 0 → ⊥) → wait < greatest → greatest < 2 ^ 64 → IsDoubling first greatest count (turn + 1) (wait * 2) (left - 1) (so_far + wait)
 IsDoubling-more first greatest count turn wait left so_far is some below small =
     let step = doubled_sum-first first greatest turn left (omega arith) in
@@ -67,7 +67,7 @@ IsDoubling-more first greatest count turn wait left so_far is some below small =
       whole = omega (arith, is.whole, is.next, step, here);
     }
 
--- the sum when no wait is left, when all others are the greatest, and behind 64 turns
+-- the sum when no wait is left, when all others are the greatest, and after 64 iterations
 pub IsDoubling-none : (first greatest count turn wait left so_far : ℕ) → IsDoubling first greatest count turn wait left so_far → left ≡ 0 → so_far + left * greatest ≡ doubled_sum first greatest 0 count
 unfolding doubled_sum
 IsDoubling-none first greatest count turn wait left so_far is none =

@@ -9,7 +9,7 @@ use Rattle.turn_agent.specs.declared.transaction.Transaction.{Transaction}
 eqb-false_back : (a b : ℕ) → eqb a b ≡ false → eqb b a ≡ false
 eqb-false_back a b differ = ne_eqb b a (λ same. eqb-false a b differ (sym same))
 
--- one more transaction, of an ID that was not outstanding
+-- one more transaction, with an ID that was not outstanding
 pub AreDistinct-push : (ts : List Transaction) (t : Transaction) → AreDistinct ts → is_outstanding t.id ts ≡ false → AreDistinct (ts ++ t ∷ [])
 AreDistinct-push [] t distinct fresh = (refl, tt)
 AreDistinct-push (u ∷ ts) t distinct fresh =
@@ -18,7 +18,7 @@ AreDistinct-push (u ∷ ts) t distinct fresh =
       AreDistinct-push ts t distinct.1 parts.1,
     )
 
--- where the ID is not outstanding, nothing is left out
+-- if the ID is not outstanding, nothing is left out
 pub without-none : (id : ℕ) (ts : List Transaction) → is_outstanding id ts ≡ false → without id ts ≡ ts
 without-none id [] none = refl
 without-none id (t ∷ ts) none =
@@ -60,7 +60,7 @@ other_id_at id (t ∷ ts) zero d none within = (or_parts (eqb t.id id) (is_outst
 other_id_at id (t ∷ ts) (suc i) d none within =
     other_id_at id ts i d (or_parts (eqb t.id id) (is_outstanding id ts) none).1 (omega arith)
 
--- to take out the one at a place is to leave out its ID
+-- to remove the one at a place is to leave out its ID
 pub remove-without : (ts : List Transaction) (i : ℕ) (d : Transaction) → AreDistinct ts → i < length ts → take i ts ++ drop (suc i) ts ≡ without (get_or ts i d).id ts
 remove-without [] i d distinct within = absurd (omega arith)
 remove-without (t ∷ ts) zero d distinct within = rw (eq-eqb t.id t.id refl) (sym (without-none t.id ts distinct.0))
@@ -69,14 +69,14 @@ remove-without (t ∷ ts) (suc i) d distinct within =
     let differ = eqb-false_back _ _ (other_id_at t.id ts i d distinct.0 inside) in
     rw (differ, remove-without ts i d distinct.1 inside) refl
 
--- where the ID is not outstanding, nothing is sent again
+-- if the ID is not outstanding, nothing is retransmitted
 resent-none : (id now : ℕ) (ts : List Transaction) → is_outstanding id ts ≡ false → resent id now ts ≡ ts
 resent-none id now [] none = refl
 resent-none id now (t ∷ ts) none =
     let parts = or_parts (eqb t.id id) (is_outstanding id ts) none in
     rw (parts.0, resent-none id now ts parts.1) refl
 
--- to send the one at a place again is to do so by its ID
+-- to retransmit the one at a place is to do so by its ID
 pub set-resent : (now : ℕ) (ts : List Transaction) (i : ℕ) (d : Transaction) → AreDistinct ts → i < length ts → set ts i (sent_again now (get_or ts i d)) ≡ resent (get_or ts i d).id now ts
 set-resent now [] i d distinct within = absurd (omega arith)
 set-resent now (t ∷ ts) zero d distinct within = rw (eq-eqb t.id t.id refl, resent-none t.id now ts distinct.0) refl
@@ -85,7 +85,7 @@ set-resent now (t ∷ ts) (suc i) d distinct within =
     let differ = eqb-false_back _ _ (other_id_at t.id ts i d distinct.0 inside) in
     rw (differ, set-resent now ts i d distinct.1 inside) refl
 
--- a request that is sent again keeps its ID
+-- a request that is retransmitted keeps its ID
 is_outstanding-resent : (id other now : ℕ) (ts : List Transaction) → is_outstanding other (resent id now ts) ≡ is_outstanding other ts
 is_outstanding-resent id other now [] = refl
 is_outstanding-resent id other now (t ∷ ts) = by (is_outstanding-resent id other now ts) (eqb t.id id) refl

@@ -19,7 +19,7 @@ use Rattle.turn_agent.specs.declared.agent.Progress.{Progress}
 use Rattle.turn_agent.specs.declared.agent.Progress.TheVariants.{Over, Waiting, Idle}
 use Rattle.turn_agent.specs.declared.transaction.Transaction.{Transaction}
 
--- what a contract sees of an agent; its transactions are in the order of their first sends
+-- an agent as contracts describe it; its transactions are in the order of their first sends
 pub record Agent : Type 0 where
   pub transport : TransportType
   pub local : SocketAddr
@@ -31,15 +31,15 @@ pub record Agent : Type 0 where
 abbrev pub first_sent : ℕ → SocketAddr → ℕ → List ℕ → Transaction
 first_sent id to now request = record { id = id; to = to; resends = 0; last_send = now; request = request }
 
--- the transaction when its request was sent again at this moment
+-- the transaction after its request was retransmitted at this time
 abbrev pub sent_again : ℕ → Transaction → Transaction
 sent_again now t = record t { resends = t.resends + 1; last_send = now }
 
--- when the wait behind its last send is over; the greatest moment is 2^63 - 1
+-- when the wait after its last send is over; the greatest time is 2^63 - 1
 abbrev pub next_moment : Timers → TransportType → Transaction → ℕ
 next_moment timers transport t = min (t.last_send + wait_at timers transport t.resends) (2 ^ 63 - 1)
 
--- that wait is over, and the request is to be sent again
+-- that wait is over, and the request is to be retransmitted
 abbrev pub is_due : Timers → TransportType → ℕ → Transaction → Bool
 is_due timers transport now t =
     nat_lt t.resends (resends_of timers transport) && nat_le (next_moment timers transport t) now
@@ -49,24 +49,24 @@ abbrev pub is_given_up : Timers → TransportType → ℕ → Transaction → Bo
 is_given_up timers transport now t =
     nat_le (resends_of timers transport) t.resends && nat_le (next_moment timers transport t) now
 
--- whether a request of this ID awaits its response
+-- whether a request with this ID awaits its response
 abbrev pub is_outstanding : ℕ → List Transaction → Bool
 is_outstanding id transactions = list_any (λ t. t.id == id) transactions
 
--- no two have one ID
+-- no two have the same ID
 abbrev pub AreDistinct : List Transaction → Type 0
 AreDistinct [] = Unit {0}
 AreDistinct (t ∷ others) = (is_outstanding t.id others ≡ false) × AreDistinct others
 
--- the transactions but for the one of this ID
+-- the transactions but for the one with this ID
 abbrev pub without : ℕ → List Transaction → List Transaction
 without id transactions = filter (λ t. not (t.id == id)) transactions
 
--- the transactions when the request of this ID was sent again at this moment
+-- the transactions after the request with this ID was retransmitted at this time
 abbrev pub resent : ℕ → ℕ → List Transaction → List Transaction
 resent id now transactions = map (λ t. if t.id == id then sent_again now t else t) transactions
 
--- the two addresses are one: IP, port and, for IPv6, flow information and scope
+-- the two addresses are equal: IP, port and, for IPv6, flow information and scope
 abbrev pub same_address : SocketAddr → SocketAddr → Bool
 same_address (V4 a) (V4 b) =
     pointwise ◌==◌ (ipv4_octets (v4_ip a)) (ipv4_octets (v4_ip b)) && (v4_port a == v4_port b)
@@ -78,35 +78,35 @@ same_address (V6 a) (V4 b) = false
 
 -- ---- the calls
 
--- a request goes out for the first time
+-- a request is sent for the first time
 abbrev pub asked : Agent → ℕ → SocketAddr → ℕ → List ℕ → Agent
 asked a id to now request =
     record a { transactions = a.transactions ++ first_sent id to now request ∷ [] }
 
--- the transaction whose request is sent next: the oldest one that is due
+-- the transaction whose request is retransmitted next: the oldest one that is due
 abbrev pub due : Agent → ℕ → Option Transaction
 due a now = find (is_due a.timers a.transport now) a.transactions
 
--- the transaction that is given up next: the oldest one whose last wait is over
+-- the transaction that times out next: the oldest one whose last wait is over
 abbrev pub given_up : Agent → ℕ → Option Transaction
 given_up a now = find (is_given_up a.timers a.transport now) a.transactions
 
--- the least moment at which a wait is over, or 9999 s from now where nothing is outstanding (our
+-- the earliest time at which a wait is over, or 9999 s from now if nothing is outstanding (our
 -- choice)
 abbrev pub next_wakeup : Agent → ℕ → ℕ
 next_wakeup a now =
     if length a.transactions == 0 then min (now + 9_999_000_000_000) (2 ^ 63 - 1)
     else fold min (2 ^ 63 - 1) (map (next_moment a.timers a.transport) a.transactions)
 
--- the least of this moment and of those at which a wait is over
+-- the earlier of this time and the earliest time at which a wait is over
 abbrev pub earliest : Agent → ℕ → ℕ
 earliest a moment = fold min moment (map (next_moment a.timers a.transport) a.transactions)
 
--- the agent without the transaction of this ID
+-- the agent without the transaction with this ID
 abbrev pub ended : ℕ → Agent → Agent
 ended id a = record a { transactions = without id a.transactions }
 
--- what `poll` answers, and the agent after it
+-- the result of `poll`, and the agent after it
 abbrev pub poll_step : Agent → ℕ → StunAgentPollRet × Agent
 poll_step a now = by (given_up a now)
   where
@@ -114,7 +114,7 @@ poll_step a now = by (given_up a now)
     by None = (WaitUntil (next_wakeup a now), a)
     by (Some t) = (TransactionTimedOut t.id, record a { transactions = without t.id a.transactions })
 
--- what `poll_transmit` gives, and the agent after it
+-- the result of `poll_transmit`, and the agent after it
 abbrev pub transmit_step : Agent → ℕ → Option (Transmit (List ℕ)) × Agent
 transmit_step a now = by (due a now)
   where
@@ -125,7 +125,7 @@ transmit_step a now = by (due a now)
       record a { transactions = resent t.id now a.transactions },
     )
 
--- a response of this ID from this address answers the transaction
+-- a response with this ID from this address answers the transaction
 abbrev pub answers : ℕ → SocketAddr → Transaction → Bool
 answers id from t = t.id == id && same_address t.to from
 
@@ -136,11 +136,12 @@ is_response Indication = false
 is_response Success = true
 is_response Error = true
 
--- a message of this class and ID, from this address, ends a transaction
+-- a message of this class with this ID, from this address, ends a transaction
 abbrev pub ends_one : List Transaction → MessageClass → ℕ → SocketAddr → Bool
 ends_one transactions class id from = is_response class && list_any (answers id from) transactions
 
--- what `handle_stun_message` answers, and the agent after it: all but a response is accepted
+-- the result of `handle_stun_message`, and the agent after it: all messages but responses are
+-- accepted
 abbrev pub handle_step : Agent → List ℕ → SocketAddr → Bool × Agent
 handle_step a message from =
     let class = class_of (type_of message) in
@@ -149,33 +150,33 @@ handle_step a message from =
       record a { transactions = if ended then without (id_of message) a.transactions else a.transactions },
     )
 
--- ---- the alarm
+-- ---- the returned time
 
--- at this moment nothing is sent again and nothing is given up
+-- at this time nothing is retransmitted and nothing times out
 pub record IsSilentAt (a : Agent) (moment : ℕ) : Type 0 where
   pub sends_nothing : (transmit_step a moment).0 ≡ None
   pub gives_nothing_up : given_up a moment ≡ None
 
--- nothing happens before the moment that `poll` tells
+-- nothing is due before the time that `poll` returns
 abbrev pub IsSilentUntil : StunAgentPollRet → Agent → Type 0
 IsSilentUntil (WaitUntil t) a = (moment : ℕ) → moment < t → IsSilentAt a moment
 IsSilentUntil (TransactionTimedOut id) a = Unit {0}
 
--- where the moment told is not later than now, a request is due, so a caller that sends what is due
--- does not ask in vain; at the greatest moment this may fail, since no later one can be told
+-- if the returned time is not later than now, a request is due, so a caller that sends what is due
+-- does not call for nothing; at the greatest time this may fail, since no later one can be returned
 abbrev pub IsBusy : StunAgentPollRet → Agent → ℕ → Type 0
 IsBusy (WaitUntil t) a now = t ≤ now → now < 2 ^ 63 - 1 → IsSome (due a now)
 IsBusy (TransactionTimedOut id) a now = Unit {0}
 
--- what was given up is no longer outstanding
+-- a transaction that timed out is no longer outstanding
 abbrev pub IsEnded : StunAgentPollRet → Agent → Type 0
 IsEnded (WaitUntil t) a = Unit {0}
 IsEnded (TransactionTimedOut id) a = is_outstanding id a.transactions ≡ false
 
 -- ---- one pass over the transactions
 
--- how far they have come: the place of the oldest one whose last wait is over, or else the least
--- moment at which a wait is over
+-- their progress: the place of the oldest one whose last wait is over, or else the earliest time at
+-- which a wait is over
 abbrev pub IsProgress : Timers → TransportType → ℕ → List Transaction → Progress → Type 0
 IsProgress timers transport now ts (Over place) =
     (place < length ts) × (find (is_given_up timers transport now) ts ≡ slice_get ts place)
@@ -184,14 +185,14 @@ IsProgress timers transport now ts (Waiting moment) =
     × (moment ≡ fold min (2 ^ 63 - 1) (map (next_moment timers transport) ts))
 IsProgress timers transport now ts Idle = ts ≡ []
 
--- ---- the moment that is kept
+-- ---- the time that is kept
 
--- it is the least at which a wait is over, if it is known
+-- it is the earliest time at which a wait is over, if it is known
 abbrev pub IsSoonest : Timers → TransportType → List Transaction → Option ℕ → Type 0
 IsSoonest timers transport ts None = Unit {0}
 IsSoonest timers transport ts (Some moment) =
     (0 < length ts) × (moment ≡ fold min (2 ^ 63 - 1) (map (next_moment timers transport) ts))
 
--- it is that, and still to come
+-- it is that time, and in the future
 abbrev pub IsQuietUntil : Agent → ℕ → ℕ → Type 0
 IsQuietUntil a now moment = (now < moment) × IsSoonest a.timers a.transport a.transactions (Some moment)

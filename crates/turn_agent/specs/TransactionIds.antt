@@ -4,18 +4,18 @@ use Rattle.std.specs.Int.{w32, to_le_bytes}
 use Rattle.rand_chacha.specs.ChaCha.{ChaCha, word_at, key_of}
 use Rattle.turn_stun.specs.Number.{big_endian}
 
--- what a contract sees of a source of IDs: its seed of 32 bytes, and the place in the key stream
--- that it has reached, in words and below 2^68
+-- a source of IDs as contracts describe it: its seed of 32 bytes, and its place in the key stream,
+-- in words and below 2^68
 pub record Source : Type 0 where
   pub seed : List ℕ
   pub place : ℕ
 
 -- the word at this place of the key stream (ChaCha20, stream 0), its least significant byte first;
--- the stream comes round after 2^68 words
+-- the stream repeats after 2^68 words
 abbrev pub word_bytes : List ℕ → ℕ → List ℕ
 word_bytes key place = to_le_bytes w32 (word_at 10 key 0 (place % 2 ^ 68))
 
--- the ID that the three words from this place on are
+-- the ID made of the three words from this place on
 unfoldable pub keyed_id_at : List ℕ → ℕ → ℕ
 keyed_id_at key place = big_endian (word_bytes key place ++ word_bytes key (place + 1) ++ word_bytes key (place + 2))
 
@@ -23,11 +23,11 @@ keyed_id_at key place = big_endian (word_bytes key place ++ word_bytes key (plac
 abbrev pub id_at : List ℕ → ℕ → ℕ
 id_at seed place = keyed_id_at (key_of seed) place
 
--- the ID that the source gives next
+-- the ID that the source returns next
 abbrev pub next_id : Source → ℕ
 next_id source = id_at source.seed source.place
 
--- the source when it has given that ID
+-- the source after it returned that ID
 abbrev pub behind_id : Source → Source
 behind_id source = record source { place = (source.place + 3) % 2 ^ 68 }
 

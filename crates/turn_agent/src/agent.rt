@@ -21,21 +21,21 @@ use turn_stun::transaction::TransactionId;
 pub use turn_stun::transport::Transmit;
 use turn_stun::transport::TransportType;
 
-/// How long an agent with nothing outstanding lets its caller sleep, in seconds (our choice).
+/// How long the caller of an agent with nothing outstanding waits, in seconds (our choice).
 const IDLE_SECONDS: u64 = 9_999;
 
-/// What an agent wants of its caller.
+/// What the caller of an agent is to do next.
 #[derive(Clone, Copy, Debug, PartialEq, Eq)]
 pub enum StunAgentPollRet {
-    /// Nothing is to be done before that moment. Where it is not later than now, a request is to be
-    /// sent again now.
+    /// Nothing is due before this time. If it is not later than now, a request is to be retransmitted
+    /// now, unless now is the greatest time, 2^63 - 1 ns.
     WaitUntil(Instant),
-    /// The request with that ID was sent as often as it is to be, and no response came. It is no
-    /// longer outstanding.
+    /// The request with this ID was sent as often as configured, and no response was received. It is
+    /// no longer outstanding.
     TransactionTimedOut(TransactionId),
 }
 
-/// What makes an agent. Contracts see the agent that it makes.
+/// The settings of an agent. Contracts describe them by the agent that they make.
 #[derive(Debug, Drop)]
 pub struct StunAgentBuilder {
     alloc: Global,
@@ -70,7 +70,7 @@ impl StunAgentBuilder {
     }
 
     /// Sets how often a request is sent, and how long a response is awaited: `RequestTimers::new`
-    /// says what each of these is.
+    /// describes each of these values.
     pub fn request_retransmits(
         self,
         initial: Duration,
@@ -113,9 +113,9 @@ impl StunAgentBuilder {
     }
 }
 
-/// Sends requests again until a response comes or the last wait is over.
+/// Retransmits requests until a response is received or the last wait is over.
 ///
-/// Many requests may be outstanding at once. Contracts see the record `Agent`.
+/// Many requests may be outstanding at once. Contracts describe the agent by the record `Agent`.
 #[derive(Debug, Drop)]
 pub struct StunAgent {
     alloc: Global,
@@ -123,8 +123,8 @@ pub struct StunAgent {
     remote_addr: Option<SocketAddr>,
     schedule: Schedule,
     transactions: Vec<Transaction>,
-    // The least moment at which a wait is over, where it is known: kept, since to look for it goes
-    // over all transactions. Each change of a transaction forgets it.
+    // The earliest time at which a wait is over, if it is known: kept, since computing it goes over
+    // all transactions. Each change of a transaction clears it.
     soonest: Option<Instant>,
 }
 
@@ -145,7 +145,7 @@ impl Model for StunAgent {
 }
 
 impl StunAgent {
-    /// What makes an agent over this transport that sends from this address, with the timers of
+    /// The settings of an agent over this transport that sends from this address, with the timers of
     /// RFC 8489, section 6.2.1, and with no server named.
     pub fn builder(
         alloc: Global,
@@ -169,7 +169,7 @@ impl StunAgent {
         }
     }
 
-    /// Where the agent sends from.
+    /// The address from which the agent sends.
     pub fn local_addr(&self) -> SocketAddr
         ensures { result ≡ self.now.local }
     {
@@ -183,14 +183,14 @@ impl StunAgent {
         self.remote_addr
     }
 
-    /// What carries the agent's packets.
+    /// The transport of the agent's packets.
     pub fn transport(&self) -> TransportType
         ensures { result ≡ self.now.transport }
     {
         self.schedule.transport
     }
 
-    /// Whether a request of this ID awaits its response.
+    /// Whether a request with this ID awaits its response.
     pub fn is_outstanding(&self, id: TransactionId) -> bool
         ensures { result ≡ is_outstanding id self.now.transactions }
     {
@@ -206,8 +206,8 @@ impl StunAgent {
         self.transactions.len()
     }
 
-    /// The least of this moment and of those at which a wait is over: when to ask again, for a caller
-    /// that itself has something to do at `moment`.
+    /// The earlier of this time and the earliest time at which a wait is over: when to call `poll`
+    /// again, for a caller that itself has something to do at `moment`.
     pub fn earliest(&self, moment: Instant) -> Instant
         ensures { result ≡ earliest self.now moment }
     {
@@ -217,14 +217,14 @@ impl StunAgent {
         }
     }
 
-    /// Counts the first send of a request at `now`, and hands its bytes back as the packet.
+    /// Counts the first send of a request at `now`, and returns its bytes as the packet.
     ///
-    /// One copy of the bytes is kept, to be sent again. The caller sees to it that they are a
-    /// request with this ID.
+    /// One copy of the bytes is kept, for retransmissions. The caller ensures that they are a request
+    /// with this ID.
     ///
     /// # Errors
     ///
-    /// There is no memory for the copy. Nothing is outstanding that was not before.
+    /// If memory allocation for the copy fails. The outstanding requests are unchanged then.
     pub fn send_request<T: AsSlice<u8> + Drop>(
         &mut self,
         id: TransactionId,
@@ -255,11 +255,11 @@ impl StunAgent {
         Ok(Transmit::new(bytes, self.schedule.transport, self.local_addr, to))
     }
 
-    /// Takes a message that came in from this address, and says whether it is accepted.
+    /// Processes a message received from this address, and returns whether it is accepted.
     ///
-    /// A response is accepted where its ID is outstanding (RFC 8489, section 6.3) and it came from
-    /// the address that was asked (our choice). It ends the transaction, so no copy of it is
-    /// accepted. Requests and indications always are.
+    /// A response is accepted if its ID is outstanding (RFC 8489, section 6.3) and it came from the
+    /// address to which the request was sent (our choice). It ends the transaction, so no copy of it
+    /// is accepted. Requests and indications are always accepted.
     pub fn handle_stun_message(&mut self, message: &Message<'_>, from: SocketAddr) -> bool
         ensures step { (result, self.new) ≡ handle_step self.old message.now from }
         ensures ended { IsTrue result → IsResponse (class_of (type_of message.now))
@@ -278,8 +278,8 @@ impl StunAgent {
         }
     }
 
-    /// Ends the transaction of this ID, wherever its response came from, and says whether there was
-    /// one. The request is not sent again, and nothing is accepted as its response.
+    /// Ends the transaction with this ID, whatever the source of its response, and returns whether
+    /// there was one. The request is not retransmitted, and nothing is accepted as its response.
     pub fn end(&mut self, id: TransactionId) -> bool
         ensures was { result ≡ is_outstanding id self.old.transactions }
         ensures after { self.new ≡ ended id self.old }
@@ -293,15 +293,16 @@ impl StunAgent {
         }
     }
 
-    /// Gives a request up, or tells when to ask again.
+    /// Times out one request, or returns the next deadline.
     ///
-    /// The oldest request whose last wait is over is given up, one a call. With none, the answer is
-    /// the least moment at which a wait is over, or 9999 s from now where nothing is outstanding
-    /// (our choice). Before that moment `poll_transmit` gives nothing.
+    /// The oldest request whose last wait is over times out, one in each call. If there is none, the
+    /// result is the earliest time at which a wait is over, or 9999 s from now if nothing is
+    /// outstanding (our choice). Before that time `poll_transmit` returns none.
     pub fn poll(&mut self, now: Instant) -> StunAgentPollRet
         ensures step { (result, self.new) ≡ poll_step self.old now }
         ensures ended { IsEnded result self.new }
-        // Nothing is due before the moment that is told, and something is where that is not later.
+        // Nothing is due before the returned time. A request is due if that is not later than now,
+        // and now is not the greatest time.
         ensures alarm { IsSilentUntil result self.new }
         ensures busy { IsBusy result self.new now }
     {
@@ -323,15 +324,15 @@ impl StunAgent {
         }
     }
 
-    /// The oldest request that is due, to be sent again: counted as sent at `now`.
+    /// The oldest request that is due for retransmission: counted as sent at `now`.
     ///
     /// # Errors
     ///
-    /// There is no memory for its bytes. It is still due.
+    /// If memory allocation for its bytes fails. The request is still due.
     pub fn poll_transmit(&mut self, now: Instant) -> Result<Option<Transmit<Data>>, AllocError>
         ensures step { IfOk result (λ packet. (packet, self.new) ≡ transmit_step self.old now) }
         ensures err { OnErr result (self.new ≡ self.old) }
-        // Where nothing is due, no memory is taken.
+        // If nothing is due, no memory is allocated.
         ensures none { due self.old now ≡ None → IsOk result }
     {
         if self.is_quiet(now) {
@@ -348,7 +349,7 @@ impl StunAgent {
         Ok(Some(Transmit::new(payload, self.schedule.transport, self.local_addr, to)))
     }
 
-    /// The moment before which nothing is due, where it is known and not yet come.
+    /// The time before which nothing is due, if it is known and in the future.
     fn quiet_until(&self, now: Instant) -> Option<Instant>
         ensures { IfSome result (IsQuietUntil self.now now) }
     {
@@ -368,7 +369,7 @@ impl StunAgent {
         }
     }
 
-    /// Takes out the transaction at this place.
+    /// Removes the transaction at this place.
     fn take_out(&mut self, place: usize) -> Transaction
         requires { place < length self.old.transactions }
         ensures taken { slice_get self.old.transactions place ≡ Some result }
@@ -379,17 +380,17 @@ impl StunAgent {
     }
 }
 
-/// How far the requests of an agent have come.
+/// The progress of the requests of an agent.
 enum Progress {
-    /// The last wait of the one at this place is over.
+    /// The last wait of the transaction at this place is over.
     Over(usize),
-    /// The least moment at which a wait is over.
+    /// The earliest time at which a wait is over.
     Waiting(Instant),
     /// Nothing is outstanding.
     Idle,
 }
 
-/// The place of the transaction of this ID.
+/// The place of the transaction with this ID.
 fn place_of(transactions: &[Transaction], id: TransactionId) -> Option<usize>
     ensures { result ≡ position (λ t. t.id == id) transactions.now }
 {
@@ -398,14 +399,14 @@ fn place_of(transactions: &[Transaction], id: TransactionId) -> Option<usize>
         .position(|transaction| transaction.id == id)
 }
 
-/// The place of the transaction that a response of this ID from this address answers.
+/// The place of the transaction that a response with this ID from this address answers.
 fn answered(transactions: &[Transaction], id: TransactionId, from: SocketAddr) -> Option<usize>
     ensures { result ≡ position (answers id from) transactions.now }
 {
     transactions.iter().position(|transaction| transaction.id == id && transaction.to == from)
 }
 
-/// The place of the oldest transaction whose request is to be sent again now.
+/// The place of the oldest transaction whose request is to be retransmitted now.
 fn first_due(transactions: &[Transaction], schedule: &Schedule, now: Instant) -> Option<usize>
     ensures place { result ≡ position (is_due schedule.now.timers schedule.now.transport now) transactions.now }
     ensures range { resends_of schedule.now.timers schedule.now.transport < 2 ^ 32 }
@@ -416,7 +417,7 @@ fn first_due(transactions: &[Transaction], schedule: &Schedule, now: Instant) ->
     })
 }
 
-/// The oldest transaction whose last wait is over, or else the least moment at which one is.
+/// The oldest transaction whose last wait is over, or else the earliest time at which a wait is over.
 fn progress_of(transactions: &[Transaction], schedule: &Schedule, now: Instant) -> Progress
     ensures { IsProgress schedule.now.timers schedule.now.transport now transactions.now result }
 {
@@ -435,7 +436,7 @@ fn progress_of(transactions: &[Transaction], schedule: &Schedule, now: Instant) 
     Progress::Waiting(least)
 }
 
-/// The least of this moment and of those at which a wait is over.
+/// The earlier of this time and the earliest time at which a wait is over.
 fn least_with(moment: Instant, transactions: &[Transaction], schedule: &Schedule) -> Instant
     ensures { result ≡ fold min moment (map (next_moment schedule.now.timers schedule.now.transport) transactions.now) }
 {
@@ -446,7 +447,7 @@ fn least_with(moment: Instant, transactions: &[Transaction], schedule: &Schedule
     least
 }
 
-/// The least moment at which a wait is over.
+/// The earliest time at which a wait is over.
 fn soonest_of(transactions: &[Transaction], schedule: &Schedule) -> Option<Instant>
     ensures { IsSoonest schedule.now.timers schedule.now.transport transactions.now result }
 {

@@ -12,15 +12,16 @@ use std::fmt;
 use std::marker::Model;
 use turn_stun::transaction::TransactionId;
 
-/// The transaction IDs of a seed, one after the other: twelve bytes of ChaCha20's key stream each.
+/// The sequence of transaction IDs of a seed: twelve bytes of ChaCha20's key stream each.
 ///
-/// RFC 8489, section 5, wants IDs that an attacker cannot guess. They are as good as the seed is
-/// secret. Contracts see the seed, and how many words of the key stream were used.
+/// RFC 8489, section 5, requires IDs that an attacker cannot guess. They are as good as the seed is
+/// secret. Contracts describe the source by its seed and the number of words of the key stream that
+/// were used.
 #[derive(Drop)]
 pub struct NumberSource {
-    /// What the generator was made of. No code reads it: contracts name it.
+    /// The seed of the generator. No code reads it: contracts name it.
     seed: [u8; 32],
-    // Kept, since a new one for each ID costs a block of the cipher or more.
+    // Kept, since a new generator for each ID costs a block of the cipher or more.
     generator: ChaCha20Rng,
 }
 
@@ -45,9 +46,9 @@ impl NumberSource {
         }
     }
 
-    /// The ID that `draw` gives next.
+    /// The ID that `draw` returns next.
     ///
-    /// The source does not know which IDs are taken: its user tests that.
+    /// The source does not know which IDs are taken: its caller checks that.
     pub fn candidate(&self) -> TransactionId
         ensures { result ≡ next_id self.now }
     {
@@ -55,7 +56,7 @@ impl NumberSource {
         drawn_id(&mut generator)
     }
 
-    /// Takes the next ID.
+    /// Returns the next ID, and advances the source.
     pub fn draw(&mut self) -> TransactionId
         ensures id { result ≡ next_id self.old }
         ensures after { self.new ≡ behind_id self.old }
@@ -64,7 +65,7 @@ impl NumberSource {
     }
 }
 
-/// The seed is not shown, since it tells all IDs to come.
+/// The seed is not shown, since it reveals all IDs to come.
 impl fmt::Debug for NumberSource {
     fn fmt<W: fmt::Write>(&self, f: &mut fmt::Formatter<W>) -> fmt::Result {
         let place = self.generator.get_word_pos();
@@ -80,7 +81,7 @@ fn drawn_bytes(generator: &mut ChaCha20Rng) -> [u8; 4]
     generator.next_word().to_le_bytes()
 }
 
-/// The ID of the generator's next three words.
+/// The ID made of the generator's next three words.
 fn drawn_id(generator: &mut ChaCha20Rng) -> TransactionId
     requires stream { generator.old.stream ≡ 0 }
     requires place { generator.old.word_pos < 2 ^ 68 }

@@ -1,4 +1,4 @@
-//! When a request is sent again, and when it is given up (RFC 8489, section 6.2).
+//! When a request is retransmitted, and when it times out (RFC 8489, section 6.2).
 
 ghost use Rattle.std.specs.Prelude.{◌≡◌, ◌+◌, ◌-◌, ◌^◌, ◌<◌, min, sum};
 ghost use Rattle.turn_agent.specs.Schedule.{wait_of, udp_resends, udp_wait_at, schedule, resends_of, wait_at, doubled_wait, doubled_sum};
@@ -8,17 +8,17 @@ use std::time::Duration;
 use turn_stun::instant::Instant;
 use turn_stun::transport::TransportType;
 
-/// A request is sent but once where the initial wait is no longer than this (our choice).
+/// A request is sent only once if the initial wait is no longer than this (our choice).
 const SHORTEST_INITIAL_NANOS: u64 = 1_000_000;
 
-/// The greatest wait that any moment can tell from a longer one: all sums of moments stop there.
+/// The longest wait that can be distinguished from a longer one: all sums of times saturate there.
 const GREATEST_WAIT: u128 = 0x7fff_ffff_ffff_ffff;
 
-/// How often a request is sent, and how long a response is awaited behind each send (RFC 8489,
+/// How often a request is sent, and how long a response is awaited after each send (RFC 8489,
 /// section 6.2.1).
 ///
-/// A wait of 2^64 ns or more is kept as 2^64 - 1 ns. No moment lies so far ahead, so no call can
-/// tell them apart (our choice).
+/// A wait of 2^64 ns or more is kept as 2^64 - 1 ns. No `Instant` is so far ahead, so no call can
+/// distinguish them (our choice).
 #[derive(Clone, Copy, Debug, PartialEq, Eq)]
 pub struct RequestTimers {
     initial: u64,
@@ -38,11 +38,11 @@ impl Model for RequestTimers {
 }
 
 impl RequestTimers {
-    /// The timers with this wait behind the first send, which doubles from send to send up to
-    /// `max`, so many transmissions in all, and this wait behind the last of them.
+    /// The timers with this wait after the first send, which doubles from send to send up to `max`,
+    /// so many transmissions in all, and this wait after the last of them.
     ///
-    /// A request is sent but once where `retransmits` is 0 or 1, or where `initial` is at most 1 ms
-    /// (our choice).
+    /// A request is sent only once if `retransmits` is 0 or 1, or if `initial` is at most 1 ms (our
+    /// choice).
     pub fn new(
         initial: Duration,
         max: Duration,
@@ -64,7 +64,7 @@ impl RequestTimers {
         }
     }
 
-    /// How often a request is sent again over UDP.
+    /// How often a request is retransmitted over UDP.
     fn udp_resends(self) -> u32
         ensures { result ≡ udp_resends self }
     {
@@ -75,7 +75,7 @@ impl RequestTimers {
         }
     }
 
-    /// The wait behind the send at this place over UDP, in nanoseconds.
+    /// The wait after the send at this place over UDP, in nanoseconds.
     fn udp_wait(self, place: u32) -> u64
         ensures { result ≡ udp_wait_at self place }
     {
@@ -86,7 +86,7 @@ impl RequestTimers {
         }
     }
 
-    /// All waits of UDP together, in nanoseconds, or the greatest wait if that is less.
+    /// The sum of all waits over UDP, in nanoseconds, or the longest wait if that is less.
     fn whole_wait(self) -> u64
         ensures { result ≡ min (sum (schedule self)) (2 ^ 63 - 1) }
     {
@@ -96,7 +96,7 @@ impl RequestTimers {
     }
 }
 
-/// Half a second, doubled from send to send, seven sends, and 8 s behind the last (RFC 8489, section
+/// Half a second, doubled from send to send, seven sends, and 8 s after the last (RFC 8489, section
 /// 6.2.1).
 impl Default for RequestTimers {
     ghost use Rattle.std.specs.Prelude.{◌≡◌};
@@ -117,11 +117,11 @@ impl Default for RequestTimers {
 /// The timers of an agent over its transport.
 #[derive(Debug, Drop)]
 pub(crate) struct Schedule {
-    /// What carries the requests.
+    /// The transport of the requests.
     pub(crate) transport: TransportType,
     /// How often a request is sent over UDP, and how long a response is awaited.
     pub(crate) timers: RequestTimers,
-    // Kept, since to sum up takes up to 64 turns.
+    // Kept, since its sum takes up to 64 iterations.
     whole_wait: u64,
     ghost whole: { whole_wait ≡ min (sum (schedule timers)) (2 ^ 63 - 1) },
 }
@@ -139,7 +139,7 @@ impl Schedule {
         }
     }
 
-    /// How often a request is sent again.
+    /// How often a request is retransmitted.
     pub(crate) fn resends(&self) -> u32
         ensures { result ≡ resends_of self.now.timers self.now.transport }
     {
@@ -149,7 +149,7 @@ impl Schedule {
         }
     }
 
-    /// When the wait behind the send at this place is over, the first send being at place 0.
+    /// When the wait after the send at this place is over, the first send being at place 0.
     pub(crate) fn end_of_wait(&self, send: Instant, place: u32) -> Instant
         ensures { result ≡ min (send + wait_at self.now.timers self.now.transport place) (2 ^ 63 - 1) }
     {
@@ -161,19 +161,19 @@ impl Schedule {
     }
 }
 
-/// The nanoseconds of a wait.
+/// The nanoseconds of a wait, at most 2^64 - 1.
 fn nanos_of(wait: Duration) -> u64
     ensures { result ≡ wait_of wait }
 {
     u64::try_from(wait.as_nanos()).unwrap_or(u64::MAX)
 }
 
-/// The first wait, doubled so often, and the greatest wait at most.
+/// The first wait, doubled so often, and at most the greatest wait.
 fn doubled_wait(first: u64, greatest: u64, place: u32) -> u64
     requires { 0 < first }
     ensures { result ≡ doubled_wait first greatest place }
 {
-    // A wait doubled so often is longer than any.
+    // A wait doubled so often is longer than the greatest possible one.
     if place >= 64 {
         return greatest;
     }
@@ -181,9 +181,9 @@ fn doubled_wait(first: u64, greatest: u64, place: u32) -> u64
     doubled.min(u128::from(greatest)) as u64
 }
 
-/// So many of the doubled waits together, from the first one on.
+/// The sum of so many of the doubled waits, from the first one on.
 ///
-/// It takes 64 turns at most, whatever the count: behind them every wait is the greatest.
+/// It takes at most 64 iterations, whatever the count: after them every wait is the greatest.
 fn sum_of_doubled(first: u64, greatest: u64, count: u32) -> u128
     requires { 0 < count → 0 < first }
     ensures sum { result ≡ doubled_sum first greatest 0 count }

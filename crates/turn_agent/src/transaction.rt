@@ -12,30 +12,30 @@ use turn_stun::transaction::TransactionId;
 
 /// A request that awaits its response: a transaction of RFC 8489, section 6.
 ///
-/// An agent keeps them, and hands none out. Contracts speak of their fields.
+/// An agent keeps them and returns none to its caller. Contracts name their fields.
 #[derive(Debug, Drop)]
 pub struct Transaction {
     /// The ID of the request. No other outstanding request has it.
     pub id: TransactionId,
-    /// Where the request goes. A response from elsewhere is not accepted.
+    /// The address to which the request is sent. A response from another address is not accepted.
     pub to: SocketAddr,
-    /// How often the request was sent again.
+    /// How often the request was retransmitted.
     pub resends: u32,
     /// When it was last sent.
     pub last_send: Instant,
-    /// The request, kept to be sent again.
+    /// The request, kept for retransmissions.
     pub request: Data,
 }
 
 impl Transaction {
-    /// When it is sent again, or given up.
+    /// When the request is retransmitted or times out.
     pub(crate) fn next_moment(&self, schedule: &Schedule) -> Instant
         ensures { result ≡ next_moment schedule.now.timers schedule.now.transport self.now }
     {
         schedule.end_of_wait(self.last_send, self.resends)
     }
 
-    /// Counts one more send, and gives its bytes.
+    /// Counts one more send, and returns the bytes of the request.
     pub(crate) fn send_again(&mut self, alloc: Global, now: Instant) -> Result<Data, AllocError>
         requires { self.old.resends + 1 < 2 ^ 32 }
         ensures ok { IfOk result (λ bytes. (bytes ≡ self.old.request) × (self.new ≡ sent_again now self.old)) }

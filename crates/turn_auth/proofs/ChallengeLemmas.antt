@@ -1,4 +1,4 @@
--- What is computed of a challenge is what a challenge is.
+-- The function that computes a challenge agrees with the definition of one.
 use Rattle.std.proofs.Common.{◌≡◌, ℕ, ◌⊎◌, Bool, true, false, cond, List, Option, Some, None, inl, inr, refl, sym, ap, ◌∙◌}
 use Rattle.std.specs.Prelude.{◌==◌, ◌&&◌, ◌||◌, ◌↔◌, is_some, option_map, option_and_then}
 use Rattle.std.specs.Str.{bytes_eq}
@@ -13,7 +13,7 @@ use Rattle.turn_auth.specs.declared.challenge.Denial.{Denial}
 use Rattle.turn_auth.specs.declared.integrity.IntegrityAlgorithm.{IntegrityAlgorithm}
 use Rattle.turn_auth.specs.Challenge.{Follows, IsChallenge, challenge_of, chosen, denial_in, denial_with, held_after, is_error, picked, realm_in, nonce_in, code_in, value_in}
 
--- what a test lets through passed it
+-- what the test returns passed it
 guard_some : {A : Type 0} {y : A} (test : Bool) (found : Option A) → cond test found None ≡ Some y → (test ≡ true) × (found ≡ Some y)
 guard_some true found h = (refl, h)
 guard_some false found h = cc
@@ -91,7 +91,7 @@ challenge_of-sound auth bytes challenge h =
       follows = follows_from auth.supported auth.held offered told.0 found.0 (code_in bytes) challenge parts.2 found.2 found.1;
     }
 
--- ---- what is a challenge is computed
+-- ---- a challenge is computed
 
 -- the denial that a challenge follows, by its code
 abbrev denial_of : Challenge → ℕ → Denial
@@ -121,6 +121,6 @@ challenge_of-complete auth bytes challenge is =
     let computed = follows-IsComputed auth.supported auth.held (value_in 0x8002 bytes) (code_in bytes) challenge is.follows in
     rw (is.known, is.error, is.realm, is.nonce, computed.told, computed.picks, computed.gives) refl
 
--- what is computed of a challenge is what a challenge is
+-- the function that computes a challenge agrees with the definition of one
 pub challenge_of_is : (auth : ClientAuth) (bytes : List ℕ) (challenge : Challenge) → (challenge_of auth bytes ≡ Some challenge) ↔ IsChallenge auth bytes challenge
 challenge_of_is auth bytes challenge = (challenge_of-sound auth bytes challenge, challenge_of-complete auth bytes challenge)

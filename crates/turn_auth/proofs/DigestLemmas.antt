@@ -1,4 +1,4 @@
--- How long the digests are.
+-- The lengths of the digests.
 use Rattle.std.proofs.Common.{◌≡◌, ℕ, List, length, refl}
 use Rattle.sha1.specs.Sha1 as S1
 use Rattle.sha2.specs.Sha256 as S2

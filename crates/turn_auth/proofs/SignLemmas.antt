@@ -18,7 +18,7 @@ length-attribute_bytes : (kind : ℕ) (value : List ℕ) → length (attribute_b
 length-attribute_bytes kind value =
     omega (arith, padded_len-ge (length value), length-append value (replicate (padded_len (length value) - length value) 0), length-replicate {A = ℕ} (padded_len (length value) - length value) 0)
 
--- an attribute takes its header, its value and its padding
+-- an attribute consists of its header, its value and its padding
 pub length-with_attribute : (kind : ℕ) (value message : List ℕ) → 4 ≤ length message → length (with_attribute kind value message) ≡ length message + written_len value
 unfolding with_attribute
 length-with_attribute kind value message header =
@@ -26,7 +26,7 @@ length-with_attribute kind value message header =
     length-with_length _ (message ++ attribute_bytes kind value) long
     ∙ rw (length-append message (attribute_bytes kind value), length-attribute_bytes kind value) refl
 
--- what is unsigned stays so with one attribute more that tells no integrity
+-- what is unsigned stays so with one more attribute that does not carry integrity
 pub unsigned_more : (attributes : List Attribute) (a : Attribute) → is_unsigned attributes ≡ true → is_plain a.kind ≡ true → is_unsigned (attributes ++ a ∷ []) ≡ true
 unsigned_more [] a h plain = rw plain refl
 unsigned_more (b ∷ later) a h plain =
@@ -44,7 +44,7 @@ covered-with_attribute algorithm kind value message header =
     (take_at (with_length n message) (attribute_bytes kind value) (length message) (length-with_length n message header)) in
     rw (front, take_all (length message) message (omega arith), with_length-twice _ n message header) refl
 
--- ---- behind unsigned attributes an integrity attribute is the first of its kind
+-- ---- after unsigned attributes an integrity attribute is the first of its kind
 
 neither : (a b : Bool) → not (a || b) ≡ true → (a ≡ false) × (b ≡ false)
 neither true b h = cc
@@ -63,7 +63,7 @@ found_behind algorithm (b ∷ later) a kind h =
     let flags = neither (is_sha1 b.kind) (is_sha256 b.kind) both.0 in
     rw (another_kind algorithm b.kind both.0, flags.0, flags.1) (found_behind algorithm later a kind both.1)
 
--- a message that is signed at its end satisfies what is asked of signed messages
+-- a message that is signed at its end meets the requirements on signed messages
 pub signed_behind : (algorithm : IntegrityAlgorithm) (key message value new : List ℕ) → value ≡ mac_of algorithm key (covered_text algorithm (length message) message) → new ≡ with_attribute (integrity_kind algorithm) value message → AddsAttribute message new (integrity_kind algorithm) value → is_unsigned (attributes_of message) ≡ true → 4 ≤ length message → IntegrityHolds new algorithm key
 signed_behind algorithm key message value new is text added unsigned header =
     let covered : covered_text algorithm (length message) new ≡ covered_text algorithm (length message) message =

@@ -18,7 +18,7 @@ use Rattle.turn_auth.specs.declared.integrity.IntegrityAlgorithm.TheVariants.{Sh
 abbrev pub value_in : ℕ → List ℕ → Option (List ℕ)
 value_in kind bytes = option_map (λ first. first.value) (first_of kind (seen_of bytes))
 
--- REALM, NONCE and the code of ERROR-CODE, where the first seen one is well formed
+-- REALM, NONCE and the code of ERROR-CODE, if the first seen one is well formed
 abbrev pub realm_in : List ℕ → Option (List ℕ)
 realm_in bytes = option_and_then realm_of (value_in 0x0014 bytes)
 
@@ -33,8 +33,8 @@ code_in bytes = option_map (λ error. error.code) (option_and_then error_code_of
 abbrev pub offers_sha256 : List ℕ → Bool
 offers_sha256 value = nat_le (length value) 64 && list_any (is_bare_entry 2) (entries_of value)
 
--- the algorithm that a first challenge picks: SHA-256 where it is configured and offered, else SHA-1
--- where that is configured, else none
+-- the algorithm that a first challenge selects: SHA-256 if it is configured and offered, else SHA-1 if that
+-- is configured, else none
 abbrev pub picked : List IntegrityAlgorithm → Option (List ℕ) → Option IntegrityAlgorithm
 picked supported offered =
     if supports supported Sha256 && option_map_or offers_sha256 offered false then Some Sha256
@@ -58,20 +58,20 @@ denial_with (Some realm) (Some nonce) None = None
 denial_with (Some realm) None _ = None
 denial_with None _ _ = None
 
--- what an error response says to the client: its realm, nonce and code
+-- the contents of an error response for the client: its realm, nonce and code
 abbrev pub denial_in : List ℕ → Option Denial
 denial_in bytes =
     if is_error (class_of (type_of bytes)) then denial_with (realm_in bytes) (nonce_in bytes) (code_in bytes) else None
 
--- The algorithm to go on with: a first challenge is a 401, or a 438 to a client that holds nothing,
--- and picks it; a later one is a 438 in the realm that is held, and keeps it.
+-- The algorithm to use from now on: a first challenge is a 401, or a 438 to a client that holds nothing,
+-- and selects it; a later one is a 438 in the realm that is held, and keeps it.
 abbrev pub chosen : List IntegrityAlgorithm → Option Challenge → Option (List ℕ) → Denial → Option IntegrityAlgorithm
 chosen supported None offered denial =
     if (denial.code == 401) || (denial.code == 438) then picked supported offered else None
 chosen supported (Some held) offered denial =
     if (denial.code == 438) && bytes_eq denial.realm held.realm then Some held.algorithm else None
 
--- what is held then: a first challenge gives all of it, and a later one gives the nonce
+-- what is held then: a first challenge sets all of it, and a later one sets the nonce
 abbrev pub held_after : Option Challenge → Option (List ℕ) → Denial → IntegrityAlgorithm → Challenge
 held_after None offered denial algorithm = record {
   realm = denial.realm;
@@ -81,7 +81,7 @@ held_after None offered denial algorithm = record {
 }
 held_after (Some held) offered denial algorithm = record held { nonce = denial.nonce }
 
--- what is held once the message is taken as a challenge, or nothing where it is none
+-- what is held once the message is accepted as a challenge, or nothing if it is none
 abbrev pub challenge_of : ClientAuth → List ℕ → Option Challenge
 challenge_of auth bytes =
     if is_some auth.credentials then option_and_then (λ denial.
@@ -98,9 +98,9 @@ Follows supported offered code challenge None =
 Follows supported offered code challenge (Some held) =
     (code ≡ Some 438) × (challenge ≡ record held { nonce = challenge.nonce })
 
--- A message is a challenge, which gives what is then held: credentials are set, and it is an error
--- response with a well-formed realm, nonce and code. Where nothing is held, the code is 401 or 438
--- and an algorithm is picked; else the code is 438, and the realm is the one that is held.
+-- A message is a challenge, with what is then held: credentials are set, and it is an error response with a
+-- well-formed realm, nonce and code. If nothing is held, the code is 401 or 438 and an algorithm is
+-- selected; else the code is 438, and the realm is the one that is held.
 pub record IsChallenge (auth : ClientAuth) (bytes : List ℕ) (challenge : Challenge) : Type 0 where
   pub known : IsSome auth.credentials
   pub error : class_of (type_of bytes) ≡ Error
@@ -108,8 +108,8 @@ pub record IsChallenge (auth : ClientAuth) (bytes : List ℕ) (challenge : Chall
   pub nonce : nonce_in bytes ≡ Some challenge.nonce
   pub follows : Follows auth.supported (value_in 0x8002 bytes) (code_in bytes) challenge auth.held
 
--- The client may take what the challenge gave: it has credentials, and of what it holds the nonce
--- changes alone (RFC 8489, section 9.2.5; that the realm stays is our choice).
+-- The client may accept the challenge: it has credentials, and of what it holds the nonce changes alone
+-- (RFC 8489, section 9.2.5; that the realm stays is our choice).
 pub record MayTake (auth : ClientAuth) (challenge : Challenge) : Type 0 where
   pub known : IsSome auth.credentials
   pub kept : IfSome auth.held (λ held. challenge ≡ record held { nonce = challenge.nonce })

@@ -1,4 +1,4 @@
--- Who a client is (RFC 8489, section 9.2).
+-- The credentials of a client (RFC 8489, section 9.2).
 use Rattle.std.specs.Prelude.{ℕ, ◌≤◌, List, length}
 
 -- the bytes of the user name and of the password
@@ -11,7 +11,7 @@ pub record IsUser (user : List ℕ) : Type 0 where
   pub some : 1 ≤ length user
   pub short : length user ≤ 508
 
--- what all credentials keep; the bound on the password is our choice
+-- what holds for all credentials; the bound on the password is our choice
 pub record IsCredentials (credentials : Credentials) : Type 0 where
   pub user : IsUser credentials.user
   pub password : length credentials.password ≤ 65535

@@ -25,9 +25,8 @@ abbrev pub mac_of : IntegrityAlgorithm → List ℕ → List ℕ → List ℕ
 mac_of Sha1 key text = hmac sha1 key text
 mac_of Sha256 key text = hmac sha256 key text
 
--- What an integrity attribute at this offset covers: the message up to it, with the length of a
--- message that ends right behind it ("the length must then point to the end of the
--- MESSAGE-INTEGRITY attribute").
+-- What an integrity attribute at this offset covers: the message up to it, with the length of a message
+-- that ends right after it ("the length must then point to the end of the MESSAGE-INTEGRITY attribute").
 abbrev pub covered_text : IntegrityAlgorithm → ℕ → List ℕ → List ℕ
 covered_text algorithm offset bytes =
     with_length (offset - 20 + (4 + integrity_len algorithm)) (take offset bytes)
@@ -45,7 +44,7 @@ integrity_holds bytes algorithm key =
     option_map_or (λ first. bytes_eq first.value (mac_of algorithm key (covered_text algorithm first.offset bytes)))
     (first_of (integrity_kind algorithm) (seen_of bytes)) false
 
--- the same, or nothing where no attribute of the algorithm's type is seen
+-- the same, or nothing if no attribute of the algorithm's type is seen
 abbrev pub seen_integrity : List ℕ → IntegrityAlgorithm → List ℕ → Option Bool
 seen_integrity bytes algorithm key =
     option_map (λ first. bytes_eq first.value (mac_of algorithm key (covered_text algorithm first.offset bytes)))

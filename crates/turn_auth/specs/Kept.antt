@@ -1,4 +1,4 @@
--- What a client's side of the mechanism keeps.
+-- What the client's side of the mechanism keeps.
 use Rattle.std.specs.Prelude.{◌≡◌, ◌≤◌, Bool, true, false, List, [], ◌∷◌, length, Option, Some, None, is_some, option_map, IsSomeAnd, ⊤}
 use Rattle.turn_stun.specs.Message.{attributes_from}
 use Rattle.turn_auth.specs.Credentials.{Credentials}
@@ -36,8 +36,8 @@ is_supported_list (Sha1 ∷ Sha256 ∷ []) = true
 is_supported_list (Sha256 ∷ Sha1 ∷ []) = true
 is_supported_list _ = false
 
--- what the challenge gave can be written into a message (RFC 8489, sections 14.9 to 14.11; that at
--- most 64 bytes are sent back is our choice)
+-- the challenge can be written into a message (RFC 8489, sections 14.9 to 14.11; that at most 64 bytes are
+-- sent back is our choice)
 pub record IsWritable (challenge : Challenge) : Type 0 where
   pub realm_some : 1 ≤ length challenge.realm
   pub realm_short : length challenge.realm ≤ 763

@@ -1,4 +1,4 @@
--- What an HMAC whose text comes in pieces has taken in.
+-- What an HMAC has digested whose text is added in pieces.
 use Rattle.std.specs.Prelude.{ℕ, List, [], ◌++◌}
 use Rattle.sha1.specs.Sha1 as S1
 use Rattle.sha1.specs.Sha1.{sha1}

@@ -6,8 +6,8 @@ use Rattle.turn_auth.specs.declared.feature.Feature.{Feature}
 use Rattle.turn_auth.specs.declared.integrity.IntegrityAlgorithm.{IntegrityAlgorithm}
 use Rattle.turn_auth.specs.declared.integrity.IntegrityAlgorithm.TheVariants.{Sha1, Sha256}
 
--- What the server's challenges gave: the realm, the nonce, the algorithm that was picked, and with
--- SHA-256 the value of the PASSWORD-ALGORITHMS that it was picked by.
+-- The contents of the server's challenges: the realm, the nonce, the selected algorithm, and with SHA-256
+-- the value of the PASSWORD-ALGORITHMS from which it was selected.
 pub record Challenge : Type 0 where
   pub realm : List ℕ
   pub nonce : List ℕ
@@ -21,7 +21,7 @@ pub record ClientAuth : Type 0 where
   pub anonymous_username : Feature
   pub held : Option Challenge
 
--- the client once it holds what this challenge gave
+-- the client once it holds this challenge
 abbrev pub holding : Challenge → ClientAuth → ClientAuth
 holding challenge auth = record auth { held = Some challenge }
 

@@ -22,7 +22,7 @@ pub record Addition : Type 0 where
   pub kind : ℕ
   pub value : List ℕ
 
--- the message with these attributes more at its end
+-- the message with these attributes added at its end
 abbrev pub with_additions : List Addition → List ℕ → List ℕ
 with_additions [] message = message
 with_additions (a ∷ later) message = with_additions later (with_attribute a.kind a.value message)
@@ -35,19 +35,20 @@ abbrev pub additions_len : List Addition → ℕ
 additions_len [] = 0
 additions_len (a ∷ later) = written_len a.value + additions_len later
 
--- who asks: USERNAME, or USERHASH in its place where the user is not to be named (section 9.2.4)
+-- the user: USERNAME, or USERHASH in its place if the user name is hidden (section 9.2.4)
 abbrev pub user_addition : Feature → Credentials → List ℕ → Addition
 user_addition Auto credentials realm = record { kind = 0x0006; value = credentials.user }
 user_addition Disabled credentials realm = record { kind = 0x0006; value = credentials.user }
 user_addition Required credentials realm = record { kind = 0x001e; value = userhash credentials realm }
 
--- PASSWORD-ALGORITHMS as it came, and the PASSWORD-ALGORITHM SHA-256, which is 2, without parameters
+-- PASSWORD-ALGORITHMS as it was received, and the PASSWORD-ALGORITHM SHA-256, which is 2, without
+-- parameters
 abbrev pub algorithm_additions : IntegrityAlgorithm → List ℕ → List Addition
 algorithm_additions Sha1 sent_back = []
 algorithm_additions Sha256 sent_back =
     record { kind = 0x8002; value = sent_back } ∷ record { kind = 0x001d; value = 0 ∷ 2 ∷ 0 ∷ 0 ∷ [] } ∷ []
 
--- what a request carries in front of the integrity, in this order (our choice)
+-- the attributes of a request before the integrity, in this order (our choice)
 abbrev pub request_additions : Feature → Credentials → Challenge → List Addition
 request_additions anonymous credentials held =
     user_addition anonymous credentials held.realm
@@ -60,7 +61,7 @@ abbrev pub with_integrity : IntegrityAlgorithm → List ℕ → List ℕ → Lis
 with_integrity algorithm key message =
     with_attribute (integrity_kind algorithm) (mac_of algorithm key (covered_text algorithm (length message) message)) message
 
--- what is added in front of the integrity: a response carries the integrity alone
+-- the attributes before the integrity: a response carries the integrity alone
 abbrev pub additions_for : MessageClass → Feature → Credentials → Challenge → List Addition
 additions_for Request anonymous credentials held = request_additions anonymous credentials held
 additions_for Indication anonymous credentials held = []
@@ -74,7 +75,7 @@ signed_by (Some credentials) (Some held) anonymous message =
 signed_by (Some credentials) None anonymous message = message
 signed_by None _ anonymous message = message
 
--- the message, signed by the client: what was there stays, and this stands behind it
+-- the message, signed by the client: its old bytes stay, and this follows them
 abbrev pub signed_text : ClientAuth → List ℕ → List ℕ
 signed_text auth message = signed_by auth.credentials auth.held auth.anonymous_username message
 
@@ -96,16 +97,16 @@ signed_len auth message = length message + signature_len auth (class_of (type_of
 abbrev pub algorithm_len : IntegrityAlgorithm → List ℕ → ℕ
 algorithm_len algorithm sent_back = additions_len (algorithm_additions algorithm sent_back) + (4 + integrity_len algorithm)
 
--- whether attributes of the type tell something else than integrity
+-- whether attributes of the type do not carry integrity
 abbrev pub is_plain : ℕ → Bool
 is_plain kind = not (is_sha1 kind || is_sha256 kind)
 
--- none of the attributes tells integrity
+-- none of the attributes carries integrity
 abbrev pub is_unsigned : List Attribute → Bool
 is_unsigned attributes = list_all (λ a. is_plain a.kind) attributes
 
--- The new message is the old one with these attributes more: what that means of its length, its type
--- and what it tells of integrity.
+-- The new message is the old one with these attributes added: what that means for its length, its type and
+-- its integrity attributes.
 pub record AddsAll (old new : List ℕ) (additions : List Addition) : Type 0 where
   pub text : new ≡ with_additions additions old
   pub len : length new ≡ length old + additions_len additions

@@ -9,11 +9,11 @@ use Rattle.turn_auth.specs.Challenge.{challenge_of}
 use Rattle.turn_auth.specs.declared.validation.Validation.{Validation}
 use Rattle.turn_auth.specs.declared.validation.Validation.TheVariants.{Validated, ResendRequest, Refused}
 
--- the key of what is held
+-- the key for the challenge that is held
 abbrev pub held_key : Credentials → Challenge → List ℕ
 held_key credentials held = key_of credentials held.realm held.algorithm
 
--- the message is signed: a realm is held, and integrity holds under its key
+-- the message is signed: a challenge is held, and integrity holds under its key
 abbrev pub IsSigned : ClientAuth → List ℕ → Type 0
 IsSigned auth bytes =
     IsSomeAnd auth.held (λ held. IsSomeAnd auth.credentials (λ credentials.

@@ -20,19 +20,19 @@ use turn_stun::message::header::MessageClass;
 /// The most bytes of a PASSWORD-ALGORITHMS that is sent back (our choice: they are kept inline).
 pub(crate) const MAX_ALGORITHMS_LEN: usize = 64;
 
-/// What an error response says to a client: why, and what to sign the request with.
+/// The contents of an error response for a client: why, and what to sign the request with.
 #[derive(Drop)]
 pub(crate) struct Denial<'a> {
-    /// The protection space in which the credentials count.
+    /// The protection space in which the credentials are valid.
     pub(crate) realm: Realm<'a>,
-    /// What the server wants to see again.
+    /// The nonce that the server expects in the next request.
     pub(crate) nonce: Nonce<'a>,
     /// The code of the ERROR-CODE.
     pub(crate) code: u16,
 }
 
 impl<'a> Denial<'a> {
-    /// What the message says, or `None` where it is no error response, or lacks one of the three
+    /// The contents of the message, or `None` if it is no error response, or lacks one of the three
     /// attributes in good form. The attributes are read once.
     pub(crate) fn in_message(message: &Message<'a>) -> Option<Denial<'a>>
         ensures { result ≡ denial_in message.now }
@@ -83,7 +83,7 @@ pub(crate) fn supports(algorithms: &[IntegrityAlgorithm], algorithm: IntegrityAl
     algorithms.iter().any(|each| *each == algorithm)
 }
 
-/// The algorithm that a first challenge picks: the better one that both sides have.
+/// The algorithm that a first challenge selects: the better one that both sides have.
 pub(crate) fn picked(
     supported: &[IntegrityAlgorithm],
     message: &Message<'_>,

@@ -1,4 +1,4 @@
-//! Who a client is (RFC 8489, section 9.2).
+//! The credentials of a client (RFC 8489, section 9.2).
 
 ghost use Rattle.std.specs.Prelude.{◌≡◌, ◌≤◌, ◌<◌, ◌↔◌, ◌⊎◌, ◌==◌, length, IsErrOf, IfOk};
 ghost use Rattle.std.proofs.Common.{rules};
@@ -22,7 +22,7 @@ pub enum CredentialsError {
     /// The password has more than 65,535 bytes (our choice).
     #[error("the password is over 65,535 bytes")]
     Password,
-    /// There is no memory for a copy.
+    /// Memory allocation for a copy failed.
     #[error("out of memory")]
     OutOfMemory,
 }
@@ -38,7 +38,7 @@ impl From<AllocError> for CredentialsError {
     }
 }
 
-/// A user name and a password, as bytes that are taken as they are: no string is prepared.
+/// A user name and a password, as bytes that are used unchanged: no string is prepared.
 ///
 /// Contracts see the two texts. They are compared by content, and Debug prints no password.
 #[derive(Drop)]
@@ -62,8 +62,8 @@ impl TurnCredentials {
     ///
     /// # Errors
     ///
-    /// The first of these: `User` where the user name is empty or over 508 bytes, `Password` where
-    /// the password is over 65,535 bytes, `OutOfMemory`.
+    /// The first of these: `User` if the user name is empty or over 508 bytes, `Password` if the password
+    /// is over 65,535 bytes, `OutOfMemory`.
     pub fn new(alloc: Global, user: &[u8], pass: &[u8]) -> Result<TurnCredentials, CredentialsError>
         ensures ok { IfOk result (λ credentials. credentials ≡ record { user = user.now; password = pass.now }) }
         ensures valid { IfOk result (λ credentials. IsCredentials credentials) }

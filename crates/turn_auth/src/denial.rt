@@ -8,7 +8,8 @@ ghost use Rattle.turn_stun.specs.Iterator.{placed};
 use turn_stun::attribute::{AttributeType, RawAttribute};
 use turn_stun::message::Message;
 
-/// The values that a denial is made of, well formed or not. Of several attributes of one type the first one counts.
+/// The values that a denial consists of, well formed or not. Of several attributes of one type the first
+/// one counts.
 #[derive(Debug, Drop)]
 pub(crate) struct DenialValues<'a> {
     /// The first REALM.
@@ -50,7 +51,7 @@ impl<'a> DenialValues<'a> {
     }
 }
 
-/// The value that was found before, or else that of this attribute where it has the type.
+/// The value that was found before, or else that of this attribute if it has the type.
 fn first_value<'a>(
     kind: AttributeType,
     before: Option<&'a [u8]>,

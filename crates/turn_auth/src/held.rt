@@ -1,4 +1,4 @@
-//! What a client holds once it was challenged (RFC 8489, section 9.2.5).
+//! What a client holds after a challenge (RFC 8489, section 9.2.5).
 
 ghost use Rattle.std.specs.Prelude.{◌≡◌, Some};
 ghost use Rattle.turn_auth.specs.Credentials.{Credentials};
@@ -11,7 +11,7 @@ use crate::validation::Validation;
 use std::fmt;
 use turn_stun::message::Message;
 
-/// What challenges gave.
+/// What challenges set.
 #[derive(Drop)]
 pub(crate) struct Held {
     /// The realm and the algorithm of the first challenge, and the nonce of the last one.
@@ -35,7 +35,7 @@ impl Held {
     }
 }
 
-/// What challenges gave, and not the key.
+/// What challenges set, and not the key.
 impl fmt::Debug for Held {
     fn fmt<W: fmt::Write>(&self, f: &mut fmt::Formatter<W>) -> fmt::Result {
         self.challenge.fmt(f)

@@ -9,10 +9,10 @@ ghost use Rattle.turn_auth.specs.Keyed.{HoldsSha1, HoldsSha256};
 use sha1::Sha1;
 use sha2::{Digest, Sha256};
 
-/// How many bytes both digests take at once.
+/// The block size of both digests, in bytes.
 const BLOCK_LEN: usize = 64;
 
-/// The HMAC-SHA1 of the text under the key (RFC 2104), for a key of any length. It takes no memory.
+/// The HMAC-SHA1 of the text under the key (RFC 2104), for a key of any length. Allocates no memory.
 pub fn hmac_sha1(key: &[u8], text: &[u8]) -> [u8; 20]
     ensures { result ≡ hmac sha1 key.now text.now }
 {
@@ -21,7 +21,7 @@ pub fn hmac_sha1(key: &[u8], text: &[u8]) -> [u8; 20]
     mac.finalize()
 }
 
-/// The HMAC-SHA256 of the text under the key (RFC 2104), for a key of any length. It takes no memory.
+/// The HMAC-SHA256 of the text under the key (RFC 2104), for a key of any length. Allocates no memory.
 pub fn hmac_sha256(key: &[u8], text: &[u8]) -> [u8; 32]
     ensures { result ≡ hmac sha256 key.now text.now }
 {
@@ -30,9 +30,9 @@ pub fn hmac_sha256(key: &[u8], text: &[u8]) -> [u8; 32]
     mac.finalize()
 }
 
-/// An HMAC-SHA1 whose text comes in pieces.
+/// An HMAC-SHA1 whose text is added in pieces.
 ///
-/// Both digests are kept behind the padded key, so that a kept key costs no digest of it again.
+/// Both digests are kept after the padded key, so that a kept key costs no digest of it again.
 #[derive(Drop)]
 pub(crate) struct HmacSha1 {
     inner: Sha1,
@@ -80,7 +80,7 @@ impl HmacSha1 {
     }
 }
 
-/// An HMAC-SHA256 whose text comes in pieces, kept as `HmacSha1` is.
+/// An HMAC-SHA256 whose text is added in pieces, kept as `HmacSha1` is.
 #[derive(Drop)]
 pub(crate) struct HmacSha256 {
     inner: Sha256,

@@ -11,8 +11,8 @@ use crate::hmac::{HmacSha1, HmacSha256};
 use turn_stun::attribute::AttributeType;
 use turn_stun::message::Message;
 
-/// How the integrity of messages is told: the digest of the HMAC, which decides the attribute that
-/// carries it and how the key is made.
+/// The algorithm of message integrity: the digest of the HMAC, which decides the attribute that carries it
+/// and how the key is made.
 #[derive(Clone, Copy, Debug, Default, PartialEq, Eq)]
 pub enum IntegrityAlgorithm {
     /// MESSAGE-INTEGRITY: an HMAC-SHA1 of 20 bytes, under an MD5 key.
@@ -62,15 +62,15 @@ pub(crate) fn sha256_value(mac: &HmacSha256, bytes: &[u8], offset: usize) -> [u8
     covered.finalize()
 }
 
-/// Whether the first seen MESSAGE-INTEGRITY is that of the key, or `None` where none is seen.
+/// Whether the first seen MESSAGE-INTEGRITY is valid under the key, or `None` if none is seen.
 pub(crate) fn sha1_holds(mac: &HmacSha1, message: &Message<'_>) -> Option<bool>
     ensures { (key : List ℕ) → HoldsSha1 mac.now key [] → result ≡ seen_integrity message.now IntegrityAlgorithm.Sha1 key }
 {
     let Some((offset, raw)) = message.raw_attribute(AttributeType::MESSAGE_INTEGRITY) else {
         return None;
     };
-    // A value of another length is decided first: one at the very end of the longest message would
-    // stand past the offsets that a length field can tell.
+    // A value of another length is decided first: one at the very end of the longest message would lie past
+    // the offsets that a length field can express.
     if raw.value.len() != 20 {
         return Some(false);
     }
@@ -78,14 +78,14 @@ pub(crate) fn sha1_holds(mac: &HmacSha1, message: &Message<'_>) -> Option<bool>
     Some(raw.value == sha1_value(mac, bytes, offset).as_slice())
 }
 
-/// Whether the first seen MESSAGE-INTEGRITY-SHA256 is that of the key, or `None` where none is seen.
+/// Whether the first seen MESSAGE-INTEGRITY-SHA256 is valid under the key, or `None` if none is seen.
 pub(crate) fn sha256_holds(mac: &HmacSha256, message: &Message<'_>) -> Option<bool>
     ensures { (key : List ℕ) → HoldsSha256 mac.now key [] → result ≡ seen_integrity message.now IntegrityAlgorithm.Sha256 key }
 {
     let Some((offset, raw)) = message.raw_attribute(AttributeType::MESSAGE_INTEGRITY_SHA256) else {
         return None;
     };
-    // Truncated values are not taken (our choice; section 14.6 allows them where both sides agree).
+    // Truncated values are not accepted (our choice; section 14.6 allows them if both sides agree).
     if raw.value.len() != 32 {
         return Some(false);
     }

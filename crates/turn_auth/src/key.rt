@@ -51,7 +51,7 @@ impl SigningKey {
         }
     }
 
-    /// Whether the first seen integrity attribute of the algorithm is that of the key, or `None` where
+    /// Whether the first seen integrity attribute of the algorithm is valid under the key, or `None` if
     /// none is seen. It walks the attributes once.
     pub(crate) fn verifies(&self, message: &Message<'_>) -> Option<bool>
         ensures { (key : List ℕ) → HoldsKey self.now key → result ≡ seen_integrity message.now (algorithm_of self.now) key }
@@ -89,7 +89,7 @@ fn sha256_key(credentials: &TurnCredentials, realm: &[u8]) -> [u8; 32]
     hasher.finalize()
 }
 
-/// What stands for the user in the realm where the user is not to be named (RFC 8489, section 14.4).
+/// What replaces the user and the realm if the user name is hidden (RFC 8489, section 14.4).
 pub(crate) fn userhash(credentials: &TurnCredentials, realm: &[u8]) -> [u8; 32]
     ensures { result ≡ userhash credentials.now realm.now }
 {

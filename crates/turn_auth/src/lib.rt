@@ -8,7 +8,7 @@
 //!    |<-- response, signed -----------------------------|   validate_incoming_message
 //! ```
 //!
-//! Begin with [`LongTermClientAuth`], which judges what comes in and signs what goes out.
+//! Begin with [`LongTermClientAuth`], which judges received messages and signs those that are sent.
 //!
 //! ```rust
 //! match auth.validate_incoming_message(&response) {

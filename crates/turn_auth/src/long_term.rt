@@ -26,8 +26,8 @@ use turn_stun::message::Message;
 use turn_stun::message::header::MessageClass;
 use turn_stun::message::write::MessageWriteVec;
 
-/// A client that signs its requests with a user name and a password, and judges what comes back
-/// (RFC 8489, section 9.2).
+/// A client that signs its requests with a user name and a password, and judges what it receives (RFC 8489,
+/// section 9.2).
 ///
 /// Contracts see its configuration, and what it holds since a challenge: a realm and an algorithm,
 /// which never change then, and a nonce. Debug prints no password and no key.
@@ -53,8 +53,8 @@ impl Model for LongTermClientAuth {
 }
 
 impl LongTermClientAuth {
-    /// A client with no credentials, which holds nothing: SHA-1 is configured, and whether the user
-    /// is named is `Feature::Auto`.
+    /// A client with no credentials, which holds nothing: SHA-1 is configured, and `Feature::Auto` for the
+    /// user name.
     pub fn new(alloc: Global) -> LongTermClientAuth
         ensures { result ≡ record {
           credentials = None;
@@ -72,7 +72,7 @@ impl LongTermClientAuth {
         }
     }
 
-    /// Sets who the client is. A key that is kept is made anew.
+    /// Sets the credentials. A key that is kept is made anew.
     pub fn set_credentials(&mut self, credentials: TurnCredentials)
         ensures { self.new ≡ record self.old { credentials = Some credentials } }
     {
@@ -89,14 +89,14 @@ impl LongTermClientAuth {
         self.credentials.as_ref()
     }
 
-    /// Makes this algorithm the one that a challenge may pick.
+    /// Makes this algorithm the only one that a challenge may select.
     pub fn set_supported_integrity(&mut self, algorithm: IntegrityAlgorithm)
         ensures { self.new ≡ record self.old { supported = algorithm ∷ [] } }
     {
         self.supported = SmallVec::from_slice(self.alloc, &[algorithm]).unwrap();
     }
 
-    /// Adds an algorithm that a challenge may pick, where it is not there yet.
+    /// Adds an algorithm that a challenge may select, if it is not among them yet.
     pub fn add_supported_integrity(&mut self, algorithm: IntegrityAlgorithm)
         ensures { self.new ≡ record self.old { supported = with_algorithm self.old.supported algorithm } }
     {
@@ -112,7 +112,7 @@ impl LongTermClientAuth {
         self.anonymous_username = anonymous_username;
     }
 
-    /// What is to be done with the message. It takes no memory, and copies nothing of the message.
+    /// What is to be done with the message. Allocates no memory, and copies nothing of the message.
     ///
     /// A challenge is judged before any integrity attribute (our choice: the first one cannot be
     /// signed, RFC 8489, section 9.2.5).
@@ -120,11 +120,11 @@ impl LongTermClientAuth {
     pub fn validate_incoming_message(&self, message: &Message<'_>) -> Validation
         ensures exact { result ≡ validation_of self.now message.now }
 
-        // What is asked for again is a challenge, and what is valid is signed and no challenge.
+        // `ResendRequest` means a challenge, and what is valid is signed and no challenge.
         ensures resend { IsResendRequest result ↔ IsSome (challenge_of self.now message.now) }
         ensures validated { IsValidated result ↔ (IsNone (challenge_of self.now message.now) × IsSigned self.now message.now) }
 
-        // What is computed of a challenge is what a challenge is.
+        // The function that computes a challenge agrees with the definition of one.
         ensures challenge { (challenge : Challenge) → (challenge_of self.now message.now ≡ Some challenge) ↔ IsChallenge self.now message.now challenge }
     {
         if let Some((_, algorithm)) = self.denial_in(message) {
@@ -136,19 +136,19 @@ impl LongTermClientAuth {
         }
     }
 
-    /// Whether the message is a challenge. It computes no digest and takes no memory.
+    /// Whether the message is a challenge. Computes no digest and allocates no memory.
     pub fn is_challenge(&self, message: &Message<'_>) -> bool
         ensures { result ≡ is_some (challenge_of self.now message.now) }
     {
         self.denial_in(message).is_some()
     }
 
-    /// Takes what a challenge gives: the nonce, and where nothing is held yet the realm and the
-    /// algorithm, which never change then.
+    /// Accepts a challenge: its nonce, and if nothing is held yet its realm and its algorithm, which never
+    /// change then.
     ///
     /// # Errors
     ///
-    /// Where there is no memory. All is then as before.
+    /// If memory allocation fails. All is then as before.
     pub fn take_challenge(&mut self, message: &Message<'_>) -> Result<(), AllocError>
         requires { IsSome (challenge_of self.old message.now) }
         ensures ok { OnOk result (self.new ≡ record self.old { held = challenge_of self.old message.now }) }
@@ -162,13 +162,12 @@ impl LongTermClientAuth {
         Ok(())
     }
 
-    /// What the message gives, where it is a challenge, and `None` where it is none. The client holds
-    /// nothing of it before it accepts it: a request that is signed under it first can fail and leave
-    /// the client as it was.
+    /// The challenge in the message, or `None` if it is none. The client holds nothing of it before it
+    /// accepts it: a request that is signed under it first can fail and leave the client unchanged.
     ///
     /// # Errors
     ///
-    /// Where there is no memory.
+    /// If memory allocation fails.
     pub fn challenge_in(&self, message: &Message<'_>) -> Result<Option<ServerChallenge>, AllocError>
         ensures exact { IfOk result (λ found. found ≡ challenge_of self.now message.now) }
         ensures fits { IfOk result (λ found. IfSome found (λ challenge. MayTake self.now challenge)) }
@@ -186,8 +185,7 @@ impl LongTermClientAuth {
         Ok(Some(challenge))
     }
 
-    /// Takes what a challenge gave, as [`LongTermClientAuth::take_challenge`] does. It wants no
-    /// memory.
+    /// Accepts a challenge, as [`LongTermClientAuth::take_challenge`] does. Allocates no memory.
     pub fn accept(&mut self, challenge: ServerChallenge)
         requires { MayTake self.old challenge }
         ensures taken { self.new ≡ holding challenge self.old }
@@ -214,14 +212,14 @@ impl LongTermClientAuth {
         self.held.is_some()
     }
 
-    /// Signs the message. To a request it adds who asks, the realm, the nonce, with SHA-256 the
-    /// password algorithms, and the integrity, in this order; to any other message the
-    /// integrity alone (RFC 8489, section 9.2.4). What was there stays. A message that has room for it,
-    /// as `message_signature_bytes` and `reply_signature_bytes` tell, wants no memory.
+    /// Signs the message. To a request it adds the user, the realm, the nonce, with SHA-256 the password
+    /// algorithms, and the integrity, in this order; to any other message the integrity alone (RFC 8489,
+    /// section 9.2.4). The bytes before it stay. For a message with the room that `message_signature_bytes`
+    /// and `reply_signature_bytes` return, no memory is allocated.
     ///
     /// # Errors
     ///
-    /// Where there is no memory. The message is then as before.
+    /// If memory allocation fails. The message is then as before.
     pub fn sign_outgoing_message(&self, message: &mut MessageWriteVec) -> Result<(), AllocError>
         requires held { IsSome self.now.held }
         requires unsigned { is_unsigned (attributes_of message.old) ≡ true }
@@ -249,7 +247,7 @@ impl LongTermClientAuth {
     ///
     /// # Errors
     ///
-    /// Where there is no memory. The message is then as before.
+    /// If memory allocation fails. The message is then as before.
     pub fn sign_under(
         &self,
         challenge: &ServerChallenge,
@@ -319,7 +317,7 @@ impl LongTermClientAuth {
         }
     }
 
-    /// What the message says and the algorithm to go on with, where it is a challenge.
+    /// The contents of the message and the algorithm to use from now on, if it is a challenge.
     fn denial_in<'a>(&self, message: &Message<'a>) -> Option<(Denial<'a>, IntegrityAlgorithm)>
         ensures held { option_map (λ found. held_after self.now.held (value_in 0x8002 message.now) found.0 found.1) result ≡ challenge_of self.now message.now }
         ensures chosen { IfSome result (λ found. chosen self.now.supported self.now.held (value_in 0x8002 message.now) found.0 ≡ Some found.1) }
@@ -332,8 +330,7 @@ impl LongTermClientAuth {
         Some((denial, algorithm))
     }
 
-    /// The algorithm to go on with after a denial, or `None` where that is no challenge to this
-    /// client.
+    /// The algorithm to use after a denial, or `None` if that is no challenge to this client.
     fn chosen(&self, denial: &Denial<'_>, message: &Message<'_>) -> Option<IntegrityAlgorithm>
         ensures { result ≡ chosen self.now.supported self.now.held (value_in 0x8002 message.now) denial.now }
     {

@@ -1,4 +1,4 @@
-//! What a server's challenge gives to a client (RFC 8489, sections 9.2.4 and 9.2.5).
+//! The contents of a server's challenge for a client (RFC 8489, sections 9.2.4 and 9.2.5).
 
 ghost use Rattle.std.specs.Prelude.{◌≡◌, ◌≤◌, ◌<◌, ◌+◌, ◌^◌, ℕ, List, length, is_some, true, Some, None, option_copied, IfOk};
 ghost use Rattle.turn_stun.specs.Message.{attributes_from, padded_len};
@@ -21,8 +21,8 @@ use std::marker::Model;
 use turn_stun::attribute::nonce::Nonce;
 use turn_stun::message::header::MessageClass;
 
-/// A challenge as a client takes it (RFC 8489, section 9.2.5): its realm, its nonce, the algorithm
-/// that was picked, and with SHA-256 the PASSWORD-ALGORITHMS that it was picked by.
+/// A challenge as a client holds it (RFC 8489, section 9.2.5): its realm, its nonce, the selected
+/// algorithm, and with SHA-256 the PASSWORD-ALGORITHMS from which it was selected.
 ///
 /// Only [`crate::long_term::LongTermClientAuth::challenge_in`] makes one. It borrows nothing of the
 /// message.
@@ -47,7 +47,7 @@ impl Model for ServerChallenge {
 }
 
 impl ServerChallenge {
-    /// What a first challenge gives, which picked the algorithm.
+    /// A first challenge, from which the algorithm was selected.
     pub(crate) fn first(
         alloc: Global,
         denial: &Denial<'_>,
@@ -65,7 +65,7 @@ impl ServerChallenge {
         })
     }
 
-    /// What a later challenge gives: another nonce.
+    /// A later challenge: another nonce.
     pub(crate) fn with_nonce(
         &self,
         alloc: Global,
@@ -100,7 +100,7 @@ impl ServerChallenge {
         self.nonce.as_slice()
     }
 
-    /// The algorithm to sign by.
+    /// The algorithm to sign with.
     pub(crate) fn algorithm(&self) -> IntegrityAlgorithm
         ensures { result ≡ self.now.algorithm }
     {
@@ -123,8 +123,8 @@ impl ServerChallenge {
         SigningKey::new(credentials, self.realm.as_slice(), self.algorithm)
     }
 
-    /// How many bytes signing adds to a message of that class: to one that is no request, the integrity
-    /// alone.
+    /// How many bytes signing adds to a message of that class: to one that is no request, only the
+    /// integrity.
     pub(crate) fn signature_len(
         &self,
         credentials: &TurnCredentials,
@@ -164,7 +164,7 @@ impl ServerChallenge {
             + self.algorithm_len()
     }
 
-    /// How many bytes the algorithms and the integrity take behind these.
+    /// How many bytes the algorithms and the integrity take after these.
     fn algorithm_len(&self) -> usize
         ensures value { result ≡ algorithm_len self.now.algorithm self.now.password_algorithms }
         ensures short { result ≤ 112 }
@@ -186,7 +186,7 @@ impl fmt::Debug for ServerChallenge {
     }
 }
 
-/// The value that is sent back with the algorithm that a first challenge picked by it.
+/// The value that is sent back with the algorithm that a first challenge selected from it.
 fn sent_back(
     alloc: Global,
     algorithm: IntegrityAlgorithm,
@@ -203,7 +203,7 @@ fn sent_back(
     }
 }
 
-/// How many bytes name the user, or stand in the name's place.
+/// How many bytes name the user, or replace the name.
 fn user_len(credentials: &TurnCredentials, anonymous: Feature) -> usize
     ensures value { (realm : List ℕ) → length (user_addition anonymous credentials.now realm).value ≡ result }
     ensures short { result ≤ 508 }

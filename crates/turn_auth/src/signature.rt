@@ -29,8 +29,8 @@ use turn_stun::error::WriteError;
 use turn_stun::message::header::MessageClass;
 use turn_stun::message::write::MessageWriteVec;
 
-/// Signs the message where it stands. Memory is asked for once, before anything is added, where the
-/// message has no room for its signature. On an error it is as before.
+/// Signs the message in place. Memory is allocated once, before anything is added, if the message has no
+/// room for its signature. On an error it is as before.
 pub(crate) fn sign(
     message: &mut MessageWriteVec,
     anonymous: Feature,
@@ -58,7 +58,7 @@ pub(crate) fn sign(
     added
 }
 
-/// Adds what signing adds. On an error some of it may stand behind what was there.
+/// Adds the attributes of a signature. On an error some of them may follow the old bytes.
 fn add_signature(
     message: &mut MessageWriteVec,
     anonymous: Feature,
@@ -80,7 +80,7 @@ fn add_signature(
     add_integrity(message, key)
 }
 
-/// Adds what stands in front of the integrity: nothing in a response (RFC 8489, section 9.2.4).
+/// Adds the attributes before the integrity: none in a response (RFC 8489, section 9.2.4).
 fn add_attributes(
     message: &mut MessageWriteVec,
     anonymous: Feature,
@@ -98,8 +98,8 @@ fn add_attributes(
     }
 }
 
-/// Adds what a request carries in front of the integrity: who asks, in which realm, with which nonce,
-/// and with SHA-256 how the key is made.
+/// Adds the attributes of a request before the integrity: the user, the realm, the nonce, and with SHA-256
+/// how the key is made.
 pub(crate) fn add_request_attributes(
     message: &mut MessageWriteVec,
     anonymous: Feature,
@@ -122,7 +122,7 @@ pub(crate) fn add_request_attributes(
     }
 }
 
-/// Adds who asks: the user name, or its hash in its place.
+/// Adds the user: the user name, or its hash in its place.
 fn add_user(
     message: &mut MessageWriteVec,
     anonymous: Feature,
@@ -145,7 +145,7 @@ fn add_user(
     }
 }
 
-/// Adds the algorithms that the server offered, as they came, and the one of the key.
+/// Adds the algorithms that the server offered, as they were received, and the one of the key.
 fn add_algorithms(message: &mut MessageWriteVec, offered: &[u8]) -> Result<(), AllocError>
     requires whole { is_some (attributes_from 0 0 offered.now) ≡ true }
     requires room { length message.old + additions_len (algorithm_additions Sha256 offered.now) ≤ 65552 }

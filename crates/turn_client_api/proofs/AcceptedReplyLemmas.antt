@@ -1,4 +1,4 @@
--- A reply that is accepted is to a request that is outstanding, and ends it.
+-- A reply that is accepted is to an outstanding request, and ends it.
 use Rattle.std.proofs.Common.{◌≡◌, ◌∙◌, ◌<◌, ◌^◌, sym, ℕ, Bool, true, false, not, cond, ◌&&◌, eqb, List, Option, Some, None, inl, inr, refl}
 use Rattle.std.specs.List.{list_any}
 use Rattle.std.specs.declared.net.socket_addr.SocketAddr.{SocketAddr}
@@ -14,7 +14,7 @@ use Rattle.turn_agent.specs.Agent as A
 use Rattle.turn_agent.proofs.TransactionLemmas.{is_outstanding-without}
 use Rattle.turn_client_api.specs.State.{State, DataConnection, Phase, New, Requesting, Authenticating, Allocated, Closed, auth_of}
 use Rattle.turn_client_api.specs.Grants.{purposes_of}
-use Rattle.turn_client_api.specs.Requests.{connection_attempt_method, data_method, fresh_id, is_taken, most_taken}
+use Rattle.turn_client_api.specs.Requests.{connection_attempt_method, data_method, fresh_id, is_taken}
 use Rattle.turn_client_api.specs.Judgement.{Judgement, Unrelated, Challenged, Fatal, LateResponse, DataIndication, ConnectionAttempt, SignedRequest, SignedSuccess, SignedError, allocated_judgement, answers_allocate, answers_one, authenticating_judgement, bind_judgement, by_class, challenge_in, challenged_or, class_in, indication_judgement, is_bind_of, judgement_of, method_in}
 use Rattle.turn_client_api.specs.Connections.{bind_answered}
 use Rattle.turn_client_api.specs.Payloads.{message_step}
@@ -24,7 +24,7 @@ use Rattle.turn_client_api.proofs.NewIdLemmas.{fresh-free}
 
 -- ---- which replies are accepted
 
--- what is accepted by a test that else leads to what is not
+-- what is accepted by a test that otherwise leads to a judgement that is not
 cond-accepted : (b : Bool) (j k : Judgement) → (IsAccepted k → ⊥) → IsAccepted (cond b j k) → (b ≡ true) × IsAccepted j
 cond-accepted true j k not_k h = (refl, h)
 cond-accepted false j k not_k h = absurd (not_k h)
@@ -33,7 +33,7 @@ challenged_or-accepted : (j : Judgement) (o : Option Challenge) → IsAccepted (
 challenged_or-accepted j None h = h
 challenged_or-accepted j (Some c) h = absurd h
 
--- what is not a challenge, and is judged by its class where its request is outstanding
+-- what is not a challenge, and is judged by its class if its request is outstanding
 if-accepted : (b d : Bool) (j k l : Judgement) (o : Option Challenge) → (IsAccepted k → ⊥) → (IsAccepted l → ⊥) → IsAccepted (cond b (challenged_or (cond d j k) o) l) → d ≡ true
 if-accepted b d j k l o not_k not_l h = (cond-accepted d j k not_k (challenged_or-accepted (cond d j k) o (cond-accepted b _ l not_l h).1)).0
 
@@ -61,7 +61,7 @@ indication-accepted message = by (eqb (method_in message) data_method) (eqb (met
     by false true h = h
     by false false h = h
 
--- a signed response is dropped where its request is not outstanding
+-- a signed response is dropped if its request is not outstanding
 standing : (b : Bool) (j : Judgement) → IsAccepted (cond (not b) Unrelated j) → b ≡ true
 standing true j h = refl
 standing false j h = absurd h
@@ -142,13 +142,13 @@ bind-ended c message now s = by (bind_judgement s c.local message) refl
 unlike : true ≡ false → ⊥
 unlike e = cc
 
--- what is drawn is free, so that it is not the ID of the reply
-pub accepted-gone : (message : List ℕ) (now : ℕ) (s : State) → most_taken s < 2 ^ 96 → IsAccepted (judgement_of s message) → is_outstanding (id_of message) (message_step message now s).1.transactions ≡ false
-accepted-gone message now s few accepted = by (is_outstanding (id_of message) (message_step message now s).1.transactions) refl
+-- an ID that is used is free, so that it is not the ID of the reply
+pub accepted-gone : (message : List ℕ) (now : ℕ) (s : State) → IsAccepted (judgement_of s message) → is_outstanding (id_of message) (message_step message now s).1.transactions ≡ false
+accepted-gone message now s accepted = by (is_outstanding (id_of message) (message_step message now s).1.transactions) refl
   where
     by : (b : Bool) → is_outstanding (id_of message) (message_step message now s).1.transactions ≡ b → is_outstanding (id_of message) (message_step message now s).1.transactions ≡ false
     by false e = e
     by true e =
         let taken : is_taken (id_of message) s ≡ true = rw (accepted-outstanding message s accepted) refl in
-        let free : is_taken (id_of message) s ≡ false = rw (accepted-ended message now s accepted e) (fresh-free s few) in
+        let free : is_taken (id_of message) s ≡ false = rw (accepted-ended message now s accepted e) (fresh-free s) in
         absurd (unlike (sym taken ∙ free))

@@ -1,4 +1,4 @@
--- An ALLOCATE asks for the families of which an address is still asked for.
+-- An ALLOCATE requests the families of which an address is still requested.
 use Rattle.std.proofs.Common.{◌≡◌, ◌⊎◌, ◌≤◌, ◌+◌, ℕ, Bool, true, false, not, cond, ◌&&◌, eqb, List, [], ◌∷◌, ◌++◌, filter, length, Some, inl, inr, refl, sym, subst, ap, ◌∙◌, arith}
 use Rattle.std.specs.List.{Contains, list_any}
 use Rattle.std.proofs.lemmas.Bool.{eq-eqb, eqb-true}
@@ -34,15 +34,15 @@ use Rattle.turn_client_api.proofs.TwoPurposes.{purpose-with}
 
 -- ---- what is kept
 
--- up to the allocation all requests are for it
+-- until the allocation all requests are for it
 abbrev Alone : State → Type 0
 Alone s = IsUngranted s.phase → (l : Listing) → Has l s.listed → l.purpose ≡ ForAllocation
 
--- and then none
+-- and after it none
 abbrev NoneLater : State → Type 0
 NoneLater s = (IsUngranted s.phase → ⊥) → IsUnlisted s
 
--- a request of the ID asks for the families
+-- a request with the ID is for the families
 abbrev HasAsked : ℕ → State → Type 0
 HasAsked id s = (x : Transaction) × Has x s.transactions × (x.id ≡ id) × AsksForFamilies s.config s.families x
 
@@ -55,7 +55,7 @@ IsInOrder s = Alone s × NoneLater s × AllAsked s × HasConfiguredFamilies s
 abbrev pub StayInOrder : State → State → Type 0
 StayInOrder s t = IsInOrder s → IsInOrder t
 
--- ---- requests are listed no more
+-- ---- requests are no longer listed
 
 fewer : (p : Listing → Bool) (s : State) → StayInOrder s (record s { listed = filter p s.listed })
 fewer p s h = (
@@ -65,7 +65,7 @@ fewer p s h = (
   h.3,
 )
 
--- with the grants of a kind go their requests
+-- with the grants of a kind their requests are unlisted
 gone : (which : Grant → Bool) (s : State) → StayInOrder s (without which s)
 gone which s h = fewer (λ l. not (list_any (λ g. which g && is_for l.purpose g) s.grants)) s h
 
@@ -129,7 +129,7 @@ module _ (id : ℕ) (text : List ℕ) (purposes : List Purpose) (now : ℕ) (s :
       by (inr (inl (u, all, spells))) = granted u
       by (inr (inr (listed, again))) = let (l, here, e) = listed ForAllocation there in h.1 granted l.id (of-purpose l ForAllocation s.listed e here)
 
-  -- so that it asks for the families
+  -- so that it requests the families
   asks-families : IsUngranted s.phase → AsksForFamilies s.config s.families new
   asks-families u = (s, refl, refl, by spelled)
     where
@@ -138,7 +138,7 @@ module _ (id : ℕ) (text : List ℕ) (purposes : List Purpose) (now : ℕ) (s :
       by (inr (inl (begins, all, spells))) = spells
       by (inr (inr (listed, (p, there, spells)))) = inr (spells ∙ ap (λ (q : Purpose). request_for s q id) (each u p there))
 
-  -- what is listed is so of old, or by this request
+  -- what is listed was so before, or is by this request
   listed-by : (l : Listing) → Has l (s.listed ++ listings id purposes) → Has l s.listed ⊎ ((p : Purpose) × Has p purposes × (l ≡ listing id p))
   listed-by l there = by (has-append l s.listed (listings id purposes) there)
     where
@@ -163,7 +163,7 @@ module _ (id : ℕ) (text : List ℕ) (purposes : List Purpose) (now : ℕ) (s :
   asked-all : (y : Transaction) → Has y (s.transactions ++ new ∷ []) → Has (listing y.id ForAllocation) (s.listed ++ listings id purposes) → HasAsked y.id t
   asked-all y here there = of (ungranted-or s.phase)
     where
-      -- under another ID all is as it was
+      -- under another ID all is unchanged
       other : eqb y.id id ≡ false → Has y s.transactions ⊎ Has y (new ∷ []) → Has (listing y.id ForAllocation) s.listed ⊎ ((p : Purpose) × Has p purposes × (listing y.id ForAllocation ≡ listing id p)) → HasAsked y.id t
       other f (inl old) (inl listed) = let (x, is, same, asks) = h.2 y old listed in (x, has-left x s.transactions (new ∷ []) is, same, asks)
       other f (inr (inl e)) listed = let no : false ≡ true = sym f ∙ eq-eqb y.id id (ap (λ (x : Transaction). x.id) e) in cc
@@ -181,7 +181,7 @@ module _ (id : ℕ) (text : List ℕ) (purposes : List Purpose) (now : ℕ) (s :
   asks-in_order : IsInOrder (asked id text purposes now s)
   asks-in_order = (asked-alone, asked-none, asked-all, h.3)
 
--- ---- a request ends, or is sent again
+-- ---- a request ends, or is retransmitted
 
 finishes-in_order : (id : ℕ) (s : State) → StayInOrder s (ended id s)
 finishes-in_order id s h = (h.0, h.1, all, h.3)
@@ -218,7 +218,7 @@ resends-in_order id now s h = (h.0, h.1, all, h.3)
             let (x, is, same, asks) = h.2 z before (subst (λ (n : ℕ). Has (listing n ForAllocation) s.listed) named there) in
             (again x, map-has again x s.transactions is, same-id (eqb x.id id) x ∙ (same ∙ sym named), same-asks (eqb x.id id) x asks)
 
--- ---- the phase goes on
+-- ---- the phase advances
 
 begins-in_order : (now : ℕ) (s : State) → s.phase ≡ New → StayInOrder s (record s { phase = Requesting; last_send = Some now })
 begins-in_order now s e h = (λ u. h.0 begins, λ granted. absurd (granted tt), h.2, λ u. h.3 begins)

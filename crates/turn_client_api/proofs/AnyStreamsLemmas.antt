@@ -1,4 +1,4 @@
--- What a message does has nothing to do with the streams.
+-- The effect of a message is independent of the streams.
 use Rattle.std.proofs.Common.{◌≡◌, ℕ, Bool, true, false, not, cond, ◌&&◌, ◌||◌, eqb, ltb, leb, List, [], ◌∷◌, length, fold, Option, Some, None, refl, ap, ◌∙◌}
 use Rattle.std.specs.Prelude.{is_some}
 use Rattle.std.specs.Option.{option_map_or}
@@ -25,7 +25,7 @@ use Rattle.turn_client_api.specs.Payloads.{Outcome, Handled, Ignored, answered_p
 abbrev pub with_streams : List Stream → State → State
 with_streams x s = record s { streams = x }
 
--- an outcome, with these streams behind it
+-- an outcome, with these streams after it
 abbrev pub both_with : {A : Type 0} → List Stream → A × State → A × State
 both_with x p = (p.0, with_streams x p.1)
 

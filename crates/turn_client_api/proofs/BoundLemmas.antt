@@ -53,7 +53,7 @@ bind-granted s local message = by (validation_of (auth_of s) message) refl
 
 -- ---- for which connection its request was made
 
--- a purpose to bind the connection from this local end
+-- a purpose to bind the connection from this local address
 abbrev IsAsked : SocketAddr → List Purpose → Type 0
 IsAsked local purposes = (peer : SocketAddr) × (number : ℕ) × Has (ForBind local peer number) purposes
 
@@ -76,7 +76,7 @@ for-bind local (ForConnect peer ∷ purposes) e = asked-later local (ForConnect 
 pub found-local : (local : SocketAddr) (c : DataConnection) (cs : List DataConnection) → find (λ (d : DataConnection). same_address d.local local) cs ≡ Some c → c.local ≡ local
 found-local local c cs e = same_address-true c.local local (has-found (λ (d : DataConnection). same_address d.local local) c cs e).1
 
--- the turn of a message that binds the connection
+-- the input of a message that binds the connection
 pub binds-turn : (one : Turn) (stream : Stream) (t : State) → one.stream ≡ Some stream → stream.mode ≡ Waiting → is_message one.bytes ≡ true → (b : Binds stream.local one.bytes one.before t) → IsBindTurn stream.local b.c.peer one
 binds-turn one stream t of waits whole b = record {
   over = rw of (waits, refl);

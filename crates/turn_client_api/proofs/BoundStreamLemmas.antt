@@ -1,4 +1,4 @@
--- A stream comes to be bound by a signed success on it.
+-- A stream is bound only by a signed success on it.
 use Rattle.std.proofs.Common.{◌≡◌, ◌⊎◌, Bool, true, false, not, cond, List, [], ◌∷◌, Some, refl, sym, subst, ap, ◌∙◌, inl, inr}
 use Rattle.std.specs.Prelude.{filter, is_some}
 use Rattle.std.specs.List.{Contains}
@@ -64,7 +64,7 @@ module _ (local peer : SocketAddr) where
   gone-bound : (a : SocketAddr) (s : State) → IsBoundAt local peer (connection_gone a s) → IsBoundAt local peer s
   gone-bound a s = same-bound s (connection_gone a s) (same-cond (is_some (connection_at a s)) s _ _ refl refl)
 
-  -- a stream is bound that was, or a turn bound it
+  -- a stream that is bound was so before, or an input bound it
   pub bringing : IsBrought (IsBoundAt local peer) (IsBindTurn local peer)
   bringing = record {
     differs = λ s t differs. differs.bound local peer;

@@ -15,7 +15,7 @@ use Rattle.turn_client_api.specs.Judgement.{Judgement, Unrelated, Challenged, Fa
 
 -- ---- challenges
 
--- what is challenged to says the message
+-- what is a challenge, the message contains
 challenged_or-is : (j : Judgement) (o : Option Challenge) (c : Challenge) → (j ≡ Challenged c → ⊥) → challenged_or j o ≡ Challenged c → o ≡ Some c
 challenged_or-is j None c not_j e = absurd (not_j e)
 challenged_or-is j (Some d) c not_j e = let same : d ≡ c = cc in ap Some same
@@ -30,7 +30,7 @@ cond-plain : (b : Bool) (j k : Judgement) (c : Challenge) → (j ≡ Challenged 
 cond-plain true j k c not_j not_k e = not_j e
 cond-plain false j k c not_j not_k e = not_k e
 
--- the message is a challenge where the judgement is, and is no challenge otherwise
+-- the message is a challenge if the judgement is, and is none otherwise
 if-is : (b : Bool) (j k : Judgement) (o : Option Challenge) (c : Challenge) → (j ≡ Challenged c → ⊥) → (k ≡ Challenged c → ⊥) → cond b (challenged_or j o) k ≡ Challenged c → o ≡ Some c
 if-is true j k o c not_j not_k e = challenged_or-is j o c not_j e
 if-is false j k o c not_j not_k e = absurd (not_k e)

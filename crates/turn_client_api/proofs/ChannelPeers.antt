@@ -66,9 +66,9 @@ one-peer number peer to was is (g ∷ gs) h (inl e) (inl f) = same (e ∙ sym f)
     same : Channel number peer was ≡ Channel number to is → peer ≡ to
     same both = cc
 
--- ---- the channel that a request asks for
+-- ---- the channel that a request is for
 
--- a channel of the number has the peer with which it was asked for
+-- a channel of the number has the peer with which it was requested
 asked-peer : (number : ℕ) (peer to : SocketAddr) (s : State) → AllFounded s → AreApart s.grants → (l : Listing) → Has l s.listed → l.purpose ≡ ForChannel number peer → HasChannelTo number to s → to ≡ peer
 asked-peer number peer to s founded apart l listed asks (progress, there) = by (subst (Founded s.grants) asks (founded l listed))
   where

@@ -1,4 +1,4 @@
--- Channels have numbers of the range that a client may bind.
+-- Channels have numbers in the range that a client may bind.
 use Rattle.std.proofs.Common.{◌≡◌, ℕ, zero, suc, ◌+◌, ◌<◌, ◌≤◌, Bool, not, List, [], ◌∷◌, ◌++◌, map, filter, filter_map, Some, ◌⊎◌, inl, inr, refl, sym, subst, ap, ◌∙◌, arith}
 use Rattle.std.specs.List.{range_with_len}
 use Rattle.std.proofs.lemmas.Option.{none-some, same_Some}

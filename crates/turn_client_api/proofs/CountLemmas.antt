@@ -1,4 +1,4 @@
--- Only a signed reply lets the count of challenges fall.
+-- Only a signed reply decreases the count of challenges.
 use Rattle.std.proofs.Common.{◌⊎◌, ◌<◌, ◌≤◌, ℕ, inl, inr, arith}
 use Rattle.turn_client_api.specs.State.{State}
 use Rattle.turn_client_api.specs.Connections.{bind_step}
@@ -14,7 +14,7 @@ use Rattle.turn_client_api.proofs.EditsOfReplies.{gone-walk}
 use Rattle.turn_client_api.proofs.EditsOfMessages.{bind-walk, message-walk}
 use Rattle.turn_client_api.proofs.EditsOfCalls.{delete-walk, expires-walk, quiet-walk, tcp_socket-walk}
 
--- no fewer challenges were answered, or the message is heeded
+-- no fewer challenges were answered, or the message is accepted
 abbrev Grows : Type 0 → State → State → Type 0
 Grows Heeded s t = (s.challenges ≤ t.challenges) ⊎ Heeded
 
@@ -75,7 +75,7 @@ back : (Heeded : Type 0) (n : ℕ) (s t : State) → Grows Heeded s t → Fewer 
 back Heeded n s t (inl no_less) fewer = inl (omega (arith, no_less, fewer))
 back Heeded n s t (inr heeded) fewer = inr heeded
 
--- without a message that is heeded
+-- without a message that is accepted
 never : {X : Type 0} → X ⊎ ⊥ → X
 never (inl x) = x
 never (inr none) = absurd none
@@ -92,7 +92,7 @@ bringing n = record {
   ended = λ s fewer. fewer;
 }
 
--- no call that takes no turns makes it less
+-- no call that processes no input decreases it
 call-same : (n : ℕ) (call : Call) (s : State) → (TakesTurns call → ⊥) → Fewer n (state_after call s) → Fewer n s ⊎ ⊥
 call-same n call s other fewer = back ⊥ n s (state_after call s) (by call other) fewer
   where
@@ -103,7 +103,7 @@ call-same n call s other fewer = back ⊥ n s (state_after call s) (by call othe
     by (AllocatedTcpSocket id tuple peer local now) other = tcp_socket-walk (Grows ⊥) (Grows-KeepsEdits ⊥) (any-streams ⊥) id tuple peer local now s
     by call other = quiet-walk (Grows ⊥) (Grows-KeepsEdits ⊥) call s tt
 
--- whether or not the call finds memory
+-- even if memory allocation fails
 pub leaves-heeded : (call : Call) (s t : State) → Leaves call s t → t.challenges < s.challenges → IsBroughtBy IsHeeded call s
 leaves-heeded call s t leaves fewer =
     by (message-brings (Fewer s.challenges) IsHeeded (bringing s.challenges) (λ call s. ⊥) (call-same s.challenges) call s t leaves fewer)

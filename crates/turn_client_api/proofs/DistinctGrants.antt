@@ -1,4 +1,4 @@
--- No two grants stand for the same.
+-- No two grants are for the same.
 use Rattle.std.proofs.Common.{◌≡◌, ℕ, Bool, true, false, not, cond, List, [], ◌∷◌, ◌++◌, map, filter, filter_map, Some, refl, sym, ◌∙◌, ap, subst}
 use Rattle.std.specs.Prelude.{slice_get}
 use Rattle.std.specs.List.{list_any, IsDistinct}
@@ -94,20 +94,20 @@ empty-outline : (hs : List Grant) → map outline hs ≡ [] → hs ≡ []
 empty-outline [] e = refl
 empty-outline (h ∷ hs) e = cc
 
--- ---- no grants before the server allocated, and none that stand for the same
+-- ---- no grants before the server allocated, and none that are for the same
 
 pub record IsTidy (phase : Phase) (gs : List Grant) : Type 0 where
   pub none : IsUngranted phase → gs ≡ []
   pub single : AreSingle gs
 
--- what is tidy stays so, and once the server allocated it has
+-- distinct grants stay so, and once the server allocated there are some
 abbrev StayTidy : State → State → Type 0
 StayTidy s t = (IsUngranted t.phase → IsUngranted s.phase) × (IsTidy s.phase s.grants → IsTidy t.phase t.grants)
 
 granted : (p : Phase) → p ≡ Allocated → IsUngranted p → ⊥
 granted p e h = subst IsUngranted e h
 
--- grants go
+-- grants are removed
 fewer : (f : List Grant → List Grant) → f [] ≡ [] → ((gs : List Grant) → AreSingle gs → AreSingle (f gs)) → (p : Phase) (gs : List Grant) → IsTidy p gs → IsTidy p (f gs)
 fewer f empty single p gs h = record { none = λ u. ap f (h.none u) ∙ empty; single = single gs h.single }
 
@@ -117,7 +117,7 @@ filtered which = fewer (filter which) refl (single-filter which)
 taken : (id : ℕ) (peer : SocketAddr) (p : Phase) (gs : List Grant) → IsTidy p gs → IsTidy p (without_first (is_offer_of id peer) gs)
 taken id peer = fewer (without_first (is_offer_of id peer)) refl (single-without_first (is_offer_of id peer))
 
--- one comes
+-- one is added
 more : (g : Grant) (p : Phase) (gs : List Grant) → (IsUngranted p → ⊥) → IsNew g gs → IsTidy p gs → IsTidy p (gs ++ g ∷ [])
 more g p gs allocated new h = record { none = λ u. absurd (allocated u); single = single-last g gs new h.single }
 
@@ -125,7 +125,7 @@ more g p gs allocated new h = record { none = λ u. absurd (allocated u); single
 replaced : (which : Grant → Bool) (g : Grant) → ((x : Grant) → is_double x g ≡ which x) → (s : State) → (IsTidy s.phase s.grants → IsUngranted s.phase → ⊥) → StayTidy s (with_grant g (without which s))
 replaced which g is s allocated = (λ u. u, λ h. more g s.phase (without which s).grants (allocated h) (none-IsNew which g is (without which s).grants (none-filter which s.grants)) (filtered (λ x. not (which x)) s.phase s.grants h))
 
--- where a grant is there, the server allocated
+-- if a grant exists, the server allocated
 there-granted : (g : Grant) (s : State) → Has g s.grants → IsTidy s.phase s.grants → IsUngranted s.phase → ⊥
 there-granted g s there h u = subst (λ (gs : List Grant). Has g gs) (h.none u) there
 
@@ -224,6 +224,6 @@ pub initial-single : (transport : TransportType) (local remote : SocketAddr) (co
 unfolding IsDistinct
 initial-single transport local remote config seed = tt
 
--- whether or not the call finds memory
+-- even if memory allocation fails
 pub leaves-single : (call : Call) (s t : State) → Leaves call s t → IsSteady s → HasNoDoubles s → HasNoDoubles t
 leaves-single call s t leaves steady h = ((leaves-walk StayTidy StayTidy-KeepsAllEdits (λ s streams. (λ u. u, λ h. h)) call s t leaves).1 (record { none = steady.3; single = h })).single

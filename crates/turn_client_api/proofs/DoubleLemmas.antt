@@ -1,4 +1,4 @@
--- Grants stand for different things when they come and go.
+-- Grants are for different things when they are added and removed.
 use Rattle.std.proofs.Common.{◌≡◌, ℕ, Bool, true, false, cond, List, [], ◌∷◌, ◌++◌, map, filter, filter_map, refl, sym, ◌∙◌}
 use Rattle.std.specs.Prelude.{is_some, find, slice_get}
 use Rattle.std.specs.List.{list_any, IsDistinct, AllByRecursion}
@@ -11,7 +11,7 @@ use Rattle.turn_client_api.specs.Grants.{connection_in, is_channel_of, is_connec
 use Rattle.turn_client_api.specs.Calls.{without_first}
 use Rattle.turn_client_api.specs.LawsDoubles.{is_double}
 
--- no two of them stand for the same
+-- no two of them are for the same
 abbrev pub AreSingle : List Grant → Type 0
 AreSingle grants = IsDistinct is_double grants
 
@@ -36,7 +36,7 @@ single-filter p (g ∷ gs) h = by (p g) (single-filter p gs h.1)
     by true later = (all-filter (λ x. is_double g x ≡ false) p gs h.0, later)
     by false later = later
 
--- ---- changes that leave what a grant stands for
+-- ---- changes that leave what a grant is for
 
 pub record IsAlike (g h : Grant) : Type 0 where
   pub front : (x : Grant) → is_double g x ≡ is_double h x
@@ -166,7 +166,7 @@ unfolding IsDistinct
 single-last g [] new h = (tt, tt)
 single-last g (x ∷ gs) new h = (all-last (λ y. is_double x y ≡ false) g gs new.0 h.0, single-last g gs new.1 h.1)
 
--- no grant of the kind of this one is there
+-- no grant of the kind of this one exists
 pub none-IsNew : (which : Grant → Bool) (g : Grant) → ((x : Grant) → is_double x g ≡ which x) → (gs : List Grant) → list_any which gs ≡ false → IsNew g gs
 none-IsNew which g is [] none = tt
 none-IsNew which g is (x ∷ gs) none = let parts = or_parts (which x) (list_any which gs) none in (is x ∙ parts.0, none-IsNew which g is gs parts.1)
@@ -235,7 +235,7 @@ no-connection local (Channel number peer progress ∷ gs) none = no-connection l
 no-connection local (Connect peer ∷ gs) none = no-connection local gs none
 no-connection local (Offer offer ∷ gs) none = no-connection local gs none
 
--- ---- offers are taken
+-- ---- offers are removed
 
 all-without_first : (P : Grant → Type 0) (which : Grant → Bool) (gs : List Grant) → AllByRecursion P gs → AllByRecursion P (without_first which gs)
 all-without_first P which [] h = h

@@ -1,4 +1,4 @@
--- Before the least lapse, time changes nothing.
+-- Before the earliest expiry, time changes nothing.
 use Rattle.std.proofs.Common.{◌≡◌, ℕ, ◌<◌, ◌+◌, Bool, true, false, ◌&&◌, ◌||◌, not, cond, leb, ltb, List, [], ◌∷◌, ◌++◌, map, filter, filter_map, fold, reverse, Option, Some, None, refl, ap, ◌∙◌, inl, inr, arith}
 use Rattle.std.specs.Prelude.{All, ⊤}
 use Rattle.std.specs.List.{list_any}
@@ -15,11 +15,11 @@ use Rattle.turn_client_api.specs.declared.event.TurnEvent.{TurnEvent}
 use Rattle.turn_client_api.proofs.HasLemmas.{Has, filter-none, filter_map-has, find-none, has-all, has-filter_map}
 use Rattle.turn_client_api.proofs.LapseLemmas.{has-unreversed}
 
--- the test passes none of these
+-- none of these passes the test
 abbrev PassesNone : (Grant → Bool) → List Grant → Type 0
 PassesNone which gs = (g : Grant) → Has g gs → which g ≡ false
 
--- ---- where nothing passes, nothing changes
+-- ---- if nothing passes, nothing changes
 
 filter-all : {X : Type 0} (p : X → Bool) (xs : List X) → ((x : X) → Has x xs → p x ≡ true) → filter p xs ≡ xs
 filter-all p [] each = refl
@@ -37,7 +37,7 @@ without-none which s none =
     ap (λ gs. record (unlisted which s) { grants = gs }) (filter-all _ s.grants (λ g h. rw (none g h) refl))
     ∙ unlisted-none which s none
 
--- no failure is told of
+-- no failure is reported
 none-among : (which : Grant → Bool) (s : State) → PassesNone which s.grants → failures_among which s ≡ []
 none-among which s none = ap (filter_map (failure_of s.config.allocation_transport)) (filter-none which s.grants none)
 
@@ -52,9 +52,9 @@ unbound-none which s none =
     ∙ (ap (λ ls. record (failed which s) { closes = ls }) (append-nil s.closes)
     ∙ failed-none which s none)
 
--- ---- one after the other
+-- ---- in sequence
 
--- each of these leaves the state as it is
+-- each of these leaves the state unchanged
 abbrev Rest : List (State → State) → State → Type 0
 Rest [] s = ⊤
 Rest (step ∷ steps) s = (step s ≡ s) × Rest steps s
@@ -67,9 +67,9 @@ fold-rest : {X : Type 0} (f : State → X → State) (xs : List X) (s : State) �
 fold-rest f [] s each = refl
 fold-rest f (x ∷ xs) s each = ap (λ t. fold f t xs) (each x (inl refl)) ∙ fold-rest f xs s (λ y h. each y (inr h))
 
--- ---- before a grant lapses
+-- ---- before a grant expires
 
--- the grant does not lapse up to now
+-- the grant does not expire by now
 abbrev IsEarly : ℕ → State → Grant → Type 0
 IsEarly now s g = (moment : ℕ) → lapse_of s g ≡ Some moment → now < moment
 
@@ -134,7 +134,7 @@ lapse-else : (b : Bool) (moment : ℕ) → b ≡ false → cond b None (Some mom
 lapse-else true moment e = cc
 lapse-else false moment e = refl
 
--- an expired allocation that is asked for stays, and else one that is not past
+-- an expired allocation with a pending request stays, and else one whose expiry has not passed
 stays-by : (past expired asked : Bool) → ((expired && asked) ≡ false → past ≡ false) → (past && (false || not asked || not expired)) ≡ false
 stays-by past true true early = and_then-false past false refl
 stays-by past true false early = rw (early refl) refl
@@ -145,7 +145,7 @@ early-stays now s a early =
     stays-by (is_past now a) a.is_expired (has_request (Allocation a) s)
     (λ e. late-le a.expiry now (early a.expiry (lapse-else (a.is_expired && has_request (Allocation a) s) a.expiry e)))
 
--- ---- nothing was given up
+-- ---- nothing timed out
 
 vain-none : (family : AddressFamily) (which : Grant → Bool) (s : State) → in_vain family [] which s ≡ s
 vain-none family which s = failed-none _ s (λ g h. and-false (is_of family g) (which g))

@@ -1,5 +1,5 @@
--- The edits of which all calls and messages are made. What a relation says of each of them, it says of
--- each call: a new law of what calls keep is one record.
+-- The edits of which all calls and messages are made. A relation that holds for each of them holds for each
+-- call: a new law of what calls keep is one record.
 use Rattle.std.proofs.Common.{◌≡◌, ℕ, Bool, true, false, List, [], ◌∷◌, ◌++◌, map, filter, length, Some, None, ◌⊎◌, ◌<◌, ◌≤◌, ◌+◌, ◌∙◌, sym, ap, refl}
 use Rattle.std.specs.Prelude.{IsSome, ⊤}
 use Rattle.std.specs.List.{list_any}
@@ -23,15 +23,15 @@ use Rattle.turn_client_api.specs.LawsStates.{is_asked_by}
 use Rattle.turn_client_api.proofs.HasLemmas.{Has}
 use Rattle.turn_client_api.proofs.InAllocationLemmas.{Room}
 
--- ---- what an edit is known by
+-- ---- what identifies an edit
 
--- how far a grant has come, without moments
+-- the progress of a grant, without times
 abbrev pub stage : Progress → Progress
 stage Pending = Pending
 stage (Active expiry) = Active 0
 stage (Reserved until) = Reserved 0
 
--- what never changes of a grant, without moments and what was told of it
+-- what never changes of a grant, without times and whether it was reported
 abbrev pub outline : Grant → Grant
 outline (Allocation a) = Allocation (record { relayed = a.relayed; first_lifetime = 0; expiry = 0; is_expired = false })
 outline (Permission ip progress) = Permission ip (stage progress)
@@ -40,7 +40,7 @@ outline (Connect peer) = Connect peer
 outline (Offer offer) = Offer (record offer { is_told = false })
 outline (Connection c) = Connection (record c { deadline = None })
 
--- a grant without what was told of it
+-- a grant without whether it was reported
 abbrev pub aged : Grant → Grant
 aged (Allocation a) = Allocation (record a { is_expired = false })
 aged (Offer offer) = Offer (record offer { is_told = false })
@@ -50,11 +50,11 @@ aged grant = grant
 abbrev pub SparesAllocations : (Grant → Bool) → Type 0
 SparesAllocations which = (a : Relay) → which (Allocation a) ≡ false
 
--- all allocations are still there
+-- all allocations still exist
 abbrev pub AllocationsStay : State → State → Type 0
 AllocationsStay s t = (a : Relay) → Has (Allocation a) s.grants → Has (Allocation a) t.grants
 
--- A request may be listed for this: it asks for an allocation, a grant that it asks for is there, or one is
+-- A request may be listed for this: it is for an allocation, a grant that it is for exists, or one is
 -- listed for it already.
 abbrev pub IsAskable : State → Purpose → Type 0
 IsAskable s p =
@@ -68,8 +68,8 @@ listing id p = record { id = id; purpose = p }
 abbrev pub IsUnlisted : State → Type 0
 IsUnlisted s = (id : ℕ) → Has (listing id ForAllocation) s.listed → ⊥
 
--- These families may be asked for from now on: IPv6 alone in place of two, where no ALLOCATE is listed, and
--- any that there are once the server allocated or the client ended.
+-- These families may be requested from now on: IPv6 alone in place of two, if no ALLOCATE is listed, and
+-- any once the server allocated or the client ended.
 abbrev pub MayAskFor : List AddressFamily → State → Type 0
 MayAskFor families s = (IsUngranted s.phase → ⊥) ⊎ ((families ≡ IPV6 ∷ []) × (2 ≤ length s.families) × IsUnlisted s)
 
@@ -79,7 +79,7 @@ MayAskFor families s = (IsUngranted s.phase → ⊥) ⊎ ((families ≡ IPV6 ∷
 abbrev pub AsksElse : List Purpose → State → Type 0
 AsksElse purposes s = (s.phase ≡ Allocated) × ((p : Purpose) → Has p purposes → p ≡ ForAllocation → ⊥)
 
--- before, it is one for the families that are asked for
+-- before, it is one for the requested families
 abbrev pub AsksToAllocate : ℕ → List ℕ → List Purpose → State → Type 0
 AsksToAllocate id text purposes s =
     IsUngranted s.phase × ((p : Purpose) → Has p purposes → p ≡ ForAllocation)
@@ -94,9 +94,9 @@ AsksAgain id text purposes s =
 abbrev pub IsSpelled : ℕ → List ℕ → List Purpose → State → Type 0
 IsSpelled id text purposes s = AsksElse purposes s ⊎ (AsksToAllocate id text purposes s ⊎ AsksAgain id text purposes s)
 
--- ---- what waits to be sent
+-- ---- packets to send
 
--- the client is not new, or a packet or a request waits
+-- the client is not new, or a packet or a request is queued
 abbrev pub HasToSend : State → Type 0
 HasToSend s = s.phase ≡ New → s.queue ≡ [] → s.transactions ≡ [] → ⊥
 
@@ -105,13 +105,13 @@ HasToSend s = s.phase ≡ New → s.queue ≡ [] → s.transactions ≡ [] → �
 pub record KeepsEdits (R : State → State → Type 0) : Type 0 where
   pub same : (s : State) → R s s
   pub trans : (s t u : State) → R s t → R t u → R s u
-  -- what waits for the caller, and the IDs to come: all as in any other state
+  -- the queues for the caller, and the next IDs: all as in any other state
   pub aside : (s t : State) → R s (record s { ids = t.ids; events = t.events; closes = t.closes })
-  -- a client that has begun has packets to send, and of those that waited fewer wait
+  -- a client that has begun has packets to send, and fewer packets stay queued
   pub queues : (queue : List Queued) (s : State) → IsBegun s.phase → R s (record s { queue = queue })
   pub dequeues : (queue : List Queued) (s : State) → ((q : Queued) → Has q queue → Has q s.queue) → R s (record s { queue = queue })
   pub families : (families : List AddressFamily) (s : State) → MayAskFor families s → R s (record s { families = families })
-  -- what waits is sent, or is sent again; so is what a client asks for that is not new
+  -- a queued packet is sent, or retransmitted; so is a request of the client that is not new
   pub sends : (now : ℕ) (s : State) → HasToSend s → R s (sent now s)
   pub begins : (now : ℕ) (s : State) → s.phase ≡ New → R s (sent now (record s { phase = Requesting }))
   pub ends : (s : State) → IsUnlisted s → R s (record s { phase = Closed })
@@ -121,13 +121,13 @@ pub record KeepsEdits (R : State → State → Type 0) : Type 0 where
   pub finishes : (id : ℕ) (s : State) → R s (ended id s)
   pub resends : (id now : ℕ) (s : State) → R s (record s { transactions = resent id now s.transactions })
   pub unlists : (which : Listing → Bool) (s : State) → R s (record s { listed = filter which s.listed })
-  -- grants go, with the requests that are listed for them
+  -- grants are removed, with the requests that are listed for them
   pub removes : (which : Grant → Bool) (s : State) → SparesAllocations which → R s (without which s)
   pub removes_family : (family : AddressFamily) (s : State) → R s (without (is_of family) s)
   pub takes_offer : (id : ℕ) (peer : SocketAddr) (s : State) → R s (offer_taken id peer s)
-  -- offers are told, and allocations expire
+  -- offers are reported, and allocations expire
   pub ages : (grants : List Grant) (s : State) → map aged grants ≡ map aged s.grants → R s (record s { grants = grants })
-  -- what a caller asks for comes
+  -- what a caller requests is added
   pub permission : (ip : IpAddr) (s : State) → s.phase ≡ Allocated → Room s.grants (family_of_ip ip) → list_any (is_permission_of ip) s.grants ≡ false
       → R s (with_grant (Permission ip Pending) s)
   pub channel : (number : ℕ) (peer : SocketAddr) (s : State) → s.phase ≡ Allocated → Room s.grants (family_of peer) → list_any (is_channel_of number) s.grants ≡ false
@@ -136,7 +136,7 @@ pub record KeepsEdits (R : State → State → Type 0) : Type 0 where
       → R s (with_grant (Connect peer) s)
   pub connection : (id : ℕ) (c : DataConnection) (origin : Origin) (s : State) → s.phase ≡ Allocated → offer_origin id c.peer s ≡ Some origin
       → list_any (is_connection_from c.local) s.grants ≡ false → IsSome c.deadline → R s (with_grant (Connection c) (offer_taken id c.peer s))
-  -- a channel that ends is reserved, in place of those of its number
+  -- a channel that expires is reserved, in place of those of its number
   pub reserves : (number : ℕ) (peer : SocketAddr) (was : Progress) (until : ℕ) (s : State) → Has (Channel number peer was) s.grants
       → R s (with_grant (Channel number peer (Reserved until)) (without (is_channel_of number) s))
 
@@ -145,7 +145,7 @@ pub record KeepsEdits (R : State → State → Type 0) : Type 0 where
 -- where the count of challenges may begin anew, this holds of the message
 pub record KeepsHeeded (Heeded : Type 0) (R : State → State → Type 0) : Type 0 where
   pub edits : KeepsEdits R
-  -- grants last longer, and end
+  -- grants are extended, and end
   pub reshapes : (grants : List Grant) (s : State) → map outline grants ≡ map outline s.grants → R s (record s { grants = grants })
   -- a channel takes the place of those of its number
   pub rebinds : (number : ℕ) (peer : SocketAddr) (was progress : Progress) (s : State) → Has (Channel number peer was) s.grants
@@ -154,19 +154,20 @@ pub record KeepsHeeded (Heeded : Type 0) (R : State → State → Type 0) : Type
   pub holds : (message : List ℕ) (d : Challenge) (s : State) → challenge_in s message ≡ Some d → R s (with_held d s)
   pub counts : (s : State) → IsSome s.held → s.challenges < most_challenges → R s (record s { phase = phase_after s.phase; challenges = s.challenges + 1 })
   pub resets : Heeded → (s : State) → R s (challenges_reset s)
-  -- all grants go
+  -- all grants are removed
   pub empties : (s : State) → R s (without (λ g. true) s)
   -- the server allocates
   pub allocates : (message : List ℕ) (lifetime now : ℕ) (s : State) → s.phase ≡ Authenticating → IsUnlisted s
       → let addresses = taken_addresses s.families (relayed_in message) in
       R s (record s { phase = phase_with addresses; grants = s.grants ++ map (new_allocation lifetime now) addresses })
-  -- what was asked for is granted
+  -- what was requested is granted
   pub permits : (ip : IpAddr) (expiry : ℕ) (s : State) → permission_for ip s ≡ Some Pending
       → R s (with_grant (Permission ip (Active expiry)) (without (is_permission_of ip) s))
-  -- this comes of a request that was listed when its reply came, and no allocation went since
+  -- this follows from a request that was listed when its reply was received, and no allocation was removed
+  -- since
   pub connects : (id connection_id : ℕ) (peer : SocketAddr) (s t : State) → R s t → AllocationsStay s t → (IsUngranted s.phase → ⊥) → Has (ForConnect peer) (purposes_of id s)
       → R s (with_offer connection_id peer OwnConnect (without (is_connect_to peer) t))
-  -- the server asks for a connection
+  -- the server requests a connection
   pub offers : (id : ℕ) (peer : SocketAddr) (origin : Origin) (s : State) → Room s.grants (family_of peer)
       → (origin ≡ ServerIndication → length (filter is_indicated s.grants) < most_indicated) → R s (with_offer id peer origin s)
 
@@ -192,6 +193,6 @@ outlines-aged : (gs : List Grant) → map outline (map aged gs) ≡ map outline 
 outlines-aged [] = refl
 outlines-aged (g ∷ gs) = rw (outline-aged g, outlines-aged gs) refl
 
--- what is alike but for what was told has one outline
+-- what is the same apart from being reported has one outline
 pub aged-outlines : (gs hs : List Grant) → map aged gs ≡ map aged hs → map outline gs ≡ map outline hs
 aged-outlines gs hs e = sym (outlines-aged gs) ∙ (ap (map outline) e ∙ outlines-aged hs)

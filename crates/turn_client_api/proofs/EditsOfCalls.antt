@@ -1,4 +1,4 @@
--- The edits of which calls are made: what a relation says of each edit, it says of each call.
+-- The edits of which calls are made: a relation that holds for each edit holds for each call.
 use Rattle.std.proofs.Common.{◌≡◌, ℕ, Bool, true, false, not, leb, ◌&&◌, ◌||◌, List, [], ◌∷◌, map, filter_map, Option, Some, None, Result, Ok, Err, refl, inl, inr, sym, subst, ◌∙◌}
 use Rattle.std.specs.Prelude.{⊤, is_some, find}
 use Rattle.std.specs.List.{list_any}
@@ -38,7 +38,7 @@ use Rattle.turn_client_api.proofs.EditsOfReplies.{allocations-change, closed-wal
 use Rattle.turn_client_api.proofs.EditsOfTime.{channel-asked, for-there, poll-walk, transmit-walk}
 use Rattle.turn_client_api.proofs.EditsOfMessages.{edits-IsKept}
 
--- ---- requests are for grants that are there
+-- ---- requests are for grants that exist
 
 is_allocated-true : (p : Phase) → is_allocated p ≡ true → p ≡ Allocated
 is_allocated-true Allocated e = refl
@@ -50,11 +50,11 @@ is_allocated-true Closed e = cc
 allocated-begun : (p : Phase) → is_allocated p ≡ true → IsBegun p
 allocated-begun p e = rw (is_allocated-true p e) tt
 
--- the grant that comes last
+-- the grant that is added last
 for-last : (p : Purpose) (g : Grant) (s : State) → is_asked_by p g ≡ true → IsAskable (with_grant g s) p
 for-last p g s is = for-there p g (with_grant g s) (has-right g s.grants (g ∷ []) (inl refl)) is
 
--- all allocations are given back
+-- all allocations are deleted
 delete-askable : (now : ℕ) (s : State) (p : Purpose) → Has p (map (λ (a : Relay). ForRefresh (family_of a.relayed) 0) (allocations s)) → IsAskable (all_expired now (without is_granted_in s)) p
 delete-askable now s p there =
     let (a, listed, e) = has-mapped (λ (a : Relay). ForRefresh (family_of a.relayed) 0) p (allocations s) there in
@@ -87,7 +87,7 @@ delete-other s p there f =
     let no : ForRefresh (family_of a.relayed) 0 ≡ ForAllocation = sym e ∙ f in
     cc
 
--- the calls that handle nothing that comes in, open no stream, and give nothing back
+-- the calls that process no input, open no stream, and delete nothing
 abbrev pub IsQuiet : Call → Type 0
 IsQuiet (Delete now) = ⊥
 IsQuiet (AllocatedTcpSocket id tuple peer local now) = ⊥
@@ -99,11 +99,11 @@ module _ (R : State → State → Type 0) (k : KeepsEdits R) where
   then : (s t u : State) → R s t → R t u → R s u
   then s t u = k.trans s t u
 
-  -- allocations are given back
+  -- allocations are deleted
   abbrev Expires : Type 0
   Expires = (now : ℕ) (s : State) → R s (all_expired now s)
 
-  -- ---- what the caller asks for
+  -- ---- what the caller requests
 
   allocation-walk : {E : Type 0} (o : Option Relay) (ip : IpAddr) (now : ℕ) (refusal : E) (s : State) (otherwise : Result Unit E × State) → (is_some o ≡ true → R s otherwise.1) → R s (in_allocation o ip now refusal s otherwise).1
   allocation-walk None ip now refusal s otherwise r = k.same s
@@ -138,7 +138,7 @@ module _ (R : State → State → Type 0) (k : KeepsEdits R) where
           (λ there. then s t _ (k.permission ip s (is_allocated-true s.phase (not-false (is_allocated s.phase) there)) (allocation-room transport ip s room) (no-permission ip s.grants none))
           (requested-walk R k (fresh_id s) (ForPermission ip) now t (allocated-begun s.phase (not-false (is_allocated s.phase) there)) (for-last (ForPermission ip) (Permission ip Pending) s (same_ip-same ip)) (spelled-else (fresh_id s) (request_for t (ForPermission ip) (fresh_id s)) (ForPermission ip) t (is_allocated-true s.phase (not-false (is_allocated s.phase) there)) (λ f. cc)))))
 
-  -- the number that is asked for is free
+  -- the requested number is free
   bind_channel-walk : (number : ℕ) (peer : SocketAddr) (now : ℕ) (s : State) → s.phase ≡ Allocated → Room s.grants (family_of peer) → free_number s ≡ Some number → R s (bind_channel number peer now s)
   bind_channel-walk number peer now s there room free = by (permission_for (socket_ip peer) s) refl
     where
@@ -302,7 +302,7 @@ module _ (R : State → State → Type 0) (k : KeepsEdits R) where
   error-walk : (s : State) → R s (protocol_error_step s)
   error-walk s = one-of R k (is_closed s.phase) s s _ (k.same s) (fail-walk R k s)
 
-  -- ---- the calls that handle nothing
+  -- ---- the calls that process nothing
 
   pub quiet-walk : (call : Call) (s : State) → IsQuiet call → R s (state_after call s)
   quiet-walk (Delete now) s none = absurd none
@@ -334,6 +334,6 @@ calls-walk R k streams (Delete now) s = delete-walk R k.edits (expires-walk ⊤ 
 calls-walk R k streams (AllocatedTcpSocket id tuple peer local now) s = tcp_socket-walk R k.edits streams id tuple peer local now s
 calls-walk R k streams call s = quiet-walk R k.edits call s tt
 
--- whether or not they find memory
+-- even if memory allocation fails
 pub leaves-walk : (R : State → State → Type 0) → KeepsAllEdits R → IgnoresAll R → (call : Call) (s t : State) → Leaves call s t → R s t
 leaves-walk R k streams = leaves-kept R (edits-IsKept R k streams) (closed-walk R k.edits) (calls-walk R k streams)

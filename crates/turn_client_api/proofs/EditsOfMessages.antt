@@ -34,7 +34,7 @@ use Rattle.turn_client_api.proofs.RunKeepLemmas.{IsKept}
 use Rattle.turn_client_api.proofs.Edits.{IsAskable, KeepsAllEdits, IgnoresAll, KeepsHeeded}
 use Rattle.turn_client_api.proofs.EditsOfReplies.{deadline-walk, effects-walk, fail-walk, gone-walk, one-of, removed, requested-walk, spelled-else, unlisted-walk, without-allocates}
 
--- ---- what may be asked for again
+-- ---- what may be requested again
 
 -- the purposes of a request are listed
 pub purposes-listed : (id : ℕ) (s : State) (p : Purpose) → Has p (purposes_of id s) → (l : Listing) × Has l s.listed × (l.purpose ≡ p)
@@ -47,7 +47,7 @@ pub asks-allocation : (s : State) (p : Purpose) → Has p (ForAllocation ∷ [])
 asks-allocation s p (inl e) = inl e
 asks-allocation s p (inr none) = absurd none
 
--- the request that binds a connection that is there
+-- the request that binds a connection that exists
 bind-askable : (c : DataConnection) (p : Purpose) (s : State) → Has (Connection c) s.grants → is_bind_of c.local p ≡ true → list_any (is_asked_by p) s.grants ≡ true
 bind-askable c (ForBind other peer id) s there e = has-any (is_connection_from other) (Connection c) s.grants there (rw (same_address-true other c.local e) (same_address-self c.local))
 bind-askable c ForAllocation s there e = cc
@@ -60,7 +60,7 @@ bind-askable c (ForConnect to) s there e = cc
 bind-other : (c : DataConnection) (p : Purpose) → is_bind_of c.local p ≡ true → p ≡ ForAllocation → ⊥
 bind-other c p e f = let no : is_bind_of c.local ForAllocation ≡ true = subst (λ (q : Purpose). is_bind_of c.local q ≡ true) f e in cc
 
--- the connection at this local end is there
+-- the connection at this local address exists
 connection-there : (local : SocketAddr) (c : DataConnection) (s : State) → connection_at local s ≡ Some c → Has (Connection c) s.grants
 connection-there local c s e =
     let (g, there, reads) = has-filter_map connection_in c s.grants (has-found (λ (d : DataConnection). same_address d.local local) c (filter_map connection_in s.grants) e).0 in
@@ -74,7 +74,7 @@ connection-there local c s e =
     of (Connect to) reads there = absurd (none-some c reads)
     of (Offer offer) reads there = absurd (none-some c reads)
 
--- ---- for what a request is made again
+-- ---- the purpose for which a request is made again
 
 first-either : (P : Purpose → Type 0) (a b : Option Purpose) → ((p : Purpose) → a ≡ Some p → P p) → ((p : Purpose) → b ≡ Some p → P p) → (p : Purpose) → first_or a b ≡ Some p → P p
 first-either P None b of_a of_b p e = of_b p e
@@ -103,7 +103,7 @@ requesting-unsigned false o j e h = subst IsSigned (sym e) h
 new-unsigned : (j : Judgement) → Unrelated ≡ j → IsSigned j → ⊥
 new-unsigned j e h = subst IsSigned (sym e) h
 
--- ---- who heeds messages has begun
+-- ---- a client that accepts messages has begun
 
 begun-after : (p : Phase) → IsBegun p → IsBegun (phase_after p)
 begun-after New begun = begun
@@ -240,7 +240,7 @@ module _ (Heeded : Type 0) (R : State → State → Type 0) (k : KeepsHeeded Hee
   signed-walk Allocated g message now s j e h heeded = reply-walk g message now (record s { phase = Allocated }) heeded (λ u. u)
   signed-walk Closed g message now s j e h heeded = reply-walk g message now (record s { phase = Closed }) heeded (λ u. u)
 
-  -- ---- the server asks for a connection
+  -- ---- the server requests a connection
 
   attempt-walk : (message : List ℕ) (s : State) → IsBegun s.phase → R s (attempt_requested message s)
   attempt-walk message s begun = by (connection_id_in message) refl (peer_in message) refl
@@ -368,7 +368,7 @@ module _ (Heeded : Type 0) (R : State → State → Type 0) (k : KeepsHeeded Hee
   pub bind-walk : IgnoresAll R → (local : SocketAddr) (message : List ℕ) (now : ℕ) (s : State) → R s (bind_step local message now s)
   bind-walk streams local message now s = bind_in_phase streams s.phase local message now s
 
--- ---- messages one after the other
+-- ---- messages in sequence
 
 pub edits-IsKept : (R : State → State → Type 0) → KeepsAllEdits R → IgnoresAll R → IsKept R
 edits-IsKept R k streams = record {

@@ -124,7 +124,7 @@ channel-there number peer progress s e =
     of (Offer offer) reads there = absurd (none-some (peer, progress) reads)
     of (Connection c) reads there = absurd (none-some (peer, progress) reads)
 
--- ---- permissions that are answered leave channels
+-- ---- permissions that are answered leave channels unchanged
 
 module _ (number : ℕ) (peer : SocketAddr) (progress : Progress) where
   abbrev Stays : State → State → Type 0
@@ -158,7 +158,7 @@ module _ (number : ℕ) (peer : SocketAddr) (progress : Progress) where
 
 -- ---- which requests are listed
 
--- no ALLOCATE is left
+-- no ALLOCATE remains
 pub without-allocates : (s : State) (id : ℕ) → Has (listing id ForAllocation) (closed s).listed → ⊥
 without-allocates s id there = let kept = (has-filter (λ (l : Listing). not (is_for_allocation l.purpose)) (listing id ForAllocation) s.listed there).1 in cc
 
@@ -182,7 +182,7 @@ module _ (R : State → State → Type 0) (k : KeepsEdits R) where
   either true s x y p q = p refl
   either false s x y p q = q refl
 
-  -- a pair by what is found
+  -- a pair by the result of a look-up
   pub found : {A X : Type 0} (f : X → A × State) (o : Option X) (s : State) (y : A × State) → ((x : X) → o ≡ Some x → R s (f x).1) → R s y.1 → R s (option_map_or f o y).1
   found f None s y p q = q
   found f (Some x) s y p q = p x refl
@@ -194,7 +194,7 @@ module _ (R : State → State → Type 0) (k : KeepsEdits R) where
   pub unlisted-walk : (which : Grant → Bool) (s : State) → R s (unlisted which s)
   unlisted-walk which s = k.unlists _ s
 
-  -- grants go, and something happens aside
+  -- grants are removed, and something else happens
   pub removed : (which : Grant → Bool) → SparesAllocations which → (s t : State) → R s (record (without which s) { ids = t.ids; events = t.events; closes = t.closes })
   removed which spares s t = k.trans s (without which s) _ (k.removes which s spares) (k.aside (without which s) t)
 
@@ -221,7 +221,7 @@ module _ (R : State → State → Type 0) (k : KeepsEdits R) where
       let t = record s { listed = (closed s).listed } in
       k.trans s t (closed s) (k.unlists _ s) (k.ends t (without-allocates s))
 
-  -- what was asked for fails, and the client ends
+  -- the families that are still requested fail, and the client ends
   pub fail-walk : (s : State) → R s (closed (fail_all s))
   fail-walk s =
       let t = closed s in
@@ -234,7 +234,7 @@ module _ (R : State → State → Type 0) (k : KeepsEdits R) where
       let t = record s { closes = local ∷ s.closes } in
       one-of (is_some (connection_at local s)) s _ _ (removed (is_connection_from local) (λ a. refl) s t) (k.same s)
 
--- ---- a reply to CONNECT takes no allocation
+-- ---- a reply to CONNECT removes no allocation
 
 connect-stays : (peer : SocketAddr) (o : Option ℕ) (s : State) → AllocationsStay s (connect_answered peer o s)
 connect-stays peer (Some id) s a there = has-left (Allocation a) (without (is_connect_to peer) s).grants _ (filter-has (λ g. not (is_connect_to peer g)) (Allocation a) s.grants there refl)
@@ -334,13 +334,13 @@ module _ (Heeded : Type 0) (R : State → State → Type 0) (k : KeepsHeeded Hee
       by None = k.edits.same s
       by (Some granted) = prolonged-walk heeded family granted now s
 
-  -- the reply came when the client was in the first state
+  -- the reply was received when the client was in the first state
   module _ (first : State) (id : ℕ) (granted : IsUngranted first.phase → ⊥) where
-    -- a reply to CONNECT takes no allocation
+    -- a reply to CONNECT removes no allocation
     abbrev Stay : ℕ → State → Type 0
     Stay method s = eqb connect_method method ≡ true → AllocationsStay first s
 
-    -- the request of this ID was made for it, and the reply of this method answers it
+    -- the request with this ID was made for it, and the reply of this method answers it
     abbrev IsAnswered : ℕ → Purpose → Type 0
     IsAnswered method p = Has p (purposes_of id first) × (is_answered method p ≡ true)
 

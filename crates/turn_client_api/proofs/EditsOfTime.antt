@@ -25,7 +25,7 @@ use Rattle.turn_client_api.proofs.LapseLemmas.{has-unreversed}
 use Rattle.turn_client_api.proofs.Edits.{IsAskable, KeepsEdits, SparesAllocations}
 use Rattle.turn_client_api.proofs.EditsOfReplies.{closed-walk, each, either, first-has, found, one-of, removed, asked-walk, reserved-walk, spares-kind, spelled-else, unlisted-walk, told-alike}
 
--- ---- what is refreshed is there
+-- ---- what is refreshed exists
 
 -- the request is for this grant
 pub for-there : (p : Purpose) (g : Grant) (s : State) → Has g s.grants → is_asked_by p g ≡ true → IsAskable s p
@@ -66,7 +66,7 @@ refreshes-there now s p there =
         of_rank : ℕ → List Purpose
         of_rank = refreshes_of_rank now s (family_of a.relayed)
 
--- no grant is asked for by an ALLOCATE
+-- no grant is requested by an ALLOCATE
 none-allocates : (gs : List Grant) → list_any (is_asked_by ForAllocation) gs ≡ false
 none-allocates [] = refl
 none-allocates (g ∷ gs) = none-allocates gs
@@ -82,7 +82,7 @@ allocate-alone : (p : Purpose) → Has p (ForAllocation ∷ []) → p ≡ ForAll
 allocate-alone p (inl e) = e
 allocate-alone p (inr none) = absurd none
 
--- ---- packets that wait
+-- ---- queued packets
 
 has-dropped : (queue : List Queued) (q : Queued) → Has q (drop 1 queue) → Has q queue
 has-dropped [] q there = there
@@ -132,7 +132,7 @@ module _ (R : State → State → Type 0) (k : KeepsEdits R) where
   channel_lapsed-walk (Some (Offer offer)) s there = k.same s
   channel_lapsed-walk (Some (Connection c)) s there = k.same s
 
-  -- one after the other, in the order of `lapsed_in`
+  -- in sequence, in the order of `lapsed_in`
   lapsed_in-walk : (family : AddressFamily) (given : Option ℕ) (purposes : List Purpose) (now : ℕ) (s : State) → R s (lapsed_in family given purposes now s)
   lapsed_in-walk family given purposes now s =
       let a = in_vain family purposes is_pending_channel s in

@@ -1,4 +1,4 @@
--- Each event that a poll makes tells of a grant that can fail no more.
+-- Each event that a poll queues reports a grant that can fail no more.
 use Rattle.std.proofs.Common.{◌≡◌, ◌≢◌, ℕ, ◌≤◌, ◌+◌, Bool, true, false, ◌&&◌, ◌||◌, not, cond, List, [], ◌∷◌, ◌++◌, map, length, filter, filter_map, find, fold, reverse, Option, Some, None, refl, sym, ◌∙◌, inl, inr, arith}
 use Rattle.std.specs.Prelude.{is_some, ⊤}
 use Rattle.std.specs.List.{cons_option}
@@ -26,7 +26,7 @@ tells-self s = omega arith
 tells-then : (s t u : State) → TellsOfFailed s t → TellsOfFailed t u → TellsOfFailed s u
 tells-then s t u first later = omega (arith, first, later)
 
--- each of these tells only of what can fail no more
+-- each of these reports only what can fail no more
 abbrev AllTell : List (State → State) → Type 0
 AllTell [] = ⊤
 AllTell (step ∷ steps) = ((s : State) → TellsOfFailed s (step s)) × AllTell steps
@@ -41,7 +41,7 @@ in_turn-tells (step ∷ steps) s all = tells-then s (step s) (in_turn steps (ste
 count : List Grant → ℕ
 count gs = length (filter can_fail gs)
 
--- as many as one grant adds
+-- as many as one grant counts for
 one : Grant → ℕ
 one g = cond (can_fail g) 1 0
 
@@ -67,7 +67,7 @@ count-filter p (g ∷ gs) = by (p g) refl (count-filter p gs)
     by true e later = rw e (omega (arith, later, count-cons g (filter p gs), count-cons g gs))
     by false e later = rw e (omega (arith, later, count-cons g gs))
 
--- one that is there and does not stay
+-- one that exists and does not stay
 count-without : (p : Grant → Bool) (g : Grant) (gs : List Grant) → Has g gs → p g ≡ false → can_fail g ≡ true → count (filter p gs) + 1 ≤ count gs
 unfolding count one
 count-without p g [] h fails can = absurd h
@@ -84,11 +84,11 @@ count-without p g (x ∷ gs) (inr h) fails can = by (p x) refl (count-without p 
 
 -- ---- failures
 
--- the test passes none that is reserved
+-- none that is reserved passes the test
 abbrev Spares : (Grant → Bool) → Type 0
 Spares which = (g : Grant) → which g ≡ true → IsReserved g → ⊥
 
--- so many events come of these
+-- so many events are queued for these
 told_of : TransportType → (Grant → Bool) → List Grant → ℕ
 told_of transport which gs = length (filter_map (failure_of transport) (filter which gs))
 
@@ -104,7 +104,7 @@ failure-one transport (Connect peer) more spared = omega arith
 failure-one transport (Offer offer) more spared = omega arith
 failure-one transport (Connection c) more spared = omega arith
 
--- those that go, and those that stay
+-- those that are removed, and those that stay
 told-count : (transport : TransportType) (which : Grant → Bool) (gs : List Grant) → Spares which → told_of transport which gs + count (filter (λ g. not (which g)) gs) ≤ count gs
 unfolding told_of
 told-count transport which [] spares = omega arith
@@ -160,7 +160,7 @@ last-tells family now s =
     test : Grant → Bool
     test g = is_of family g && is_lapsed_channel now g
 
--- ---- what lapses is not reserved
+-- ---- what expires is not reserved
 
 -- a reserved channel passes none of these tests
 spared : (which : Grant → Bool) → ((number : ℕ) (peer : SocketAddr) (until : ℕ) → which (Channel number peer (Reserved until)) ≡ false) → Spares which
@@ -306,7 +306,7 @@ timed-tells Authenticating (Some id) now s other = by (is_listed_for_allocation 
 timed-tells Allocated given now s other = tells-then s (lapsed given now s) (answer_step given now (lapsed given now s)).1 (lapsed-tells given now s) (answer-tells given now (lapsed given now s))
 timed-tells Closed given now s other = tells-self s
 
--- a pair by a test, or by what is found
+-- a pair by a test, or by the result of a look-up
 by_test : {A : Type 0} (P : State → Type 0) (b : Bool) (x y : A × State) → P x.1 → P y.1 → P (cond b x y).1
 by_test P true x y k l = k
 by_test P false x y k l = l
@@ -328,7 +328,7 @@ poll-tells now s other =
 
 -- ---- families
 
--- at most one event more for each family that is asked for
+-- at most one event more for each requested family
 abbrev TellsOfFamilies : State → State → Type 0
 TellsOfFamilies s t = length t.events ≤ length s.events + length s.families
 

@@ -1,4 +1,4 @@
--- What a frame does has nothing to do with the bytes behind it.
+-- The effect of a frame is independent of the bytes after it.
 use Rattle.std.proofs.Common.{◌≡◌, ℕ, Bool, true, false, not, cond, eqb, List, [], ◌∷◌, map, Option, Some, None, refl, ap, sym, ◌∙◌}
 use Rattle.std.specs.Prelude.{find}
 use Rattle.std.specs.declared.net.socket_addr.SocketAddr.{SocketAddr}
@@ -37,7 +37,7 @@ all-swapped : (a b : SocketAddr) (bytes : List ℕ) (mode : Mode) (xs : List Str
 all-swapped a b bytes mode [] = refl
 all-swapped a b bytes mode (x ∷ xs) = rw (swapped a b bytes mode x, all-swapped a b bytes mode xs) refl
 
--- an outcome, with these bytes behind it
+-- an outcome, with these bytes after it
 abbrev pub both : SocketAddr → List ℕ → Outcome × State → Outcome × State
 both a bytes p = (p.0, with_bytes a bytes p.1)
 

@@ -1,4 +1,4 @@
--- What calls keep of the list of grants alone, by what keeps it as the list is edited.
+-- What calls keep of the list of grants alone, by what is kept as the list is edited.
 use Rattle.std.proofs.Common.{◌≡◌, ℕ, Bool, true, false, not, List, [], ◌∷◌, ◌++◌, map, filter, length, ◌<◌}
 use Rattle.std.specs.List.{list_any}
 use Rattle.std.specs.declared.net.ip_addr.IpAddr.{IpAddr}
@@ -15,12 +15,12 @@ use Rattle.turn_client_api.proofs.DoubleLemmas.{none-without_first}
 use Rattle.turn_client_api.proofs.Edits.{KeepsAllEdits, KeepsEdits, aged-outlines, outline}
 
 pub record KeepsGrants (P : List Grant → Type 0) : Type 0 where
-  -- grants go
+  -- grants are removed
   pub filters : (p : Grant → Bool) (gs : List Grant) → P gs → P (filter p gs)
   pub takes_offer : (id : ℕ) (peer : SocketAddr) (gs : List Grant) → P gs → P (without_first (is_offer_of id peer) gs)
-  -- grants last longer, and are told
+  -- grants are extended, and reported
   pub reshapes : (gs hs : List Grant) → map outline hs ≡ map outline gs → P gs → P hs
-  -- one comes of a kind that is not there
+  -- one is added of a kind that does not exist
   pub permission : (ip : IpAddr) (progress : Progress) (gs : List Grant) → list_any (is_permission_of ip) gs ≡ false → P gs → P (gs ++ Permission ip progress ∷ [])
   pub channel : (number : ℕ) (peer : SocketAddr) (gs : List Grant) → list_any (is_channel_of number) gs ≡ false → Has number channel_numbers → P gs → P (gs ++ Channel number peer Pending ∷ [])
   pub connect : (peer : SocketAddr) (gs : List Grant) → list_any (is_connect_to peer) gs ≡ false → P gs → P (gs ++ Connect peer ∷ [])
@@ -63,7 +63,7 @@ module _ (P : List Grant → Type 0) (k : KeepsGrants P) where
     reserves = λ number peer was until s there h. k.rebinds number peer was (Reserved until) s.grants there h;
   }
 
-  -- the offer that comes
+  -- the offer that is added
   abbrev offer : ℕ → SocketAddr → Origin → DataOffer
   offer connection_id peer origin = record { connection_id = connection_id; peer = peer; is_told = false; origin = origin }
 

@@ -1,4 +1,4 @@
--- What the calls leave standing: without a message of the server nothing is granted.
+-- What is active after a call: without a message of the server nothing is granted.
 use Rattle.std.proofs.Common.{◌≡◌, ◌⊎◌, ℕ, Bool, true, false, cond, eqb, List, [], ◌∷◌, map, Option, Some, None, refl, sym, subst, inl, inr}
 use Rattle.std.specs.Prelude.{find, IsSome}
 use Rattle.std.proofs.lemmas.Bool.{eqb-true}
@@ -48,7 +48,7 @@ again-leaves c id d now s = by (find (is_bind_of c.local) (purposes_of id s)) re
     by None f = rw f (leaves-same s)
     by (Some purpose) f = rw f (deadline-left c.local (later_by bind_time now) s.grants)
 
--- The connection at the local end is bound, by a signed success on it.
+-- The connection at the local address is bound, by a signed success on it.
 pub record Binds (local : SocketAddr) (message : List ℕ) (s t : State) : Type 0 where
   pub c : DataConnection
   pub found : connection_at local s ≡ Some c
@@ -57,7 +57,7 @@ pub record Binds (local : SocketAddr) (message : List ℕ) (s t : State) : Type 
   pub grants : t.grants ≡ (with_deadline c.local None s).grants
   pub streams : t.streams ≡ (with_mode c.local (Bound c.peer) s).streams
 
--- a message of the connection binds it, or leaves streams as they are, and of grants what stands
+-- a message of the connection binds it, or leaves the streams and the active grants unchanged
 abbrev pub BindsOrLeaves : SocketAddr → List ℕ → State → State → Type 0
 BindsOrLeaves local message s t = Binds local message s t ⊎ (Leaves s t × (t.streams ≡ s.streams))
 
@@ -110,7 +110,7 @@ first-left which (g ∷ others) = by (which g) (first-left which others)
     by true later = left-skip g others others (left-same others)
     by false later = left-cons g g others (without_first which others) (kept-same g) later
 
--- what was told of a grant does not count
+-- whether a grant was reported does not count
 aged-stands : (g : Grant) → IsStanding (aged g) → IsStanding g
 aged-stands (Allocation a) = λ h. h
 aged-stands (Permission ip progress) = λ h. h

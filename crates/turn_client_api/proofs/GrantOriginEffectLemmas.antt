@@ -1,4 +1,4 @@
--- What a signed reply leaves standing, effect by effect.
+-- What is active after a signed reply, effect by effect.
 use Rattle.std.proofs.Common.{◌≡◌, ◌≤◌, ℕ, zero, suc, Bool, true, false, cond, ◌||◌, eqb, leb, List, [], ◌∷◌, map, filter_map, Option, Some, None, ◌⊎◌, inl, inr, refl, sym, ap, arith}
 use Rattle.std.specs.Prelude.{slice_get}
 use Rattle.std.proofs.lemmas.Option.{same_Some}
@@ -28,7 +28,7 @@ eqb-positive : (n : ℕ) → eqb n 0 ≡ false → 1 ≤ n
 eqb-positive zero e = cc
 eqb-positive (suc n) e = omega arith
 
--- the first grant of a number that is a channel's is there
+-- the first grant of a number that is a channel's exists
 first-channel : (number : ℕ) (peer : SocketAddr) (progress : Progress) (grants : List Grant) → slice_get (filter_map (channel_at number) grants) 0 ≡ Some (peer, progress) → Has (Channel number peer progress) grants
 first-channel number peer progress [] e = cc
 first-channel number peer progress (Channel other to p ∷ grants) e = by (eqb other number) refl (first-channel number peer progress grants)
@@ -61,11 +61,11 @@ module _ (purposes : List Purpose) (message : List ℕ) (now : ℕ) (before : St
   abbrev Taken : State → State → Type 0
   Taken s t = Takes purposes message now before s t
 
-  -- where the reply is a success, the purpose is one of these
+  -- if the reply is a success, the purpose is one of these
   abbrev Names : Bool → Purpose → Type 0
   Names is_granted p = is_granted ≡ true → Has p purposes
 
-  -- and so is each that the request of this ID was made for
+  -- and so is each that the request with this ID was made for
   abbrev NamesAll : Bool → ℕ → State → Type 0
   NamesAll is_granted id s = is_granted ≡ true → (p : Purpose) → Has p (purposes_of id s) → Has p purposes
 
@@ -78,33 +78,33 @@ module _ (purposes : List Purpose) (message : List ℕ) (now : ℕ) (before : St
   without-takes : (which : Grant → Bool) (s : State) → Taken s (without which s)
   without-takes which s = ((within-filter _ s.listed, channels-filter _ s.grants), gives-left purposes message now before s.grants _ (left-filter _ s.grants))
 
-  -- if it is a channel, it was there already
+  -- if it is a channel, it existed already
   abbrev IsKnown : Grant → State → Type 0
   IsKnown one s = (number : ℕ) (peer : SocketAddr) (progress : Progress) → Channel number peer progress ≡ one → IsChannelIn number peer s.grants
 
-  -- all channels were there before the message
+  -- all channels existed before the message
   abbrev AreKnown : State → Type 0
   AreKnown s = ChannelsWithin before.grants s.grants
 
-  -- a grant comes
+  -- a grant is added
   more-takes : (one : Grant) (s t : State) → Taken s t → (IsStanding one → IsGivenOf purposes message now before one) → IsKnown one s → Taken s (with_grant one t)
   more-takes one s t taken gives known =
       ((taken.0.0, channels-append s.grants t.grants one taken.0.1 known), gives-trans purposes message now before s.grants t.grants _ taken.1 (gives-one purposes message now before t.grants one gives))
 
-  -- a grant comes for what goes
+  -- a grant replaces those that are removed
   replaced-takes : (which : Grant → Bool) (one : Grant) (s : State) → (IsStanding one → IsGivenOf purposes message now before one) → IsKnown one s → Taken s (with_grant one (without which s))
   replaced-takes which one s gives known = more-takes one s (without which s) (without-takes which s) gives known
 
-  -- what is there lasts, with nothing listed for it any more
+  -- what exists is extended, with nothing listed for it any more
   lasting-takes : (which : Grant → Bool) (f : Grant → Grant) (s : State) → KeepsChannels f → ((g : Grant) → Has g s.grants → Is g (f g)) → Taken s (record (unlisted which s) { grants = map f s.grants })
   lasting-takes which f s channels keeps = ((within-filter _ s.listed, channels-map f channels s.grants), gives-map purposes message now before f s.grants keeps)
 
-  -- what is asked for or reserved is not renewed
+  -- what is pending or reserved is not renewed
   untouched : (b : Bool) (g : Grant) → Is g (cond b g g)
   untouched true g stands = inl (kept-same g stands)
   untouched false g stands = inl (kept-same g stands)
 
-  -- a permission of this IP address is given anew
+  -- a permission of this IP address is granted anew
   permission_lasts : (ip : IpAddr) → Has (ForPermission ip) purposes → (g : Grant) → Is g (lasting_if (is_permission_of ip) (later_by permission_lifetime now) g)
   permission_lasts ip one (Permission other (Active was)) = by (same_ip other ip) refl
     where
@@ -119,7 +119,7 @@ module _ (purposes : List Purpose) (message : List ℕ) (now : ℕ) (before : St
   permission_lasts ip one (Offer offer) = λ stands. absurd stands
   permission_lasts ip one (Connection c) = λ stands. inl (kept-same (Connection c) stands)
 
-  -- a channel of this number is given anew
+  -- a channel of this number is granted anew
   channel_lasts : (number : ℕ) (peer : SocketAddr) → Has (ForChannel number peer) purposes → (s : State) → AreKnown s → (g : Grant) → Has g s.grants → Is g (lasting_if (is_channel_of number) (later_by channel_lifetime now) g)
   channel_lasts number peer one s known (Channel other to (Active was)) there = by (eqb other number) refl
     where
@@ -235,11 +235,11 @@ module _ (purposes : List Purpose) (message : List ℕ) (now : ℕ) (before : St
   prolonged-channels family n (Offer offer) number peer progress f = (progress, sym f)
   prolonged-channels family n (Connection c) number peer progress f = (progress, sym f)
 
-  -- so many seconds were asked for and are given
+  -- a lifetime of so many seconds was requested and is granted
   abbrev Lengthens : AddressFamily → ℕ → ℕ → Type 0
   Lengthens family lifetime n = Has (ForRefresh family lifetime) purposes × (1 ≤ lifetime) × (lifetime_in message ≡ Some n) × (least_lifetime ≤ n)
 
-  -- an allocation of this family is given anew
+  -- an allocation of this family is granted anew
   allocation_lasts : (family : AddressFamily) (lifetime n : ℕ) → Lengthens family lifetime n → (g : Grant) → Is g (prolonged_by family n g)
   allocation_lasts family lifetime n (one, asked, said, enough) (Allocation a) = by (is_of_family family a.relayed) refl
     where

@@ -1,4 +1,4 @@
--- What a success gives for the purposes of its request, list by list.
+-- What a success grants for the purposes of its request, list by list.
 use Rattle.std.proofs.Common.{◌≡◌, ℕ, Bool, true, false, cond, eqb, List, [], ◌∷◌, ◌++◌, map, filter, fold, ◌⊎◌, inl, inr, refl, sym, subst}
 use Rattle.std.specs.declared.net.socket_addr.SocketAddr.{SocketAddr}
 use Rattle.turn_client_api.specs.State.{State, Grant, Channel, Progress, Purpose, Listing}
@@ -7,17 +7,17 @@ use Rattle.turn_client_api.specs.LawsGranted.{IsStanding, IsKeptAs, IsGivenFor}
 use Rattle.turn_client_api.proofs.HasLemmas.{Has, has-append, has-filter, filter-has, map-has}
 use Rattle.turn_client_api.proofs.StandLemmas.{Covers, Left, covers-has, kept-same, kept-stood, kept-trans}
 
--- the message gives the grant for one of these purposes
+-- the message grants it for one of these purposes
 pub record IsGivenOf (purposes : List Purpose) (message : List ℕ) (now : ℕ) (before : State) (g : Grant) : Type 0 where
   pub purpose : Purpose
   pub one : Has purpose purposes
   pub given : IsGivenFor purpose message now before g
 
--- it gives what is kept as this grant
+-- it grants what is kept as this grant
 abbrev pub IsGiven : List Purpose → List ℕ → ℕ → State → Grant → Type 0
 IsGiven purposes message now before g = (was : Grant) × IsGivenOf purposes message now before was × IsKeptAs was g
 
--- All that stands in the second list stood in the first, with the same end, or was given.
+-- All that is active in the second list was so in the first, with the same expiry, or was granted.
 abbrev pub Gives : List Purpose → List ℕ → ℕ → State → List Grant → List Grant → Type 0
 Gives purposes message now before grants later = (g : Grant) → Has g later → IsStanding g → Covers grants g ⊎ IsGiven purposes message now before g
 
@@ -66,7 +66,8 @@ channels-append grants later one within known number peer (progress, there) = by
     by (inr (inl e)) = known number peer progress e
     by (inr (inr none)) = absurd none
 
--- what a success leaves of a state: nothing is listed anew, and nothing stands but what stood or was given
+-- what a success leaves of a state: nothing is listed anew, and nothing is active but what was so or was
+-- granted
 abbrev pub Takes : List Purpose → List ℕ → ℕ → State → State → State → Type 0
 Takes purposes message now before s t = IsWithin s t × Gives purposes message now before s.grants t.grants
 
@@ -80,7 +81,7 @@ module _ (purposes : List Purpose) (message : List ℕ) (now : ℕ) (before : St
   given-kept : (g h : Grant) → IsKeptAs g h → IsGiven purposes message now before g → IsGiven purposes message now before h
   given-kept g h kept (was, given, k) = (was, given, kept-trans was g h k kept)
 
-  -- what was given stands
+  -- what was granted is active
   pub gives-covers : (grants later : List Grant) (g : Grant) → Gives purposes message now before grants later → Covers later g → Covers grants g ⊎ IsGiven purposes message now before g
   gives-covers grants later g gives (is, there, kept) = by (gives is there (kept-stood is g kept))
     where
@@ -112,7 +113,7 @@ module _ (purposes : List Purpose) (message : List ℕ) (now : ℕ) (before : St
       by g (inl e) stands = rw e (gives (rw (sym e) stands))
       by g (inr h) stands = absurd h
 
-  -- where the second stands, it is the first, or was given
+  -- if the second is active, it is the first, or was granted
   abbrev Is : Grant → Grant → Type 0
   Is was is = IsStanding is → IsKeptAs was is ⊎ IsGivenOf purposes message now before is
 

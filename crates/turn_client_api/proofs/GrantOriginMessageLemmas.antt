@@ -1,4 +1,4 @@
--- What a message leaves standing: a signed success alone gives more.
+-- What is active after a message: only a signed success grants more.
 use Rattle.std.proofs.Common.{◌≡◌, ℕ, Bool, true, false, not, cond, ◌&&◌, ◌||◌, eqb, ltb, leb, List, [], ◌∷◌, map, filter, length, Option, Some, None, ◌⊎◌, inl, inr, refl}
 use Rattle.std.specs.Prelude.{is_some, IfSome}
 use Rattle.std.specs.List.{list_any}
@@ -31,7 +31,7 @@ use Rattle.turn_client_api.proofs.GrantOriginEffectLemmas.{effect-takes}
 
 -- ---- what is judged to be granted
 
--- the message is a success that is signed as the client asks, and answers an outstanding request
+-- the message is a success that is signed as the client requires, and answers an outstanding request
 pub record IsSignedSuccess (message : List ℕ) (s : State) : Type 0 where
   pub success : class_in message ≡ Success
   pub signed : IsValidated (validation_of (auth_of s) message)
@@ -64,7 +64,7 @@ stray-granted Success false e = cc
 stray-granted Error true e = cc
 stray-granted Error false e = cc
 
--- how the validation turned out
+-- the result of the validation
 pub validated : (v w : Validation) → v ≡ w → IsValidated w → IsValidated v
 validated v w e is = rw e is
 
@@ -74,7 +74,7 @@ authenticating-granted s message = by (validation_of (auth_of s) message) refl
     Goal : Type 0
     Goal = (answers_allocate s message ≡ true) × IsSignedSuccess message s
 
-    -- the judgement where it answers an ALLOCATE, unless it is a challenge
+    -- the judgement if it answers an ALLOCATE, unless it is a challenge
     judged : Judgement → Judgement
     judged j = cond (answers_allocate s message) (challenged_or j (challenge_in s message)) Unrelated
 
@@ -168,7 +168,7 @@ takes-left message now before grants later gives g there stands = by (gives g th
     by (inl covers) = covers
     by (inr (was, given, kept)) = absurd given.one
 
--- where the reply is a success, all that was asked for are these purposes
+-- if the reply is a success, all that was requested are these purposes
 abbrev AllAsked : List Purpose → Bool → List ℕ → State → Type 0
 AllAsked purposes is_granted message s = is_granted ≡ true → (p : Purpose) → Has p (asked_for message s) → Has p purposes
 
@@ -181,7 +181,7 @@ reply-takes purposes is_granted message now before s known all =
     (λ granted q still. all granted q (purposes-within (id_of message) s t within.0 q still)))
     (answered_purposes message s) (λ p there. there) (ended (id_of message) s) (λ l there. there, λ number peer h. h)
 
--- what is taken of the addresses was there
+-- each address that is chosen is among those of the message
 taken-relayed : (families : List AddressFamily) (addresses : List SocketAddr) (a : SocketAddr) → Has a (taken_addresses families addresses) → Has a addresses
 taken-relayed families [] a there = absurd there
 taken-relayed families (b ∷ later) a there = by (list_any (λ family. is_of_family family b) families) (taken-relayed others later a) (taken-relayed families later a) there
@@ -213,7 +213,7 @@ any-filter p q (x ∷ xs) h = by (q x) (any-filter p q xs) h
         at true = refl
         at false = later e
 
--- it is of a family that is asked for
+-- it is of a requested family
 taken-family : (families : List AddressFamily) (addresses : List SocketAddr) (a : SocketAddr) → Has a (taken_addresses families addresses) → list_any (λ family. is_of_family family a) families ≡ true
 taken-family families [] a there = absurd there
 taken-family families (b ∷ later) a there = by (list_any (λ family. is_of_family family b) families) refl (taken-family others later a) (taken-family families later a) there
@@ -282,7 +282,7 @@ wrong-leaves Authenticating message s = leaves-same s
 wrong-leaves Allocated message s = leaves-same s
 wrong-leaves Closed message s = leaves-same s
 
--- an offer does not stand
+-- an offer is not active
 offer-leaves : (id : ℕ) (peer : SocketAddr) (origin : Origin) (s : State) → Leaves s (with_offer id peer origin s)
 offer-leaves id peer origin s = left-one s.grants (Offer (record { connection_id = id; peer = peer; is_told = false; origin = origin })) (λ stands. stands)
 

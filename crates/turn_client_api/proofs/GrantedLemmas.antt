@@ -1,4 +1,4 @@
--- What all calls leave standing: a signed success alone grants more.
+-- What is active after all calls: only a signed success grants more.
 use Rattle.std.proofs.Common.{◌≡◌, ℕ, Bool, true, false, not, cond, List, filter, Some, None, Result, Ok, Err, refl, subst, sym, ap, ◌∙◌, inl, inr, ◌⊎◌}
 use Rattle.std.specs.List.{Contains}
 use Rattle.turn_client_api.specs.State.{State}
@@ -30,7 +30,7 @@ use Rattle.turn_client_api.proofs.TurnBringLemmas.{IsBrought, leaves-bring}
 
 -- ---- all of them
 
--- what the caller gives back ends now
+-- what the caller deletes expires now
 delete-ends : (now : ℕ) (s : State) (g : Grant) → Has g (state_after (Delete now) s).grants → IsStanding g → Stood s g ⊎ IsEndedNow (Delete now) s g
 delete-ends now s g = by (is_allocated s.phase)
   where
@@ -52,7 +52,7 @@ delete-ends now s g = by (is_allocated s.phase)
         from : (x : Grant) × Has x (filter (λ g. not (is_granted_in g)) s.grants) × (g ≡ all x) → Stood s g ⊎ IsEndedNow (Delete now) s g
         from (x, before, e) = rw e (at x (has-filter (λ g. not (is_granted_in g)) x s.grants before).0 (rw (sym e) stands))
 
--- ---- what the turns of a call grant
+-- ---- what the inputs of a call grant
 
 -- an allocation, a permission or a channel is granted over the control connection
 control-grants : (g : Grant) (one : Turn) → IsOverControl one → is_message one.bytes ≡ true → Covers (message_step one.bytes one.moment one.before).1.grants g → Covers one.before.grants g ⊎ IsGrantedIn g one
@@ -94,7 +94,7 @@ control-grants g one over whole covers = by g (message-brings g one.bytes one.mo
     by (Offer offer) (inr grant) = inr (turn (Offer offer) grant)
     by (Connection c) (inr (was, is, kept)) = absurd (connection c was is kept)
 
--- a grant that a map leaves was there, or is a connection at this local end
+-- a grant that a map leaves existed before, or is a connection at this local address
 deadline-has : (local : SocketAddr) (g x : Grant) → g ≡ deadline_set local None x → (g ≡ x) ⊎ ((c : DataConnection) × (g ≡ Connection c) × (c.local ≡ local))
 deadline-has local g (Connection c) e = by (same_address c.local local) refl
   where
@@ -127,7 +127,7 @@ bind-covers one stream g t of waits whole b (is, there, kept) = by (has-mapped (
         at (inl same) = inl (is, rw same before, kept)
         at (inr (c, connection, ends)) = inr (bound c g ends (rw connection at kept))
 
--- of each grant: it stood, or a turn granted it
+-- for each grant: it was active, or an input granted it
 pub bringing : (g : Grant) → IsBrought (λ s. Covers s.grants g) (IsGrantedIn g)
 bringing g = record {
   differs = λ s t differs covers. subst (λ (x : List Grant). Covers x g) (ap (λ (x : State). x.grants) differs.others) covers;
@@ -151,7 +151,7 @@ module _ (s : State) (g : Grant) where
   left : (call : Call) → Leaves s (state_after call s) → Covers (state_after call s).grants g → Before call
   left call leaves covers = inl (covers-left s.grants (state_after call s).grants g leaves covers)
 
-  -- what is given back now was there
+  -- what is deleted now existed before
   deleted-covers : (now : ℕ) → Covers (state_after (Delete now) s).grants g → Before (Delete now)
   deleted-covers now (is, there, kept) = by (delete-ends now s is there (kept-stood is g kept))
     where

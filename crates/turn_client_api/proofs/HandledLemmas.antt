@@ -1,4 +1,4 @@
--- What a call answers of peers are the payloads of what it handles.
+-- The payloads that a call returns are those of its inputs.
 use Rattle.std.proofs.Common.{◌≡◌, ℕ, zero, suc, Bool, true, false, cond, List, [], ◌∷◌, ◌++◌, take, Option, Some, None, refl, sym, subst, ap, ◌∙◌, inl}
 use Rattle.std.specs.Prelude.{find, option_to_list, IfSome, ⊤}
 use Rattle.std.specs.List.{cons_option}
@@ -21,7 +21,7 @@ use Rattle.turn_client_api.proofs.HasLemmas.{Has, has-filter_map, has-left}
 use Rattle.turn_client_api.proofs.StandLemmas.{has-contains}
 use Rattle.turn_client_api.proofs.PeerLemmas.{datagram-IsLetThrough, frame-IsLetIn}
 
--- these turns give what the outcome has, and no more
+-- these inputs return what the outcome has, and no more
 abbrev AreOf : List Turn → Outcome → Type 0
 AreOf turns o = payloads turns ≡ option_to_list (payload_in o)
 
@@ -35,7 +35,7 @@ one-AreOf t = by (turn_payload t)
 payloads-append : (front later : List Turn) → payloads (front ++ later) ≡ payloads front ++ payloads later
 payloads-append front later = filter_map-append turn_payload front later
 
--- ---- the turn of a stream
+-- ---- the step of a stream
 
 abbrev given : Bool → Outcome → Outcome
 given is_lent o = cond is_lent o (owned o)
@@ -66,7 +66,7 @@ turn-AreOf stream now s = turned_in_mode stream.mode stream now (with_bytes stre
 
 -- ---- all streams
 
--- what turns give, up to a payload
+-- what inputs return, until a payload
 abbrev Gives : List Turn → Option Payload × State → Type 0
 Gives turns p = payloads turns ≡ option_to_list p.0
 
@@ -90,7 +90,7 @@ poll_recv-Gives now s = turns-Gives (most_turns s) now s
 
 -- ---- a piece of a stream
 
--- a payload replaces the answer
+-- a payload replaces the result
 others-AreOf : (now : ℕ) (t : State) (o : Outcome) → payload_in o ≡ None → AreOf (poll_recv_turns now t) (option_map_or PeerData (poll_recv_step now t).0 o)
 others-AreOf now t o none = poll_recv-Gives now t ∙ by (poll_recv_step now t).0
   where
@@ -135,7 +135,7 @@ stream-AreOf : (stream : Stream) (piece : List ℕ) (now : ℕ) (s : State) → 
 stream-AreOf stream [] now s = refl
 stream-AreOf stream (b ∷ bs) now s = piece_in_mode stream.mode stream (b ∷ bs) now s
 
--- ---- what comes in
+-- ---- input
 
 recv_over : (carrier : TransportType) (transport : TransportType) (from to : SocketAddr) (bytes : List ℕ) (now : ℕ) (s : State) → AreOf (recv_turns transport from to bytes now (record s { transport = carrier })) (recv_step transport from to bytes now (record s { transport = carrier })).0
 recv_over Udp transport from to bytes now s = by (is_from_server transport from u) (same_address to s.local)
@@ -171,7 +171,7 @@ recv_over Tcp transport from to bytes now s = by (is_from_server transport from 
 pub recv-AreOf : (packet : Transmit (List ℕ)) (now : ℕ) (s : State) → payloads (handled (Recv packet now) s) ≡ option_to_list (payload_in (packet_step packet now s).0)
 recv-AreOf packet now s = recv_over s.transport packet.transport packet.from packet.to packet.payload now s
 
--- ---- from whom it comes
+-- ---- its sender
 
 pub turn-IsLetIn : (t : Turn) → IsLetInTurn t
 turn-IsLetIn t = by t.stream t
@@ -180,9 +180,9 @@ turn-IsLetIn t = by t.stream t
     by None t = datagram-IsLetThrough t.bytes t.moment t.before
     by (Some stream) t = frame-IsLetIn stream t.bytes t.moment t.before
 
--- ---- by which turn it is given
+-- ---- the input that returns it
 
--- the payload that a list of turns gives, one of them gives
+-- one input of a list returns the payload that the list returns
 given-among : (turns : List Turn) (o : Option Payload) → payloads turns ≡ option_to_list o → IfSome o (λ payload. (one : Turn) × Has one turns × (turn_payload one ≡ Some payload))
 given-among turns None e = tt
 given-among turns (Some payload) e = has-filter_map turn_payload payload turns (subst (Has payload) (sym e) (inl refl))
@@ -201,13 +201,13 @@ poll_recv-IsGivenBy now s =
     let o = (poll_recv_step now s).0 in
     given-by (PollRecv now) s o (given-among (handled (PollRecv now) s) o (poll_recv-Gives now s))
 
--- ---- what ICMP tells
+-- ---- ICMP reports
 
 abbrev IsIcmp : Outcome → Type 0
 IsIcmp (PeerIcmp transport peer icmp) = ⊤
 IsIcmp _ = ⊥
 
--- where the outcome is what ICMP told, one of these turns gives it
+-- if the outcome is an ICMP report, one of these inputs returns it
 abbrev Tells : List Turn → Outcome → Type 0
 Tells turns o = IsIcmp o → (one : Turn) × Has one turns × ((made_of one).0 ≡ o)
 
@@ -229,7 +229,7 @@ framed-tells is_lent stream now t = by (begins_no_frame stream.bytes) (frame_len
 fed-tells : (stream : Stream) (piece : List ℕ) (now : ℕ) (t : State) → Tells (frame_taken (is_front stream.bytes) (fed stream piece) now t) (place_kept stream.bytes (framed_turn (fed stream piece) now t).0)
 fed-tells stream piece now t = tells-kept stream.bytes _ (framed_turn (fed stream piece) now t).0 (framed-tells (is_front stream.bytes) (fed stream piece) now t)
 
--- what all streams give is no ICMP
+-- what all streams return is no ICMP report
 no-icmp : (o : Option Payload) (p : Outcome) → (IsIcmp p → ⊥) → IsIcmp (option_map_or PeerData o p) → ⊥
 no-icmp None p no_more h = no_more h
 no-icmp (Some payload) p no_more h = h

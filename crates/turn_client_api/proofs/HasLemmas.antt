@@ -27,7 +27,7 @@ has-append x (y ∷ xs) ys (inr h) = by (has-append x xs ys h)
     by (inl here) = inl (inr here)
     by (inr there) = inr there
 
--- what stays passed, and was there
+-- what stays passed, and was in the list
 pub has-filter : {X : Type 0} (p : X → Bool) (x : X) (xs : List X) → Has x (filter p xs) → Has x xs × (p x ≡ true)
 has-filter p x [] h = absurd h
 has-filter p x (y ∷ xs) h = by (p y) refl (has-filter p x xs)
@@ -59,7 +59,7 @@ flat_map-has f x y [] h inside = absurd h
 flat_map-has f x y (z ∷ xs) (inl e) inside = has-left y (f z) (flat_map f xs) (rw e at inside)
 flat_map-has f x y (z ∷ xs) (inr h) inside = has-right y (f z) (flat_map f xs) (flat_map-has f x y xs h inside)
 
--- an element of which y came
+-- an element of which y is the result
 pub record Came {X Y : Type 0} (f : X → List Y) (y : Y) (xs : List X) : Type 0 where
   pub from : X
   pub there : Has from xs
@@ -100,7 +100,7 @@ has-filter_map {X = X} {Y = Y} f y (z ∷ xs) h = by (f z) refl (has-filter_map 
         at (inl same) = (z, inl refl, rw same e)
         at (inr there) = later (others there)
 
--- what is found is there, and passes
+-- what is found is in the list, and passes
 pub has-found : {X : Type 0} (p : X → Bool) (x : X) (xs : List X) → find p xs ≡ Some x → Has x xs × (p x ≡ true)
 has-found p x [] found = absurd (none-some x found)
 has-found p x (y ∷ xs) found = by (p y) refl (has-found p x xs)
@@ -119,7 +119,7 @@ pub filter-none : {X : Type 0} (p : X → Bool) (xs : List X) → ((x : X) → H
 filter-none p [] fails = refl
 filter-none p (y ∷ xs) fails = rw (fails y (inl refl)) (filter-none p xs (λ x h. fails x (inr h)))
 
--- the least is not above any, and is one of them or where it began
+-- the minimum is not above any, and is one of them or the start
 pub least-start : (start : ℕ) (ms : List ℕ) → fold min start ms ≤ start
 least-start start [] = omega arith
 least-start start (m ∷ ms) = omega (arith, least-start (min start m) ms, min-le_left start m)

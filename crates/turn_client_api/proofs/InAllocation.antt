@@ -1,4 +1,4 @@
--- All grants stand in allocations, and so does what a reply may bring.
+-- All grants have allocations, and so does what a reply may add.
 use Rattle.std.proofs.Common.{◌≡◌, ℕ, Bool, true, false, eqb, ◌&&◌, List, [], ◌∷◌, ◌++◌, map, filter, filter_map, Option, Some, None, inl, inr, refl, sym, subst, ap, ◌∙◌}
 use Rattle.std.specs.Prelude.{IfSome, slice_get}
 use Rattle.std.proofs.lemmas.Bool.{and_from, and_parts}
@@ -28,7 +28,7 @@ use Rattle.turn_client_api.proofs.EditsOfReplies.{first-has}
 use Rattle.turn_client_api.proofs.EditsOfMessages.{purposes-listed}
 use Rattle.turn_client_api.proofs.EditsOfCalls.{leaves-walk}
 
--- ---- grants come and go
+-- ---- grants are added and removed
 
 without-houses : (which : Grant → Bool) → Spares which → (s : State) → Houses s (without which s)
 without-houses which spares s h = housed-without which spares s.grants s.listed h
@@ -36,7 +36,7 @@ without-houses which spares s h = housed-without which spares s.grants s.listed 
 with_grant-houses : (g : Grant) (s : State) → Room s.grants (family_of_grant g) → Houses s (with_grant g s)
 with_grant-houses g s room h = housed-grant s.grants g s.listed h room
 
--- one of a family that has an allocation takes the place of these
+-- one of a family that has an allocation replaces these
 replaced-houses : (which : Grant → Bool) → SparesAll which → (g : Grant) (s : State) → (Housed s.grants s.listed → Room s.grants (family_of_grant g)) → Houses s (with_grant g (without which s))
 replaced-houses which spares g s room h =
     with_grant-houses g (without which s) (room-without which spares s.grants (family_of_grant g) (room h)) (without-houses which (all-spared which spares) s h)
@@ -59,7 +59,7 @@ same_address-family (V6 a) (V6 b) e = refl
 same_address-family (V4 a) (V6 b) e = cc
 same_address-family (V6 a) (V4 b) e = cc
 
--- an offer that is there stands in an allocation
+-- an offer that exists has an allocation
 offer-room : (id : ℕ) (peer : SocketAddr) (origin : Origin) (s : State) → offer_origin id peer s ≡ Some origin → Housed s.grants s.listed → Room s.grants (family_of peer)
 offer-room id peer origin s e h = by (slice_get (filter_map offer_in (filter (is_offer_of id peer) s.grants)) 0) refl
   where
@@ -79,7 +79,7 @@ offer-room id peer origin s e h = by (slice_get (filter_map offer_in (filter (is
         let (was, is) = has-filter (is_offer_of id peer) g s.grants there in
         of offer g reads is (h.stands g was)
 
--- a permission that is there stands in an allocation
+-- a permission that exists has an allocation
 permission-room : (ip : IpAddr) (p : Progress) (s : State) → permission_for ip s ≡ Some p → Housed s.grants s.listed → Room s.grants (family_of_ip ip)
 permission-room ip p s e h =
     let (g, there, reads) = has-filter_map (permission_progress ip) p s.grants (first-has p (filter_map (permission_progress ip) s.grants) e) in
@@ -113,7 +113,7 @@ reshaped-houses grants s e = housed-shaped s.grants grants s.listed (sym (shapes
 
 -- ---- requests
 
--- no channel and no connection is asked for
+-- no channel and no connection is requested
 unbacked : (gs : List Grant) (p : Purpose) → asked_family p ≡ None → Backed gs p
 unbacked gs p e family asked = absurd (none-some family (sym e ∙ asked))
 
@@ -207,7 +207,7 @@ Houses-KeepsAllEdits = record {
   offers = λ id peer origin s room few. with_grant-houses (Offer (record { connection_id = id; peer = peer; is_told = false; origin = origin })) s room;
 }
 
--- ---- what the law says
+-- ---- the statement of the law
 
 if-some : {X : Type 0} (P : X → Type 0) (o : Option X) (x : X) → IfSome o P → o ≡ Some x → P x
 if-some P None x p e = absurd (none-some x e)

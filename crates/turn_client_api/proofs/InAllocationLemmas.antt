@@ -1,4 +1,4 @@
--- Grants that stand in allocations: what happens to lists of grants and of listings.
+-- Grants that have allocations: what happens to lists of grants and of listings.
 use Rattle.std.proofs.Common.{◌≡◌, ℕ, Bool, true, false, not, cond, ◌&&◌, List, [], ◌∷◌, ◌++◌, map, filter, find, Option, Some, None, ◌⊎◌, inl, inr, refl, sym, subst, ap, ◌∙◌}
 use Rattle.std.specs.Prelude.{is_some}
 use Rattle.std.specs.List.{list_any}
@@ -56,7 +56,7 @@ Room gs family = (a : Relay) × Has (Allocation a) gs × (family_of a.relayed �
 abbrev pub Asked : List Grant → Purpose → AddressFamily → Type 0
 Asked gs p family = (g : Grant) × Has g gs × (is_for p g ≡ true) × (family_of_grant g ≡ family)
 
--- what a reply may bring is asked for in an allocation
+-- what a reply may add is requested in an allocation
 abbrev pub Backed : List Grant → Purpose → Type 0
 Backed gs p = (family : AddressFamily) → asked_family p ≡ Some family → Asked gs p family
 
@@ -64,7 +64,7 @@ pub record Housed (gs : List Grant) (ls : List Listing) : Type 0 where
   pub stands : (g : Grant) → Has g gs → Room gs (family_of_grant g)
   pub backed : (l : Listing) → Has l ls → Backed gs l.purpose
 
--- what is housed stays so
+-- what has an allocation keeps it
 abbrev pub Houses : State → State → Type 0
 Houses s t = Housed s.grants s.listed → Housed t.grants t.listed
 
@@ -116,7 +116,7 @@ room-more gs hs more family (a, there, is) = (a, more a there, is)
 pub asked-more : (gs hs : List Grant) (p : Purpose) → ((g : Grant) → Has g gs → is_for p g ≡ true → Has g hs) → Backed gs p → Backed hs p
 asked-more gs hs p more backed family e = let (g, there, for, is) = backed family e in (g, more g there for, for, is)
 
--- ---- listings come and go
+-- ---- listings are added and removed
 
 pub housed-filter : (gs : List Grant) (which : Listing → Bool) (ls : List Listing) → Housed gs ls → Housed gs (filter which ls)
 housed-filter gs which ls h = record { stands = h.stands; backed = λ l there. h.backed l (has-filter which l ls there).0 }
@@ -133,7 +133,7 @@ housed-listings gs ls id ps h each = record { stands = h.stands; backed = λ l t
     by l (inl old) = h.backed l old
     by l (inr made) = new ps each l made
 
--- ---- grants come
+-- ---- grants are added
 
 pub housed-grants : (gs hs : List Grant) (ls : List Listing) → Housed gs ls → ((g : Grant) → Has g hs → Room (gs ++ hs) (family_of_grant g)) → Housed (gs ++ hs) ls
 housed-grants gs hs ls h each = record {
@@ -153,13 +153,13 @@ housed-grant gs g ls h room = housed-grants gs (g ∷ []) ls h by
     by x (inl e) = subst (λ (y : Grant). Room (gs ++ g ∷ []) (family_of_grant y)) (sym e) (room-more gs (gs ++ g ∷ []) (λ a there. has-left (Allocation a) gs (g ∷ []) there) (family_of_grant g) room)
     by x (inr none) = absurd none
 
--- ---- grants go
+-- ---- grants are removed
 
--- an allocation goes only with all that stands in it
+-- an allocation is removed only with all grants in it
 abbrev pub Spares : (Grant → Bool) → Type 0
 Spares which = (a : Relay) (g : Grant) → which (Allocation a) ≡ true → family_of a.relayed ≡ family_of_grant g → which g ≡ true
 
--- no allocation goes
+-- no allocation is removed
 abbrev pub SparesAll : (Grant → Bool) → Type 0
 SparesAll which = (a : Relay) → which (Allocation a) ≡ false
 
@@ -206,7 +206,7 @@ housed-without which spares gs ls h = record { stands = stands; backed = backed 
 
 -- ---- grants change
 
--- what counts of a grant here: its kind, its addresses and its number
+-- the relevant parts of a grant here: its kind, its addresses and its number
 abbrev pub shape : Grant → Grant
 shape (Allocation a) = Allocation (record { relayed = a.relayed; first_lifetime = 0; expiry = 0; is_expired = false })
 shape (Permission ip progress) = Permission ip Pending

@@ -66,7 +66,7 @@ indicated-outlined (g ∷ gs) =
 indicated-append : (gs hs : List Grant) → indicated (gs ++ hs) ≡ indicated gs + indicated hs
 indicated-append gs hs = ap length (filter-append is_indicated gs hs) ∙ length-append (filter is_indicated gs) (filter is_indicated hs)
 
--- what comes is no such offer
+-- what is added is no such offer
 few-append : (gs hs : List Grant) → indicated hs ≡ 0 → AreFew gs → AreFew (gs ++ hs)
 few-append gs hs none few = omega (arith, few, none, indicated-append gs hs)
 

@@ -1,4 +1,4 @@
--- What is left when time has passed.
+-- What remains after time has passed.
 use Rattle.std.proofs.Common.{◌≡◌, ℕ, suc, ◌<◌, Bool, true, false, ◌&&◌, ◌||◌, not, List, [], ◌∷◌, ◌++◌, length, filter, filter_map, find, fold, reverse, Option, Some, None, ◌⊎◌, inl, inr, refl, sym, subst, ◌∙◌, arith}
 use Rattle.std.specs.Prelude.{All, IfSome, ⊤, slice_get}
 use Rattle.std.proofs.lemmas.List.{length-reverse, reverse-append}
@@ -24,8 +24,8 @@ abbrev pub IsReserved : Grant → Type 0
 IsReserved (Channel number peer (Reserved until)) = ⊤
 IsReserved _ = ⊥
 
--- Grants go, or come back as reserved channels; events come, and nothing else changes but what is listed
--- and is to be closed.
+-- Grants are removed, or become reserved channels; events are queued, and nothing else changes but what is
+-- listed and is to be closed.
 pub record Shrinks (s t : State) : Type 0 where
   pub agent : agent_of t ≡ agent_of s
   pub transactions : t.transactions ≡ s.transactions
@@ -75,7 +75,7 @@ has-unreversed x (y ∷ xs) h = by (has-unreversed x xs) (has-append x (reverse 
     by later (inr (inl e)) = inl e
     by later (inr (inr none)) = absurd none
 
--- ---- what each part of a lapse does
+-- ---- what each part of an expiry does
 
 unlisted-shrinks : (which : Grant → Bool) (s : State) → Shrinks s (unlisted which s)
 unlisted-shrinks which s = record { agent = refl; transactions = refl; queue = refl; phase = refl; grants = λ g h. inl h; events = λ e. e }
@@ -139,7 +139,7 @@ tail6-shrinks family given purposes now s6 =
     shrinks-then s6 s7 (set_free family now s8) (failed-shrinks _ s6)
     (shrinks-then s7 s8 (set_free family now s8) (unlisted-shrinks _ s7) (without-shrinks _ s8))
 
--- from its lapsed permissions on
+-- from its expired permissions on
 tail4 : AddressFamily → Option ℕ → List Purpose → ℕ → State → State
 unfolding tail6
 tail4 family given purposes now s = tail6 family given purposes now (connections_unbound family purposes now (in_vain family purposes is_connect s))
@@ -177,12 +177,12 @@ back s t shrinks g not_reserved h = by (shrinks.grants g h)
     by (inl there) = there
     by (inr is) = absurd (not_reserved is)
 
--- a test that says where and what is false only by what
+-- a test that is false for a pair only by its second part
 what-false : (here what : Bool) → here ≡ true → (here && what) ≡ false → what ≡ false
 what-false true what e f = f
 what-false false what e f = let no : false ≡ true = e in cc
 
--- where no event came, no channel had lapsed
+-- if no event was queued, no channel had expired
 no_channel_lapsed : (family : AddressFamily) (now : ℕ) (s : State) → (last_channel_lapsed family now s).events ≡ [] → find (λ g. is_of family g && is_lapsed_channel now g) (reverse s.grants) ≡ None
 no_channel_lapsed family now s none = by (find test (reverse s.grants)) refl
   where
@@ -225,7 +225,7 @@ abbrev pub Outlives : ℕ → Grant → Type 0
 Outlives now (Allocation a) = ⊤
 Outlives now grant = Alive now grant
 
--- what is left in an allocation without an event has not ended
+-- what remains in an allocation without an event has not expired
 alive_in : (family : AddressFamily) (given : Option ℕ) (purposes : List Purpose) (now : ℕ) (s : State) → (lapsed_in family given purposes now s).events ≡ [] → (g : Grant) → Has g (lapsed_in family given purposes now s).grants → is_of family g ≡ true → Outlives now g
 unfolding tail6 tail4
 alive_in family given purposes now s none g h here = by g h here
@@ -306,7 +306,7 @@ reserved-outlives now (Connect peer) is = absurd is
 reserved-outlives now (Offer offer) is = absurd is
 reserved-outlives now (Connection c) is = absurd is
 
--- what is left of one allocation when its turn is over
+-- what remains of one allocation after it was processed
 after-turn : (given : Option ℕ) (purposes : List Purpose) (now : ℕ) (s : State) (a : Relay) (g : Grant) → (lapsed_allocation given purposes now s a).events ≡ [] → Has g (lapsed_allocation given purposes now s a).grants → is_of (family_of a.relayed) g ≡ true → Outlives now g
 after-turn given purposes now s a g none h here = by (goes purposes now s a) refl
   where
@@ -339,7 +339,7 @@ same_family-swap IPV6 IPV6 e = refl
 same_family-swap IPV4 IPV6 e = e
 same_family-swap IPV6 IPV4 e = e
 
--- an allocation in use goes at its end
+-- an allocation in use is removed at its expiry
 stays-alive : (given : Option ℕ) (purposes : List Purpose) (now : ℕ) (s : State) (a : Relay) → Has (Allocation a) (lapsed_allocation given purposes now s a).grants → a.is_expired ≡ false → now < a.expiry
 stays-alive given purposes now s a h used = by (goes purposes now s a) refl
   where
@@ -364,7 +364,7 @@ allocation-alive given purposes now (b ∷ bs) s a (inl e) h used =
     let there = back post (fold (lapsed_allocation given purposes now) post bs) (each-shrinks given purposes now bs post) (Allocation a) (λ is. is) h in
     stays-alive given purposes now s a (subst (λ x. Has (Allocation a) (lapsed_allocation given purposes now s x).grants) (sym e) there) used
 
--- all that is left when time has passed without an event has not ended
+-- all that remains after time has passed without an event has not expired
 pub lapsed-alive : (given : Option ℕ) (now : ℕ) (s : State) → All (StandsIn s) s.grants → (lapsed given now s).events ≡ [] → (g : Grant) → Has g (lapsed given now s).grants → Alive now g
 lapsed-alive given now s stand none g h = by g h ((each-shrinks given purposes now (allocations s) s).grants g h)
   where
@@ -374,7 +374,7 @@ lapsed-alive given now s stand none g h = by g h ((each-shrinks given purposes n
     t : State
     t = lapsed given now s
 
-    -- its allocation had its turn
+    -- its allocation was processed
     turn : (g : Grant) → Has g t.grants → Has g s.grants → Outlives now g
     turn g h there = of (allocation_of (family_of_grant g) s) refl
       where
@@ -398,11 +398,11 @@ lapsed-alive given now s stand none g h = by g h ((each-shrinks given purposes n
     by (Offer offer) h o = tt
     by (Connection c) h o = other (Connection c) h o
 
--- no offer comes
+-- no offer is added
 pub lapsed-no_offer : (s t : State) → Shrinks s t → next_offer s ≡ None → next_offer t ≡ None
 lapsed-no_offer s t shrinks none = by (is_allocated t.phase) refl
   where
-    -- the first untold offer of each allocation
+    -- the first unreported offer of each allocation
     offers : State → List DataOffer
     offers u = filter_map (λ a. first_untold (family_of a.relayed) u) (allocations u)
 
@@ -443,7 +443,7 @@ lapsed-no_offer s t shrinks none = by (is_allocated t.phase) refl
     is_allocation (Offer o) a e is = is
     is_allocation (Connection c) a e is = is
 
-    -- where an offer waits, one did before
+    -- if an offer is pending, one was so before
     before : (x : DataOffer) → Has x (offers t) → (y : DataOffer) × Has y (offers s)
     before x h =
         let (a, inside, gives) = has-filter_map (λ (a : Relay). first_untold (family_of a.relayed) t) x (allocations t) h in

@@ -1,4 +1,4 @@
--- A response to no request that is outstanding changes no grant, and binds no connection.
+-- A response to no outstanding request changes no grant, and binds no connection.
 use Rattle.std.proofs.Common.{◌≡◌, ℕ, Bool, true, false, cond, eqb, ltb, List, [], ◌∷◌, Option, Some, None, ◌⊎◌, inl, inr, refl, sym, ◌∙◌, ap}
 use Rattle.std.specs.Prelude.{◌&&◌, find, ⊤}
 use Rattle.std.specs.List.{Contains, list_any}
@@ -22,13 +22,13 @@ use Rattle.turn_client_api.specs.Payloads.{challenge_step, message_step, wrong_s
 use Rattle.turn_client_api.proofs.HasLemmas.{Has, has-filter}
 use Rattle.turn_client_api.proofs.StandLemmas.{contains-has, has-contains}
 
--- no request of the ID of the message is outstanding
+-- no request with the ID of the message is outstanding
 abbrev IsUnasked : List ℕ → State → Type 0
 IsUnasked message s = is_outstanding (id_of message) s.transactions ≡ false
 
 -- ---- how it is judged
 
--- it grants nothing, takes nothing and offers nothing
+-- it grants nothing, removes nothing and offers nothing
 abbrev IsStray : Judgement → Type 0
 IsStray Unrelated = ⊤
 IsStray (Challenged challenge) = ⊤
@@ -119,7 +119,7 @@ stray-grants message now s answers none = by (judgement_of s message) refl (judg
 
 -- ---- it binds no connection
 
--- a connection that is bound keeps what it has where another one waits anew
+-- a connection that is bound is unchanged if another one waits anew
 deadline-has : (local : SocketAddr) (moment : ℕ) (c : DataConnection) (gs : List Grant) (s : State) → c.deadline ≡ None → Has (Connection c) (with_deadline local (Some moment) (record s { grants = gs })).grants → Has (Connection c) gs
 deadline-has local moment c [] s none h = absurd h
 deadline-has local moment c (Connection d ∷ gs) s none h = by (same_address d.local local) refl (deadline-has local moment c gs s none)
@@ -152,7 +152,7 @@ deadline-has local moment c (Connect peer ∷ gs) s none (inr h) = inr (deadline
 deadline-has local moment c (Offer offer ∷ gs) s none (inl e) = inl e
 deadline-has local moment c (Offer offer ∷ gs) s none (inr h) = inr (deadline-has local moment c gs s none h)
 
--- a connection that is bound afterwards was there before
+-- a connection that is bound afterwards existed before
 abbrev BindsNothing : DataConnection → State → State → Type 0
 BindsNothing c s t = Has (Connection c) t.grants → Has (Connection c) s.grants
 

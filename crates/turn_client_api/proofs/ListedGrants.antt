@@ -1,4 +1,4 @@
--- What a request is listed for is there.
+-- What a request is listed for exists.
 use Rattle.std.proofs.Common.{◌≡◌, ℕ, Bool, true, false, not, eqb, ◌&&◌, List, [], ◌∷◌, ◌++◌, map, ◌⊎◌, inl, inr, refl, sym, subst, ap, ◌∙◌}
 use Rattle.std.specs.List.{list_any}
 use Rattle.std.proofs.lemmas.Bool.{and_from, and_parts, or_left}
@@ -20,7 +20,7 @@ use Rattle.turn_client_api.proofs.GrantOriginLemmas.{has-mapped}
 use Rattle.turn_client_api.proofs.Edits.{aged-outlines, IsAskable, KeepsAllEdits, KeepsEdits, outline}
 use Rattle.turn_client_api.proofs.EditsOfCalls.{leaves-walk}
 
--- what a request asks for, it is for
+-- what is requested, the request is for
 pub asked-for : (p : Purpose) (g : Grant) → is_asked_by p g ≡ true → is_for p g ≡ true
 asked-for (ForChannel number peer) (Channel other to progress) e = (and_parts (eqb other number) (same_address to peer) e).0
 asked-for (ForChannel number peer) (Allocation a) e = e
@@ -34,7 +34,7 @@ asked-for (ForPermission ip) g e = e
 asked-for (ForConnect peer) g e = e
 asked-for (ForBind local peer id) g e = e
 
--- the request is an ALLOCATE, or it asks for one of these
+-- the request is an ALLOCATE, or is for one of these
 abbrev pub Founded : List Grant → Purpose → Type 0
 Founded gs p = (p ≡ ForAllocation) ⊎ (list_any (is_asked_by p) gs ≡ true)
 
@@ -44,7 +44,7 @@ AllFounded s = (l : Listing) → Has l s.listed → Founded s.grants l.purpose
 abbrev pub StayFounded : State → State → Type 0
 StayFounded s t = AllFounded s → AllFounded t
 
--- ---- grants come
+-- ---- grants are added
 
 founded-append : (gs hs : List Grant) (p : Purpose) → Founded gs p → Founded (gs ++ hs) p
 founded-append gs hs p (inl e) = inl e
@@ -53,7 +53,7 @@ founded-append gs hs p (inr there) = inr (list_any-append (is_asked_by p) gs hs 
 with_grant-founded : (g : Grant) (s : State) → StayFounded s (with_grant g s)
 with_grant-founded g s h l there = founded-append s.grants (g ∷ []) l.purpose (h l there)
 
--- ---- grants go
+-- ---- grants are removed
 
 without-founded : (which : Grant → Bool) (s : State) → StayFounded s (without which s)
 without-founded which s h l there = by (h l kept.0)

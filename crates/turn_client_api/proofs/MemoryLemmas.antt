@@ -1,4 +1,4 @@
--- What a call leaves that finds no memory: what messages and the end of a client keep is kept.
+-- What a call leaves if memory allocation fails: what messages and the end of a client keep is kept.
 use Rattle.std.proofs.Common.{◌≡◌, ◌⊎◌, ℕ, Bool, true, false, cond, List, Option, Some, None, refl, subst, sym, inl, inr}
 use Rattle.std.specs.Prelude.{IsSomeAnd, find}
 use Rattle.std.proofs.lemmas.Option.{none-some, same_Some}
@@ -14,15 +14,15 @@ use Rattle.turn_client_api.specs.Steps.{Call, EndsWithoutMemory, Leaves, state_a
 use Rattle.turn_client_api.specs.Steps.{Delete, CreatePermission, BindChannel, TcpConnect, AllocatedTcpSocket, TcpClosed, SendTo, Recv, PollRecv, Poll, PollTransmit, PollEvent, RelayedAddresses, Permissions, HavePermission, ProtocolError}
 use Rattle.turn_client_api.proofs.RunKeepLemmas.{IsKept, first_turn-kept, turns-kept}
 
--- ---- before all streams have their turns
+-- ---- before all streams are processed
 
--- the state behind a first turn without anything of a peer
+-- the state after a first step without data of a peer
 unfoldable pub behind : Outcome × State → Option State
 behind (PeerData payload, t) = None
 behind (PeerIcmp transport peer icmp, t) = None
 behind (_, t) = Some t
 
--- the control stream at this local end had its first turn, or it is broken and nothing has changed
+-- the control stream at this local address was processed once, or it is broken and nothing has changed
 abbrev pub IsBehind : SocketAddr → List ℕ → ℕ → State → State → Type 0
 IsBehind to piece now s u =
     (stream : Stream) × (stream_at to s ≡ Some stream) × (((stream.mode ≡ Control) × (u ≡ (first_turn stream piece now s).1)) ⊎ (u ≡ s))
@@ -106,7 +106,7 @@ module _ (R : State → State → Type 0) (k : IsKept R) (ends : (s : State) →
   memory-kept (HavePermission transport to) s t none = absurd none
   memory-kept ProtocolError s t e = closed-kept s s t (k.same s) e
 
-  -- what each call keeps that finds memory, each call keeps
+  -- what each call keeps without an allocation failure, each call keeps with one
   pub leaves-kept : ((call : Call) (s : State) → R s (state_after call s)) → (call : Call) (s t : State) → Leaves call s t → R s t
   leaves-kept after call s t (inl e) = subst (λ (x : State). R s x) (sym e) (after call s)
   leaves-kept after call s t (inr h) = memory-kept call s t h

@@ -1,4 +1,4 @@
--- What each call asks for, and what it takes.
+-- What each call requests, and what it removes.
 use Rattle.std.proofs.Common.{◌≡◌, ◌⊎◌, ℕ, Bool, true, false, not, cond, ◌||◌, List, [], ◌∷◌, ◌++◌, map, Option, Some, None, Result, Err, refl, inl, inr}
 use Rattle.std.specs.Prelude.{filter_map, is_some, is_none}
 use Rattle.std.specs.List.{list_any}
@@ -42,7 +42,7 @@ does-settled call s t settles = settles-moves (MadeAt call s t) (ListedAt call s
 pub does-same : (call : Call) (s : State) → Does call s s
 does-same call s = does-settled call s s (settles-same (IsTakenBy call s) s)
 
--- one request is made, in a state that differs from the first by what the call takes
+-- one request is made, in a state that differs from the first by what the call removes
 pub does-requested : (call : Call) (purpose : Purpose) (now : ℕ) (s u : State) → AsksFor call s purpose now → Settles (IsTakenBy call s) s u → Does call s (requested (fresh_id s) purpose now u)
 does-requested call purpose now s u asks (made, listed, lost) = (
   adds-one (MadeAt call s t) s.transactions u.transactions (request_made purpose now s u) (adds-wider Never (MadeAt call s t) s.transactions u.transactions (λ x never. absurd never) made)
@@ -55,7 +55,7 @@ does-requested call purpose now s u asks (made, listed, lost) = (
     t : State
     t = requested (fresh_id s) purpose now u
 
--- ---- what needs an allocation
+-- ---- calls that need an allocation
 
 expired-bare : (family : AddressFamily) (g : Grant) → bare g ≡ bare (changed_allocation (λ a. is_of_family family a.relayed) (λ a. record a { is_expired = true }) g)
 expired-bare family (Allocation a) = by (is_of_family family a.relayed)
@@ -106,7 +106,7 @@ module _ (transport : TransportType) (peer : SocketAddr) (now : ℕ) (s : State)
   abbrev binding : Call
   binding = BindChannel transport peer now
 
-  -- a permission comes with the channel
+  -- a permission is requested with the channel
   listed-with : (number : ℕ) (ips : List IpAddr) (b : Bool) → ips ≡ cond b (socket_ip peer ∷ []) [] → (p : Purpose) → Has p (ForChannel number peer ∷ map ForPermission ips) → IsListedFor (ForChannel number peer) p
   listed-with number ips b e p (inl is) = inl is
   listed-with number ips b e p (inr h) = by (has-mapped ForPermission p ips h)

@@ -1,4 +1,4 @@
--- How requests, listings and grants come and go.
+-- How requests, listings and grants are added and removed.
 use Rattle.std.proofs.Common.{◌≡◌, ◌⊎◌, Bool, true, false, not, cond, List, [], ◌∷◌, ◌++◌, map, filter, refl, sym, subst, ◌∙◌, inl, inr}
 use Rattle.turn_agent.specs.declared.transaction.Transaction.{Transaction}
 use Rattle.turn_client_api.specs.State.{State, Grant, Listing}
@@ -7,15 +7,15 @@ use Rattle.turn_client_api.proofs.HasLemmas.{Has, filter-has, has-append, has-fi
 
 -- ---- lists
 
--- what is there later was there, or came
+-- what exists later existed before, or was added
 abbrev pub Adds : {X : Type 0} → (X → Type 0) → List X → List X → Type 0
 Adds {X} Came xs ys = (x : X) → Has x ys → Has x xs ⊎ Came x
 
--- however far it has come
+-- whatever its progress
 abbrev pub Remains : Grant → List Grant → Type 0
 Remains g gs = (is : Grant) × Has is gs × (bare g ≡ bare is)
 
--- what was there is there later, or was taken
+-- what existed before exists later, or was removed
 abbrev pub Loses : (Grant → Type 0) → List Grant → List Grant → Type 0
 Loses Taken gs later = (g : Grant) → Has g gs → Remains g later ⊎ Taken g
 
@@ -32,7 +32,7 @@ adds-then {X = X} Came xs ys zs first later x h = by (later x h)
 pub adds-filter : {X : Type 0} (Came : X → Type 0) (p : X → Bool) (xs : List X) → Adds Came xs (filter p xs)
 adds-filter Came p xs x h = inl (has-filter p x xs h).0
 
--- more comes behind
+-- more is added after
 pub adds-more : {X : Type 0} (Came : X → Type 0) (xs ys more : List X) → Adds Came xs ys → ((x : X) → Has x more → Came x) → Adds Came xs (ys ++ more)
 adds-more {X = X} Came xs ys more first came x h = by (has-append x ys more h)
   where
@@ -47,7 +47,7 @@ adds-one {X = X} Came xs ys one first came = adds-more Came xs ys (one ∷ []) f
     by x (inl e) = subst Came (sym e) came
     by x (inr h) = absurd h
 
--- what comes by the one comes by the other
+-- what is added by the one is added by the other
 pub adds-wider : {X : Type 0} (Came Other : X → Type 0) (xs ys : List X) → ((x : X) → Came x → Other x) → Adds Came xs ys → Adds Other xs ys
 adds-wider {X = X} Came Other xs ys wider adds x h = by (adds x h)
   where
@@ -63,7 +63,7 @@ remains-here g gs h = (g, h, refl)
 pub loses-same : (Taken : Grant → Type 0) (gs : List Grant) → Loses Taken gs gs
 loses-same Taken gs g h = inl (remains-here g gs h)
 
--- how far a grant has come does not count
+-- the progress of a grant does not count
 abbrev pub IsOfBare : (Grant → Type 0) → Type 0
 IsOfBare Taken = (g is : Grant) → bare g ≡ bare is → Taken is → Taken g
 
@@ -104,7 +104,7 @@ loses-wider Taken Other gs hs wider loses g h = by (loses g h)
 
 -- ---- states
 
--- requests and listings come so, and grants go so
+-- requests and listings are added so, and grants removed so
 abbrev pub Moves : (Transaction → Type 0) → (Listing → Type 0) → (Grant → Type 0) → State → State → Type 0
 Moves Made Listed Taken s t =
     Adds Made s.transactions t.transactions × Adds Listed s.listed t.listed × Loses Taken s.grants t.grants
@@ -112,7 +112,7 @@ Moves Made Listed Taken s t =
 abbrev pub Never : {X : Type 0} → X → Type 0
 Never x = ⊥
 
--- nothing is asked for, and grants go so
+-- nothing is requested, and grants are removed so
 abbrev pub Settles : (Grant → Type 0) → State → State → Type 0
 Settles Taken s t = Moves Never Never Taken s t
 
@@ -129,7 +129,7 @@ settles-then Taken whole s t u first later = (
 pub moves-same : (Made : Transaction → Type 0) (Listed : Listing → Type 0) (Taken : Grant → Type 0) (s : State) → Moves Made Listed Taken s s
 moves-same Made Listed Taken s = (adds-same Made s.transactions, adds-same Listed s.listed, loses-same Taken s.grants)
 
--- where nothing is asked for, nothing comes in any way
+-- if nothing is requested, nothing is added in any way
 pub settles-moves : (Made : Transaction → Type 0) (Listed : Listing → Type 0) (Taken : Grant → Type 0) (s t : State) → Settles Taken s t → Moves Made Listed Taken s t
 settles-moves Made Listed Taken s t (made, listed, lost) = (
   adds-wider Never Made s.transactions t.transactions (λ x never. absurd never) made,

@@ -1,4 +1,4 @@
--- What messages ask for, and what they take.
+-- What messages request, and what they remove.
 use Rattle.std.proofs.Common.{◌≡◌, ◌⊎◌, ℕ, eqb, ltb, leb, Bool, true, false, not, cond, ◌&&◌, List, [], ◌∷◌, ◌++◌, filter, length, Option, Some, None, refl, subst, inl, inr}
 use Rattle.std.specs.Prelude.{filter_map, find, is_some, IfSome}
 use Rattle.std.specs.List.{list_any}
@@ -36,7 +36,7 @@ use Rattle.turn_client_api.proofs.MoveReplyLemmas.{IsFor, response-fits}
 use Rattle.turn_client_api.proofs.GrantOriginLemmas.{has-mapped}
 use Rattle.turn_client_api.proofs.StandLemmas.{has-contains}
 
--- the message asks for this, and takes grants so
+-- the message requests this, and removes grants so
 abbrev pub Turns : (Grant → Type 0) → List ℕ → ℕ → State → State → Type 0
 Turns Taken message now s t = Moves (IsMadeAgain message now s t) (IsListedAgain message now s t) Taken s t
 
@@ -66,7 +66,7 @@ module _ (message : List ℕ) (now : ℕ) (s t : State) (purpose : Purpose) (ans
 abbrev pub request_made : Purpose → ℕ → State → State → Transaction
 request_made purpose now s u = first_sent (fresh_id s) u.remote now (request_for u purpose (fresh_id s))
 
--- whatever the state was in which it is asked for
+-- whatever the state was in which it is requested
 abbrev pub requested-made : (purpose : Purpose) (now : ℕ) (s u : State) → IsMade purpose now s (requested (fresh_id s) purpose now u)
 requested-made purpose now s u = record {
   text = request_for u purpose (fresh_id s);
@@ -141,7 +141,7 @@ denied-turns Taken message now s answers = by (has_code family_not_supported mes
       loses-same Taken s.grants,
     )
 
--- ---- what is judged so answers an ALLOCATE
+-- ---- what is so judged answers an ALLOCATE
 
 any-allocation : (all : List Purpose) → list_any is_for_allocation all ≡ true → Has ForAllocation all
 any-allocation [] e = cc
@@ -191,7 +191,7 @@ error-turns Requesting message now s e = reply-turns SignedError tt false messag
 error-turns Allocated message now s e = reply-turns SignedError tt false message now (record s { phase = Allocated })
 error-turns Closed message now s e = reply-turns SignedError tt false message now (record s { phase = Closed })
 
--- ---- what the server asks
+-- ---- what the server requests
 
 requested-turns : (Taken : Grant → Type 0) (message : List ℕ) (now : ℕ) (s : State) → Turns Taken message now s (attempt_requested message s)
 requested-turns Taken message now s = turns-settled Taken message now s _ (by (connection_id_in message) refl (peer_in message) refl)
@@ -333,7 +333,7 @@ bind-turns local message now s = bind_in_phase s.phase local message now s
 turns-wider : (Taken Other : Grant → Type 0) (message : List ℕ) (now : ℕ) (s t : State) → ((g : Grant) → Taken g → Other g) → Turns Taken message now s t → Turns Other message now s t
 turns-wider Taken Other message now s t wider (made, listed, lost) = (made, listed, loses-wider Taken Other s.grants t.grants wider lost)
 
--- by the message, or since it came over the connection itself
+-- by the message, or since it was received over the connection itself
 abbrev TakenBy : Option Stream → List ℕ → State → Grant → Type 0
 TakenBy o bytes s g = IsTakenByReply bytes s g ⊎ IsOverItself o g
 
@@ -382,7 +382,7 @@ frame_in_mode Waiting stream bytes now s =
 frame_in_mode (Bound peer) stream bytes now s = turns-same _ bytes now s
 frame_in_mode Broken stream bytes now s = turns-same _ bytes now s
 
--- what is handled asks for this, and takes grants so
+-- an input that is processed requests this, and removes grants so
 pub turn-turns : (one : Turn) → Turns (λ g. IsTakenInTurn g one) one.bytes one.moment one.before (made_of one).1
 turn-turns one = by one.stream
   where

@@ -1,4 +1,4 @@
--- What time takes, and what is asked for as it passes.
+-- What time removes, and what is requested as it passes.
 use Rattle.std.proofs.Common.{◌≡◌, ◌⊎◌, ℕ, ◌<◌, ◌≤◌, eqb, leb, Bool, true, false, cond, ◌&&◌, ◌||◌, List, [], ◌∷◌, ◌++◌, fold, Option, Some, None, refl, sym, subst, inl, inr}
 use Rattle.std.specs.Prelude.{All, IsSome, drop, find, flat_map, is_some, reverse, slice_get, ⊤}
 use Rattle.std.specs.List.{Contains}
@@ -106,9 +106,9 @@ lapsed-fewer given purposes now (a ∷ relays) s =
     (on_test (Fewer s) (goes purposes now s a) (without (is_of (family_of a.relayed)) s) (lapsed_in (family_of a.relayed) given purposes now s) (adds-filter Never _ s.listed) (lapsed_in-fewer (family_of a.relayed) given purposes now s))
     (lapsed-fewer given purposes now relays t)
 
--- ---- what time takes
+-- ---- what time removes
 
--- nothing has lapsed yet, or something has
+-- nothing has expired yet, or something has
 early-or : (now : ℕ) (ms : List ℕ) → All (λ m. now < m) ms ⊎ ((m : ℕ) × Contains ms m × (m ≤ now))
 early-or now ms = by (find (λ m. leb m now) ms) refl
   where
@@ -126,11 +126,11 @@ early-or now ms = by (find (λ m. leb m now) ms) refl
     by (Some m) e = let (there, le) = has-found (λ m. leb m now) m ms e in inr (m, has-contains m ms there, leb-true m now le)
 
 module _ (now : ℕ) (s : State) where
-  -- this is left behind
+  -- this remains
   abbrev Ends : State → Type 0
   Ends t = Settles (IsTakenBy (Poll now) s) s t
 
-  -- with the same requests and listings, and the grants go so
+  -- with the same requests and listings, and the grants are removed so
   answer-ends : (given : Option ℕ) (t : State) → Ends t → Ends (answer_step given now t).1
   answer-ends given t ends = by t.closes t.phase (allocations t)
     where
@@ -149,7 +149,7 @@ module _ (now : ℕ) (s : State) where
   same-ends : Ends s
   same-ends = settles-same (IsTakenBy (Poll now) s) s
 
-  -- nothing was given up
+  -- no transaction timed out
   none-ends : (p : Phase) → s.phase ≡ p → Ends (timed_step p None now s).1
   none-ends New e = same-ends
   none-ends Requesting e = answer-ends None s same-ends
@@ -165,7 +165,7 @@ module _ (now : ℕ) (s : State) where
         up-loses (inr (e, come)) (lapsed None now s).grants,
       )
 
-  -- the transaction was given up
+  -- the transaction timed out
   given-ends : (x : Transaction) → IsTimeUp now s → (p : Phase) → Ends (timed_step p (Some x.id) now (ended x.id s)).1
   given-ends x up p = by p
     where
@@ -251,7 +251,7 @@ module _ (now : ℕ) (s : State) where
               at true f = inr (inl (z, has-contains z s.transactions there, f))
               at false f = inl (rw f there)
 
-  -- a request goes out at once
+  -- a request is sent at once
   at_once-does : (text : List ℕ) (purpose : Purpose) (u : State) → AsksFor sending s purpose now → Settles (IsTakenBy sending s) s u → (made : IsMade purpose now s (sent_at_once text purpose now u).1) → (first_sent (fresh_id u) u.remote now text ≡ first_sent (fresh_id s) u.remote now made.text) → fresh_id u ≡ fresh_id s → Does sending s (sent_at_once text purpose now u).1
   at_once-does text purpose u asks settles made spelled fresh = (
     adds-one (MadeAt sending s t) s.transactions u.transactions (first_sent (fresh_id u) u.remote now text) (λ y h. wider (settles.0 y h)) (inr (purpose, now, asks, (made, spelled))),

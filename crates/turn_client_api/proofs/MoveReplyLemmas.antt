@@ -1,4 +1,4 @@
--- What signed replies take: grants that their requests were made for.
+-- What signed replies remove: grants that their requests were made for.
 use Rattle.std.proofs.Common.{◌≡◌, ◌⊎◌, ℕ, eqb, leb, Bool, true, false, cond, ◌||◌, List, [], ◌∷◌, ◌++◌, filter, fold, Option, Some, None, refl, sym, ap, ◌∙◌, inl, inr}
 use Rattle.std.specs.Option.{option_map_or}
 use Rattle.std.proofs.lemmas.Bool.{and_parts, eqb-true}
@@ -16,11 +16,11 @@ use Rattle.turn_client_api.proofs.GrantOriginLemmas.{has-mapped}
 use Rattle.turn_client_api.proofs.HasLemmas.{Has, filter-has, has-filter, map-has}
 use Rattle.turn_client_api.proofs.MoveLemmas.{Adds, IsOfBare, Never, Settles, adds-filter, adds-same, loses-filter, loses-map, loses-more, loses-same, on_test, settles-same, settles-then}
 
--- one of these purposes is for the grant, or gives all allocations back
+-- one of these purposes is for the grant, or deletes all allocations
 abbrev pub IsFor : List Purpose → Grant → Type 0
 IsFor all g = (p : Purpose) × Has p all × ((is_for p g ≡ true) ⊎ GivesBack p)
 
--- ---- what a request is for does not depend on how far that has come
+-- ---- what a request is for does not depend on the progress of that
 
 is_for-bare : (p : Purpose) (g : Grant) → is_for p (bare g) ≡ is_for p g
 is_for-bare ForAllocation (Allocation a) = refl
@@ -104,11 +104,11 @@ module _ (all : List Purpose) where
   pub fits-then : (s t u : State) → Fits s t → Fits t u → Fits s u
   fits-then s t u first later = settles-then (IsFor all) (IsFor-whole all) s t u first later
 
-  -- grants of this kind go
+  -- grants of this kind are removed
   fits-without : (which : Grant → Bool) (s : State) → ((g : Grant) → which g ≡ true → IsFor all g) → Fits s (without which s)
   fits-without which s takes = (adds-same Never s.transactions, adds-filter Never _ s.listed, loses-filter (IsFor all) which s.grants takes)
 
-  -- and others come
+  -- and others are added
   fits-instead : (which : Grant → Bool) (more : List Grant) (s : State) → ((g : Grant) → which g ≡ true → IsFor all g) → Fits s (record (without which s) { grants = (without which s).grants ++ more })
   fits-instead which more s takes =
       (adds-same Never s.transactions, adds-filter Never _ s.listed, loses-more (IsFor all) s.grants _ more (loses-filter (IsFor all) which s.grants takes))
@@ -148,7 +148,7 @@ module _ (all : List Purpose) where
   fits-fold f start step (p ∷ some) each t fits =
       fits-fold f start step some (λ q h. each q (inr h)) (f t p) (fits-then start t (f t p) fits (step t p fits (each p (inl refl))))
 
-  -- the request of this ID has no other purposes
+  -- the request with this ID has no other purposes
   abbrev pub AreOf : ℕ → State → Type 0
   AreOf id s = (p : Purpose) → Has p (purposes_of id s) → Has p all
 
@@ -228,7 +228,7 @@ module _ (all : List Purpose) where
   effect-fits id is_granted message now s ForAllocation h are = fits-same s
   effect-fits id is_granted message now s (ForBind local peer other) h are = fits-same s
 
--- a signed reply takes only what its request was made for, and asks for nothing
+-- a signed reply removes only what its request was made for, and requests nothing
 pub response-fits : (is_granted : Bool) (message : List ℕ) (now : ℕ) (s : State) → Settles (IsFor (purposes_of (id_of message) s)) s (response_step is_granted message now s).1
 response-fits is_granted message now s =
     fits-then all s start (response_step is_granted message now s).1

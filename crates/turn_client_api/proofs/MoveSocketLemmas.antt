@@ -1,4 +1,4 @@
--- What is asked for and taken with data connections, with data, and when allocations are given back.
+-- What is requested and removed with data connections, with data, and when allocations are deleted.
 use Rattle.std.proofs.Common.{◌≡◌, ◌⊎◌, ℕ, leb, Bool, true, false, not, cond, ◌&&◌, List, [], ◌∷◌, ◌++◌, map, filter, Option, Some, None, refl, ◌∙◌, inl, inr}
 use Rattle.std.specs.Prelude.{filter_map, find, is_some}
 use Rattle.std.specs.Option.{option_map_or}
@@ -29,7 +29,7 @@ use Rattle.turn_client_api.proofs.MoveMessageLemmas.{request_made, requested-mad
 use Rattle.turn_client_api.proofs.GrantOriginLemmas.{has-mapped}
 use Rattle.turn_client_api.proofs.StandLemmas.{has-contains}
 
--- a pair by what is found
+-- a pair by the result of a look-up
 pub by_found : {A X : Type 0} (P : State → Type 0) (f : X → A × State) (o : Option X) (y : A × State) → ((x : X) → o ≡ Some x → P (f x).1) → P y.1 → P (option_map_or f o y).1
 by_found P f None y k l = l
 by_found P f (Some x) y k l = k x refl
@@ -55,7 +55,7 @@ closed-does local remote now s =
     on_test (Does (TcpClosed local remote now) s) (same_transport s.transport Tcp && same_address remote s.remote) _ s
     (gone-does (TcpClosed local remote now) local s (λ g e. e)) (does-same (TcpClosed local remote now) s)
 
--- ---- an offer is taken
+-- ---- an offer is removed
 
 loses-first : (Taken : Grant → Type 0) (which : Grant → Bool) (gs : List Grant) → ((g : Grant) → which g ≡ true → Taken g) → Loses Taken gs (without_first which gs)
 loses-first Taken which [] takes g h = absurd h
@@ -101,7 +101,7 @@ module _ (id : ℕ) (tuple : Socket5Tuple) (peer : SocketAddr) (now : ℕ) (s : 
       lost : Loses (IsTakenBy call s) s.grants ((offer_taken id peer s).grants ++ c ∷ [])
       lost = loses-more (IsTakenBy call s) s.grants (offer_taken id peer s).grants (c ∷ []) (taken-loses (Some local))
 
-      -- in whatever state it is asked for
+      -- in whatever state it is requested
       asked : (u : State) → Settles (IsTakenBy call s) s u → Does call s (with_stream local (requested (fresh_id s) purpose now u))
       asked u settles =
           let t = with_stream local (requested (fresh_id s) purpose now u) in
@@ -138,7 +138,7 @@ module _ (id : ℕ) (tuple : Socket5Tuple) (peer : SocketAddr) (now : ℕ) (s : 
       (by_found (Does (taking local) s) (λ origin. socket_step id peer local origin now s) (offer_origin id peer s) _ (λ origin e. socket-does local origin) (does-same (taking local) s))
       (does-same (taking local) s)
 
--- ---- allocations are given back
+-- ---- allocations are deleted
 
 all-bare : (now : ℕ) (g : Grant) → bare g ≡ bare (changed_allocation (λ a. true) (λ a. record a { expiry = now; is_expired = true }) g)
 all-bare now (Allocation a) = refl
@@ -152,7 +152,7 @@ module _ (now : ℕ) (s : State) where
   left : List Grant
   left = filter (λ g. not (is_granted_in g)) s.grants
 
-  -- what goes, and then all allocations are expired
+  -- what is removed, and then all allocations are expired
   expired-loses : Loses (IsTakenBy (Delete now) s) s.grants (map (changed_allocation (λ a. true) (λ a. record a { expiry = now; is_expired = true })) left)
   unfolding left
   expired-loses g h = by (loses-filter (IsTakenBy (Delete now) s) is_granted_in s.grants (λ g e. e) g h)

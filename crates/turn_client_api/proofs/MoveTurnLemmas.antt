@@ -1,4 +1,4 @@
--- What all calls ask for and take, those that take turns among them.
+-- What all calls request and remove, including those that process inputs.
 use Rattle.std.proofs.Common.{◌≡◌, ◌⊎◌, ℕ, List, [], ◌∷◌, ◌++◌, Option, Some, None, true, refl, sym, subst, ◌∙◌, inl, inr}
 use Rattle.std.specs.List.{Contains}
 use Rattle.turn_agent.specs.declared.transaction.Transaction.{Transaction}
@@ -22,16 +22,16 @@ use Rattle.turn_client_api.proofs.StandLemmas.{contains-has, has-contains}
 use Rattle.turn_client_api.proofs.TurnChainLemmas.{calls-do, turns-lead}
 use Rattle.turn_client_api.proofs.TurnEndLemmas.{calls-end}
 
--- ---- turns one after the other
+-- ---- inputs in sequence
 
--- one of these turns did it
+-- one of these inputs did it
 abbrev Among : (Turn → Type 0) → List Turn → Type 0
 Among Did turns = (one : Turn) × Has one turns × Did one
 
 later-among : (Did : Turn → Type 0) (one : Turn) (turns : List Turn) → Among Did turns → Among Did (one ∷ turns)
 later-among Did one turns (x, there, did) = (x, inr there, did)
 
--- what holds behind the turns held before them, or came by one of them
+-- what holds after the inputs held before them, or one of them caused it
 leads-back : (P : State → Type 0) (Did : Turn → Type 0) → ((s t : State) → DiffersInStreams s t → P t → P s) → ((one : Turn) → P (made_of one).1 → P one.before ⊎ Did one) → (turns : List Turn) (s t : State) → TurnsLead turns s t → P t → P s ⊎ Among Did turns
 leads-back P Did alike step [] s t differs h = inl (alike s t differs h)
 leads-back P Did alike step (one ∷ turns) s t (differs, lead) h = by (leads-back P Did alike step turns (made_of one).1 t lead h)
@@ -44,7 +44,7 @@ leads-back P Did alike step (one ∷ turns) s t (differs, lead) h = by (leads-ba
     by (inl here) = at (step one here)
     by (inr among) = inr (later-among Did one turns among)
 
--- what held before the turns holds behind them, or one of them ended it
+-- what held before the inputs holds after them, or one of them ended it
 leads-on : (P : State → Type 0) (Did : Turn → Type 0) → ((s t : State) → DiffersInStreams s t → P s → P t) → ((one : Turn) → P one.before → P (made_of one).1 ⊎ Did one) → (turns : List Turn) (s t : State) → TurnsLead turns s t → P s → P t ⊎ Among Did turns
 leads-on P Did alike step [] s t differs h = inl (alike s t differs h)
 leads-on P Did alike step (one ∷ turns) s t (differs, lead) h =
@@ -58,7 +58,7 @@ leads-on P Did alike step (one ∷ turns) s t (differs, lead) h =
     by (inl here) more = further (more here)
     by (inr did) more = inr (one, inl refl, did)
 
--- ---- what a turn takes, it takes however far that has come
+-- ---- what an input removes, it removes whatever the progress of that
 
 taken-whole : (one : Turn) → IsOfBare (λ g. IsTakenInTurn g one)
 taken-whole one g is same (inl (accepted, (p, answers, inl h))) = inl (accepted, (p, answers, inl (is_for-whole p g is same h)))
@@ -69,7 +69,7 @@ taken-whole one g is same (inr over) = inr (by one.stream over)
     by None over = over
     by (Some stream) (mode, h) = (mode, is_for-whole (ForBind stream.local stream.local 0) g is same h)
 
--- ---- a call that takes turns
+-- ---- a call that processes inputs
 
 module _ (turns : List Turn) (s t : State) (lead : TurnsLead turns s t) where
   lead-transactions : (x : Transaction) → Has x t.transactions → Has x s.transactions ⊎ Among (IsMadeInTurn x) turns
@@ -103,16 +103,16 @@ module _ (turns : List Turn) (s t : State) (lead : TurnsLead turns s t) where
 abbrev Obeys : Call → State → Type 0
 Obeys call s = Moves (IsRequestOf call s) (IsListingOf call s) (IsTakenBy call s) s (state_after call s)
 
--- one of them is among what the call handles
+-- one of them is among the inputs of the call
 among-done : (Did : Turn → Type 0) (call : Call) (s : State) → Among Did (handled call s) → (one : Turn) × Contains (handled call s) one × Did one
 among-done Did call s (one, there, did) = (one, has-contains one (handled call s) there, did)
 
--- the same, or by a turn
+-- the same, or by an input
 or-done : {X : Type 0} (Did : Turn → Type 0) (call : Call) (s : State) → X ⊎ Among Did (handled call s) → X ⊎ ((one : Turn) × Contains (handled call s) one × Did one)
 or-done Did call s (inl x) = inl x
 or-done Did call s (inr among) = inr (among-done Did call s among)
 
--- the end of a stream takes its connection
+-- the end of a stream removes its connection
 end-settles : (call : Call) (s t : State) (end : IsStreamEnd call s t) → Settles (λ g. is_connection_from end.local g ≡ true) s t
 end-settles call s t end = subst (λ u. Settles (λ g. is_connection_from end.local g ≡ true) s u) (sym end.gone) (gone-settles end.local s)
 
@@ -177,9 +177,9 @@ all-obey (Permissions transport relayed) s = does-same (Permissions transport re
 all-obey (HavePermission transport to) s = does-same (HavePermission transport to) s
 all-obey ProtocolError s = error-does s
 
--- ---- without memory
+-- ---- allocation failure
 
--- the turns that were taken are among those of the call
+-- the inputs that were processed are among those of the call
 front-among : (Did : Turn → Type 0) (call : Call) (s : State) (front later : List Turn) → handled call s ≡ front ++ later → Among Did front → Among Did (handled call s)
 front-among Did call s front later all (one, there, did) = (one, subst (Has one) (sym all) (has-left one front later there), did)
 
@@ -224,7 +224,7 @@ none-obeys (Permissions transport relayed) s t none = absurd none
 none-obeys (HavePermission transport to) s t none = absurd none
 none-obeys ProtocolError s t e = closed-obeys ProtocolError s t e
 
--- whether or not the call finds memory
+-- even if memory allocation fails
 leaves-obeys : (call : Call) (s t : State) → Leaves call s t → ObeysTo call s t
 leaves-obeys call s t (inl e) = subst (ObeysTo call s) (sym e) (all-obey call s)
 leaves-obeys call s t (inr end) = none-obeys call s t end

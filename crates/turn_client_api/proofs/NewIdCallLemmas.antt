@@ -1,4 +1,4 @@
--- Which requests are outstanding after a call: those that were, and one of an ID that was drawn.
+-- Which requests are outstanding after a call: those that were, and one with an ID that was used.
 use Rattle.std.proofs.Common.{◌≡◌, ◌⊎◌, ℕ, Bool, true, false, not, cond, leb, ◌&&◌, ◌||◌, List, [], ◌∷◌, Option, Some, None, Result, Err, refl, inl, inr, ◌∙◌}
 use Rattle.std.specs.Prelude.{is_some, find, reverse, filter_map, flat_map, slice_get}
 use Rattle.std.specs.List.{list_any}
@@ -33,7 +33,7 @@ use Rattle.turn_client_api.specs.Steps.{Call, Leaves, state_after, Delete, Creat
 use Rattle.turn_client_api.proofs.NewIdMessageLemmas.{AsksNothing, Draws, asks-cond, asks-fold, bind-draws, draws-more, draws-nothing, draws-same, message-draws, outstanding-resent, outstanding-without}
 use Rattle.turn_client_api.proofs.TurnLemmas.{IsBringing, message-brings}
 
--- ---- as time passes, nothing is asked for
+-- ---- as time passes, nothing is requested
 
 channel_lapsed-asks : (o : Option Grant) (s : State) → AsksNothing s (channel_lapsed o s)
 channel_lapsed-asks None s = refl
@@ -95,7 +95,7 @@ gone-asks local s = asks-cond (is_some (connection_at local s)) s _ _ refl refl
 tcp_closed-asks : (local remote : SocketAddr) (s : State) → AsksNothing s (tcp_closed_step local remote s)
 tcp_closed-asks local remote s = asks-cond (same_transport s.transport Tcp && same_address remote s.remote) s _ _ (gone-asks local s) refl
 
--- ---- what the caller asks for
+-- ---- what the caller requests
 
 bound_by-draws : (id : ℕ) (peer : SocketAddr) (now : ℕ) (s : State) (l : List ℕ) (b : Bool) (o : Option ℕ) → Draws id s (bound_by peer now s l b o).1
 bound_by-draws id peer now s (until ∷ others) b o = draws-same id s
@@ -109,7 +109,7 @@ module _ (id : ℕ) where
   either true s x y p q = p
   either false s x y p q = q
 
-  -- a pair by what is found
+  -- a pair by the result of a look-up
   found : {A X : Type 0} (f : X → A × State) (o : Option X) (s : State) (y : A × State) → ((x : X) → Draws id s (f x).1) → Draws id s y.1 → Draws id s (option_map_or f o y).1
   found f None s y p q = q
   found f (Some x) s y p q = p x
@@ -216,7 +216,7 @@ module _ (id : ℕ) where
     ended = λ u there. there;
   }
 
-  -- the ID was outstanding, or is drawn as the next one of the client as it is
+  -- the ID was outstanding, or is the next one of the client before the call
   call-draws : (call : Call) (s : State) → (TakesTurns call → ⊥) → is_outstanding id (state_after call s).transactions ≡ true → (is_outstanding id s.transactions ≡ true) ⊎ (id ≡ fresh_id s)
   call-draws (Delete now) s other = delete-draws now s
   call-draws (CreatePermission transport peer now) s other = permission-draws transport peer now s
@@ -235,7 +235,7 @@ module _ (id : ℕ) where
   call-draws (HavePermission transport to) s other = draws-same id s
   call-draws ProtocolError s other = draws-nothing id s (protocol_error_step s) (asks-cond (is_closed s.phase) s s _ refl refl)
 
-  -- whether or not the call finds memory
+  -- even if memory allocation fails
   pub leaves-draws : (call : Call) (s t : State) → Leaves call s t → is_outstanding id t.transactions ≡ true → IsDrawn call id s ⊎ (is_outstanding id s.transactions ≡ true)
   leaves-draws call s t leaves h =
       by (message-brings (λ t. is_outstanding id t.transactions ≡ true) (λ message now t. id ≡ fresh_id t) draws-IsBringing (λ call s. id ≡ fresh_id s) call-draws call s t leaves h)

@@ -1,11 +1,11 @@
 -- Of more IDs than are taken one is free.
-use Rattle.std.proofs.Common.{◌≡◌, ℕ, zero, suc, ◌+◌, ◌/◌, ◌%◌, ◌<◌, ◌≤◌, ◌^◌, Bool, true, false, not, eqb, leb, List, [], ◌∷◌, ◌++◌, map, filter_map, find, length, Option, Some, None, refl, ◌∙◌, arith}
+use Rattle.std.proofs.Common.{◌≡◌, ℕ, zero, suc, ◌+◌, ◌/◌, ◌%◌, ◌<◌, ◌≤◌, ◌^◌, Bool, true, false, not, eqb, leb, ltb, List, [], ◌∷◌, ◌++◌, map, filter_map, find, length, Option, Some, None, refl, sym, ◌∙◌, arith}
 use Rattle.std.specs.List.{list_any, range_with_len, IsDistinct, AllByRecursion}
 use Rattle.std.specs.Prelude.{option_and_then}
 use Rattle.std.specs.Set.{is_member}
 use Rattle.std.proofs.Math.Bool.{or_assoc}
 use Rattle.std.proofs.Math.Nat.{div-add-mod, mul-le-mul_left, mul-suc}
-use Rattle.std.proofs.lemmas.Bool.{eqb-true, leb-true, leb-false, ne_eqb, not-false, not-true}
+use Rattle.std.proofs.lemmas.Bool.{eqb-true, leb-true, leb-false, le-ltb, lt-ltb, ltb-false, ltb-true, ne_eqb, not-false, not-true}
 use Rattle.std.proofs.lemmas.Cmp.{nat_eq_equiv}
 use Rattle.std.proofs.lemmas.List.{length-append, length-map}
 use Rattle.std.proofs.lemmas.List.Folds.{list_any-append}
@@ -16,7 +16,7 @@ use Rattle.turn_agent.specs.TransactionIds.{next_id}
 use Rattle.turn_agent.proofs.AgentLemmas.{find-passes}
 use Rattle.turn_client_api.specs.State.{State, Grant, Allocation, Permission, Channel, Connect, Offer, Connection, Origin, OwnConnect, ServerRequest, ServerIndication}
 use Rattle.turn_client_api.specs.Grants.{is_of_request, offer_in}
-use Rattle.turn_client_api.specs.Requests.{fresh_id, is_taken, most_taken}
+use Rattle.turn_client_api.specs.Requests.{counted_up, fresh_id, is_taken, most_taken}
 
 -- ---- candidates
 
@@ -30,22 +30,46 @@ unlike-mod a b m less near same = by (leb (b / m) (a / m)) refl
         let up : suc (a / m) ≤ b / m = leb-false (b / m) (a / m) e in
         omega (arith, near, same, div-add-mod a m, div-add-mod b m, mul-le-mul_left m up, mul-suc m (a / m))
 
--- so many numbers from a place on, counted up from the start modulo m
-abbrev candidates : ℕ → ℕ → ℕ → ℕ → List ℕ
-candidates start m place count = map (λ n. (start + n) % m) (range_with_len place count)
+-- as it counts modulo 2^96, and after that
+pub counted-small : (start n : ℕ) → n < 2 ^ 96 → counted_up start n ≡ (start + n) % 2 ^ 96
+counted-small start n small = let e = lt-ltb n (2 ^ 96) small in rw e refl
 
-later-differ : (start m i place count : ℕ) → i < place → place + count ≤ i + m → AllByRecursion (λ y. eqb ((start + i) % m) y ≡ false) (candidates start m place count)
-later-differ start m i place zero behind within = tt
-later-differ start m i place (suc count) behind within = (
-  ne_eqb ((start + i) % m) ((start + place) % m) (unlike-mod (start + i) (start + place) m (omega (arith, behind)) (omega (arith, within))),
-  later-differ start m i (place + 1) count (omega (arith, behind)) (omega (arith, within)),
-)
+counted-large : (start n : ℕ) → 2 ^ 96 ≤ n → counted_up start n ≡ n
+counted-large start n large = let e = le-ltb n (2 ^ 96) large in rw e refl
 
-candidates-distinct : (start m place count : ℕ) → count ≤ m → IsDistinct eqb (candidates start m place count)
+-- two numbers are counted up to two numbers
+unlike-counted : (start i n : ℕ) → i < n → counted_up start i ≡ counted_up start n → ⊥
+unlike-counted start i n less same = by (ltb i (2 ^ 96)) refl (ltb n (2 ^ 96)) refl
+  where
+    by : (a : Bool) → ltb i (2 ^ 96) ≡ a → (b : Bool) → ltb n (2 ^ 96) ≡ b → ⊥
+    by true e true f =
+        let small = ltb-true n (2 ^ 96) f in
+        unlike-mod (start + i) (start + n) (2 ^ 96) (omega (arith, less)) (omega (arith, small))
+        (sym (counted-small start i (ltb-true i (2 ^ 96) e)) ∙ (same ∙ counted-small start n small))
+    by true e false f =
+        let large = ltb-false n (2 ^ 96) f in
+        let is : (start + i) % 2 ^ 96 ≡ n = sym (counted-small start i (ltb-true i (2 ^ 96) e)) ∙ (same ∙ counted-large start n large) in
+        omega (arith, large, is)
+    by false e b f =
+        let large = ltb-false i (2 ^ 96) e in
+        let more : 2 ^ 96 ≤ n = omega (arith, large, less) in
+        let is : i ≡ n = sym (counted-large start i large) ∙ (same ∙ counted-large start n more) in
+        omega (arith, is, less)
+
+-- so many numbers from one of them on, counted up from the start
+abbrev candidates : ℕ → ℕ → ℕ → List ℕ
+candidates start place count = map (counted_up start) (range_with_len place count)
+
+later-differ : (start i place count : ℕ) → i < place → AllByRecursion (λ y. eqb (counted_up start i) y ≡ false) (candidates start place count)
+later-differ start i place zero behind = tt
+later-differ start i place (suc count) behind =
+    (ne_eqb (counted_up start i) (counted_up start place) (unlike-counted start i place behind), later-differ start i (place + 1) count (omega (arith, behind)))
+
+candidates-distinct : (start place count : ℕ) → IsDistinct eqb (candidates start place count)
 unfolding IsDistinct
-candidates-distinct start m place zero within = tt
-candidates-distinct start m place (suc count) within =
-    (later-differ start m place (place + 1) count (omega arith) (omega (arith, within)), candidates-distinct start m (place + 1) count (omega (arith, within)))
+candidates-distinct start place zero = tt
+candidates-distinct start place (suc count) =
+    (later-differ start place (place + 1) count (omega arith), candidates-distinct start (place + 1) count)
 
 -- ---- IDs that are taken
 
@@ -125,26 +149,23 @@ none-passes p q (x ∷ xs) none member = by (p x) refl (eqb q x) refl (none-pass
     by false e true f later = rw (eqb-true q x f) e
     by false e false f later = later (rw e at none) (rw f at member)
 
-below-le : (n m : ℕ) → n < m → n + 1 ≤ m
-below-le n m below = omega (arith, below)
-
 none-absurd : (n k l : ℕ) → n + 1 ≤ k → k ≤ l → l ≤ n → ⊥
 none-absurd n k l above more most = omega (arith, above, more, most)
 
-pub fresh-free : (s : State) → most_taken s < 2 ^ 96 → is_taken (fresh_id s) s ≡ false
-fresh-free s few = by (find (λ id. not (is_taken id s)) ids) refl
+pub fresh-free : (s : State) → is_taken (fresh_id s) s ≡ false
+fresh-free s = by (find (λ id. not (is_taken id s)) ids) refl
   where
     ids : List ℕ
-    ids = candidates (next_id s.ids) (2 ^ 96) 0 (most_taken s + 1)
+    ids = candidates (next_id s.ids) 0 (most_taken s + 1)
 
     all_taken : find (λ id. not (is_taken id s)) ids ≡ None → (q : ℕ) → is_member eqb ids q ≡ true → is_member eqb (taken_ids s) q ≡ true
     all_taken none q member = any-taken q s ∙ not-false (is_taken q s) (none-passes (λ id. not (is_taken id s)) q ids none member)
 
     too_many : find (λ id. not (is_taken id s)) ids ≡ None → ⊥
     too_many none =
-        let distinct = candidates-distinct (next_id s.ids) (2 ^ 96) 0 (most_taken s + 1) (below-le (most_taken s) (2 ^ 96) few) in
+        let distinct = candidates-distinct (next_id s.ids) 0 (most_taken s + 1) in
         let more = length-le_from_is_member nat_eq_equiv ids (taken_ids s) distinct (all_taken none) in
-        let each = length-map-range_with_len (λ n. (next_id s.ids + n) % 2 ^ 96) 0 (most_taken s + 1) in
+        let each = length-map-range_with_len (counted_up (next_id s.ids)) 0 (most_taken s + 1) in
         none-absurd (most_taken s) (length ids) (length (taken_ids s)) (rw each (omega arith)) more (length-taken s)
 
     by : (o : Option ℕ) → find (λ id. not (is_taken id s)) ids ≡ o → is_taken (fresh_id s) s ≡ false

@@ -1,4 +1,4 @@
--- Which requests are outstanding after a message: those that were, and one of an ID that was drawn.
+-- Which requests are outstanding after a message: those that were, and one with an ID that was used.
 use Rattle.std.proofs.Common.{◌≡◌, ℕ, Bool, true, false, not, cond, ◌&&◌, ◌||◌, eqb, ltb, leb, List, [], ◌∷◌, ◌++◌, fold, length, Option, Some, None, ◌⊎◌, inl, inr, refl, sym, ◌∙◌}
 use Rattle.std.specs.Prelude.{is_some, find, IfSome}
 use Rattle.std.specs.Option.{option_map_or}
@@ -24,7 +24,7 @@ use Rattle.turn_client_api.specs.Payloads.{Outcome, Handled, Ignored, answered_p
 
 -- ---- lists of transactions
 
--- of one more an ID is outstanding that was, or its own
+-- with one more, an outstanding ID was so before, or is its own
 pub outstanding-append : (id : ℕ) (ts : List Transaction) (t : Transaction) → is_outstanding id (ts ++ t ∷ []) ≡ true → (is_outstanding id ts ≡ true) ⊎ (id ≡ t.id)
 outstanding-append id [] t h = by (eqb t.id id) refl
   where
@@ -37,7 +37,7 @@ outstanding-append id (u ∷ ts) t h = by (eqb u.id id) refl (outstanding-append
     by true e later = inl (rw e refl)
     by false e later = rw e (later (rw e at h))
 
--- what is left was there
+-- what remains was in the list
 pub outstanding-without : (id other : ℕ) (ts : List Transaction) → is_outstanding id (A.without other ts) ≡ true → is_outstanding id ts ≡ true
 outstanding-without id other [] h = h
 outstanding-without id other (t ∷ ts) h = by (eqb t.id other) refl (eqb t.id id) refl (outstanding-without id other ts)
@@ -47,7 +47,7 @@ outstanding-without id other (t ∷ ts) h = by (eqb t.id other) refl (eqb t.id i
     by true e false f later = rw f (later (rw e at h))
     by false e false f later = rw f (later (rw (e, f) at h))
 
--- a request that is sent again keeps its ID
+-- a request that is retransmitted keeps its ID
 pub outstanding-resent : (id other now : ℕ) (ts : List Transaction) → is_outstanding id (resent other now ts) ≡ is_outstanding id ts
 outstanding-resent id other now [] = refl
 outstanding-resent id other now (t ∷ ts) = by (eqb t.id other) refl (outstanding-resent id other now ts)
@@ -56,7 +56,7 @@ outstanding-resent id other now (t ∷ ts) = by (eqb t.id other) refl (outstandi
     by true e later = rw (e, later) refl
     by false e later = rw (e, later) refl
 
--- ---- effects ask for nothing
+-- ---- effects request nothing
 
 abbrev pub AsksNothing : State → State → Type 0
 AsksNothing s t = t.transactions ≡ s.transactions
@@ -124,7 +124,7 @@ effect-asks id is_granted message now s (ForConnect peer) = connect-asks peer (c
 effect-asks id is_granted message now s ForAllocation = refl
 effect-asks id is_granted message now s (ForBind local peer other) = refl
 
--- a signed reply ends its request, and asks for nothing
+-- a signed reply ends its request, and requests nothing
 pub reply-asks : (is_granted : Bool) (message : List ℕ) (now : ℕ) (s : State) → AsksNothing (ended (id_of message) s) (response_step is_granted message now s).1
 reply-asks is_granted message now s =
     asks-fold (effect (id_of message) is_granted message now) (effect-asks (id_of message) is_granted message now) (answered_purposes message s) (ended (id_of message) s)
@@ -138,11 +138,11 @@ granted-asks message now s = by (lifetime_in message) refl
 
 -- ---- messages
 
--- the request of this ID is one of these, or the ID is the next one
+-- the request with this ID is one of these, or the ID is the next one
 abbrev pub IsOneOf : ℕ → List Transaction → State → Type 0
 IsOneOf id ts s = (is_outstanding id ts ≡ true) ⊎ (id ≡ fresh_id s)
 
--- the request of this ID is outstanding in the later state only if it was, or if the ID was drawn
+-- the request with this ID is outstanding in the later state only if it was, or if the ID was used
 abbrev pub Draws : ℕ → State → State → Type 0
 Draws id s t = is_outstanding id t.transactions ≡ true → IsOneOf id s.transactions s
 
@@ -156,7 +156,7 @@ pub draws-cond : (id : ℕ) (b : Bool) (s t u : State) → Draws id s t → Draw
 draws-cond id true s t u k l = k
 draws-cond id false s t u k l = l
 
--- of those that stay, and one that is drawn
+-- of those that stay, and one that is used
 draws-one : (id : ℕ) (s : State) (ts : List Transaction) (t : Transaction) → (is_outstanding id ts ≡ true → is_outstanding id s.transactions ≡ true) → t.id ≡ fresh_id s → is_outstanding id (ts ++ t ∷ []) ≡ true → IsOneOf id s.transactions s
 draws-one id s ts t stay drawn h = by (outstanding-append id ts t h)
   where
@@ -164,7 +164,7 @@ draws-one id s ts t stay drawn h = by (outstanding-append id ts t h)
     by (inl was) = inl (stay was)
     by (inr e) = inr (e ∙ drawn)
 
--- one more is drawn
+-- one more is used
 pub draws-more : (id : ℕ) (s : State) (t : Transaction) → t.id ≡ fresh_id s → is_outstanding id (s.transactions ++ t ∷ []) ≡ true → IsOneOf id s.transactions s
 draws-more id s t drawn = draws-one id s s.transactions t (λ h. h) drawn
 
@@ -186,7 +186,7 @@ wrong-draws id Authenticating message s = draws-same id (record s { phase = Auth
 wrong-draws id Allocated message s = draws-same id (record s { phase = Allocated })
 wrong-draws id Closed message s = draws-same id (record s { phase = Closed })
 
--- of those that a signed reply leaves outstanding, and one that is drawn
+-- of those that a signed reply leaves outstanding, and one that is used
 pub denied-one : (id : ℕ) (message : List ℕ) (now : ℕ) (s : State) → is_outstanding id (allocate_denied (fresh_id s) message now (ended (id_of message) s)).transactions ≡ true → IsOneOf id (A.without (id_of message) s.transactions) s
 denied-one id message now s = by (has_code family_not_supported message && leb 2 (length s.families)) refl
   where

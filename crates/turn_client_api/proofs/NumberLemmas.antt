@@ -1,4 +1,4 @@
--- Channels keep numbers of their own when grants come and go, and so in all calls.
+-- Channels keep numbers of their own when grants are added and removed, and so in all calls.
 use Rattle.std.proofs.Common.{◌≡◌, ℕ, Bool, true, false, not, cond, eqb, List, [], ◌∷◌, ◌++◌, filter, filter_map, Option, Some, None, refl}
 use Rattle.std.specs.List.{list_any, IsDistinct, AllByRecursion}
 use Rattle.std.proofs.lemmas.Bool.{or_parts}
@@ -68,7 +68,7 @@ pub apart-channel : (n : ℕ) (gs hs : List Grant) → list_any (is_channel_of n
 apart-channel n gs hs free one h =
     rw (filter_map-append number_of_channel gs hs, one) (distinct-last n (numbers gs) (all-free n gs free) h)
 
--- what was taken out is not there
+-- what was removed is not in the list
 pub none-filter : {X : Type 0} (p : X → Bool) (xs : List X) → list_any p (filter (λ x. not (p x)) xs) ≡ false
 none-filter p [] = refl
 none-filter p (x ∷ xs) = by (p x) refl (none-filter p xs)
@@ -77,7 +77,7 @@ none-filter p (x ∷ xs) = by (p x) refl (none-filter p xs)
     by true e later = rw e later
     by false e later = rw (e, e) later
 
--- an offer is taken
+-- an offer is removed
 pub numbers-without_first : (id : ℕ) (peer : SocketAddr) (gs : List Grant) → numbers (without_first (is_offer_of id peer) gs) ≡ numbers gs
 numbers-without_first id peer [] = refl
 numbers-without_first id peer (Channel number other progress ∷ gs) = rw (numbers-without_first id peer gs) refl

@@ -1,4 +1,4 @@
--- What the turn of a stream leaves of the other streams.
+-- How the step of a stream leaves the other streams.
 use Rattle.std.proofs.Common.{◌≡◌, ℕ, Bool, true, false, not, cond, eqb, List, [], ◌∷◌, map, take, drop, Option, Some, None, refl, sym, ap, ◌∙◌}
 use Rattle.std.specs.Prelude.{filter_map}
 use Rattle.std.specs.declared.net.socket_addr.SocketAddr.{SocketAddr}
@@ -142,7 +142,7 @@ frame_in_mode Broken stream frame now s = same-aside stream.local s s refl
 pub frame-aside : (stream : Stream) (frame : List ℕ) (now : ℕ) (s : State) → IsAsideFrom stream.local s (frame_step stream frame now s).1
 frame-aside stream frame now s = frame_in_mode stream.mode stream frame now s
 
--- ---- a turn
+-- ---- a step
 
 framed-aside : (stream : Stream) (now : ℕ) (t : State) → IsAsideFrom stream.local t (framed_turn stream now t).1
 framed-aside stream now t = by (begins_no_frame stream.bytes) (frame_len stream.bytes)

@@ -1,4 +1,4 @@
--- As time passes, a grant goes only when its time is over.
+-- As time passes, a grant is removed only when it has expired.
 use Rattle.std.proofs.Common.{◌≡◌, ◌⊎◌, ◌≤◌, ℕ, eqb, leb, Bool, true, false, not, cond, ◌&&◌, ◌||◌, List, [], ◌∷◌, ◌++◌, filter, find, fold, reverse, Option, Some, None, refl, sym, subst, ◌∙◌, inl, inr}
 use Rattle.std.specs.Option.{option_map_or}
 use Rattle.std.specs.List.{Contains, IsDistinct, AllByRecursion}
@@ -54,7 +54,7 @@ one-channel n p q a b (g ∷ gs) apart (inr first) (inr second) = one-channel n 
 
 -- ---- how time leaves a grant
 
--- as it is, or as the reserved channel that it becomes at its end
+-- unchanged, or as the reserved channel that it becomes at its expiry
 abbrev Ages : Grant → Grant → Type 0
 Ages g is =
     (is ≡ g)
@@ -82,11 +82,11 @@ channel-of n (Offer offer) e = cc
 channel-of n (Connection c) e = cc
 
 module _ (now : ℕ) (s : State) (apart : HasDistinctNumbers s) where
-  -- its time is over
+  -- it has expired
   abbrev Over : Grant → Type 0
   Over g = IsSpent now s g ⊎ IsPastWith now s g
 
-  -- from the grants of the state come these, and what is not among them any more is over
+  -- from the grants of the state these remain, and those that do not have expired
   record Traces (gs : List Grant) : Type 0 where
     pub left : (g : Grant) → Has g s.grants → ((is : Grant) × Has is gs × Ages g is) ⊎ Over g
     pub came : (is : Grant) → Has is gs → (g : Grant) × Has g s.grants × Ages g is
@@ -94,7 +94,7 @@ module _ (now : ℕ) (s : State) (apart : HasDistinctNumbers s) where
   traces-same : Traces s.grants
   traces-same = record { left = λ g there. inl (g, there, inl refl); came = λ is there. (is, there, inl refl) }
 
-  -- these go, which are over
+  -- these are removed, which have expired
   abbrev TakesOver : (Grant → Bool) → Type 0
   TakesOver which = (g is : Grant) → Ages g is → which is ≡ true → Over g
 
@@ -115,7 +115,7 @@ module _ (now : ℕ) (s : State) (apart : HasDistinctNumbers s) where
       by g (inl (is, here, ages)) = at g is here ages (which is) refl
       by g (inr gone) = inr gone
 
-  -- the channel ends, and is reserved
+  -- the channel expires, and is reserved
   reserved-traces : (n : ℕ) (peer : SocketAddr) (expiry : ℕ) (gs : List Grant) → Has (Channel n peer (Active expiry)) gs → Traces gs
       → Traces (filter (λ g. not (is_channel_of n g)) gs ++ Channel n peer (Reserved (later_by reserved_time expiry)) ∷ [])
   reserved-traces n peer expiry gs here t = record { left = λ g there. by g there (t.left g there); came = λ is there. from is (has-append is kept (held ∷ []) there) }
@@ -129,7 +129,7 @@ module _ (now : ℕ) (s : State) (apart : HasDistinctNumbers s) where
       held : Grant
       held = Channel n peer (Reserved (later_by reserved_time expiry))
 
-      -- it was there from the first
+      -- it existed from the start
       first : Has was s.grants
       first = of (t.came was here)
         where
@@ -171,9 +171,9 @@ module _ (now : ℕ) (s : State) (apart : HasDistinctNumbers s) where
   channel-traces (Some (Offer offer)) t there traces = traces
   channel-traces (Some (Connection c)) t there traces = traces
 
-  -- ---- what goes is over
+  -- ---- what is removed has expired
 
-  -- the end of a permission
+  -- the expiry of a permission
   permission-over : (family : AddressFamily) → TakesOver (λ g. is_of family g && is_lapsed_permission now g)
   permission-over family g is ages e = by is ages (and_parts (is_of family is) (is_lapsed_permission now is) e).1
     where
@@ -205,7 +205,7 @@ module _ (now : ℕ) (s : State) (apart : HasDistinctNumbers s) where
       by (Offer offer) a over = cc
       by (Connection c) a over = cc
 
-  -- all that stands in an allocation that is past its end
+  -- all grants in an allocation whose expiry has passed
   family-over : (a : Relay) → Has (Allocation a) s.grants → a.expiry ≤ now → TakesOver (is_of (family_of a.relayed))
   family-over a there past g is ages e =
       inr (a, has-contains (Allocation a) s.grants there, sym (ages-family g is ages) ∙ same_family-true (family_of_grant is) (family_of a.relayed) e, past)
@@ -224,7 +224,7 @@ module _ (now : ℕ) (s : State) (apart : HasDistinctNumbers s) where
         by (Some t) f for = (t, f, for)
         by None f for = cc
 
-    -- a kind of grant that is asked for, and that goes in vain
+    -- a kind of grant that is pending, and that is removed when its request times out
     abbrev IsVain : (Grant → Bool) → Type 0
     IsVain which = (is : Grant) → which is ≡ true → (IsGivenUp now s is → IsSpent now s is) × ((n : ℕ) (peer : SocketAddr) (until : ℕ) → is ≡ Channel n peer (Reserved until) → ⊥)
 
@@ -265,7 +265,7 @@ module _ (now : ℕ) (s : State) (apart : HasDistinctNumbers s) where
     connect-vain (Offer offer) e = cc
     connect-vain (Connection c) e = cc
 
-    -- a connection that is not bound in time, or whose request was given up
+    -- a connection that is not bound in time, or whose request timed out
     unbound-over : (family : AddressFamily) → TakesOver (λ g. is_of family g && is_unbound purposes now g)
     unbound-over family g is ages passes = by is ages (and_parts (is_of family is) (is_unbound purposes now is) passes).1
       where
@@ -286,7 +286,7 @@ module _ (now : ℕ) (s : State) (apart : HasDistinctNumbers s) where
         by (Connect peer) a unbound = cc
         by (Offer offer) a unbound = cc
 
-    -- an offer whose request was given up
+    -- an offer whose request timed out
     offer-over : (family : AddressFamily) → TakesOver (λ g. is_of family g && is_given_offer given g)
     offer-over family g is ages passes = by is ages (and_parts (is_of family is) (is_given_offer given is) passes).1
       where
@@ -357,7 +357,7 @@ module _ (now : ℕ) (s : State) (apart : HasDistinctNumbers s) where
 
   -- ---- a poll
 
-  -- what is there no more is over
+  -- what no longer exists has expired
   abbrev Spares : List Grant → Type 0
   Spares gs = (g : Grant) → Has g s.grants → Remains g gs ⊎ IsOver now s g
 
@@ -426,7 +426,7 @@ module _ (now : ℕ) (s : State) (apart : HasDistinctNumbers s) where
       offered None = timed-spares (given_up (agent_of s) now) refl
       offered (Some offer) = told offer
 
--- whether or not the call finds memory
+-- even if memory allocation fails
 pub poll-over : (now : ℕ) (s t : State) (g : Grant) → Leaves (Poll now) s t → HasDistinctNumbers s → Contains s.grants g → IsStillThere t g ⊎ IsOver now s g
 poll-over now s t g leaves apart there = by (of leaves)
   where

@@ -1,4 +1,4 @@
--- From which peers something comes.
+-- The peers whose data is returned.
 use Rattle.std.proofs.Common.{◌≡◌, ℕ, suc, arith, Bool, true, false, not, cond, ◌&&◌, eqb, ltb, List, [], ◌∷◌, Option, Some, None, refl, inl, inr}
 use Rattle.std.specs.Prelude.{slice_get, filter_map}
 use Rattle.std.specs.List.{Contains}
@@ -43,7 +43,7 @@ Contains-here x xs = (0, omega (arith), refl)
 pub Contains-later : {X : Type 0} (x y : X) (xs : List X) → Contains xs x → Contains (y ∷ xs) x
 Contains-later x y xs (k, within, is) = (suc k, omega (arith, within), is)
 
--- there is an active permission of the IP address, also with one grant more
+-- the IP address has an active permission, also with one grant more
 later : (ip : IpAddr) (g : Grant) (gs : List Grant) → (expiry : ℕ) × Contains gs (Permission ip (Active expiry)) → (expiry : ℕ) × Contains (g ∷ gs) (Permission ip (Active expiry))
 later ip g gs (expiry, at) = (expiry, Contains-later (Permission ip (Active expiry)) g gs at)
 
@@ -89,7 +89,7 @@ channel-in number peer (Connect to ∷ gs) h = later-channel number peer (Connec
 channel-in number peer (Offer offer ∷ gs) h = later-channel number peer (Offer offer) gs (channel-in number peer gs h)
 channel-in number peer (Connection c ∷ gs) h = later-channel number peer (Connection c) gs (channel-in number peer gs h)
 
--- ---- replies and challenges give nothing of a peer
+-- ---- replies and challenges return no data of a peer
 
 nobodys : (bytes : List ℕ) (s : State) (outcome : Outcome) → IsNobodys outcome → IsLetThrough bytes s outcome
 nobodys bytes s Handled is = tt
@@ -184,7 +184,7 @@ allocated-indication s message = by (class_in message) refl (validation_of (auth
     by Error e (Refused integrity) f = rw (e, f) (λ h. absurd (challenged_or-unlike Unrelated (challenge_in s message) (λ e. cc) h))
     by Error e (ResendRequest algorithm) f = rw (e, f) (λ h. absurd (challenged_or-unlike Unrelated (challenge_in s message) (λ e. cc) h))
 
--- only a DATA indication is judged to be of a peer, and only in this phase
+-- only a DATA indication is judged to be from a peer, and only in this phase
 DataIndication-indication : (s : State) (message : List ℕ) → judgement_of s message ≡ DataIndication → (s.phase ≡ Allocated) × (is_data_indication message ≡ true)
 DataIndication-indication s message = by s.phase refl
   where

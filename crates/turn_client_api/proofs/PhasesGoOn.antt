@@ -1,5 +1,5 @@
--- What calls keep: that the client has ended, how far it has come, how many challenges were answered, realm
--- and algorithm.
+-- What calls keep: that the client has ended, its phase, how many challenges were answered, realm and
+-- algorithm.
 use Rattle.std.proofs.Common.{◌≡◌, ℕ, Bool, true, false, ltb, List, [], ◌∷◌, Option, Some, None, refl, ap, ◌∙◌, inl, inr, arith, ◌≤◌}
 use Rattle.std.specs.Option.{option_map_or}
 use Rattle.std.proofs.lemmas.Bool.{ltb-true, ltb-false}
@@ -154,11 +154,11 @@ bind-keeps = (edits-IsKept Keeps Keeps-KeepsAllEdits (λ s streams. keeps-same s
 pub call-keeps : (call : Call) (s : State) → Keeps s (state_after call s)
 call-keeps = calls-walk Keeps Keeps-KeepsAllEdits (λ s streams. keeps-same s)
 
--- whether or not the call finds memory
+-- even if memory allocation fails
 pub leaves-keeps : (call : Call) (s t : State) → Leaves call s t → Keeps s t
 leaves-keeps = leaves-walk Keeps Keeps-KeepsAllEdits (λ s streams. keeps-same s)
 
--- a client that has ended says so when nothing waits
+-- a client that has ended reports so when nothing is pending
 told_of : (p : Phase) (events : List TurnEvent) (now : ℕ) (s : State) → p ≡ Closed → events ≡ [] → has_reply s ≡ false → (poll_step now (record s { phase = p; events = events })).0 ≡ Do.Closed
 told_of New events now s e f g = cc
 told_of Requesting events now s e f g = cc

@@ -1,4 +1,4 @@
--- When a client that waits for nothing is silent, and when it has something to send.
+-- When a client with nothing pending is idle, and when it has something to send.
 use Rattle.std.proofs.Common.{◌≡◌, ◌≢◌, ℕ, suc, ◌+◌, ◌*◌, ◌-◌, ◌^◌, ◌<◌, ◌≤◌, min, max, Bool, true, false, ◌&&◌, not, ltb, leb, List, [], ◌∷◌, ◌++◌, length, map, filter, flat_map, filter_map, find, fold, Option, Some, None, ◌⊎◌, inl, inr, refl, sym, subst, ◌∙◌, arith}
 use Rattle.std.specs.Prelude.{if◌then◌else◌, is_some, IsSome, IfSome, ⊤, slice_get, option_and_then}
 use Rattle.std.specs.List.{list_any}
@@ -22,7 +22,7 @@ use Rattle.turn_client_api.specs.Transmit.{idle_step, is_due_in, is_ranked, is_r
 use Rattle.turn_client_api.specs.Alarm.{IsSilent, Lasts}
 use Rattle.turn_client_api.proofs.HasLemmas.{Has, has-append, has-left, has-right, map-has, flat_map-has, has-flat_map, has-found, filter-has, filter_map-has, has-filter_map, find-none, filter-none, least-le, all-has}
 
--- the grant has not ended by now, where its end is one to wait for
+-- the grant has not expired by now, if its expiry is one to wait for
 abbrev pub Alive : ℕ → Grant → Type 0
 Alive now (Allocation a) = a.is_expired ≡ false → now < a.expiry
 Alive now (Permission ip (Active expiry)) = now < expiry
@@ -30,7 +30,7 @@ Alive now (Channel number peer (Active expiry)) = now < expiry
 Alive now (Connection c) = IfSome c.deadline (λ deadline. now < deadline)
 Alive now _ = ⊤
 
--- nothing waits, and what was past has lapsed
+-- nothing is pending, and what was past has expired
 pub record IsReady (now : ℕ) (t : State) : Type 0 where
   pub no_event : t.events ≡ []
   pub no_reply : has_reply t ≡ false
@@ -41,7 +41,7 @@ pub record IsReady (now : ℕ) (t : State) : Type 0 where
   pub alive : (g : Grant) → Has g t.grants → Alive now g
   pub grants_later : (t.phase ≡ Allocated) ⊎ (t.grants ≡ [])
 
--- ---- due moments
+-- ---- due times
 
 -- what is due is not before the least
 least-member : (now m : ℕ) (t : State) → Has m (due_moments now t) → least_due now t ≤ m
@@ -99,7 +99,7 @@ empty (q ∷ qs) no_reply no_request = by q.is_request refl
     by true is = let h : true ≡ false = rw is at no_request in cc
     by false is = let h : true ≡ false = rw is at no_reply in cc
 
--- what is before the later of two moments, and not before the first, is before the second
+-- what is before the later of two times, and not before the first, is before the second
 early : (m moment least pause : ℕ) → m < least → least ≤ max pause moment → pause ≤ m → leb moment m ≡ false
 early m moment least pause before later over = by (leb moment m) refl
   where
@@ -107,7 +107,7 @@ early m moment least pause before later over = by (leb moment m) refl
     by false e = e
     by true e = absurd (omega (arith, before, later, max-le {a = pause} {b = moment} {k = m} over (leb-true moment m e)))
 
--- no refresh falls due before the pause is over or its own time has come
+-- no refresh is due before the pause is over and its own time has come
 not_refreshed : (now m : ℕ) (t : State) → m < least_due now t → is_paused m t ≡ false → (g : Grant) → Has g t.grants → is_refresh_due m t g ≡ false
 unfolding is_refresh_due
 not_refreshed now m t before idle g h = by (refresh_time t g) refl
@@ -118,7 +118,7 @@ not_refreshed now m t before idle g h = by (refresh_time t g) refl
         let later : least_due now t ≤ max (pause_end t) moment = least-grant now (max (pause_end t) moment) t g h (has-right _ (end_of now g) _ (rw some (inl refl))) in
         rw some (early m moment (least_due now t) (pause_end t) before later (ltb-false m (pause_end t) idle))
 
--- ---- silence
+-- ---- an idle client
 
 no_refreshes : (now m : ℕ) (t : State) → m < least_due now t → is_paused m t ≡ false → (a : Relay) → refreshes_in m t a ≡ []
 no_refreshes now m t before idle a = by (leb m a.expiry) refl
@@ -142,7 +142,7 @@ idle_silent now m t before idle Closed old = refl
 idle_silent now m t before idle Allocated old =
     rw (flat_map-none (refreshes_in m t) (allocations t) (no_refreshes now m t before idle)) refl
 
--- what is sent where nothing is due again
+-- what is sent if nothing is to be retransmitted
 not_due-transmit : (m : ℕ) (t : State) → due (agent_of t) m ≡ None → transmit_step m t ≡ (if is_paused m t then reply_step t else queue_step m t)
 not_due-transmit m t none = rw (none, transmit_step) refl
 
@@ -197,7 +197,7 @@ lasts now m t ready until g h = by g h (ready.alive g h)
         of None e = rw e tt
         of (Some deadline) e = rw e (due_end (Connection c) h deadline (rw e (inl refl)))
 
--- a client that is ready is silent before the least of the moments at which something falls due
+-- a client that is ready is idle before the earliest of the times at which something is due
 pub ready-silent : (now m : ℕ) (t : State) → IsReady now t → m ≤ least_due now t → IsSilent now m t
 ready-silent now m t ready until = record {
   sends_nothing = λ k from before. sends_nothing now k t ready (omega (arith, before, until));
@@ -210,7 +210,7 @@ ready-silent now m t ready until = record {
 
 -- ---- something to send
 
--- every moment at which something falls due is later than now
+-- every time at which something is due is later than now
 later-least : (now start : ℕ) (ms : List ℕ) → now < start → ((m : ℕ) → Has m ms → now < m) → now < fold min start ms
 later-least now start [] first later = first
 later-least now start (m ∷ ms) first later =
@@ -248,7 +248,7 @@ waits_on timers transport now t not_due not_over = by (leb (next_moment timers t
         let last : leb (resends_of timers transport) t.resends ≡ false = and_false_left _ _ past not_over in
         absurd (omega (arith, ltb-false _ _ more, leb-false _ _ last))
 
--- what is neither to be sent again nor given up waits on
+-- what is neither to be retransmitted nor timed out waits on
 transactions-later : (now m : ℕ) (a : Agent) (xs : List Transaction) → find (is_due a.timers a.transport now) xs ≡ None → find (is_given_up a.timers a.transport now) xs ≡ None → Has m (map (next_moment a.timers a.transport) xs) → now < m
 transactions-later now m a [] none_due none_over h = absurd h
 transactions-later now m a (x ∷ xs) none_due none_over h = by (is_due a.timers a.transport now x) (is_given_up a.timers a.transport now x) refl refl (transactions-later now m a xs)
@@ -291,7 +291,8 @@ same_family-self : (a : AddressFamily) → same_family a a ≡ true
 same_family-self IPV4 = refl
 same_family-self IPV6 = refl
 
--- a grant in use whose allocation goes on, and which may be refreshed, is refreshed when its time has come
+-- a grant in use whose allocation is active, and which may be refreshed, is refreshed when its time has
+-- come
 refreshed-once : (now : ℕ) (t : State) (g : Grant) (a : Relay) (rank : ℕ) (p : Purpose) → Has g t.grants → Has a (allocations t) → now ≤ a.expiry → is_of (family_of a.relayed) g ≡ true → Has rank (0 ∷ 1 ∷ 2 ∷ []) → is_ranked rank g ≡ true → is_refresh_due now t g ≡ true → refresh_purpose now g ≡ Some p → IsSome (refresh_step now t).0
 refreshed-once now t g a rank p h inside goes_on here ranked is due gives =
     let test = is_due_in rank (family_of a.relayed) now t in
@@ -326,7 +327,7 @@ refresh-busy now t ready g h due = by g h due
     Sends : Type 0
     Sends = IsSome (refresh_step now t).0
 
-    -- of a permission or channel, its allocation is in use and has not ended
+    -- of a permission or channel, its allocation is in use and has not expired
     within : (g : Grant) → Has g t.grants → is_refresh_due now t g ≡ true → (rank : ℕ) → Has rank (0 ∷ 1 ∷ 2 ∷ []) → is_ranked rank g ≡ true → (p : Purpose) → refresh_purpose now g ≡ Some p → (o : Option Relay) → allocation_of (family_of_grant g) t ≡ o → option_map_or (λ a. not a.is_expired) o false ≡ true → Sends
     within g h due rank ranked is p gives None e used = let no : false ≡ true = used in cc
     within g h due rank ranked is p gives (Some a) e used =
@@ -361,7 +362,7 @@ refresh-busy now t ready g h due = by g h due
     by (Offer offer) h due = absurd (untimed now t (Offer offer) refl due)
     by (Connection c) h due = absurd (untimed now t (Connection c) refl due)
 
--- the end of a grant that is alive
+-- the expiry of a grant that is active
 end-later : (now m : ℕ) (g : Grant) → Alive now g → Has m (end_of now g) → now < m
 end-later now m (Allocation a) alive h = by (ltb now a.expiry) refl
   where
@@ -392,7 +393,7 @@ end-later now m (Connection c) alive h = by c.deadline refl
         at (inl same) = rw same (rw e at alive)
         at (inr none) = absurd none
 
--- the time to refresh it, behind the pause
+-- the time to refresh it, after the pause
 refresh-later : (now m : ℕ) (t : State) (g : Grant) → (is_refresh_due now t g ≡ true → now < pause_end t) → Has m (refresh_of t g) → now < m
 unfolding is_refresh_due
 refresh-later now m t g pause h = by (refresh_time t g) refl
@@ -409,7 +410,7 @@ refresh-later now m t g pause h = by (refresh_time t g) refl
         at (inl same) = rw same (later (leb moment now) refl)
         at (inr none) = absurd none
 
--- what falls due of a grant that is alive is later than now, but for a refresh whose time has come
+-- what is due of a grant that is active is later than now, except a refresh whose time has come
 grant-later : (now m : ℕ) (t : State) (g : Grant) → Alive now g → (is_refresh_due now t g ≡ true → now < pause_end t) → Has m (grant_part now t g) → now < m
 grant-later now m t g alive pause h = parts (has-append m (end_of now g) (refresh_of t g) h)
   where
@@ -463,7 +464,7 @@ refresh-or-later now t ready range none_due idle e reached = by ready.grants_lat
               }),
             ))
 
--- what a client that is ready tells not later than now is that it has something to send
+-- if a client that is ready returns a time not later than now, it has something to send
 pub ready-busy : (now : ℕ) (t : State) → IsReady now t → now ≤ 2 ^ 62 → least_due now t ≤ now → IsSome (next_transmit now t)
 ready-busy now t ready range reached = again (due (agent_of t) now) refl
   where
@@ -490,7 +491,7 @@ ready-busy now t ready range reached = again (due (agent_of t) now) refl
     again (Some x) e = rw (next_transmit, transmit_step, e) refl
     again None e = rw (next_transmit, not_due-transmit now t e) (chosen e (is_paused now t) refl)
 
--- a reply that waits can be sent
+-- a queued reply can be sent
 pub reply-busy : (now : ℕ) (t : State) → has_reply t ≡ true → IsSome (next_transmit now t)
 reply-busy now t waits = again (due (agent_of t) now) refl
   where

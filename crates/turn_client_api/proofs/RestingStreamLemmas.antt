@@ -1,4 +1,4 @@
--- Where no stream is ready, nothing is handled.
+-- If no stream is ready, nothing is processed.
 use Rattle.std.proofs.Common.{◌≡◌, ℕ, zero, suc, Bool, true, false, cond, List, [], length, take, drop, Option, Some, None, refl, sym}
 use Rattle.std.specs.Prelude.{All, find}
 use Rattle.std.proofs.lemmas.List.{take-append-drop}

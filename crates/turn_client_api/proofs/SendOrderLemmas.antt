@@ -1,5 +1,5 @@
--- What every client keeps: nothing is sent before the first packet, and nothing is granted before the server
--- allocates.
+-- What holds for every client: nothing is sent before the first packet, and nothing is granted before the
+-- server allocates.
 use Rattle.std.proofs.Common.{◌≡◌, ◌∙◌, ℕ, ◌+◌, ◌≤◌, true, not, List, [], ◌∷◌, ◌++◌, map, filter, inl, refl, ap, arith}
 use Rattle.std.specs.Prelude.{IsSome}
 use Rattle.std.proofs.lemmas.Option.{none-some}
@@ -28,7 +28,7 @@ use Rattle.turn_client_api.proofs.PhasesGoOn.{Keeps, Keeps-KeepsAllEdits, Keeps-
 abbrev Steadies : State → State → Type 0
 Steadies s t = (IsSteady s → IsSteady t) × Keeps s t
 
--- once something was sent, all is well behind an allocation
+-- once something was sent, all holds after an allocation
 well : (p : Phase) (s : State) → 3 ≤ rank p → IsSome s.last_send → IsSteady (record s { phase = p })
 well New s far sent = absurd (omega arith)
 well Requesting s far sent = absurd (omega arith)
@@ -129,7 +129,7 @@ Steadies-KeepsAllEdits = record {
 pub initial-steady : (transport : TransportType) (local remote : SocketAddr) (config : Config) (seed : List ℕ) → IsSteady (initial transport local remote config seed)
 initial-steady transport local remote config seed = (λ e. (refl, refl, refl), λ b. absurd b, λ q. cc, λ u. refl)
 
--- whether or not the call finds memory
+-- even if memory allocation fails
 pub leaves-steadies : (call : Call) (s t : State) → Leaves call s t → IsSteady s → IsSteady t
 leaves-steadies call s t leaves = (leaves-walk Steadies Steadies-KeepsAllEdits (λ s streams. (λ h. h, keeps-same s)) call s t leaves).0
 

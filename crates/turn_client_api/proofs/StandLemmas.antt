@@ -1,4 +1,4 @@
--- What stands in a list of grants, and what a change of the list leaves of it.
+-- What is active in a list of grants, and what a change of the list leaves of it.
 use Rattle.std.proofs.Common.{◌≡◌, ℕ, zero, suc, Bool, true, false, cond, List, [], ◌∷◌, ◌++◌, map, filter, fold, ◌⊎◌, inl, inr, refl, sym, ◌∙◌, arith}
 use Rattle.std.specs.List.{Contains}
 use Rattle.std.specs.declared.net.ip_addr.IpAddr.{IpAddr}
@@ -22,7 +22,7 @@ contains-has x (y ∷ xs) (suc k, within, is) = inr (contains-has x xs (k, omega
 
 -- ---- one grant
 
--- a grant that stands is kept as itself
+-- a grant that is active is kept as itself
 pub kept-same : (g : Grant) → IsStanding g → IsKeptAs g g
 kept-same (Allocation a) h = (refl, refl)
 kept-same (Permission ip (Active expiry)) h = (refl, refl)
@@ -35,7 +35,7 @@ kept-same (Connect peer) h = absurd h
 kept-same (Offer offer) h = absurd h
 kept-same (Connection c) h = (refl, h)
 
--- what is kept stood
+-- what is kept was active
 pub kept-stood : (g h : Grant) → IsKeptAs g h → IsStanding g
 kept-stood (Allocation a) h k = tt
 kept-stood (Permission ip (Active expiry)) h k = tt
@@ -137,7 +137,7 @@ covers-stood s g (is, there, kept) = (is, has-contains is s.grants there, kept)
 pub covers-has : (grants : List Grant) (g : Grant) → Has g grants → IsStanding g → Covers grants g
 covers-has grants g there stands = (g, there, kept-same g stands)
 
--- All that stands in the second list stood in the first, and ended no earlier there.
+-- All that is active in the second list was so in the first, with no earlier expiry there.
 abbrev pub Left : List Grant → List Grant → Type 0
 Left grants later = (g : Grant) → Has g later → IsStanding g → Covers grants g
 
@@ -156,7 +156,7 @@ left-trans a b c first second g there stands = covers-left a b g first (second g
 pub left-filter : (p : Grant → Bool) (grants : List Grant) → Left grants (filter p grants)
 left-filter p grants g there stands = covers-has grants g (has-filter p g grants there).0 stands
 
--- nothing stands of these
+-- none of these is active
 abbrev pub IsIdle : List Grant → Type 0
 IsIdle grants = (g : Grant) → Has g grants → IsStanding g → ⊥
 
@@ -167,7 +167,7 @@ left-append grants more idle g there stands = by (has-append g grants more there
     by (inl here) = covers-has grants g here stands
     by (inr behind) = absurd (idle g behind stands)
 
--- one more that does not stand
+-- one more that is not active
 pub left-one : (grants : List Grant) (one : Grant) → (IsStanding one → ⊥) → Left grants (grants ++ one ∷ [])
 left-one grants one idle = left-append grants (one ∷ []) by
   where
@@ -178,24 +178,24 @@ left-one grants one idle = left-append grants (one ∷ []) by
 covers-later : (g h : Grant) (grants : List Grant) → Covers grants g → Covers (h ∷ grants) g
 covers-later g h grants (is, there, kept) = (is, inr there, kept)
 
--- each is changed in a way that makes nothing stand, nor last longer
+-- each is changed in a way that makes nothing active, nor extends it
 pub left-map : (f : Grant → Grant) → ((g : Grant) → IsStanding (f g) → IsKeptAs g (f g)) → (grants : List Grant) → Left grants (map f grants)
 left-map f keeps [] g there stands = absurd there
 left-map f keeps (x ∷ grants) g (inl e) stands = (x, inl refl, rw e (keeps x (rw (sym e) stands)))
 left-map f keeps (x ∷ grants) g (inr there) stands = covers-later g x grants (left-map f keeps grants g there stands)
 
--- one grant more in front of the first list
+-- one more grant before the first list
 pub left-skip : (x : Grant) (grants later : List Grant) → Left grants later → Left (x ∷ grants) later
 left-skip x grants later left g there stands = covers-later g x grants (left g there stands)
 
--- the grant in front is changed so too
+-- the first grant is changed so too
 pub left-cons : (x y : Grant) (grants later : List Grant) → (IsStanding y → IsKeptAs x y) → Left grants later → Left (x ∷ grants) (y ∷ later)
 left-cons x y grants later keeps left g (inl e) stands = (x, inl refl, rw e (keeps (rw (sym e) stands)))
 left-cons x y grants later keeps left g (inr there) stands = left-skip x grants later left g there stands
 
 -- ---- states
 
--- all that stands in the second state stood in the first
+-- all that is active in the second state was so in the first
 abbrev pub Leaves : State → State → Type 0
 Leaves s t = Left s.grants t.grants
 

@@ -1,4 +1,5 @@
--- Streams keep local ends of their own when their bytes and modes change and when they come and go.
+-- Streams keep distinct local addresses when their bytes and modes change and when they are added and
+-- removed.
 use Rattle.std.proofs.Common.{◌≡◌, ◌≢◌, ℕ, Bool, true, false, not, cond, List, [], ◌∷◌, ◌++◌, map, filter, Some, refl, sym, ◌∙◌}
 use Rattle.std.specs.Prelude.{All, find}
 use Rattle.std.specs.List.{IsDistinct, AllByRecursion}
@@ -27,15 +28,15 @@ differ-sym a b differ = false_from_ne_true (same_address b a) by
         let clash : true ≡ false = sym (same_address-self a) ∙ rw same at differ in
         cc
 
--- the local end is none of theirs
+-- the local address is none of theirs
 abbrev pub IsNoneOf : SocketAddr → List Stream → Type 0
 IsNoneOf local xs = AllByRecursion (λ y. same_address local y ≡ false) (ends xs)
 
--- and none of theirs is the local end
+-- and none of theirs is the local address
 abbrev AreOthers : SocketAddr → List Stream → Type 0
 AreOthers local xs = AllByRecursion (λ y. same_address y local ≡ false) (ends xs)
 
--- ---- the streams at one local end
+-- ---- the streams at one local address
 
 -- it is not broken, if it is one of them
 abbrev pub IsWholeAt : SocketAddr → Stream → Type 0
@@ -63,7 +64,7 @@ found-differs p local (x ∷ xs) stream e h = by (p x) refl (found-differs p loc
         rw (← same) h.0
     by false f later = later (rw f at e) h.1
 
--- with local ends of their own, the one that is found is the one at its local end
+-- with distinct local addresses, the one that is found is the one at its local address
 pub found-NotBroken : (p : Stream → Bool) (xs : List Stream) (stream : Stream) → find p xs ≡ Some stream → stream.mode ≢ Broken → IsDistinct same_address (ends xs) → NotBroken stream.local xs
 unfolding IsDistinct
 found-NotBroken p [] stream e whole h = cc
@@ -129,7 +130,7 @@ bound-NotBroken at local peer xs whole = all-map (IsWholeAt at) (IsWholeAt at) (
     by x true unbroken = λ e f. cc
     by x false unbroken = unbroken
 
--- what is left without bytes may be broken
+-- a broken stream without bytes is allowed
 pub emptied-apart : (local : SocketAddr) (xs : List Stream) → Apart xs → Apart (map (bytes_by local []) xs)
 unfolding IsDistinct bytes_by
 emptied-apart local xs h = (
@@ -163,7 +164,7 @@ bound-apart local peer xs h = (
     by x true empty = λ e. cc
     by x false empty = empty
 
--- ---- streams go and come
+-- ---- streams are removed and added
 
 ends-all-filter : (P : SocketAddr → Type 0) (p : Stream → Bool) (xs : List Stream) → AllByRecursion P (ends xs) → AllByRecursion P (ends (filter p xs))
 ends-all-filter P p [] h = h
@@ -203,7 +204,7 @@ unfolding IsDistinct
 distinct-last [] x differ h = (tt, tt)
 distinct-last (y ∷ ys) x differ h = (all-last (λ z. same_address y.local z ≡ false) y.local ys x differ.0 h.0, distinct-last ys x differ.1 h.1)
 
--- a new one in place of any at its local end
+-- a new one in place of any at its local address
 pub new-apart : (local : SocketAddr) (xs : List Stream) → Apart xs → Apart (filter (λ x. not (same_address x.local local)) xs ++ record { local = local; mode = Waiting; bytes = [] } ∷ [])
 unfolding is_other
 new-apart local xs h =

@@ -1,4 +1,4 @@
--- Calls leave the streams apart: most leave them as they are.
+-- Calls keep the local addresses of the streams distinct: most leave the streams unchanged.
 use Rattle.std.proofs.Common.{◌≡◌, ◌⊎◌, ℕ, Bool, true, false, cond, ◌&&◌, List, [], Option, Some, None, Err, refl, sym, subst, inl, inr}
 use Rattle.std.specs.List.{IsDistinct}
 use Rattle.std.specs.Option.{option_map_or}
@@ -32,7 +32,7 @@ initial-apart Tcp local remote config seed = ((tt, tt), All-cons IsEmptyIfBroken
 
 -- ---- the caller opened a data connection
 
--- the streams stay, or one more is there, which waits
+-- the streams stay, or one is added, which waits
 abbrev pub IsOpened : State → State → Type 0
 IsOpened s t = Same s t ⊎ ((local : SocketAddr) × (t.streams ≡ (with_stream local s).streams))
 
@@ -78,7 +78,7 @@ call-apart (Delete now) s = same-apart s (state_after (Delete now) s) (delete-sa
 call-apart (AllocatedTcpSocket id tuple peer local now) s = opened-apart s (state_after (AllocatedTcpSocket id tuple peer local now) s) (tcp_socket-opened id tuple peer local now s)
 call-apart call s = same-apart s (state_after call s) (quiet-walk Same Same-KeepsEdits call s tt)
 
--- a call that takes no turns
+-- a call that processes no input
 pub others-opened : (call : Call) (s : State) → (TakesTurns call → ⊥) → IsOpened s (state_after call s)
 others-opened (Recv packet now) s other = absurd (other tt)
 others-opened (PollRecv now) s other = absurd (other tt)

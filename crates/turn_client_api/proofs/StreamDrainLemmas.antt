@@ -1,4 +1,4 @@
--- The turns that `poll_recv` takes are enough: what they leave in the streams waits for more bytes.
+-- The steps of `poll_recv` are enough: what they leave in the streams waits for more bytes.
 use Rattle.std.proofs.Common.{◌≡◌, ℕ, zero, suc, ◌<◌, ◌≤◌, Bool, true, false, cond, List, [], ◌∷◌, ◌++◌, length, map, take, drop, Option, Some, None, refl, sym, ap, ◌∙◌, inl, inr, arith}
 use Rattle.std.specs.Prelude.{All, find, is_some}
 use Rattle.std.proofs.lemmas.List.{length-drop}
@@ -19,12 +19,12 @@ use Rattle.turn_client_api.specs.LawsStreams.{HasNoFrame, IsDrained}
 use Rattle.turn_client_api.proofs.StreamMessageLemmas.{Rebound, frame-rebound}
 use Rattle.turn_client_api.proofs.StreamWeightLemmas.{KeepsHeld, Sets, kept-Sets, later-Sets, weight, weight-le, weight-less}
 
--- ---- what waits in a stream
+-- ---- the bytes in a stream
 
 framed : List ℕ → Option ℕ
 framed bytes = cond (begins_no_frame bytes) (Some (length bytes)) (frame_len bytes)
 
--- bytes wait in a stream that is ready
+-- a stream that is ready holds bytes
 pub ready-waits : (mode : Mode) (stream : Stream) (bytes : List ℕ) → is_ready (record stream { mode = mode; bytes = bytes }) ≡ true → 0 < length bytes
 ready-waits mode stream (b ∷ bytes) e = omega arith
 ready-waits Control stream [] e = cc
@@ -32,7 +32,7 @@ ready-waits Waiting stream [] e = cc
 ready-waits (Bound peer) stream [] e = cc
 ready-waits Broken stream [] e = cc
 
--- ---- a turn makes what the streams hold less
+-- ---- a step decreases what the streams hold
 
 unfoldable pub bytes_by : SocketAddr → List ℕ → Stream → Stream
 bytes_by local bytes x = cond (same_address x.local local) (record x { bytes = bytes }) x
@@ -86,7 +86,7 @@ pub map-map : (f g : Stream → Stream) (xs : List Stream) → map (λ x. g (f x
 map-map f g [] = refl
 map-map f g (x ∷ xs) = ap (λ ys. g (f x) ∷ ys) (map-map f g xs)
 
--- the first stream that is ready has bytes for a turn
+-- the first stream that is ready has bytes for a step
 pub found-ready : (xs : List Stream) (stream : Stream) → find is_ready xs ≡ Some stream → is_ready stream ≡ true
 found-ready [] stream e = cc
 found-ready (x ∷ xs) stream e = by (is_ready x) refl (found-ready xs stream) e
@@ -95,7 +95,7 @@ found-ready (x ∷ xs) stream e = by (is_ready x) refl (found-ready xs stream) e
     by true f later g = let same : x ≡ stream = same_Some _ _ g in rw (← same) f
     by false f later g = later g
 
--- Of the first stream that is ready: it is taken out, and holds less once its turn is over.
+-- Of the first stream that is ready: it is taken out, and holds less after its step.
 module _ (stream : Stream) (s : State) (found : find is_ready s.streams ≡ Some stream) where
   waits : 0 < length stream.bytes
   waits = ready-waits stream.mode stream stream.bytes (found-ready s.streams stream found)
@@ -103,7 +103,7 @@ module _ (stream : Stream) (s : State) (found : find is_ready s.streams ≡ Some
   abbrev out : State
   out = with_bytes stream.local [] s
 
-  -- these bytes and no others are there in the end
+  -- these bytes and no others remain in the end
   lighter-by : (bytes : List ℕ) (f g : Stream → Stream) → Sets stream.local bytes (λ x. g (f x)) → length bytes < length stream.bytes → weight (map g (map f s.streams)) < weight s.streams
   lighter-by bytes f g is fewer = rw (← map-map f g s.streams) (weight-less is_ready s.streams stream bytes (λ x. g (f x)) found is fewer)
 
@@ -166,7 +166,7 @@ turned-lighter Broken stream now s found = emptied-lighter (record stream { mode
 pub turn-lighter : (stream : Stream) (now : ℕ) (s : State) → find is_ready s.streams ≡ Some stream → weight (turn stream now s).1.streams < weight s.streams
 turn-lighter stream now s found = turned-lighter stream.mode stream now s found
 
--- ---- as many turns as there are bytes
+-- ---- as many steps as there are bytes
 
 -- two ways to go on that agree on all that is lighter
 go_on-same : (next other : State → Option Payload × State) (p : Outcome × State) → next p.1 ≡ other p.1 → go_on next p ≡ go_on other p
@@ -179,7 +179,7 @@ none-ready : (now : ℕ) (s : State) → weight s.streams ≤ 0 → (o : Option 
 none-ready now s empty None e = refl
 none-ready now s empty (Some stream) e = let less = turn-lighter stream now s e in absurd (omega (arith, empty, less))
 
--- more turns than the streams' weight give the same
+-- more steps than the streams' weight give the same
 pub turns-enough : (n m now : ℕ) (s : State) → weight s.streams ≤ n → weight s.streams ≤ m → turns_until_payload n now s ≡ turns_until_payload m now s
 unfolding turns_until_payload
 turns-enough zero zero now s hn hm = refl
@@ -201,7 +201,7 @@ poll_recv-enough n now s h =
     let most = weight-le s.streams in
     turns-enough n (most_turns s) now s (omega (arith, most, h)) most
 
--- no stream is ready where no payload came
+-- no stream is ready if no payload was returned
 abbrev pub IsDone : Option Payload × State → Type 0
 IsDone p = p.0 ≡ None → find is_ready p.1.streams ≡ None
 

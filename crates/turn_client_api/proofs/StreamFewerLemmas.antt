@@ -1,4 +1,4 @@
--- With each payload that `poll_recv` gives, the streams hold fewer bytes.
+-- With each payload that `poll_recv` returns, the streams hold fewer bytes.
 use Rattle.std.proofs.Common.{◌≡◌, ℕ, zero, suc, ◌<◌, List, [], ◌∷◌, length, Option, Some, None, refl, arith}
 use Rattle.std.specs.Prelude.{IsSome, find, sum_by}
 use Rattle.std.specs.List.{IsDistinct}
@@ -14,7 +14,7 @@ use Rattle.turn_client_api.proofs.StreamDrainLemmas.{turn-lighter}
 use Rattle.turn_client_api.proofs.StreamStepLemmas.{poll_recv-apart}
 use Rattle.turn_client_api.proofs.StreamWeightLemmas.{top, weight}
 
--- ---- with local ends of their own, all bytes count
+-- ---- with distinct local addresses, all bytes count
 
 top-none : (local : SocketAddr) (xs : List Stream) → IsNoneOf local xs → top local xs ≡ 0
 unfolding top
@@ -27,9 +27,9 @@ weight-all [] h = refl
 weight-all (x ∷ xs) h =
     omega (arith, weight-all xs h.1, top-none x.local xs h.0, sum_by-cons (λ (stream : Stream). length stream.bytes) x xs)
 
--- ---- turns
+-- ---- steps
 
--- so much weighs more than what the streams hold behind a payload
+-- so much weighs more than what the streams hold after a payload
 abbrev pub IsLessThan : ℕ → Option Payload × State → Type 0
 IsLessThan n p = IsSome p.0 → weight p.1.streams < n
 

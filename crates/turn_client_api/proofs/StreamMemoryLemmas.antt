@@ -1,4 +1,4 @@
--- The streams stay apart, whether or not a call finds memory.
+-- The streams keep distinct local addresses, even if memory allocation fails.
 use Rattle.std.proofs.Common.{◌≡◌, ◌≢◌, ℕ, List, Option, Some, None, refl, subst, sym, inl, inr}
 use Rattle.std.specs.Prelude.{IsSomeAnd, find}
 use Rattle.std.specs.declared.net.socket_addr.SocketAddr.{SocketAddr}
@@ -17,7 +17,7 @@ use Rattle.turn_client_api.proofs.StreamCallLemmas.{call-apart}
 use Rattle.turn_client_api.proofs.StreamDrainLemmas.{broken_by}
 use Rattle.turn_client_api.proofs.StreamStepLemmas.{StayApart, first_turn-apart, turns-apart}
 
--- what a state is equal to that keeps them apart
+-- what a state is equal to that keeps them distinct
 equal-apart : (s t u : State) → u ≡ t → StayApart s t → StayApart s u
 equal-apart s t u e kept h = subst (λ (x : State). AreApart x) (sym e) (kept h)
 

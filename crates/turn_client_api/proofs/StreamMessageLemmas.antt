@@ -1,4 +1,4 @@
--- Messages leave the streams as they are, but that a stream may come to be bound.
+-- Messages leave the streams unchanged, except that a stream may be bound.
 use Rattle.std.proofs.Common.{◌≡◌, ◌⊎◌, ℕ, Bool, true, false, not, cond, eqb, List, Option, Some, None, refl, ◌∙◌, inl, inr}
 use Rattle.std.specs.Prelude.{find, ⊤}
 use Rattle.std.specs.declared.net.socket_addr.SocketAddr.{SocketAddr}
@@ -17,7 +17,7 @@ use Rattle.turn_client_api.specs.Streams.{frame_step}
 use Rattle.turn_client_api.proofs.Edits.{KeepsAllEdits, KeepsEdits}
 use Rattle.turn_client_api.proofs.EditsOfMessages.{message-walk}
 
--- the streams stay as they are
+-- the streams stay unchanged
 abbrev pub Same : State → State → Type 0
 Same s t = t.streams ≡ s.streams
 
@@ -72,7 +72,7 @@ message-same message now s = message-walk ⊤ Same Same-KeepsAllEdits message no
 
 -- ---- connections that wait to be bound
 
--- the streams stay, or those at one local end are bound
+-- the streams stay, or those at one local address are bound
 abbrev pub Rebound : State → State → Type 0
 Rebound s t = Same s t ⊎ ((local peer : SocketAddr) × (t.streams ≡ (with_mode local (Bound peer) s).streams))
 

@@ -1,4 +1,4 @@
--- A stream in which no whole frame waits holds less than the longest frame.
+-- A stream that holds no whole frame holds less than the longest frame.
 use Rattle.std.proofs.Common.{◌≡◌, ◌≢◌, ℕ, ◌+◌, ◌<◌, ◌≤◌, Bool, true, false, cond, leb, ltb, List, length, take, drop, Option, Some, None, refl, sym, arith}
 use Rattle.std.specs.Prelude.{All}
 use Rattle.std.proofs.lemmas.Bool.{leb-false, ltb-true, ltb-false}
@@ -22,7 +22,7 @@ some-if : (b : Bool) (n : ℕ) → cond b (Some n) None ≡ None → b ≡ false
 some-if true n h = cc
 some-if false n h = refl
 
--- less than its size is there
+-- it holds less than its size
 frame_len-none : (bytes : List ℕ) → begins_no_frame bytes ≡ false → frame_len bytes ≡ None → length bytes < frame_size bytes
 frame_len-none bytes begins none =
     let short : leb (frame_size bytes) (length bytes) ≡ false = some-if _ (frame_size bytes) (rw begins at none) in

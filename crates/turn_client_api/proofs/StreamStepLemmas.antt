@@ -1,4 +1,4 @@
--- What comes in over streams leaves them apart.
+-- Bytes received over streams keep their local addresses distinct.
 use Rattle.std.proofs.Common.{◌≡◌, ◌≢◌, ℕ, zero, suc, ◌++◌, Bool, true, false, not, cond, ◌&&◌, List, [], ◌∷◌, take, drop, Option, Some, None, refl, subst, sym, inl, inr}
 use Rattle.std.specs.Prelude.{find, is_some}
 use Rattle.std.specs.declared.net.socket_addr.SocketAddr.{SocketAddr}
@@ -17,7 +17,7 @@ use Rattle.turn_client_api.proofs.StreamApartLemmas.{Apart, NotBroken, bound-Not
 use Rattle.turn_client_api.proofs.StreamDrainLemmas.{broken_by, bytes_by, found-ready, mode_by}
 use Rattle.turn_client_api.proofs.StreamMessageLemmas.{Same, Rebound, frame-rebound, message-same, same-cond}
 
--- where the streams were apart, they are
+-- if the streams were distinct, they are
 abbrev pub StayApart : State → State → Type 0
 StayApart s t = AreApart s → AreApart t
 
@@ -33,9 +33,9 @@ apart-cond : {A : Type 0} (b : Bool) (s : State) (x y : A × State) → StayApar
 apart-cond true s x y p q = p
 apart-cond false s x y p q = q
 
--- ---- turns
+-- ---- steps
 
--- none at the local end is broken, nor is any behind a frame
+-- none at the local address is broken, nor is any after a frame
 rebound-NotBroken : (local : SocketAddr) (s t : State) → Rebound s t → NotBroken local s.streams → NotBroken local t.streams
 unfolding mode_by
 rebound-NotBroken local s t (inl same) whole = subst (NotBroken local) (sym same) whole
@@ -92,7 +92,7 @@ turns-apart (suc n) now s h = by (find is_ready s.streams) refl (λ t. turns-apa
 pub poll_recv-apart : (now : ℕ) (s : State) → StayApart s (poll_recv_step now s).1
 poll_recv-apart now s = turns-apart (most_turns s) now s
 
--- ---- what comes in
+-- ---- input
 
 then_all-apart : (now : ℕ) (p : Outcome × State) → StayApart p.1 (then_all now p).1
 then_all-apart now (PeerData payload, t) h = h

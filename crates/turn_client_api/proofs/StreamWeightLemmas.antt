@@ -1,4 +1,5 @@
--- How many bytes the streams hold, where those of one local end count once: a turn makes them fewer.
+-- How many bytes the streams hold, where those of one local address count once: a step decreases the
+-- number.
 use Rattle.std.proofs.Common.{◌≡◌, ℕ, ◌+◌, ◌-◌, ◌<◌, ◌≤◌, max, Bool, true, false, cond, List, [], ◌∷◌, length, map, Some, refl, sym, ap, ◌∙◌, arith}
 use Rattle.std.specs.Prelude.{find, sum_by}
 use Rattle.std.proofs.lemmas.Bool.{false_from_ne_true}
@@ -8,12 +9,12 @@ use Rattle.turn_agent.specs.Agent.{same_address}
 use Rattle.turn_client_api.specs.State.{Stream}
 use Rattle.turn_client_api.proofs.AddressLemmas.{same_address-true, same_address-self}
 
--- the most bytes of the streams at this local end
+-- the most bytes of the streams at this local address
 unfoldable pub top : SocketAddr → List Stream → ℕ
 top local [] = 0
 top local (x ∷ xs) = max (cond (same_address x.local local) (length x.bytes) 0) (top local xs)
 
--- the most bytes of each local end, together
+-- the most bytes of each local address, together
 unfoldable pub weight : List Stream → ℕ
 weight [] = 0
 weight (x ∷ xs) = weight xs + (length x.bytes - top x.local xs)
@@ -24,7 +25,7 @@ unfolding weight
 weight-le [] = omega arith
 weight-le (x ∷ xs) = omega (arith, weight-le xs, sum_by-cons (λ (stream : Stream). length stream.bytes) x xs)
 
--- a stream that is there counts
+-- a stream in the list counts
 pub found-le-top : (p : Stream → Bool) (xs : List Stream) (stream : Stream) → find p xs ≡ Some stream → length stream.bytes ≤ top stream.local xs
 unfolding top
 found-le-top p [] stream h = cc
@@ -37,7 +38,7 @@ found-le-top p (x ∷ xs) stream h = by (p x) refl (found-le-top p xs stream)
         rw (same, same_address-self stream.local) (omega arith)
     by false e later = let more = later (rw e at h) in omega (arith, more)
 
--- ---- a change of each stream that keeps its local end
+-- ---- a change of each stream that keeps its local address
 
 pub record KeepsHeld (f : Stream → Stream) : Type 0 where
   pub local : (x : Stream) → (f x).local ≡ x.local
@@ -53,13 +54,13 @@ unfolding weight
 weight-kept f k [] = refl
 weight-kept f k (x ∷ xs) = rw (k.local x, k.bytes x, top-kept f k x.local xs, weight-kept f k xs) refl
 
--- the streams at a local end, and no others, have these bytes now
+-- the streams at a local address, and no others, have these bytes now
 pub record Sets (local : SocketAddr) (bytes : List ℕ) (f : Stream → Stream) : Type 0 where
   pub keeps : (x : Stream) → (f x).local ≡ x.local
   pub at : (x : Stream) → same_address x.local local ≡ true → (f x).bytes ≡ bytes
   pub others : (x : Stream) → same_address x.local local ≡ false → (f x).bytes ≡ x.bytes
 
--- a change that leaves local ends and bytes, after one that sets these bytes
+-- a change that leaves local addresses and bytes, after one that sets these bytes
 pub kept-Sets : (local : SocketAddr) (bytes : List ℕ) (f g : Stream → Stream) → Sets local bytes f → KeepsHeld g → Sets local bytes (λ x. g (f x))
 kept-Sets local bytes f g is k = record {
   keeps = λ x. k.local (f x) ∙ is.keeps x;
@@ -87,7 +88,7 @@ top-set local bytes f is (x ∷ xs) = rw (is.keeps x) (by (same_address x.local 
     by true e later = rw (is.at x e) (omega (arith, later))
     by false e later = omega (arith, later)
 
--- what is at one local end is not at another
+-- what is at one local address is not at another
 apart : (local other : SocketAddr) (x : Stream) → same_address other local ≡ false → same_address x.local local ≡ true → same_address x.local other ≡ false
 apart local other x differ here = false_from_ne_true (same_address x.local other) by
   where
@@ -110,11 +111,11 @@ top-other local other bytes f is differ (x ∷ xs) = rw (is.keeps x, top-other l
     by true e = rw (apart local other x differ e) refl
     by false e = rw (is.others x e) refl
 
--- what counts at the local end is another part of the whole then
+-- what counts at the local address is another part of the whole then
 abbrev IsMoved : (Stream → Stream) → SocketAddr → List Stream → Type 0
 IsMoved f local xs = weight (map f xs) + top local xs ≡ weight xs + top local (map f xs)
 
--- the same with one stream more, of which so many bytes count at the local end, and so many then
+-- the same with one stream more, of which so many bytes count at the local address, and so many then
 abbrev IsMovedBy : (Stream → Stream) → SocketAddr → Stream → List Stream → ℕ → ℕ → Type 0
 IsMovedBy f local x xs old new =
     weight (map f xs) + (length (f x).bytes - top x.local (map f xs)) + max old (top local xs)
@@ -132,7 +133,7 @@ weight-set local bytes f is (x ∷ xs) = rw (is.keeps x) (by (same_address x.loc
     by true e later = here (same_address-true x.local local e) later
     by false e later = rw (is.others x e, top-other local x.local bytes f is e xs) (omega (arith, later))
 
--- a stream of more bytes was there: the whole is less
+-- a stream with more bytes was in the list: the whole is less
 pub weight-less : (p : Stream → Bool) (xs : List Stream) (stream : Stream) (bytes : List ℕ) (f : Stream → Stream) → find p xs ≡ Some stream → Sets stream.local bytes f → length bytes < length stream.bytes → weight (map f xs) < weight xs
 weight-less p xs stream bytes f found is fewer =
     omega (arith, weight-set stream.local bytes f is xs, top-set stream.local bytes f is xs, found-le-top p xs stream found, fewer)

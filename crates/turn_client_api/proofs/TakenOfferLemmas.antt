@@ -1,4 +1,4 @@
--- What is left when an offer is taken.
+-- What remains when an offer is removed.
 use Rattle.std.proofs.Common.{◌≡◌, ℕ, Bool, true, false, List, [], ◌∷◌, ◌⊎◌, inl, inr, refl}
 use Rattle.std.specs.declared.net.socket_addr.SocketAddr.{SocketAddr}
 use Rattle.turn_client_api.specs.State.{Grant, Allocation, Permission, Channel, Connect, Offer, Connection, Purpose, ForAllocation, ForRefresh, ForPermission, ForChannel, ForConnect, ForBind}

@@ -1,4 +1,4 @@
--- What `poll` tells is timely.
+-- The time that `poll` returns is timely.
 use Rattle.std.proofs.Common.{◌≡◌, ◌≢◌, ℕ, ◌^◌, ◌<◌, ◌≤◌, max, Bool, true, false, ltb, eqb, List, [], ◌∷◌, length, Option, Some, None, ◌⊎◌, inl, inr, refl, sym, subst, ◌∙◌, arith}
 use Rattle.std.specs.Prelude.{if◌then◌else◌, is_some}
 use Rattle.std.specs.Option.{option_map_or}
@@ -25,7 +25,7 @@ use Rattle.turn_client_api.proofs.LapseLemmas.{lapsed-alive, lapsed-no_offer, la
 abbrev Timely : ℕ → State → TurnPollRet × State → Type 0
 Timely now was answer = IsTimely answer.0 now was answer.1
 
--- the answer is now, and something is to be done
+-- the returned time is now, and something is due
 now-timely : (now : ℕ) (was s : State) → IsBusy now was s → Timely now was (Do.WaitUntil now, s)
 now-timely now was s busy = (λ later. absurd (omega (arith, later)), λ reached. busy)
 
@@ -43,9 +43,9 @@ no_event (event ∷ events) e = absurd (omega (arith, ltb-false 0 (length (event
 abbrev GaveUp : State → State → Type 0
 GaveUp was s = (x : Transaction) × (is_outstanding x.id was.transactions ≡ true) × (is_outstanding x.id s.transactions ≡ false)
 
--- ---- what a client tells when nothing waits
+-- ---- what a client returns when nothing is pending
 
--- what is to be known of a client that tells when to call again
+-- what is known of a client that returns when to call again
 pub record IsSettled (now : ℕ) (was : State) (given : Bool) (t : State) : Type 0 where
   pub in_range : now ≤ 2 ^ 62
   pub not_new : t.phase ≢ New
@@ -112,7 +112,7 @@ wakeup-timely now was given t settled no_close = by (has_event t) given refl ref
           grants_later = settled.grants_later f;
         }))
 
--- a connection to close, or nothing left, or a moment
+-- a connection to close, or nothing more, or a time
 answer-timely : (now : ℕ) (was : State) (given : Option ℕ) (t : State) → IsSettled now was (is_some given) t → Timely now was (answer_step given now t)
 answer-timely now was given t settled = by t.closes t.phase (allocations t) refl settled.not_new
   where
@@ -125,7 +125,7 @@ answer-timely now was given t settled = by t.closes t.phase (allocations t) refl
     by [] Closed relays e old = wakeup-timely now was (is_some given) t settled e
     by [] New relays e old = absurd (old refl)
 
--- ---- what was given up
+-- ---- what timed out
 
 found-outstanding : (p : Transaction → Bool) (x : Transaction) (xs : List Transaction) → Has x xs → is_outstanding x.id xs ≡ true
 found-outstanding p x [] h = absurd h
@@ -149,7 +149,7 @@ without-ended id (y ∷ ys) = by (eqb y.id id) refl (without-ended id ys)
 no_grants-alive : (now : ℕ) (t : State) → t.grants ≡ [] → (g : Grant) → Has g t.grants → Alive now g
 no_grants-alive now t none g h = absurd (rw none at h)
 
--- what is known of a client that gave a transaction up
+-- what is known of a client whose transaction timed out
 settled-given : (now : ℕ) (s t : State) → now ≤ 2 ^ 62 → t.phase ≢ New → has_reply t ≡ false → next_offer t ≡ None → GaveUp s t → IsSettled now s true t
 settled-given now s t range old no_reply no_offer gave = record {
   in_range = range;
@@ -254,7 +254,7 @@ none-timely now s orderly stand range no_reply no_offer none p e = by p e
         allocated_new : Allocated ≡ New → ⊥
         allocated_new f = cc
 
--- what `poll` tells is timely, whatever the moments before
+-- what `poll` returns is timely, whatever the times before
 pub poll-timely : (now : ℕ) (s : State) → IsOrderly s → AllStandIn s → now ≤ 2 ^ 62 → IsTimely (poll_step now s).0 now s (poll_step now s).1
 poll-timely now s orderly stand range = events (has_event s) (has_reply s) refl refl
   where

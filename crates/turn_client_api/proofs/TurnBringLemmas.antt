@@ -1,4 +1,4 @@
--- What the turns of a call bring about, the call brings about.
+-- What the inputs of a call cause, the call causes.
 use Rattle.std.proofs.Common.{◌≡◌, ◌⊎◌, Bool, true, false, not, cond, List, [], ◌∷◌, ◌++◌, Option, Some, None, refl, sym, subst, inl, inr}
 use Rattle.std.specs.declared.net.socket_addr.SocketAddr.{SocketAddr}
 use Rattle.turn_types.specs.Frames.{begins_message}
@@ -16,9 +16,9 @@ use Rattle.turn_client_api.proofs.StandLemmas.{has-contains}
 use Rattle.turn_client_api.proofs.TurnChainLemmas.{calls-do, dropped-differs}
 use Rattle.turn_client_api.proofs.TurnEndLemmas.{calls-end}
 
--- Of a claim on states and what a turn does: the bytes of streams do not count, and where the claim holds
--- after a message and did not before it, the turn of the message did it. The end of a connection, or of the
--- client, brings nothing.
+-- Of a claim on states and what an input does: the bytes of streams do not count, and if the claim holds
+-- after a message and did not before it, the input of the message did it. The end of a connection, or of
+-- the client, causes nothing.
 pub record IsBrought (P : State → Type 0) (Did : Turn → Type 0) : Type 0 where
   pub differs : (s t : State) → DiffersInStreams s t → P t → P s
   pub message : (one : Turn) → IsOverControl one → is_message one.bytes ≡ true → P (message_step one.bytes one.moment one.before).1 → P one.before ⊎ Did one
@@ -27,11 +27,11 @@ pub record IsBrought (P : State → Type 0) (Did : Turn → Type 0) : Type 0 whe
   pub ended : (s : State) → P (closed s) → P s
 
 module _ (P : State → Type 0) (Did : Turn → Type 0) (k : IsBrought P Did) where
-  -- it held before, or the turn did it
+  -- it held before, or the input did it
   abbrev Brings : Turn → Type 0
   Brings one = P one.before ⊎ Did one
 
-  -- ---- one turn
+  -- ---- one input
 
   datagram-brings : (one : Turn) → one.stream ≡ None → P (made_of (record one { stream = None })).1 → Brings one
   datagram-brings one of = by (is_message one.bytes) refl (is_channel_frame one.bytes)
@@ -70,9 +70,9 @@ module _ (P : State → Type 0) (Did : Turn → Type 0) (k : IsBrought P Did) wh
       by None of h = datagram-brings one of h
       by (Some stream) of h = turn_in_mode stream.mode one stream of refl h
 
-  -- ---- turns one after the other
+  -- ---- inputs in sequence
 
-  -- one of these turns did it
+  -- one of these inputs did it
   abbrev Among : List Turn → Type 0
   Among turns = (one : Turn) × Has one turns × Did one
 
@@ -143,7 +143,7 @@ module _ (P : State → Type 0) (Did : Turn → Type 0) (k : IsBrought P Did) wh
     ended-brings : (s t : State) → t ≡ closed s → P t → P s
     ended-brings s t e h = k.ended s (subst P e h)
 
-    -- it finds no memory
+    -- memory allocation fails
     none-brings : (call : Call) (s t : State) → EndsWithoutMemory call s t → P t → Brought call s
     none-brings (Recv packet now) s t end h = by-turn (Recv packet now) s (end-brings (Recv packet now) s t (calls-end (Recv packet now) s t tt end) h)
     none-brings (PollRecv now) s t end h = by-turn (PollRecv now) s (end-brings (PollRecv now) s t (calls-end (PollRecv now) s t tt end) h)

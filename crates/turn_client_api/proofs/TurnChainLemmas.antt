@@ -1,4 +1,4 @@
--- The turns of a call lead from the state before it to the state after it.
+-- The inputs of a call lead from the state before it to the state after it.
 use Rattle.std.proofs.Common.{◌≡◌, ◌⊎◌, ℕ, zero, suc, Bool, true, false, not, cond, List, [], ◌∷◌, ◌++◌, map, drop, take, Option, Some, None, refl, ap, sym, ◌∙◌, inl, inr}
 use Rattle.std.specs.Prelude.{find}
 use Rattle.std.specs.declared.net.socket_addr.SocketAddr.{SocketAddr}
@@ -65,7 +65,7 @@ dropped-differs a s = record { others = refl; bound = by }
     by local peer (x, there, at, mode) =
         (x, has-contains x s.streams (has-filter (λ (y : Stream). not (same_address y.local a)) x s.streams (contains-has x _ there)).0, at, mode)
 
--- ---- turns one after the other
+-- ---- inputs in sequence
 
 pub leads-after : (turns : List Turn) (s t u : State) → TurnsLead turns s t → DiffersInStreams t u → TurnsLead turns s u
 leads-after [] s t u lead more = differs-trans s t u lead more
@@ -79,7 +79,7 @@ pub leads-append : (front later : List Turn) (s t u : State) → TurnsLead front
 leads-append [] later s t u first second = leads-before later s t u first second
 leads-append (one ∷ front) later s t u (first, lead) second = (first, leads-append front later (made_of one).1 t u lead second)
 
--- ---- the turn of a stream
+-- ---- the step of a stream
 
 one-leads : (one : Turn) (s t : State) → DiffersInStreams s one.before → DiffersInStreams (made_of one).1 t → TurnsLead (one ∷ []) s t
 one-leads one s t first last = (first, last)
@@ -148,9 +148,9 @@ piece_in_mode Broken stream piece now s = by (same_address stream.local s.local)
     by true = poll_recv-leads now s
     by false = differs-same s
 
--- ---- what comes in
+-- ---- input
 
--- the turns lead to the state behind, or the stream has ended
+-- the inputs lead to the state after it, or the stream has ended
 abbrev Does : List Turn → State → State → Type 0
 Does turns s t = TurnsLead turns s t ⊎ ((local : SocketAddr) × (turns ≡ []) × (t ≡ without_stream local (connection_gone local s)))
 

@@ -1,4 +1,4 @@
--- A call that finds no memory took the first ones of its turns.
+-- A call whose memory allocation fails processed the first of its inputs.
 use Rattle.std.proofs.Common.{◌≡◌, ◌≢◌, ℕ, zero, suc, ◌≤◌, Bool, true, false, cond, List, [], ◌∷◌, ◌++◌, Option, Some, None, refl, ap, sym, subst, ◌∙◌, inl, inr, arith}
 use Rattle.std.specs.Prelude.{IsSomeAnd, find}
 use Rattle.std.proofs.lemmas.List.{append_assoc}
@@ -20,7 +20,7 @@ use Rattle.turn_client_api.proofs.MemoryLemmas.{behind}
 use Rattle.turn_client_api.proofs.StreamWeightLemmas.{weight, weight-le}
 use Rattle.turn_client_api.proofs.TurnChainLemmas.{broken-differs, fed-leads, leads-after, leads-append, turns-lead}
 
--- these turns are the first ones of those
+-- these inputs are the first of those
 abbrev IsFrontOf : List Turn → List Turn → Type 0
 IsFrontOf front all = (later : List Turn) × (all ≡ front ++ later)
 
@@ -31,7 +31,7 @@ front-given : (o : Option Payload) (front all : List Turn) → IsFrontOf front a
 front-given None front all h = h
 front-given (Some payload) front all h = ([], refl)
 
--- no number of turns goes on behind as many turns as the streams have weight
+-- no number of steps goes on after as many steps as the streams have weight
 taken-front : (n m now : ℕ) (s : State) → weight s.streams ≤ m → IsFrontOf (turns_taken n now s) (turns_taken m now s)
 unfolding turns_taken
 taken-front zero m now s h = (turns_taken m now s, refl)
@@ -51,7 +51,7 @@ taken-front (suc n) (suc m) now s h = by (find is_ready s.streams) refl (λ t le
         front-append (taken false stream now s) _ _
         (front-given (payload_in (turn stream now s).0) (turns_taken n now next) (turns_taken m now next) (more next (omega (arith, less, h))))
 
--- the first ones of these turns were taken, and the client has ended then
+-- the first of these inputs were processed, and the client has ended then
 abbrev Ends : List Turn → State → State → Type 0
 Ends all s t = (front : List Turn) × IsFrontOf front all × ((last : State) × TurnsLead front s last × (t ≡ closed last))
 
@@ -69,13 +69,13 @@ turns-end now s t (u, (n, led), broken) = by (find is_ready u.streams) broken
       (broken_at stream.local u, leads-after (turns_taken n now s) s u (broken_at stream.local u) there (broken-differs stream.local u), e),
     )
 
--- with these turns in front
+-- with these inputs first
 ends-append : (first all : List Turn) (s t u : State) → TurnsLead first s u → Ends all u t → Ends (first ++ all) s t
 ends-append first all s t u lead (front, is, (last, more, e)) = (first ++ front, front-append first front all is, (last, leads-append first front s u last lead more, e))
 
 -- ---- a piece of a stream
 
--- the state in which all streams have their turns, if these do
+-- the state in which all streams are processed, if these are
 abbrev EndsFrom : ℕ → State → Option State → Type 0
 EndsFrom now t o = IsSomeAnd o (λ u. EndsAfterTurns now u t)
 
@@ -103,7 +103,7 @@ stream-end : (to : SocketAddr) (stream : Stream) (piece : List ℕ) (now : ℕ) 
 stream-end to stream [] now s t some f end = absurd (some refl)
 stream-end to stream (b ∷ bs) now s t some f end = piece_in_mode to stream.mode stream (b ∷ bs) now s t f end
 
--- ---- what comes in
+-- ---- input
 
 broken-end : (all : List Turn) (to : SocketAddr) (s t : State) → t ≡ closed (broken_at to s) → Ends all s t
 broken-end all to s t e = ([], (all, refl), (broken_at to s, broken-differs to s, e))

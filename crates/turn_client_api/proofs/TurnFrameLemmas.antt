@@ -1,4 +1,4 @@
--- The turn of a stream is one frame.
+-- A step of a stream is one frame.
 use Rattle.std.proofs.Common.{◌≡◌, ℕ, Bool, true, false, cond, List, [], ◌∷◌, map, drop, Option, Some, None, refl, ap, sym, inl, inr}
 use Rattle.std.proofs.lemmas.List.{append-nil, take-append-drop}
 use Rattle.std.specs.declared.net.socket_addr.SocketAddr.{SocketAddr}

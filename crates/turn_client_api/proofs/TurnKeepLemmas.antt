@@ -1,4 +1,4 @@
--- What messages keep, the turns of a call keep, up to each of them.
+-- What messages keep, the inputs of a call keep, up to each of them.
 use Rattle.std.proofs.Common.{List, [], ◌∷◌, Option, Some, None, inl, inr, sym, subst}
 use Rattle.std.specs.List.{Contains}
 use Rattle.turn_client_api.specs.State.{State, Stream}
@@ -21,7 +21,7 @@ module _ (R : State → State → Type 0) (k : IsKept R) where
   differs-kept : (s t : State) → DiffersInStreams s t → R s t
   differs-kept s t differs = subst (R s) (sym differs.others) (k.streams s t.streams)
 
-  -- up to the turn
+  -- up to the input
   lead-kept : (turns : List Turn) (s t : State) → TurnsLead turns s t → (one : Turn) → Has one turns → R s one.before
   lead-kept [] s t lead one none = absurd none
   lead-kept (x ∷ later) s t (first, lead) one (inl e) = subst (λ (y : Turn). R s y.before) (sym e) (differs-kept s x.before first)
@@ -51,6 +51,6 @@ module _ (R : State → State → Type 0) (k : IsKept R) where
   by-call (HavePermission transport to) s one none = absurd none
   by-call ProtocolError s one none = absurd none
 
-  -- the state in which one of the turns of the call begins
+  -- the state in which one of the inputs of the call is processed
   pub before-kept : (call : Call) (s : State) (one : Turn) → Contains (handled call s) one → R s one.before
   before-kept call s one there = by-call call s one (contains-has one (handled call s) there)

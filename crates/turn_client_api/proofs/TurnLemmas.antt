@@ -1,4 +1,4 @@
--- What messages bring about, a call brings about by their turns.
+-- What messages cause, a call causes by processing them.
 use Rattle.std.proofs.Common.{◌≡◌, ◌⊎◌, ℕ, true, List, inl, inr, subst}
 use Rattle.std.specs.declared.net.socket_addr.SocketAddr.{SocketAddr}
 use Rattle.turn_client_api.specs.State.{State, Stream}
@@ -12,8 +12,9 @@ use Rattle.turn_client_api.specs.LawsHandled.{TakesTurns}
 use Rattle.turn_client_api.specs.LawsTurns.{Deed, IsBroughtBy}
 use Rattle.turn_client_api.proofs.TurnBringLemmas.{IsBrought, leaves-bring}
 
--- Of a claim on states and what a message does: streams do not count, and where the claim holds after a
--- message and did not before it, the message did it. The end of a connection, or of the client, brings nothing.
+-- Of a claim on states and what a message does: streams do not count, and if the claim holds after a
+-- message and did not before it, the message did it. The end of a connection, or of the client, causes
+-- nothing.
 pub record IsBringing (P : State → Type 0) (Did : Deed) : Type 0 where
   pub streams : (s : State) (streams : List Stream) → P (record s { streams = streams }) → P s
   pub message : (message : List ℕ) (now : ℕ) (s : State) → is_message message ≡ true → P (message_step message now s).1 → P s ⊎ Did message now s
@@ -22,7 +23,7 @@ pub record IsBringing (P : State → Type 0) (Did : Deed) : Type 0 where
   pub ended : (s : State) → P (closed s) → P s
 
 module _ (P : State → Type 0) (Did : Deed) (k : IsBringing P Did) where
-  -- the turn is that of a whole message, which did it
+  -- the input is a whole message, which did it
   abbrev DidIn : Turn → Type 0
   DidIn one = (is_message one.bytes ≡ true) × Did one.bytes one.moment one.before
 

@@ -14,7 +14,7 @@ use Rattle.turn_agent.specs.Agent.{is_outstanding}
 use Rattle.turn_client_api.specs.Config.{Config}
 use Rattle.turn_client_api.specs.State.{State, initial, Phase, New, Allocated, Purpose, ForAllocation, ForRefresh, ForPermission, ForChannel, ForConnect, ForBind, Listing}
 use Rattle.turn_client_api.specs.Grants.{allocations, is_for_allocation, is_of_request, purposes_of}
-use Rattle.turn_client_api.specs.Requests.{fresh_id, most_taken}
+use Rattle.turn_client_api.specs.Requests.{fresh_id}
 use Rattle.turn_client_api.specs.Effect.{closed}
 use Rattle.turn_client_api.specs.Calls.{free_number}
 use Rattle.turn_client_api.specs.Transmit.{refreshes_in}
@@ -24,7 +24,7 @@ use Rattle.turn_client_api.specs.Handled.{Turn, handled, made_of}
 use Rattle.turn_client_api.specs.declared.poll.Socket5Tuple.{Socket5Tuple}
 use Rattle.turn_client_api.specs.Steps.{Call, EndsWithoutMemory, Leaves, state_after, Delete, CreatePermission, BindChannel, TcpConnect, AllocatedTcpSocket, TcpClosed, SendTo, Recv, PollRecv, Poll, PollTransmit, PollEvent, RelayedAddresses, Permissions, HavePermission, ProtocolError}
 use Rattle.turn_client_api.specs.LawsHandled.{DiffersInStreams, DoesTurns, EndsInTurns, TurnsLead}
-use Rattle.turn_client_api.specs.LawsPurposes.{DrawsFreeIds, HasTwoPurposes}
+use Rattle.turn_client_api.specs.LawsPurposes.{HasTwoPurposes}
 use Rattle.turn_client_api.specs.LawsRequests.{AsksFor, IsListedAgain, IsListedAs, IsListedFor}
 use Rattle.turn_client_api.proofs.Edits.{listing}
 use Rattle.turn_client_api.proofs.HasLemmas.{Has, filter-has, has-filter, has-left, map-has}
@@ -65,27 +65,27 @@ two-stated s h id = let (one, other, all) = h id in (one, other, λ p there. all
 stated-two : (s : State) → HasTwoPurposes s → AllAmongTwo s
 stated-two s h id = let (one, other, all) = h id in (one, other, λ p there. all p (has-contains p (purposes_of id s) (with-purpose id p s there)))
 
--- ---- a request more
+-- ---- one request more
 
 -- the next ID is listed for nothing
-fresh-unlisted : (s : State) → most_taken s < 2 ^ 96 → (p : Purpose) → Has (listing (fresh_id s) p) s.listed → ⊥
-fresh-unlisted s few p there =
-    let free = or_parts (is_outstanding (fresh_id s) s.transactions) _ (fresh-free s few) in
+fresh-unlisted : (s : State) → (p : Purpose) → Has (listing (fresh_id s) p) s.listed → ⊥
+fresh-unlisted s p there =
+    let free = or_parts (is_outstanding (fresh_id s) s.transactions) _ (fresh-free s) in
     let none : list_any (λ (l : Listing). eqb l.id (fresh_id s)) s.listed ≡ false = (or_parts (list_any (λ (l : Listing). eqb l.id (fresh_id s)) s.listed) (list_any (is_of_request (fresh_id s)) s.grants) free.1).0 in
     let some = has-any (λ (l : Listing). eqb l.id (fresh_id s)) (listing (fresh_id s) p) s.listed there (eq-eqb (fresh_id s) (fresh_id s) refl) in
     let no : true ≡ false = sym some ∙ none in
     cc
 
--- what comes is listed under the next ID, for two purposes at most
-two-more : (Came : Purpose → Type 0) (s t : State) → most_taken s < 2 ^ 96 → ((one other : Purpose) × ((p : Purpose) → Came p → (p ≡ one) ⊎ (p ≡ other)))
+-- what is added is listed under the next ID, for two purposes at most
+two-more : (Came : Purpose → Type 0) (s t : State) → ((one other : Purpose) × ((p : Purpose) → Came p → (p ≡ one) ⊎ (p ≡ other)))
     → ((l : Listing) → Has l t.listed → Has l s.listed ⊎ ((l.id ≡ fresh_id s) × Came l.purpose)) → AllAmongTwo s → AllAmongTwo t
-two-more Came s t few new came h id = by (eqb id (fresh_id s)) refl
+two-more Came s t new came h id = by (eqb id (fresh_id s)) refl
   where
     by : (b : Bool) → eqb id (fresh_id s) ≡ b → AmongTwo id t.listed
     by true e = let (one, other, all) = new in (one, other, λ p there. of one other all p (came (listing id p) there))
       where
         of : (one other : Purpose) → ((p : Purpose) → Came p → (p ≡ one) ⊎ (p ≡ other)) → (p : Purpose) → Has (listing id p) s.listed ⊎ ((id ≡ fresh_id s) × Came p) → (p ≡ one) ⊎ (p ≡ other)
-        of one other all p (inl old) = absurd (fresh-unlisted s few p (subst (λ (n : ℕ). Has (listing n p) s.listed) (eqb-true id (fresh_id s) e) old))
+        of one other all p (inl old) = absurd (fresh-unlisted s p (subst (λ (n : ℕ). Has (listing n p) s.listed) (eqb-true id (fresh_id s) e) old))
         of one other all p (inr (is, made)) = all p made
     by false e = let (one, other, all) = h id in (one, other, λ p there. of one other all p (came (listing id p) there))
       where
@@ -93,11 +93,11 @@ two-more Came s t few new came h id = by (eqb id (fresh_id s)) refl
         of one other all p (inl old) = all p old
         of one other all p (inr (is, made)) = let no : false ≡ true = sym e ∙ eq-eqb id (fresh_id s) is in cc
 
--- no more comes
+-- no more is added
 two-less : (s t : State) → ((l : Listing) → Has l t.listed → Has l s.listed) → AllAmongTwo s → AllAmongTwo t
 two-less s t less h id = let (one, other, all) = h id in (one, other, λ p there. all p (less (listing id p) there))
 
--- ---- what a call asks for
+-- ---- what a call requests
 
 -- what is listed with it, too
 partner : Purpose → Purpose
@@ -202,21 +202,21 @@ transmit-two now s = (q, partner q, of)
     of p (purpose, at, (is, inr (there, asks)), listed) =
         named-partner q purpose p (next-refresh s.phase wanted purpose there asks) listed
 
--- the calls that ask for nothing
+-- the calls that request nothing
 none-two : (Came : Purpose → Type 0) → ((p : Purpose) → Came p → ⊥) → OfTwo Came
 none-two Came none = (ForAllocation, ForAllocation, λ p came. absurd (none p came))
 
--- ---- calls that take no turns
+-- ---- calls that process no input
 
-module _ (call : Call) (s : State) (few : most_taken s < 2 ^ 96) where
+module _ (call : Call) (s : State) where
   quiet-two : OfTwo (Lists call s) → ((l : Listing) → Contains (state_after call s).listed l → Contains s.listed l ⊎ (Lists call s l.purpose × (l.id ≡ fresh_id s))) → AllAmongTwo s → AllAmongTwo (state_after call s)
-  quiet-two of_two came = two-more (Lists call s) s (state_after call s) few of_two (λ l there. by l (came l (has-contains l (state_after call s).listed there)))
+  quiet-two of_two came = two-more (Lists call s) s (state_after call s) of_two (λ l there. by l (came l (has-contains l (state_after call s).listed there)))
     where
       by : (l : Listing) → Contains s.listed l ⊎ (Lists call s l.purpose × (l.id ≡ fresh_id s)) → Has l s.listed ⊎ ((l.id ≡ fresh_id s) × Lists call s l.purpose)
       by l (inl old) = inl (contains-has l s.listed old)
       by l (inr (lists, is)) = inr (is, lists)
 
-  -- what is said of each listing that comes
+  -- what holds for each listing that is added
   abbrev IsListingHere : Listing → Type 0
   IsListingHere l = (purpose : Purpose) × (at : ℕ) × AsksFor call s purpose at × IsListedFor purpose l.purpose × IsListedAs purpose at s (state_after call s) l
 
@@ -227,16 +227,16 @@ module _ (call : Call) (s : State) (few : most_taken s < 2 ^ 96) where
       by l (inl old) = inl old
       by l (inr (purpose, at, asks, for, (made, is))) = inr ((purpose, at, asks, for), is)
 
-  -- it asks for nothing
+  -- it requests nothing
   idle-two : ((p : Purpose) → Lists call s p → ⊥) → ((l : Listing) → Contains (state_after call s).listed l → Contains s.listed l ⊎ IsListingHere l) → AllAmongTwo s → AllAmongTwo (state_after call s)
   idle-two none came = here-two (none-two (Lists call s) none) came
 
--- ---- turns
+-- ---- inputs
 
 -- a request is made again for what it was made for
-turn-two : (one : Turn) → most_taken one.before < 2 ^ 96 → AllAmongTwo one.before → AllAmongTwo (made_of one).1
-turn-two one few h =
-    two-more (λ p. Has (listing (id_of one.bytes) p) one.before.listed) one.before (made_of one).1 few (h (id_of one.bytes)) (λ l there. by l ((turn-turns one).1 l there)) h
+turn-two : (one : Turn) → AllAmongTwo one.before → AllAmongTwo (made_of one).1
+turn-two one h =
+    two-more (λ p. Has (listing (id_of one.bytes) p) one.before.listed) one.before (made_of one).1 (h (id_of one.bytes)) (λ l there. by l ((turn-turns one).1 l there)) h
   where
     by : (l : Listing) → Has l one.before.listed ⊎ IsListedAgain one.bytes one.moment one.before (made_of one).1 l → Has l one.before.listed ⊎ ((l.id ≡ fresh_id one.before) × Has (listing (id_of one.bytes) l.purpose) one.before.listed)
     by l (inl old) = inl old
@@ -245,10 +245,10 @@ turn-two one few h =
 differs-two : (s t : State) → DiffersInStreams s t → AllAmongTwo s → AllAmongTwo t
 differs-two s t differs h = subst AllAmongTwo (sym differs.others) h
 
-lead-two : (turns : List Turn) (s t : State) → TurnsLead turns s t → ((one : Turn) → Has one turns → most_taken one.before < 2 ^ 96) → AllAmongTwo s → AllAmongTwo t
-lead-two [] s t lead few h = differs-two s t lead h
-lead-two (one ∷ later) s t (first, lead) few h =
-    lead-two later (made_of one).1 t lead (λ x there. few x (inr there)) (turn-two one (few one (inl refl)) (differs-two s one.before first h))
+lead-two : (turns : List Turn) (s t : State) → TurnsLead turns s t → AllAmongTwo s → AllAmongTwo t
+lead-two [] s t lead h = differs-two s t lead h
+lead-two (one ∷ later) s t (first, lead) h =
+    lead-two later (made_of one).1 t lead (turn-two one (differs-two s one.before first h))
 
 closed-two : (s : State) → AllAmongTwo s → AllAmongTwo (closed s)
 closed-two s = two-less s (closed s) (λ l there. (has-filter (λ (l : Listing). not (is_for_allocation l.purpose)) l s.listed there).0)
@@ -260,61 +260,60 @@ gone-two local s = two-less s (without_stream local (connection_gone local s)) (
     old l (inl there) = there
     old l (inr none) = absurd none
 
-module _ (call : Call) (s : State) (free : DrawsFreeIds call s) where
+module _ (call : Call) (s : State) where
   turns-two : DoesTurns call s → AllAmongTwo s → AllAmongTwo (state_after call s)
-  turns-two (inl lead) h = lead-two (handled call s) s (state_after call s) lead (λ one there. free.turns one (has-contains one (handled call s) there)) h
+  turns-two (inl lead) h = lead-two (handled call s) s (state_after call s) lead h
   turns-two (inr end) h = subst AllAmongTwo (sym end.gone) (gone-two end.local s h)
 
   ends-two : (t : State) → EndsInTurns call s t → AllAmongTwo s → AllAmongTwo t
   ends-two t end h =
-      let among = λ (one : Turn) (there : Has one end.front). free.turns one (has-contains one (handled call s) (subst (Has one) (sym end.all) (has-left one end.front end.later there))) in
-      subst AllAmongTwo (sym end.ended) (closed-two end.last (lead-two end.front s end.last end.lead among h))
+      subst AllAmongTwo (sym end.ended) (closed-two end.last (lead-two end.front s end.last end.lead h))
 
 -- ---- all calls
 
-call-two : (call : Call) (s : State) → DrawsFreeIds call s → AllAmongTwo s → AllAmongTwo (state_after call s)
-call-two (Recv packet now) s free h = turns-two (Recv packet now) s free (calls-do (Recv packet now) s tt) h
-call-two (PollRecv now) s free h = turns-two (PollRecv now) s free (calls-do (PollRecv now) s tt) h
-call-two (Delete now) s free h = here-two (Delete now) s free.first (delete-two now s) (λ l. listings-made (Delete now) s (state_after (Delete now) s) l (inl refl)) h
-call-two (CreatePermission transport ip now) s free h = here-two (CreatePermission transport ip now) s free.first (permission-two transport ip now s) (λ l. listings-made (CreatePermission transport ip now) s (state_after (CreatePermission transport ip now) s) l (inl refl)) h
-call-two (BindChannel transport peer now) s free h = here-two (BindChannel transport peer now) s free.first (channel-two transport peer now s) (λ l. listings-made (BindChannel transport peer now) s (state_after (BindChannel transport peer now) s) l (inl refl)) h
-call-two (TcpConnect peer now) s free h = here-two (TcpConnect peer now) s free.first (connect-two peer now s) (λ l. listings-made (TcpConnect peer now) s (state_after (TcpConnect peer now) s) l (inl refl)) h
-call-two (AllocatedTcpSocket id tuple peer local now) s free h = here-two (AllocatedTcpSocket id tuple peer local now) s free.first (socket-two id tuple peer local now s) (λ l. listings-made (AllocatedTcpSocket id tuple peer local now) s (state_after (AllocatedTcpSocket id tuple peer local now) s) l (inl refl)) h
-call-two (PollTransmit now) s free h = here-two (PollTransmit now) s free.first (transmit-two now s) (λ l. listings-made (PollTransmit now) s (state_after (PollTransmit now) s) l (inl refl)) h
-call-two (TcpClosed local remote now) s free h = idle-two (TcpClosed local remote now) s free.first (λ p lists. lists.2) (λ l. listings-made (TcpClosed local remote now) s (state_after (TcpClosed local remote now) s) l (inl refl)) h
-call-two (SendTo transport peer bytes now) s free h = idle-two (SendTo transport peer bytes now) s free.first (λ p lists. lists.2) (λ l. listings-made (SendTo transport peer bytes now) s (state_after (SendTo transport peer bytes now) s) l (inl refl)) h
-call-two (Poll now) s free h = idle-two (Poll now) s free.first (λ p lists. lists.2) (λ l. listings-made (Poll now) s (state_after (Poll now) s) l (inl refl)) h
-call-two PollEvent s free h = idle-two PollEvent s free.first (λ p lists. lists.2) (λ l. listings-made PollEvent s (state_after PollEvent s) l (inl refl)) h
-call-two RelayedAddresses s free h = h
-call-two (Permissions transport relayed) s free h = h
-call-two (HavePermission transport to) s free h = h
-call-two ProtocolError s free h = idle-two ProtocolError s free.first (λ p lists. lists.2) (λ l. listings-made ProtocolError s (state_after ProtocolError s) l (inl refl)) h
+call-two : (call : Call) (s : State) → AllAmongTwo s → AllAmongTwo (state_after call s)
+call-two (Recv packet now) s h = turns-two (Recv packet now) s (calls-do (Recv packet now) s tt) h
+call-two (PollRecv now) s h = turns-two (PollRecv now) s (calls-do (PollRecv now) s tt) h
+call-two (Delete now) s h = here-two (Delete now) s (delete-two now s) (λ l. listings-made (Delete now) s (state_after (Delete now) s) l (inl refl)) h
+call-two (CreatePermission transport ip now) s h = here-two (CreatePermission transport ip now) s (permission-two transport ip now s) (λ l. listings-made (CreatePermission transport ip now) s (state_after (CreatePermission transport ip now) s) l (inl refl)) h
+call-two (BindChannel transport peer now) s h = here-two (BindChannel transport peer now) s (channel-two transport peer now s) (λ l. listings-made (BindChannel transport peer now) s (state_after (BindChannel transport peer now) s) l (inl refl)) h
+call-two (TcpConnect peer now) s h = here-two (TcpConnect peer now) s (connect-two peer now s) (λ l. listings-made (TcpConnect peer now) s (state_after (TcpConnect peer now) s) l (inl refl)) h
+call-two (AllocatedTcpSocket id tuple peer local now) s h = here-two (AllocatedTcpSocket id tuple peer local now) s (socket-two id tuple peer local now s) (λ l. listings-made (AllocatedTcpSocket id tuple peer local now) s (state_after (AllocatedTcpSocket id tuple peer local now) s) l (inl refl)) h
+call-two (PollTransmit now) s h = here-two (PollTransmit now) s (transmit-two now s) (λ l. listings-made (PollTransmit now) s (state_after (PollTransmit now) s) l (inl refl)) h
+call-two (TcpClosed local remote now) s h = idle-two (TcpClosed local remote now) s (λ p lists. lists.2) (λ l. listings-made (TcpClosed local remote now) s (state_after (TcpClosed local remote now) s) l (inl refl)) h
+call-two (SendTo transport peer bytes now) s h = idle-two (SendTo transport peer bytes now) s (λ p lists. lists.2) (λ l. listings-made (SendTo transport peer bytes now) s (state_after (SendTo transport peer bytes now) s) l (inl refl)) h
+call-two (Poll now) s h = idle-two (Poll now) s (λ p lists. lists.2) (λ l. listings-made (Poll now) s (state_after (Poll now) s) l (inl refl)) h
+call-two PollEvent s h = idle-two PollEvent s (λ p lists. lists.2) (λ l. listings-made PollEvent s (state_after PollEvent s) l (inl refl)) h
+call-two RelayedAddresses s h = h
+call-two (Permissions transport relayed) s h = h
+call-two (HavePermission transport to) s h = h
+call-two ProtocolError s h = idle-two ProtocolError s (λ p lists. lists.2) (λ l. listings-made ProtocolError s (state_after ProtocolError s) l (inl refl)) h
 
--- it finds no memory
-none-ends : (call : Call) (s t : State) → DrawsFreeIds call s → EndsWithoutMemory call s t → AllAmongTwo s → AllAmongTwo t
-none-ends (Recv packet now) s t free end h = ends-two (Recv packet now) s free t (calls-end (Recv packet now) s t tt end) h
-none-ends (PollRecv now) s t free end h = ends-two (PollRecv now) s free t (calls-end (PollRecv now) s t tt end) h
-none-ends (Delete now) s t free e h = subst AllAmongTwo (sym e) h
-none-ends (CreatePermission transport ip now) s t free e h = subst AllAmongTwo (sym e) h
-none-ends (BindChannel transport peer now) s t free e h = subst AllAmongTwo (sym e) h
-none-ends (TcpConnect peer now) s t free e h = subst AllAmongTwo (sym e) h
-none-ends (AllocatedTcpSocket id tuple peer local now) s t free e h = subst AllAmongTwo (sym e) h
-none-ends (TcpClosed local remote now) s t free e h = subst AllAmongTwo (sym e) h
-none-ends (SendTo transport peer bytes now) s t free none h = absurd none
-none-ends (Poll now) s t free e h = subst AllAmongTwo (sym e) (closed-two s h)
-none-ends (PollTransmit now) s t free e h = subst AllAmongTwo (sym e) (closed-two s h)
-none-ends PollEvent s t free none h = absurd none
-none-ends RelayedAddresses s t free none h = absurd none
-none-ends (Permissions transport relayed) s t free none h = absurd none
-none-ends (HavePermission transport to) s t free none h = absurd none
-none-ends ProtocolError s t free e h = subst AllAmongTwo (sym e) (closed-two s h)
+-- memory allocation fails
+none-ends : (call : Call) (s t : State) → EndsWithoutMemory call s t → AllAmongTwo s → AllAmongTwo t
+none-ends (Recv packet now) s t end h = ends-two (Recv packet now) s t (calls-end (Recv packet now) s t tt end) h
+none-ends (PollRecv now) s t end h = ends-two (PollRecv now) s t (calls-end (PollRecv now) s t tt end) h
+none-ends (Delete now) s t e h = subst AllAmongTwo (sym e) h
+none-ends (CreatePermission transport ip now) s t e h = subst AllAmongTwo (sym e) h
+none-ends (BindChannel transport peer now) s t e h = subst AllAmongTwo (sym e) h
+none-ends (TcpConnect peer now) s t e h = subst AllAmongTwo (sym e) h
+none-ends (AllocatedTcpSocket id tuple peer local now) s t e h = subst AllAmongTwo (sym e) h
+none-ends (TcpClosed local remote now) s t e h = subst AllAmongTwo (sym e) h
+none-ends (SendTo transport peer bytes now) s t none h = absurd none
+none-ends (Poll now) s t e h = subst AllAmongTwo (sym e) (closed-two s h)
+none-ends (PollTransmit now) s t e h = subst AllAmongTwo (sym e) (closed-two s h)
+none-ends PollEvent s t none h = absurd none
+none-ends RelayedAddresses s t none h = absurd none
+none-ends (Permissions transport relayed) s t none h = absurd none
+none-ends (HavePermission transport to) s t none h = absurd none
+none-ends ProtocolError s t e h = subst AllAmongTwo (sym e) (closed-two s h)
 
 pub initial-HasTwoPurposes : (transport : TransportType) (local remote : SocketAddr) (config : Config) (seed : List ℕ) → HasTwoPurposes (initial transport local remote config seed)
 initial-HasTwoPurposes transport local remote config seed = two-stated (initial transport local remote config seed) (λ id. (ForAllocation, ForAllocation, λ p none. absurd none))
 
-pub leaves-two : (call : Call) (s t : State) → Leaves call s t → DrawsFreeIds call s → HasTwoPurposes s → HasTwoPurposes t
-leaves-two call s t leaves free h = two-stated t (by leaves)
+pub leaves-two : (call : Call) (s t : State) → Leaves call s t → HasTwoPurposes s → HasTwoPurposes t
+leaves-two call s t leaves h = two-stated t (by leaves)
   where
     by : Leaves call s t → AllAmongTwo t
-    by (inl e) = subst AllAmongTwo (sym e) (call-two call s free (stated-two s h))
-    by (inr end) = none-ends call s t free end (stated-two s h)
+    by (inl e) = subst AllAmongTwo (sym e) (call-two call s (stated-two s h))
+    by (inr end) = none-ends call s t end (stated-two s h)

@@ -12,7 +12,7 @@ use Rattle.turn_client_api.specs.LawsWakeup.{IsLeast}
 use Rattle.turn_client_api.specs.declared.event.TurnEvent.{TurnEvent}
 use Rattle.turn_client_api.proofs.PeerLemmas.{Contains-here, Contains-later}
 
--- the least of some moments and one more
+-- the earliest of some times and one more
 pub record IsFolded (first least : ℕ) (moments : List ℕ) : Type 0 where
   pub below : least ≤ first
   pub below_all : All (λ other. least ≤ other) moments
@@ -60,7 +60,7 @@ from_first greatest first moments h = rw e (by (fold-IsFolded first moments))
     by : IsFolded first (fold min first moments) moments → IsLeast (fold min first moments) (first ∷ moments)
     by f = record { one = which f.one; least = All-cons (λ other. fold min first moments ≤ other) first moments f.below f.below_all }
 
--- the longest sleep ends at the greatest moment at most, so the least is one of the moments
+-- the longest wait ends at the greatest `Instant` at most, so the minimum is one of the times
 pub due-IsLeast : (now : ℕ) (s : State) → IsLeast (least_due now s) (due_moments now s)
 due-IsLeast now s = from_first greatest_moment (later_by longest_sleep now) _ (min-le_right (now + longest_sleep) greatest_moment)
 
@@ -98,7 +98,7 @@ wakeup-reply given now s h = wakeup-when _ now _ (third_of (is_new s.phase) (has
 pub wakeup-given_up : (now : ℕ) (s : State) → next_wakeup true now s ≡ now
 wakeup-given_up now s = wakeup-when _ now _ (fourth_of (is_new s.phase) (has_event s) (has_reply s))
 
--- ---- where nothing waits
+-- ---- if nothing is pending
 
 waits_not : (events : List TurnEvent) → events ≡ [] → ltb 0 (length events) ≡ false
 waits_not [] e = refl

@@ -1,4 +1,4 @@
--- The told moment, part by part.
+-- The returned time, part by part.
 use Rattle.std.proofs.Common.{◌≡◌, ℕ, ◌+◌, ◌≤◌, max, min, Bool, true, false, cond, List, [], ◌∷◌, ◌++◌, map, filter_map, flat_map, fold, Option, Some, None, refl, sym, ap, ◌∙◌, arith}
 use Rattle.std.specs.Prelude.{option_to_list}
 use Rattle.std.specs.Option.{option_map_or}
@@ -36,7 +36,7 @@ pause-within s = by s.last_send
 joined : (p a b e r : ℕ) → min (min a (max p b)) (min e (max p r)) ≡ min (min a e) (max p (min b r))
 joined p a b e r = omega arith
 
--- the least ends and refreshes of one and of the others
+-- the earliest expiries and refreshes of one and of the others
 combined : (p a b e r whole front later ends refreshes : ℕ) → whole ≡ min front later → front ≡ min a (max p b) → later ≡ min e (max p r) → ends ≡ min a e → refreshes ≡ min b r → whole ≡ min ends (max p refreshes)
 combined p a b e r whole front later ends refreshes h f l he hr =
     h
@@ -63,7 +63,7 @@ module _ (now : ℕ) (s : State) (greatest : ℕ) (within : pause_end s ≤ grea
   abbrev refreshes : List Grant → ℕ
   refreshes gs = fold min greatest (filter_map (refresh_time s) gs)
 
-  -- what falls due by one grant
+  -- what is due by one grant
   abbrev by_grant : Grant → List ℕ
   by_grant g = end_of now g ++ refresh_of s g
 

@@ -1,4 +1,4 @@
--- What the iterators over addresses give.
+-- What the iterators over addresses return.
 use Rattle.std.specs.Prelude.{List, not, filter, filter_map, map}
 use Rattle.std.specs.declared.net.ip_addr.IpAddr.{IpAddr}
 use Rattle.std.specs.declared.net.socket_addr.SocketAddr.{SocketAddr}
@@ -19,10 +19,10 @@ relayed_in_use transport grants =
 abbrev pub permitted_in_use : AddressFamily → List Grant → List IpAddr
 permitted_in_use family grants = filter_map (permitted_in family) grants
 
--- the relayed addresses that an iterator has ahead
+-- the relayed addresses that an iterator has yet to return
 abbrev pub relayed_left : RelayedAddressesIter → List (TransportType × SocketAddr)
 relayed_left i = relayed_in_use i.transport i.grants.now
 
--- the permitted addresses that an iterator has ahead
+-- the permitted addresses that an iterator has yet to return
 abbrev pub permitted_left : PermissionAddressesIter → List IpAddr
 permitted_left i = permitted_in_use i.family i.grants.now

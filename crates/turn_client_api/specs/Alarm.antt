@@ -1,4 +1,4 @@
--- What the moment means that `poll` tells.
+-- What the time means that `poll` returns.
 use Rattle.std.specs.Prelude.{◌≡◌, ◌≢◌, ◌⊎◌, ℕ, ◌<◌, ◌≤◌, true, false, [], All, is_some, None, IsSome, IfSome, ⊤}
 use Rattle.turn_agent.specs.Agent.{given_up, is_outstanding}
 use Rattle.turn_agent.specs.declared.transaction.Transaction.{Transaction}
@@ -10,7 +10,7 @@ use Rattle.turn_client_api.specs.Transmit.{next_transmit, transmit_step}
 use Rattle.turn_client_api.specs.declared.poll.TurnPollRet.{TurnPollRet}
 use Rattle.turn_client_api.specs.declared.poll.TurnPollRet.TheVariants.{WaitUntil, AllocateTcpSocket, TcpClose, Closed as Ended}
 
--- the grant does not end before this moment; an expired allocation has ended already
+-- the grant does not expire before this time; an expired allocation has done so already
 abbrev pub Lasts : ℕ → Grant → Type 0
 Lasts moment (Allocation a) = a.is_expired ≡ false → moment ≤ a.expiry
 Lasts moment (Permission ip (Active expiry)) = moment ≤ expiry
@@ -18,8 +18,8 @@ Lasts moment (Channel number peer (Active expiry)) = moment ≤ expiry
 Lasts moment (Connection c) = IfSome c.deadline (λ deadline. moment ≤ deadline)
 Lasts moment _ = ⊤
 
--- Nothing is to be done from now on before that moment: no packet is to be sent, and to ask for one
--- changes nothing, no transaction ends, nothing waits, and no grant ends.
+-- Nothing is due from now on before that time: no packet is due, and `poll_transmit` changes nothing, no
+-- transaction ends, no event, offer or close is pending, and no grant expires.
 pub record IsSilent (now moment : ℕ) (s : State) : Type 0 where
   pub sends_nothing : (t : ℕ) → now ≤ t → t < moment → transmit_step t s ≡ (None, s)
   pub ends_nothing : (t : ℕ) → now ≤ t → t < moment → given_up (agent_of s) t ≡ None
@@ -28,37 +28,38 @@ pub record IsSilent (now moment : ℕ) (s : State) : Type 0 where
   pub no_close : s.closes ≡ []
   pub grants_last : All (Lasts moment) s.grants
 
--- There is something to do now: an event waits, or a packet is to be sent, or the call before, which
--- found the client as it was, gave up a transaction.
+-- Something is due now: an event is pending, or a packet is due, or the call before, whose state is the
+-- first, timed a transaction out.
 abbrev pub IsBusy : ℕ → State → State → Type 0
 IsBusy now was s =
     (s.events ≢ []) ⊎ (IsSome (next_transmit now s)
     ⊎ ((t : Transaction) × (is_outstanding t.id was.transactions ≡ true) × (is_outstanding t.id s.transactions ≡ false)))
 
--- a caller that sleeps until the moment that it is told sleeps through nothing, and one that does what
--- is due does not call in vain
+-- a caller that sleeps until the returned time misses no deadline, and one that does what is due does not
+-- call for nothing
 abbrev pub IsTimely : TurnPollRet → ℕ → State → State → Type 0
 IsTimely (WaitUntil moment) now was s = (now < moment → IsSilent now moment s) × (moment ≤ now → IsBusy now was s)
 IsTimely (AllocateTcpSocket id socket peer) now was s = ⊤
 IsTimely (TcpClose local remote) now was s = ⊤
 IsTimely Ended now was s = ⊤
 
--- ---- what that rests on
+-- ---- the premises
 
 abbrev pub IsBeforeGrants : Phase → Type 0
 IsBeforeGrants Requesting = ⊤
 IsBeforeGrants Authenticating = ⊤
 IsBeforeGrants _ = ⊥
 
--- each grant stands in an allocation, as it was made for one
+-- each grant has an allocation, for which it was made
 abbrev pub StandsIn : State → Grant → Type 0
 StandsIn s g = is_some (allocation_of (family_of_grant g) s) ≡ true
 
 abbrev pub AllStandIn : State → Type 0
 AllStandIn s = All (StandsIn s) s.grants
 
--- What every client keeps. The pause begins with the first packet: in `New` none was sent, and later a
--- request is queued only behind one that was sent. No grant is there before the server allocated.
+-- What holds for every client that `poll` is called on. The pause begins with the first packet: in `New`
+-- none was sent, and later a request is queued only after one was sent. No grant exists before the server
+-- allocated.
 pub record IsOrderly (s : State) : Type 0 where
   pub nothing_sent : s.phase ≡ New → s.last_send ≡ None
   pub sent_before : s.phase ≢ New → has_queued_request s ≡ true → IsSome s.last_send

@@ -1,4 +1,4 @@
--- What the answers of a client say of a step of the machine.
+-- What the results of a client say of a step of the machine.
 use Rattle.std.specs.Prelude.{◌≡◌, ◌≢◌, ◌⊎◌, ℕ, ◌==◌, Bool, true, false, not, ◌&&◌, ◌||◌, List, [], find, nat_lt, length, drop, slice_get, option_and_then, Option, Some, None, Result, Ok, Err, IsSomeAnd, if◌then◌else◌, ⊤}
 use Rattle.std.specs.declared.convert.AsSlice.{Ghosts}
 use Rattle.std.specs.declared.ops.Range.{Range}
@@ -20,6 +20,7 @@ use Rattle.turn_client_api.specs.Judgement.{class_in, method_in}
 use Rattle.turn_client_api.specs.Effect.{closed}
 use Rattle.turn_client_api.specs.Payloads.{Payload, Outcome, is_channel_frame, is_message}
 use Rattle.turn_client_api.specs.Payloads as O
+use Rattle.turn_client_api.specs.Memory.{is_free_frame, packet_takes_memory}
 use Rattle.turn_client_api.specs.Streams.{broken_at, is_bound, is_ready, stream_at, turns_until_payload}
 use Rattle.turn_client_api.specs.Receive.{first_turn, is_from_server}
 use Rattle.turn_client_api.specs.declared.receive.DataRangeOrOwned.{DataRangeOrOwned}
@@ -36,13 +37,14 @@ use Rattle.turn_client_api.specs.declared.error.CreatePermissionError.TheVariant
 use Rattle.turn_client_api.specs.declared.error.DeleteError.{DeleteError}
 use Rattle.turn_client_api.specs.declared.error.DeleteError.TheVariants as Delete
 use Rattle.turn_client_api.specs.declared.error.SendError.{SendError}
+use Rattle.turn_client_api.specs.declared.error.SendError.TheVariants as Send
 use Rattle.turn_client_api.specs.declared.error.TcpAllocateError.{TcpAllocateError}
 use Rattle.turn_client_api.specs.declared.error.TcpAllocateError.TheVariants as Socket
 use Rattle.turn_client_api.specs.declared.error.TcpConnectError.{TcpConnectError}
 use Rattle.turn_client_api.specs.declared.error.TcpConnectError.TheVariants as Join
 
--- ---- calls that may be refused: memory is asked for only by a call that would be done otherwise, and
--- nothing changes where there is none
+-- ---- calls that may be refused: memory is allocated only by a call that would succeed otherwise, and
+-- nothing changes if that fails
 
 abbrev pub CreatesPermission : Result Unit CreatePermissionError → State → State → Result Unit CreatePermissionError × State → Type 0
 CreatesPermission (Err Create.OutOfMemory) was s said = (said.0 ≡ Ok tt) × (s ≡ was)
@@ -78,9 +80,15 @@ IsSent (Ok (Some packet)) said =
 IsSent (Ok None) said = ⊥
 IsSent (Err refusal) said = said ≡ Err refusal
 
--- ---- what came in
+-- no packet to the peer can be made: it has no permission, or no data connection is bound to it
+abbrev pub IsNoWay : SendError → Type 0
+IsNoWay Send.NoPermission = ⊤
+IsNoWay Send.NoTcpSocket = ⊤
+IsNoWay _ = ⊥
 
--- where the bytes stand in what the caller handed in, unless they are owned
+-- ---- received bytes
+
+-- the range of the bytes in what the caller passed in, unless they are owned
 abbrev pub place_in : {T : Type 0} {g : Ghosts T ℕ} → DataRangeOrOwned T g → Option (Range ℕ)
 place_in (Data.Range range) = Some (place_of range)
 place_in (Data.Owned bytes) = None
@@ -95,31 +103,31 @@ outcome_of (Recv.PeerData p) = O.PeerData (given_payload p)
 outcome_of (Recv.PeerIcmp transport peer icmp_type icmp_code icmp_data) =
     O.PeerIcmp transport peer (record { icmp_type = icmp_type; code = icmp_code; «data» = icmp_data })
 
--- bytes that are not owned are a part of what the caller handed in
+-- bytes that are not owned are a range of what the caller passed in
 abbrev pub IsPartOf : {T : Type 0} {g : Ghosts T ℕ} → T → DataRangeOrOwned T g → Type 0
 IsPartOf handed (Data.Range range) = source_of range ≡ handed
 IsPartOf handed (Data.Owned bytes) = ⊤
 
--- what is not for the client is handed back whole
+-- input that is not for the client is returned whole
 abbrev pub HandsBack : {T : Type 0} {g : Ghosts T ℕ} → Transmit T → TurnRecvRet T g → Type 0
 HandsBack transmit Recv.Handled = ⊤
 HandsBack transmit (Recv.Ignored back) = back ≡ transmit
 HandsBack transmit (Recv.PeerData p) = IsPartOf transmit.payload (held_in p)
 HandsBack transmit (Recv.PeerIcmp transport peer icmp_type icmp_code icmp_data) = ⊤
 
--- ---- want of memory
+-- ---- allocation failure
 
--- so many turns without a payload lead from one state to the other
+-- so many steps without a payload lead from one state to the other
 abbrev pub LeadsTo : ℕ → State → State → Type 0
 LeadsTo now before s = (n : ℕ) × (turns_until_payload n now before ≡ (None, s))
 
--- After some turns without a payload there was no memory for the next one: its stream is broken, and the
--- client has ended, with what these turns left. Where no stream is ready, nothing asks for memory.
+-- After some steps without a payload a memory allocation for the next one failed: its stream is broken, and
+-- the client has ended, in the state that these steps left. If no stream is ready, no memory is allocated.
 abbrev pub EndsAfterTurns : ℕ → State → State → Type 0
 EndsAfterTurns now before s =
     (t : State) × LeadsTo now before t × IsSomeAnd (find is_ready t.streams) (λ stream. s ≡ closed (broken_at stream.local t))
 
--- the state in which all streams have their turns, where a piece of the control stream sets them going
+-- the state in which all streams are processed, if a piece of the control stream makes them ready
 abbrev pub before_others : SocketAddr → List ℕ → ℕ → State → Option State
 before_others to piece now s = option_and_then (λ stream. by stream stream.mode) (stream_at to s)
   where
@@ -133,15 +141,15 @@ before_others to piece now s = option_and_then (λ stream. by stream stream.mode
     by stream Broken = if same_address stream.local s.local then Some s else None
     by stream _ = None
 
--- There was none for what came or for its first frame, or over TCP for what other streams hold. An empty
--- piece sets no stream going: there was none for the close that it notes.
+-- A memory allocation failed for the input or for its first frame, or over TCP for what other streams hold.
+-- An empty piece makes no stream ready: the allocation failed for the close that it queues.
 abbrev pub RecvEnds : SocketAddr → List ℕ → ℕ → State → State → Type 0
 RecvEnds to piece now was s =
     (s ≡ closed (broken_at to was))
     ⊎ ((was.transport ≡ Tcp) × (piece ≢ []) × IsSomeAnd (before_others to piece now was) (λ t. EndsAfterTurns now t s))
 
--- DATA indications and channel frames take no memory over UDP, nor bytes of a bound connection where
--- nothing waits in its stream; that such a connection has ended is noted, which may take some
+-- DATA indications and ChannelData messages allocate no memory over UDP, nor do bytes of a bound connection
+-- whose stream is empty; to record that such a connection has ended may allocate some
 abbrev pub is_data_indication : List ℕ → Bool
 is_data_indication bytes = by (class_in bytes)
   where
@@ -155,10 +163,13 @@ datagram_takes_none bytes = if is_message bytes then is_data_indication bytes el
 abbrev pub is_free_piece : List ℕ → Stream → Bool
 is_free_piece piece stream = is_bound stream.mode && nat_lt 0 (length piece) && not (nat_lt 0 (length stream.bytes))
 
--- nor does what is not for the client
+abbrev pub stream_takes_none : List ℕ → State → Stream → Bool
+stream_takes_none piece s stream = is_free_piece piece stream || is_free_frame piece s stream
+
+-- nor does input that is not for the client, or that requests nothing of it
 abbrev pub takes_no_memory : TransportType → SocketAddr → SocketAddr → List ℕ → State → Bool
 takes_no_memory transport from to bytes s = not (is_from_server transport from s) || by s.transport
   where
     by : TransportType → Bool
-    by Udp = not (same_address to s.local) || datagram_takes_none bytes
-    by Tcp = option_map_or (is_free_piece bytes) (stream_at to s) true
+    by Udp = not (same_address to s.local) || not (packet_takes_memory bytes s)
+    by Tcp = option_map_or (stream_takes_none bytes s) (stream_at to s) true

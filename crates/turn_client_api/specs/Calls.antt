@@ -1,4 +1,4 @@
--- What a caller asks of a client (RFC 8656, sections 8 to 12, and RFC 6062, sections 4.3 and 4.4).
+-- What a caller requests of a client (RFC 8656, sections 8 to 12, and RFC 6062, sections 4.3 and 4.4).
 use Rattle.std.specs.Prelude.{ℕ, ◌==◌, nat_le, Bool, true, false, not, ◌&&◌, ◌||◌, if◌then◌else◌, List, [], ◌∷◌, ◌++◌, map, filter, find, filter_map, codes, Option, Some, None, Result, Ok, Err, is_some, is_none, option_map, slice_get}
 use Rattle.std.specs.List.{list_any, range_with_len}
 use Rattle.std.specs.Net.Socket.{socket_ip}
@@ -43,7 +43,7 @@ abbrev pub is_closed : Phase → Bool
 is_closed Closed = true
 is_closed _ = false
 
--- ---- what can be read off a client
+-- ---- what can be read from a client
 
 -- the allocations that are not expired, in the order in which the server granted them
 abbrev pub allocations_in_use : State → List Relay
@@ -73,8 +73,8 @@ has_permission transport ip s =
 
 -- ---- an allocation that can be used now
 
--- A call for a peer needs an allocation that relays to it over this transport. One that is past its end
--- is expired from now on, and that is all that such a refused call changes.
+-- A call for a peer needs an allocation that relays to it over this transport. One whose expiry has passed
+-- is marked as expired, and that is all that such a refused call changes.
 abbrev pub in_allocation : {E : Type 0} → Option Relay → IpAddr → ℕ → E → State → Result Unit E × State → Result Unit E × State
 in_allocation (Some a) ip now refusal s otherwise =
     if is_past now a then (Err refusal, with_expired (family_of_ip ip) s) else otherwise
@@ -107,7 +107,7 @@ abbrev pub is_in_progress : Progress → Bool
 is_in_progress (Reserved until) = false
 is_in_progress _ = true
 
--- up to when the peer may not be bound again
+-- until when the peer may not be bound again
 abbrev pub reserved_from : ℕ → Progress → Option ℕ
 reserved_from now (Reserved until) = if nat_le now until then Some until else None
 reserved_from now _ = None
@@ -123,7 +123,7 @@ channel_numbers = range_with_len 0x4000 0x1000
 abbrev pub free_number : State → Option ℕ
 free_number s = find (λ number. not (is_number_taken number s)) channel_numbers
 
--- a binding brings a permission with it where none is there or asked for (RFC 8656, section 12.1)
+-- a binding requests a permission too if none is active or pending (RFC 8656, section 12.1)
 abbrev pub missing_permission : SocketAddr → State → List IpAddr
 missing_permission peer s = if is_none (permission_for (socket_ip peer) s) then socket_ip peer ∷ [] else []
 
@@ -138,7 +138,7 @@ bind_channel number peer now s =
     ∷ []
     ) s
 
--- by the moments up to which the peer is reserved, by whether the server allocated an address, and by the
+-- by the times until which the peer is reserved, by whether the server allocated an address, and by the
 -- number that is free
 abbrev pub bound_by : SocketAddr → ℕ → State → List ℕ → Bool → Option ℕ → Result Unit BindChannelError × State
 bound_by peer now s (until ∷ others) _ _ = (Err (Bind.ExpiredChannelExists until), s)
@@ -168,16 +168,16 @@ abbrev pub tcp_connect_step : SocketAddr → ℕ → State → Result Unit TcpCo
 tcp_connect_step peer now s =
     in_allocation (allocation_for Tcp (socket_ip peer) s) (socket_ip peer) now Join.NoAllocation s (connect_step peer now s)
 
--- the offer of this number and this peer
+-- the offer of this connection ID and this peer
 abbrev pub is_offer_of : ℕ → SocketAddr → Grant → Bool
 is_offer_of id peer grant =
     option_map_or (λ offer. (offer.connection_id == id) && same_address offer.peer peer) (offer_in grant) false
 
--- why the client asked for the connection, if it did
+-- the origin of the offer, if there is one
 abbrev pub offer_origin : ℕ → SocketAddr → State → Option Origin
 offer_origin id peer s = option_map (λ offer. offer.origin) (slice_get (filter_map offer_in (filter (is_offer_of id peer) s.grants)) 0)
 
--- the first of these grants is no longer there
+-- the first of these grants is removed
 abbrev pub without_first : (Grant → Bool) → List Grant → List Grant
 without_first which [] = []
 without_first which (g ∷ others) = if which g then others else g ∷ without_first which others
@@ -190,7 +190,7 @@ abbrev pub answered_with : (ℕ → List ℕ) → Origin → State → State
 answered_with reply (ServerRequest request) s = replied (reply request) s
 answered_with reply _ s = s
 
--- a data connection has its own stream, behind all others, in place of any from the same local end
+-- a data connection has its own stream, after all others, in place of any from the same local address
 abbrev pub with_stream : SocketAddr → State → State
 with_stream local s = record s {
   streams = (without_stream local s).streams ++ record { local = local; mode = Waiting; bytes = [] } ∷ [];
@@ -207,7 +207,7 @@ socket_opened id peer local origin now s = in_turn (
     ∷ []
     ) s
 
--- it could not
+-- it could not be opened
 abbrev pub socket_refused : ℕ → SocketAddr → Origin → State → State
 socket_refused id peer origin s =
     answered_with (refused_reply connection_timed_out (codes "Connection Timeout or Failure") s) origin (offer_taken id peer s)
@@ -238,14 +238,14 @@ is_granted_in (Permission ip (Active expiry)) = true
 is_granted_in (Channel number peer (Active expiry)) = true
 is_granted_in _ = false
 
--- the allocations are used no more, and end now
+-- the allocations are used no more, and expire now
 abbrev pub all_expired : ℕ → State → State
 all_expired now s = with_allocations (λ a. true) (λ a. record a { expiry = now; is_expired = true }) s
 
 abbrev pub delete_text : State → List ℕ
 delete_text s = signed s (message_of refresh_method Request (lifetime_attribute 0 ∷ []) (fresh_id s))
 
--- one REFRESH gives all allocations back; what is pending stays, and may still be granted
+-- one REFRESH deletes all allocations; what is pending stays, and may still be granted
 abbrev pub deleted : ℕ → State → State
 deleted now s = in_turn (
     without is_granted_in
@@ -258,13 +258,13 @@ deleted now s = in_turn (
 abbrev pub delete_step : ℕ → State → Result Unit DeleteError × State
 delete_step now s = if is_allocated s.phase then (Ok tt, deleted now s) else (Err Delete.NoAllocation, s)
 
--- what the client still asks for fails, and it ends
+-- each address family that is still requested fails, and the client ends
 abbrev pub protocol_error_step : State → State
 protocol_error_step s = if is_closed s.phase then s else closed (fail_all s)
 
 -- ---- data for a peer (RFC 8656, sections 11.1 and 12.5; RFC 6062, section 4.3)
 
--- the local end of a bound connection to the peer
+-- the local address of a bound connection to the peer
 abbrev pub bound_to : SocketAddr → DataConnection → Bool
 bound_to peer c = is_none c.deadline && same_address c.peer peer
 
@@ -280,7 +280,7 @@ active_channel peer _ = None
 abbrev pub as_indication : SocketAddr → List ℕ → State → Result (Transmit (List ℕ)) SendError × State
 as_indication peer bytes s = (Ok (to_server s s.local (send_indication peer bytes (fresh_id s))), drawn s)
 
--- a channel carries the data up to its expiry, and else an indication does
+-- a channel carries the data until its expiry, and else an indication does
 abbrev pub on_channel : List (ℕ × ℕ) → SocketAddr → List ℕ → ℕ → State → Result (Transmit (List ℕ)) SendError × State
 on_channel [] peer bytes now s = as_indication peer bytes s
 on_channel ((number, expiry) ∷ others) peer bytes now s =

@@ -3,7 +3,7 @@ use Rattle.std.specs.Prelude.{[], None}
 use Rattle.turn_client_api.specs.State.{State, Closed}
 use Rattle.turn_client_api.specs.declared.closed.ClosedClient as Client
 
--- nothing waits, and there are no grants and no streams
+-- nothing is queued, and there are no grants and no streams
 abbrev pub closed_state : Client.ClosedClient → State
 closed_state c = record {
   config = c.config;

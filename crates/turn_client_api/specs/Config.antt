@@ -11,7 +11,7 @@ use Rattle.turn_auth.specs.declared.integrity.IntegrityAlgorithm.{IntegrityAlgor
 use Rattle.turn_auth.specs.declared.integrity.IntegrityAlgorithm.TheVariants.{Sha1, Sha256}
 use Rattle.turn_agent.specs.Schedule.{Timers, default_timers}
 
--- the settings; the timers of requests are there only where they were set
+-- the settings; the timers of requests are `Some` only if they were set
 pub record Config : Type 0 where
   pub allocation_transport : TransportType
   pub address_families : List AddressFamily
@@ -20,7 +20,7 @@ pub record Config : Type 0 where
   pub anonymous_username : Feature
   pub request_timers : Option Timers
 
--- when requests are sent again and given up: as it was set, or else as RFC 8489, section 6.2.1, has it
+-- when requests are retransmitted and time out: as it was set, or else as in RFC 8489, section 6.2.1
 abbrev pub timers_of : Config → Timers
 timers_of config = unwrap_or config.request_timers default_timers
 
@@ -49,7 +49,7 @@ is_algorithm_list (Sha1 ∷ Sha256 ∷ []) = true
 is_algorithm_list (Sha256 ∷ Sha1 ∷ []) = true
 is_algorithm_list _ = false
 
--- what every configuration keeps; a list that has room for two never grows past its inline places
+-- what holds for every configuration; a list with room for two never grows past its inline places
 pub record IsKeptConfig (families : SmallVec AddressFamily) (algorithms : SmallVec IntegrityAlgorithm) : Type 0 where
   pub some_family : is_family_list families.items ≡ true
   pub room_for_families : families.capacity ≡ 2

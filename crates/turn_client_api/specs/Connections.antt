@@ -16,28 +16,28 @@ use Rattle.turn_client_api.specs.Effect.{ended, with_offer}
 use Rattle.turn_client_api.specs.Retry.{bind_time, with_held}
 use Rattle.turn_client_api.specs.declared.event.TurnEvent.TheVariants.{TcpConnected, TcpConnectFailed}
 
--- ---- which connections there are
+-- ---- which connections exist
 
 abbrev pub is_connection_to : SocketAddr → Grant → Bool
 is_connection_to peer (Connection c) = same_address c.peer peer
 is_connection_to peer (Offer offer) = same_address offer.peer peer
 is_connection_to peer _ = false
 
--- one to this peer is there, or the caller is to open it
+-- one to this peer exists, or is offered to the caller
 abbrev pub is_connected : SocketAddr → State → Bool
 is_connected peer s = list_any (is_connection_to peer) s.grants
 
--- one to this peer was asked for
+-- one to this peer was requested
 abbrev pub is_connecting : SocketAddr → State → Bool
 is_connecting peer s = list_any (is_connect_to peer) s.grants
 
--- the connection from this local end
+-- the connection from this local address
 abbrev pub connection_at : SocketAddr → State → Option DataConnection
 connection_at local s = find (λ c. same_address c.local local) (filter_map connection_in s.grants)
 
--- ---- the server asks for one, since a peer connected to the relayed address (RFC 6062, section 4.4)
+-- ---- the server requests one, since a peer connected to the relayed address (RFC 6062, section 4.4)
 
--- a request is always answered (our choice: RFC 6062 has an indication alone)
+-- a request is always answered (our choice: RFC 6062 has only an indication)
 abbrev pub attempt_requested : List ℕ → State → State
 attempt_requested message s = by (connection_id_in message) (peer_in message)
   where
@@ -51,7 +51,7 @@ attempt_requested message s = by (connection_id_in message) (peer_in message)
         else with_offer connection_id peer (ServerRequest (id_of message)) s)
     by _ _ = refused bad_request (codes "Bad Request")
 
--- so many offers by indications stand at most, since these are not signed (our choice)
+-- at most so many offers by indications exist, since these are not signed (our choice)
 abbrev pub most_indicated : ℕ
 most_indicated = 64
 
@@ -62,8 +62,8 @@ is_indicated grant = option_map_or (λ offer. by offer.origin) (offer_in grant) 
     by ServerIndication = true
     by _ = false
 
--- An indication is heeded for a peer with a permission alone, as RFC 6062, section 4.4, has it, and
--- where no other connection to it is there or comes: it answers whether it is.
+-- An indication is accepted only for a peer with a permission, as RFC 6062, section 4.4, requires, and if
+-- no other connection to it exists or is pending.
 abbrev pub is_heeded : SocketAddr → State → Bool
 is_heeded peer s =
     is_some (allocation_for Tcp (socket_ip peer) s) && is_permitted (socket_ip peer) s
@@ -80,7 +80,7 @@ attempt_indicated message s = by (connection_id_in message) (peer_in message)
 
 -- ---- a connection is bound (RFC 6062, section 4.3)
 
--- the bytes of the stream at this local end are meant so from now on
+-- the bytes of the stream at this local address have this mode from now on
 abbrev pub with_mode : SocketAddr → Mode → State → State
 with_mode local mode s = record s { streams = map by s.streams }
   where
@@ -92,14 +92,14 @@ deadline_set local deadline (Connection c) =
     if same_address c.local local then Connection (record c { deadline = deadline }) else Connection c
 deadline_set local deadline grant = grant
 
--- the server may bind the connection up to this moment; none says that it did
+-- the server may bind the connection until this time; `None` says that it did
 abbrev pub with_deadline : SocketAddr → Option ℕ → State → State
 with_deadline local deadline s = record s { grants = map (deadline_set local deadline) s.grants }
 
 abbrev pub with_close : SocketAddr → State → State
 with_close local s = record s { closes = s.closes ++ local ∷ [] }
 
--- what follows on the stream is what the peer sent
+-- what follows on the stream is data of the peer
 abbrev pub bound : DataConnection → State → State
 bound c s =
     wait (TcpConnected c.peer ∷ [])
@@ -111,8 +111,8 @@ not_bound c s =
     wait (TcpConnectFailed c.peer ∷ [])
     (with_close c.local (without (is_connection_from c.local) s))
 
--- The nonce is taken, and another CONNECTION_BIND takes the place of the one with this ID, which stays
--- outstanding. Challenges are not counted here: each takes one connection (our choice).
+-- The nonce is stored, and another CONNECTION_BIND replaces the one with this ID, which stays outstanding.
+-- Challenges are not counted here: each concerns one connection alone (our choice).
 abbrev pub bind_again : DataConnection → ℕ → Challenge → ℕ → State → State
 bind_again c id challenge now s = option_map_or again (find (is_bind_of c.local) (purposes_of id s)) s
   where
@@ -131,7 +131,7 @@ bind_answered c message now s = by (bind_judgement s c.local message)
     by SignedError = not_bound c (ended (id_of message) s)
     by _ = not_bound c s
 
--- what a message of a data connection changes: nothing, where it is about no such connection
+-- what a message of a data connection changes: nothing, if it is for no such connection
 abbrev pub bind_step : SocketAddr → List ℕ → ℕ → State → State
 bind_step local message now s = by s.phase (connection_at local s)
   where

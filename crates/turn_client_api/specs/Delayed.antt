@@ -1,4 +1,4 @@
--- What packets that are built when they are sent are made of.
+-- The contents of packets that are built when they are sent.
 use Rattle.std.specs.Prelude.{ℕ, List}
 use Rattle.std.specs.declared.convert.AsSlice.{Ghosts}
 use Rattle.turn_types.specs.Delayed.{delayed_channel_bytes, delayed_message_bytes}
@@ -7,7 +7,7 @@ use Rattle.turn_client_api.specs.declared.send.DelayedMessageOrChannelSend.{Dela
 use Rattle.turn_client_api.specs.declared.send.DelayedMessageOrChannelSend.TheVariants.{Channel, Message, Data, OwnedData}
 use Rattle.turn_client_api.specs.Range.{part_of}
 
--- the part that a `DelayedTransmit` sends
+-- the range that a `DelayedTransmit` sends
 abbrev pub delayed_part : {T : Type 0} {g : Ghosts T ℕ} → DelayedTransmit T g → List ℕ
 delayed_part d = part_of d.part
 

@@ -1,4 +1,4 @@
--- When something falls due (RFC 8656, sections 7 to 12).
+-- When something is due (RFC 8656, sections 7 to 12).
 use Rattle.std.specs.Prelude.{ℕ, ◌-◌, ◌/◌, min, max, nat_le, nat_lt, Bool, true, false, not, ◌&&◌, ◌||◌, if◌then◌else◌, List, [], ◌∷◌, ◌++◌, map, flat_map, fold, length, Option, Some, None, option_and_then, option_to_list}
 use Rattle.std.specs.Option.{option_map_or}
 use Rattle.std.specs.List.{list_any}
@@ -13,20 +13,19 @@ use Rattle.turn_client_api.specs.Calls.{is_allocated}
 abbrev pub pause : ℕ
 pause = 50_000_000
 
--- a grant is refreshed so long before it ends (our choice: RFC 8656, section 8, asks for about a
--- minute)
+-- a grant is refreshed so long before it expires (our choice: RFC 8656, section 8, suggests about a minute)
 abbrev pub refresh_ahead : ℕ
 refresh_ahead = seconds 60
 
--- an allocation whose first lifetime is no longer is refreshed half of it before it ends (our choice)
+-- an allocation whose first lifetime is no longer is refreshed half of it before it expires (our choice)
 abbrev pub short_lifetime : ℕ
 short_lifetime = seconds 120
 
--- how long a caller sleeps at most (our choice)
+-- how long a caller waits at most (our choice)
 abbrev pub longest_sleep : ℕ
 longest_sleep = seconds 9999
 
--- ---- what waits to be sent
+-- ---- queued packets
 
 abbrev pub has_reply : State → Bool
 has_reply s = list_any (λ q. not q.is_request) s.queue
@@ -34,7 +33,7 @@ has_reply s = list_any (λ q. not q.is_request) s.queue
 abbrev pub has_queued_request : State → Bool
 has_queued_request s = list_any (λ q. q.is_request) s.queue
 
--- before this moment no request is sent that was not sent before
+-- before this time no new request is sent
 abbrev pub pause_end : State → ℕ
 pause_end s = option_map_or (later_by pause) s.last_send 0
 
@@ -47,7 +46,7 @@ abbrev pub refresh_time_of : Relay → ℕ
 refresh_time_of a =
     if nat_le a.first_lifetime short_lifetime then a.expiry - a.first_lifetime / 2 else a.expiry - refresh_ahead
 
--- an allocation that is expired is refreshed no more, nor is what is in it
+-- an expired allocation is refreshed no more, nor are the grants in it
 abbrev pub is_refreshable : Grant → State → Bool
 is_refreshable (Allocation a) s = not a.is_expired
 is_refreshable grant s = option_map_or (λ a. not a.is_expired) (allocation_of (family_of_grant grant) s) false
@@ -59,14 +58,14 @@ refresh_time_by_kind (Permission ip (Active expiry)) = Some (expiry - refresh_ah
 refresh_time_by_kind (Channel number peer (Active expiry)) = Some (expiry - refresh_ahead)
 refresh_time_by_kind _ = None
 
--- when the grant is to be refreshed, unless that is asked for already
+-- when the grant is to be refreshed, unless a request for it is pending
 unfoldable pub refresh_time : State → Grant → Option ℕ
 refresh_time s grant =
     option_and_then (λ moment. if is_refreshable grant s && not (has_request grant s) then Some moment else None) (refresh_time_by_kind grant)
 
 -- ---- when a client has to be polled again
 
--- the end of a grant; one of an allocation that is past is no moment to wait for
+-- the expiry of a grant; a past one of an allocation is not waited for
 abbrev pub end_of : ℕ → Grant → List ℕ
 end_of now (Allocation a) = if nat_lt now a.expiry then a.expiry ∷ [] else []
 end_of now (Permission ip (Active expiry)) = expiry ∷ []
@@ -77,8 +76,8 @@ end_of now _ = []
 abbrev pub refresh_of : State → Grant → List ℕ
 refresh_of s grant = map (max (pause_end s)) (option_to_list (refresh_time s grant))
 
--- Each moment at which something falls due: the longest sleep, a queued request, a transaction, the
--- end of a grant, a refresh.
+-- Each time at which something is due: the longest wait, a queued request, a transaction, the expiry of a
+-- grant, a refresh.
 abbrev pub due_moments : ℕ → State → List ℕ
 due_moments now s =
     later_by longest_sleep now
@@ -96,8 +95,8 @@ abbrev pub is_new : Phase → Bool
 is_new New = true
 is_new _ = false
 
--- When the caller is to call again: now, where something waits or was just given up, and else when
--- something falls due, but not in the past where there are grants.
+-- When the caller is to call `poll` again: now, if something is pending or just timed out, and else when
+-- something is due, but not in the past if there are grants.
 abbrev pub next_wakeup : Bool → ℕ → State → ℕ
 next_wakeup has_given_up now s =
     if is_new s.phase || has_event s || has_reply s || has_given_up then now

@@ -24,15 +24,15 @@ use Rattle.turn_client_api.specs.declared.event.TurnEvent.TheVariants.{Allocatio
 abbrev pub permission_lifetime : ℕ
 permission_lifetime = seconds 300
 
--- RFC 8656, section 12, and how long neither its number nor its peer is bound again when it is over
+-- RFC 8656, section 12, and how long neither its number nor its peer is bound again after its expiry
 abbrev pub channel_lifetime : ℕ
 channel_lifetime = seconds 600
 
 abbrev pub reserved_time : ℕ
 reserved_time = seconds 300
 
--- a shorter lifetime in reply to a REFRESH is not taken, in seconds (RFC 8656, section 7.2: a server
--- gives at least the default of 600)
+-- a shorter lifetime in reply to a REFRESH is ignored, in seconds (RFC 8656, section 7.2: a server gives at
+-- least the default of 600)
 abbrev pub least_lifetime : ℕ
 least_lifetime = 600
 
@@ -48,11 +48,11 @@ has_code code message = option_map_or (λ other. other == code) (code_in message
 
 -- ---- the end of a client
 
--- no address is asked for any more
+-- no address is requested any more
 abbrev pub without_families : State → State
 without_families s = record s { families = [] }
 
--- each family that is still asked for fails
+-- each family that is still requested fails
 abbrev pub fail_all : State → State
 fail_all s = wait (map AllocationCreateFailed s.families) (without_families s)
 
@@ -67,13 +67,13 @@ closed s = in_phase Closed s
 abbrev pub ended : ℕ → State → State
 ended id s = record s { transactions = A.without id s.transactions }
 
--- the server took a request: challenges are counted anew
+-- the server accepted a request: challenges are counted anew
 abbrev pub challenges_reset : State → State
 challenges_reset s = record s { challenges = 0 }
 
 -- ---- ALLOCATE
 
--- the address is before the others, and none follows one that is malformed
+-- the address comes before the others, and none follows one that is malformed
 abbrev pub before_malformed : Option SocketAddr → List SocketAddr → List SocketAddr
 before_malformed (Some address) others = address ∷ others
 before_malformed None others = []
@@ -88,7 +88,7 @@ relayed_among id (a ∷ later) =
 abbrev pub relayed_in : List ℕ → List SocketAddr
 relayed_in message = relayed_among (id_of message) (seen_of message)
 
--- the first address of each family that is asked for
+-- the first address of each requested family
 abbrev pub taken_addresses : List AddressFamily → List SocketAddr → List SocketAddr
 taken_addresses families [] = []
 taken_addresses families (a ∷ later) =
@@ -105,7 +105,7 @@ abbrev pub phase_with : List SocketAddr → Phase
 phase_with [] = Closed
 phase_with (a ∷ others) = Allocated
 
--- the families that are asked for, but of which no address is among these
+-- the requested families of which no address is among these
 abbrev pub missing_families : List SocketAddr → State → List AddressFamily
 missing_families addresses s = filter (λ family. not (list_any (is_of_family family) addresses)) s.families
 
@@ -125,8 +125,8 @@ allocate_granted message now s =
     option_map_or (λ lifetime. allocated lifetime (taken_addresses s.families (relayed_in message)) now s)
     (lifetime_in message) (closed (fail_all s))
 
--- The server has no address of one of two families: IPv4 is given up, and IPv6 asked for alone
--- (RFC 8656, section 7.4). The ID is new to all that was outstanding or listed before the reply.
+-- The server has no address of one of two families: the client stops requesting IPv4, and requests IPv6
+-- alone (RFC 8656, section 7.4). The ID differs from all that were outstanding or listed before the reply.
 abbrev pub allocate_denied : ℕ → List ℕ → ℕ → State → State
 allocate_denied fresh message now s =
     if has_code family_not_supported message && nat_le 2 (length s.families)
@@ -135,15 +135,15 @@ allocate_denied fresh message now s =
 
 -- ---- REFRESH (RFC 8656, section 8.3)
 
--- all allocations go, with all that is in them
+-- all allocations are removed, with all grants in them
 abbrev pub all_gone : State → State
 all_gone s = closed (without (λ g. true) s)
 
--- What was to be given back is gone once the server says so, or that it never was there.
+-- What was to be deleted is removed once the server says that it is deleted, or that it never existed.
 abbrev pub given_back : Bool → List ℕ → State → State
 given_back is_granted message s = if is_granted || has_code allocation_mismatch message then challenges_reset (all_gone s) else s
 
--- what was asked for longer lasts as long as the server says
+-- an allocation that was refreshed lasts as long as the server says
 abbrev pub prolonged : AddressFamily → ℕ → ℕ → State → State
 prolonged family lifetime now s =
     if nat_le least_lifetime lifetime
@@ -151,7 +151,7 @@ prolonged family lifetime now s =
     (unlisted (λ g. is_some (allocation_in g) && is_of family g) s))
     else s
 
--- so many seconds more were asked for
+-- a lifetime of so many seconds was requested
 abbrev pub refreshed : AddressFamily → ℕ → Bool → List ℕ → ℕ → State → State
 refreshed family lifetime is_granted message now s =
     if lifetime == 0 then given_back is_granted message s
@@ -160,7 +160,7 @@ refreshed family lifetime is_granted message now s =
 
 -- ---- permissions (RFC 8656, section 10.3)
 
--- what is active lasts up to another moment, and only that
+-- what is active gets another expiry, and only that
 abbrev pub lasting : ℕ → Grant → Grant
 lasting expiry (Permission ip (Active was)) = Permission ip (Active expiry)
 lasting expiry (Channel number peer (Active was)) = Channel number peer (Active expiry)
@@ -173,7 +173,7 @@ lasting_if which expiry grant = if which grant then lasting expiry grant else gr
 abbrev pub renewed : (Grant → Bool) → ℕ → State → State
 renewed which expiry s = record s { grants = map (lasting_if which expiry) s.grants }
 
--- one that was asked for stands from now on behind all others, or is asked for no more
+-- one that was pending is active from now on, after all others, or is removed
 abbrev pub pending_permission_answered : IpAddr → Bool → ℕ → State → State
 pending_permission_answered ip true now s =
     wait (PermissionCreated s.config.allocation_transport ip ∷ [])
@@ -181,7 +181,7 @@ pending_permission_answered ip true now s =
 pending_permission_answered ip false now s =
     wait (PermissionCreateFailed s.config.allocation_transport ip ∷ []) (without (is_permission_of ip) s)
 
--- one that was to be refreshed
+-- one that was active and is refreshed
 abbrev pub active_permission_answered : IpAddr → Bool → ℕ → State → State
 active_permission_answered ip true now s =
     renewed (is_permission_of ip) (later_by permission_lifetime now) (unlisted (is_permission_of ip) s)
@@ -207,13 +207,13 @@ listed_permissions_answered id is_granted now s = fold (permission_answered_for 
 
 -- ---- channels (RFC 8656, section 12.3)
 
--- Neither its number nor its peer is bound again for a while (RFC 8656, section 12). It goes behind
--- all others.
+-- Neither its number nor its peer is bound again for a while (RFC 8656, section 12). It is moved after all
+-- others.
 abbrev pub reserved : ℕ → SocketAddr → ℕ → State → State
 reserved number peer expiry s =
     with_grant (Channel number peer (Reserved (later_by reserved_time expiry))) (without (is_channel_of number) s)
 
--- the pending permission that a request for these was to bring
+-- the pending permission that a request with these purposes was made for
 abbrev pub is_asked_permission : List Purpose → Grant → Bool
 is_asked_permission purposes grant = is_pending_permission grant && is_for_any purposes grant
 
@@ -221,8 +221,8 @@ abbrev pub permission_refused_too : List Purpose → State → State
 permission_refused_too purposes s =
     wait (failures_among (is_asked_permission purposes) s) (without (is_asked_permission purposes) s)
 
--- One that was asked for. The binding brings a permission with it, where one was asked for with it
--- (RFC 8656, section 12.2), and a refusal takes it too.
+-- One that was pending. The binding grants a permission too, if one was requested with it (RFC 8656,
+-- section 12.2), and a refusal removes it too.
 abbrev pub pending_channel_answered : ℕ → SocketAddr → ℕ → Bool → ℕ → State → State
 pending_channel_answered number peer id true now s = in_turn (
     listed_permissions_answered id true now
@@ -238,7 +238,7 @@ pending_channel_answered number peer id false now s = in_turn (
     ∷ []
     ) s
 
--- one that was to be refreshed
+-- one that was active and is refreshed
 abbrev pub active_channel_answered : ℕ → SocketAddr → ℕ → Bool → ℕ → State → State
 active_channel_answered number peer expiry true now s =
     renewed (is_channel_of number) (later_by channel_lifetime now) (unlisted (is_channel_of number) s)
@@ -264,7 +264,7 @@ abbrev pub connect_answered : SocketAddr → Option ℕ → State → State
 connect_answered peer (Some connection_id) s = with_offer connection_id peer OwnConnect (without (is_connect_to peer) s)
 connect_answered peer None s = wait (TcpConnectFailed peer ∷ []) (without (is_connect_to peer) s)
 
--- ---- a signed reply, whose request is outstanding no longer
+-- ---- a signed reply, whose request is no longer outstanding
 
 -- what it changes for one purpose of its request
 abbrev pub effect : ℕ → Bool → List ℕ → ℕ → State → Purpose → State

@@ -1,4 +1,4 @@
--- What a client reads off its grants, and how they change.
+-- What a client reads from its grants, and how they change.
 use Rattle.std.specs.Prelude.{ℕ, ◌==◌, nat_le, Bool, true, false, not, ◌&&◌, ◌||◌, if◌then◌else◌, List, [], ◌∷◌, ◌++◌, map, filter, find, filter_map, fold, slice_get, reverse, Option, Some, None}
 use Rattle.std.specs.Option.{option_map_or}
 use Rattle.std.specs.List.{list_any}
@@ -55,7 +55,7 @@ abbrev pub allocation_for : TransportType → IpAddr → State → Option Relay
 allocation_for transport ip s =
     if same_transport transport s.config.allocation_transport then allocation_of (family_of_ip ip) s else None
 
--- an allocation has ended at its expiry
+-- the expiry of an allocation is now or has passed
 abbrev pub is_past : ℕ → Relay → Bool
 is_past now a = nat_le a.expiry now
 
@@ -76,7 +76,7 @@ with_expired family s = with_allocations (λ a. is_of_family family a.relayed) (
 
 -- ---- permissions and channels
 
--- what the first grant of a kind gives
+-- the result for the first grant of a kind
 abbrev pub first_in : {X : Type 0} → (Grant → Option X) → State → Option X
 first_in reader s = slice_get (filter_map reader s.grants) 0
 
@@ -84,7 +84,7 @@ abbrev pub permission_progress : IpAddr → Grant → Option Progress
 permission_progress ip (Permission other progress) = if same_ip other ip then Some progress else None
 permission_progress ip _ = None
 
--- how far the permission for this IP address has come
+-- the progress of the permission for this IP address
 abbrev pub permission_for : IpAddr → State → Option Progress
 permission_for ip s = first_in (permission_progress ip) s
 
@@ -92,11 +92,11 @@ abbrev pub is_active : Option Progress → Bool
 is_active (Some (Active expiry)) = true
 is_active _ = false
 
--- the server lets this IP address through
+-- this IP address is permitted
 abbrev pub is_permitted : IpAddr → State → Bool
 is_permitted ip s = is_active (permission_for ip s)
 
--- the peer of the channel of this number, and how far it has come
+-- the peer of the channel of this number, and its progress
 abbrev pub channel_at : ℕ → Grant → Option (SocketAddr × Progress)
 channel_at number (Channel other peer progress) = if other == number then Some (peer, progress) else None
 channel_at number _ = None
@@ -170,7 +170,7 @@ abbrev pub is_for_allocation : Purpose → Bool
 is_for_allocation ForAllocation = true
 is_for_allocation _ = false
 
--- the server asked by a request of this ID for the data connection
+-- the server requested the data connection with this ID
 abbrev pub is_request : ℕ → Origin → Bool
 is_request id (ServerRequest request) = request == id
 is_request id _ = false
@@ -182,27 +182,27 @@ is_of_request id grant = option_map_or (λ offer. is_request id offer.origin) (o
 abbrev pub is_listed : ℕ → State → Bool
 is_listed id s = list_any (λ l. l.id == id) s.listed || list_any (is_of_request id) s.grants
 
--- ---- grants come and go
+-- ---- grants are added and removed
 
--- what happens, the first step first
+-- the changes in sequence, the first one first
 abbrev pub in_turn : List (State → State) → State → State
 in_turn steps s = fold (λ t step. step t) s steps
 
--- no request is listed any more for grants of this kind
+-- requests are no longer listed for grants of this kind
 abbrev pub unlisted : (Grant → Bool) → State → State
 unlisted which s = record s {
   listed = filter (λ l. not (list_any (λ g. which g && is_for l.purpose g) s.grants)) s.listed;
 }
 
--- these grants are no longer there, and no request is listed for them
+-- these grants are removed, and no request is listed for them
 abbrev pub without : (Grant → Bool) → State → State
 without which s = record (unlisted which s) { grants = filter (λ g. not (which g)) s.grants }
 
--- these grants are behind all others
+-- these grants come after all others
 abbrev pub with_more_grants : List Grant → State → State
 with_more_grants grants s = record s { grants = s.grants ++ grants }
 
--- one grant more, behind all others
+-- one grant more, after all others
 abbrev pub with_grant : Grant → State → State
 with_grant grant s = with_more_grants (grant ∷ []) s
 
@@ -217,7 +217,7 @@ family_of_grant (Connection c) = family_of c.peer
 abbrev pub is_of : AddressFamily → Grant → Bool
 is_of family grant = same_family (family_of_grant grant) family
 
--- ---- what a caller is told of a grant that is no more, or was refused
+-- ---- the event of a grant that is removed, or was refused
 
 abbrev pub failure_of : TransportType → Grant → Option TurnEvent
 failure_of transport (Allocation a) = None
@@ -227,11 +227,11 @@ failure_of transport (Connect peer) = Some (TcpConnectFailed peer)
 failure_of transport (Offer offer) = Some (TcpConnectFailed offer.peer)
 failure_of transport (Connection c) = Some (TcpConnectFailed c.peer)
 
--- the events jump: one after the other comes before all that wait
+-- the events go to the front: one after the other comes before all that are queued
 abbrev pub jump : List TurnEvent → State → State
 jump events s = record s { events = reverse events ++ s.events }
 
--- the events wait behind all others
+-- the events are queued after all others
 abbrev pub wait : List TurnEvent → State → State
 wait events s = record s { events = s.events ++ events }
 

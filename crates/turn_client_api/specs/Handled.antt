@@ -1,6 +1,6 @@
--- What a call handles: whole datagrams, and whole frames of streams, each in the state that stands when
--- its turn comes; and the payloads of peers among them (RFC 8656, sections 11.6 and 12.6; RFC 6062,
--- section 4.3).
+-- What a call processes: whole datagrams, and whole frames of streams, each in the state in which it is
+-- processed; and the payloads of peers among them (RFC 8656, sections 11.6 and 12.6; RFC 6062, section
+-- 4.3).
 use Rattle.std.specs.Prelude.{ℕ, zero, suc, Bool, true, false, if◌then◌else◌, List, [], ◌∷◌, ◌++◌, filter_map, find, take, Option, Some, None}
 use Rattle.std.specs.declared.net.socket_addr.SocketAddr.{SocketAddr}
 use Rattle.turn_stun.specs.declared.transport.TransportType.{TransportType}
@@ -13,18 +13,18 @@ use Rattle.turn_client_api.specs.Streams.{frame_step, is_ready, most_turns, owne
 use Rattle.turn_client_api.specs.Receive.{first_turn, is_from_server}
 use Rattle.turn_client_api.specs.Steps.{Call, Recv, PollRecv}
 
--- a datagram, or a frame of a stream that is taken out
+-- an input: a datagram, or a frame of a stream that is taken out
 pub record Turn : Type 0 where
-  -- the stream, with its mode in the state just before, or none where this is a datagram
+  -- the stream, with its mode in the state just before, or none for a datagram
   pub stream : Option Stream
   pub bytes : List ℕ
-  -- what the caller handed in begins with these bytes
+  -- what the caller passed in begins with these bytes
   pub is_lent : Bool
   pub moment : ℕ
   -- the state just before
   pub before : State
 
--- what is made of it, and the state just after
+-- the outcome of processing it, and the state just after
 abbrev pub made_of : Turn → Outcome × State
 made_of t = by t.stream
   where
@@ -32,7 +32,7 @@ made_of t = by t.stream
     by None = datagram_step t.bytes t.moment t.before
     by (Some stream) = frame_step stream t.bytes t.moment t.before
 
--- what it gives to the caller: a part of what the caller handed in, or owned
+-- the payload that it returns to the caller: a range of what the caller passed in, or owned
 abbrev pub turn_payload : Turn → Option Payload
 turn_payload t = payload_in (if t.is_lent then (made_of t).0 else owned (made_of t).0)
 
@@ -40,13 +40,13 @@ turn_payload t = payload_in (if t.is_lent then (made_of t).0 else owned (made_of
 abbrev pub payloads : List Turn → List Payload
 payloads turns = filter_map turn_payload turns
 
--- ---- the turn of a stream
+-- ---- a step of a stream
 
 abbrev pub turn_of : Bool → Stream → List ℕ → ℕ → State → Turn
 turn_of is_lent stream bytes now t =
     record { stream = Some stream; bytes = bytes; is_lent = is_lent; moment = now; before = t }
 
--- the frame in front has so many bytes, or the stream waits for more
+-- the first frame has so many bytes, or the stream waits for more
 abbrev pub taken_of_len : Bool → Stream → ℕ → State → Option ℕ → List Turn
 taken_of_len is_lent stream now t None = []
 taken_of_len is_lent stream now t (Some len) = turn_of is_lent stream (take len stream.bytes) now t ∷ []
@@ -70,7 +70,7 @@ taken is_lent stream now s = taken_in is_lent stream now (with_bytes stream.loca
 
 -- ---- all streams
 
--- up to a payload
+-- until a payload
 abbrev pub unless_given : Option Payload → List Turn → List Turn
 unless_given (Some payload) later = []
 unless_given None later = later
@@ -89,18 +89,18 @@ poll_recv_turns now s = turns_taken (most_turns s) now s
 
 -- ---- a piece of a stream
 
--- without a payload or an ICMP report, all streams have their turns
+-- without a payload or an ICMP report, all streams are processed
 abbrev pub then_taken : ℕ → Outcome × State → List Turn
 then_taken now (PeerData payload, s) = []
 then_taken now (PeerIcmp transport peer icmp, s) = []
 then_taken now (_, s) = poll_recv_turns now s
 
--- where nothing waits in a stream, what comes is in front
+-- if the stream is empty, the piece comes first
 abbrev pub is_front : List ℕ → Bool
 is_front [] = true
 is_front waited = false
 
--- the piece comes after what waits
+-- the piece is appended to the buffered bytes
 abbrev pub fed : Stream → List ℕ → Stream
 fed stream piece = record stream { bytes = stream.bytes ++ piece }
 
@@ -116,7 +116,7 @@ piece_turns stream piece now s = by stream.mode
     by (Bound peer) = fed_taken stream piece now s
     by Broken = if same_address stream.local s.local then poll_recv_turns now s else []
 
--- an empty piece handles nothing
+-- an empty piece has no inputs
 abbrev pub stream_turns : Stream → List ℕ → ℕ → State → List Turn
 stream_turns stream [] now s = []
 stream_turns stream piece now s = piece_turns stream piece now s
@@ -134,12 +134,12 @@ recv_turns transport from to bytes now s = if is_from_server transport from s th
     by Tcp (Some stream) = stream_turns stream bytes now s
     by Tcp None = []
 
--- all that a call handles, in order
+-- all inputs that a call processes, in order
 abbrev pub handled : Call → State → List Turn
 handled (Recv packet now) s = recv_turns packet.transport packet.from packet.to packet.payload now s
 handled (PollRecv now) s = poll_recv_turns now s
 handled _ s = []
 
--- the payloads of all that the call handles
+-- the payloads of all inputs that the call processes
 abbrev pub payloads_by : Call → State → List Payload
 payloads_by call s = payloads (handled call s)

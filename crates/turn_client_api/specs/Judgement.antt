@@ -22,7 +22,7 @@ use Rattle.turn_client_api.specs.State.{State, Phase, New, Requesting, Authentic
 use Rattle.turn_client_api.specs.Grants.{is_for_allocation, purposes_of}
 use Rattle.turn_client_api.specs.Requests.{data_method, connection_attempt_method, connection_id_kind, icmp_kind, lifetime_kind}
 
--- ---- what a message says; attributes that follow its integrity are not seen
+-- ---- what a message contains; attributes after its integrity are not seen
 
 abbrev pub class_in : List ℕ → MessageClass
 class_in message = class_of (type_of message)
@@ -30,8 +30,8 @@ class_in message = class_of (type_of message)
 abbrev pub method_in : List ℕ → ℕ
 method_in message = method_of (type_of message)
 
--- the lifetime in seconds, the number of a connection and the peer: each by the first attribute of its
--- type, or nothing where it is malformed
+-- the lifetime in seconds, the connection ID and the peer: each from the first attribute of its type, or
+-- nothing if it is malformed
 abbrev pub lifetime_in : List ℕ → Option ℕ
 lifetime_in message = option_and_then number_of (value_in lifetime_kind message)
 
@@ -43,7 +43,7 @@ peer_in message = option_and_then (λ value. xor_addr value (id_of message)) (va
 
 -- ---- DATA indications: of several attributes of one type the last one counts (our choice)
 
--- an attribute of this type takes the place of the one before
+-- an attribute of this type replaces the one before
 abbrev pub later_of : ℕ → Option Attribute → Attribute → Option Attribute
 later_of kind before a = if a.kind == kind then Some a else before
 
@@ -56,8 +56,8 @@ last_peer_in message = option_and_then (λ a. xor_addr a.value (id_of message)) 
 abbrev pub last_icmp_in : List ℕ → Option Icmp
 last_icmp_in message = option_and_then (λ a. icmp_of a.value) (last_in icmp_kind message)
 
--- an attribute that has to be understood, and is neither a peer nor data, makes the message unread
--- (RFC 8489, section 6.3.2)
+-- an unknown comprehension-required attribute, neither a peer nor data, makes the message unread (RFC 8489,
+-- section 6.3.2)
 abbrev pub is_unknown : Attribute → Bool
 is_unknown a = nat_lt a.kind 0x8000 && not ((a.kind == peer_kind) || (a.kind == data_kind))
 
@@ -67,11 +67,11 @@ has_unknown message = list_any is_unknown (seen_of message)
 -- ---- judgement
 
 pub data Judgement : Type 0 where
-  -- it is not for the client, or says nothing that it can trust
+  -- it is not for the client, or contains nothing that it can trust
   Unrelated : Judgement
-  -- the server asks for another signature; what is held once that is taken
+  -- the server requests another signature; what is held once that is stored
   Challenged : Challenge → Judgement
-  -- it ends what it is about
+  -- it ends what it is for: the client, or a data connection
   Fatal : Judgement
   -- a signed reply to a request that is no longer outstanding
   LateResponse : Judgement
@@ -105,7 +105,7 @@ challenged_or otherwise None = otherwise
 abbrev pub challenge_in : State → List ℕ → Option Challenge
 challenge_in s message = challenge_of (auth_of s) message
 
--- before anything is held, no reply can be signed: all but a challenge ends the client
+-- before anything is held, no reply can be signed: any but a challenge ends the client
 abbrev pub requesting_judgement : State → List ℕ → Judgement
 requesting_judgement s message = if answers_one s message then challenged_or Fatal (challenge_in s message) else Unrelated
 
@@ -141,7 +141,7 @@ allocated_judgement s message = by (class_in message)
     by Success = signed (validation_of (auth_of s) message)
     by Error = challenged_or (signed (validation_of (auth_of s) message)) (challenge_in s message)
 
--- what a message of the control connection is, or over UDP one of the server: the first that holds
+-- what a message of the control connection is, or over UDP one of the server: the first case that holds
 abbrev pub judgement_of : State → List ℕ → Judgement
 judgement_of s message = by s.phase
   where
@@ -152,12 +152,12 @@ judgement_of s message = by s.phase
     by Allocated = allocated_judgement s message
     by Closed = Unrelated
 
--- the request of this ID was made to bind the connection at this local end
+-- the request with this ID was made to bind the connection at this local address
 abbrev pub is_bind_of : SocketAddr → Purpose → Bool
 is_bind_of local (ForBind other peer connection_id) = same_address other local
 is_bind_of local _ = false
 
--- what a message of a data connection is that waits to be bound: only a signed success binds it
+-- what a message is of a data connection that waits to be bound: only a signed success binds it
 abbrev pub bind_judgement : State → SocketAddr → List ℕ → Judgement
 bind_judgement s local message =
     if is_response (class_in message) && list_any (is_bind_of local) (purposes_of (id_of message) s)

@@ -1,4 +1,4 @@
--- For which families an ALLOCATE asks (RFC 8656, sections 7.1 and 7.4), over all calls.
+-- Which families an ALLOCATE requests (RFC 8656, sections 7.1 and 7.4), over all calls.
 use Rattle.std.specs.Prelude.{◌≡◌, ◌⊎◌, ◌≤◌, ℕ, true, List, [], ◌∷◌, length}
 use Rattle.std.specs.List.{Contains}
 use Rattle.turn_stun.specs.Message.{id_of}
@@ -17,34 +17,34 @@ use Rattle.turn_client_api.specs.Steps.{Call}
 
 -- ---- the bytes
 
--- The request is an ALLOCATE for these families, as a client of this configuration writes it: the first one,
--- or one that is signed, whatever realm and nonce it held then.
+-- The request is an ALLOCATE for these families, as a client of this configuration writes it: the first
+-- one, or one that is signed, whatever realm and nonce it held then.
 abbrev pub AsksForFamilies : Config → List AddressFamily → Transaction → Type 0
 AsksForFamilies config families x =
     (t : State) × (t.config ≡ config) × (t.families ≡ families)
     × ((x.request ≡ first_allocate t x.id) ⊎ (x.request ≡ request_for t ForAllocation x.id))
 
--- a request of this ID is outstanding that asks for the families that the client still asks for
+-- a request with this ID is outstanding for the families that the client still requests
 abbrev pub IsAskedForFamilies : ℕ → State → Type 0
 IsAskedForFamilies id s = (x : Transaction) × Contains s.transactions x × (x.id ≡ id) × AsksForFamilies s.config s.families x
 
 -- ---- a client
 
--- the request of this ID is listed for an ALLOCATE
+-- the request with this ID is listed for an ALLOCATE
 abbrev pub IsAllocate : ℕ → State → Type 0
 IsAllocate id s = Contains s.listed (record { id = id; purpose = ForAllocation })
 
--- up to the allocation a client asks for nothing else, and then for none
+-- until the allocation a client requests nothing else, and after it no allocation
 abbrev pub AsksInTime : State → Type 0
 AsksInTime s =
     (IsUngranted s.phase → (l : Listing) → Contains s.listed l → l.purpose ≡ ForAllocation)
     × ((IsUngranted s.phase → ⊥) → (id : ℕ) → IsAllocate id s → ⊥)
 
--- each ALLOCATE that is listed and outstanding asks for the families that the client still asks for
+-- each ALLOCATE that is listed and outstanding is for the families that the client still requests
 abbrev pub AsksItsFamilies : State → Type 0
 AsksItsFamilies s = (id : ℕ) → IsAllocate id s → is_outstanding id s.transactions ≡ true → IsAskedForFamilies id s
 
--- up to the allocation these are the ones that are configured, or of two or more IPv6 alone
+-- until the allocation these are the configured ones, or IPv6 alone of two or more
 abbrev pub HasConfiguredFamilies : State → Type 0
 HasConfiguredFamilies s =
     IsUngranted s.phase
@@ -55,13 +55,13 @@ AllocatesInOrder s = AsksInTime s × AsksItsFamilies s × HasConfiguredFamilies 
 
 -- ---- what is allocated
 
--- the turn granted the allocation: a first one in answer to a request that asks for the families
+-- the input granted the allocation: a first one in answer to a request for its family
 abbrev pub IsAllocationTurn : Relay → Turn → Type 0
 IsAllocationTurn a one =
     (turn : IsGrantTurn (Allocation a) one)
     × (turn.grant.1.purpose ≡ ForAllocation → IsAskedForFamilies (id_of one.bytes) one.before)
 
--- each allocation that the call leaves stood before, is given back now, or was granted so
+-- each allocation after the call existed before, is deleted now, or was granted so
 abbrev pub AllocatesAsAsked : Call → State → State → Type 0
 AllocatesAsAsked call s t =
     (a : Relay) → Contains t.grants (Allocation a)

@@ -1,5 +1,5 @@
--- What spares a client's body work: when nothing changes, how much may come, and of what parts an answer
--- is made.
+-- What spares a client's body work: when nothing changes, how many events are queued, and the parts of a
+-- result.
 use Rattle.std.specs.Prelude.{◌≡◌, ◌≤◌, ◌<◌, ◌+◌, ℕ, max, min, Bool, true, false, ◌&&◌, if◌then◌else◌, List, filter, filter_map, flat_map, fold, length, map, Option, Some, None}
 use Rattle.std.specs.declared.net.socket_addr.SocketAddr.{SocketAddr}
 use Rattle.turn_agent.specs.Agent.{next_moment, same_address}
@@ -8,10 +8,10 @@ use Rattle.turn_client_api.specs.Grants.{has_request}
 use Rattle.turn_client_api.specs.Calls.{is_number_taken}
 use Rattle.turn_client_api.specs.Due.{end_of, has_queued_request, longest_sleep, pause_end, refresh_time}
 
--- ---- lapses
+-- ---- expiry
 
--- from when on time takes the grant away, or its channel's number is free; an expired allocation stays
--- while it is asked for
+-- from when on time removes the grant, or its channel's number is free; an expired allocation stays while a
+-- request for it is pending
 abbrev pub lapse_of : State → Grant → Option ℕ
 lapse_of s (Allocation a) = if a.is_expired && has_request (Allocation a) s then None else Some a.expiry
 lapse_of s (Permission ip (Active expiry)) = Some expiry
@@ -25,7 +25,7 @@ lapse_moments s = filter_map (lapse_of s) s.grants
 
 -- ---- events
 
--- a caller may yet be told that the grant failed; what is reserved failed before
+-- an event may yet report that the grant failed; what is reserved failed before
 abbrev pub can_fail : Grant → Bool
 can_fail (Allocation a) = false
 can_fail (Channel number peer (Reserved until)) = false
@@ -35,33 +35,33 @@ can_fail _ = true
 abbrev pub most_failures : State → ℕ
 most_failures s = length (filter can_fail s.grants)
 
--- for each event that came there is one grant fewer that can fail
+-- for each event that was queued there is one grant fewer that can fail
 abbrev pub TellsOfFailed : State → State → Type 0
 TellsOfFailed s t = length t.events + most_failures t ≤ length s.events + most_failures s
 
--- ---- the parts of the told moment
+-- ---- the parts of the returned time
 
--- the least of these, or the greatest moment
+-- the least of these, or the greatest `Instant`
 abbrev pub least_of : List ℕ → ℕ
 least_of moments = fold min greatest_moment moments
 
--- when a request that is queued may go out
+-- when a queued request may be sent
 abbrev pub soonest_queued : State → ℕ
 soonest_queued s = if has_queued_request s then pause_end s else greatest_moment
 
--- when a transaction is sent again or given up
+-- when a transaction is retransmitted or times out
 abbrev pub soonest_transaction : State → ℕ
 soonest_transaction s = least_of (map (next_moment (agent_of s).timers s.transport) s.transactions)
 
--- when a grant ends
+-- when a grant expires
 abbrev pub soonest_end : ℕ → State → ℕ
 soonest_end now s = least_of (flat_map (end_of now) s.grants)
 
--- when a refresh goes out, not before the pause ends
+-- when a refresh is sent, not before the pause ends
 abbrev pub soonest_refresh : State → ℕ
 soonest_refresh s = max (pause_end s) (least_of (filter_map (refresh_time s) s.grants))
 
--- the longest sleep, or what comes before it
+-- the longest wait, or what is due before it
 abbrev pub soonest : ℕ → State → ℕ
 soonest now s =
     min (later_by longest_sleep now)
@@ -69,7 +69,7 @@ soonest now s =
 
 -- ---- channel numbers
 
--- the numbers that a client may bind, up to one that is not meant (RFC 8656, section 12)
+-- the numbers that a client may bind are taken, up to this one exclusive (RFC 8656, section 12)
 abbrev pub AreTakenUpTo : ℕ → State → Type 0
 AreTakenUpTo end s = (number : ℕ) → 0x4000 ≤ number → number < end → is_number_taken number s ≡ true
 
@@ -82,7 +82,7 @@ pub record IsLeastFree (number : ℕ) (s : State) : Type 0 where
 
 -- ---- streams
 
--- Each stream is in its place with its local end, and one from another local end than this is as it was.
+-- Each stream is in its place with its local address, and one from another local address is unchanged.
 pub record IsAsideFrom (local : SocketAddr) (s t : State) : Type 0 where
   pub change : Stream → Stream
   pub same : t.streams ≡ map change s.streams

@@ -16,7 +16,7 @@ use Rattle.turn_client_api.specs.Handled.{Turn}
 use Rattle.turn_client_api.specs.Steps.{Call}
 use Rattle.turn_client_api.specs.LawsHandled.{IsBoundAt, IsDoneBy, IsOverWaiting}
 
--- The turn is that of a whole message on the connection from this local end, which waited to be bound to this
+-- The input is a whole message on the connection from this local address, which waited to be bound to this
 -- peer. It is a success that is signed, and answers the outstanding CONNECTION_BIND that was made for the
 -- connection (RFC 6062, section 4.3).
 pub record IsBindTurn (local peer : SocketAddr) (one : Turn) : Type 0 where
@@ -37,7 +37,7 @@ pub record IsBindTurn (local peer : SocketAddr) (one : Turn) : Type 0 where
 abbrev pub IsConnecting : DataConnection → Turn → Type 0
 IsConnecting c one = (peer : SocketAddr) × IsBindTurn c.local peer one
 
--- why the stream at this local end is bound after the call: it was before, or a turn bound it
+-- why the stream at this local address is bound after the call: it was before, or an input bound it
 abbrev pub IsBoundBy : SocketAddr → SocketAddr → Call → State → Type 0
 IsBoundBy local peer call s = IsBoundAt local peer s ⊎ IsDoneBy (IsBindTurn local peer) call s
 

@@ -1,4 +1,4 @@
--- What there is at most once among a client's grants, over all calls.
+-- Which of a client's grants are unique, over all calls.
 use Rattle.std.specs.Prelude.{◌==◌, Bool, false}
 use Rattle.std.specs.List.{IsDistinct}
 use Rattle.turn_agent.specs.Agent.{same_address}
@@ -6,8 +6,8 @@ use Rattle.turn_client_api.specs.Config.{same_family}
 use Rattle.turn_client_api.specs.State.{State, Grant, Allocation, Permission, Channel, Connect, Connection}
 use Rattle.turn_client_api.specs.Grants.{family_of, same_ip}
 
--- Both are of one kind and stand for the same: two allocations of a family, permissions of an IP address,
--- channels of a number, CONNECTs to a peer, or connections from a local end.
+-- Both are of one kind and for the same: two allocations of a family, permissions of an IP address,
+-- channels of a number, CONNECTs to a peer, or connections from a local address.
 abbrev pub is_double : Grant → Grant → Bool
 is_double (Allocation a) (Allocation b) = same_family (family_of a.relayed) (family_of b.relayed)
 is_double (Permission ip progress) (Permission other later) = same_ip ip other
@@ -16,6 +16,6 @@ is_double (Connect peer) (Connect other) = same_address peer other
 is_double (Connection c) (Connection d) = same_address c.local d.local
 is_double _ _ = false
 
--- no two grants stand for the same
+-- no two grants are for the same
 abbrev pub HasNoDoubles : State → Type 0
 HasNoDoubles s = IsDistinct is_double s.grants

@@ -1,4 +1,4 @@
--- By which call a grant goes, by its kind (RFC 8656, sections 7 to 12; RFC 6062, section 4).
+-- Which call removes a grant, by its kind (RFC 8656, sections 7 to 12; RFC 6062, section 4).
 use Rattle.std.specs.Prelude.{◌≡◌, ◌⊎◌, ◌<◌, ◌≤◌, ℕ, true, false, List, None, Some, Option, IsSome}
 use Rattle.std.specs.List.{Contains}
 use Rattle.turn_agent.specs.Agent.{given_up}
@@ -15,7 +15,7 @@ use Rattle.turn_client_api.specs.LawsBodies.{lapse_moments}
 use Rattle.turn_client_api.specs.LawsReplies.{IsAccepted}
 use Rattle.turn_client_api.specs.LawsRequests.{IsAnswer}
 
--- the grant without what may change of it: how far it has come, its moments, and what was told of it
+-- the grant without what may change of it: its progress, its times, and whether it was reported
 abbrev pub bare : Grant → Grant
 bare (Allocation a) = Allocation (record { relayed = a.relayed; first_lifetime = 0; expiry = 0; is_expired = false })
 bare (Permission ip progress) = Permission ip Pending
@@ -24,7 +24,7 @@ bare (Connect peer) = Connect peer
 bare (Offer offer) = Offer (record offer { is_told = false })
 bare (Connection c) = Connection (record c { deadline = None })
 
--- it is there, however far it has come
+-- it exists, whatever its progress
 abbrev pub IsStillThere : State → Grant → Type 0
 IsStillThere s g = (is : Grant) × Contains s.grants is × (bare g ≡ bare is)
 
@@ -34,14 +34,14 @@ abbrev pub GivesBack : Purpose → Type 0
 GivesBack (ForRefresh family lifetime) = lifetime ≡ 0
 GivesBack _ = ⊥
 
--- The message is a signed reply to an outstanding request that was made for the grant, or gives all
--- allocations back.
+-- The message is a signed reply to an outstanding request that was made for the grant, or to delete all
+-- allocations.
 abbrev pub IsTakenByReply : List ℕ → State → Grant → Type 0
 IsTakenByReply message s g =
     IsAccepted (judgement_of s message)
     × ((purpose : Purpose) × IsAnswer message s purpose × ((is_for purpose g ≡ true) ⊎ GivesBack purpose))
 
--- the message came over the connection from this local end, which waited to be bound
+-- the message came over the connection from this local address, which waited to be bound
 abbrev pub IsOverItself : Option Stream → Grant → Type 0
 IsOverItself (Some stream) g = (stream.mode ≡ Waiting) × (is_connection_from stream.local g ≡ true)
 IsOverItself None g = ⊥
@@ -55,19 +55,19 @@ IsClosedWith call s g = (end : IsStreamEnd call s (state_after call s)) × (is_c
 
 -- ---- as time passes
 
--- a transaction is given up, or the least moment at which a grant lapses has come
+-- a transaction times out, or the earliest time at which a grant expires has come
 abbrev pub IsTimeUp : ℕ → State → Type 0
 IsTimeUp now s =
     IsSome (given_up (agent_of s) now)
     ⊎ ((s.phase ≡ Allocated) × ((moment : ℕ) × Contains (lapse_moments s) moment × (moment ≤ now)))
 
--- the request that is given up now was made for the grant
+-- the request that times out now was made for the grant
 abbrev pub IsGivenUp : ℕ → State → Grant → Type 0
 IsGivenUp now s g =
     (x : Transaction) × (given_up (agent_of s) now ≡ Some x) × (is_for_any (purposes_of x.id s) g ≡ true)
 
--- Its own time is over, or it was asked for in vain. A channel that ends is reserved for a while and stays
--- there so long, and an offer goes with the server's request for it.
+-- It has expired, or the request for it timed out. A channel that expires is reserved for a while and
+-- exists so long, and an offer is removed with the server's request for it.
 abbrev pub IsSpent : ℕ → State → Grant → Type 0
 IsSpent now s (Permission ip (Active expiry)) = expiry ≤ now
 IsSpent now s (Permission ip Pending) = IsGivenUp now s (Permission ip Pending)
@@ -81,16 +81,16 @@ IsSpent now s (Connection c) =
     (deadline : ℕ) × (c.deadline ≡ Some deadline) × ((deadline ≤ now) ⊎ IsGivenUp now s (Connection c))
 IsSpent now s _ = ⊥
 
--- an allocation that is past its end takes all that stands in it
+-- an allocation whose expiry has passed is removed with all grants in it
 abbrev pub IsPastWith : ℕ → State → Grant → Type 0
 IsPastWith now s g =
     (a : Relay) × Contains s.grants (Allocation a) × (family_of_grant g ≡ family_of a.relayed) × (a.expiry ≤ now)
 
--- the time of the grant is over, or that of its allocation
+-- the grant has expired, or its allocation
 abbrev pub IsOver : ℕ → State → Grant → Type 0
 IsOver now s g = (s.phase ≡ Allocated) × (IsSpent now s g ⊎ IsPastWith now s g)
 
--- it is there after the `poll`, or its time is over
+-- it exists after the `poll`, or has expired
 abbrev pub IsThereOrOver : ℕ → State → State → Grant → Type 0
 IsThereOrOver now s t g = IsStillThere t g ⊎ IsOver now s g
 

@@ -1,5 +1,5 @@
--- What is granted by a signed success of the server alone (RFC 8489, section 9.2.5; RFC 8656, sections 7.3
--- to 12.3; RFC 6062, section 4.3).
+-- What only a signed success of the server grants (RFC 8489, section 9.2.5; RFC 8656, sections 7.3 to 12.3;
+-- RFC 6062, section 4.3).
 use Rattle.std.specs.Prelude.{◌≡◌, ◌⊎◌, ◌≤◌, ℕ, true, List, Some, None, ⊤}
 use Rattle.std.specs.List.{Contains, list_any}
 use Rattle.std.specs.declared.net.socket_addr.SocketAddr.{SocketAddr}
@@ -26,7 +26,7 @@ IsStanding (Channel number peer (Active expiry)) = ⊤
 IsStanding (Connection c) = c.deadline ≡ None
 IsStanding _ = ⊥
 
--- the second is the first, granted, and ends at the same moment
+-- the second is the first, granted, with the same expiry
 abbrev pub IsKeptAs : Grant → Grant → Type 0
 IsKeptAs (Allocation was) (Allocation is) = (was.relayed ≡ is.relayed) × (was.expiry ≡ is.expiry)
 IsKeptAs (Permission ip (Active was)) (Permission other (Active is)) = (ip ≡ other) × (was ≡ is)
@@ -34,7 +34,7 @@ IsKeptAs (Channel number peer (Active was)) (Channel other to (Active is)) = (nu
 IsKeptAs (Connection was) (Connection is) = (was ≡ is) × (was.deadline ≡ None)
 IsKeptAs _ _ = ⊥
 
--- it stood already, with this end
+-- it was active already, with this expiry
 abbrev pub Stood : State → Grant → Type 0
 Stood s g = (was : Grant) × Contains s.grants was × IsKeptAs was g
 
@@ -42,8 +42,8 @@ Stood s g = (was : Grant) × Contains s.grants was × IsKeptAs was g
 abbrev pub HasChannelTo : ℕ → SocketAddr → State → Type 0
 HasChannelTo number peer s = (progress : Progress) × Contains s.grants (Channel number peer progress)
 
--- what a success that comes now, in this state, gives for a purpose of its request: an allocation is of a
--- family that is asked for, and a channel has its peer already, with which it was asked for
+-- what a success that is received now, in this state, grants for a purpose of its request: an allocation is
+-- of a requested family, and a channel has its peer already, with which it was requested
 abbrev pub IsGivenFor : Purpose → List ℕ → ℕ → State → Grant → Type 0
 IsGivenFor ForAllocation message now s (Allocation a) =
     (n : ℕ) × (lifetime_in message ≡ Some n) × (a.expiry ≡ later_by (seconds n) now)
@@ -58,8 +58,8 @@ IsGivenFor (ForChannel number peer) message now s (Channel other to (Active expi
     (other ≡ number) × (expiry ≡ later_by channel_lifetime now) × HasChannelTo other to s
 IsGivenFor _ message now s _ = ⊥
 
--- The message is a success that is signed under the held realm and the client's credentials, it answers
--- an outstanding request, and this request was made for a purpose that the grant is given for.
+-- The message is a success that is signed with the client's credentials under the realm that it holds, it
+-- answers an outstanding request, and this request was made for a purpose that the grant is granted for.
 pub record IsGrantedBy (message : List ℕ) (now : ℕ) (s : State) (g : Grant) : Type 0 where
   pub success : class_in message ≡ Success
   pub signed : IsValidated (validation_of (auth_of s) message)
@@ -68,39 +68,39 @@ pub record IsGrantedBy (message : List ℕ) (now : ℕ) (s : State) (g : Grant) 
   pub listed : Contains (purposes_of (id_of message) s) purpose
   pub given : IsGivenFor purpose message now s g
 
--- the message granted it, with this end
+-- the message granted it, with this expiry
 abbrev pub IsGrant : Grant → Deed
 IsGrant g message now s = (was : Grant) × IsGrantedBy message now s was × IsKeptAs was g
 
--- The turn is that of a whole message, a datagram or a frame of the control connection, which granted it.
+-- The input is a whole message, a datagram or a frame of the control connection, which granted it.
 pub record IsGrantTurn (g : Grant) (one : Turn) : Type 0 where
   pub over : IsOverControl one
   pub whole : is_message one.bytes ≡ true
   pub grant : IsGrant g one.bytes one.moment one.before
 
--- a connection is bound over itself, and all else is granted over the control connection
+-- a connection is bound over itself, and all other grants are granted over the control connection
 abbrev pub IsGrantedIn : Grant → Turn → Type 0
 IsGrantedIn (Connection c) one = IsConnecting c one
 IsGrantedIn g one = IsGrantTurn g one
 
--- the caller gives the allocation back, which ends now
+-- the caller deletes the allocation, which expires now
 abbrev pub IsEndedNow : Call → State → Grant → Type 0
 IsEndedNow (Delete now) s (Allocation a) =
     (a.expiry ≡ now) × ((was : Relay) × Contains s.grants (Allocation was) × (was.relayed ≡ a.relayed))
 IsEndedNow _ s _ = ⊥
 
--- why the grant stands after the call: it stood before, it is given back now, or a turn granted it
+-- why the grant is active after the call: it was before, it is deleted now, or an input granted it
 abbrev pub HasCause : Call → State → Grant → Type 0
 HasCause call s g = Stood s g ⊎ IsEndedNow call s g ⊎ IsDoneBy (IsGrantedIn g) call s
 
 -- ---- a channel's peer
 
--- the turn granted the channel, in answer to the request for its number and its peer
+-- the input granted the channel, in answer to the request for its number and its peer
 abbrev pub IsChannelTurn : ℕ → SocketAddr → ℕ → Turn → Type 0
 IsChannelTurn number peer expiry one =
     (turn : IsGrantTurn (Channel number peer (Active expiry)) one) × (turn.grant.1.purpose ≡ ForChannel number peer)
 
--- why the channel is active after the call: it was before, with this end, or a turn granted it
+-- why the channel is active after the call: it was before, with this expiry, or an input granted it
 abbrev pub HasChannelCause : ℕ → SocketAddr → ℕ → Call → State → Type 0
 HasChannelCause number peer expiry call s =
     Contains s.grants (Channel number peer (Active expiry)) ⊎ IsDoneBy (IsChannelTurn number peer expiry) call s

@@ -1,4 +1,4 @@
--- What a call does is what the turns do that it takes (RFC 8656, section 12.5; RFC 6062, section 4.3).
+-- A call does what the inputs do that it processes (RFC 8656, section 12.5; RFC 6062, section 4.3).
 use Rattle.std.specs.Prelude.{◌≡◌, ◌⊎◌, ℕ, List, [], ◌∷◌, ◌++◌, Option, Some, None, ⊤}
 use Rattle.std.specs.List.{Contains}
 use Rattle.std.specs.declared.net.socket_addr.SocketAddr.{SocketAddr}
@@ -10,24 +10,24 @@ use Rattle.turn_client_api.specs.Streams.{broken_at, frame_step, owned, with_byt
 use Rattle.turn_client_api.specs.Handled.{Turn, handled, made_of}
 use Rattle.turn_client_api.specs.Steps.{Call, Recv, PollRecv, state_after}
 
--- ---- what streams have to do with messages: nothing
+-- ---- messages are independent of the streams
 
--- with these streams in place of its own the message does the same, and leaves them
+-- with these streams in place of its own the message has the same effect, and leaves them
 abbrev pub IgnoresStreams : List Stream → List ℕ → ℕ → State → Type 0
 IgnoresStreams streams message now s =
     message_step message now (record s { streams = streams })
     ≡ ((message_step message now s).0, record (message_step message now s).1 { streams = streams })
 
--- with these bytes in the stream at this local end the frame does the same, and leaves them
+-- with these bytes in the stream at this local address the frame has the same effect, and leaves them
 abbrev pub IgnoresBytes : SocketAddr → List ℕ → Stream → List ℕ → ℕ → State → Type 0
 IgnoresBytes local bytes stream frame now s =
     frame_step stream frame now (with_bytes local bytes s)
     ≡ ((frame_step stream frame now s).0, with_bytes local bytes (frame_step stream frame now s).1)
 
--- ---- one turn of a stream
+-- ---- one step of a stream
 
--- One frame was in front of the stream. It was handled in the state in which the stream holds nothing, and
--- what is behind it was put back. Where a payload stands does not count.
+-- The stream had a first frame. It was processed in the state in which the stream holds nothing, and the
+-- bytes after it were put back. The place of a payload does not count.
 pub record IsFrameOf (stream : Stream) (now : ℕ) (s : State) (one : Turn) (p : Outcome × State) : Type 0 where
   pub taken_of : one.stream ≡ Some stream
   pub at : one.moment ≡ now
@@ -37,20 +37,21 @@ pub record IsFrameOf (stream : Stream) (now : ℕ) (s : State) (one : Turn) (p :
   pub outcome : owned p.0 ≡ owned (made_of one).0
   pub after : p.1 ≡ with_bytes stream.local rest (made_of one).1
 
--- No frame was in front: no frame begins so, and the stream is broken, it waits for more, or it was broken.
+-- There was no first frame: no frame begins so, and the stream is broken, it waits for more, or it was
+-- broken.
 abbrev pub IsFrameless : Stream → State → Outcome × State → Type 0
 IsFrameless stream s p =
     (p ≡ (Handled, broken_at stream.local s))
     ⊎ (p ≡ (Handled, with_bytes stream.local stream.bytes s))
     ⊎ ((stream.mode ≡ Broken) × (p ≡ (Handled, with_bytes stream.local [] s)))
 
--- the stream's turn took these frames, and did what they do
+-- the step of the stream took these frames, and did what they do
 abbrev pub IsTurnOf : Stream → ℕ → State → List Turn → Outcome × State → Type 0
 IsTurnOf stream now s [] p = IsFrameless stream s p
 IsTurnOf stream now s (one ∷ []) p = IsFrameOf stream now s one p
 IsTurnOf stream now s (one ∷ other ∷ later) p = ⊥
 
--- ---- all turns of a call
+-- ---- all inputs of a call
 
 -- the stream at this local end is bound to this peer
 abbrev pub IsBoundAt : SocketAddr → SocketAddr → State → Type 0
@@ -61,28 +62,29 @@ pub record DiffersInStreams (s t : State) : Type 0 where
   pub others : t ≡ record s { streams = t.streams }
   pub bound : (local peer : SocketAddr) → IsBoundAt local peer t → IsBoundAt local peer s
 
--- these turns, each in the state that the one before left, lead from the first state to the second
+-- these inputs, each in the state that the one before left, lead from the first state to the second
 abbrev pub TurnsLead : List Turn → State → State → Type 0
 TurnsLead [] s t = DiffersInStreams s t
 TurnsLead (one ∷ later) s t = DiffersInStreams s one.before × TurnsLead later (made_of one).1 t
 
--- the call takes turns
+-- the call processes inputs
 abbrev pub TakesTurns : Call → Type 0
 TakesTurns (Recv packet now) = ⊤
 TakesTurns (PollRecv now) = ⊤
 TakesTurns _ = ⊥
 
--- an empty piece came: the server closed the stream, and no turn is taken
+-- an empty piece was passed in: the server closed the stream, and no input is processed
 pub record IsStreamEnd (call : Call) (s t : State) : Type 0 where
   pub local : SocketAddr
   pub nothing : handled call s ≡ []
   pub gone : t ≡ without_stream local (connection_gone local s)
 
--- what the call does, where it finds memory
+-- what the call does, if no memory allocation fails
 abbrev pub DoesTurns : Call → State → Type 0
 DoesTurns call s = TurnsLead (handled call s) s (state_after call s) ⊎ IsStreamEnd call s (state_after call s)
 
--- it found none for the next turn: it took the first ones of these turns, and then ended the client
+-- an allocation for the next input failed: the call processed the first of these inputs, and then ended the
+-- client
 pub record EndsInTurns (call : Call) (s t : State) : Type 0 where
   pub front : List Turn
   pub later : List Turn
@@ -91,11 +93,11 @@ pub record EndsInTurns (call : Call) (s t : State) : Type 0 where
   pub lead : TurnsLead front s last
   pub ended : t ≡ closed last
 
--- one of the turns that the call takes did it
+-- one of the inputs that the call processes did it
 abbrev pub IsDoneBy : (Turn → Type 0) → Call → State → Type 0
 IsDoneBy Did call s = (one : Turn) × Contains (handled call s) one × Did one
 
--- ---- over what it came
+-- ---- where it was received
 
 -- it is a datagram, or a frame of the control connection
 abbrev pub IsOverControl : Turn → Type 0
@@ -105,7 +107,7 @@ IsOverControl one = by one.stream
     by None = ⊤
     by (Some stream) = stream.mode ≡ Control
 
--- it is a frame of the connection from this local end, which waits to be bound
+-- it is a frame of the connection from this local address, which waits to be bound
 abbrev pub IsOverWaiting : SocketAddr → Turn → Type 0
 IsOverWaiting local one = by one.stream
   where

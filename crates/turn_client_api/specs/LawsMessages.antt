@@ -1,4 +1,4 @@
--- Worked messages of the server, so that the check computes what the machine makes of them.
+-- Worked messages of the server, so that the check computes their effect on the machine.
 use Rattle.std.specs.Prelude.{◌≡◌, ℕ, ◌*◌, false, List, [], ◌∷◌, ◌++◌, length, map, Some, None}
 use Rattle.std.specs.declared.net.socket_addr.SocketAddr.{SocketAddr}
 use Rattle.turn_types.specs.declared.family.AddressFamily.TheVariants.{IPV4, IPV6}
@@ -13,7 +13,7 @@ use Rattle.turn_client_api.specs.LawsRows.{awaiting, granted_at, peer, ip_of_pee
 
 -- ---- messages
 
--- a moment in milliseconds
+-- a time in milliseconds
 abbrev pub ms : ℕ → ℕ
 ms n = n * 1_000_000
 
@@ -73,7 +73,7 @@ abbrev pub bad_request_reply : List ℕ
 bad_request_reply = message_with 0x01 0x13 (with_error 0)
 
 -- Replies, each with this signature or with none. ALLOCATE: 1000 s for both families; for IPv4, with more
--- behind the signature; nothing but the address before it; and no address of one family
+-- after the signature; nothing but the address before it; and no address of one family
 abbrev pub both_allocated : List ℕ → List ℕ
 both_allocated signature = message_with 0x01 0x03 (with_lifetime 0x03 0xe8 ++ with_relayed_v6 ++ with_relayed_v4 ++ signature)
 
@@ -103,43 +103,43 @@ channel_bound signature = message_with 0x01 0x09 signature
 abbrev pub channel_not_bound : List ℕ → List ℕ
 channel_not_bound signature = message_with 0x01 0x19 (with_error 3 ++ signature)
 
--- CONNECT: the server's connection 9, also in an error, which counts for nothing
+-- CONNECT: the server's connection ID 9, also in an error, where it is ignored
 abbrev pub connected : List ℕ → List ℕ
 connected signature = message_with 0x01 0x0a (with_connection_id ++ signature)
 
 abbrev pub not_connected : List ℕ → List ℕ
 not_connected signature = message_with 0x01 0x1a (with_error 47 ++ with_connection_id ++ signature)
 
--- ---- what comes of them
+-- ---- their effects
 
 -- the message is signed under what the client holds
 abbrev pub IsOfHeldKey : List ℕ → State → Type 0
 IsOfHeldKey message s = validation_of (auth_of s) message ≡ Validated Sha1
 
--- what the client makes of it at 100 ms
+-- its effect on the client at 100 ms
 abbrev pub after_message : List ℕ → State → Outcome × State
 after_message message s = message_step message (ms 100) s
 
--- with a signature, whatever its bytes, that is right, this is so of what comes of the reply
+-- with a signature, whatever its bytes, that is valid, this holds of the effect of the reply
 abbrev pub IfSigned : (List ℕ → List ℕ) → State → (Outcome × State → Type 0) → Type 0
 IfSigned reply s Is =
     (byte : ℕ → ℕ) → IsOfHeldKey (reply (with_integrity byte)) s → Is (after_message (reply (with_integrity byte)) s)
 
--- so it is at each client of a kind
+-- this holds for each client of a kind
 abbrev pub WhenSigned : (List ℕ → List ℕ) → (SocketAddr → List ℕ → State → State) → (Outcome × State → Type 0) → Type 0
 WhenSigned reply client Is = (to : SocketAddr) (text : List ℕ) (s : State) → IfSigned reply (client to text s) Is
 
--- nothing comes of the message
+-- the message has no effect
 abbrev pub Ignores : List ℕ → State → Type 0
 Ignores message s = after_message message s ≡ (Ignored, s)
 
--- without a signature, which the client finds to be so, nothing comes of the reply
+-- without a signature, which the client notices, the reply has no effect
 abbrev pub IgnoresUnsigned : (List ℕ → List ℕ) → (SocketAddr → List ℕ → State → State) → Type 0
 IgnoresUnsigned reply client =
     (to : SocketAddr) (text : List ℕ) (s : State) → validation_of (auth_of (client to text s)) (reply []) ≡ Refused false
     → Ignores (reply []) (client to text s)
 
--- nor of a second copy of a signed one
+-- nor does a second copy of a signed one
 abbrev pub IgnoresCopy : (List ℕ → List ℕ) → (SocketAddr → List ℕ → State → State) → Type 0
 IgnoresCopy reply client =
     (byte : ℕ → ℕ) (to : SocketAddr) (text : List ℕ) (s : State) → IsOfHeldKey (reply (with_integrity byte)) (client to text s)
@@ -147,7 +147,7 @@ IgnoresCopy reply client =
 
 -- ---- clients that await the response to request 7
 
--- it asked for addresses of both families
+-- it requested addresses of both families
 abbrev pub allocating : SocketAddr → List ℕ → State → State
 allocating to text s = record (awaiting (ForAllocation ∷ []) to text (granted_at 0 [] s)) {
   phase = Authenticating;
@@ -158,7 +158,7 @@ allocating to text s = record (awaiting (ForAllocation ∷ []) to text (granted_
 abbrev pub allocation_of_v4 : Grant
 allocation_of_v4 = new_allocation 1000 (ms 50) relayed_v4
 
--- a REFRESH that was answered at 100 ms lets it last for 600 s from then on
+-- a REFRESH that was answered at 100 ms extends it to 600 s from then on
 abbrev pub lasting_600_s : Grant
 lasting_600_s = Allocation (record { relayed = relayed_v4; first_lifetime = seconds 1000; expiry = ms 600_100; is_expired = false })
 
@@ -175,7 +175,7 @@ granted_permission = Permission ip_of_peer (Active (ms 300_100))
 abbrev pub granted_channel : Grant
 granted_channel = Channel 0x4000 peer (Active (ms 600_100))
 
--- it was made for these, and this was asked for
+-- it was made for these, and these grants are pending
 abbrev pub asking : List Purpose → List Grant → SocketAddr → List ℕ → State → State
 asking purposes grants to text s = awaiting purposes to text (granted_at 0 (allocation_of_v4 ∷ grants) s)
 
@@ -186,7 +186,7 @@ abbrev pub asking_channel : SocketAddr → List ℕ → State → State
 asking_channel to text s =
     asking (ForChannel 0x4000 peer ∷ ForPermission ip_of_peer ∷ []) (Channel 0x4000 peer Pending ∷ Permission ip_of_peer Pending ∷ []) to text s
 
--- one that it has
+-- a permission that is active
 abbrev pub permission_for_300_s : Grant
 permission_for_300_s = Permission ip_of_peer (Active (seconds 300))
 
@@ -196,13 +196,13 @@ asking_connection to text s = asking (ForConnect peer ∷ []) (permission_for_30
 abbrev pub refreshing : ℕ → SocketAddr → List ℕ → State → State
 refreshing lifetime to text s = asking (ForRefresh IPV4 lifetime ∷ []) [] to text s
 
--- an offer of the server's connection 9 to the peer
+-- an offer of the server's connection ID 9 to the peer
 abbrev pub offer_of : Origin → Grant
 offer_of origin = Offer (record { connection_id = 9; peer = peer; is_told = false; origin = origin })
 
 -- ---- clients that are challenged
 
--- it asked for an IPv4 address by its first ALLOCATE
+-- it requested an IPv4 address by its first ALLOCATE
 abbrev pub asking_first : List ℕ → State → State
 asking_first text s = record (requesting text s) {
   config = record s.config { supported_integrity = Sha1 ∷ [] };
@@ -215,6 +215,7 @@ asking_first text s = record (requesting text s) {
 abbrev pub held_by_it : Challenge
 held_by_it = record { realm = realm; nonce = nonce; algorithm = Sha1; password_algorithms = [] }
 
--- it holds that, asked for a permission, and answered so many challenges since the server last took a request
+-- it holds that, requested a permission, and answered so many challenges since the server last accepted a
+-- request
 abbrev pub challenged : ℕ → SocketAddr → List ℕ → State → State
 challenged count to text s = record (asking_permission to text s) { held = Some held_by_it; challenges = count; families = [] }

@@ -3,7 +3,7 @@ use Rattle.std.specs.Prelude.{ℕ, ◌==◌, List, filter_map, Option, Some, Non
 use Rattle.std.specs.List.{IsDistinct}
 use Rattle.turn_client_api.specs.State.{State, Grant, Channel}
 
--- the number of a channel, whether it is asked for, active or reserved
+-- the number of a channel, whether it is pending, active or reserved
 abbrev pub number_of_channel : Grant → Option ℕ
 number_of_channel (Channel number peer progress) = Some number
 number_of_channel _ = None

@@ -1,4 +1,4 @@
--- What every client keeps, over all calls.
+-- What holds for every client, over all calls.
 use Rattle.std.specs.Prelude.{◌≡◌, true, [], None, IsSome, ⊤}
 use Rattle.turn_client_api.specs.State.{State, Phase, New, Allocated, Closed}
 use Rattle.turn_client_api.specs.Due.{has_queued_request}
@@ -15,9 +15,9 @@ IsUngranted Allocated = ⊥
 IsUngranted Closed = ⊥
 IsUngranted _ = ⊤
 
--- More than `IsOrderly`, which it brings: each call keeps it. A new client has sent nothing, and has
--- nothing to send or to await. One that has begun has sent a packet, and so has one that has a request
--- to send.
+-- More than `IsOrderly`, which it implies: each call keeps it. A new client has sent nothing, and has
+-- nothing to send or to await. One that has begun has sent a packet, and so has one that has a request to
+-- send.
 abbrev pub IsSteady : State → Type 0
 IsSteady s =
     (s.phase ≡ New → (s.last_send ≡ None) × (s.queue ≡ []) × (s.transactions ≡ []))

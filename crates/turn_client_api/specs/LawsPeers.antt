@@ -1,4 +1,4 @@
--- From which peers something comes (RFC 8656, sections 11.6 and 12.6; RFC 6062, section 4.3).
+-- The peers whose data is returned (RFC 8656, sections 11.6 and 12.6; RFC 6062, section 4.3).
 use Rattle.std.specs.Prelude.{◌≡◌, ◌⊎◌, ℕ, true, false, List, Option, Some, None, IfSome, ⊤}
 use Rattle.std.specs.List.{Contains}
 use Rattle.std.specs.Net.Socket.{socket_ip}
@@ -27,7 +27,7 @@ abbrev pub HasChannel : ℕ → SocketAddr → State → Type 0
 HasChannel number peer s = (expiry : ℕ) × Contains s.grants (Channel number peer (Active expiry))
 
 -- The client is in `Allocated`, and the bytes are a DATA indication that names this peer, which has a
--- permission. All that it has to understand it does (RFC 8489, section 6.3.2).
+-- permission. It has no unknown comprehension-required attribute (RFC 8489, section 6.3.2).
 pub record IsIndicated (bytes : List ℕ) (peer : SocketAddr) (s : State) : Type 0 where
   pub phase : s.phase ≡ Allocated
   pub indication : is_data_indication bytes ≡ true
@@ -35,22 +35,22 @@ pub record IsIndicated (bytes : List ℕ) (peer : SocketAddr) (s : State) : Type
   pub named : last_peer_in bytes ≡ Some peer
   pub permitted : HasPermission (socket_ip peer) s
 
--- it is the value of the last DATA attribute, over the allocation's transport, and stands there
+-- it is the value of the last DATA attribute, over the allocation's transport, and lies there
 abbrev pub IsDataAttribute : List ℕ → State → Payload → Type 0
 IsDataAttribute bytes s payload =
     (a : Attribute) × (last_in data_kind bytes ≡ Some a) × (PeerData payload ≡ data_of s payload.peer a.offset a.value)
 
--- it is all that the channel frame carries, over the allocation's transport, and stands there
+-- it is the whole payload of the ChannelData message, over the allocation's transport, and lies there
 abbrev pub IsChannelPayload : List ℕ → State → Payload → Type 0
 IsChannelPayload bytes s payload = PeerData payload ≡ data_of s payload.peer 0 (channel_at bytes).payload
 
--- There is no DATA, and the last ICMP attribute tells it, over the allocation's transport.
+-- There is no DATA, and it is in the last ICMP attribute, over the allocation's transport.
 abbrev pub IsIcmpAttribute : List ℕ → State → TransportType → Icmp → Type 0
 IsIcmpAttribute bytes s transport icmp =
     (last_in data_kind bytes ≡ None) × (last_icmp_in bytes ≡ Some icmp) × (transport ≡ s.config.allocation_transport)
 
--- What a whole message or channel frame gives came from a peer that the server lets through: in a DATA
--- indication, or over its channel.
+-- What a whole message or ChannelData message returns came from a permitted peer: in a DATA indication, or
+-- over its channel.
 abbrev pub IsLetThrough : List ℕ → State → Outcome → Type 0
 IsLetThrough bytes s (PeerData payload) =
     (IsIndicated bytes payload.peer s × IsDataAttribute bytes s payload)
@@ -65,15 +65,16 @@ IsNobodys Handled = ⊤
 IsNobodys Ignored = ⊤
 IsNobodys _ = ⊥
 
--- What a frame of a stream gives, by how the stream's bytes are meant: a bound one gives all of them, over
--- TCP, as its peer's.
+-- What a frame of a stream returns, by the mode of the stream: a bound one returns all its bytes, over TCP,
+-- as its peer's.
 abbrev pub IsLetIn : Mode → List ℕ → State → Outcome → Type 0
 IsLetIn Control frame s outcome = IsLetThrough frame s outcome
 IsLetIn Waiting frame s outcome = IsNobodys outcome
 IsLetIn (Bound peer) frame s outcome = outcome ≡ PeerData (sent_by peer frame (all_of frame))
 IsLetIn Broken frame s outcome = IsNobodys outcome
 
--- what a call handles gives only what the state lets in that stands when its turn comes
+-- an input that a call processes returns only data of peers that are permitted in the state in which it is
+-- processed
 abbrev pub IsLetInTurn : Turn → Type 0
 IsLetInTurn t = by t.stream
   where
@@ -81,15 +82,15 @@ IsLetInTurn t = by t.stream
     by None = IsLetThrough t.bytes t.before (made_of t).0
     by (Some stream) = IsLetIn stream.mode t.bytes t.before (made_of t).0
 
--- a turn of the call gives the payload, at its place in what the caller handed in, or owned
+-- an input of the call returns the payload, at its place in what the caller passed in, or owned
 abbrev pub IsGivenBy : Payload → Call → State → Type 0
 IsGivenBy payload call s = IsDoneBy (λ one. (turn_payload one ≡ Some payload) × IsLetInTurn one) call s
 
--- where the call gives a payload, a turn gives it
+-- if the call returns a payload, an input returns it
 abbrev pub IsGivenInTurn : Option Payload → Call → State → Type 0
 IsGivenInTurn o call s = IfSome o (λ payload. IsGivenBy payload call s)
 
--- where it tells what ICMP told, a turn of the call gives that
+-- if it returns an ICMP report, an input of the call returns that
 abbrev pub IsToldBy : Outcome → Call → State → Type 0
 IsToldBy (PeerIcmp transport peer icmp) call s =
     IsDoneBy (λ one. ((made_of one).0 ≡ PeerIcmp transport peer icmp) × IsLetInTurn one) call s

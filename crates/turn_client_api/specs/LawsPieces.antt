@@ -1,4 +1,4 @@
--- Worked pieces of streams, so that the check computes what the machine makes of them.
+-- Worked pieces of streams, so that the check computes their effect on the machine.
 use Rattle.std.specs.Prelude.{◌≡◌, ℕ, ◌+◌, List, [], ◌∷◌, ◌++◌, length, map, Option, Some, None}
 use Rattle.std.specs.declared.ops.Range.{Range}
 use Rattle.std.specs.declared.net.socket_addr.SocketAddr.{SocketAddr}
@@ -30,7 +30,7 @@ server = V4 (xor_v4 (10 ∷ 0 ∷ 0 ∷ 2 ∷ []) 2000)
 
 -- ---- clients over TCP, at 1 s
 
--- nothing waits in the stream at this local end
+-- the stream at this local address holds nothing
 abbrev pub empty_stream : SocketAddr → Mode → Stream
 empty_stream local mode = record { local = local; mode = mode; bytes = [] }
 
@@ -61,15 +61,15 @@ with_waiting text s = record (with_connection (Some (seconds 39)) Waiting s) {
   listed = listings 1 (ForBind data_end peer 7 ∷ []);
 }
 
--- a datagram of the server comes
+-- a datagram of the server is received
 abbrev pub datagram_in : List ℕ → State → Outcome × State
 datagram_in bytes s = datagram_step bytes (seconds 1) s
 
--- the server's piece of the stream at this local end comes
+-- the server's piece of the stream at this local address is received
 abbrev pub piece_at : SocketAddr → List ℕ → State → Outcome × State
 piece_at local piece s = recv_step Tcp server local piece (seconds 1) s
 
--- the client is asked for what waits
+-- the client is polled for buffered data
 abbrev pub polled : State → Option Payload × State
 polled s = poll_recv_step (seconds 1) s
 
@@ -82,7 +82,7 @@ abc = 0x61 ∷ 0x62 ∷ 0x63 ∷ []
 abbrev pub abc_frame : List ℕ
 abc_frame = (0x40 ∷ 0x00 ∷ 0x00 ∷ 0x03 ∷ []) ++ abc ++ 0x00 ∷ []
 
--- half of its header, and what is behind that
+-- half of its header, and the bytes after that
 abbrev pub half_header : List ℕ
 half_header = 0x40 ∷ 0x00 ∷ []
 
@@ -92,7 +92,7 @@ behind_half = (0x00 ∷ 0x03 ∷ []) ++ abc ++ 0x00 ∷ []
 abbrev pub hello : List ℕ
 hello = 0x68 ∷ 0x65 ∷ 0x6c ∷ 0x6c ∷ 0x6f ∷ []
 
--- a DATA indication of the peer, with so many bytes behind the header and these attributes
+-- a DATA indication of the peer, with so many bytes after the header and these attributes
 abbrev pub indication_with : ℕ → List ℕ → List ℕ
 indication_with len attributes =
     (0x00 ∷ 0x17 ∷ 0x00 ∷ len ∷ 0x21 ∷ 0x12 ∷ 0xa4 ∷ 0x42 ∷ []) ++ (0 ∷ 0 ∷ 0 ∷ 0 ∷ 0 ∷ 0 ∷ 0 ∷ 0 ∷ 0 ∷ 0 ∷ 0 ∷ 1 ∷ [])
@@ -122,9 +122,9 @@ bind_success byte =
     ++ (0x00 ∷ 0x08 ∷ 0x00 ∷ 0x14 ∷ [])
     ++ map byte (0 ∷ 1 ∷ 2 ∷ 3 ∷ 4 ∷ 5 ∷ 6 ∷ 7 ∷ 8 ∷ 9 ∷ 10 ∷ 11 ∷ 12 ∷ 13 ∷ 14 ∷ 15 ∷ 16 ∷ 17 ∷ 18 ∷ 19 ∷ [])
 
--- ---- what comes of them
+-- ---- their effects
 
--- the peer sent this over the allocation, and it is that part of the caller's piece, or owned
+-- the peer sent this over the allocation, and it is that range of the caller's piece, or owned
 abbrev pub relayed : List ℕ → Option ℕ → Payload
 relayed bytes at = record { transport = Udp; peer = peer; bytes = bytes; place = from_to at }
   where
@@ -139,11 +139,11 @@ from_peer bytes at = record (relayed bytes at) { transport = Tcp }
 abbrev pub reported : ℕ → ℕ → ℕ → Outcome
 reported icmp_type code value = PeerIcmp Udp peer (record { icmp_type = icmp_type; code = code; «data» = value })
 
--- the message is judged so by the client's credentials and what it holds
+-- the client's credentials and what it holds judge the message so
 abbrev pub IsJudged : Validation → List ℕ → State → Type 0
 IsJudged verdict message s = validation_of (auth_of s) message ≡ verdict
 
--- where the success to CONNECTION_BIND is judged so, this is so of what comes of it and of these bytes behind it
+-- if the success to CONNECTION_BIND is judged so, this holds of its effect and of these bytes after it
 abbrev pub WhenJudged : Validation → List ℕ → (Outcome × State → Type 0) → Type 0
 WhenJudged verdict behind Is =
     (byte : ℕ → ℕ) (text : List ℕ) (s : State) → IsJudged verdict (bind_success byte) (with_waiting text s)

@@ -1,24 +1,24 @@
--- Which replies count, and which transaction IDs are drawn.
-use Rattle.std.specs.Prelude.{◌≡◌, ◌⊎◌, ◌<◌, ◌^◌, ℕ, true, false, List, None, ⊤}
+-- Which replies are accepted, and which transaction IDs are used.
+use Rattle.std.specs.Prelude.{◌≡◌, ◌⊎◌, ℕ, true, false, List, None, ⊤}
 use Rattle.std.specs.List.{Contains}
 use Rattle.std.specs.declared.net.socket_addr.SocketAddr.{SocketAddr}
 use Rattle.turn_stun.specs.Message.{id_of}
 use Rattle.turn_agent.specs.Agent.{is_outstanding, is_response}
 use Rattle.turn_client_api.specs.State.{State, Connection, DataConnection, Purpose}
-use Rattle.turn_client_api.specs.Requests.{fresh_id, most_taken}
+use Rattle.turn_client_api.specs.Requests.{fresh_id}
 use Rattle.turn_client_api.specs.Judgement.{Judgement, SignedSuccess, SignedError, bind_judgement, class_in, judgement_of}
 use Rattle.turn_client_api.specs.Connections.{bind_answered, bind_step}
 use Rattle.turn_client_api.specs.Payloads.{answered_purposes, message_step}
 use Rattle.turn_client_api.specs.Steps.{Call}
 use Rattle.turn_client_api.specs.LawsTurns.{Deed, IsBroughtBy}
 
--- the server grants what was asked for, or denies it, and signed that
+-- the server grants what was requested, or denies it, and signed that
 abbrev pub IsAccepted : Judgement → Type 0
 IsAccepted SignedSuccess = ⊤
 IsAccepted SignedError = ⊤
 IsAccepted _ = ⊥
 
--- a response with the message's ID is awaited, or none is
+-- a response with the message's ID is awaited, and none is
 abbrev pub IsAwaited : List ℕ → State → Type 0
 IsAwaited message s = is_outstanding (id_of message) s.transactions ≡ true
 
@@ -35,15 +35,15 @@ BindsNothing local message now s =
     (c : DataConnection) → IsNotAwaited message s → Contains (bind_step local message now s).grants (Connection c) → c.deadline ≡ None
     → Contains s.grants (Connection c)
 
--- a reply that is accepted over the control connection is awaited no longer, unless its ID is drawn anew
+-- a reply that is accepted over the control connection is awaited no longer, unless its ID is used anew
 abbrev pub EndsRequest : List ℕ → ℕ → State → Type 0
 EndsRequest message now s =
     IsAccepted (judgement_of s message) → IsAwaited message (message_step message now s).1 → id_of message ≡ fresh_id s
 
--- while an ID is free it is not drawn anew
+-- its ID is not used anew by the input
 abbrev pub EndsForGood : List ℕ → ℕ → State → Type 0
 EndsForGood message now s =
-    most_taken s < 2 ^ 96 → IsAccepted (judgement_of s message) → IsNotAwaited message (message_step message now s).1
+    IsAccepted (judgement_of s message) → IsNotAwaited message (message_step message now s).1
 
 -- a response that is not awaited, such as a second copy, changes no grant
 abbrev pub GrantsNothing : List ℕ → ℕ → State → Type 0
@@ -54,12 +54,12 @@ GrantsNothing message now s =
 abbrev pub IsHeeded : Deed
 IsHeeded message now s = IsAccepted (judgement_of s message) × ((p : Purpose) × Contains (answered_purposes message s) p)
 
--- a call draws the ID: as the next one of the client as it is, or as it is when the turn of a message
--- comes
+-- a call uses the ID: as the next one of the client before the call, or as it is when a message is
+-- processed
 abbrev pub IsDrawn : Call → ℕ → State → Type 0
 IsDrawn call id s = (id ≡ fresh_id s) ⊎ IsBroughtBy (λ message now t. id ≡ fresh_id t) call s
 
--- each ID that is outstanding after the call was so before it, or the call draws it
+-- each ID that is outstanding after the call was so before it, or the call uses it
 abbrev pub DrawsNewOnes : Call → State → State → Type 0
 DrawsNewOnes call s t =
     (id : ℕ) → is_outstanding id t.transactions ≡ true → IsDrawn call id s ⊎ (is_outstanding id s.transactions ≡ true)

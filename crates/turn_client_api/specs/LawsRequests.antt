@@ -16,14 +16,14 @@ use Rattle.turn_client_api.specs.Handled.{Turn, made_of}
 use Rattle.turn_client_api.specs.Steps.{Call, state_after, Delete, CreatePermission, BindChannel, TcpConnect, AllocatedTcpSocket, Recv, PollRecv, PollTransmit}
 use Rattle.turn_client_api.specs.LawsHandled.{IsDoneBy}
 
--- These bytes ask for the purpose under this ID, by what the client holds. The first ALLOCATE is not signed:
--- it brings the challenge.
+-- These bytes request the purpose under this ID, with what the client holds. The first ALLOCATE is not
+-- signed: the challenge comes in its response.
 abbrev pub Spells : Purpose → ℕ → List ℕ → State → Type 0
 Spells purpose id text t =
     (text ≡ request_for t purpose id) ⊎ ((purpose ≡ ForAllocation) × (t.phase ≡ Requesting) × (text ≡ first_allocate t id))
 
--- A request for the purpose was made at this moment, between these two states: under the ID that was the
--- next one, to the server, and it is outstanding now.
+-- A request for the purpose was made at this time, between these two states: under the ID that was the next
+-- one, to the server, and it is outstanding now.
 pub record IsMade (purpose : Purpose) (now : ℕ) (s t : State) : Type 0 where
   pub text : List ℕ
   pub spelled : Spells purpose (fresh_id s) text t
@@ -37,9 +37,9 @@ IsMadeAs purpose now s t x = (made : IsMade purpose now s t) × (x ≡ first_sen
 abbrev pub IsListedAs : Purpose → ℕ → State → State → Listing → Type 0
 IsListedAs purpose now s t l = IsMade purpose now s t × (l.id ≡ fresh_id s)
 
--- ---- what the caller asks for, and what is to be refreshed
+-- ---- what the caller requests, and what is to be refreshed
 
--- the call asks for this at that moment
+-- the call requests this at that time
 abbrev pub AsksFor : Call → State → Purpose → ℕ → Type 0
 AsksFor (Delete now) s purpose at = (at ≡ now) × ((family : AddressFamily) × (purpose ≡ ForRefresh family 0))
 AsksFor (CreatePermission transport ip now) s purpose at = (at ≡ now) × (purpose ≡ ForPermission ip)
@@ -53,7 +53,7 @@ AsksFor (PollTransmit now) s purpose at =
     ⊎ ((s.phase ≡ Allocated) × (slice_get (flat_map (refreshes_in now s) (allocations s)) 0 ≡ Some purpose)))
 AsksFor _ s purpose at = ⊥
 
--- a request for the first is listed for the second: a channel brings a permission with it
+-- a request for the first is listed for the second: a channel is requested with a permission
 abbrev pub IsListedFor : Purpose → Purpose → Type 0
 IsListedFor purpose other = (other ≡ purpose) ⊎ brings purpose other
   where
@@ -61,7 +61,7 @@ IsListedFor purpose other = (other ≡ purpose) ⊎ brings purpose other
     brings (ForChannel number peer) (ForPermission ip) = ip ≡ socket_ip peer
     brings _ _ = ⊥
 
--- a request that was outstanding was sent again, with the same bytes
+-- a request that was outstanding was retransmitted, with the same bytes
 abbrev pub IsSentAgain : Call → State → Transaction → Type 0
 IsSentAgain (PollTransmit now) s x = (was : Transaction) × Contains s.transactions was × (x ≡ sent_again now was)
 IsSentAgain _ s x = ⊥
@@ -88,7 +88,7 @@ IsListedInTurn l one = IsListedAgain one.bytes one.moment one.before (made_of on
 
 -- ---- a call
 
--- the call made the request, or sent it again
+-- the call made the request, or retransmitted it
 abbrev pub IsRequestOf : Call → State → Transaction → Type 0
 IsRequestOf (Recv packet now) s x = IsDoneBy (IsMadeInTurn x) (Recv packet now) s
 IsRequestOf (PollRecv now) s x = IsDoneBy (IsMadeInTurn x) (PollRecv now) s

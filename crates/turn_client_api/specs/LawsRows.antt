@@ -1,4 +1,4 @@
--- Worked states, so that the check computes what the machine answers in them.
+-- Worked states, so that the check computes the machine's answers in them.
 use Rattle.std.specs.Prelude.{◌≡◌, ℕ, zero, suc, ◌*◌, List, [], ◌∷◌, ◌++◌, length, map, Option, Some, None}
 use Rattle.std.specs.declared.net.ip_addr.IpAddr.{IpAddr}
 use Rattle.std.specs.declared.net.ip_addr.IpAddr.TheVariants as Ip
@@ -42,7 +42,7 @@ peer = V4 (xor_v4 (10 ∷ 0 ∷ 0 ∷ 3 ∷ []) 9000)
 
 -- ---- states
 
--- a client over UDP with these grants, that sent its last request at this moment and awaits nothing
+-- a client over UDP with these grants, that sent its last request at this time and awaits nothing
 abbrev pub granted_at : ℕ → List Grant → State → State
 granted_at moment grants s = record s {
   config = record s.config { allocation_transport = Udp; request_timers = None };
@@ -57,7 +57,7 @@ granted_at moment grants s = record s {
   closes = [];
 }
 
--- a new client over UDP that sent its first ALLOCATE, number 7, at moment 0
+-- a new client over UDP that sent its first ALLOCATE, number 7, at time 0
 abbrev pub requesting : List ℕ → State → State
 requesting text s = record (granted_at 0 [] s) {
   phase = Requesting;
@@ -73,23 +73,25 @@ challenged_once text challenge s = state_after_retry (requesting text s) 7 ForAl
 abbrev pub with_both_families : State → State
 with_both_families s = granted_at 0 (new_allocation 1000 50_000_000 relayed_v4 ∷ new_allocation 1000 50_000_000 relayed_v6 ∷ []) s
 
--- it has an allocation over IPv4 and a permission, which was granted at 100 ms, and sent its last request at this moment
+-- it has an allocation over IPv4 and a permission, which was granted at 100 ms, and sent its last request
+-- at this time
 abbrev pub with_permission : ℕ → State → State
 with_permission moment s =
     granted_at moment (new_allocation 1800 50_000_000 relayed_v4 ∷ Permission ip_of_peer (Active 300_100_000_000) ∷ []) s
 
--- it asks for a permission at 60 ms, 10 ms after its last request
+-- it requests a permission at 60 ms, 10 ms after its last request
 abbrev pub asking_at_60_ms : State → State
 asking_at_60_ms s =
     (create_permission_step Udp ip_of_peer 60_000_000 (granted_at 50_000_000 (new_allocation 1800 50_000_000 relayed_v4 ∷ []) s)).1
 
--- ---- a server that keeps silent
+-- ---- a server that does not respond
 
 -- 600 ms after the first send, 1 s at most after others, three sends, and 3 s after the last
 abbrev pub short_timers : Timers
 short_timers = record { initial = 600_000_000; max = 1_000_000_000; transmissions = 3; last = 3_000_000_000 }
 
--- the client has sent its first ALLOCATE at moment 0 over this transport, and waits by these timers, or by default
+-- the client has sent its first ALLOCATE at time 0 over this transport, and waits by these timers, or by
+-- default
 abbrev pub requesting_by : Option Timers → TransportType → List ℕ → State → State
 requesting_by timers transport text s = record (requesting text s) {
   config = record s.config { request_timers = timers };
@@ -100,24 +102,25 @@ abbrev pub told_and_then : (ℕ → State → List TurnPollRet) → TurnPollRet 
 told_and_then later (WaitUntil moment, s) = WaitUntil moment ∷ later moment s
 told_and_then later (answer, s) = answer ∷ []
 
--- What the client says when it is polled so often: each time at the moment that it told before, once
--- what is due was sent.
+-- The results of so many calls of `poll`: each at the time that the one before returned, once what is due
+-- was sent.
 unfoldable pub told_in_turn : ℕ → ℕ → State → List TurnPollRet
 told_in_turn zero now s = []
 told_in_turn (suc n) now s = told_and_then (told_in_turn n) (poll_step now (transmit_step now s).1)
 
--- these moments, in milliseconds, and then that it has ended
+-- these times, in milliseconds, and then that it has ended
 abbrev pub waits_and_ends : List ℕ → List TurnPollRet
 waits_and_ends moments = map (λ m. WaitUntil (m * 1_000_000)) moments ++ Ended ∷ []
 
--- the client waits for a first ALLOCATE up to each of these moments in turn, and has ended after the last one
+-- the client waits for a first ALLOCATE until each of these times in sequence, and has ended after the last
+-- one
 abbrev pub WaitsInSilence : Option Timers → TransportType → List ℕ → Type 0
 WaitsInSilence timers transport moments =
     (text : List ℕ) (s : State) → told_in_turn (suc (length moments)) 0 (requesting_by timers transport text s) ≡ waits_and_ends moments
 
 -- ---- the first ALLOCATE (RFC 8656, section 7.1)
 
--- so many bytes behind the header, a lifetime of 1800 s, and UDP to be relayed unfragmented
+-- so many bytes after the header, a lifetime of 1800 s, and UDP to be relayed unfragmented
 abbrev pub allocate_bytes : ℕ → ℕ → List ℕ → List ℕ
 allocate_bytes len id others =
     (0x00 ∷ 0x03 ∷ 0x00 ∷ len ∷ 0x21 ∷ 0x12 ∷ 0xa4 ∷ 0x42 ∷ []) ++ id_bytes id
@@ -125,15 +128,15 @@ allocate_bytes len id others =
     ++ (0x00 ∷ 0x19 ∷ 0x00 ∷ 0x04 ∷ 0x11 ∷ 0x00 ∷ 0x00 ∷ 0x00 ∷ [])
     ++ (0x00 ∷ 0x1a ∷ 0x00 ∷ 0x00 ∷ []) ++ others
 
--- over UDP it is so spelled for these families: so many bytes behind the header, and these behind the others
+-- over UDP it is so encoded for these families: so many bytes after the header, and these after the others
 abbrev pub IsFirstAllocate : List AddressFamily → ℕ → List ℕ → Type 0
 IsFirstAllocate families len others =
     (s : State) (id : ℕ) → s.config.allocation_transport ≡ Udp → s.families ≡ families → first_allocate s id ≡ allocate_bytes len id others
 
 -- ---- requests that get no response
 
--- Over UDP with the default times a request is given up 39.5 s behind its first send: this one, number 7,
--- was first sent at 1 s, and for the seventh and last time at 32.5 s (RFC 8489, section 6.2.1).
+-- Over UDP with the default times a request times out 39.5 s after its first send: this one, number 7, was
+-- first sent at 1 s, and for the seventh and last time at 32.5 s (RFC 8489, section 6.2.1).
 abbrev pub last_sent : SocketAddr → List ℕ → Transaction
 last_sent to text = record { id = 7; to = to; resends = 6; last_send = 32_500_000_000; request = text }
 
@@ -145,21 +148,21 @@ awaiting purposes to text s = record s { transactions = last_sent to text ∷ []
 abbrev pub both_allocations : List Grant
 both_allocations = new_allocation 1800 50_000_000 relayed_v4 ∷ new_allocation 1800 50_000_000 relayed_v6 ∷ []
 
--- the client gives them back at 1 s
+-- the client deletes them at 1 s
 abbrev pub giving_back : State → State
 giving_back s = (delete_step 1_000_000_000 (granted_at 0 both_allocations s)).1
 
--- it did so, and nothing came
+-- it did so, and got no response
 abbrev pub deleted_in_silence : SocketAddr → List ℕ → State → State
 deleted_in_silence to text s =
     awaiting (ForRefresh IPV4 0 ∷ ForRefresh IPV6 0 ∷ []) to text (all_expired 1_000_000_000 (granted_at 32_500_000_000 both_allocations s))
 
--- the client asked for a channel and the permission that it needs, and nothing came
+-- the client requested a channel and the permission that it needs, and got no response
 abbrev pub binding_in_silence : SocketAddr → List ℕ → State → State
 binding_in_silence to text s =
     awaiting (ForChannel 0x4000 peer ∷ ForPermission ip_of_peer ∷ []) to text
     (granted_at 32_500_000_000 (new_allocation 1800 50_000_000 relayed_v4 ∷ Channel 0x4000 peer Pending ∷ Permission ip_of_peer Pending ∷ []) s)
 
--- this is so of what a client answers that is polled when that request is given up
+-- this holds of the result of a client that is polled when that request times out
 abbrev pub WhenGivenUp : (TurnPollRet × State → Type 0) → Type 0
 WhenGivenUp Is = (to : SocketAddr) (text : List ℕ) (s : State) → Is (poll_step 40_500_000_000 (binding_in_silence to text s))

@@ -1,4 +1,4 @@
--- Worked data connections, so that the check computes what the machine does with them.
+-- Worked data connections, so that the check computes the machine's effect on them.
 use Rattle.std.specs.Prelude.{ℕ, List, [], ◌∷◌, ◌++◌, Option, None, Result}
 use Rattle.std.specs.declared.net.socket_addr.SocketAddr.{SocketAddr}
 use Rattle.turn_stun.specs.declared.transport.TransportType.TheVariants.{Tcp}
@@ -20,11 +20,11 @@ relaying_tcp grants s = record (over_tcp grants [] s) {
 abbrev pub permission : Grant
 permission = Permission ip_of_peer (Active (seconds 300))
 
--- the server told of a connection of the peer
+-- the server reported a connection of the peer
 abbrev pub offered : State → State
 offered s = relaying_tcp (permission ∷ offer_of ServerIndication ∷ []) s
 
--- a ConnectionAttempt of the server's connection 9: an indication, a request, and one that names no peer
+-- a ConnectionAttempt of the server's connection ID 9: an indication, a request, and one that names no peer
 abbrev pub attempted : List ℕ
 attempted = message_with 0x00 0x1c (with_connection_id ++ with_peer)
 
@@ -38,6 +38,6 @@ asked_without_peer signature = message_with 0x00 0x0c (with_connection_id ++ sig
 abbrev pub control : Socket5Tuple
 control = record { transport = Tcp; from = client; to = server }
 
--- the caller opened connection 9 to the peer from this local end at 150 ms, or could not
+-- the caller opened connection 9 to the peer from this local address at 150 ms, or could not
 abbrev pub opened : SocketAddr → Option SocketAddr → State → Result Unit TcpAllocateError × State
 opened to local s = allocated_tcp_socket_step 9 control to local (ms 150) (offered s)

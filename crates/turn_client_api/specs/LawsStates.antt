@@ -1,4 +1,4 @@
--- Where a client can be, over all calls.
+-- Which states a client can be in, over all calls.
 use Rattle.std.specs.Prelude.{◌≡◌, ◌⊎◌, ◌==◌, ◌&&◌, ◌≤◌, ℕ, Bool, true, List, filter, length, Option, IsSome, All, ⊤}
 use Rattle.std.specs.List.{list_any}
 use Rattle.std.specs.declared.net.socket_addr.SocketAddr.{SocketAddr}
@@ -13,12 +13,12 @@ use Rattle.turn_client_api.specs.Connections.{is_indicated, most_indicated}
 use Rattle.turn_client_api.specs.Steps.{Call, Leaves}
 use Rattle.turn_client_api.specs.LawsNumbers.{channel_numbers_of}
 
--- of each new client
+-- it holds for each new client
 abbrev pub HoldsAtFirst : (State → Type 0) → Type 0
 HoldsAtFirst P =
     (transport : TransportType) (local remote : SocketAddr) (config : Config) (seed : List ℕ) → P (initial transport local remote config seed)
 
--- whatever is called, whether or not the call finds memory
+-- and after every call, even if memory allocation fails
 abbrev pub StaysInCalls : (State → Type 0) → Type 0
 StaysInCalls P = (call : Call) (s t : State) → Leaves call s t → P s → P t
 
@@ -29,7 +29,7 @@ IsInRange number = (0x4000 ≤ number) × (number ≤ 0x4FFF)
 abbrev pub HasNumbersInRange : State → Type 0
 HasNumbersInRange s = All IsInRange (channel_numbers_of s)
 
--- from the first challenge on, up to the end of the client
+-- from the first challenge on, until the client ends
 abbrev pub IsHeldIn : Phase → Option Challenge → Type 0
 IsHeldIn Authenticating held = IsSome held
 IsHeldIn Allocated held = IsSome held
@@ -45,12 +45,12 @@ IsToServer s t = t.to ≡ s.remote
 abbrev pub AsksServer : State → Type 0
 AsksServer s = All (IsToServer s) s.transactions
 
--- the request asks for this grant, a channel with its number and its peer
+-- the request is for this grant, a channel with its number and its peer
 abbrev pub is_asked_by : Purpose → Grant → Bool
 is_asked_by (ForChannel number peer) (Channel other to progress) = (other == number) && same_address to peer
 is_asked_by purpose grant = is_for purpose grant
 
--- the request is an ALLOCATE, or a grant is there that it asks for
+-- the request is an ALLOCATE, or a grant exists that it is for
 abbrev pub HasItsGrant : State → Listing → Type 0
 HasItsGrant s l = (l.purpose ≡ ForAllocation) ⊎ (list_any (is_asked_by l.purpose) s.grants ≡ true)
 

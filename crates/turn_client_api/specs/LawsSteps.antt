@@ -10,7 +10,7 @@ use Rattle.turn_client_api.specs.Payloads.{message_step}
 abbrev pub StaysClosed : State → State → Type 0
 StaysClosed s t = s.phase ≡ Closed → t.phase ≡ Closed
 
--- no more challenges are answered than may be
+-- no more challenges are answered than allowed
 abbrev pub StaysPatient : State → State → Type 0
 StaysPatient s t = s.challenges ≤ most_challenges → t.challenges ≤ most_challenges
 
@@ -19,19 +19,19 @@ abbrev pub KeepsRealm : State → State → Type 0
 KeepsRealm s t =
     (c : Challenge) → s.held ≡ Some c → (d : Challenge) × (t.held ≡ Some d) × (d.realm ≡ c.realm) × (d.algorithm ≡ c.algorithm)
 
--- A challenge over the control connection is answered only where fewer than nine were, and counted then.
--- One that is about nothing changes nothing, and one too many ends the client.
+-- A challenge over the control connection is answered only if fewer than nine were, and counted then. One
+-- that is for nothing changes nothing, and one too many ends the client.
 abbrev pub IsCounted : State → State → Type 0
 IsCounted s t =
     (t ≡ s) ⊎ (((s.challenges < most_challenges) × (t.challenges ≡ s.challenges + 1))
     ⊎ ((most_challenges ≤ s.challenges) × (t.phase ≡ Closed) × (t.challenges ≡ s.challenges)))
 
--- each challenge that comes when its turn is in this state is counted so
+-- each challenge that is processed in this state is counted so
 abbrev pub CountsChallenge : List ℕ → ℕ → State → Type 0
 CountsChallenge message now s =
     (challenge : Challenge) → judgement_of s message ≡ Challenged challenge → IsCounted s (message_step message now s).1
 
--- how far a client has come
+-- the progress of a client
 abbrev pub rank : Phase → ℕ
 rank New = 0
 rank Requesting = 1
@@ -39,6 +39,6 @@ rank Authenticating = 2
 rank Allocated = 3
 rank Closed = 4
 
--- a client goes on from phase to phase and never back, and it stays one that has sent a request
+-- a client advances from phase to phase and never back, and it stays one that has sent a request
 abbrev pub GoesOn : State → State → Type 0
 GoesOn s t = (rank s.phase ≤ rank t.phase) × (IsSome s.last_send → IsSome t.last_send)

@@ -7,12 +7,12 @@ use Rattle.turn_client_api.specs.State.{State, Mode, Control, Waiting, Bound, Br
 use Rattle.turn_client_api.specs.Payloads.{Outcome}
 use Rattle.turn_client_api.specs.LawsPeers.{IsNobodys}
 
--- no whole frame is in front, nor a byte that no frame begins with
+-- no whole frame comes first, nor a byte that no frame begins with
 abbrev pub HasNoFrame : List ℕ → Type 0
 HasNoFrame bytes =
     (begins_no_frame bytes ≡ false) × ((frame more : List ℕ) → bytes ≡ frame ++ more → ¬ IsFrame frame)
 
--- nothing of the stream is handled before more of it comes
+-- nothing of the stream is processed before more of it is received
 abbrev pub IsDrained : Stream → Type 0
 IsDrained stream = by stream.mode
   where
@@ -22,7 +22,7 @@ IsDrained stream = by stream.mode
     by (Bound peer) = stream.bytes ≡ []
     by Broken = ⊤
 
--- where nothing of a peer comes, no stream is left with something to be handled
+-- if no data of a peer is returned, no stream is left with something to process
 abbrev pub DrainsOrGives : Outcome × State → Type 0
 DrainsOrGives r = IsNobodys r.0 → All IsDrained r.1.streams
 
@@ -30,6 +30,6 @@ DrainsOrGives r = IsNobodys r.0 → All IsDrained r.1.streams
 abbrev pub IsEmptyIfBroken : Stream → Type 0
 IsEmptyIfBroken stream = stream.mode ≡ Broken → stream.bytes ≡ []
 
--- no two streams have one local end, and what is broken holds nothing
+-- no two streams have one local address, and a broken one holds nothing
 abbrev pub AreApart : State → Type 0
 AreApart s = IsDistinct same_address (map (λ stream. stream.local) s.streams) × All IsEmptyIfBroken s.streams

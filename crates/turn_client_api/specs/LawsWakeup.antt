@@ -1,8 +1,8 @@
--- The least of some moments.
+-- The earliest of some times.
 use Rattle.std.specs.Prelude.{ℕ, ◌≤◌, List, All}
 use Rattle.std.specs.List.{Contains}
 
--- the moment is one of these, and none of them is earlier
+-- the time is one of these, and none of them is earlier
 pub record IsLeast (moment : ℕ) (moments : List ℕ) : Type 0 where
   pub one : Contains moments moment
   pub least : All (λ other. moment ≤ other) moments

@@ -35,6 +35,7 @@ pub mod LawsSteps
 pub mod LawsStreams
 pub mod LawsTurns
 pub mod LawsWakeup
+pub mod Memory
 pub mod Payloads
 pub mod PeerBytes
 pub mod Poll

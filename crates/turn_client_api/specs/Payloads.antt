@@ -1,4 +1,4 @@
--- What a client makes of a whole message or a whole channel frame (RFC 8656, sections 11 and 12).
+-- What a client makes of a whole message or a whole ChannelData message (RFC 8656, sections 11 and 12).
 use Rattle.std.specs.Prelude.{ℕ, ◌+◌, ◌==◌, nat_lt, Bool, true, false, if◌then◌else◌, List, [], ◌∷◌, filter, fold, length, Option, Some, None, is_none}
 use Rattle.std.specs.Net.Socket.{socket_ip}
 use Rattle.std.specs.Option.{option_map_or}
@@ -18,14 +18,14 @@ use Rattle.turn_client_api.specs.Effect.{allocate_granted, allocate_denied, effe
 use Rattle.turn_client_api.specs.Retry.{most_challenges, retried, state_after_retry}
 use Rattle.turn_client_api.specs.Connections.{attempt_requested, attempt_indicated}
 
--- what a peer sent, and where it stands in the bytes that the caller handed in, unless it is owned
+-- the data of a peer, and where it lies in the bytes that the caller passed in, unless it is owned
 pub record Payload : Type 0 where
   pub transport : TransportType
   pub peer : SocketAddr
   pub bytes : List ℕ
   pub place : Option (Range ℕ)
 
--- what came in was for the client, was not, or came from a peer
+-- the input was for the client, was not, or came from a peer
 pub data Outcome : Type 0 where
   Handled : Outcome
   Ignored : Outcome
@@ -34,7 +34,7 @@ pub data Outcome : Type 0 where
 
 -- ---- from a peer
 
--- these bytes behind a header of four bytes at this offset
+-- these bytes after a header of four bytes at this offset
 abbrev pub data_of : State → SocketAddr → ℕ → List ℕ → Outcome
 data_of s peer offset bytes = PeerData (record {
   transport = s.config.allocation_transport;
@@ -43,8 +43,8 @@ data_of s peer offset bytes = PeerData (record {
   place = Some (record { start = offset + 4; end = offset + 4 + length bytes });
 })
 
--- A DATA indication of a peer whose IP address has a permission, whether or not its allocation is
--- expired: data, or an ICMP packet where there is none (RFC 8656, section 11.6).
+-- A DATA indication of a peer whose IP address has a permission, whether or not its allocation is expired:
+-- data, or an ICMP packet if there is no data (RFC 8656, section 11.6).
 abbrev pub data_indicated : State → List ℕ → Outcome
 data_indicated s message = if has_unknown message then Ignored else by (last_peer_in message) (last_in data_kind message) (last_icmp_in message)
   where
@@ -54,7 +54,7 @@ data_indicated s message = if has_unknown message then Ignored else by (last_pee
         if is_permitted (socket_ip peer) s then PeerIcmp s.config.allocation_transport peer icmp else Ignored
     by _ _ _ = Ignored
 
--- a channel frame of an active channel, in any phase (RFC 8656, section 12.6)
+-- a ChannelData message of an active channel, in any phase (RFC 8656, section 12.6)
 abbrev pub channel_sent : State → List ℕ → Outcome
 channel_sent s frame =
     let channel = channel_at frame in
@@ -67,12 +67,12 @@ abbrev pub is_answered : ℕ → Purpose → Bool
 is_answered method (ForBind local peer connection_id) = false
 is_answered method purpose = method_for purpose == method
 
--- what the requests of this ID and of the reply's method were made for
+-- what the requests with this ID and of the reply's method were made for
 abbrev pub answered_purposes : List ℕ → State → List Purpose
 answered_purposes message s = filter (is_answered (method_in message)) (purposes_of (id_of message) s)
 
--- A REFRESH is always handled. A reply that is about nothing that the client knows ends its transaction,
--- and is not handled.
+-- A REFRESH is always processed. A reply that is for nothing that the client knows ends its transaction,
+-- and is ignored.
 abbrev pub outcome_for : List ℕ → List Purpose → Outcome
 outcome_for message [] = if method_in message == refresh_method then Handled else Ignored
 outcome_for message (purpose ∷ others) = Handled
@@ -86,7 +86,7 @@ response_step is_granted message now s =
 
 -- ---- a whole message
 
--- the challenge is answered: one too many ends the client, and one that is about nothing is not taken
+-- the challenge is answered: one too many ends the client, and one that is for nothing is ignored
 abbrev pub challenge_step : List ℕ → Challenge → ℕ → State → Outcome × State
 challenge_step message challenge now s =
     if nat_lt s.challenges most_challenges
@@ -101,7 +101,7 @@ wrong_step message s = (Handled, closed (fail_all (by s.phase)))
     by Requesting = ended (id_of message) s
     by _ = s
 
--- a signed reply, by what the client waits for
+-- a signed reply, by what the client awaits
 abbrev pub signed_step : Bool → List ℕ → ℕ → State → Outcome × State
 signed_step is_granted message now s = by s.phase is_granted
   where

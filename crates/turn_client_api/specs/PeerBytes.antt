@@ -1,4 +1,4 @@
--- What came from a peer.
+-- Data of a peer.
 use Rattle.std.specs.Prelude.{ℕ, List, ⊤}
 use Rattle.std.specs.declared.convert.AsSlice.{Ghosts}
 use Rattle.turn_client_api.specs.declared.receive.DataRangeOrOwned.{DataRangeOrOwned}
@@ -6,7 +6,7 @@ use Rattle.turn_client_api.specs.declared.receive.DataRangeOrOwned.TheVariants.{
 use Rattle.turn_client_api.specs.declared.receive.TurnPeerData.{TurnPeerData}
 use Rattle.turn_client_api.specs.Range.{part_of}
 
--- the bytes, whoever holds them
+-- the bytes, whoever owns them
 abbrev pub held_bytes : {T : Type 0} {g : Ghosts T ℕ} → DataRangeOrOwned T g → List ℕ
 held_bytes (Range range) = part_of range
 held_bytes (Owned bytes) = bytes.items
@@ -16,7 +16,7 @@ abbrev pub IsOwned : {T : Type 0} {g : Ghosts T ℕ} → DataRangeOrOwned T g �
 IsOwned (Range range) = ⊥
 IsOwned (Owned bytes) = ⊤
 
--- who holds what the peer sent
+-- the holder of what the peer sent
 abbrev pub held_in : {T : Type 0} {g : Ghosts T ℕ} → TurnPeerData T g → DataRangeOrOwned T g
 held_in p = p.data
 

@@ -14,24 +14,24 @@ use Rattle.turn_client_api.specs.declared.event.TurnEvent.TheVariants.{Allocatio
 use Rattle.turn_client_api.specs.declared.poll.TurnPollRet.{TurnPollRet}
 use Rattle.turn_client_api.specs.declared.poll.TurnPollRet.TheVariants as Do
 
--- ---- what lapses in one allocation
+-- ---- what expires in one allocation
 
--- what the request that was just given up was made for, if there is one
+-- what the request that just timed out was made for, if there is one
 abbrev pub given_up_purposes : Option ℕ → State → List Purpose
 given_up_purposes given s = option_map_or (λ id. purposes_of id s) given []
 
--- An allocation goes at its end, unless it is expired and a request for it still awaits its response: all
--- but one that was made for these was not given up.
+-- An allocation is removed at its expiry, unless it is marked as expired and a request for it is pending. A
+-- request that was made for these purposes just timed out, and so is not pending.
 abbrev pub goes : List Purpose → ℕ → State → Relay → Bool
 goes purposes now s a =
     is_past now a
     && (is_for_any purposes (Allocation a) || not (has_request (Allocation a) s) || not a.is_expired)
 
--- these grants are no longer there, and their failures jump
+-- these grants are removed, and their failures are queued before other events
 abbrev pub failed : (Grant → Bool) → State → State
 failed which s = jump (failures_among which s) (without which s)
 
--- a permission or channel lapses at its expiry
+-- a permission or channel is expired from its expiry on
 abbrev pub is_lapsed_permission : ℕ → Grant → Bool
 is_lapsed_permission now (Permission ip (Active expiry)) = nat_le expiry now
 is_lapsed_permission now _ = false
@@ -50,13 +50,13 @@ is_unbound purposes now (Connection c) =
     option_map_or (λ deadline. nat_le deadline now || is_for_any purposes (Connection c)) c.deadline false
 is_unbound purposes now _ = false
 
--- one channel an allocation and a call: its failure jumps, and its number and peer are reserved
+-- one channel per allocation and call: its failure is queued first, and its number and peer are reserved
 abbrev pub channel_lapsed : Option Grant → State → State
 channel_lapsed (Some (Channel number peer (Active expiry))) s =
     jump (ChannelCreateFailed s.config.allocation_transport peer ∷ []) (reserved number peer expiry s)
 channel_lapsed _ s = s
 
--- connections that are not bound are to be closed, behind all others
+-- connections that are not bound are to be closed, after all others
 abbrev pub unbound : (Grant → Bool) → State → State
 unbound which s = record (failed which s) {
   closes = s.closes ++ map (λ c. c.local) (filter_map connection_in (filter which s.grants));
@@ -65,7 +65,7 @@ unbound which s = record (failed which s) {
 abbrev pub is_given_offer : Option ℕ → Grant → Bool
 is_given_offer given grant = option_map_or (λ id. is_of_request id grant) given false
 
--- what was asked for by the request that was given up, which was made for these
+-- what was requested by the request that timed out, which was made for these
 abbrev pub in_vain : AddressFamily → List Purpose → (Grant → Bool) → State → State
 in_vain family purposes which s = failed (λ g. is_of family g && which g && is_for_any purposes g) s
 
@@ -82,7 +82,7 @@ connections_unbound family purposes now s = unbound (λ g. is_of family g && is_
 abbrev pub offers_in_vain : AddressFamily → Option ℕ → State → State
 offers_in_vain family given s = failed (λ g. is_of family g && is_given_offer given g) s
 
--- what was to be refreshed in vain may be asked for again
+-- a grant whose refresh timed out may be requested again
 abbrev pub refreshes_in_vain : AddressFamily → List Purpose → State → State
 refreshes_in_vain family purposes s = unlisted (λ g. is_of family g && is_for_any purposes g) s
 
@@ -105,7 +105,7 @@ lapsed_in family given purposes now s = in_turn (
     ∷ []
     ) s
 
--- an allocation that goes takes all that is in it, and nobody is told
+-- an allocation that is removed takes all grants in it, and no event reports it
 abbrev pub lapsed_allocation : Option ℕ → List Purpose → ℕ → State → Relay → State
 lapsed_allocation given purposes now s a =
     if goes purposes now s a then without (is_of (family_of a.relayed)) s
@@ -117,7 +117,7 @@ lapsed given now s = fold (lapsed_allocation given (given_up_purposes given s) n
 
 -- ---- the caller is to open a data connection
 
--- an offer of a family that the caller was not told of
+-- an offer of a family that was not reported to the caller
 abbrev pub untold_in : AddressFamily → Grant → Option DataOffer
 untold_in family (Offer offer) = if is_of_family family offer.peer && not offer.is_told then Some offer else None
 untold_in family _ = None
@@ -126,7 +126,7 @@ untold_in family _ = None
 abbrev pub first_untold : AddressFamily → State → Option DataOffer
 first_untold family s = first_in (untold_in family) s
 
--- the one that the caller is told of next, allocation by allocation
+-- the one that is reported to the caller next, allocation by allocation
 abbrev pub next_offer : State → Option DataOffer
 next_offer s =
     if is_allocated s.phase then slice_get (filter_map (λ a. first_untold (family_of a.relayed) s) (allocations s)) 0
@@ -136,7 +136,7 @@ abbrev pub told : Grant → Grant
 told (Offer offer) = Offer (record offer { is_told = true })
 told grant = grant
 
--- the caller is told of the first of a family
+-- the first of a family is reported to the caller
 abbrev pub told_first : AddressFamily → List Grant → List Grant
 told_first family [] = []
 told_first family (g ∷ others) =
@@ -162,11 +162,11 @@ answer_by [] _ _ given now s = (Do.WaitUntil (next_wakeup (is_some given) now s)
 abbrev pub answer_step : Option ℕ → ℕ → State → TurnPollRet × State
 answer_step given now s = answer_by s.closes s.phase (allocations s) given now s
 
--- no response came to the first ALLOCATE: the families that are asked for fail
+-- no response to the first ALLOCATE: the requested families fail
 abbrev pub silent_step : State → TurnPollRet × State
 silent_step s = (Do.Closed, closed (jump (map AllocationCreateFailed s.families) (without_families s)))
 
--- at most one transaction was given up
+-- at most one transaction timed out
 abbrev pub timed_step : Phase → Option ℕ → ℕ → State → TurnPollRet × State
 timed_step New given now s = (Do.WaitUntil now, s)
 timed_step Requesting None now s = answer_step None now s
@@ -181,7 +181,7 @@ abbrev pub given_up_step : ℕ → State → TurnPollRet × State
 given_up_step now s =
     option_map_or (λ t. timed_step s.phase (Some t.id) now (ended t.id s)) (given_up (agent_of s) now) (timed_step s.phase None now s)
 
--- what the caller is to do next: first to poll what waits, and to open a data connection
+-- what the caller is to do next: first to poll what is pending, and to open a data connection
 abbrev pub poll_step : ℕ → State → TurnPollRet × State
 poll_step now s =
     if has_event s || has_reply s then (Do.WaitUntil now, s)

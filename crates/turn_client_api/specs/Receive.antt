@@ -1,4 +1,4 @@
--- What a client makes of what comes in (RFC 8656, section 11.6; over TCP RFC 6062).
+-- What a client makes of received bytes (RFC 8656, section 11.6; over TCP RFC 6062).
 use Rattle.std.specs.Prelude.{ℕ, Bool, ◌&&◌, if◌then◌else◌, List, [], ◌∷◌, ◌++◌, Option, Some, None, is_some}
 use Rattle.std.specs.declared.ops.Range.{Range}
 use Rattle.std.specs.declared.net.socket_addr.SocketAddr.{SocketAddr}
@@ -14,7 +14,7 @@ use Rattle.turn_client_api.specs.Streams.{all_of, owned, poll_recv_step, sent_by
 
 -- ---- a data connection ends
 
--- the caller is to close its end before all others that it is to close
+-- the caller is to close its end before all other connections that it is to close
 abbrev pub connection_gone : SocketAddr → State → State
 connection_gone local s =
     if is_some (connection_at local s) then record (without (is_connection_from local) s) { closes = local ∷ s.closes }
@@ -27,31 +27,31 @@ tcp_closed_step local remote s =
 
 -- ---- a piece of a stream
 
--- all of the piece, where nothing waited in the stream
+-- all of the piece, if the stream held nothing
 abbrev pub whole_piece : List ℕ → List ℕ → Option (Range ℕ)
 whole_piece [] piece = all_of piece
 whole_piece waited piece = None
 
--- a frame that stood in the piece alone is a part of it, and one that waited is owned
+-- a frame that lies wholly in the piece is a range of it, and one with buffered bytes is owned
 abbrev pub place_kept : List ℕ → Outcome → Outcome
 place_kept [] outcome = outcome
 place_kept waited outcome = owned outcome
 
--- the piece comes after what waits, and then it is the turn of this stream
+-- the piece is appended to the buffered bytes, and then a step of this stream follows
 abbrev pub first_turn : Stream → List ℕ → ℕ → State → Outcome × State
 first_turn stream piece now s =
     let step = turn (record stream { bytes = stream.bytes ++ piece }) now s in
     (place_kept stream.bytes step.0, step.1)
 
--- where no payload came yet, all streams have their turns as in `poll_recv`, and a payload replaces the
--- answer
+-- if no payload was found yet, all streams are processed as in `poll_recv`, and a payload replaces the
+-- result
 abbrev pub then_all : ℕ → Outcome × State → Outcome × State
 then_all now (PeerData payload, s) = (PeerData payload, s)
 then_all now (PeerIcmp transport peer icmp, s) = (PeerIcmp transport peer icmp, s)
 then_all now (outcome, s) =
     let others = poll_recv_step now s in (option_map_or PeerData others.0 outcome, others.1)
 
--- the pieces of the control stream set all streams going, also when it is broken
+-- the pieces of the control stream make all streams ready, also when it is broken
 abbrev pub broken_step : Stream → ℕ → State → Outcome × State
 broken_step stream now s = if same_address stream.local s.local then then_all now (Handled, s) else (Handled, s)
 
@@ -67,18 +67,18 @@ piece_step stream piece now s = by stream.mode
     )
     by Broken = broken_step stream now s
 
--- an empty piece says that the server closed the stream
+-- an empty piece reports that the server closed the stream
 abbrev pub stream_step : Stream → List ℕ → ℕ → State → Outcome × State
 stream_step stream [] now s = (Handled, without_stream stream.local (connection_gone stream.local s))
 stream_step stream piece now s = piece_step stream piece now s
 
--- ---- what comes in
+-- ---- input
 
--- it comes from the server, over what carries the client's packets
+-- it comes from the server, over the client's transport
 abbrev pub is_from_server : TransportType → SocketAddr → State → Bool
 is_from_server transport from s = same_transport transport s.transport && same_address from s.remote
 
--- what has another way is not for the client; over TCP a stream must stand at the local end
+-- input with other addresses is not for the client; over TCP a stream must exist at the local address
 abbrev pub recv_step : TransportType → SocketAddr → SocketAddr → List ℕ → ℕ → State → Outcome × State
 recv_step transport from to bytes now s = if is_from_server transport from s then by s.transport (stream_at to s) else (Ignored, s)
   where

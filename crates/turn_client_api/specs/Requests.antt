@@ -1,5 +1,5 @@
 -- What a client sends (RFC 8656, sections 7 to 12, and RFC 6062, sections 4 and 5).
-use Rattle.std.specs.Prelude.{ℕ, ◌+◌, ◌%◌, ◌^◌, not, ◌||◌, Bool, true, false, List, [], ◌∷◌, ◌++◌, map, find, length, unwrap_or}
+use Rattle.std.specs.Prelude.{ℕ, ◌+◌, ◌%◌, ◌^◌, nat_lt, if◌then◌else◌, not, ◌||◌, Bool, true, false, List, [], ◌∷◌, ◌++◌, map, find, length, unwrap_or}
 use Rattle.std.specs.List.{range_with_len}
 use Rattle.std.specs.declared.net.ip_addr.IpAddr.{IpAddr}
 use Rattle.std.specs.declared.net.ip_addr.IpAddr.TheVariants as Ip
@@ -92,7 +92,7 @@ connection_already_exists = 446
 abbrev pub connection_timed_out : ℕ
 connection_timed_out = 447
 
--- the lifetime that is asked for, in seconds (our choice: RFC 8656, section 7.2, allows up to 3600)
+-- the lifetime that is requested, in seconds (our choice: RFC 8656, section 7.2, allows up to 3600)
 abbrev pub asked_lifetime : ℕ
 asked_lifetime = 1800
 
@@ -105,11 +105,17 @@ is_taken id s = is_outstanding id s.transactions || is_listed id s
 abbrev pub most_taken : State → ℕ
 most_taken s = length s.transactions + length s.listed + length s.grants
 
--- The next ID: what the seed gives, or where that is taken the first behind it that is not, counting
--- up modulo 2^96 (our choice). Among one more than are taken, one is free.
+-- The number that is so many after this one, counting up modulo 2^96, which gives 2^96 of them; after these
+-- come the numbers from 2^96 on, which no message carries.
+abbrev pub counted_up : ℕ → ℕ → ℕ
+counted_up first n = if nat_lt n (2 ^ 96) then (first + n) % 2 ^ 96 else n
+
+-- The next ID: what the seed gives, or if that is taken the first after it that is not, counting up modulo
+-- 2^96 (our choice). Among one more than are taken, one is free. A client that holds fewer than 2^96
+-- requests and grants, as any does that a machine can hold, uses none that no message carries.
 abbrev pub fresh_id : State → ℕ
 fresh_id s =
-    unwrap_or (find (λ id. not (is_taken id s)) (map (λ n. (next_id s.ids + n) % 2 ^ 96) (range_with_len 0 (most_taken s + 1)))) (next_id s.ids)
+    unwrap_or (find (λ id. not (is_taken id s)) (map (counted_up (next_id s.ids)) (range_with_len 0 (most_taken s + 1)))) (next_id s.ids)
 
 -- ---- texts
 
@@ -119,13 +125,12 @@ attribute kind value = record { kind = kind; value = value }
 abbrev pub message_of : ℕ → MessageClass → List Addition → ℕ → List ℕ
 message_of method class attributes id = with_additions attributes (header_of (type_number method class) id)
 
--- the message with the user, the realm, the nonce and the integrity, or of a response the integrity
--- alone
+-- the message with the user, the realm, the nonce and the integrity, or for a response the integrity alone
 abbrev pub signed : State → List ℕ → List ℕ
 signed s message = signed_text (auth_of s) message
 
--- both families are asked for by the additional one, and IPv6 alone as the requested one (RFC 8656,
--- section 7.1)
+-- both families are requested by the additional one, and IPv6 alone as the requested one (RFC 8656, section
+-- 7.1)
 abbrev pub family_attributes : List AddressFamily → List Addition
 family_attributes (IPV6 ∷ []) = attribute requested_family_kind (family_value IPV6) ∷ []
 family_attributes (_ ∷ _ ∷ _) = attribute additional_family_kind (family_value IPV6) ∷ []
@@ -145,14 +150,14 @@ abbrev pub without_port : IpAddr → SocketAddr
 without_port (Ip.V4 a) = V4 (xor_v4 (ipv4_octets a) 0)
 without_port (Ip.V6 a) = V6 (xor_v6 (ipv6_segments a) 0)
 
--- the first ALLOCATE, which brings the challenge (RFC 8489, section 9.2.3.1: it is not signed)
+-- the first ALLOCATE, to which the challenge is the response (RFC 8489, section 9.2.3.1: it is not signed)
 abbrev pub first_allocate : State → ℕ → List ℕ
 first_allocate s id =
     message_of allocate_method Request
     (lifetime_attribute asked_lifetime ∷ transport_attribute s ∷ attribute dont_fragment_kind [] ∷ family_attributes s.families)
     id
 
--- what is asked for a purpose
+-- the attributes of a request for a purpose
 abbrev pub asked_attributes : State → Purpose → ℕ → List Addition
 asked_attributes s ForAllocation id =
     transport_attribute s ∷ lifetime_attribute asked_lifetime ∷ family_attributes s.families
@@ -177,14 +182,14 @@ request_for s purpose id = signed s (message_of (method_for purpose) Request (as
 
 -- ---- requests are made
 
--- the packet to the server from this local end
+-- the packet to the server from this local address
 abbrev pub to_server : State → SocketAddr → List ℕ → Transmit (List ℕ)
 to_server s from text = record { payload = text; transport = s.transport; from = from; to = s.remote }
 
 abbrev pub listings : ℕ → List Purpose → List Listing
 listings id purposes = map (λ p. record { id = id; purpose = p }) purposes
 
--- the next ID was used: the seed goes on by one, whether or not its own was taken
+-- the next ID was used: the seed advances by one, whether or not its own was taken
 abbrev pub drawn : State → State
 drawn s = record s { ids = behind_id s.ids }
 
@@ -195,12 +200,12 @@ asked id text purposes now s = record (drawn s) {
   listed = s.listed ++ listings id purposes;
 }
 
--- a request or a reply waits to be sent, behind all that wait
+-- a request or a reply is queued, after all others
 abbrev pub queued : Bool → SocketAddr → List ℕ → State → State
 queued is_request from text s =
     record s { queue = s.queue ++ record { packet = to_server s from text; is_request = is_request } ∷ [] }
 
--- a CONNECTION_BIND goes over the connection that it binds (RFC 6062, section 4.3)
+-- a CONNECTION_BIND is sent over the connection that it binds (RFC 6062, section 4.3)
 abbrev pub sent_from : State → Purpose → SocketAddr
 sent_from s (ForBind local peer connection_id) = local
 sent_from s _ = s.local
@@ -219,6 +224,6 @@ abbrev pub refused_reply : ℕ → List ℕ → State → ℕ → List ℕ
 refused_reply code reason s id =
     signed s (message_of connection_attempt_method Error (attribute error_kind (error_code_value (record { code = code; reason = reason })) ∷ []) id)
 
--- a reply waits to be sent over the control connection
+-- a reply is queued for the control connection
 abbrev pub replied : List ℕ → State → State
 replied text s = queued false s.local text s

@@ -1,4 +1,4 @@
--- A request is made again, signed as the server's challenge asks (RFC 8489, section 9.2.5).
+-- A request is made again, signed as the server's challenge requires (RFC 8489, section 9.2.5).
 use Rattle.std.specs.Prelude.{ℕ, ◌+◌, Bool, true, false, List, find, Option, Some, None}
 use Rattle.turn_auth.specs.LongTerm.{Challenge}
 use Rattle.turn_client_api.specs.State.{State, Phase, Requesting, Authenticating, Purpose, ForAllocation, ForRefresh, ForPermission, ForChannel, ForConnect}
@@ -6,8 +6,8 @@ use Rattle.turn_client_api.specs.Grants.{purposes_of}
 use Rattle.turn_client_api.specs.Requests.{fresh_id, asked, queued, request_for}
 use Rattle.turn_client_api.specs.Effect.{ended}
 
--- so many challenges are answered one after the other: a server that always asks for another nonce ends
--- the client (our choice)
+-- so many challenges are answered in sequence: a server that always requires another nonce ends the client
+-- (our choice)
 abbrev pub most_challenges : ℕ
 most_challenges = 9
 
@@ -28,8 +28,8 @@ is_allocate_or_connect ForAllocation = true
 is_allocate_or_connect (ForConnect peer) = true
 is_allocate_or_connect _ = false
 
--- The first of these, or else what follows. A request that binds a channel is listed for a permission
--- too, and is made again as it was.
+-- The first of these, or else what follows. A request that binds a channel is listed for a permission too,
+-- and is made again as it was.
 abbrev pub first_or : Option Purpose → Option Purpose → Option Purpose
 first_or (Some purpose) others = Some purpose
 first_or None others = others
@@ -47,12 +47,12 @@ abbrev pub phase_after : Phase → Phase
 phase_after Requesting = Authenticating
 phase_after phase = phase
 
--- the nonce is taken, and by the first challenge realm and algorithm, which never change then
+-- the nonce is stored, and by the first challenge realm and algorithm, which never change then
 abbrev pub with_held : Challenge → State → State
 with_held challenge s = record s { held = Some challenge }
 
--- Realm, nonce and algorithm are taken, and the request of this ID is made again under a new one, which
--- is listed for all that the old one is listed for. The old one is outstanding no longer.
+-- Realm, nonce and algorithm are stored, and the request with this ID is made again under a new one, which
+-- is listed for all that the old one is listed for. The old one is no longer outstanding.
 abbrev pub state_after_retry : State → ℕ → Purpose → Challenge → ℕ → State
 state_after_retry s id purpose challenge now =
     let t = with_held challenge (record (ended id s) { phase = phase_after s.phase; challenges = s.challenges + 1 }) in

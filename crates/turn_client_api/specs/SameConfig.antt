@@ -36,13 +36,13 @@ same_set_timers None (Some b) = false
 same_set_timers (Some a) None = false
 same_set_timers (Some a) (Some b) = same_timers a b
 
--- both ask for the same allocations
+-- both request the same allocations
 abbrev pub same_request : Config → Config → Bool
 same_request a b =
     same_allocation_transport a.allocation_transport b.allocation_transport
     && pointwise same_family a.address_families b.address_families
 
--- both are the same to a server, and keep integrity by the same algorithms
+-- both identify themselves to a server alike, and support the same integrity algorithms
 abbrev pub same_user : Config → Config → Bool
 same_user a b =
     same_credentials a.credentials b.credentials

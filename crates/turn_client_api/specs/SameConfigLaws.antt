@@ -23,7 +23,7 @@ both : {r s : Bool} {P Q : Type 0} → Decides r P → Decides s Q → Decides (
 both {r = true} p q = (λ h. (p.0 refl, q.0 h), λ h. q.1 h.1)
 both {r = false} p q = (λ h. cc, λ h. p.1 h.0)
 
--- a fact may be told in other words
+-- a fact may be stated in other words
 in_other_words : {r : Bool} {P Q : Type 0} → Decides r P → (P → Q) → (Q → P) → Decides r Q
 in_other_words d f g = (λ h. f (d.0 h), λ h. d.1 (g h))
 
@@ -97,6 +97,6 @@ same_config-Decides a b =
 pub same_config-equivalence : IsEquivalence same_config
 same_config-equivalence = decided same_config same_config-Decides
 
--- what an answer of the test says
+-- what the result of the test says
 pub told_content : (r : Bool) (a b : Config) → r ≡ same_config a b → IsTrue r ↔ (a ≡ b)
 told_content r a b e = rw e (same_config-Decides a b)

@@ -29,12 +29,12 @@ pub use Rattle.turn_client_api.specs.declared.state.Mode.{Mode}
 pub use Rattle.turn_client_api.specs.declared.state.Mode.TheVariants.{Control, Waiting, Bound, Broken}
 pub use Rattle.turn_client_api.specs.declared.state.Stream.{Stream}
 
--- ---- moments, in nanoseconds
+-- ---- times, in nanoseconds
 
 abbrev pub seconds : ℕ → ℕ
 seconds n = n * 1_000_000_000
 
--- the greatest moment: sums stop there
+-- the greatest `Instant`: sums stop there
 abbrev pub greatest_moment : ℕ
 greatest_moment = 2 ^ 63 - 1
 
@@ -49,14 +49,14 @@ pub record State : Type 0 where
   pub transport : TransportType
   pub local : SocketAddr
   pub remote : SocketAddr
-  -- its transaction IDs to come
+  -- the source of its next transaction IDs
   pub ids : Source
   pub phase : Phase
-  -- the families of which an address is still asked for
+  -- the families of which an address is still requested
   pub families : List AddressFamily
   -- realm, nonce and algorithm of the challenges that were answered
   pub held : Option Challenge
-  -- in the order in which they were asked for or granted
+  -- in the order in which they were requested or granted
   pub grants : List Grant
   pub listed : List Listing
   -- the requests that await their responses, the oldest first
@@ -67,9 +67,9 @@ pub record State : Type 0 where
   pub challenges : ℕ
   -- in the order in which they are polled
   pub events : List TurnEvent
-  -- the local ends of the data connections that the caller is to close
+  -- the local addresses of the data connections that the caller is to close
   pub closes : List SocketAddr
-  -- in the order of their opening
+  -- in the order in which they were opened
   pub streams : List Stream
 
 -- a client over TCP has the stream of its control connection from the first
@@ -99,7 +99,7 @@ initial transport local remote config seed = record {
   streams = first_streams transport local;
 }
 
--- ---- the parts that lower layers speak of
+-- ---- the parts that the crates below use
 
 abbrev pub agent_of : State → Agent
 agent_of s = record {

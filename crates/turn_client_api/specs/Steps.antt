@@ -13,11 +13,11 @@ use Rattle.turn_client_api.specs.Answers.{EndsAfterTurns, RecvEnds, event_step, 
 pub use Rattle.turn_client_api.specs.declared.call.Call.{Call}
 pub use Rattle.turn_client_api.specs.declared.call.Call.TheVariants.{Delete, CreatePermission, BindChannel, TcpConnect, AllocatedTcpSocket, TcpClosed, SendTo, Recv, PollRecv, Poll, PollTransmit, PollEvent, ProtocolError, RelayedAddresses, Permissions, HavePermission}
 
--- what is made of a packet, or of a piece of a stream
+-- what a packet, or a piece of a stream, does
 abbrev pub packet_step : Transmit (List ℕ) → ℕ → State → Outcome × State
 packet_step packet now s = recv_step packet.transport packet.from packet.to packet.payload now s
 
--- the state after the call, which found memory
+-- the state after the call, if no memory allocation fails
 abbrev pub state_after : Call → State → State
 state_after (Delete now) s = (delete_step now s).1
 state_after (CreatePermission transport peer now) s = (create_permission_step transport peer now s).1
@@ -36,8 +36,8 @@ state_after RelayedAddresses s = s
 state_after (Permissions transport relayed) s = s
 state_after (HavePermission transport to) s = s
 
--- the states that the call may leave where it finds no memory; most calls change nothing then, and those
--- that take none always find it
+-- the states that the call may leave if memory allocation fails; most calls change nothing then, and those
+-- that allocate none never fail so
 abbrev pub EndsWithoutMemory : Call → State → State → Type 0
 EndsWithoutMemory (Recv packet now) s t =
     (takes_no_memory packet.transport packet.from packet.to packet.payload s ≡ false) × RecvEnds packet.to packet.payload now s t

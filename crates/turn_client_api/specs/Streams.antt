@@ -1,5 +1,5 @@
 -- The streams of a client over TCP, cut into frames (RFC 8656, section 12.5, and RFC 6062).
-use Rattle.std.specs.Prelude.{ℕ, zero, suc, Bool, true, false, not, if◌then◌else◌, List, [], map, filter, find, sum_by, length, take, drop, Option, Some, None, is_some}
+use Rattle.std.specs.Prelude.{◌≢◌, ◌<◌, ℕ, zero, suc, Bool, true, false, not, if◌then◌else◌, List, [], map, filter, find, sum_by, length, take, drop, Option, Some, None, is_some}
 use Rattle.std.specs.declared.ops.Range.{Range}
 use Rattle.std.specs.declared.net.socket_addr.SocketAddr.{SocketAddr}
 use Rattle.turn_stun.specs.declared.transport.TransportType.TheVariants.{Tcp}
@@ -17,14 +17,14 @@ stream_at local s = find (λ stream. same_address stream.local local) s.streams
 abbrev pub without_stream : SocketAddr → State → State
 without_stream local s = record s { streams = filter (λ stream. not (same_address stream.local local)) s.streams }
 
--- the stream at this local end has these bytes now
+-- the stream at this local address has these bytes now
 abbrev pub with_bytes : SocketAddr → List ℕ → State → State
 with_bytes local bytes s = record s { streams = map by s.streams }
   where
     by : Stream → Stream
     by stream = if same_address stream.local local then record stream { bytes = bytes } else stream
 
--- nothing more comes of the stream at this local end, and what waits there is dropped
+-- nothing more is read from the stream at this local address, and its buffered bytes are dropped
 abbrev pub broken_at : SocketAddr → State → State
 broken_at local s = record s { streams = map by s.streams }
   where
@@ -33,19 +33,19 @@ broken_at local s = record s { streams = map by s.streams }
 
 -- ---- one whole frame
 
--- bytes that have stood in a stream are handed out owned
+-- bytes that were buffered in a stream are returned owned
 abbrev pub owned : Outcome → Outcome
 owned (PeerData payload) = PeerData (record payload { place = None })
 owned outcome = outcome
 
--- what does not parse as a message is dropped, and is handled
+-- what does not parse as a message is dropped, and counts as handled
 abbrev pub control_frame_step : List ℕ → ℕ → State → Outcome × State
 control_frame_step frame now s =
     if not (begins_message frame) then (channel_sent s frame, s)
     else (if is_message frame then message_step frame now s
     else (Handled, s))
 
--- on a connection that waits to be bound only messages are handled
+-- on a connection that waits to be bound only messages are processed
 abbrev pub waiting_frame_step : SocketAddr → List ℕ → ℕ → State → Outcome × State
 waiting_frame_step local frame now s =
     if not (begins_message frame) then (Ignored, s)
@@ -59,7 +59,7 @@ sent_by peer bytes place = record { transport = Tcp; peer = peer; bytes = bytes;
 abbrev pub all_of : List ℕ → Option (Range ℕ)
 all_of bytes = Some (record { start = 0; end = length bytes })
 
--- what is made of one whole frame of a stream, or of the bytes of a bound one; a payload has its place in
+-- the effect of one whole frame of a stream, or of the bytes of a bound one; a payload has its place in
 -- these bytes
 abbrev pub frame_step : Stream → List ℕ → ℕ → State → Outcome × State
 frame_step stream frame now s = by stream.mode
@@ -70,9 +70,9 @@ frame_step stream frame now s = by stream.mode
     by (Bound peer) = (PeerData (sent_by peer frame (all_of frame)), s)
     by Broken = (Handled, s)
 
--- ---- the turn of a stream
+-- ---- a step of a stream
 
--- how many bytes are handled next, or nothing where a stream has to wait for more
+-- how many bytes are processed next, or nothing if a stream has to wait for more
 abbrev pub ready_len : Stream → Option ℕ
 ready_len stream = by stream.mode stream.bytes
   where
@@ -89,28 +89,32 @@ ready_len stream = by stream.mode stream.bytes
 abbrev pub is_ready : Stream → Bool
 is_ready stream = is_some (ready_len stream)
 
+-- unless it is broken, it holds no more than the longest frame, a message of 65,555 bytes
+abbrev pub HoldsLittle : Stream → Type 0
+HoldsLittle stream = stream.mode ≢ Broken → length stream.bytes < 65556
+
 abbrev pub is_bound : Mode → Bool
 is_bound (Bound peer) = true
 is_bound _ = false
 
--- what is left goes back into the stream
+-- the remaining bytes go back into the stream
 abbrev pub put_back : SocketAddr → List ℕ → Outcome × State → Outcome × State
 put_back local bytes p = (p.0, with_bytes local bytes p.1)
 
--- the frame in front has so many bytes, or the stream waits for more
+-- the first frame has so many bytes, or the stream waits for more
 abbrev pub framed_by : Stream → ℕ → State → Option ℕ → Outcome × State
 framed_by stream now t None = (Handled, with_bytes stream.local stream.bytes t)
 framed_by stream now t (Some len) =
     put_back stream.local (drop len stream.bytes) (frame_step stream (take len stream.bytes) now t)
 
--- what no frame begins with breaks the stream when its turn comes (our choice: where the next frame
--- begins can't be known)
+-- bytes that no frame begins with break the stream when they are processed (our choice: where the next
+-- frame begins can't be known)
 abbrev pub framed_turn : Stream → ℕ → State → Outcome × State
 framed_turn stream now t =
     if begins_no_frame stream.bytes then (Handled, broken_at stream.local t)
     else framed_by stream now t (frame_len stream.bytes)
 
--- the turn of a stream that is taken out: in this state it holds nothing
+-- a step of a stream that is taken out: in this state it holds nothing
 abbrev pub turned : Stream → ℕ → State → Outcome × State
 turned stream now t = by stream.mode
   where
@@ -124,9 +128,9 @@ turned stream now t = by stream.mode
 abbrev pub turn : Stream → ℕ → State → Outcome × State
 turn stream now s = turned stream now (with_bytes stream.local [] s)
 
--- ---- all streams, in the order of their opening
+-- ---- all streams, in the order in which they were opened
 
--- up to a payload
+-- until a payload
 abbrev pub go_on : (State → Option Payload × State) → Outcome × State → Option Payload × State
 go_on next (PeerData payload, s) = (Some (record payload { place = None }), s)
 go_on next (Handled, s) = next s
@@ -137,17 +141,17 @@ abbrev pub turn_of_first : (State → Option Payload × State) → ℕ → State
 turn_of_first next now s None = (None, s)
 turn_of_first next now s (Some stream) = go_on next (turn stream now s)
 
--- so many turns, each of the first stream that is ready, or as many as there are up to a payload; what
--- ICMP tells is dropped here
+-- so many steps, each of the first stream that is ready, or as many as there are until a payload; an ICMP
+-- report is dropped here
 unfoldable pub turns_until_payload : ℕ → ℕ → State → Option Payload × State
 turns_until_payload zero now s = (None, s)
 turns_until_payload (suc n) now s = turn_of_first (turns_until_payload n now) now s (find is_ready s.streams)
 
--- each turn takes a byte at least
+-- each step takes a byte at least
 abbrev pub most_turns : State → ℕ
 most_turns s = sum_by (λ stream. length stream.bytes) s.streams
 
--- what is handed out next of what the streams hold
+-- the next payload in the streams
 abbrev pub poll_recv_step : ℕ → State → Option Payload × State
 poll_recv_step now s = turns_until_payload (most_turns s) now s
 

@@ -15,7 +15,8 @@ sent now s = record s { last_send = Some now }
 
 -- ---- refreshes
 
--- for what a grant is asked again; what has lapsed is not, and an allocation only up to its end
+-- the purpose of the refresh of a grant; what has expired is not refreshed, and an allocation only until
+-- its expiry
 abbrev pub refresh_purpose : ℕ → Grant → Option Purpose
 refresh_purpose now (Allocation a) = if nat_le now a.expiry then Some (ForRefresh (family_of a.relayed) asked_lifetime) else None
 refresh_purpose now (Permission ip (Active expiry)) = if nat_lt now expiry then Some (ForPermission ip) else None
@@ -26,7 +27,7 @@ refresh_purpose now _ = None
 unfoldable pub is_refresh_due : ℕ → State → Grant → Bool
 is_refresh_due now s grant = option_map_or (λ moment. nat_le moment now) (refresh_time s grant) false
 
--- in an allocation itself comes first, then its channels, then its permissions
+-- an allocation itself is refreshed first, then its channels, then its permissions
 abbrev pub is_ranked : ℕ → Grant → Bool
 is_ranked rank (Allocation a) = rank == 0
 is_ranked rank (Channel number peer progress) = rank == 1
@@ -40,23 +41,23 @@ is_due_in rank family now s g = is_ranked rank g && is_of family g && is_refresh
 abbrev pub refreshes_of_rank : ℕ → State → AddressFamily → ℕ → List Purpose
 refreshes_of_rank now s family rank = filter_map (refresh_purpose now) (filter (is_due_in rank family now s) s.grants)
 
--- what is to be refreshed in one allocation, unless that is past its end
+-- what is to be refreshed in one allocation, unless its expiry has passed
 abbrev pub refreshes_in : ℕ → State → Relay → List Purpose
 refreshes_in now s a =
     if nat_le now a.expiry then flat_map (refreshes_of_rank now s (family_of a.relayed)) (0 ∷ 1 ∷ 2 ∷ []) else []
 
--- a request is made and goes out at once
+-- a request is made and sent at once
 abbrev pub sent_at_once : List ℕ → Purpose → ℕ → State → Option (Transmit (List ℕ)) × State
 sent_at_once text purpose now s =
     (Some (to_server s s.local text), sent now (asked (fresh_id s) text (purpose ∷ []) now s))
 
--- the request that refreshes the first grant whose time has come
+-- the request that refreshes the first grant that is due
 abbrev pub refresh_step : ℕ → State → Option (Transmit (List ℕ)) × State
 refresh_step now s =
     option_map_or (λ purpose. sent_at_once (request_for s purpose (fresh_id s)) purpose now s)
     (slice_get (flat_map (refreshes_in now s) (allocations s)) 0) (None, s)
 
--- ---- what waits
+-- ---- queued packets
 
 abbrev pub reply_in : Queued → Option (Transmit (List ℕ))
 reply_in q = if q.is_request then None else Some q.packet
@@ -65,7 +66,7 @@ abbrev pub without_first_reply : List Queued → List Queued
 without_first_reply [] = []
 without_first_reply (q ∷ others) = if q.is_request then q ∷ without_first_reply others else others
 
--- within the pause a reply goes out alone, and does not prolong it
+-- within the pause only a reply is sent, and does not prolong it
 abbrev pub reply_step : State → Option (Transmit (List ℕ)) × State
 reply_step s = (slice_get (filter_map reply_in s.queue) 0, record s { queue = without_first_reply s.queue })
 
@@ -79,7 +80,7 @@ abbrev pub queue_step : ℕ → State → Option (Transmit (List ℕ)) × State
 queue_step now s =
     option_map_or (λ q. (Some q.packet, sent now (record s { queue = drop 1 s.queue }))) (slice_get s.queue 0) (idle_step s.phase now s)
 
--- what is sent next: what is due again, what is queued, and then what the client has to ask for
+-- what is sent next: what is to be retransmitted, what is queued, and then what the client has to request
 abbrev pub transmit_step : ℕ → State → Option (Transmit (List ℕ)) × State
 transmit_step now s =
     option_map_or (λ t. (Some (record (to_server s s.local t.request) { to = t.to }), sent now (record s { transactions = resent t.id now s.transactions })))

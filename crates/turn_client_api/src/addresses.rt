@@ -1,4 +1,4 @@
-//! The addresses that a server relays for a client, and the peers that it lets through.
+//! Iterators over the relayed addresses of a client and over its permitted peers.
 
 ghost use Rattle.std.specs.Prelude.{◌≡◌};
 ghost use Rattle.std.specs.Iterator.{YieldsFirst, item_count};
@@ -8,8 +8,8 @@ use crate::grant::{Grant, Progress};
 use std::net::{IpAddr, SocketAddr};
 use turn_types::{AddressFamily, TransportType};
 
-/// The relayed addresses of a client with their transports, in the order in which the server granted
-/// them. Those of expired allocations are passed over. It takes no memory.
+/// The relayed addresses of a client with their transports, in the order in which the server
+/// granted them. Expired allocations are skipped. Allocates no memory.
 #[derive(Debug, Drop)]
 pub struct RelayedAddressesIter<'a> {
     transport: TransportType,
@@ -17,8 +17,8 @@ pub struct RelayedAddressesIter<'a> {
 }
 
 impl<'a> RelayedAddressesIter<'a> {
-    /// The addresses of those allocations among these grants that are not expired. They relay over
-    /// this transport.
+    /// The relayed addresses of those allocations among these grants that are not expired. They
+    /// relay over this transport.
     pub fn new(transport: TransportType, grants: &'a [Grant]) -> RelayedAddressesIter<'a>
         ensures { relayed_left result ≡ relayed_in_use transport grants.now }
     {
@@ -46,8 +46,8 @@ impl<'a> Iterator for RelayedAddressesIter<'a> {
     }
 }
 
-/// The peer addresses that have a permission, in the order in which the server granted them. It
-/// takes no memory.
+/// The peer IP addresses that have a permission, in the order in which the server granted them.
+/// Allocates no memory.
 #[derive(Debug, Drop)]
 pub struct PermissionAddressesIter<'a> {
     family: AddressFamily,
@@ -55,8 +55,8 @@ pub struct PermissionAddressesIter<'a> {
 }
 
 impl<'a> PermissionAddressesIter<'a> {
-    /// The addresses of this family that have a permission among these grants. One that is only asked
-    /// for is passed over.
+    /// The IP addresses of this family that have an active permission among these grants. Pending
+    /// permissions are skipped.
     pub fn new(family: AddressFamily, grants: &'a [Grant]) -> PermissionAddressesIter<'a>
         ensures { permitted_left result ≡ permitted_in_use family grants.now }
     {

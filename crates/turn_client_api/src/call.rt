@@ -6,95 +6,95 @@ use turn_stun::data::Data;
 use turn_stun::instant::Instant;
 use turn_stun::transport::{Transmit, TransportType};
 
-/// One call of [`TurnClientApi`](crate::TurnClientApi), with what it is handed.
+/// One call of [`TurnClientApi`](crate::TurnClientApi), with its arguments.
 ///
-/// Laws over all calls of a client speak of these. The last three change nothing, as do the client's
-/// transport and its two addresses, which no call changes.
+/// Laws over all calls of a client speak of these. The last three change nothing. The client's
+/// transport and its two addresses are not among them: no call changes them.
 #[derive(Debug, Drop)]
 pub enum Call {
-    /// `delete` at this moment.
+    /// `delete` at this time.
     Delete {
-        /// The moment of the call.
+        /// The time of the call.
         now: Instant,
     },
     /// `create_permission` for this peer address.
     CreatePermission {
-        /// What the allocation relays over.
+        /// The transport that the allocation relays over.
         transport: TransportType,
         /// The peer's IP address.
         peer_addr: IpAddr,
-        /// The moment of the call.
+        /// The time of the call.
         now: Instant,
     },
     /// `bind_channel` to this peer.
     BindChannel {
-        /// What the allocation relays over.
+        /// The transport that the allocation relays over.
         transport: TransportType,
         /// The peer.
         peer_addr: SocketAddr,
-        /// The moment of the call.
+        /// The time of the call.
         now: Instant,
     },
     /// `tcp_connect` to this peer.
     TcpConnect {
         /// The peer.
         peer_addr: SocketAddr,
-        /// The moment of the call.
+        /// The time of the call.
         now: Instant,
     },
-    /// `allocated_tcp_socket` for a connection that `poll` told the caller to open.
+    /// `allocated_tcp_socket` for a connection that `poll` offered to the caller.
     AllocatedTcpSocket {
-        /// The server's number of the connection.
+        /// The connection ID that the server assigned.
         id: u32,
         /// The control connection.
         five_tuple: Socket5Tuple,
         /// The peer.
         peer_addr: SocketAddr,
-        /// The local end, or `None` where it could not be opened.
+        /// The local address, or `None` if the connection could not be opened.
         local_addr: Option<SocketAddr>,
-        /// The moment of the call.
+        /// The time of the call.
         now: Instant,
     },
-    /// `tcp_closed` of the data connection with these ends.
+    /// `tcp_closed` for the data connection with these addresses.
     TcpClosed {
-        /// The local end.
+        /// The local address.
         local_addr: SocketAddr,
-        /// The server's end.
+        /// The server's address.
         remote_addr: SocketAddr,
-        /// The moment of the call.
+        /// The time of the call.
         now: Instant,
     },
     /// `send_to` with these bytes.
     SendTo {
-        /// What the allocation relays over.
+        /// The transport that the allocation relays over.
         transport: TransportType,
         /// The peer.
         to: SocketAddr,
         /// The bytes for the peer.
         data: Data,
-        /// The moment of the call.
+        /// The time of the call.
         now: Instant,
     },
-    /// `recv` of this packet, or of this piece of a stream.
+    /// `recv` of this datagram, or of these bytes read from a stream.
     Recv {
-        /// What came in.
+        /// The received bytes, with their source, destination and transport.
         transmit: Transmit<Data>,
-        /// The moment of the call.
+        /// The time of the call.
         now: Instant,
     },
-    /// `poll_recv` at this moment.
+    /// `poll_recv` at this time.
     PollRecv {
-        /// The moment of the call.
+        /// The time of the call.
         now: Instant,
     },
-    /// `poll` at this moment.
+    /// `poll` at this time.
     Poll {
-        /// The moment of the call.
+        /// The time of the call.
         now: Instant,
     },
-    /// `poll_transmit` at this moment.
+    /// `poll_transmit` at this time.
     PollTransmit {
-        /// The moment of the call.
+        /// The time of the call.
         now: Instant,
     },
     /// `poll_event`.
@@ -105,14 +105,14 @@ pub enum Call {
     RelayedAddresses,
     /// `permissions` of one allocation.
     Permissions {
-        /// What the allocation relays over.
+        /// The transport that the allocation relays over.
         transport: TransportType,
         /// Its relayed address.
         relayed: SocketAddr,
     },
     /// `have_permission` for this peer address.
     HavePermission {
-        /// What the allocation relays over.
+        /// The transport that the allocation relays over.
         transport: TransportType,
         /// The peer's IP address.
         to: IpAddr,

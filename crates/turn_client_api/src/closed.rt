@@ -23,8 +23,8 @@ use turn_stun::transport::{Transmit, TransportType};
 use turn_types::AddressFamily;
 use turn_types::transmit::TransmitBuild;
 
-/// A client in the phase `Closed`, with nothing waiting, no grants and no streams. So `poll_recv` has
-/// no stream to read, and may not say that there is no memory.
+/// A client in the phase `Closed`, with nothing queued, no grants and no streams. So `poll_recv`
+/// has no stream to read, and may not return an allocation error.
 #[derive(Debug, Drop)]
 struct ClosedClient {
     config: TurnConfig,

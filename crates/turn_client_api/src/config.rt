@@ -1,4 +1,4 @@
-//! What a client is to ask of its server, and as whom.
+//! What a client requests from its server, and with which credentials.
 
 ghost use Rattle.std.specs.Prelude.{◌≡◌, ◌<◌, ◌≤◌, ◌≢◌, [], ◌∷◌, Some, None, length, IfOk, AllPairs, Contains};
 ghost use Rattle.turn_agent.specs.Schedule.{wait_of};
@@ -16,10 +16,10 @@ use turn_auth::feature::Feature;
 use turn_auth::integrity::IntegrityAlgorithm;
 use turn_types::{AddressFamily, TransportType};
 
-/// How a client is to be set up: who it is, and what it asks its server for.
+/// How a client is set up: who it is, and what it requests from its server.
 ///
 /// Contracts see it as a record of its settings. Neither list is ever empty or names a value twice,
-/// and both have room for all their values, so that no setter takes memory. Debug prints no
+/// and both have room for all their values, so that no setter allocates memory. Debug prints no
 /// password.
 #[derive(Debug, Drop)]
 pub struct TurnConfig {
@@ -49,9 +49,9 @@ impl Model for TurnConfig {
 }
 
 impl TurnConfig {
-    /// The configuration of a client with these credentials: it asks for an IPv4 address that relays
-    /// over UDP, keeps integrity by SHA-1, is named as `Feature::Auto` says, and sends its requests
-    /// again by the times of RFC 8489, section 6.2.1. It takes no memory.
+    /// The configuration of a client with these credentials: it requests an IPv4 address that
+    /// relays over UDP, supports integrity with SHA-1, hides its user name as `Feature::Auto` says,
+    /// and retransmits at the times of RFC 8489, section 6.2.1. Allocates no memory.
     pub fn new(alloc: Global, credentials: TurnCredentials) -> TurnConfig
         ensures { result ≡ record {
           allocation_transport = TransportType.Udp;
@@ -72,23 +72,24 @@ impl TurnConfig {
         }
     }
 
-    /// Sets what the server is to relay over, between its address and the peers. An allocation over
-    /// TCP needs a client that reaches its server over TCP (RFC 6062, section 4.1).
+    /// Sets the transport that the server is to relay over, between the relayed address and the
+    /// peers. An allocation over TCP needs a client that reaches its server over TCP (RFC 6062,
+    /// section 4.1).
     pub fn set_allocation_transport(&mut self, allocation_transport: TransportType)
         ensures { self.new ≡ record self.old { allocation_transport = allocation_transport } }
     {
         self.allocation_transport = allocation_transport;
     }
 
-    /// What the server is to relay over.
+    /// The transport that the server is to relay over.
     pub fn allocation_transport(&self) -> TransportType
         ensures { result ≡ self.now.allocation_transport }
     {
         self.allocation_transport
     }
 
-    /// Asks for an address of this family too (RFC 8656, section 7.1), behind those asked for before.
-    /// One that is asked for already changes nothing. It takes no memory.
+    /// Requests an address of this family too (RFC 8656, section 7.1), after those requested
+    /// before. A family that is already requested changes nothing. Allocates no memory.
     pub fn add_address_family(&mut self, family: AddressFamily)
         ensures settings { self.new ≡ record self.old { address_families = with_family self.old.address_families family } }
         ensures there { Contains self.old.address_families family → self.new ≡ self.old }
@@ -98,7 +99,7 @@ impl TurnConfig {
         }
     }
 
-    /// Asks for an address of this family alone. It takes no memory.
+    /// Requests an address of this family alone. Allocates no memory.
     pub fn set_address_family(&mut self, family: AddressFamily)
         ensures { self.new ≡ record self.old { address_families = family ∷ [] } }
     {
@@ -106,8 +107,8 @@ impl TurnConfig {
         self.address_families.push_reserved(family);
     }
 
-    /// The families of the addresses that are asked for, in the order in which they were named: one
-    /// or two of them, and none twice.
+    /// The families of the requested addresses, in the order in which they were added: one or two
+    /// of them, and none twice.
     #[tactic(auto, using(crate::proofs::ConfigLemmas::few_families))]
     pub fn address_families(&self) -> &[AddressFamily]
         ensures families { result.now ≡ self.now.address_families }
@@ -125,8 +126,8 @@ impl TurnConfig {
         &self.credentials
     }
 
-    /// Lets the server pick this algorithm too, by which messages are signed from then on. One that it
-    /// may pick already changes nothing. It takes no memory.
+    /// Lets the server choose this algorithm too, with which messages are signed from then on. An
+    /// algorithm that it may already choose changes nothing. Allocates no memory.
     pub fn add_supported_integrity(&mut self, algorithm: IntegrityAlgorithm)
         ensures settings { self.new ≡ record self.old { supported_integrity = with_algorithm self.old.supported_integrity algorithm } }
         ensures there { Contains self.old.supported_integrity algorithm → self.new ≡ self.old }
@@ -136,7 +137,7 @@ impl TurnConfig {
         }
     }
 
-    /// Lets the server pick this algorithm alone. It takes no memory.
+    /// Lets the server choose this algorithm alone. Allocates no memory.
     pub fn set_supported_integrity(&mut self, algorithm: IntegrityAlgorithm)
         ensures { self.new ≡ record self.old { supported_integrity = algorithm ∷ [] } }
     {
@@ -144,8 +145,8 @@ impl TurnConfig {
         self.supported_integrity.push_reserved(algorithm);
     }
 
-    /// The algorithms that the server may pick, in the order in which they were named: one or two of
-    /// them, and none twice.
+    /// The algorithms that the server may choose, in the order in which they were added: one or two
+    /// of them, and none twice.
     #[tactic(auto, using(crate::proofs::ConfigLemmas::few_algorithms))]
     pub fn supported_integrity(&self) -> &[IntegrityAlgorithm]
         ensures algorithms { result.now ≡ self.now.supported_integrity }
@@ -171,18 +172,18 @@ impl TurnConfig {
         self.anonymous_username
     }
 
-    /// Sets when each request is sent again and when it is given up (RFC 8489, section 6.2):
+    /// Sets when each request is retransmitted and when it times out (RFC 8489, section 6.2):
     ///
-    /// - `initial` is the wait after the first send, which doubles from send to send. It is to be at
-    ///   least 500 ms unless more is known of the way to the server. Where it is at most 1 ms, a
-    ///   request is sent only once (our choice).
+    /// - `initial` is the wait after the first send, which doubles from send to send. It is to be
+    ///   at least 500 ms unless more is known about the path to the server. If it is at most 1 ms,
+    ///   a request is sent only once (our choice).
     /// - `max` is the longest wait between two sends.
-    /// - `retransmits` is how often a request is sent in all. 0 stands for 1.
+    /// - `retransmits` is how many times a request is sent in all. 0 means 1.
     /// - `final_retransmit_timeout` is the wait after the last send.
     ///
-    /// By default these are 500 ms, no longest wait, 7, and 8 s, which is 16 times the first wait. Over
-    /// TCP a request is sent once, and is given up when all these waits together are over. A wait of
-    /// 2^64 ns or more is kept as 2^64 - 1 ns, which no moment tells from it.
+    /// By default these are 500 ms, no longest wait, 7, and 8 s, which is 16 times the first wait.
+    /// Over TCP a request is sent once, and times out after the sum of all these waits. A wait of
+    /// 2^64 ns or more is kept as 2^64 - 1 ns, from which no `Instant` distinguishes it.
     pub fn set_request_retransmits(
         &mut self,
         initial: Duration,
@@ -207,8 +208,8 @@ impl TurnConfig {
         ));
     }
 
-    /// When each request is sent again and when it is given up, as `set_request_retransmits` set it
-    /// last, or else by default.
+    /// When each request is retransmitted and when it times out, as `set_request_retransmits` last
+    /// set it, or else by default.
     pub fn request_timers(&self) -> RequestTimers
         ensures { result ≡ timers_of self.now }
     {
@@ -219,7 +220,7 @@ impl TurnConfig {
     ///
     /// # Errors
     ///
-    /// Where there is no memory for a copy of the credentials.
+    /// If memory allocation for a copy of the credentials fails.
     #[tactic(auto, using(crate::proofs::ConfigLemmas::few_families, crate::proofs::ConfigLemmas::few_algorithms))]
     pub fn clone(&self) -> Result<TurnConfig, AllocError>
         ensures { IfOk result (λ copy. copy ≡ self.now) }
@@ -235,7 +236,7 @@ impl TurnConfig {
         })
     }
 
-    /// Whether both ask for the same allocations.
+    /// Whether both request the same allocations.
     fn is_same_request(&self, other: &TurnConfig) -> bool
         ensures { result ≡ same_request self.now other.now }
     {
@@ -243,7 +244,7 @@ impl TurnConfig {
             && self.address_families.as_slice() == other.address_families.as_slice()
     }
 
-    /// Whether both are the same to a server, and keep integrity by the same algorithms.
+    /// Whether both identify themselves to a server alike, and support the same integrity algorithms.
     fn is_same_user(&self, other: &TurnConfig) -> bool
         ensures { result ≡ same_user self.now other.now }
     {

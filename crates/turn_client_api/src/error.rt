@@ -9,45 +9,44 @@ use turn_stun::instant::Instant;
 /// Why a channel is not bound.
 #[derive(Clone, Copy, Debug, PartialEq, Eq, Error)]
 pub enum BindChannelError {
-    /// The peer has a channel, or one is asked for, or all numbers of channels are taken.
+    /// The peer has an active or a pending channel, or all channel numbers are taken.
     #[error("The channel identifier already exists and cannot be recreated.")]
     AlreadyExists,
-    /// The peer had a channel, and may have another only once this moment has passed (RFC 8656,
-    /// section 12).
+    /// The peer had a channel, and may have another only after this time (RFC 8656, section 12).
     #[error("The channel for requested peer address has expired and cannot be recreated until {0}.")]
     ExpiredChannelExists(Instant),
     /// No allocation relays over this transport to addresses of the peer's IP version, or it has
     /// expired.
     #[error("There is no connection to the TURN server that can handle this channel.")]
     NoAllocation,
-    /// There is no memory for the request.
+    /// Memory allocation for the request failed.
     #[error("out of memory")]
     OutOfMemory,
 }
 
-/// Why a permission is not asked for.
+/// Why a permission is not requested.
 #[derive(Clone, Copy, Debug, PartialEq, Eq, Error)]
 pub enum CreatePermissionError {
-    /// The permission stands, or is asked for.
+    /// The permission is active or pending.
     #[error("The permission already exists and cannot be recreated.")]
     AlreadyExists,
     /// No allocation relays over this transport to addresses of the peer's IP version, or it has
     /// expired.
     #[error("There is no connection to the TURN server that can handle this permission")]
     NoAllocation,
-    /// There is no memory for the request.
+    /// Memory allocation for the request failed.
     #[error("out of memory")]
     OutOfMemory,
 }
 
-/// Why the allocations are not given back.
+/// Why the allocations are not deleted.
 #[derive(Clone, Copy, Debug, PartialEq, Eq, Error)]
 pub enum DeleteError {
     /// The server has not granted an allocation yet, or the client has ended. A client whose
-    /// allocations have all lapsed is not refused: it asks the server all the same.
+    /// allocations have all expired is not refused: it sends the request all the same.
     #[error("There is no connection to the TURN server")]
     NoAllocation,
-    /// There is no memory for the request.
+    /// Memory allocation for the request failed.
     #[error("out of memory")]
     OutOfMemory,
 }
@@ -55,7 +54,7 @@ pub enum DeleteError {
 /// Why data is not sent to a peer.
 #[derive(Clone, Copy, Debug, PartialEq, Eq, Error)]
 pub enum SendError {
-    /// There is no allocation. The clients of this project say `NoPermission` then (our choice).
+    /// There is no allocation. The clients of this project return `NoPermission` then (our choice).
     #[error("There is no connection to the TURN server")]
     NoAllocation,
     /// No allocation of this transport has a permission for the peer.
@@ -65,16 +64,16 @@ pub enum SendError {
     /// 4.4).
     #[error("There is no local TCP socket for the requested peer")]
     NoTcpSocket,
-    /// There is no memory for the packet. The clients of this project never say so, since it is built
-    /// only when it is sent.
+    /// Memory allocation for the packet failed. The clients of this project never return this,
+    /// since a packet is built only when it is sent.
     #[error("out of memory")]
     OutOfMemory,
 }
 
-/// Why no connection to a peer is asked for.
+/// Why no connection to a peer is requested.
 #[derive(Clone, Copy, Debug, PartialEq, Eq, Error)]
 pub enum TcpConnectError {
-    /// A connection to the peer stands, is asked for, or waits for the caller's socket.
+    /// A data connection to the peer exists, is pending, or is offered to the caller.
     #[error("The TCP connection already exists and cannot be recreated.")]
     AlreadyExists,
     /// No allocation relays over TCP to addresses of the peer's IP version, or it has expired.
@@ -83,21 +82,21 @@ pub enum TcpConnectError {
     /// The allocation has no permission for the peer.
     #[error("There is no permission installed for the requested peer")]
     NoPermission,
-    /// There is no memory for the request.
+    /// Memory allocation for the request failed.
     #[error("out of memory")]
     OutOfMemory,
 }
 
-/// Why a connection that the caller has opened for a peer's data is not taken.
+/// Why a data connection that the caller opened is not accepted.
 #[derive(Clone, Copy, Debug, PartialEq, Eq, Error)]
 pub enum TcpAllocateError {
     /// The local address is that of the control connection or of another data connection.
     #[error("The TCP connection already exists and cannot be recreated.")]
     AlreadyExists,
-    /// The client has not asked for such a connection.
+    /// The client has no such connection offer.
     #[error("There is no connection to the TURN server that can handle this TCP socket.")]
     NoAllocation,
-    /// There is no memory for the request.
+    /// Memory allocation for the request failed.
     #[error("out of memory")]
     OutOfMemory,
 }

@@ -3,26 +3,27 @@
 use std::net::{IpAddr, SocketAddr};
 use turn_types::{AddressFamily, TransportType};
 
-/// Something that the server granted or refused, or that ended without an answer of it.
+/// Something that the server granted or refused, or that ended without a response.
 ///
-/// A transport is the one that the server relays over, between its address and the peer.
+/// A transport is the one that the server relays over, between the relayed address and the peer.
 #[derive(Clone, Copy, Debug, PartialEq, Eq)]
 pub enum TurnEvent {
-    /// The server allocated this address for the client.
+    /// The server allocated this relayed address.
     AllocationCreated(TransportType, SocketAddr),
-    /// The server allocated no address of this family, and is asked for it no more.
+    /// The server allocated no address of this family, and the client no longer requests one.
     AllocationCreateFailed(AddressFamily),
-    /// The server lets peers of this IP address through from now on, whatever their port (RFC 8656,
-    /// section 9).
+    /// Peers of this IP address are permitted from now on, whatever their port (RFC 8656, section
+    /// 9).
     PermissionCreated(TransportType, IpAddr),
-    /// The server does not let peers of this IP address through, or does so no longer: it refused, or
-    /// did not answer in time.
+    /// Peers of this IP address are not permitted, or no longer: the server refused, or did not
+    /// answer in time.
     PermissionCreateFailed(TransportType, IpAddr),
     /// Data of this peer goes over a channel from now on (RFC 8656, section 12).
     ChannelCreated(TransportType, SocketAddr),
-    /// This peer has no channel, or has it no longer: the server refused, or did not answer in time.
+    /// This peer has no channel, or no longer has it: the server refused, or did not answer in
+    /// time.
     ChannelCreateFailed(TransportType, SocketAddr),
-    /// A data connection to this peer stands (RFC 6062, section 4.3).
+    /// A data connection to this peer is bound (RFC 6062, section 4.3).
     TcpConnected(SocketAddr),
     /// A data connection to this peer was refused, or was not made in time.
     TcpConnectFailed(SocketAddr),

@@ -1,59 +1,60 @@
-//! What the server granted a client, what is asked of it, and what each request was made for.
+//! What the server granted a client, what is pending, and what each request was made for.
 
 use std::net::{IpAddr, SocketAddr};
 use turn_stun::instant::Instant;
 use turn_stun::transaction::TransactionId;
 use turn_types::AddressFamily;
 
-/// How far a permission or a channel has come.
+/// The progress of a permission or a channel.
 #[derive(Clone, Copy, Debug, PartialEq, Eq)]
 pub enum Progress {
-    /// It is asked for, and the server has not answered.
+    /// It is requested, and the server has not answered.
     Pending,
-    /// The server granted it, and it lapses at this moment. Each success of a later request for it
-    /// puts the moment off: a permission lasts 300 seconds, a channel 600 (RFC 8656, sections 9 and
-    /// 12).
+    /// The server granted it, and it expires at this time. Each success of a later request for it
+    /// extends it: a permission lasts 300 seconds, a channel 600 (RFC 8656, sections 9 and 12).
     Active(Instant),
-    /// A channel that lapsed, or whose renewal was refused: neither its number nor its peer is bound
-    /// again up to this moment (RFC 8656, section 12).
+    /// A channel that expired, or whose refresh was refused: neither its number nor its peer is
+    /// bound again until this time (RFC 8656, section 12).
     Reserved(Instant),
 }
 
-/// An allocation: an address at which the server takes packets for the client (RFC 8656, section 7).
+/// An allocation: a relayed address, at which the server receives packets for the client (RFC 8656,
+/// section 7).
 #[derive(Clone, Copy, Debug, PartialEq, Eq)]
 pub struct Relay {
     /// The relayed address, which peers see.
     pub relayed: SocketAddr,
-    /// The lifetime that the server gave at first, in nanoseconds. It never changes, and decides how
-    /// long before its end the allocation is refreshed.
+    /// The lifetime that the server gave first, in nanoseconds. It never changes, and decides how
+    /// long before its expiry the allocation is refreshed.
     pub first_lifetime: u64,
-    /// When it ends. A successful refresh puts it off, and `delete` makes it the moment of that call.
+    /// When it expires. A successful refresh extends it, and `delete` sets it to the time of that
+    /// call.
     pub expiry: Instant,
-    /// Set when a call finds the allocation past its end or deletes it, and never cleared: nothing is
-    /// sent over it any more.
+    /// Set when a call finds that the expiry of the allocation has passed, or deletes it, and never
+    /// cleared: nothing is sent over it any more.
     pub is_expired: bool,
 }
 
-/// Why the client asks its caller for a data connection (RFC 6062, sections 4.3 and 4.4).
+/// Why the client offers its caller a data connection (RFC 6062, sections 4.3 and 4.4).
 #[derive(Clone, Copy, Debug, PartialEq, Eq)]
 pub enum Origin {
-    /// The server made the connection to the peer that the client asked for with a CONNECT.
+    /// The server made the connection to the peer that the client requested with a CONNECT.
     OwnConnect,
-    /// The server told of a peer's connection in a request of this ID. It is answered once the caller
-    /// has opened the data connection, or could not.
+    /// The server reported a peer's connection in a request with this ID. It is answered once the
+    /// caller has opened the data connection, or could not.
     ServerRequest(TransactionId),
-    /// The server told of a peer's connection in an indication, which has no answer.
+    /// The server reported a peer's connection in an indication, which has no answer.
     ServerIndication,
 }
 
-/// A data connection that the caller is to open (RFC 6062, section 4.3).
+/// An offer: a data connection that the caller is to open (RFC 6062, section 4.3).
 #[derive(Clone, Copy, Debug, PartialEq, Eq)]
 pub struct DataOffer {
-    /// The server's number of it, from its CONNECTION-ID attribute.
+    /// The connection ID that the server assigned, from its CONNECTION-ID attribute.
     pub connection_id: u32,
     /// The peer at the far end.
     pub peer: SocketAddr,
-    /// Set when `poll` tells the caller to open it. The caller is told once.
+    /// Set when `poll` reports the offer to the caller, which it does once.
     pub is_told: bool,
     /// Why it is to be opened.
     pub origin: Origin,
@@ -62,42 +63,44 @@ pub struct DataOffer {
 /// A data connection that the caller opened.
 #[derive(Clone, Copy, Debug, PartialEq, Eq)]
 pub struct DataConnection {
-    /// Its local end.
+    /// Its local address.
     pub local: SocketAddr,
     /// The peer whose data it carries.
     pub peer: SocketAddr,
-    /// Up to when the server may bind it, or `None` once it is bound (RFC 6062, section 4.3).
+    /// The deadline by which the server is to bind it, or `None` once it is bound (RFC 6062,
+    /// section 4.3).
     pub deadline: Option<Instant>,
 }
 
-/// Something that the server granted, or that it is asked for.
+/// Something that the server granted, or that is pending.
 ///
 /// A client has at most one allocation of each address family, so every other grant belongs to the
 /// allocation whose relayed address has the family of its peer.
 #[derive(Clone, Copy, Debug, PartialEq, Eq)]
 pub enum Grant {
-    /// An address of the server that relays for the client.
+    /// A relayed address of the client.
     Allocation(Relay),
-    /// Peers of this IP address are let through, whatever their port (RFC 8656, section 9).
+    /// Peers of this IP address are permitted, whatever their port (RFC 8656, section 9).
     Permission(IpAddr, Progress),
-    /// Data of this peer goes in channel frames of this number, 4000 to 4FFF in hexadecimal (RFC 8656,
-    /// section 12).
+    /// Data of this peer is carried in ChannelData messages with this number, 4000 to 4FFF in
+    /// hexadecimal (RFC 8656, section 12).
     Channel(u16, SocketAddr, Progress),
-    /// The server is asked to connect to this peer, and has not answered (RFC 6062, section 4.3).
+    /// A CONNECT to this peer is pending: the server has not answered (RFC 6062, section 4.3).
     Connect(SocketAddr),
     /// The caller is to open a data connection.
     Offer(DataOffer),
-    /// The caller opened a data connection. It may wait to be bound, or be bound.
+    /// The caller opened a data connection. It waits to be bound, or is bound.
     Connection(DataConnection),
 }
 
 /// What a request is for.
 #[derive(Clone, Copy, Debug, PartialEq, Eq)]
 pub enum Purpose {
-    /// ALLOCATE, for addresses of the families that the client still asks for (RFC 8656, section 7).
+    /// ALLOCATE, for addresses of the families that the client still requests (RFC 8656, section
+    /// 7).
     ForAllocation,
-    /// REFRESH: the allocation of this family is to last for so many seconds more. 0 gives it back
-    /// (RFC 8656, section 8).
+    /// REFRESH of the allocation of this family, with this lifetime in seconds. 0 deletes it (RFC
+    /// 8656, section 8).
     ForRefresh(AddressFamily, u32),
     /// CREATE_PERMISSION for this IP address (RFC 8656, section 10).
     ForPermission(IpAddr),
@@ -105,13 +108,13 @@ pub enum Purpose {
     ForChannel(u16, SocketAddr),
     /// CONNECT to this peer (RFC 6062, section 4.3).
     ForConnect(SocketAddr),
-    /// CONNECTION_BIND, which is sent from this local end: the connection to this peer, by the
-    /// server's number of it (RFC 6062, section 4.3).
+    /// CONNECTION_BIND, which is sent from this local address: for the connection to this peer,
+    /// with the connection ID that the server assigned (RFC 6062, section 4.3).
     ForBind(SocketAddr, SocketAddr, u32),
 }
 
-/// A purpose for which a request of this ID was made. A request with several purposes is listed once
-/// for each, and one that is made again after a challenge is listed under both IDs.
+/// A purpose for which a request with this ID was made. A request with several purposes is listed
+/// once for each, and one that is made again after a challenge is listed under both IDs.
 #[derive(Clone, Copy, Debug, PartialEq, Eq)]
 pub struct Listing {
     /// The transaction ID of the request.

@@ -1,4 +1,5 @@
-//! Laws of the machine. Their functions do nothing, or give a constant: what they ensure is the law.
+//! Laws of the machine. Their functions do nothing, or return a constant: their contract is the
+//! law.
 
 mod alarm;
 mod allocates;

@@ -1,34 +1,34 @@
-//! What every TURN client does (RFC 8656, 6062 and 6156), and what its caller hands in and gets back.
-//! No IO.
+//! The interface of every TURN client (RFC 8656, 6062 and 6156), with the types that it takes and
+//! returns. No IO.
 //!
 //! ```text
-//!  bytes that came ---- recv ----> +--------+ ---- poll_transmit ---> packets to send
+//!  received bytes ----- recv ----> +--------+ ---- poll_transmit ---> packets to send
 //!  data for a peer --- send_to --> | client | -- recv, poll_recv ---> data of a peer
-//!  the time ----------- poll ----> +--------+ ---- poll_event ------> what came of requests
-//!                                      +---------- poll ------------> the moment to call again
+//!  the time ----------- poll ----> +--------+ ---- poll_event ------> results of requests
+//!                                      +---------- poll ------------> the time to call again
 //! ```
 //!
 //! Begin with [`TurnClientApi`], the trait of all clients: its contracts say of each call what it
-//! answers and what the client is after it, step by step of the machine that `docs/MACHINE.md`
+//! returns and the state of the client after it, step by step of the machine that `docs/MACHINE.md`
 //! describes. A caller's loop over any of them:
 //!
 //! ```rust
 //! let next = client.poll(now)?;
 //! while let Some(event) = client.poll_event() {
-//!     tell(event);
+//!     report(event);
 //! }
 //! while let Some(packet) = client.poll_transmit(now)? {
 //!     send(packet);
 //! }
 //! match next {
-//!     TurnPollRet::WaitUntil(moment) => wake_at(moment),
+//!     TurnPollRet::WaitUntil(time) => wake_at(time),
 //!     TurnPollRet::AllocateTcpSocket { id, socket, peer_addr } => open(id, socket, peer_addr),
 //!     TurnPollRet::TcpClose { local_addr, .. } => close(local_addr),
 //!     TurnPollRet::Closed => end(),
 //! }
 //! ```
 //!
-//! and where a packet came:
+//! and for each packet received:
 //!
 //! ```rust
 //! match client.recv(packet, now)? {
@@ -42,12 +42,12 @@
 //! }
 //! ```
 //!
-//! A caller makes a [`TurnConfig`] for a client. What a peer sent is a part of the caller's own bytes
-//! ([`TurnPeerData`]), and what goes to a peer is built when it is sent ([`TransmitBuild`]).
+//! A caller makes a [`TurnConfig`] for a client. Data of a peer is a range of the caller's own
+//! bytes ([`TurnPeerData`]), and a packet for a peer is built when it is sent ([`TransmitBuild`]).
 //!
-//! The functions of [`laws`] do nothing: their contracts say what holds of every client that meets the
-//! trait, such as that a caller that sleeps until the moment that `poll` tells misses nothing. The
-//! clients themselves are in the crates above.
+//! The functions of [`laws`] do nothing: their contracts say what holds for every client that meets
+//! the trait, for example that a caller that sleeps until the time that `poll` returns misses no
+//! deadline. The clients themselves are in the crates above.
 #![tactic(auto)]
 
 mod addresses;

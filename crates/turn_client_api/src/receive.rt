@@ -1,4 +1,4 @@
-//! What came in for the caller.
+//! What a client returns for received bytes.
 
 ghost use Rattle.std.specs.Prelude.{◌≡◌, IfOk, IfErr, IsOk};
 ghost use Rattle.turn_client_api.specs.PeerBytes.{held_bytes, held_in, payload_of, IsOwned};
@@ -12,12 +12,12 @@ use std::net::SocketAddr;
 use turn_stun::transport::Transmit;
 use turn_types::TransportType;
 
-/// Bytes that are a part of what a caller handed in, or that are owned.
+/// Bytes that are a range of what a caller passed in, or that are owned.
 #[derive(Debug, Drop)]
 pub enum DataRangeOrOwned<T: AsSlice<u8>> {
-    /// A part of the bytes that the caller handed in.
+    /// A range of the bytes that the caller passed in.
     Range(DataRange<T>),
-    /// Bytes that were put together from several pieces.
+    /// Bytes that were joined from several pieces.
     Owned(Vec<u8>),
 }
 
@@ -33,8 +33,8 @@ impl<T: AsSlice<u8>> AsSlice<u8> for DataRangeOrOwned<T> {
 }
 
 impl<T: AsSlice<u8> + Drop> DataRangeOrOwned<T> {
-    /// The bytes as a vector, which is a copy only where they are not owned. Where there is no memory
-    /// for it, this value is handed back.
+    /// The bytes as a vector, which is a copy only if they are not owned. If memory allocation for
+    /// it fails, this value is returned unchanged.
     fn into_bytes(self, alloc: Global) -> Result<Vec<u8>, DataRangeOrOwned<T>>
         ensures bytes { IfOk result (λ bytes. bytes.items ≡ held_bytes self) }
         ensures succeeds { IsOwned self → IsOk result }
@@ -55,14 +55,14 @@ impl<T: AsSlice<u8> + Drop> DataRangeOrOwned<T> {
 #[derive(Debug, Drop)]
 pub struct TurnPeerData<T: AsSlice<u8>> {
     data: DataRangeOrOwned<T>,
-    /// What carried the data from the peer to the server.
+    /// The transport between the peer and the server.
     pub transport: TransportType,
     /// The peer that sent it.
     pub peer: SocketAddr,
 }
 
 impl<T: AsSlice<u8>> TurnPeerData<T> {
-    /// These bytes, as data that came from this peer over this transport.
+    /// These bytes, as data that this peer sent over this transport.
     pub fn new(
         transport: TransportType,
         peer: SocketAddr,
@@ -88,12 +88,12 @@ impl<T: AsSlice<u8>> TurnPeerData<T> {
 }
 
 impl<T: AsSlice<u8> + Drop> TurnPeerData<T> {
-    /// The same data of the same peer, which keeps nothing of what the caller handed in. Data that is
-    /// owned already is not copied, and takes no memory.
+    /// The same data of the same peer, which holds nothing that the caller passed in. Data that is
+    /// already owned is not copied, and allocates no memory.
     ///
     /// # Errors
     ///
-    /// Where there is no memory for a copy. This value is then handed back as it was.
+    /// If memory allocation for a copy fails. This value is then returned unchanged.
     pub fn into_owned(self, alloc: Global) -> Result<TurnPeerData<Vec<u8>>, TurnPeerData<T>>
         ensures transport { IfOk result (λ owned. owned.transport ≡ self.transport) }
         ensures peer { IfOk result (λ owned. owned.peer ≡ self.peer) }
@@ -130,27 +130,28 @@ impl<T: AsSlice<u8>> AsSlice<u8> for TurnPeerData<T> {
     }
 }
 
-/// What `recv` of a client has done with a packet.
+/// What `recv` of a client did with its input.
 #[derive(Debug, Drop)]
 pub enum TurnRecvRet<T: AsSlice<u8>> {
-    /// It was for the client, and is used up. What came of it the client tells when it is polled.
+    /// It was for the client, and is consumed. The calls that poll the client report its effects.
     Handled,
-    /// It was not for the client, and is handed back as it was.
+    /// It was not for the client, and is returned unchanged.
     Ignored(Transmit<T>),
-    /// It carried data from a peer.
+    /// It carried data of a peer.
     PeerData(TurnPeerData<T>),
-    /// It told of an ICMP packet that came for what was sent to a peer (RFC 8656, section 11.6).
+    /// It reported an ICMP packet that the server received for data sent to a peer (RFC 8656,
+    /// section 11.6).
     PeerIcmp {
-        /// What the server relays over between its address and the peer.
+        /// The transport that the server relays over, between the relayed address and the peer.
         transport: TransportType,
-        /// The peer to which it was sent.
+        /// The peer to which the data was sent.
         peer: SocketAddr,
         /// The type of the ICMP packet.
         icmp_type: u8,
         /// The code of the ICMP packet.
         icmp_code: u8,
-        /// What else the ICMP packet says, which depends on its type and code (RFC 8656, section
-        /// 18.13).
+        /// The rest of the ICMP packet, whose meaning depends on its type and code (RFC 8656,
+        /// section 18.13).
         icmp_data: u32,
     },
 }

@@ -1,4 +1,4 @@
-//! What a caller sends on its client's behalf, built when it is sent.
+//! Packets for a peer, built when they are sent.
 
 ghost use Rattle.std.specs.Prelude.{◌≡◌, ◌≤◌, length, slice_range};
 ghost use Rattle.turn_client_api.specs.Range.{part_of};
@@ -10,14 +10,14 @@ use std::convert::AsSlice;
 use std::ops::Range;
 use turn_types::transmit::{DelayedChannel, DelayedMessage, DelayedTransmitBuild};
 
-/// A part of some bytes, which is sent as it is. It is copied when it is sent.
+/// A range of some bytes, which is sent unchanged. It is copied when it is sent.
 #[derive(Debug, Drop)]
 pub struct DelayedTransmit<T: AsSlice<u8>> {
     part: DataRange<T>,
 }
 
 impl<T: AsSlice<u8>> DelayedTransmit<T> {
-    /// The part of these bytes in this range, which lies inside them.
+    /// This range of these bytes, inside which it lies.
     pub fn new(data: T, range: Range<usize>) -> DelayedTransmit<T>
         requires ordered { range.start ≤ range.end }
         requires inside { range.end ≤ length (T.items «data») }
@@ -46,17 +46,17 @@ impl<T: AsSlice<u8> + Drop> DelayedTransmitBuild for DelayedTransmit<T> {
     }
 }
 
-/// What `send_to` of a client makes of data for a peer: a packet for the server, which is built when
-/// it is sent.
+/// What `send_to` of a client makes of data for a peer: a packet for the server, which is built
+/// when it is sent.
 #[derive(Debug, Drop)]
 pub enum DelayedMessageOrChannelSend<T: AsSlice<u8>> {
     /// Over the channel of the peer (RFC 8656, section 12.5).
     Channel(DelayedChannel<T>),
     /// As a Send indication (RFC 8656, section 11.1).
     Message(DelayedMessage<T>),
-    /// The data as it is, as over a data connection (RFC 6062, section 4.3).
+    /// The data unchanged, for a data connection (RFC 6062, section 4.3).
     Data(T),
-    /// Bytes that are built already.
+    /// Bytes that are already built.
     OwnedData(Vec<u8>),
 }
 
@@ -91,7 +91,7 @@ impl<T: AsSlice<u8> + Drop> DelayedTransmitBuild for DelayedMessageOrChannelSend
     }
 }
 
-/// Copies the bytes into a place of just their length, and answers this length.
+/// Copies the bytes into a slice of exactly their length, and returns this length.
 fn copied(bytes: &[u8], place: &mut [u8]) -> usize
     requires { length place.old ≡ length bytes.now }
     ensures copied { place.new ≡ bytes.now }

@@ -40,13 +40,13 @@ not-or true b = refl
 not-or false true = refl
 not-or false false = refl
 
--- before any is taken
+-- before any address is taken
 pub missing-none : (families : List AddressFamily) → missing [] families ≡ families
 missing-none [] = refl
 missing-none (family ∷ others) = ap (λ later. family ∷ later) (missing-none others)
 
 module _ (address : SocketAddr) (taken : List SocketAddr) (families : List AddressFamily) where
-  -- a family of which an address is taken is missing no more
+  -- a family of which an address is taken is no longer missing
   missing-more : missing (taken ++ (address ∷ [])) families ≡ filter (λ family. not (is_of_family family address)) (missing taken families)
   missing-more =
       let among = λ (family : AddressFamily). ap not (list_any-append (is_of_family family) taken (address ∷ []))
@@ -95,7 +95,7 @@ module _ (lifetime now : ℕ) where
   all-new [] = refl
   all-new (a ∷ others) = all-new others
 
-  -- an address of a family that is no longer asked for is not taken again
+  -- an address of a family that is no longer requested is not taken again
   apart-from : (a : SocketAddr) (families : List AddressFamily) (addresses : List SocketAddr) → list_any (λ family. is_of_family family a) families ≡ false → list_all (is_new (new_allocation lifetime now a ∷ [])) (grants_of (taken_addresses families addresses)) ≡ true
   apart-from a families [] none = refl
   apart-from a families (b ∷ later) none = by (list_any (λ family. is_of_family family b) families) refl (apart-from a families later none) (apart-from a rest later (none-left _ _ families none))

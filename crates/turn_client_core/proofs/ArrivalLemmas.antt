@@ -1,4 +1,4 @@
--- Pieces for the stream at their local end.
+-- Pieces for the stream at their local address.
 use Rattle.std.proofs.Common.{◌≡◌, ◌≢◌, ℕ, ◌<◌, Bool, true, false, cond, List, [], ◌∷◌, length, Option, Some, None, inl, inr, refl, subst, ap, ◌∙◌, arith}
 use Rattle.std.specs.Prelude.{IsSomeAnd, OnErr, Result, Ok, Err, find}
 use Rattle.std.specs.Option.{option_map, option_map_or}
@@ -19,7 +19,7 @@ use Rattle.turn_client_api.proofs.MemoryLemmas.{behind}
 use Rattle.turn_client_core.specs.Turns.{EndsBehind, PieceEnds, broken_turned, fed_turned, is_broken, others_from, piece_at, piece_turned}
 use Rattle.turn_client_core.proofs.TurnLemmas.{emptied-broken}
 
--- the stream that is found stands at the local end
+-- the stream that is found has this local address
 found-local : (local : SocketAddr) (xs : List Stream) (x : Stream) → find (λ (y : Stream). same_address y.local local) xs ≡ Some x → x.local ≡ local
 found-local local [] x e = cc
 found-local local (y ∷ ys) x e = by (same_address y.local local) refl (found-local local ys x) e
@@ -46,11 +46,11 @@ pub piece-turned : (to : SocketAddr) (stream : Stream) (piece : List ℕ) (now :
 piece-turned to stream [] now s e some whole = absurd (omega (arith, some))
 piece-turned to stream (b ∷ bs) now s e some whole = rw e (turned-mode stream.mode stream (b ∷ bs) now s whole)
 
--- there is none
+-- there is no such stream
 pub piece-ignored : (to : SocketAddr) (piece : List ℕ) (now : ℕ) (s : State) → stream_at to s ≡ None → piece_at to piece now s ≡ (Ignored, s)
 piece-ignored to piece now s e = rw e refl
 
--- ---- want of memory
+-- ---- memory allocation fails
 
 some-piece : (piece : List ℕ) → 0 < length piece → piece ≢ []
 some-piece [] some = λ e. absurd (omega (arith, some))
@@ -89,7 +89,7 @@ broken-mode Control to stream piece now s broken e = cc
 broken-mode Waiting to stream piece now s broken e = cc
 broken-mode (Bound peer) to stream piece now s broken e = cc
 
--- it is dropped, or sets all others going
+-- it is dropped, or all other streams are processed
 pub piece-broken : (to : SocketAddr) (piece : List ℕ) (now : ℕ) (s : State) → option_map_or (λ (x : Stream). is_broken x.mode) (stream_at to s) false ≡ true → 0 < length piece
     → piece_at to piece now s ≡ broken_turned to now s
 piece-broken to [] now s e some = absurd (omega (arith, some))
@@ -114,7 +114,7 @@ broken-ends to piece now was s over e some (here, ends) = by (stream_at to was) 
     by None f g = cc
     by (Some stream) f g = inr (over, some-piece piece some, others-broken to stream.mode stream piece now was s f g (stream_at-local to was stream f) here ends)
 
--- what an error leaves, leaves this too
+-- a consequence of what holds on an error holds there too
 pub err-then : {T E A B : Type 0} (r : Result T E) → (A → B) → OnErr r A → OnErr r B
 err-then (Ok x) f h = tt
 err-then (Err e) f h = f h

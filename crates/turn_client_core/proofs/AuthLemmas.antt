@@ -1,4 +1,4 @@
--- Who signs for a client.
+-- The signer of a client.
 use Rattle.std.proofs.Common.{◌≡◌, Some, refl}
 use Rattle.turn_auth.specs.LongTerm.{ClientAuth}
 use Rattle.turn_client_api.specs.State.{State, auth_of}

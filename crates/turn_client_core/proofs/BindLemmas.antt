@@ -1,4 +1,4 @@
--- Data connections that are bound, or are not (RFC 6062, section 4.3).
+-- Data connections that are bound, or whose binding fails (RFC 6062, section 4.3).
 use Rattle.std.proofs.Common.{◌≡◌, ℕ, Bool, true, false, List, [], ◌∷◌, Some, refl}
 use Rattle.std.specs.List.{list_any}
 use Rattle.std.specs.Prelude.{find, is_some}
@@ -17,7 +17,7 @@ use Rattle.turn_client_grants.specs.Asked.{bind_retried}
 use Rattle.turn_client_core.specs.Judged.{kind_of}
 use Rattle.turn_client_core.specs.declared.protocol.judge.Judged.TheVariants.{Challenged, SignedSuccess, SignedError}
 
--- one is found where one passes
+-- an item is found if one passes the test
 pub found_any : {X : Type 0} (p : X → Bool) (xs : List X) → is_some (find p xs) ≡ list_any p xs
 found_any p [] = refl
 found_any p (x ∷ xs) = by (p x) refl (found_any p xs)
@@ -32,7 +32,7 @@ pub bind-asked : (s : State) (d : DataConnection) (id fresh : ℕ) (from : Socke
     → queued true from text (asked fresh text (purpose ∷ []) now (bind_retried d.local now (with_held challenge s))) ≡ bind_again d id challenge now s
 bind-asked s d id fresh from text purpose challenge now found is sent next = rw (found, is, sent, next) refl
 
--- ---- what binds no connection ends it
+-- ---- a message that does not bind the connection ends it
 
 pub not_bound-otherwise : (d : DataConnection) (message : List ℕ) (now : ℕ) (s : State) → (kind_of (bind_judgement s d.local message) ≡ Challenged → ⊥) → (kind_of (bind_judgement s d.local message) ≡ SignedSuccess → ⊥)
     → (kind_of (bind_judgement s d.local message) ≡ SignedError → ⊥) → bind_answered d message now s ≡ not_bound d s

@@ -1,4 +1,4 @@
--- What a DATA indication gives, by what is found in it.
+-- The result of a Data indication, by what is found in it.
 use Rattle.std.proofs.Common.{◌≡◌, ℕ, ◌+◌, Bool, true, false, if◌then◌else◌, List, length, take, drop, Option, Some, None, IfSome, refl, subst, sym, ap, ◌∙◌, arith}
 use Rattle.std.proofs.lemmas.List.{take-append-drop, take_at}
 use Rattle.std.specs.List.{slice_range}
@@ -56,14 +56,14 @@ module _ (s : State) (message : List ℕ) where
     pub icmp-is : (icmp : Option Icmp) (found : Option Attribute) → found ≡ last_in data_kind message → option_map value_place found ≡ None → icmp ≡ last_icmp_in message → outcome_in message (option_map_or (λ icmp. let_in permitted (T.PeerIcmp s.config.allocation_transport peer icmp)) icmp T.Ignored) ≡ data_indicated s message
     icmp-is icmp found is e = icmp_at icmp (no_data found is e)
 
--- ---- channel frames
+-- ---- ChannelData messages
 
--- as many items as there are in front are those in front
+-- as many items as were taken from the front are those in front
 take-front : (n : ℕ) (bytes : List ℕ) → take (length (take n bytes)) bytes ≡ take n bytes
 take-front n bytes = subst (λ all. take (length (take n bytes)) all ≡ take n bytes) (take-append-drop n bytes) (take_at (take n bytes) (drop n bytes) (length (take n bytes)) refl)
 
 module _ (s : State) (frame : List ℕ) where
-  -- the payload stands behind the header (RFC 8656, section 12.4)
+  -- the payload is behind the header (RFC 8656, section 12.4)
   payload-at : slice_range frame 4 (4 + length (channel_frame_at frame).payload) ≡ (channel_frame_at frame).payload
   payload-at =
       ap (λ n. take n (drop 4 frame)) (omega arith) ∙ take-front (u16_at frame 2) (drop 4 frame)

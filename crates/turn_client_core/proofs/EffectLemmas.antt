@@ -1,4 +1,4 @@
--- What a reply changes beside the grants, and the grants.
+-- What a reply changes apart from the grants, and the grants.
 use Rattle.std.proofs.Common.{◌≡◌, refl}
 use Rattle.turn_client_api.specs.State.{State}
 use Rattle.turn_client_core.specs.Effects.{after}

@@ -10,7 +10,7 @@ use Rattle.turn_types.specs.declared.error.ChannelParseError.{ChannelParseError}
 use Rattle.turn_types.proofs.ChannelLemmas.{IsChannel-ReadsChannel, PassesTests, PassesTests-no_fault}
 use Rattle.turn_types.proofs.FrameLemmas.{frame_len-IsWhole}
 
--- a whole frame that does not begin as a message does is a channel frame
+-- a whole frame that does not begin like a STUN message is a ChannelData message
 whole-channel : (frame : List ℕ) → frame_len frame ≡ Some (length frame) → begins_message frame ≡ false → PassesTests frame
 whole-channel frame whole e =
     let is = frame_len-IsWhole frame (length frame) whole in
@@ -22,7 +22,7 @@ whole-channel frame whole e =
       whole = omega (arith, size, within);
     }
 
--- a whole frame that is no channel frame begins as a message does
+-- a whole frame that is no ChannelData message begins like a STUN message
 pub message-begins : (frame : List ℕ) (fault : ChannelParseError) → frame_len frame ≡ Some (length frame) → channel_fault_of frame ≡ Some fault → begins_message frame ≡ true
 message-begins frame fault whole refused = by (begins_message frame) refl
   where
@@ -30,6 +30,6 @@ message-begins frame fault whole refused = by (begins_message frame) refl
     by true e = e
     by false e = let no : None ≡ Some fault = sym (PassesTests-no_fault frame (whole-channel frame whole e)) ∙ refused in cc
 
--- a channel frame begins otherwise
+-- a ChannelData message begins otherwise
 pub channel-begins : (frame : List ℕ) (id : ℕ) (payload rest : List ℕ) → IsChannel frame id payload rest → begins_message frame ≡ false
 channel-begins frame id payload rest is = le-ltb _ _ (IsChannel-ReadsChannel frame id payload rest is).tests.least

@@ -1,11 +1,12 @@
 -- IDs that are tried one after the other.
-use Rattle.std.proofs.Common.{◌≡◌, ℕ, ◌+◌, ◌-◌, ◌%◌, ◌<◌, ◌^◌, Bool, true, false, suc, map, refl, ap, arith}
+use Rattle.std.proofs.Common.{◌≡◌, ℕ, zero, ◌+◌, ◌-◌, ◌%◌, ◌<◌, ◌≤◌, ◌^◌, Bool, true, false, not, suc, List, map, refl, sym, ap, arith}
 use Rattle.std.specs.List.{list_any, range_with_len}
-use Rattle.std.specs.Prelude.{◌==◌, ◌||◌, find, Some, if◌then◌else◌}
+use Rattle.std.specs.Prelude.{◌==◌, ◌||◌, find, Some, unwrap_or, if◌then◌else◌}
 use Rattle.turn_agent.specs.Agent.{is_outstanding}
-use Rattle.turn_client_api.proofs.NewIdLemmas.{fresh-free}
+use Rattle.turn_agent.specs.TransactionIds.{next_id}
+use Rattle.turn_client_api.proofs.NewIdLemmas.{counted-small, fresh-free}
 use Rattle.turn_client_api.specs.Grants.{is_listed, is_of_request}
-use Rattle.turn_client_api.specs.Requests.{fresh_id, most_taken}
+use Rattle.turn_client_api.specs.Requests.{counted_up, fresh_id, is_taken, most_taken}
 use Rattle.turn_client_api.specs.State.{State}
 
 pub find-counted : (p : ℕ → Bool) (f : ℕ → ℕ) (a b : ℕ) → a < b → find p (map f (range_with_len a (b - a))) ≡ (if p (f a) then Some (f a) else find p (map f (range_with_len (a + 1) (b - (a + 1)))))
@@ -20,10 +21,25 @@ either-false : (a b : Bool) → (a || b) ≡ false → (a ≡ false) × (b ≡ f
 either-false true b e = cc
 either-false false b e = (refl, e)
 
-pub fresh-unsent : (s : State) → most_taken s < 2 ^ 96 → is_outstanding (fresh_id s) s.transactions ≡ false
-fresh-unsent s few = (either-false (is_outstanding (fresh_id s) s.transactions) (is_listed (fresh_id s) s) (fresh-free s few)).0
+-- so many IDs, fewer than 2^96, are counted up modulo 2^96
+same-ids : (first place count : ℕ) → place + count ≤ 2 ^ 96 → map (counted_up first) (range_with_len place count) ≡ map (λ n. (first + n) % 2 ^ 96) (range_with_len place count)
+same-ids first place zero within = refl
+same-ids first place (suc count) within =
+    let one = counted-small first place (omega (arith, within)) in
+    let more = same-ids first (place + 1) count (omega (arith, within)) in
+    rw (one, more) refl
 
-pub fresh-unlisted : (s : State) → most_taken s < 2 ^ 96 → list_any (λ l. l.id == fresh_id s) s.listed ≡ false
-fresh-unlisted s few =
-    let listed = (either-false (is_outstanding (fresh_id s) s.transactions) (is_listed (fresh_id s) s) (fresh-free s few)).1 in
+-- the next ID is the first of these that is not taken
+pub fresh-is : (s : State) → most_taken s < 2 ^ 96
+    → unwrap_or (find (λ id. not (is_taken id s)) (map (λ n. (next_id s.ids + n) % 2 ^ 96) (range_with_len 0 (most_taken s + 1)))) (next_id s.ids) ≡ fresh_id s
+fresh-is s few =
+    ap (λ (ids : List ℕ). unwrap_or (find (λ id. not (is_taken id s)) ids) (next_id s.ids))
+    (sym (same-ids (next_id s.ids) 0 (most_taken s + 1) (omega (arith, few))))
+
+pub fresh-unsent : (s : State) → is_outstanding (fresh_id s) s.transactions ≡ false
+fresh-unsent s = (either-false (is_outstanding (fresh_id s) s.transactions) (is_listed (fresh_id s) s) (fresh-free s)).0
+
+pub fresh-unlisted : (s : State) → list_any (λ l. l.id == fresh_id s) s.listed ≡ false
+fresh-unlisted s =
+    let listed = (either-false (is_outstanding (fresh_id s) s.transactions) (is_listed (fresh_id s) s) (fresh-free s)).1 in
     (either-false (list_any (λ l. l.id == fresh_id s) s.listed) (list_any (is_of_request (fresh_id s)) s.grants) listed).0

@@ -1,4 +1,4 @@
--- What the machine makes of a message, by what it is judged to be.
+-- The effect of a message, by its judgement.
 use Rattle.std.proofs.Common.{◌≡◌, ◌∙◌, ◌==◌, ℕ, Bool, true, false, List, Option, Some, None, ap, cond, refl, subst}
 use Rattle.turn_auth.specs.LongTerm.{Challenge}
 use Rattle.turn_auth.specs.Validation.{validation_of}
@@ -25,7 +25,7 @@ use Rattle.turn_client_core.specs.declared.protocol.judge.Judged.TheVariants.{Un
 
 -- ---- the judgement, by its kind
 
--- one that gives nothing more than its kind
+-- a judgement that contains nothing but its kind
 abbrev pub plain : Judged → Judgement
 plain Unrelated = J.Unrelated
 plain Challenged = J.Unrelated
@@ -37,7 +37,7 @@ plain SignedRequest = J.SignedRequest
 plain SignedSuccess = J.SignedSuccess
 plain SignedError = J.SignedError
 
--- a kind that gives nothing more
+-- a kind that contains nothing more
 abbrev pub IsPlain : Judged → Type 0
 IsPlain Challenged = ⊥
 IsPlain _ = Unit {0}
@@ -67,7 +67,7 @@ challenged-is J.SignedRequest e = cc
 challenged-is J.SignedSuccess e = cc
 challenged-is J.SignedError e = cc
 
--- ---- what else is true of one that is signed
+-- ---- what else holds for a signed message
 
 challenged_or-plain : (j : Judgement) (o : Option Challenge) (k : Judgement) → ((challenge : Challenge) → J.Challenged challenge ≡ k → ⊥) → challenged_or j o ≡ k → j ≡ k
 challenged_or-plain j None k plain e = e
@@ -77,7 +77,7 @@ cond-first : (b : Bool) (j l k : Judgement) → (l ≡ k → ⊥) → cond b j l
 cond-first true j l k other e = (refl, e)
 cond-first false j l k other e = absurd (other e)
 
--- before anything is held nothing is signed
+-- without a held challenge nothing is signed
 pub request-signs : (s : State) (message : List ℕ) → judgement_of s message ≡ J.SignedRequest → CanSign s.phase
 request-signs s message = by s.phase refl
   where
@@ -88,7 +88,7 @@ request-signs s message = by s.phase refl
     by Allocated e = rw e (λ h. tt)
     by Closed e = rw e (λ h. cc)
 
--- a signed error to an ALLOCATE answers one that is outstanding
+-- a signed error response to an ALLOCATE answers an outstanding one
 authenticating-outstanding : (s : State) (message : List ℕ) → authenticating_judgement s message ≡ J.SignedError → is_outstanding (id_of message) s.transactions ≡ true
 authenticating-outstanding s message = by (validation_of (auth_of s) message) refl
   where
@@ -106,7 +106,7 @@ authenticating-outstanding s message = by (validation_of (auth_of s) message) re
 pub error-answers : (s : State) (message : List ℕ) → judgement_of s message ≡ J.SignedError → s.phase ≡ Authenticating → is_outstanding (id_of message) s.transactions ≡ true
 error-answers s message h e = authenticating-outstanding s message (rw e at h)
 
--- ---- signed replies, by what the client waits for
+-- ---- signed replies, by the phase of the client
 
 pub granted-step : (message : List ℕ) (now : ℕ) (s : State) → is_authenticating s.phase ≡ true → signed_step true message now s ≡ (Handled, allocate_granted message now (ended (id_of message) s))
 granted-step message now s = by s.phase refl
@@ -145,7 +145,7 @@ authenticating-is Authenticating h = refl
 authenticating-is Allocated h = cc
 authenticating-is Closed h = cc
 
--- ---- DATA indications
+-- ---- Data indications
 
 indication-is : (message : List ℕ) → is_data_indication message ≡ true → (class_in message ≡ Indication) × ((method_in message == data_method) ≡ true)
 indication-is message = by (class_in message) refl
@@ -156,7 +156,7 @@ indication-is message = by (class_in message) refl
     by Success e = rw e (λ h. cc)
     by Error e = rw e (λ h. cc)
 
--- nothing is asked of a client
+-- nothing is required of a client
 abbrev pub IsIdle : Judged → Type 0
 IsIdle Unrelated = Unit {0}
 IsIdle DataIndication = Unit {0}
@@ -172,6 +172,6 @@ data-idle s message h = let (class, method) = indication-is message h in by clas
     by class method Allocated e = rw (e, class, method) tt
     by class method Closed e = rw e tt
 
--- a DATA indication is nothing else
+-- a Data indication is nothing else
 pub data-judged : (s : State) (message : List ℕ) → is_data_indication message ≡ true → (kind : Judged) → kind_of (judgement_of s message) ≡ kind → IsIdle kind
 data-judged s message h kind e = subst IsIdle e (data-idle s message h)

@@ -2,7 +2,7 @@
 use Rattle.std.proofs.Common.{◌≡◌, List, [], ◌∷◌, ◌++◌, Some, None, suc, drop, length, refl, ap, arith}
 use Rattle.std.specs.Prelude.{Option, option_to_list, slice_get}
 
--- what stands before all but the first is the first
+-- what comes before all but the first is the first
 pub first_of : {X : Type 0} (xs : List X) (first : Option X) → xs ≡ option_to_list first ++ drop 1 xs → slice_get xs 0 ≡ first
 first_of [] None e = refl
 first_of [] (Some x) e = cc

@@ -66,11 +66,11 @@ lent-outcome bytes range told e inside is =
     front-outcome bytes range.end told inside (subst (λ part. IsWithin part told) (part-front bytes range e) is)
     ∙ ap (λ part. outcome_in part told) (sym (part-front bytes range e))
 
--- the part is turned to the front, and the rest cut off
+-- the part is rotated to the front, and the rest cut off
 pub rotated-part : (xs : List ℕ) (start end : ℕ) → end ≤ length xs → take (end - start) (drop start xs ++ take start xs) ≡ slice_range xs start end
 rotated-part xs start end inside = take-append-le (end - start) (drop start xs) (take start xs) (omega (arith, inside, length-drop start xs))
 
--- ---- the frame in front
+-- ---- the first frame
 
 module _ {T : Type 0} (items : T → List ℕ) where
   pub comes-IsFront : (waited : List ℕ) (came : Transmit T) (front : IncomingTcp T) → ComesWith items waited came front → IsFront items front
@@ -95,32 +95,32 @@ module _ {T : Type 0} (items : T → List ℕ) where
   comes-given (b ∷ waited) came (StoredMessage frame transmit) outcome is = refl
   comes-given (b ∷ waited) came (StoredChannel frame transmit) outcome is = refl
 
--- ---- the first turn
+-- ---- a step of a stream
 
--- where a frame is in front, the stream is not stuck
-front-begins : (s : Stream) (frame : List ℕ) → Some frame ≡ front_of s → begins_no_frame s.bytes ≡ false
+-- if there is a first frame, the stream is not stuck
+pub front-begins : (s : Stream) (frame : List ℕ) → Some frame ≡ front_of s → begins_no_frame s.bytes ≡ false
 front-begins s frame e = by (frame_len s.bytes) refl e
   where
     by : (o : Option ℕ) → frame_len s.bytes ≡ o → Some frame ≡ option_map (λ len. take len s.bytes) o → begins_no_frame s.bytes ≡ false
     by None f g = cc
     by (Some len) f g = (frame_len-IsWhole s.bytes len f).begins
 
--- how a stream without its front is meant, and where it ends
-passed-local : (s : Stream) → (passed s).local ≡ s.local
+-- the mode and the local address of a stream without its first frame
+pub passed-local : (s : Stream) → (passed s).local ≡ s.local
 passed-local s = by (frame_len s.bytes)
   where
     by : (o : Option ℕ) → (option_map_or (λ len. record s { bytes = drop len s.bytes }) o s).local ≡ s.local
     by None = refl
     by (Some len) = refl
 
-passed-mode : (s : Stream) → (passed s).mode ≡ s.mode
+pub passed-mode : (s : Stream) → (passed s).mode ≡ s.mode
 passed-mode s = by (frame_len s.bytes)
   where
     by : (o : Option ℕ) → (option_map_or (λ len. record s { bytes = drop len s.bytes }) o s).mode ≡ s.mode
     by None = refl
     by (Some len) = refl
 
--- a frame is handled by the mode and the local end
+-- a frame is processed by the mode and the local address
 frame-by : (s u : Stream) (frame : List ℕ) (now : ℕ) (t : State) → u.mode ≡ s.mode → u.local ≡ s.local → frame_step u frame now t ≡ frame_step s frame now t
 frame-by s u frame now t mode local = rw (mode, local) refl
 

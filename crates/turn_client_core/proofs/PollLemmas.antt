@@ -25,7 +25,7 @@ use Rattle.turn_client_core.proofs.AskLemmas.{with_outbox}
 abbrev Answer : Type 0
 Answer = TurnPollRet × State
 
--- ---- the next wakeup
+-- ---- the next wake-up time
 
 pub least_due-is : (now : ℕ) (s : State) → fold min (fold min (fold min greatest_moment (later_by longest_sleep now ∷ (if has_queued_request s then pause_end s ∷ [] else []))) (map (next_moment (timers_of s.config) s.transport) s.transactions)) (flat_map (moments_of now (pause_end s) s) s.grants) ≡ least_due now s
 least_due-is now s =
@@ -35,7 +35,7 @@ least_due-is now s =
     let first = min greatest_moment (later_by longest_sleep now) in
     sym (fold-append min first (queued ++ sends) ends ∙ ap (λ n. fold min n ends) (fold-append min first queued sends))
 
--- ---- what is given up
+-- ---- what times out
 
 abbrev Given : Type 0
 Given = Option ℕ × Outgoing
@@ -65,7 +65,7 @@ dropped_none : {X : Type 0} (xs : List X) → xs ≡ drop 1 xs → xs ≡ []
 dropped_none [] e = refl
 dropped_none (x ∷ xs) e = let longer : suc (length xs) ≡ length xs = ap length e in absurd (omega (arith, longer))
 
--- none was to be closed, and nothing changed
+-- no connection was to be closed, and nothing changed
 pub none_closed : (s t : State) → s.closes ≡ t.closes → t ≡ record s { closes = drop 1 s.closes } → (s.closes ≡ []) × (t ≡ s)
 none_closed s t same after =
     let dropped : s.closes ≡ drop 1 s.closes = same ∙ ap (λ (u : State). u.closes) after in

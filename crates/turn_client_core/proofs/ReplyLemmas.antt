@@ -1,4 +1,4 @@
--- The first reply that waits.
+-- The first queued reply.
 use Rattle.std.proofs.Common.{◌≡◌, ◌∙◌, ℕ, ◌<◌, ◌≤◌, Bool, true, false, suc, ltb, List, [], ◌∷◌, None, Some, get_or, length, refl, ap, sym, arith}
 use Rattle.std.proofs.lemmas.Bool.{ltb-true, ltb-false}
 use Rattle.std.specs.List.{position, position_or_len, remove}
@@ -16,7 +16,7 @@ past p xs none = by (ltb (position_or_len p xs) (length xs)) refl none
     by true e none = cc
     by false e none = ltb-false _ _ e
 
--- the place is the first
+-- the index is the first
 pub record IsPlace {X : Type 0} (p : X → Bool) (xs : List X) (i : ℕ) : Type 0 where
   pub is : position_or_len p xs ≡ i
   pub within : i < length xs
@@ -33,7 +33,7 @@ within p xs i found = by (ltb (position_or_len p xs) (length xs)) refl found
         record { is = is; within = omega (arith, ltb-true _ _ e, is) }
     by false e found = cc
 
--- no reply waits
+-- no reply is queued
 pub record NoReply (queue : List Queued) : Type 0 where
   pub first : slice_get (filter_map reply_in queue) 0 ≡ None
   pub rest : without_first_reply queue ≡ queue
@@ -51,7 +51,7 @@ none-by (q ∷ queue) h = by q.is_request refl h (none-by queue)
 pub no_reply : (queue : List Queued) → position (λ q. not q.is_request) queue ≡ None → NoReply queue
 no_reply queue none = none-by queue (past _ queue none)
 
--- the first reply stands at this place
+-- the first reply is at this index
 pub record IsReplyAt (queue : List Queued) (i : ℕ) (d : Queued) : Type 0 where
   pub first : slice_get (filter_map reply_in queue) 0 ≡ Some (get_or queue i d).packet
   pub rest : without_first_reply queue ≡ remove queue i

@@ -1,4 +1,4 @@
--- Requests that are made in the place of another one.
+-- Requests that are made in place of another one.
 use Rattle.std.proofs.Common.{◌≡◌, ◌∙◌, ℕ, Bool, true, false, List, [], ◌∷◌, ◌++◌, Some, None, ap, refl, sym, map}
 use Rattle.std.proofs.lemmas.Bool.{eqb-true, lt-ltb}
 use Rattle.std.specs.List.{list_any}
@@ -18,7 +18,7 @@ use Rattle.turn_client_api.specs.declared.grant.Purpose.{Purpose}
 use Rattle.turn_client_api.specs.declared.grant.Purpose.TheVariants.{ForAllocation}
 use Rattle.turn_stun.specs.Message.{id_of}
 
--- the old one is outstanding no longer, whether it ends before the new one is made or after it
+-- the old request is no longer outstanding, whether it ends before the new one is made or after it
 pub without-other : (id : ℕ) (t : Transaction) (transactions : List Transaction) → (t.id == id) ≡ false → without id (transactions ++ t ∷ []) ≡ without id transactions ++ t ∷ []
 without-other id t [] other = rw other refl
 without-other id t (u ∷ others) other = by (u.id == id) refl (without-other id t others other)
@@ -27,7 +27,7 @@ without-other id t (u ∷ others) other = by (u.id == id) refl (without-other id
     by true e rest = rw e rest
     by false e rest = rw e (ap (λ ts. u ∷ ts) rest)
 
--- the client once the challenge of its request is taken
+-- the client after the challenge to its request is accepted
 abbrev pub taken : State → ℕ → Challenge → State
 taken s id challenge = with_held challenge (record (ended id s) { phase = phase_after s.phase; challenges = s.challenges + 1 })
 
@@ -54,7 +54,7 @@ none-filtered p q (x ∷ xs) none = by (p x) (q x) refl refl (none-filtered p q 
     by false true e f rest = rw (f, e) (rest (rw e at none))
     by false false e f rest = rw f (rest (rw e at none))
 
--- one that is asked for again is listed, and a fresh one is not
+-- a request that is made again is listed, and a fresh one is not
 pub asked-other : (id fresh : ℕ) (listed : List Listing) (purpose : Purpose) → list_any (λ l. l.id == fresh) listed ≡ false → retried (map (λ l. l.purpose) (filter (λ l. l.id == id) listed)) ≡ Some purpose → (fresh == id) ≡ false
 asked-other id fresh listed purpose unlisted asked = by (fresh == id) refl
   where
@@ -66,7 +66,7 @@ asked-other id fresh listed purpose unlisted asked = by (fresh == id) refl
         let no : None ≡ Some purpose = rw (none-found (λ l. l.id == id) listed none) at asked in
         cc
 
--- one that is answered is outstanding, and a fresh one is not
+-- a request that is answered is outstanding, and a fresh one is not
 pub answered-other : (id fresh : ℕ) (transactions : List Transaction) → is_outstanding fresh transactions ≡ false → is_outstanding id transactions ≡ true → (fresh == id) ≡ false
 answered-other id fresh transactions unsent outstanding = by (fresh == id) refl
   where
@@ -77,7 +77,7 @@ answered-other id fresh transactions unsent outstanding = by (fresh == id) refl
         let no : true ≡ false = sym outstanding ∙ (rw same at unsent) in
         cc
 
--- ---- a challenge is answered, or is about nothing
+-- ---- a challenge is answered, or concerns no request
 
 pub answered-is : (s : State) (message : List ℕ) (challenge : Challenge) (now : ℕ) (purpose : Purpose) → s.challenges < 9 → retried (purposes_of (id_of message) s) ≡ Some purpose
     → challenge_step message challenge now s ≡ (Handled, state_after_retry s (id_of message) purpose challenge now)
@@ -92,7 +92,7 @@ pub first-is : (s : State) (fresh : ℕ) (from : SocketAddr) (text : List ℕ) (
     → queued true from text (asked fresh text (ForAllocation ∷ []) now s) ≡ requested fresh ForAllocation now s
 first-is s fresh from text now is sent = rw (is, sent) refl
 
--- ---- what a request was made for, by the table
+-- ---- the purposes of a request, by the table
 
 pub purposes-are : (s t : State) (message : List ℕ) (id : ℕ) (listed : List Listing) (purposes : List Purpose) → purposes ≡ map (λ l. l.purpose) (filter (λ l. l.id == id) listed) → listed ≡ s.listed → id ≡ id_of message → s ≡ t
     → purposes ≡ purposes_of (id_of message) t

@@ -1,4 +1,4 @@
--- Who can sign.
+-- Clients that can sign.
 use Rattle.std.specs.Prelude.{Option, IsSome}
 use Rattle.turn_auth.specs.LongTerm.{Challenge}
 use Rattle.turn_client_api.specs.LawsStates.{IsHeldIn}

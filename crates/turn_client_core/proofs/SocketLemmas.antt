@@ -20,7 +20,7 @@ free-none false None e = refl
 free-none false (Some x) e = cc
 free-none true found e = cc
 
--- the reply is what the server is answered
+-- the reply is the answer to the server
 pub answered-is : (text : ℕ → List ℕ) (origin : Origin) (s : State) → with_reply (answer_to text origin) s ≡ answered_with text origin s
 answered-is text OwnConnect s = rw (append-nil s.queue) refl
 answered-is text (ServerRequest request) s = refl

@@ -36,7 +36,7 @@ some_differs o p packet e = differ (ap (λ (r : Sent). r.0) e)
     differ : ◌≡◌ {A = Packet} (Some packet) None → ⊥
     differ e = cc
 
--- a request was sent again
+-- a request was retransmitted
 pub resent-sends : (now : ℕ) (s : State) (o p : Outgoing) (packet : Transmit (List ℕ)) → o.timers ≡ timers_of s.config → (Some packet, p) ≡ resend_step now o → ◌≡◌ {A = Packet × State} (Some packet, with_outbox p s) (transmit_step now (with_outbox o s))
 resent-sends now s o p packet times step = by (find (is_due o.timers o.transport now) o.transactions) refl step
   where
@@ -44,7 +44,7 @@ resent-sends now s o p packet times step = by (find (is_due o.timers o.transport
     by None e step = absurd (some_differs o p packet (rw e at step))
     by (Some t) e step = rw (← times, e) (ap (λ (r : Sent). (r.0, with_outbox r.1 s)) (rw e at step))
 
--- none was due
+-- no retransmission was due
 pub not_resent-sends : (now : ℕ) (s : State) (o p : Outgoing) → o.timers ≡ timers_of s.config → (None, p) ≡ resend_step now o → waiting_step now (with_outbox p s) ≡ transmit_step now (with_outbox o s)
 not_resent-sends now s o p times step = by (find (is_due o.timers o.transport now) o.transactions) refl step
   where
@@ -52,7 +52,7 @@ not_resent-sends now s o p times step = by (find (is_due o.timers o.transport no
     by None e step = rw (← times, e) (ap (λ (r : Sent). waiting_step now (with_outbox r.1 s)) (rw e at step))
     by (Some t) e step = absurd (some_differs _ _ _ (sym (rw e at step)))
 
--- what waited in front is sent
+-- the first queued packet is sent
 pub front-sends : (now : ℕ) (s : State) (o p : Outgoing) (packet : Transmit (List ℕ)) → (Some packet, p) ≡ front_step now o → ◌≡◌ {A = Packet × State} (Some packet, with_outbox p s) (queue_step now (with_outbox o s))
 front-sends now s o p packet step = by (slice_get o.queue 0) refl step
   where
@@ -60,7 +60,7 @@ front-sends now s o p packet step = by (slice_get o.queue 0) refl step
     by None e step = absurd (some_differs o p packet (rw e at step))
     by (Some q) e step = rw e (ap (λ (r : Sent). (r.0, with_outbox r.1 s)) (rw e at step))
 
--- nothing waited
+-- no packet was queued
 pub no_front-sends : (now : ℕ) (s : State) (o p : Outgoing) → (None, p) ≡ front_step now o → idle_step s.phase now (with_outbox p s) ≡ queue_step now (with_outbox o s)
 no_front-sends now s o p step = by (slice_get o.queue 0) refl step
   where
@@ -68,7 +68,7 @@ no_front-sends now s o p step = by (slice_get o.queue 0) refl step
     by None e step = rw e (ap (λ (r : Sent). idle_step s.phase now (with_outbox r.1 s)) (rw e at step))
     by (Some q) e step = absurd (some_differs _ _ _ (sym (rw e at step)))
 
--- ---- a request that goes out at once
+-- ---- a request that is sent at once
 
 pub sends-is : (s : State) (was ledger : Ledger) (id : ℕ) (text : List ℕ) (purpose : Purpose) (now : ℕ) → on was s ≡ s → Asks id (purpose ∷ []) now (with_more_grants []) was ledger s text → id ≡ fresh_id s → ◌≡◌ {A = Packet × State} (Some (to_server s s.local text), sent now (on ledger (asked id text (purpose ∷ []) now s))) (sent_at_once text purpose now s)
 sends-is s was ledger id text purpose now same made next =
@@ -93,9 +93,9 @@ refresh-some now s purpose found = rw (next_first now s (allocations s), found) 
 pub refresh-none : (now : ℕ) (s : State) → slice_get (filter_map (first_refresh now s) (allocations s)) 0 ≡ None → ◌≡◌ {A = Packet × State} (None, s) (refresh_step now s)
 refresh-none now s found = rw (next_first now s (allocations s), found) refl
 
--- ---- when memory is wanted
+-- ---- when memory is needed
 
--- a request is due again
+-- a retransmission is due
 pub resend-wanted : (now : ℕ) (o : Outgoing) → (find (is_due o.timers o.transport now) o.transactions ≡ None → ⊥) → IsSome (resend_step now o).0
 resend-wanted now o some = by (find (is_due o.timers o.transport now) o.transactions) refl
   where

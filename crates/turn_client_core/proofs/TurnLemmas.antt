@@ -1,4 +1,4 @@
--- Turns of streams that are taken out, and turns one after the other.
+-- Steps of streams that are taken out, and steps in sequence.
 use Rattle.std.proofs.Common.{◌≡◌, ℕ, zero, suc, ◌≤◌, Bool, true, false, cond, List, [], ◌∷◌, drop, length, map, take, Option, Some, None, refl, sym, ap, ◌∙◌, arith}
 use Rattle.std.specs.Prelude.{find}
 use Rattle.std.specs.Option.{option_map, option_map_or}
@@ -20,7 +20,7 @@ use Rattle.turn_client_api.proofs.StreamWeightLemmas.{weight, weight-le}
 use Rattle.turn_client_streams.specs.Buffered.{front_of, passed}
 use Rattle.turn_client_core.specs.Turns.{given_by}
 
--- ---- the frame in front
+-- ---- the first frame
 
 -- it is a whole one
 frame-whole : (bytes : List ℕ) (len : ℕ) → frame_len bytes ≡ Some len → frame_len (take len bytes) ≡ Some (length (take len bytes))
@@ -44,14 +44,14 @@ unfolding front_by passed_by
 framed_by-some s frame now t None e = cc
 framed_by-some s frame now t (Some len) e = let same : frame ≡ take len s.bytes = cc in rw same refl
 
--- it is handled, and what is behind it is put back
+-- it is processed, and the bytes behind it are put back
 pub framed-some : (s : Stream) (frame : List ℕ) (now : ℕ) (t : State) → begins_no_frame s.bytes ≡ false → Some frame ≡ front_of s → framed_turn s now t ≡ put_back (passed s).local (passed s).bytes (frame_step s frame now t)
 unfolding front_by passed_by
 framed-some s frame now t stuck e =
     ap (λ b. cond {A = Outcome × State} b (Handled, broken_at s.local t) (framed_by s now t (frame_len s.bytes))) stuck
     ∙ framed_by-some s frame now t (frame_len s.bytes) e
 
--- there is none, and the stream waits for more
+-- there is none, and the stream waits for more bytes
 pub framed-none : (s : Stream) (now : ℕ) (t : State) → begins_no_frame s.bytes ≡ false → None ≡ front_of s → framed_turn s now t ≡ (Handled, with_bytes s.local s.bytes t)
 unfolding front_by
 framed-none s now t stuck e =
@@ -62,7 +62,7 @@ framed-none s now t stuck e =
     by None e = refl
     by (Some len) e = cc
 
--- ---- turns that lead on
+-- ---- steps in sequence
 
 given-none : (next : State → Option Payload × State) (p : Outcome × State) → given_by p.0 ≡ None → go_on next p ≡ next p.1
 given-none next (PeerData payload, t) e = cc
@@ -76,7 +76,7 @@ given-some next (Handled, t) given e = cc
 given-some next (Ignored, t) given e = cc
 given-some next (PeerIcmp transport peer icmp, t) given e = cc
 
--- a turn first: the others are as if it had been taken before
+-- a step first: the others are as if it had been made before
 pub turns-first : (n now : ℕ) (s : State) (stream : Stream) → find is_ready s.streams ≡ Some stream → turns_until_payload (suc n) now s ≡ go_on (turns_until_payload n now) (turn stream now s)
 unfolding turns_until_payload
 turns-first n now s stream e = ap (λ o. turn_of_first (turns_until_payload n now) now s o) e
@@ -86,7 +86,7 @@ unfolding turns_until_payload
 turns-none zero now s e = refl
 turns-none (suc n) now s e = ap (λ o. turn_of_first (turns_until_payload n now) now s o) e
 
--- one turn more, behind turns that gave nothing
+-- one step more, after steps that gave nothing
 pub one-more : (n now : ℕ) (was s t : State) → turns_until_payload n now was ≡ (None, s) → turns_until_payload 1 now s ≡ (None, t) → turns_until_payload (suc n) now was ≡ (None, t)
 unfolding turns_until_payload
 one-more zero now was s t led last = let same : was ≡ s = ap (λ p. p.1) led in ap (turns_until_payload 1 now) same ∙ last
@@ -120,7 +120,7 @@ pub stays-led : (now : ℕ) (s : State) → LeadsTo now s s
 unfolding turns_until_payload
 stays-led now s = (0, refl)
 
--- enough turns are left to tell what all of them give
+-- enough steps are left to determine the result of all
 abbrev pub Rests : ℕ → State → State → Type 0
 Rests now was s = (k : ℕ) × (weight s.streams ≤ k) × (turns_until_payload k now s ≡ poll_recv_step now was)
 
@@ -166,6 +166,6 @@ pub emptied-broken : (local : SocketAddr) (s : State) → broken_at local (with_
 unfolding bytes_by broken_by
 emptied-broken local s = ap (λ (x : List Stream). record s { streams = x }) (broken-all local s.streams)
 
--- the stream whose turn it was is broken, and the client has ended
+-- the stream that was being processed is broken, and the client has ended
 pub ends : (now : ℕ) (was s t : State) (stream : Stream) → find is_ready s.streams ≡ Some stream → LeadsTo now was s → t ≡ closed (broken_at stream.local (with_bytes stream.local [] s)) → EndsAfterTurns now was t
 ends now was s t stream e led is = (s, led, rw e (is ∙ ap closed (emptied-broken stream.local s)))

@@ -1,4 +1,4 @@
--- Nothing is granted before the server allocates, however many turns the streams take.
+-- Nothing is granted before the server allocates, however many steps the streams make.
 use Rattle.std.proofs.Common.{◌≡◌, ℕ, ◌≤◌, Bool, true, false, cond, not, List, [], ◌∷◌, Option, Some, None, filter, map, take, ap, refl, subst, ◌∙◌, arith}
 use Rattle.std.proofs.lemmas.Option.{none-some}
 use Rattle.turn_client_api.specs.State.{State}
@@ -25,7 +25,7 @@ use Rattle.turn_client_api.proofs.RunKeepLemmas.{IsKept, frame-kept, turns-kept}
 abbrev pub HasNoneBefore : State → Type 0
 HasNoneBefore s = IsUngranted s.phase → s.grants ≡ []
 
--- what is kept, by a client that goes on
+-- what is kept, if the client has not ended
 abbrev Stays : State → State → Type 0
 Stays s t = (HasNoneBefore s → HasNoneBefore t) × Keeps s t
 
@@ -43,7 +43,7 @@ rank-granted Authenticating far ungranted = absurd (omega (arith, far))
 rank-granted Allocated far ungranted = ungranted
 rank-granted Closed far ungranted = ungranted
 
--- a client to which the server allocated stays one
+-- a client to which the server granted an allocation stays one
 stays-granted : (s t : State) → GoesOn s t → (IsUngranted s.phase → ⊥) → IsUngranted t.phase → ⊥
 stays-granted s t on granted = rank-granted t.phase (omega (arith, granted-rank s.phase granted, on.0))
 
@@ -103,12 +103,12 @@ Stays-KeepsAllEdits = record {
 Stays-IsKept : IsKept Stays
 Stays-IsKept = edits-IsKept Stays Stays-KeepsAllEdits (λ s streams. (λ h. h, keeps-same s))
 
--- turns of the streams grant nothing before
+-- steps of the streams grant nothing before that
 pub led-none : (now : ℕ) (was s : State) → LeadsTo now was s → HasNoneBefore was → HasNoneBefore s
 led-none now was s (n, led) h =
     (subst (λ (p : Option Payload × State). Stays was p.1) led (turns-kept Stays Stays-IsKept n now was)).0 h
 
--- nor does the turn of a stream of frames
+-- nor does a step of a stream of frames
 pub framed-none-before : (stream : Stream) (now : ℕ) (t : State) → HasNoneBefore t → HasNoneBefore (framed_turn stream now t).1
 framed-none-before stream now t h = by (begins_no_frame stream.bytes) (frame_len stream.bytes)
   where
@@ -117,6 +117,6 @@ framed-none-before stream now t h = by (begins_no_frame stream.bytes) (frame_len
     by false None = h
     by false (Some len) = (frame-kept Stays Stays-IsKept stream (take len stream.bytes) now t).0 h
 
--- so an ALLOCATE that awaits its response has granted nothing
+-- so while an ALLOCATE awaits its response nothing is granted
 pub before-authenticating : (s : State) → HasNoneBefore s → s.phase ≡ Authenticating → s.grants ≡ []
 before-authenticating s h e = h (rw e tt)

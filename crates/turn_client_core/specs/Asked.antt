@@ -1,4 +1,4 @@
--- What a client asks for.
+-- What a client requests.
 use Rattle.std.specs.Prelude.{ℕ, List, true}
 use Rattle.turn_client_api.specs.Grants.{with_more_grants}
 use Rattle.turn_client_api.specs.Requests.{asked, fresh_id, queued, request_for, sent_from}
@@ -6,7 +6,7 @@ use Rattle.turn_client_api.specs.State.{State}
 use Rattle.turn_client_api.specs.declared.grant.Grant.{Grant}
 use Rattle.turn_client_api.specs.declared.grant.Purpose.{Purpose}
 
--- a request for the purpose waits to be sent, is listed for these purposes, and asks for these grants
+-- a request for the purpose is queued, is listed for these purposes, and requests these grants
 abbrev pub asks : Purpose → List Purpose → List Grant → ℕ → State → State
 asks purpose purposes grants now s =
     let text = request_for s purpose (fresh_id s) in

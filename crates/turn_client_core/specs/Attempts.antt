@@ -1,4 +1,4 @@
--- What the server says when a peer connected to the relayed address (RFC 6062, section 4.4).
+-- What the server reports when a peer connected to the relayed address (RFC 6062, section 4.4).
 use Rattle.std.specs.Option.{option_map_or}
 use Rattle.std.specs.Prelude.{ℕ, ◌==◌, if◌then◌else◌, List, ⊤}
 use Rattle.turn_client_api.specs.Connections.{attempt_indicated, attempt_requested}

@@ -1,4 +1,4 @@
--- What comes of the challenge that a message has (RFC 8489, section 9.2.5), where it is answered at all.
+-- The effect of the challenge in a message (RFC 8489, section 9.2.5), if it is answered at all.
 use Rattle.std.specs.Prelude.{◌≡◌, ℕ, List, Some, IfOk, OnOk, Result}
 use Rattle.turn_auth.specs.LongTerm.{Challenge}
 use Rattle.turn_client_api.specs.Connections.{bind_again}
@@ -12,28 +12,28 @@ use Rattle.turn_client_core.specs.Told.{outcome_in}
 use Rattle.turn_client_core.specs.declared.told.Told.{Told}
 use Rattle.turn_stun.specs.Message.{id_of}
 
--- a client is told this of it
+-- the result of the call reports it so
 abbrev pub TellsOfChallenge : {E : Type 0} → List ℕ → ℕ → State → Result Told E → Type 0
 TellsOfChallenge message now s answer =
     (challenge : Challenge)
     → challenge_in s message ≡ Some challenge
     → IfOk answer (λ told. outcome_in message told ≡ (challenge_step message challenge now s).0)
 
--- it was taken, or not
+-- it was accepted, or not
 abbrev pub MeetsChallenge : {E : Type 0} → List ℕ → ℕ → State → State → Result Told E → Type 0
 MeetsChallenge message now was s answer =
     (challenge : Challenge)
     → challenge_in was message ≡ Some challenge
     → OnOk answer (s ≡ (challenge_step message challenge now was).1)
 
--- the request of its ID was made again for this purpose
+-- the request with its ID was made again for this purpose
 abbrev pub AsksAgain : {E : Type 0} → Purpose → List ℕ → ℕ → State → State → Result Unit E → Type 0
 AsksAgain purpose message now was s answer =
     (challenge : Challenge)
     → challenge_in was message ≡ Some challenge
     → OnOk answer (s ≡ state_after_retry was (id_of message) purpose challenge now)
 
--- the connection was asked to be bound again, where that was asked under its ID
+-- the binding of the connection was requested again, if the request with its ID was for that
 abbrev pub BindsAgain : {E : Type 0} → DataConnection → List ℕ → ℕ → State → State → Result Unit E → Type 0
 BindsAgain connection message now was s answer =
     (challenge : Challenge)

@@ -1,4 +1,4 @@
--- What a reply changes of a client beside its grants.
+-- What a reply changes in a client apart from its grants.
 use Rattle.std.specs.Prelude.{◌≡◌, ℕ, Bool, if◌then◌else◌, List, fold, None}
 use Rattle.std.specs.declared.net.socket_addr.SocketAddr.{SocketAddr}
 use Rattle.turn_client_api.specs.Effect.{challenges_reset, connect_answered, effect}
@@ -17,12 +17,12 @@ after Nothing s = s
 after Taken s = challenges_reset s
 after GivenBack s = challenges_reset (record s { phase = Closed })
 
--- with what the ledger became, it is all that the reply changes for these purposes, one after the other
+-- with the new ledger, it is all that the reply changes for these purposes, in order
 abbrev pub Answers : List Purpose → Bool → List ℕ → ℕ → Ledger → Ledger → Effect → Type 0
 Answers purposes is_granted message now was ledger told =
     (s : State) → after told (on ledger s) ≡ fold (effect (id_of message) is_granted message now) (on was s) purposes
 
--- the reply to a CONNECT offers its connection, or says that there is none (RFC 6062, section 4.3)
+-- the reply to a CONNECT makes an offer, or reports that the connection failed (RFC 6062, section 4.3)
 abbrev pub connect_replied : SocketAddr → Bool → List ℕ → State → State
 connect_replied peer is_granted message s =
     challenges_reset (connect_answered peer (if is_granted then connection_id_in message else None) s)

@@ -1,4 +1,4 @@
--- What a DATA indication gives (RFC 8656, section 11.6).
+-- The result of a Data indication (RFC 8656, section 11.6).
 use Rattle.std.specs.Prelude.{ℕ, ◌+◌, Bool, if◌then◌else◌, length, Option}
 use Rattle.std.specs.Net.Socket.{socket_ip}
 use Rattle.std.specs.Option.{option_map_or}
@@ -11,15 +11,15 @@ use Rattle.turn_client_api.specs.State.{State}
 use Rattle.turn_client_core.specs.declared.told.Told.{Told}
 use Rattle.turn_client_core.specs.declared.told.Told.TheVariants.{Ignored, PeerIcmp}
 
--- the value of an attribute stands in its message behind its type and its length (RFC 8489, section 14)
+-- in its message, the value of an attribute is behind its type and its length (RFC 8489, section 14)
 abbrev pub value_place : Attribute → Range ℕ
 value_place a = record { start = a.offset + 4; end = a.offset + 4 + length a.value }
 
--- this, where the server lets its peer through
+-- the result, if its peer is permitted
 abbrev pub let_in : Bool → Told → Told
 let_in is_permitted told = if is_permitted then told else Ignored
 
--- an ICMP error of this peer, if one was told of
+-- an ICMP error of this peer, if one was reported
 abbrev pub icmp_of_peer : SocketAddr → Option Icmp → State → Told
 icmp_of_peer peer icmp s =
     option_map_or (λ icmp. let_in (is_permitted (socket_ip peer) s) (PeerIcmp s.config.allocation_transport peer icmp)) icmp Ignored

@@ -1,4 +1,4 @@
--- What requests ask, by the order in which they are looked for when one is made again.
+-- The kinds of requests, in the order in which they are looked for when a request is made again.
 use Rattle.std.specs.Prelude.{Bool}
 use Rattle.turn_client_api.specs.Retry.{is_allocate_or_connect, is_channel_bind, is_create_permission, is_refresh}
 use Rattle.turn_client_api.specs.declared.grant.Purpose.{Purpose}

@@ -11,18 +11,18 @@ use Rattle.turn_client_api.specs.declared.grant.Origin.{Origin}
 use Rattle.turn_client_api.specs.declared.grant.Origin.TheVariants.{ServerRequest}
 use Rattle.turn_client_api.specs.declared.grant.Purpose.TheVariants.{ForBind}
 
--- a reply waits to be sent over the control connection, if there is one
+-- a reply is queued for the control connection, if there is one
 abbrev pub with_reply : Option (List ℕ) → State → State
 with_reply reply s = record s {
   queue = s.queue ++ map (λ text. record { packet = to_server s s.local text; is_request = false }) (option_to_list reply);
 }
 
--- what the server is answered, where it asked for the connection by a request
+-- the reply to the server, if it requested the connection
 abbrev pub answer_to : (ℕ → List ℕ) → Origin → Option (List ℕ)
 answer_to text (ServerRequest request) = Some (text request)
 answer_to text _ = None
 
--- the caller opened the connection, and the server is answered so
+-- the caller opened the connection, and the server gets this reply
 abbrev pub opened_with : Option (List ℕ) → ℕ → SocketAddr → SocketAddr → ℕ → State → State
 opened_with reply id peer local now s = in_turn (
     offer_taken id peer

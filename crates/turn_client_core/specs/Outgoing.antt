@@ -1,4 +1,4 @@
--- What goes to the server: what waits to be sent, and the requests that await their responses.
+-- What goes to the server: the queued packets, and the outstanding requests.
 use Rattle.std.specs.Prelude.{ℕ, Bool, true, false, List, [], ◌∷◌, ◌++◌, map, option_to_list, Option}
 use Rattle.std.specs.declared.net.socket_addr.SocketAddr.{SocketAddr}
 use Rattle.turn_stun.specs.declared.transport.Transmit.{Transmit}
@@ -13,28 +13,28 @@ pub record Outgoing : Type 0 where
   pub transport : TransportType
   pub local : SocketAddr
   pub remote : SocketAddr
-  -- when requests are sent again and given up
+  -- when requests are retransmitted and time out
   pub timers : Timers
   pub ids : Source
   pub transactions : List Transaction
   pub queue : List Queued
-  -- how many more may wait
+  -- how many more packets the queue has room for
   pub room : ℕ
   pub last_send : Option ℕ
 
--- the packet to the server from this local end
+-- the packet to the server from this local address
 abbrev pub packet_of : Outgoing → SocketAddr → List ℕ → Transmit (List ℕ)
 packet_of o from text = record { payload = text; transport = o.transport; from = from; to = o.remote }
 
--- a request of this ID was sent first now, and awaits its response
+-- a request with this ID was sent for the first time now, and is outstanding
 abbrev pub begun : ℕ → List ℕ → ℕ → Outgoing → Outgoing
 begun id text now o = record o { transactions = o.transactions ++ first_sent id o.remote now text ∷ [] }
 
--- a packet waits to be sent, after all that wait
+-- a packet is queued as the last one
 abbrev pub waiting : Transmit (List ℕ) → Bool → Outgoing → Outgoing
 waiting packet is_request o = record o { queue = o.queue ++ record { packet = packet; is_request = is_request } ∷ [] }
 
--- a reply waits to be sent over the control connection, if there is one
+-- a reply is queued for the control connection, if there is one
 abbrev pub answering : Option (List ℕ) → Outgoing → Outgoing
 answering reply o = record o {
   queue = o.queue ++ map (λ text. record { packet = packet_of o o.local text; is_request = false }) (option_to_list reply);
@@ -44,11 +44,11 @@ answering reply o = record o {
 abbrev pub drawn : Outgoing → Outgoing
 drawn o = record o { ids = behind_id o.ids }
 
--- but for how many more may wait
+-- with another room in the queue
 abbrev pub with_room : ℕ → Outgoing → Outgoing
 with_room room o = record o { room = room }
 
--- a request of this ID, the next one, waits to be sent from this local end
+-- a request with this ID, the next one, is queued, to be sent from this local address
 abbrev pub asked : ℕ → SocketAddr → List ℕ → ℕ → Outgoing → Outgoing
 asked id from text now o = waiting (packet_of o from text) true (drawn (begun id text now o))
 

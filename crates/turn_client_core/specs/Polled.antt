@@ -6,11 +6,11 @@ use Rattle.turn_client_api.specs.Grants.{allocations}
 use Rattle.turn_client_api.specs.Poll.{is_listed_for_allocation}
 use Rattle.turn_client_api.specs.State.{State}
 
--- the client has ended where the request that was given up is an ALLOCATE
+-- the client has ended if the request that timed out is an ALLOCATE
 abbrev pub unallocated : Option ℕ → State → State
 unallocated (Some id) s = if is_listed_for_allocation id s then closed s else s
 unallocated None s = s
 
--- the server allocated once, and no allocation is left
+-- the server granted an allocation, and no allocation is left
 abbrev pub is_let_go : State → Bool
 is_let_go s = is_allocated s.phase && is_none (slice_get (allocations s) 0)

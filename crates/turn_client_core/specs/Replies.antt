@@ -10,12 +10,12 @@ use Rattle.turn_client_api.specs.declared.state.Phase.{Phase}
 use Rattle.turn_client_api.specs.declared.state.Phase.TheVariants.{Authenticating}
 use Rattle.turn_types.specs.declared.family.AddressFamily.TheVariants.{IPV4, IPV6}
 
--- IPv4 fails, and IPv6 is asked for alone by a request of this ID (RFC 8656, section 7.4)
+-- IPv4 fails, and IPv6 is requested alone by a request with this ID (RFC 8656, section 7.4)
 abbrev pub asks_ipv6 : ℕ → ℕ → State → State
 asks_ipv6 fresh now s =
     requested fresh ForAllocation now (wait (AllocationCreateFailed IPV4 ∷ []) (record (in_phase s.phase s) { families = IPV6 ∷ [] }))
 
--- one awaits its response
+-- a signed ALLOCATE awaits its response
 abbrev pub is_authenticating : Phase → Bool
 is_authenticating Authenticating = true
 is_authenticating _ = false

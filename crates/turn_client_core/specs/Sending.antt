@@ -1,4 +1,4 @@
--- What is sent next, and which requests are given up.
+-- What is sent next, and which requests time out.
 use Rattle.std.specs.Prelude.{ℕ, if◌then◌else◌, List, Option, Some, None, drop, filter_map, find, slice_get}
 use Rattle.std.specs.Option.{option_map_or}
 use Rattle.turn_stun.specs.declared.transport.Transmit.{Transmit}
@@ -8,7 +8,7 @@ use Rattle.turn_client_api.specs.State.{State}
 use Rattle.turn_client_api.specs.Transmit.{queue_step, reply_in, reply_step, without_first_reply}
 use Rattle.turn_client_core.specs.Outgoing.{Outgoing, packet_of}
 
--- the oldest request that is due is sent again, to where it went
+-- the oldest request that is due is retransmitted, to the same destination
 abbrev pub resend_step : ℕ → Outgoing → Option (Transmit (List ℕ)) × Outgoing
 resend_step now o =
     option_map_or (λ t. (
@@ -17,21 +17,21 @@ resend_step now o =
     ))
     (find (is_due o.timers o.transport now) o.transactions) (None, o)
 
--- the first reply that waits goes out, which does not prolong the pause
+-- the first queued reply is sent, which does not extend the pause
 abbrev pub first_reply_step : Outgoing → Option (Transmit (List ℕ)) × Outgoing
 first_reply_step o = (slice_get (filter_map reply_in o.queue) 0, record o { queue = without_first_reply o.queue })
 
--- what waits in front goes out
+-- the first queued packet is sent
 abbrev pub front_step : ℕ → Outgoing → Option (Transmit (List ℕ)) × Outgoing
 front_step now o =
     option_map_or (λ q. (Some q.packet, record o { queue = drop 1 o.queue; last_send = Some now })) (slice_get o.queue 0) (None, o)
 
--- the oldest request whose last wait is over is given up
+-- the oldest request whose last wait has ended times out
 abbrev pub give_up_step : ℕ → Outgoing → Option ℕ × Outgoing
 give_up_step now o =
     option_map_or (λ t. (Some t.id, record o { transactions = without t.id o.transactions }))
     (find (is_given_up o.timers o.transport now) o.transactions) (None, o)
 
--- where no request is due again: within the pause a reply alone, and else what comes next
+-- if no retransmission is due: within the pause a reply alone, and else the next packet
 abbrev pub waiting_step : ℕ → State → Option (Transmit (List ℕ)) × State
 waiting_step now s = if is_paused now s then reply_step s else queue_step now s

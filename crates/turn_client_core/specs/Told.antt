@@ -1,4 +1,4 @@
--- What came of the bytes of a message or a channel frame.
+-- The result of processing a message or a ChannelData message.
 use Rattle.std.specs.Prelude.{◌≡◌, ◌≤◌, ℕ, List, length, slice_range, Some, ⊤}
 use Rattle.turn_client_api.specs.Payloads.{Outcome, Handled, Ignored, PeerData, PeerIcmp}
 use Rattle.turn_client_api.specs.State.{State}
@@ -16,12 +16,12 @@ outcome_in bytes (T.PeerData transport peer range) = PeerData (record {
 })
 outcome_in bytes (T.PeerIcmp transport peer icmp) = PeerIcmp transport peer icmp
 
--- data is a part of what came, and changes nothing
+-- data is a part of the received bytes, and changes nothing
 abbrev pub IsPart : List ℕ → State → State → Told → Type 0
 IsPart bytes was s (T.PeerData transport peer range) = (range.start ≤ range.end) × (range.end ≤ length bytes) × (s ≡ was)
 IsPart bytes was s _ = ⊤
 
--- data is a part of what came
+-- data is a part of the received bytes
 abbrev pub IsWithin : List ℕ → Told → Type 0
 IsWithin bytes (T.PeerData transport peer range) = (range.start ≤ range.end) × (range.end ≤ length bytes)
 IsWithin bytes _ = ⊤

@@ -1,4 +1,4 @@
--- Turns of streams that are taken out, and what is handed out of them.
+-- The next frames of streams that are taken out, and the data that they give.
 use Rattle.std.specs.Prelude.{◌≡◌, ◌⊎◌, ◌≤◌, ◌++◌, ℕ, List, length, slice_range, Option, Some, None, IsSomeAnd, Bool, true, false, if◌then◌else◌, ⊤}
 use Rattle.std.specs.Option.{option_map_or}
 use Rattle.std.specs.declared.ops.Range.{Range}
@@ -7,7 +7,7 @@ use Rattle.turn_stun.specs.declared.transport.Transmit.{Transmit}
 use Rattle.turn_types.specs.declared.tcp.incoming.IncomingTcp.{IncomingTcp}
 use Rattle.turn_types.specs.declared.tcp.incoming.IncomingTcp.TheVariants.{CompleteMessage, CompleteChannel, StoredMessage, StoredChannel}
 use Rattle.turn_agent.specs.Agent.{same_address}
-use Rattle.turn_client_api.specs.Answers.{EndsAfterTurns, is_free_piece}
+use Rattle.turn_client_api.specs.Answers.{EndsAfterTurns, stream_takes_none}
 use Rattle.turn_client_api.specs.Effect.{closed}
 use Rattle.turn_client_api.specs.Handled.{fed}
 use Rattle.turn_client_api.specs.Payloads.{Payload, Outcome, Handled, Ignored, PeerData, PeerIcmp}
@@ -19,7 +19,7 @@ use Rattle.turn_client_api.specs.declared.state.Mode.TheVariants.{Control, Waiti
 use Rattle.turn_client_api.specs.declared.state.Stream.{Stream}
 use Rattle.turn_client_core.specs.declared.received.Received.{Received}
 
--- what stood in a stream is handed out owned
+-- what was buffered in a stream is returned owned
 abbrev pub given_by : Outcome → Option Payload
 given_by outcome = payload_in (owned outcome)
 
@@ -28,7 +28,7 @@ data_of r = record { transport = r.transport; peer = r.peer; bytes = r.bytes.ite
 
 -- ---- a piece of a stream
 
--- what it is made of comes with the frame in front
+-- the packet that the first frame was received with
 module _ {T : Type 0} where
   abbrev pub came_with : IncomingTcp T → Transmit T
   came_with (CompleteMessage transmit range) = transmit
@@ -36,33 +36,33 @@ module _ {T : Type 0} where
   came_with (StoredMessage frame transmit) = transmit
   came_with (StoredChannel frame transmit) = transmit
 
-  -- a part of it is lent, and what waited is owned
+  -- a part of the packet is borrowed, and what was buffered is owned
   abbrev pub given_as : IncomingTcp T → Outcome → Outcome
   given_as (CompleteMessage transmit range) outcome = outcome
   given_as (CompleteChannel transmit range) outcome = outcome
   given_as (StoredMessage frame transmit) outcome = owned outcome
   given_as (StoredChannel frame transmit) outcome = owned outcome
 
-  -- a part stands at the front of what came
+  -- a part is at the start of the received bytes
   abbrev pub IsFront : (T → List ℕ) → IncomingTcp T → Type 0
   IsFront items (CompleteMessage transmit range) = (range.start ≡ 0) × (range.end ≤ length (items transmit.payload))
   IsFront items (CompleteChannel transmit range) = (range.start ≡ 0) × (range.end ≤ length (items transmit.payload))
   IsFront items (StoredMessage frame transmit) = ⊤
   IsFront items (StoredChannel frame transmit) = ⊤
 
--- these of the bytes
+-- this range of the bytes
 abbrev pub part_at : List ℕ → Range ℕ → List ℕ
 part_at bytes range = slice_range bytes range.start range.end
 
--- the bytes of this stream, which was taken out, are left there
+-- the bytes of this stream, which was taken out, are put back there
 abbrev pub left_by : Stream → State → State
 left_by stream t = with_bytes stream.local stream.bytes t
 
--- all that came of a stream that is bound to this peer
+-- all that was received over a stream that is bound to this peer
 abbrev pub bound_sent : SocketAddr → List ℕ → List ℕ → Payload
 bound_sent peer waited piece = sent_by peer (waited ++ piece) (whole_piece waited piece)
 
--- a stream with no whole frame in front waits, or is broken
+-- a stream without a whole first frame waits for more bytes, or is broken
 abbrev pub put_or_broken : Stream → State → State
 put_or_broken stream t = by stream.mode
   where
@@ -72,12 +72,12 @@ put_or_broken stream t = by stream.mode
     by (Bound peer) = left_by stream t
     by Broken = broken_at stream.local t
 
--- the first turn of a stream of frames, which is taken out, behind the piece
+-- the first frame of a stream of frames, which is taken out, after the piece was appended
 abbrev pub fed_turned : Stream → List ℕ → ℕ → State → Outcome × State
 fed_turned stream piece now t =
     let step = framed_turn (fed stream piece) now t in (place_kept stream.bytes step.0, step.1)
 
--- what comes of the piece of a stream that is taken out, and is not broken
+-- the effect of a piece of a stream that is taken out and not broken
 abbrev pub piece_turned : Stream → List ℕ → ℕ → State → Outcome × State
 piece_turned stream piece now t = by stream.mode
   where
@@ -87,7 +87,7 @@ piece_turned stream piece now t = by stream.mode
     by (Bound peer) = (PeerData (bound_sent peer stream.bytes piece), t)
     by Broken = (Handled, t)
 
--- the state in which all streams have their turns, unless something of a peer came
+-- the state in which all streams are processed, unless something of a peer was received
 abbrev pub others_from : Outcome × State → Option State
 others_from (PeerData payload, t) = None
 others_from (PeerIcmp transport peer icmp, t) = None
@@ -97,12 +97,13 @@ others_from (Ignored, t) = Some t
 abbrev pub EndsBehind : ℕ → Outcome × State → State → Type 0
 EndsBehind now p s = IsSomeAnd (others_from p) (λ t. EndsAfterTurns now t s)
 
--- there was no memory for the piece, or for what other streams hold, which a piece of the control stream sets going
+-- memory allocation failed for the piece, or for bytes of other streams, which are processed after a piece of
+-- the control stream
 abbrev pub PieceEnds : Stream → List ℕ → ℕ → State → State → Type 0
 PieceEnds stream piece now t s =
     (s ≡ closed (broken_at stream.local t)) ⊎ ((stream.mode ≡ Control) × EndsBehind now (fed_turned stream piece now t) s)
 
--- a piece for this local end
+-- a piece for this local address
 abbrev pub piece_at : SocketAddr → List ℕ → ℕ → State → Outcome × State
 piece_at to piece now s = option_map_or (λ stream. stream_step stream piece now s) (stream_at to s) (Ignored, s)
 
@@ -112,10 +113,10 @@ is_broken Waiting = false
 is_broken (Bound peer) = false
 is_broken Broken = true
 
--- bytes of the broken stream at this local end set all others going, if it is the control stream
+-- bytes of a broken stream at this local address: all other streams are processed if it is the control stream
 abbrev pub broken_turned : SocketAddr → ℕ → State → Outcome × State
 broken_turned local now s = if same_address local s.local then then_all now (Handled, s) else (Handled, s)
 
--- bytes of a bound connection take no memory where nothing waits in its stream
+-- for the stream at this local address it allocates no memory
 abbrev pub piece_takes_none : SocketAddr → List ℕ → State → Bool
-piece_takes_none to piece s = option_map_or (is_free_piece piece) (stream_at to s) true
+piece_takes_none to piece s = option_map_or (stream_takes_none piece s) (stream_at to s) true

@@ -13,12 +13,12 @@ use turn_stun::message::Message;
 use turn_types::AddressFamily;
 use turn_types::attribute::XorRelayedAddress;
 
-/// The addresses that a success response allocates to a client that asks for these families: the first of each
-/// family, up to the first address that is malformed.
+/// The relayed addresses that a success response allocates to a client that requests these families:
+/// the first of each family, up to the first malformed address.
 ///
 /// # Errors
 ///
-/// `AllocError` where there is no memory for the list.
+/// `AllocError` if memory allocation for the list fails.
 pub(crate) fn taken_addresses(
     message: &Message,
     families: &[AddressFamily],
@@ -38,11 +38,11 @@ pub(crate) fn taken_addresses(
     Ok(taken)
 }
 
-/// Takes the address where it is the first of a family that is asked for.
+/// Adds the address if it is the first of a requested family.
 ///
 /// # Errors
 ///
-/// `AllocError` where there is no memory for it. Nothing is taken then.
+/// `AllocError` if memory allocation for it fails. Nothing is added then.
 fn take(
     taken: &mut Vec<SocketAddr>,
     families: &[AddressFamily],
@@ -56,7 +56,7 @@ fn take(
     Ok(())
 }
 
-/// Whether the address is of a family that is asked for, and of which none of these is.
+/// Whether the address is of a requested family of which none was added yet.
 fn is_wanted(taken: &[SocketAddr], families: &[AddressFamily], address: SocketAddr) -> bool
     ensures { result ≡ list_any (λ family. not (list_any (is_of_family family) taken.now) && is_of_family family address) families.now }
 {

@@ -1,4 +1,4 @@
-//! What requests were made for, seen from the server's reply.
+//! The purposes of requests that a reply of the server concerns.
 
 ghost use Rattle.std.specs.Prelude.{◌≡◌, filter, find, option_to_list};
 ghost use Rattle.turn_client_api.specs.Payloads.{is_answered};
@@ -11,8 +11,8 @@ use turn_client_grants::Purposes;
 use turn_stun::message::method::Method;
 use turn_types::message::{ALLOCATE, CHANNEL_BIND, CONNECT, CREATE_PERMISSION, REFRESH};
 
-/// Whether a reply of this method is about the purpose. A CONNECTION_BIND is answered over its own
-/// connection alone (RFC 6062, section 4.3).
+/// Whether a reply of this method concerns the purpose. A CONNECTION_BIND is answered only over its own
+/// connection (RFC 6062, section 4.3).
 fn is_answered(method: Method, purpose: &Purpose) -> bool
     ensures { result ≡ is_answered method.value purpose.now }
 {
@@ -26,7 +26,7 @@ fn is_answered(method: Method, purpose: &Purpose) -> bool
     }
 }
 
-/// Those of a request's purposes that a reply of this method is about.
+/// Those of a request's purposes that a reply of this method concerns.
 pub(crate) fn answered(method: Method, purposes: &Purposes) -> Purposes
     ensures { purposes_in result ≡ filter (is_answered method.value) (purposes_in purposes.now) }
 {
@@ -45,7 +45,7 @@ fn answered_one(method: Method, purpose: &Option<Purpose>) -> Option<Purpose>
     }
 }
 
-/// What a request asks, as far as it decides which of two purposes is asked for again.
+/// The kind of a request, as far as it decides which of two purposes is requested again.
 #[derive(Clone, Copy, Debug, PartialEq, Eq)]
 enum Kind {
     /// REFRESH.
@@ -86,9 +86,9 @@ impl Kind {
     }
 }
 
-/// The purpose for which a challenged request is made again over the control connection: a request that
-/// binds a channel is made again as it was, also where it brings a permission (RFC 8656, section 12.2).
-/// A CONNECTION_BIND is made again over its own connection alone.
+/// The purpose for which a challenged request is made again over the control connection: a CHANNEL_BIND
+/// is made again as a CHANNEL_BIND, even if it also requests a permission (RFC 8656, section 12.2). A
+/// CONNECTION_BIND is made again only over its own connection.
 pub(crate) fn retried(purposes: &Purposes) -> Option<Purpose>
     ensures { result ≡ retried (purposes_in purposes.now) }
 {

@@ -1,5 +1,5 @@
-//! What the server's signed reply to a request changes (RFC 8656, sections 8.3, 10.3 and 12.3; RFC 6062,
-//! section 4.3).
+//! What a signed reply of the server to a request changes (RFC 8656, sections 8.3, 10.3 and 12.3; RFC
+//! 6062, section 4.3).
 
 ghost use Rattle.std.specs.Prelude.{◌≡◌, ◌≤◌, ◌||◌, option_to_list};
 ghost use Rattle.turn_client_api.specs.Effect.{allocation_mismatch, effect, given_back, has_code, prolonged, refreshed};
@@ -18,23 +18,23 @@ use turn_stun::instant::Instant;
 use turn_stun::message::Message;
 use turn_types::AddressFamily;
 
-/// A shorter lifetime in reply to a REFRESH is not taken, in seconds (RFC 8656, section 7.2: a server gives
-/// at least the default of 600).
+/// The least lifetime that is accepted in a reply to a REFRESH, in seconds (RFC 8656, section 7.2: a
+/// server grants at least the default of 600).
 const LEAST_LIFETIME: u32 = 600;
 
-/// What a reply changes of the client beside its grants.
+/// What a reply changes in the client, apart from its grants.
 #[derive(Clone, Copy, Debug, PartialEq, Eq)]
 pub(crate) enum Effect {
     /// Nothing.
     Nothing,
-    /// The server took a request: challenges are counted anew.
+    /// The server accepted a request: the count of challenges is reset.
     Taken,
-    /// The server took back all allocations: challenges are counted anew, and the client ends.
+    /// The server deleted all allocations: the count of challenges is reset, and the client ends.
     GivenBack,
 }
 
 impl Effect {
-    /// This one and then the other.
+    /// Both effects, this one first.
     fn then(self, other: Effect) -> Effect
         ensures { (s : State) → after result s ≡ after other (after self s) }
     {
@@ -50,7 +50,7 @@ impl Effect {
     }
 }
 
-/// What the reply changes for all of these purposes, one after the other.
+/// Processes the reply for all of these purposes, in order.
 pub(crate) fn answer_all(
     ledger: &mut GrantLedger,
     purposes: &Purposes,
@@ -61,14 +61,15 @@ pub(crate) fn answer_all(
     requires grant_room { 6 ≤ ledger.old.grant_room }
     requires event_room { 18 ≤ ledger.old.event_room }
     requires close_room { 2 ≤ ledger.old.close_room }
-    ensures { Answers (purposes_in purposes.now) is_granted message.now now ledger.old ledger.new result }
+    ensures state { Answers (purposes_in purposes.now) is_granted message.now now ledger.old ledger.new result }
+    ensures room { LessRoom 6 0 18 2 ledger.old ledger.new }
 {
     let first = answer_one(ledger, &purposes.first, message, is_granted, now);
     let second = answer_one(ledger, &purposes.second, message, is_granted, now);
     first.then(second)
 }
 
-/// What the reply changes for the purpose, if there is one.
+/// Processes the reply for the purpose, if there is one.
 fn answer_one(
     ledger: &mut GrantLedger,
     purpose: &Option<Purpose>,
@@ -88,7 +89,7 @@ fn answer_one(
     }
 }
 
-/// What the reply changes for the purpose.
+/// Processes the reply for the purpose.
 fn answer(
     ledger: &mut GrantLedger,
     purpose: &Purpose,
@@ -120,7 +121,7 @@ fn answer(
     }
 }
 
-/// What the reply to a REFRESH of so many seconds changes.
+/// Processes the reply to a REFRESH that requested a lifetime of so many seconds.
 fn refreshed(
     ledger: &mut GrantLedger,
     family: AddressFamily,
@@ -144,8 +145,8 @@ fn refreshed(
     }
 }
 
-/// What was to be given back is gone once the server says so, or that it never was there (RFC 8656,
-/// section 8.3).
+/// Removes what was to be deleted, if the server confirms the deletion or reports that there was
+/// nothing to delete (RFC 8656, section 8.3).
 fn given_back(ledger: &mut GrantLedger, message: &Message<'_>, is_granted: bool) -> Effect
     ensures state { (s : State) → after result (on ledger.new s) ≡ given_back is_granted message.now (on ledger.old s) }
     ensures room { SameRoomBut 0 0 ledger.old ledger.new }
@@ -158,14 +159,14 @@ fn given_back(ledger: &mut GrantLedger, message: &Message<'_>, is_granted: bool)
     Effect::Nothing
 }
 
-/// Whether the server took the allocations back, or knows of none.
+/// Whether the server deleted the allocations, or reports that it has none.
 fn is_gone(message: &Message<'_>, is_granted: bool) -> bool
     ensures { result ≡ (is_granted || has_code allocation_mismatch message.now) }
 {
     is_granted || has_code(message, ErrorCode::ALLOCATION_MISMATCH)
 }
 
-/// What was asked for longer lasts as long as the server says.
+/// Gives the allocations of the family the lifetime that the server granted, unless it is too short.
 fn prolonged(ledger: &mut GrantLedger, family: AddressFamily, lifetime: u32, now: Instant) -> Effect
     ensures state { (s : State) → after result (on ledger.new s) ≡ prolonged family lifetime now (on ledger.old s) }
     ensures room { SameRoomBut 0 0 ledger.old ledger.new }
@@ -177,7 +178,7 @@ fn prolonged(ledger: &mut GrantLedger, family: AddressFamily, lifetime: u32, now
     Effect::Taken
 }
 
-/// What the reply to a CONNECT changes.
+/// Processes the reply to a CONNECT.
 fn connected(
     ledger: &mut GrantLedger,
     peer: SocketAddr,

@@ -1,4 +1,4 @@
-//! What a DATA indication says (RFC 8656, section 11.6).
+//! The contents of a Data indication (RFC 8656, section 11.6).
 
 ghost use Rattle.std.specs.Prelude.{◌≡◌, ℕ, ◌||◌, List, length, option_and_then, IfSome};
 ghost use Rattle.std.specs.Option.{option_map};
@@ -19,8 +19,8 @@ use turn_stun::message::Message;
 use turn_stun::transaction::TransactionId;
 use turn_types::attribute::{Data, Icmp, XorPeerAddress};
 
-/// What a DATA indication says, as it is read attribute by attribute. Of several attributes of one type the last
-/// one counts.
+/// The contents of a Data indication, read attribute by attribute. Of several attributes of one type
+/// the last one counts.
 #[derive(Debug, Drop)]
 pub(crate) struct Indication<'a> {
     /// The last XOR-PEER-ADDRESS, with its offset.
@@ -29,12 +29,12 @@ pub(crate) struct Indication<'a> {
     data: Option<(usize, RawAttribute<'a>)>,
     /// The last ICMP, with its offset.
     icmp: Option<(usize, RawAttribute<'a>)>,
-    /// An attribute was seen that has to be understood, and is neither a peer nor data.
+    /// A comprehension-required attribute was seen that is neither XOR-PEER-ADDRESS nor DATA.
     has_unknown: bool,
 }
 
 impl<'a> Indication<'a> {
-    /// What the seen attributes of this message say. Reads them once.
+    /// Reads the seen attributes of this message, in one pass.
     pub(crate) fn of(message: &Message<'a>) -> Indication<'a>
         ensures peer { option_map placed result.peer ≡ last_in peer_kind message.now }
         ensures payload { option_map placed result.«data» ≡ last_in data_kind message.now }
@@ -55,14 +55,14 @@ impl<'a> Indication<'a> {
         found
     }
 
-    /// Whether an attribute was seen that has to be understood, and is neither a peer nor data.
+    /// Whether a comprehension-required attribute was seen that is neither XOR-PEER-ADDRESS nor DATA.
     pub(crate) fn has_unknown(&self) -> bool
         ensures { result ≡ self.now.has_unknown }
     {
         self.has_unknown
     }
 
-    /// The peer, in a message of this ID.
+    /// The peer address, in a message with this ID.
     pub(crate) fn peer(&self, id: TransactionId) -> Option<SocketAddr>
         ensures { result ≡ option_and_then (λ a. xor_addr a.value id) (option_map placed self.now.peer) }
     {
@@ -71,7 +71,7 @@ impl<'a> Indication<'a> {
         Some(peer.addr())
     }
 
-    /// The ICMP error, in a message of this ID.
+    /// The ICMP error, in a message with this ID.
     pub(crate) fn icmp(&self, id: TransactionId) -> Option<Icmp>
         ensures { result ≡ option_and_then (λ a. icmp_of a.value) (option_map placed self.now.icmp) }
     {
@@ -79,7 +79,7 @@ impl<'a> Indication<'a> {
         Icmp::from_value(raw.value, id)
     }
 
-    /// Where the data stands in the bytes of the message.
+    /// The range of the data in the bytes of the message.
     pub(crate) fn data_place(&self, bytes: &[u8]) -> Option<Range<usize>>
         requires { IfSome (option_map placed self.now.«data») (IsWithin 20 (length bytes.now)) }
         ensures { result ≡ option_map value_place (option_map placed self.now.«data») }
@@ -103,7 +103,7 @@ impl<'a> Indication<'a> {
     }
 }
 
-/// This attribute where it has the type, or else the one before it.
+/// This attribute if it has the type, or else the earlier one.
 fn later_of<'a>(
     kind: AttributeType,
     before: Option<(usize, RawAttribute<'a>)>,
@@ -118,8 +118,8 @@ fn later_of<'a>(
     before
 }
 
-/// Whether this was so before, or an attribute of this type has to be understood, and is neither a peer nor data
-/// (RFC 8489, section 6.3.2).
+/// Whether this was so before, or an attribute of this type is comprehension-required and neither
+/// XOR-PEER-ADDRESS nor DATA (RFC 8489, section 6.3.2).
 fn is_unknown_or(before: bool, kind: AttributeType) -> bool
     ensures { (offset : ℕ) (value : List ℕ) → result ≡ (before || is_unknown (record { offset = offset; kind = kind.value; value = value })) }
 {

@@ -1,18 +1,18 @@
-//! What every TURN client does, whatever carries its packets (RFC 8656, 6062 and 6156). No IO.
+//! A TURN client, independent of its transport (RFC 8656, 6062 and 6156). No IO.
 //!
 //! ```text
 //!  a client over UDP or TCP
-//!    | datagram, piece      ^ packets, events, moments
+//!    | datagram, piece      ^ packets, events, wake-up times
 //!    v                      |
 //!  TurnClientProtocol ------+
-//!    | who signed it, what it answers:        turn_auth, turn_agent
-//!    | what was granted and asked for:        turn_client_grants
-//!    | what the server's streams hold:        turn_client_streams
-//!    | the bytes of requests:                 turn_client_requests
+//!    | its signature, the request it answers:  turn_auth, turn_agent
+//!    | what is active and what is pending:     turn_client_grants
+//!    | the buffered bytes of streams:          turn_client_streams
+//!    | the bytes of requests:                  turn_client_requests
 //! ```
 //!
-//! Begin with [`TurnClientProtocol`]: its methods are the calls of a client, and each takes the step of the
-//! machine that `docs/MACHINE.md` describes.
+//! Begin with [`TurnClientProtocol`]: its methods are the calls of a client, and each takes one step of
+//! the machine in `docs/MACHINE.md`.
 //!
 //! ```rust
 //! match client.datagram(bytes, now)? {
@@ -22,7 +22,7 @@
 //! }
 //! ```
 //!
-//! How packets are carried is left to the clients above.
+//! The clients built on this crate add the transport.
 #![tactic(auto)]
 
 mod allocated;

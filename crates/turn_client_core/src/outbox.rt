@@ -1,4 +1,4 @@
-//! What goes to the server.
+//! Packets and requests for the server.
 
 ghost use Rattle.std.specs.Prelude.{◌≡◌, ◌≤◌, ◌<◌, [], None, false, true, length, IfOk, OnOk, OnErr};
 ghost use Rattle.turn_agent.specs.Agent.{is_outstanding, without};
@@ -24,15 +24,15 @@ use turn_stun::instant::Instant;
 use turn_stun::transaction::TransactionId;
 use turn_stun::transport::{Transmit, TransportType};
 
-/// What waits to be sent to the server, the requests that await their responses, and the transaction IDs
-/// of those to come.
+/// The packets queued for the server, the outstanding requests, and the transaction IDs of those to
+/// come.
 #[derive(Debug, Drop)]
 pub(crate) struct Outbox {
     remote: SocketAddr,
     agent: StunAgent,
     ids: NumberSource,
     queue: VecDeque<Queued>,
-    /// When a request was last sent, first or again: the pause between two requests begins there.
+    /// When a request was last sent or retransmitted: the pause between two requests starts then.
     last_send: Option<Instant>,
 }
 
@@ -57,7 +57,7 @@ impl Model for Outbox {
 }
 
 impl Outbox {
-    /// An outbox in which nothing waits. It takes no memory yet.
+    /// An outbox with an empty queue. Allocates no memory yet.
     pub(crate) fn new(
         alloc: Global,
         transport: TransportType,
@@ -90,14 +90,14 @@ impl Outbox {
         }
     }
 
-    /// What carries the packets.
+    /// The transport of the packets.
     pub(crate) fn transport(&self) -> TransportType
         ensures { result ≡ self.now.transport }
     {
         self.agent.transport()
     }
 
-    /// The client's end of the control connection.
+    /// The client's address on the control connection.
     pub(crate) fn local_addr(&self) -> SocketAddr
         ensures { result ≡ self.now.local }
     {
@@ -111,32 +111,32 @@ impl Outbox {
         self.remote
     }
 
-    /// Whether a request of this ID awaits its response.
+    /// Whether a request with this ID is outstanding.
     pub(crate) fn is_outstanding(&self, id: TransactionId) -> bool
         ensures { result ≡ is_outstanding id self.now.transactions }
     {
         self.agent.is_outstanding(id)
     }
 
-    /// How many requests await their responses.
+    /// The number of outstanding requests.
     pub(crate) fn outstanding(&self) -> usize
         ensures { result ≡ length self.now.transactions }
     {
         self.agent.outstanding()
     }
 
-    /// The ID that the seed gives next, whether or not it is taken.
+    /// The next ID of the seed, whether or not it is taken.
     pub(crate) fn candidate(&self) -> TransactionId
         ensures { result ≡ next_id self.now.ids }
     {
         self.ids.candidate()
     }
 
-    /// Makes room for so many packets to wait.
+    /// Reserves room for so many packets in the queue.
     ///
     /// # Errors
     ///
-    /// `AllocError` where there is no memory. Nothing changes then.
+    /// `AllocError` if memory allocation fails. Only the room may change then.
     pub(crate) fn reserve(&mut self, packets: usize) -> Result<(), AllocError>
         ensures same { self.new ≡ with_room self.new.room self.old }
         ensures room { OnOk result (packets ≤ self.new.room) }
@@ -144,12 +144,12 @@ impl Outbox {
         self.queue.reserve(packets)
     }
 
-    /// Counts the first send of a request of this ID at `now`, and gives its packet, which goes from this
-    /// local end.
+    /// Records the first send of a request with this ID at `now`, and returns its packet, which is sent
+    /// from this local address.
     ///
     /// # Errors
     ///
-    /// `AllocError` where there is no memory. Nothing changes then.
+    /// `AllocError` if memory allocation fails. Nothing changes then.
     pub(crate) fn begin(
         &mut self,
         id: TransactionId,
@@ -167,7 +167,7 @@ impl Outbox {
         Ok(packet)
     }
 
-    /// Lets the request of this ID go. It awaits no response any more.
+    /// Drops the request with this ID. It is no longer outstanding.
     pub(crate) fn end(&mut self, id: TransactionId)
         ensures { self.new ≡ record self.old { transactions = without id self.old.transactions } }
     {
@@ -181,7 +181,7 @@ impl Outbox {
         let _drawn = self.ids.draw();
     }
 
-    /// Lets the packet wait, after all that wait. `reserve` makes room.
+    /// Queues the packet, as the last one. `reserve` makes room.
     pub(crate) fn wait(&mut self, packet: Transmit<Data>, is_request: bool)
         requires { 0 < self.old.room }
         ensures { self.new ≡ with_room self.new.room (waiting packet is_request self.old) }
@@ -191,11 +191,12 @@ impl Outbox {
 }
 
 impl Outbox {
-    /// A request of this ID, the next one, waits to be sent from this local end, and awaits its response.
+    /// Queues a request with this ID, the next one, to be sent from this local address. It is
+    /// outstanding then.
     ///
     /// # Errors
     ///
-    /// `AllocError` where there is no memory. Nothing but room changes then.
+    /// `AllocError` if memory allocation fails. Only the room may change then.
     pub(crate) fn ask(
         &mut self,
         id: TransactionId,
@@ -214,11 +215,11 @@ impl Outbox {
         Ok(())
     }
 
-    /// A reply waits to be sent over the control connection.
+    /// Queues a reply, to be sent over the control connection.
     ///
     /// # Errors
     ///
-    /// `AllocError` where there is no memory. Nothing changes then.
+    /// `AllocError` if memory allocation fails. Only the room may change then.
     pub(crate) fn reply(&mut self, text: Data) -> Result<(), AllocError>
         ensures ok { OnOk result (self.new ≡ with_room self.new.room (waiting (packet_of self.old self.old.local text) false self.old)) }
         ensures err { OnErr result (self.new ≡ with_room self.new.room self.old) }
@@ -238,12 +239,12 @@ impl Outbox {
 }
 
 impl Outbox {
-    /// A request of this ID, the next one, waits to be sent over a new stream from this local end, after the
-    /// reply over the control connection, if there is one.
+    /// Queues a request with this ID, the next one, to be sent over a new stream from this local
+    /// address, after the reply over the control connection, if there is one.
     ///
     /// # Errors
     ///
-    /// `AllocError` where there is no memory. Nothing but room changes then.
+    /// `AllocError` if memory allocation fails. Only the room may change then.
     pub(crate) fn ask_over(
         &mut self,
         streams: &mut Streams,
@@ -274,8 +275,8 @@ impl Outbox {
         }
     }
 
-    /// The reply waits to be sent over the control connection, if there is one, and then the request does.
-    /// `reserve` makes room.
+    /// Queues the reply over the control connection, if there is one, and then the request. `reserve`
+    /// makes room.
     #[tactic(auto, using(crate::proofs::OutboxLemmas::answering_none))]
     fn wait_both(&mut self, reply: Option<Data>, request: Transmit<Data>)
         requires { 2 ≤ self.old.room }
@@ -292,12 +293,12 @@ impl Outbox {
         }
     }
 
-    /// The reply waits to be sent over the control connection, if there is one.
+    /// Queues the reply over the control connection, if there is one.
     ///
     /// # Errors
     ///
-    /// `AllocError` where there is no memory. Nothing but room changes then, and where there is no reply,
-    /// none is wanted.
+    /// `AllocError` if memory allocation fails. Only the room may change then. Without a reply no
+    /// memory is allocated.
     #[tactic(auto, using(crate::proofs::OutboxLemmas::answering_none))]
     pub(crate) fn answer(&mut self, reply: Option<Data>) -> Result<(), AllocError>
         ensures ok { OnOk result (self.new ≡ with_room self.new.room (answering reply self.old)) }

@@ -1,4 +1,4 @@
-//! A client, whatever carries its packets.
+//! A client, independent of its transport.
 
 mod allocation;
 mod arrival;
@@ -40,19 +40,20 @@ use turn_client_grants::GrantLedger;
 use turn_client_streams::Streams;
 use turn_types::AddressFamily;
 
-/// A client, whatever carries its packets: it takes whole messages and the bytes of streams, and gives
-/// packets, events and the next moment to call again. Contracts see its `State`.
+/// A client, independent of its transport: it processes whole messages and the bytes of streams, and
+/// returns packets, events and the next wake-up time. Contracts describe it by its `State`.
 #[derive(Debug, Drop)]
 pub struct TurnClientProtocol {
     alloc: Global,
     config: TurnConfig,
     phase: Phase,
-    /// The families of which an address is still asked for.
+    /// The families of which a relayed address is still requested.
     families: SmallVec<AddressFamily, 2>,
     auth: LongTermClientAuth,
     ledger: GrantLedger,
     outbox: Outbox,
-    /// Challenges answered since the server last took a request. It stops a server that always challenges.
+    /// Challenges answered since the server last accepted a request. It stops a server that always
+    /// challenges.
     challenges: u32,
     streams: Streams,
 }
@@ -83,5 +84,5 @@ impl Model for TurnClientProtocol {
       streams = c.streams;
     } };
 
-    ghost invariant = { λ c. IsWhole c.config c.auth c.outbox.timers c.phase };
+    ghost invariant = { λ c. IsWhole c.config c.auth c.outbox.timers c.phase c.families.items c.ledger.event_room };
 }

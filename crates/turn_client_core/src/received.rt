@@ -1,4 +1,4 @@
-//! Data of a peer that stood in a stream.
+//! Data of a peer that was received over a stream.
 
 ghost use Rattle.std.specs.Prelude.{◌≡◌};
 ghost use Rattle.turn_client_api.specs.Answers.{given_payload};
@@ -9,10 +9,10 @@ use std::net::SocketAddr;
 use turn_client_api::{DataRangeOrOwned, TurnPeerData};
 use turn_stun::transport::TransportType;
 
-/// Data of a peer that stood in a stream, and is owned since.
+/// Data of a peer that was received over a stream, as owned bytes.
 #[derive(Debug, Drop)]
 pub struct Received {
-    /// What carried it from the peer to the server.
+    /// The transport between the peer and the server.
     pub transport: TransportType,
     /// The peer that sent it.
     pub peer: SocketAddr,
@@ -21,7 +21,7 @@ pub struct Received {
 }
 
 impl Received {
-    /// The same, as a client hands it out, whatever its caller hands in.
+    /// The same data, as a client returns it for any type of buffer.
     pub fn into_data<T: AsSlice<u8>>(self) -> TurnPeerData<T>
         ensures { given_payload result ≡ data_of self }
     {

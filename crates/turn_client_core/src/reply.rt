@@ -1,5 +1,5 @@
-//! What a message of the server says. What follows its integrity is not seen (RFC 8489, sections 14.5
-//! and 14.6), and what is malformed says nothing.
+//! The contents of a message of the server. Attributes after its integrity are ignored (RFC 8489,
+//! sections 14.5 and 14.6), and a malformed attribute has no value.
 
 ghost use Rattle.std.specs.Prelude.{◌≡◌};
 ghost use Rattle.turn_client_api.specs.Effect.{has_code};
@@ -10,7 +10,7 @@ use turn_stun::attribute::error_code::ErrorCode;
 use turn_stun::message::Message;
 use turn_types::attribute::{ConnectionId, Lifetime, XorPeerAddress};
 
-/// The lifetime in seconds, by the first LIFETIME (RFC 8656, section 18.2).
+/// The lifetime in seconds, from the first LIFETIME (RFC 8656, section 18.2).
 pub(crate) fn lifetime_in(message: &Message<'_>) -> Option<u32>
     ensures { result ≡ lifetime_in message.now }
 {
@@ -20,7 +20,7 @@ pub(crate) fn lifetime_in(message: &Message<'_>) -> Option<u32>
     }
 }
 
-/// The server's number of a data connection, by the first CONNECTION-ID (RFC 6062, section 6.2.1).
+/// The server's ID of a data connection, from the first CONNECTION-ID (RFC 6062, section 6.2.1).
 pub(crate) fn connection_id_in(message: &Message<'_>) -> Option<u32>
     ensures { result ≡ connection_id_in message.now }
 {
@@ -30,7 +30,7 @@ pub(crate) fn connection_id_in(message: &Message<'_>) -> Option<u32>
     }
 }
 
-/// The peer, by the first XOR-PEER-ADDRESS (RFC 8656, section 18.3).
+/// The peer address, from the first XOR-PEER-ADDRESS (RFC 8656, section 18.3).
 pub(crate) fn peer_in(message: &Message<'_>) -> Option<SocketAddr>
     ensures { result ≡ peer_in message.now }
 {

@@ -1,4 +1,4 @@
-//! What came of a datagram of the server.
+//! The result of processing a datagram of the server.
 
 ghost use Rattle.std.specs.Prelude.{◌≡◌, ◌≤◌, length, slice_range};
 ghost use Rattle.turn_client_api.specs.Answers.{HandsBack, outcome_of};
@@ -12,22 +12,22 @@ use turn_client_api::{DataRange, DataRangeOrOwned, TurnPeerData, TurnRecvRet};
 use turn_stun::transport::{Transmit, TransportType};
 use turn_types::attribute::Icmp;
 
-/// What came of a message of the server, or of a channel frame.
+/// The result of processing a message of the server, or a ChannelData message.
 #[derive(Debug, Drop)]
 pub enum Told {
-    /// It was for the client, which may have something to send or an event to tell now.
+    /// It was for the client, which may now have a packet to send or an event to report.
     Handled,
-    /// It was not for the client, and changed nothing but that a request may await its response no longer.
+    /// It was not for the client. Nothing changed, except that a request may no longer be outstanding.
     Ignored,
-    /// Data of this peer, which its allocation relayed over this transport: these of the bytes that came
-    /// (RFC 8656, sections 11.6 and 12.6).
+    /// Data of this peer, which its allocation relayed over this transport: this range of the received
+    /// bytes (RFC 8656, sections 11.6 and 12.6).
     PeerData(TransportType, SocketAddr, Range<usize>),
     /// An ICMP packet about data that was sent to this peer over this transport (RFC 8656, section 11.6).
     PeerIcmp(TransportType, SocketAddr, Icmp),
 }
 
 impl Told {
-    /// The answer to the caller who handed in the bytes: data is a part of them.
+    /// The result for the caller that passed in the bytes: data is a range of them.
     pub fn lent<T: AsSlice<u8> + Drop>(self, transmit: Transmit<T>) -> TurnRecvRet<T>
         requires { IsWithin (T.items transmit.payload) self }
         ensures outcome { outcome_of result ≡ outcome_in (T.items transmit.payload) self }
@@ -51,7 +51,8 @@ impl Told {
         }
     }
 
-    /// The answer to the caller who handed in the end of these bytes: data is owned. It takes no memory.
+    /// The result for the caller that passed in the last of these bytes: data is owned. Allocates no
+    /// memory.
     pub fn owned<T: AsSlice<u8> + Drop>(
         self,
         bytes: Vec<u8>,
@@ -79,7 +80,7 @@ impl Told {
     }
 }
 
-/// These of the bytes. It takes no memory.
+/// This range of the bytes. Allocates no memory.
 fn part_of(mut bytes: Vec<u8>, place: &Range<usize>) -> Vec<u8>
     requires ordered { place.now.start ≤ place.now.end }
     requires inside { place.now.end ≤ length bytes.items }

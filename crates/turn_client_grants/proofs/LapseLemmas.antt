@@ -1,7 +1,7 @@
--- What ends as time passes, and the room that it leaves.
+-- What expires as time passes, and the room that it leaves.
 use Rattle.std.proofs.Common.{◌≡◌, ◌≤◌, ◌<◌, ◌+◌, ℕ, Bool, true, false, List, [], ◌∷◌, ◌++◌, filter, find, length, map, not, refl, reverse, sym, ap, ◌∙◌, ◌⊎◌, inl, inr, arith}
 use Rattle.std.specs.Prelude.{◌&&◌, Option, Some, None, filter_map, option_to_list, slice_get}
-use Rattle.std.specs.List.{list_all}
+use Rattle.std.specs.List.{list_all, list_any}
 use Rattle.std.specs.declared.net.socket_addr.SocketAddr.{SocketAddr}
 use Rattle.turn_types.specs.declared.family.AddressFamily.{AddressFamily}
 use Rattle.turn_types.specs.declared.family.AddressFamily.TheVariants.{IPV4, IPV6}
@@ -78,7 +78,7 @@ pub both-allocations : (grants : List Grant) → ((family : AddressFamily) → l
     → filter_map allocation_in grants ≡ option_to_list (slice_get (filter_map allocation_in grants) 0) ++ option_to_list (slice_get (filter_map allocation_in grants) 1)
 both-allocations grants few = two-of (filter_map allocation_in grants) (omega (arith, count-of grants, few IPV4, few IPV6))
 
--- ---- whether an allocation goes
+-- ---- whether an allocation is removed
 
 pub goes-away : (given : Option ℕ) (purposes : List Purpose) (now : ℕ) (s : State) (a : Relay) → goes purposes now s a ≡ true → without (is_of (family_of a.relayed)) s ≡ lapsed_allocation given purposes now s a
 goes-away given purposes now s a e = rw e refl
@@ -86,7 +86,7 @@ goes-away given purposes now s a e = rw e refl
 pub goes-not : (given : Option ℕ) (purposes : List Purpose) (now : ℕ) (s : State) (a : Relay) → goes purposes now s a ≡ false → lapsed_in (family_of a.relayed) given purposes now s ≡ lapsed_allocation given purposes now s a
 goes-not given purposes now s a e = rw e refl
 
--- ---- a channel that is there
+-- ---- a channel that exists
 
 pub ended-is : (family : AddressFamily) (now : ℕ) (s : State) (number : ℕ) (peer : SocketAddr) (expiry : ℕ) → find (λ g. is_of family g && is_lapsed_channel now g) (reverse s.grants) ≡ Some (Channel number peer (Active expiry))
     → channel_ended number peer expiry s ≡ last_channel_lapsed family now s
@@ -100,6 +100,18 @@ has-fewer p g (x ∷ xs) has passes = by (p x) refl has (few-of (λ y. not (p y)
     by true e has few rest = rw e (omega (arith, few))
     by false e (inl same) few rest = let no : false ≡ true = sym e ∙ (rw same at passes) in cc
     by false e (inr later) few rest = rw e (omega (arith, rest later))
+
+has-any : {X : Type 0} (p : X → Bool) (g : X) (xs : List X) → Has g xs → p g ≡ true → list_any p xs ≡ true
+has-any p g [] has passes = absurd has
+has-any p g (x ∷ xs) has passes = by (p x) refl has (λ later. has-any p g xs later passes)
+  where
+    by : (b : Bool) → p x ≡ b → (g ≡ x) ⊎ Has g xs → (Has g xs → list_any p xs ≡ true) → list_any p (x ∷ xs) ≡ true
+    by true e has rest = rw e refl
+    by false e (inl same) rest = let no : false ≡ true = sym e ∙ (rw same at passes) in cc
+    by false e (inr later) rest = rw e (rest later)
+
+pub ended-there : (number : ℕ) (peer : SocketAddr) (expiry : ℕ) (grants : List Grant) → Has (Channel number peer (Active expiry)) grants → list_any (is_channel_of number) grants ≡ true
+ended-there number peer expiry grants has = has-any (is_channel_of number) (Channel number peer (Active expiry)) grants has (eq-eqb number number refl)
 
 pub ended-fewer : (number : ℕ) (peer : SocketAddr) (expiry : ℕ) (grants : List Grant) → Has (Channel number peer (Active expiry)) grants → length (filter (λ g. not (is_channel_of number g)) grants) < length grants
 ended-fewer number peer expiry grants has = has-fewer (is_channel_of number) (Channel number peer (Active expiry)) grants has (eq-eqb number number refl)

@@ -1,4 +1,4 @@
--- That a grant is there, and stays there.
+-- That a grant exists, and stays.
 use Rattle.std.proofs.Common.{◌≡◌, ◌<◌, ◌≤◌, ◌+◌, ◌∙◌, ℕ, Bool, true, false, List, [], ◌∷◌, ◌++◌, ap, filter, fold, length, map, not, refl, sym, arith}
 use Rattle.std.specs.Prelude.{◌||◌, Option, Some, None, find, is_some, option_map}
 use Rattle.std.specs.List.{list_any}
@@ -23,7 +23,7 @@ use Rattle.turn_client_grants.specs.Lists.{first_among}
 use Rattle.turn_client_api.proofs.AddressLemmas.{same_address-true}
 use Rattle.turn_client_grants.proofs.PushLemmas.{few-of}
 
--- some client, for what is said of every client
+-- some client, for statements about every client
 pub someone : SocketAddr → State
 someone address = initial Udp address address
     (record {
@@ -49,7 +49,7 @@ pub absent : {X : Type 0} (found : Option X) → is_some found ≡ false → fou
 absent None none = refl
 absent (Some x) none = let no : true ≡ false = none in cc
 
--- ---- what was found is there
+-- ---- what was found exists
 
 found-there : {X : Type 0} (reader : Grant → Option X) (which : Grant → Bool) → ((g : Grant) (x : X) → reader g ≡ Some x → which g ≡ true)
     → (grants : List Grant) (x : X) → first_among reader grants ≡ Some x → list_any which grants ≡ true
@@ -95,7 +95,7 @@ channel-there number grants peer found = by (first_among (channel_at number) gra
     by None e = let no : None ≡ Some peer = rw e at found in cc
     by (Some x) e = found-there (channel_at number) (is_channel_of number) (channel-passes number) grants x e
 
--- a data connection that is found by a local end has that end
+-- a data connection that is found by a local address has that address
 found-local : (local : SocketAddr) (connections : List DataConnection) (c : DataConnection) → find (λ (d : DataConnection). same_address d.local local) connections ≡ Some c → c.local ≡ local
 found-local local [] c found = let no : None ≡ Some c = found in cc
 found-local local (d ∷ others) c found = by (same_address d.local local) refl (found-local local others c)
@@ -108,7 +108,7 @@ pub own-end : (local : SocketAddr) (connections : List DataConnection) (c : Data
     → find (λ (d : DataConnection). same_address d.local c.local) connections ≡ Some c
 own-end local connections c found = ap (λ l. find (λ (d : DataConnection). same_address d.local l) connections) (found-local local connections c found) ∙ found
 
--- ---- channels stay where permissions are answered
+-- ---- channels stay when permissions are answered
 
 any-filtered : {X : Type 0} (p q : X → Bool) → ((x : X) → p x ≡ true → q x ≡ true) → (xs : List X) → list_any p (filter q xs) ≡ list_any p xs
 any-filtered p q passes [] = refl
@@ -124,63 +124,49 @@ any-mapped : {X : Type 0} (p : X → Bool) (f : X → X) → ((x : X) → p (f x
 any-mapped p f same [] = refl
 any-mapped p f same (x ∷ xs) = rw (same x, any-mapped p f same xs) refl
 
-kept-channel : (number : ℕ) (ip : IpAddr) (g : Grant) → is_channel_of number g ≡ true → not (is_permission_of ip g) ≡ true
-kept-channel number ip (Channel other peer progress) e = refl
-kept-channel number ip (Permission other progress) e = let no : false ≡ true = e in cc
-kept-channel number ip (Allocation a) e = refl
-kept-channel number ip (Connect peer) e = refl
-kept-channel number ip (Offer offer) e = refl
-kept-channel number ip (Connection c) e = refl
+-- a test that only channels pass, and whatever their expiry
+pub record OfChannels (p : Grant → Bool) : Type 0 where
+  pub apart : (ip : IpAddr) (g : Grant) → p g ≡ true → not (is_permission_of ip g) ≡ true
+  pub lasts : (expiry : ℕ) (g : Grant) → p (lasting expiry g) ≡ p g
+  pub other : (ip : IpAddr) (progress : Progress) → p (Permission ip progress) ≡ false
 
-lasting-channel : (number expiry : ℕ) (g : Grant) → is_channel_of number (lasting expiry g) ≡ is_channel_of number g
-lasting-channel number expiry (Allocation a) = refl
-lasting-channel number expiry (Permission ip Pending) = refl
-lasting-channel number expiry (Permission ip (Active until)) = refl
-lasting-channel number expiry (Permission ip (Reserved until)) = refl
-lasting-channel number expiry (Channel other peer Pending) = refl
-lasting-channel number expiry (Channel other peer (Active until)) = refl
-lasting-channel number expiry (Channel other peer (Reserved until)) = refl
-lasting-channel number expiry (Connect peer) = refl
-lasting-channel number expiry (Offer offer) = refl
-lasting-channel number expiry (Connection c) = refl
-
-renewed-channel : (number expiry : ℕ) (which : Grant → Bool) (g : Grant) → is_channel_of number (lasting_if which expiry g) ≡ is_channel_of number g
-renewed-channel number expiry which g = by (which g) refl
+renewed-channel : (p : Grant → Bool) → OfChannels p → (expiry : ℕ) (which : Grant → Bool) (g : Grant) → p (lasting_if which expiry g) ≡ p g
+renewed-channel p of expiry which g = by (which g) refl
   where
-    by : (b : Bool) → which g ≡ b → is_channel_of number (lasting_if which expiry g) ≡ is_channel_of number g
-    by true e = rw e (lasting-channel number expiry g)
+    by : (b : Bool) → which g ≡ b → p (lasting_if which expiry g) ≡ p g
+    by true e = rw e (of.lasts expiry g)
     by false e = rw e refl
 
-channels-stay : (number : ℕ) (ip : IpAddr) (is_granted : Bool) (now : ℕ) (s : State)
-    → list_any (is_channel_of number) (permission_answered ip is_granted now s).grants ≡ list_any (is_channel_of number) s.grants
-channels-stay number ip is_granted now s = by (permission_for ip s) is_granted refl
+channels-stay : (p : Grant → Bool) → OfChannels p → (ip : IpAddr) (is_granted : Bool) (now : ℕ) (s : State)
+    → list_any p (permission_answered ip is_granted now s).grants ≡ list_any p s.grants
+channels-stay p of ip is_granted now s = by (permission_for ip s) is_granted refl
   where
-    left : list_any (is_channel_of number) (filter (λ g. not (is_permission_of ip g)) s.grants) ≡ list_any (is_channel_of number) s.grants
-    left = any-filtered (is_channel_of number) (λ g. not (is_permission_of ip g)) (kept-channel number ip) s.grants
+    left : list_any p (filter (λ g. not (is_permission_of ip g)) s.grants) ≡ list_any p s.grants
+    left = any-filtered p (λ g. not (is_permission_of ip g)) (of.apart ip) s.grants
 
     none-more : (b : Bool) → (b || false) ≡ b
     none-more true = refl
     none-more false = refl
 
-    by : (found : Option Progress) (b : Bool) → permission_for ip s ≡ found → list_any (is_channel_of number) (permission_answered ip b now s).grants ≡ list_any (is_channel_of number) s.grants
+    by : (found : Option Progress) (b : Bool) → permission_for ip s ≡ found → list_any p (permission_answered ip b now s).grants ≡ list_any p s.grants
     by None b e = rw e refl
-    by (Some Pending) true e = rw (e, list_any-append (is_channel_of number), left) (none-more (list_any (is_channel_of number) s.grants))
+    by (Some Pending) true e = rw (e, list_any-append p, left, of.other ip) (none-more (list_any p s.grants))
     by (Some Pending) false e = rw e left
-    by (Some (Active until)) true e = rw e (any-mapped (is_channel_of number) _ (renewed-channel number _ (is_permission_of ip)) s.grants)
+    by (Some (Active until)) true e = rw e (any-mapped p _ (renewed-channel p of _ (is_permission_of ip)) s.grants)
     by (Some (Active until)) false e = rw e left
     by (Some (Reserved until)) b e = rw e refl
 
-purpose-stays : (number : ℕ) (is_granted : Bool) (now : ℕ) (s : State) (purpose : Purpose)
-    → list_any (is_channel_of number) (permission_answered_for is_granted now s purpose).grants ≡ list_any (is_channel_of number) s.grants
-purpose-stays number is_granted now s (ForPermission ip) = channels-stay number ip is_granted now s
-purpose-stays number is_granted now s ForAllocation = refl
-purpose-stays number is_granted now s (ForRefresh family lifetime) = refl
-purpose-stays number is_granted now s (ForChannel other peer) = refl
-purpose-stays number is_granted now s (ForConnect peer) = refl
-purpose-stays number is_granted now s (ForBind local peer id) = refl
+purpose-stays : (p : Grant → Bool) → OfChannels p → (is_granted : Bool) (now : ℕ) (s : State) (purpose : Purpose)
+    → list_any p (permission_answered_for is_granted now s purpose).grants ≡ list_any p s.grants
+purpose-stays p of is_granted now s (ForPermission ip) = channels-stay p of ip is_granted now s
+purpose-stays p of is_granted now s ForAllocation = refl
+purpose-stays p of is_granted now s (ForRefresh family lifetime) = refl
+purpose-stays p of is_granted now s (ForChannel other peer) = refl
+purpose-stays p of is_granted now s (ForConnect peer) = refl
+purpose-stays p of is_granted now s (ForBind local peer id) = refl
 
-pub purposes-stay : (number : ℕ) (is_granted : Bool) (now : ℕ) (s : State) (purposes : List Purpose)
-    → list_any (is_channel_of number) (fold (permission_answered_for is_granted now) s purposes).grants ≡ list_any (is_channel_of number) s.grants
-purposes-stay number is_granted now s [] = refl
-purposes-stay number is_granted now s (purpose ∷ others) =
-    purposes-stay number is_granted now (permission_answered_for is_granted now s purpose) others ∙ purpose-stays number is_granted now s purpose
+pub purposes-stay : (p : Grant → Bool) → OfChannels p → (is_granted : Bool) (now : ℕ) (s : State) (purposes : List Purpose)
+    → list_any p (fold (permission_answered_for is_granted now) s purposes).grants ≡ list_any p s.grants
+purposes-stay p of is_granted now s [] = refl
+purposes-stay p of is_granted now s (purpose ∷ others) =
+    purposes-stay p of is_granted now (permission_answered_for is_granted now s purpose) others ∙ purpose-stays p of is_granted now s purpose

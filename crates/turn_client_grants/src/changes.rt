@@ -19,25 +19,25 @@ use turn_stun::instant::Instant;
 use turn_stun::transaction::TransactionId;
 use turn_types::AddressFamily;
 
-/// How grants change that keep their places.
+/// A change of grants that keep their places.
 #[derive(Clone, Copy, Debug, PartialEq, Eq)]
 pub enum Change {
-    /// The allocation of this family is expired: it is used no more for sending.
+    /// The allocation of this family is marked as expired: it is used no more for sending.
     Expire(AddressFamily),
-    /// All allocations are expired and end at this moment.
+    /// All allocations are marked as expired, and expire at this time.
     EndAll(Instant),
-    /// The allocation of this family ends at this moment.
+    /// The allocation of this family expires at this time.
     Prolong(AddressFamily, Instant),
-    /// What is active of these lasts up to this moment.
+    /// The active ones of these grants expire at this time.
     Renew(Which, Instant),
-    /// The data connection from this local end is to be bound at this moment, or is bound.
+    /// The data connection from this local address is to be bound by this time, or is bound.
     Deadline(SocketAddr, Option<Instant>),
 }
 
 impl Change {
     /// The grant after the change.
     #[tactic(auto, unfolding(crate::specs::Table::changed))]
-    fn applied(&self, grant: &Grant) -> Grant
+    pub(crate) fn applied(&self, grant: &Grant) -> Grant
         ensures { result ≡ changed self.now grant.now }
     {
         match self {
@@ -55,7 +55,7 @@ impl Change {
     }
 }
 
-/// The grant, where the allocation of this family is expired.
+/// The grant, if the allocation of this family is marked as expired.
 fn expired(family: AddressFamily, grant: &Grant) -> Grant
     ensures { result ≡ changed_allocation (λ a. is_of_family family a.relayed) (λ a. record a { is_expired = true }) grant.now }
 {
@@ -68,7 +68,7 @@ fn expired(family: AddressFamily, grant: &Grant) -> Grant
     }
 }
 
-/// The grant, where all allocations are expired and end now.
+/// The grant, if all allocations are marked as expired, and expire now.
 fn ended(now: Instant, grant: &Grant) -> Grant
     ensures { result ≡ changed_allocation (λ a. true) (λ a. record a { expiry = now; is_expired = true }) grant.now }
 {
@@ -82,7 +82,7 @@ fn ended(now: Instant, grant: &Grant) -> Grant
     }
 }
 
-/// The grant, where the allocation of this family ends at this moment.
+/// The grant, if the allocation of this family expires at this time.
 fn prolonged(family: AddressFamily, expiry: Instant, grant: &Grant) -> Grant
     ensures { result ≡ changed_allocation (λ a. is_of_family family a.relayed) (λ a. record a { expiry = expiry }) grant.now }
 {
@@ -95,7 +95,7 @@ fn prolonged(family: AddressFamily, expiry: Instant, grant: &Grant) -> Grant
     *grant
 }
 
-/// The grant, which lasts up to this moment if it is active.
+/// The grant, which expires at this time if it is active.
 fn renewed(expiry: Instant, grant: &Grant) -> Grant
     ensures { result ≡ lasting expiry grant.now }
 {
@@ -111,7 +111,7 @@ fn renewed(expiry: Instant, grant: &Grant) -> Grant
     }
 }
 
-/// The grant, where the data connection from this local end has this deadline.
+/// The grant, if the data connection from this local address has this deadline.
 fn with_deadline(local: SocketAddr, deadline: Option<Instant>, grant: &Grant) -> Grant
     ensures { result ≡ deadline_set local deadline grant.now }
 {
@@ -127,7 +127,7 @@ fn with_deadline(local: SocketAddr, deadline: Option<Instant>, grant: &Grant) ->
     *grant
 }
 
-/// Changes all grants that the change is about, which keep their places.
+/// Applies the change to all grants, which keep their places.
 pub(crate) fn apply(grants: &mut Vec<Grant>, change: &Change)
     ensures items { grants.new.items ≡ map (changed change.now) grants.old.items }
     ensures capacity { vec_capacity grants.new ≡ vec_capacity grants.old }
@@ -136,7 +136,7 @@ pub(crate) fn apply(grants: &mut Vec<Grant>, change: &Change)
     apply_all(grants.as_mut_slice(), change);
 }
 
-/// Changes all grants of the slice that the change is about.
+/// Applies the change to all grants of the slice.
 fn apply_all(grants: &mut [Grant], change: &Change)
     ensures { grants.new ≡ map (changed change.now) grants.old }
 {
@@ -145,7 +145,7 @@ fn apply_all(grants: &mut [Grant], change: &Change)
     }
 }
 
-/// Adds a grant after all others, for which there is room.
+/// Adds a grant after all others. There must be room for it.
 pub(crate) fn add(grants: &mut Vec<Grant>, grant: &Grant)
     requires { vec_len grants.old < vec_capacity grants.old }
     ensures items { grants.new.items ≡ grants.old.items ++ grant.now ∷ [] }
@@ -155,7 +155,7 @@ pub(crate) fn add(grants: &mut Vec<Grant>, grant: &Grant)
     let _ = grants.extend_from_slice(&[*grant]);
 }
 
-/// Adds grants after all others, for which there is room.
+/// Adds grants after all others. There must be room for them.
 pub(crate) fn add_all(grants: &mut Vec<Grant>, more: &[Grant])
     requires { vec_len grants.old + length more.now ≤ vec_capacity grants.old }
     ensures items { grants.new.items ≡ grants.old.items ++ more.now }
@@ -165,7 +165,7 @@ pub(crate) fn add_all(grants: &mut Vec<Grant>, more: &[Grant])
     let _ = grants.extend_from_slice(more);
 }
 
-/// The allocation of this address, which the server granted for so many seconds.
+/// The allocation with this relayed address, which the server granted for so many seconds.
 fn new_allocation(relayed: SocketAddr, lifetime: u32, now: Instant) -> Grant
     ensures { result ≡ new_allocation lifetime now relayed }
 {
@@ -177,7 +177,8 @@ fn new_allocation(relayed: SocketAddr, lifetime: u32, now: Instant) -> Grant
     })
 }
 
-/// Adds the allocations of these addresses after all other grants, for which there is room.
+/// Adds the allocations with these relayed addresses after all other grants. There must be room for
+/// them.
 pub(crate) fn add_allocations(
     grants: &mut Vec<Grant>,
     addresses: &[SocketAddr],
@@ -194,7 +195,7 @@ pub(crate) fn add_allocations(
     }
 }
 
-/// Takes away these grants.
+/// Removes these grants.
 pub(crate) fn remove(grants: &mut Vec<Grant>, which: &Which)
     ensures items { grants.new.items ≡ filter (λ g. not (holds which.now g)) grants.old.items }
     ensures capacity { vec_capacity grants.new ≡ vec_capacity grants.old }
@@ -203,7 +204,7 @@ pub(crate) fn remove(grants: &mut Vec<Grant>, which: &Which)
     grants.retain(|grant| !which.holds(grant));
 }
 
-/// Takes away what is listed for these grants.
+/// Removes the listings for these grants.
 pub(crate) fn unlist(listed: &mut Vec<Listing>, grants: &[Grant], which: &Which)
     ensures items { listed.new.items ≡ unlisted (holds which.now) grants.now listed.old.items }
     ensures capacity { vec_capacity listed.new ≡ vec_capacity listed.old }
@@ -212,7 +213,7 @@ pub(crate) fn unlist(listed: &mut Vec<Listing>, grants: &[Grant], which: &Which)
     listed.retain(|listing| !is_for_one(listing, grants, which));
 }
 
-/// Takes away what is listed for an ALLOCATE.
+/// Removes the listings for an ALLOCATE.
 pub(crate) fn unlist_allocates(listed: &mut Vec<Listing>)
     ensures items { listed.new.items ≡ filter (λ l. not (is_for_allocation l.purpose)) listed.old.items }
     ensures capacity { vec_capacity listed.new ≡ vec_capacity listed.old }
@@ -221,7 +222,7 @@ pub(crate) fn unlist_allocates(listed: &mut Vec<Listing>)
     listed.retain(|listing| !is_for_allocation(&listing.purpose));
 }
 
-/// Lists a purpose, where there is one.
+/// Lists a purpose, if there is one.
 fn list_one(listed: &mut Vec<Listing>, id: TransactionId, purpose: &Option<Purpose>)
     requires { vec_len listed.old + length (option_to_list purpose.now) ≤ vec_capacity listed.old }
     ensures items { listed.new.items ≡ listed.old.items ++ listings id (option_to_list purpose.now) }
@@ -235,7 +236,7 @@ fn list_one(listed: &mut Vec<Listing>, id: TransactionId, purpose: &Option<Purpo
     }
 }
 
-/// Lists a request of this ID that is made for these purposes, after all others.
+/// Lists a request with this ID that is made for these purposes, after all others.
 pub(crate) fn list(listed: &mut Vec<Listing>, id: TransactionId, purposes: &Purposes)
     requires { vec_len listed.old + 2 ≤ vec_capacity listed.old }
     ensures items { listed.new.items ≡ listed.old.items ++ listings id (purposes_in purposes.now) }

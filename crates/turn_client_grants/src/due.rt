@@ -1,4 +1,4 @@
-//! When a grant ends, when it is to be refreshed, and the soonest of these moments.
+//! When a grant expires, when it is to be refreshed, and the earliest of these times.
 
 ghost use Rattle.std.specs.Option.{option_map_or};
 ghost use Rattle.std.specs.Prelude.{◌≡◌, ◌-◌, false, flat_map, fold, map, max, min, not, option_to_list};
@@ -14,15 +14,15 @@ use turn_client_api::{Grant, Listing, Progress, Relay};
 use turn_stun::instant::Instant;
 use turn_types::AddressFamily;
 
-/// How long before its end a grant is refreshed, in nanoseconds: 60 s (our choice; RFC 8656, section
-/// 8, asks for about a minute).
+/// How long before its expiry a grant is refreshed, in nanoseconds: 60 s (our choice; RFC 8656,
+/// section 8, suggests about a minute).
 const REFRESH_AHEAD: u64 = 60_000_000_000;
 
 /// An allocation whose first lifetime is at most 120 s, in nanoseconds, is refreshed half of that
-/// lifetime before it ends (our choice).
+/// lifetime before its expiry (our choice).
 const SHORT_LIFETIME: u64 = 120_000_000_000;
 
-/// The moment so many nanoseconds earlier, or the start of the clock where that is later.
+/// The time so many nanoseconds earlier, or the start of the clock if that is later.
 fn earlier(moment: Instant, nanos: u64) -> Instant
     ensures { result ≡ moment - nanos }
 {
@@ -39,7 +39,7 @@ fn refresh_time_of(relay: &Relay) -> Instant
     earlier(relay.expiry, REFRESH_AHEAD)
 }
 
-/// Whether there is an allocation of this family, and it is not expired.
+/// Whether there is an allocation of this family that is not expired.
 fn is_family_in_use(grants: &[Grant], family: AddressFamily) -> bool
     ensures { result ≡ option_map_or (λ a. not a.is_expired) (allocation_among family grants.now) false }
 {
@@ -81,7 +81,7 @@ fn refresh_time_by_kind(grant: &Grant) -> Option<Instant>
     }
 }
 
-/// When the grant is to be refreshed, or `None` where that is asked for already.
+/// When the grant is to be refreshed, or `None` if a request for that is pending.
 #[tactic(auto, unfolding(turn_client_api::specs::Due::refresh_time))]
 pub(crate) fn refresh_time(grants: &[Grant], listed: &[Listing], grant: &Grant) -> Option<Instant>
     ensures { (s : State) → result ≡ refresh_time (with_lists grants.now listed.now s) grant.now }
@@ -96,7 +96,7 @@ pub(crate) fn refresh_time(grants: &[Grant], listed: &[Listing], grant: &Grant) 
     Some(moment)
 }
 
-/// The end of the grant, where that is to be waited for: that of an allocation which is past is not.
+/// The expiry of the grant, if it is to be waited for: a past one of an allocation is not.
 fn end_of(grant: &Grant, now: Instant) -> Option<Instant>
     ensures { option_to_list result ≡ end_of now grant.now }
 {
@@ -119,8 +119,8 @@ fn end_of(grant: &Grant, now: Instant) -> Option<Instant>
     }
 }
 
-/// The lesser of the moment and one that may be there.
-fn least(moment: Instant, other: Option<Instant>) -> Instant
+/// The earlier of the time and the other one, if there is one.
+pub(crate) fn least(moment: Instant, other: Option<Instant>) -> Instant
     ensures { result ≡ fold min moment (option_to_list other) }
 {
     match other {
@@ -129,8 +129,8 @@ fn least(moment: Instant, other: Option<Instant>) -> Instant
     }
 }
 
-/// The moment, but not before the pause between two requests ends.
-fn after_pause(pause: Instant, moment: Option<Instant>) -> Option<Instant>
+/// The time, if there is one, but not before the pause between two requests ends.
+pub(crate) fn after_pause(pause: Instant, moment: Option<Instant>) -> Option<Instant>
     ensures { option_to_list result ≡ map (max pause) (option_to_list moment) }
 {
     match moment {
@@ -139,7 +139,7 @@ fn after_pause(pause: Instant, moment: Option<Instant>) -> Option<Instant>
     }
 }
 
-/// The least of the moment and of those of the grant.
+/// The earliest of the time and those of the grant.
 fn least_with(
     moment: Instant,
     grants: &[Grant],
@@ -155,7 +155,7 @@ fn least_with(
     least(least(moment, end), refresh)
 }
 
-/// The least of the moment and of those of all grants.
+/// The earliest of the time and those of all grants.
 pub(crate) fn least_of(
     moment: Instant,
     grants: &[Grant],

@@ -1,11 +1,13 @@
-//! The grants, with the events and the closes that come of them.
+//! The grants, with the events and the closes that result from them.
 
 ghost use Rattle.std.specs.List.{list_any};
-ghost use Rattle.std.specs.Prelude.{◌≡◌, ◌≤◌, ◌<◌, ◌+◌, ◌∷◌, ◌++◌, [], true, OnOk};
+ghost use Rattle.std.specs.Prelude.{◌≡◌, ◌≤◌, ◌<◌, ◌+◌, ◌&&◌, ◌∷◌, ◌++◌, [], true, OnOk};
 ghost use Rattle.turn_client_api.specs.Effect.{renewed};
 ghost use Rattle.turn_client_api.specs.Grants.{allocation_for, failures_among, jump, unlisted, wait, with_grant, without};
 ghost use Rattle.turn_client_api.specs.Poll.{failed};
 ghost use Rattle.turn_client_api.specs.State.{State};
+ghost use Rattle.turn_client_grants.specs.Keys.{is_found_by};
+ghost use Rattle.turn_client_grants.specs.declared.key.Key.{Key};
 ghost use Rattle.turn_client_grants.specs.Ledger.{IsApart, SameRoomBut, changed_by, on};
 ghost use Rattle.turn_client_grants.specs.Table.{is_numbered};
 ghost use Rattle.turn_client_grants.specs.Which.{holds};
@@ -31,11 +33,11 @@ mod lapse;
 mod poll;
 mod read;
 
-/// The grants of a client, what its requests were made for, the events that wait to be polled, and the
-/// local ends of the data connections that the caller is to close.
+/// The grants of a client, what its requests were made for, the events that are queued, and the local
+/// addresses of the data connections that the caller is to close.
 ///
-/// Room for the events and closes that may yet come of a grant is set aside when the grant comes, so
-/// that nothing that ends as time passes takes memory.
+/// Room for the events and closes that may yet result from a grant is reserved when the grant is added,
+/// so that no expiry allocates memory.
 #[derive(Debug, Drop)]
 pub struct GrantLedger {
     transport: TransportType,
@@ -68,7 +70,7 @@ impl Model for GrantLedger {
 }
 
 impl GrantLedger {
-    /// A ledger with nothing in it. `transport` is what the server relays over.
+    /// An empty ledger. `transport` is the transport over which the server relays.
     pub fn new(transport: TransportType, alloc: Global) -> GrantLedger
         ensures transport { result.transport ≡ transport }
         ensures grants { result.grants ≡ [] }
@@ -84,7 +86,7 @@ impl GrantLedger {
         }
     }
 
-    /// What the server relays over, between a relayed address and the peers.
+    /// The transport over which the server relays, between a relayed address and the peers.
     pub fn transport(&self) -> TransportType
         ensures { result ≡ self.now.transport }
     {
@@ -102,7 +104,7 @@ impl GrantLedger {
         None
     }
 
-    /// The grants and the requests, to be read.
+    /// The grants and the requests, for reading.
     pub fn table(&self) -> &GrantTable
         ensures grants { result.now.grants ≡ self.now.grants }
         ensures listed { result.now.listed ≡ self.now.listed }
@@ -111,11 +113,11 @@ impl GrantLedger {
     }
 
     /// Makes room for so many grants, for so many listings, and for so many events beside those that may
-    /// come of the grants.
+    /// result from the grants.
     ///
     /// # Errors
     ///
-    /// `AllocError` where there is no memory. All stays as it was, and no room is lost.
+    /// `AllocError` if memory allocation fails. The contents are unchanged then, and no room is lost.
     pub fn reserve(
         &mut self,
         grants: usize,
@@ -146,7 +148,7 @@ impl GrantLedger {
 }
 
 impl GrantLedger {
-    /// Tells the caller of this after all that waits.
+    /// Queues this event after all others.
     pub fn tell(&mut self, event: TurnEvent)
         requires { 0 < self.old.event_room }
         ensures state { (s : State) → on self.new s ≡ wait (event ∷ []) (on self.old s) }
@@ -155,7 +157,7 @@ impl GrantLedger {
         self.events.push_back_reserved(event);
     }
 
-    /// Tells the caller of this before all that waits.
+    /// Queues this event before all others.
     pub fn tell_first(&mut self, event: TurnEvent)
         requires { 0 < self.old.event_room }
         ensures state { (s : State) → on self.new s ≡ jump (event ∷ []) (on self.old s) }
@@ -164,7 +166,7 @@ impl GrantLedger {
         self.events.push_front_reserved(event);
     }
 
-    /// Takes away these grants, and nobody is told.
+    /// Removes these grants, without an event.
     fn remove(&mut self, which: &Which)
         ensures state { (s : State) → on self.new s ≡ without (holds which.now) (on self.old s) }
         ensures room { SameRoomBut 0 0 self.old self.new }
@@ -172,7 +174,7 @@ impl GrantLedger {
         self.table.remove(which);
     }
 
-    /// Takes away these grants, and their failures wait after all events.
+    /// Removes these grants, and queues their failures after all events.
     fn fail_back(&mut self, which: &Which)
         ensures state { (s : State) → on self.new s ≡ wait (failures_among (holds which.now) (on self.old s)) (without (holds which.now) (on self.old s)) }
         ensures room { SameRoomBut 0 0 self.old self.new }
@@ -182,7 +184,7 @@ impl GrantLedger {
         self.table.remove(which);
     }
 
-    /// Takes away these grants, and their failures come before all events, one after the other.
+    /// Removes these grants, and queues their failures before all events, each before the previous one.
     fn fail_front(&mut self, which: &Which)
         ensures state { (s : State) → on self.new s ≡ failed (holds which.now) (on self.old s) }
         ensures room { SameRoomBut 0 0 self.old self.new }
@@ -192,7 +194,7 @@ impl GrantLedger {
         self.table.remove(which);
     }
 
-    /// Changes grants, which keep their places.
+    /// Changes grants that keep their places.
     fn change(&mut self, change: &Change)
         ensures state { (s : State) → on self.new s ≡ changed_by change.now (on self.old s) }
         ensures room { SameRoomBut 0 0 self.old self.new }
@@ -200,7 +202,7 @@ impl GrantLedger {
         self.table.change(change);
     }
 
-    /// Takes away what is listed for these grants, which may be asked for again.
+    /// Removes the listings for these grants, so that they may be requested again.
     fn unlist(&mut self, which: &Which)
         ensures state { (s : State) → on self.new s ≡ unlisted (holds which.now) (on self.old s) }
         ensures room { SameRoomBut 0 0 self.old self.new }
@@ -208,7 +210,7 @@ impl GrantLedger {
         self.table.unlist(which);
     }
 
-    /// What is active of these lasts up to this moment, and no request is listed for it any more.
+    /// The active ones of these grants expire at this time, and no request is listed for them any more.
     fn renew(&mut self, which: &Which, expiry: Instant)
         ensures state { (s : State) → on self.new s ≡ renewed (holds which.now) expiry (unlisted (holds which.now) (on self.old s)) }
         ensures room { SameRoomBut 0 0 self.old self.new }
@@ -217,12 +219,14 @@ impl GrantLedger {
         self.table.change(&Change::Renew(*which, expiry));
     }
 
-    /// Puts one grant after all others in the place of these, of which there is one at least. It takes no
+    /// Replaces these grants, of which there is at least one, by one grant after all others. It uses no
     /// room for grants.
     fn replace(&mut self, which: &Which, grant: &Grant)
         requires numbered { is_numbered grant.now ≡ true }
         requires apart { IsApart grant.now }
         requires there { list_any (holds which.now) self.old.grants ≡ true }
+        // By each key that finds the new grant, one of these is found.
+        requires keyed { (k : Key) → is_found_by k grant.now ≡ true → list_any (λ g. holds which.now g && is_found_by k g) self.old.grants ≡ true }
         requires aside { 2 ≤ self.old.event_room }
         ensures state { (s : State) → on self.new s ≡ with_grant grant.now (without (holds which.now) (on self.old s)) }
         ensures room { SameRoomBut 0 2 self.old self.new }

@@ -1,14 +1,14 @@
-//! The grants of a TURN client: allocations, permissions, channels and data connections (RFC 8656 and
-//! RFC 6062), what its requests were made for, and the events that come of them. No IO.
+//! The grants of a TURN client: allocations, permissions, channels and data connections (RFC 8656 and RFC
+//! 6062), what its requests were made for, and the events that result from them. No IO.
 //!
 //! ```text
-//!  ask --> pending --granted--> active --lapse--> gone; a channel is reserved for a while first
+//!  ask --> pending --granted--> active --expiry--> removed; a channel is reserved for a while first
 //!             |                    |
-//!             +--refused, silence--+--refused--> gone, and an event tells it
+//!             +--refused, timeout--+--refused--> removed, and an event reports it
 //! ```
 //!
-//! Begin with [`GrantLedger`], which each change goes through. What is read is read off its
-//! [`GrantTable`]; [`Purposes`] is what one request was made for.
+//! Begin with [`GrantLedger`], by which all changes are made. Reads are made on its [`GrantTable`];
+//! [`Purposes`] are what one request was made for.
 //!
 //! ```rust
 //! ledger.reserve(1, 2, 0)?;
@@ -24,6 +24,7 @@ mod changes;
 mod connections;
 mod due;
 mod failures;
+mod key;
 mod kind;
 mod lapsed;
 mod ledger;
@@ -34,6 +35,7 @@ mod offers;
 mod purposes;
 mod reads;
 mod refresh;
+mod summary;
 mod table;
 mod told;
 mod which;

@@ -1,6 +1,12 @@
 //! The table of grants.
+//!
+//! The grants are a list, in their order. A channel and a permission are found by a hash map, which
+//! leads from a channel's number, from the peer of a channel that is pending or active, and from the IP
+//! address of a permission to a copy of the grant. For the reads that each packet needs, a table of few
+//! grants is scanned instead. What is read from all grants at once, such as the next expiry and the next
+//! refresh, is a summary, which each change computes anew.
 
-ghost use Rattle.std.specs.Prelude.{◌≡◌, ◌≤◌, ◌<◌, ◌+◌, ◌++◌, ◌∷◌, ◌==◌, [], false, true, None, filter, filter_map, length, map, not, reverse, OnOk};
+ghost use Rattle.std.specs.Prelude.{◌≡◌, ◌≤◌, ◌<◌, ◌+◌, ◌++◌, ◌∷◌, ◌==◌, ◌&&◌, [], false, true, None, filter, filter_map, length, map, not, reverse, OnOk};
 ghost use Rattle.std.specs.List.{list_all, list_any};
 ghost use Rattle.std.specs.VecDeque.{deque_capacity, deque_len};
 ghost use Rattle.turn_client_api.specs.Calls.{is_offer_of, without_first};
@@ -9,16 +15,20 @@ ghost use Rattle.turn_client_api.specs.Grants.{allocation_in, is_for_allocation}
 ghost use Rattle.turn_client_api.specs.Poll.{told_first};
 ghost use Rattle.turn_client_api.specs.Requests.{listings};
 ghost use Rattle.turn_client_grants.specs.Failures.{close_in, failure_in};
+ghost use Rattle.turn_client_grants.specs.Keys.{is_found_by};
+ghost use Rattle.turn_client_grants.specs.declared.key.Key.{Key};
 ghost use Rattle.turn_client_grants.specs.Table.{are_new, changed, is_new, is_numbered, unlisted};
 ghost use Rattle.turn_client_grants.specs.Which.{holds, purposes_in};
 
 use crate::changes::{self, Change};
 use crate::failures::{push_closes_back, push_failures_back, push_failures_front};
+use crate::key::{self, Key};
 use crate::offers;
 use crate::purposes::Purposes;
+use crate::summary::{Summary, summary_of};
 use crate::which::Which;
 use std::alloc::{AllocError, Global};
-use std::collections::VecDeque;
+use std::collections::{HashMap, VecDeque};
 use std::marker::Model;
 use std::net::SocketAddr;
 use turn_client_api::{Grant, Listing, TurnEvent};
@@ -29,36 +39,42 @@ use turn_types::AddressFamily;
 
 mod read;
 
-/// The grants of a client, in the order in which they were asked for or granted, and what the requests
-/// that were not answered yet were made for.
+/// The grants of a client, in the order in which they were requested or granted, and what the requests
+/// that await their responses were made for.
 ///
-/// A channel's number is from 4000 to 4FFF hexadecimal, there is at most one allocation of each
-/// address family, and a request is listed for at most two purposes. A change takes no memory: the
-/// room for it is made first, by `reserve`.
+/// A channel's number is from 4000 to 4FFF hexadecimal, there is at most one allocation of each address
+/// family, and a request is listed for at most two purposes. A change allocates no memory: `reserve`
+/// makes room for it first.
 #[derive(Debug, Drop)]
 pub struct GrantTable {
     grants: Vec<Grant>,
     listed: Vec<Listing>,
+    // Copies of the grants, by their keys.
+    found: HashMap<Key, Grant>,
+    summary: Summary,
 }
 
 impl Model for GrantTable {
-    ghost use Rattle.std.specs.Prelude.{◌-◌, vec_capacity, vec_len};
-    ghost use Rattle.turn_client_grants.specs.Table.{IsTable, Table};
+    ghost use Rattle.std.specs.Prelude.{◌-◌, min, vec_capacity, vec_len};
+    ghost use Rattle.std.specs.HashMap as hash;
+    ghost use Rattle.std.specs.HashMap.{spare};
+    ghost use Rattle.turn_client_grants.specs.Kept.{IsKept, half};
+    ghost use Rattle.turn_client_grants.specs.Table.{Table};
 
     ghost Value = { Table };
 
     ghost view = { λ t. record {
       grants = t.grants.items;
       listed = t.listed.items;
-      grant_room = vec_capacity t.grants - vec_len t.grants;
+      grant_room = min (vec_capacity t.grants - vec_len t.grants) (half (spare t.found));
       listing_room = vec_capacity t.listed - vec_len t.listed;
     } };
 
-    ghost invariant = { λ t. IsTable t.grants.items t.listed.items };
+    ghost invariant = { λ t. IsKept t.grants.items t.listed.items (hash.get ⟦<Key as PartialEq>⟧.eq t.found) t.summary };
 }
 
 impl GrantTable {
-    /// A table with nothing in it. It takes no memory yet.
+    /// An empty table. Allocates no memory yet.
     pub(crate) fn new(alloc: Global) -> GrantTable
         ensures grants { result.grants ≡ [] }
         ensures listed { result.listed ≡ [] }
@@ -66,15 +82,16 @@ impl GrantTable {
         GrantTable {
             grants: Vec::new(alloc),
             listed: Vec::new(alloc),
+            found: HashMap::new(alloc),
+            summary: summary_of(&[], &[]),
         }
     }
 
-    /// Makes room for so many grants and listings more.
+    /// Makes room for so many more grants and listings.
     ///
     /// # Errors
     ///
-    /// `AllocError` where there is no memory. Nothing is in the table then that was not before, and no
-    /// room is lost.
+    /// `AllocError` if memory allocation fails. The contents are unchanged then, and no room is lost.
     pub(crate) fn reserve(&mut self, grants: usize, listings: usize) -> Result<(), AllocError>
         ensures grants { self.new.grants ≡ self.old.grants }
         ensures listed { self.new.listed ≡ self.old.listed }
@@ -83,12 +100,15 @@ impl GrantTable {
         ensures grants_left { self.old.grant_room ≤ self.new.grant_room }
         ensures listings_left { self.old.listing_room ≤ self.new.listing_room }
     {
+        let Some(keys) = grants.checked_mul(2) else {
+            return Err(AllocError);
+        };
         self.grants.reserve(grants)?;
         self.listed.reserve(listings)?;
-        Ok(())
+        key::reserve(&mut self.found, keys)
     }
 
-    /// Adds a grant, after all others, that is none of those that are there.
+    /// Adds a grant, which must be new (`is_new`), after all others.
     pub(crate) fn push(&mut self, grant: &Grant)
         requires room { 0 < self.old.grant_room }
         requires numbered { is_numbered grant.now ≡ true }
@@ -99,9 +119,11 @@ impl GrantTable {
         ensures listing_room { self.new.listing_room ≡ self.old.listing_room }
     {
         changes::add(&mut self.grants, grant);
+        key::add(&mut self.found, grant);
+        self.summary = summary_of(self.grants.as_slice(), self.listed.as_slice());
     }
 
-    /// Adds grants, after all others, that are none of those that are there, and differ.
+    /// Adds grants, which must be new and differ (`are_new`), after all others.
     pub(crate) fn push_all(&mut self, more: &[Grant])
         requires room { length more.now ≤ self.old.grant_room }
         requires numbered { list_all is_numbered more.now ≡ true }
@@ -112,9 +134,12 @@ impl GrantTable {
         ensures listing_room { self.new.listing_room ≡ self.old.listing_room }
     {
         changes::add_all(&mut self.grants, more);
+        key::add_all(&mut self.found, more);
+        self.summary = summary_of(self.grants.as_slice(), self.listed.as_slice());
     }
 
-    /// Adds the allocations of these addresses, after all other grants, for so many seconds from now on.
+    /// Adds the allocations with these relayed addresses, after all other grants, for so many seconds
+    /// from now on.
     pub(crate) fn push_allocations(&mut self, addresses: &[SocketAddr], lifetime: u32, now: Instant)
         requires room { length addresses.now ≤ self.old.grant_room }
         requires new { are_new self.old.grants (map (new_allocation lifetime now) addresses.now) ≡ true }
@@ -124,6 +149,7 @@ impl GrantTable {
         ensures listing_room { self.new.listing_room ≡ self.old.listing_room }
     {
         changes::add_allocations(&mut self.grants, addresses, lifetime, now);
+        self.summary = summary_of(self.grants.as_slice(), self.listed.as_slice());
     }
 
     /// Lists a new request, after all others, that was made for these purposes.
@@ -136,9 +162,10 @@ impl GrantTable {
         ensures listing_room { self.old.listing_room ≤ self.new.listing_room + 2 }
     {
         changes::list(&mut self.listed, id, purposes);
+        self.summary = summary_of(self.grants.as_slice(), self.listed.as_slice());
     }
 
-    /// The failures of these grants wait after the events that wait already.
+    /// Queues the failures of these grants after the queued events.
     pub(crate) fn failures_back(
         &self,
         events: &mut VecDeque<TurnEvent>,
@@ -153,7 +180,7 @@ impl GrantTable {
         push_failures_back(events, self.grants.as_slice(), transport, which);
     }
 
-    /// The failures of these grants come before the events that wait already, the last of them first.
+    /// Queues the failures of these grants before the queued events, the last of them first.
     pub(crate) fn failures_front(
         &self,
         events: &mut VecDeque<TurnEvent>,
@@ -168,7 +195,8 @@ impl GrantTable {
         push_failures_front(events, self.grants.as_slice(), transport, which);
     }
 
-    /// The local ends of the data connections among these grants come after those to be closed already.
+    /// Queues the local addresses of the data connections among these grants after those to be closed
+    /// already.
     pub(crate) fn closes_back(&self, closes: &mut VecDeque<SocketAddr>, which: &Which)
         requires { deque_len closes.old + length (filter_map (close_in which.now) self.now.grants) ≤ deque_capacity closes.old }
         ensures items { closes.new.items ≡ closes.old.items ++ filter_map (close_in which.now) self.now.grants }
@@ -178,7 +206,7 @@ impl GrantTable {
         push_closes_back(closes, self.grants.as_slice(), which);
     }
 
-    /// Takes away what is listed for these grants.
+    /// Removes the listings for these grants.
     pub(crate) fn unlist(&mut self, which: &Which)
         ensures grants { self.new.grants ≡ self.old.grants }
         ensures listed { self.new.listed ≡ unlisted (holds which.now) self.old.grants self.old.listed }
@@ -186,9 +214,10 @@ impl GrantTable {
         ensures listing_room { self.old.listing_room ≤ self.new.listing_room }
     {
         changes::unlist(&mut self.listed, self.grants.as_slice(), which);
+        self.summary = summary_of(self.grants.as_slice(), self.listed.as_slice());
     }
 
-    /// Takes away what is listed for an ALLOCATE.
+    /// Removes the listings for an ALLOCATE.
     pub(crate) fn unlist_allocates(&mut self)
         ensures grants { self.new.grants ≡ self.old.grants }
         ensures listed { self.new.listed ≡ filter (λ l. not (is_for_allocation l.purpose)) self.old.listed }
@@ -196,9 +225,10 @@ impl GrantTable {
         ensures listing_room { self.old.listing_room ≤ self.new.listing_room }
     {
         changes::unlist_allocates(&mut self.listed);
+        self.summary = summary_of(self.grants.as_slice(), self.listed.as_slice());
     }
 
-    /// Takes away these grants, and what is listed for them.
+    /// Removes these grants, and the listings for them.
     pub(crate) fn remove(&mut self, which: &Which)
         ensures grants { self.new.grants ≡ filter (λ g. not (holds which.now g)) self.old.grants }
         ensures listed { self.new.listed ≡ unlisted (holds which.now) self.old.grants self.old.listed }
@@ -207,9 +237,11 @@ impl GrantTable {
     {
         changes::unlist(&mut self.listed, self.grants.as_slice(), which);
         changes::remove(&mut self.grants, which);
+        key::remove(&mut self.found, which);
+        self.summary = summary_of(self.grants.as_slice(), self.listed.as_slice());
     }
 
-    /// The caller is told of the first offer of this family that it was not told of.
+    /// Marks the first unreported offer of this family as reported.
     pub(crate) fn tell_offer(&mut self, family: AddressFamily)
         ensures grants { self.new.grants ≡ told_first family self.old.grants }
         ensures listed { self.new.listed ≡ self.old.listed }
@@ -217,9 +249,10 @@ impl GrantTable {
         ensures listing_room { self.new.listing_room ≡ self.old.listing_room }
     {
         offers::tell_first(&mut self.grants, family);
+        self.summary = summary_of(self.grants.as_slice(), self.listed.as_slice());
     }
 
-    /// Takes away the first offer of this number and this peer.
+    /// Removes the first offer with this connection ID and this peer.
     pub(crate) fn take_offer(&mut self, id: u32, peer: SocketAddr)
         ensures grants { self.new.grants ≡ without_first (is_offer_of id peer) self.old.grants }
         ensures listed { self.new.listed ≡ self.old.listed }
@@ -227,31 +260,38 @@ impl GrantTable {
         ensures listing_room { self.new.listing_room ≡ self.old.listing_room }
     {
         offers::take(&mut self.grants, id, peer);
+        self.summary = summary_of(self.grants.as_slice(), self.listed.as_slice());
     }
 
-    /// Puts one grant, which is no allocation, after all others in the place of these.
+    /// Replaces these grants by one grant, which is no allocation, after all others.
     pub(crate) fn replace(&mut self, which: &Which, grant: &Grant)
-        requires room { length (filter (λ g. not (holds which.now g)) self.old.grants) < length self.old.grants + self.old.grant_room }
         requires numbered { is_numbered grant.now ≡ true }
         requires apart { allocation_in grant.now ≡ None }
+        requires there { list_any (holds which.now) self.old.grants ≡ true }
+        // By each key that finds the new grant, one of these is found.
+        requires keyed { (k : Key) → is_found_by k grant.now ≡ true → list_any (λ g. holds which.now g && is_found_by k g) self.old.grants ≡ true }
         ensures grants { self.new.grants ≡ filter (λ g. not (holds which.now g)) self.old.grants ++ grant.now ∷ [] }
         ensures listed { self.new.listed ≡ unlisted (holds which.now) self.old.grants self.old.listed }
-        ensures grant_room { self.old.grant_room ≤ self.new.grant_room + 1 }
-        ensures all_room { self.old.grant_room + length self.old.grants ≤ self.new.grant_room + length self.new.grants }
+        ensures grant_room { self.old.grant_room ≤ self.new.grant_room }
+        ensures fewer { length self.new.grants ≤ length self.old.grants }
         ensures listing_room { self.old.listing_room ≤ self.new.listing_room }
     {
         changes::unlist(&mut self.listed, self.grants.as_slice(), which);
         changes::remove(&mut self.grants, which);
         changes::add(&mut self.grants, grant);
+        key::replace(&mut self.found, which, grant);
+        self.summary = summary_of(self.grants.as_slice(), self.listed.as_slice());
     }
 
-    /// Changes grants, which keep their places.
+    /// Changes grants that keep their places.
     pub(crate) fn change(&mut self, change: &Change)
         ensures grants { self.new.grants ≡ map (changed change.now) self.old.grants }
         ensures listed { self.new.listed ≡ self.old.listed }
-        ensures grant_room { self.new.grant_room ≡ self.old.grant_room }
+        ensures grant_room { self.old.grant_room ≤ self.new.grant_room }
         ensures listing_room { self.new.listing_room ≡ self.old.listing_room }
     {
         changes::apply(&mut self.grants, change);
+        key::change(&mut self.found, change);
+        self.summary = summary_of(self.grants.as_slice(), self.listed.as_slice());
     }
 }

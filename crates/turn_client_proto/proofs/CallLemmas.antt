@@ -1,4 +1,5 @@
--- What the calls of a client ensure says that they leave what a call may leave: what every call keeps, they keep.
+-- By its clauses each call of a client leaves a state that the call may leave: what holds after every call
+-- holds after it.
 use Rattle.std.proofs.Common.{◌≡◌, ℕ, List, Option, Result, Ok, Err, OnErr, OnOk, inl, inr}
 use Rattle.std.specs.declared.net.ip_addr.IpAddr.{IpAddr}
 use Rattle.std.specs.declared.net.socket_addr.SocketAddr.{SocketAddr}
@@ -69,11 +70,10 @@ module _ {Kept : State → Type 0} (keeps : (call : Call) (s t : State) → Leav
   pub event-keeps : t ≡ (event_step s).1 → Kept s → Kept t
   event-keeps e = keeps Call.PollEvent s t (inl e)
 
-  module _ {A E : Type 0} where
-    pub poll-keeps : (result : Result A E) (now : ℕ) → OnOk result (t ≡ (poll_step now s).1) → OnErr result (t ≡ closed s) → Kept s → Kept t
-    poll-keeps (Ok x) now e f = keeps (Call.Poll now) s t (inl e)
-    poll-keeps (Err x) now e f = closed-keeps f
+  pub poll-keeps : (now : ℕ) → t ≡ (poll_step now s).1 → Kept s → Kept t
+  poll-keeps now e = keeps (Call.Poll now) s t (inl e)
 
+  module _ {A E : Type 0} where
     pub transmit-keeps : (result : Result A E) (now : ℕ) → OnOk result (t ≡ (transmit_step now s).1) → OnErr result (t ≡ closed s) → Kept s → Kept t
     transmit-keeps (Ok x) now e f = keeps (Call.PollTransmit now) s t (inl e)
     transmit-keeps (Err x) now e f = closed-keeps f

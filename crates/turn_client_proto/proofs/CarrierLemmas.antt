@@ -1,4 +1,4 @@
--- No call changes what carries the packets of a client, nor what its allocations relay over.
+-- No call changes the transport of a client, nor the transport over which its allocations relay.
 use Rattle.std.proofs.Common.{◌≡◌, ◌∙◌, refl}
 use Rattle.turn_client_api.specs.State.{State}
 use Rattle.turn_client_api.specs.Steps.{Leaves}
@@ -50,6 +50,6 @@ SameCarriers-KeepsAllEdits = record {
   offers = λ id peer origin s room few. (refl, refl);
 }
 
--- whether or not the call finds memory
+-- even if memory allocation fails
 pub leaves-SameCarriers : (call : Call) (s t : State) → Leaves call s t → SameCarriers s t
 leaves-SameCarriers = leaves-walk SameCarriers SameCarriers-KeepsAllEdits (λ s streams. (refl, refl))

@@ -1,5 +1,5 @@
--- Data of peers among the answers of a run is what a turn of the run gave.
-use Rattle.std.proofs.Common.{◌≡◌, List, [], ◌∷◌, Option, Some, None, refl, sym, subst, inl, inr}
+-- Data of peers among the replies of a run is the payload of an input of the run.
+use Rattle.std.proofs.Common.{◌≡◌, ◌∙◌, ap, ℕ, List, [], ◌∷◌, Option, Some, None, refl, sym, subst, inl, inr}
 use Rattle.std.specs.Prelude.{option_to_list}
 use Rattle.std.specs.List.{Contains}
 use Rattle.turn_client_api.specs.State.{State}
@@ -11,8 +11,17 @@ use Rattle.turn_client_api.specs.declared.call.Call.{Call}
 use Rattle.turn_client_api.specs.declared.call.Call.TheVariants.{Delete, CreatePermission, BindChannel, TcpConnect, AllocatedTcpSocket, TcpClosed, SendTo, Recv, PollRecv, Poll, PollTransmit, PollEvent, ProtocolError, RelayedAddresses, Permissions, HavePermission}
 use Rattle.turn_client_api.proofs.HasLemmas.{Has, has-left, has-right}
 use Rattle.turn_client_api.proofs.StandLemmas.{contains-has, has-contains}
-use Rattle.turn_client_runs.specs.Turns.{answered, answered_in}
-use Rattle.turn_client_runs.proofs.PeerLemmas.{all-answered, received}
+use Rattle.turn_client_runs.specs.Turns.{IsAmong, answered, answered_in, handled_in}
+use Rattle.turn_client_api.proofs.HandledLemmas.{recv-IsToldBy}
+use Rattle.turn_client_api.specs.Handled.{Turn, handled, made_of}
+use Rattle.turn_client_api.specs.LawsPeers.{IsToldBy}
+use Rattle.turn_client_runs.specs.Peers.{TellsOfPermitted}
+use Rattle.turn_client_runs.proofs.TurnsOfRuns.{among-left, among-right}
+use Rattle.std.specs.declared.net.socket_addr.SocketAddr.{SocketAddr}
+use Rattle.turn_stun.specs.declared.transport.Transmit.{Transmit}
+use Rattle.turn_stun.specs.declared.transport.TransportType.{TransportType}
+use Rattle.turn_types.specs.declared.attribute.icmp_report.Icmp.{Icmp}
+use Rattle.turn_client_runs.proofs.PeerLemmas.{all-answered, received, tells-permitted}
 use Rattle.turn_client_proto.specs.Heard.{GivesLetIn, IsHeard}
 use Rattle.turn_client_proto.specs.Run.{peer_data, poll_recv_reply, recv_reply, reply_of, replies_of}
 use Rattle.turn_client_proto.specs.declared.runs.reply.PeerData.{PeerData}
@@ -62,10 +71,77 @@ run-gives given s (call ∷ calls) (inr later) = by (run-gives given (state_afte
     by : IsOf given (answered_in (state_after call s) calls) → IsOf given (answered_in s (call ∷ calls))
     by (payload, same, there) = (payload, same, has-right payload (answered call s) (answered_in (state_after call s) calls) there)
 
--- data that a run answers came from a peer that was let in
-pub gives-let-in : (s : State) (calls : List Call) → GivesLetIn s calls
-gives-let-in s calls given there = by (run-gives given s calls (contains-has (Replies.PeerData given) (replies_of s calls) there))
+-- data that a run returns came from a permitted peer
+gives-data : (s : State) (calls : List Call) (given : PeerData) → Contains (replies_of s calls) (Replies.PeerData given) → IsHeard given s calls
+gives-data s calls given there = by (run-gives given s calls (contains-has (Replies.PeerData given) (replies_of s calls) there))
   where
     by : IsOf given (answered_in s calls) → IsHeard given s calls
     by (payload, same, among) =
         (payload, same, received payload s calls (subst (λ (l : List Payload). Contains l payload) (sym (all-answered s calls)) (has-contains payload (answered_in s calls) among)))
+
+-- ---- ICMP reports
+
+same-icmp : (x y : Icmp) → x.icmp_type ≡ y.icmp_type → x.code ≡ y.code → x.data ≡ y.data → x ≡ y
+same-icmp x y a b d =
+    ap (λ (n : ℕ). record { icmp_type = n; code = x.code; «data» = x.data }) a
+    ∙ (ap (λ (n : ℕ). record { icmp_type = y.icmp_type; code = n; «data» = x.data }) b
+    ∙ ap (λ (n : ℕ). record { icmp_type = y.icmp_type; code = y.code; «data» = n }) d)
+
+module _ (transport : TransportType) (peer : SocketAddr) (icmp : Icmp) where
+  abbrev Tells : Reply
+  Tells = Replies.PeerIcmp transport peer icmp.icmp_type icmp.code icmp.data
+
+  recv-tells : (o : Outcome) → Tells ≡ recv_reply o → o ≡ O.PeerIcmp transport peer icmp
+  recv-tells (O.PeerIcmp other to report) e =
+      let a : icmp.icmp_type ≡ report.icmp_type = cc in
+      let b : icmp.code ≡ report.code = cc in
+      let d : icmp.data ≡ report.data = cc in
+      let same : icmp ≡ report = same-icmp icmp report a b d in
+      cc
+  recv-tells (O.PeerData payload) e = absurd cc
+  recv-tells O.Handled e = absurd cc
+  recv-tells O.Ignored e = absurd cc
+
+  poll-tells : (o : Option Payload) → Tells ≡ poll_recv_reply o → ⊥
+  poll-tells None e = cc
+  poll-tells (Some payload) e = cc
+
+  abbrev Did : Turn → Type 0
+  Did one = ((made_of one).0 ≡ O.PeerIcmp transport peer icmp) × TellsOfPermitted one
+
+  packet-tells : (packet : Transmit (List ℕ)) (now : ℕ) (s : State) → (packet_step packet now s).0 ≡ O.PeerIcmp transport peer icmp → IsAmong Did (handled (Recv packet now) s)
+  packet-tells packet now s e = by (subst (λ (o : Outcome). IsToldBy o (Recv packet now) s) e (recv-IsToldBy packet now s))
+    where
+      by : IsToldBy (O.PeerIcmp transport peer icmp) (Recv packet now) s → IsAmong Did (handled (Recv packet now) s)
+      by (one, among, (told, exact)) = (one, among, (told, tells-permitted one))
+
+  call-tells : (call : Call) (s : State) → Tells ≡ reply_of call s → IsAmong Did (handled call s)
+  call-tells (Recv packet now) s e = packet-tells packet now s (recv-tells (packet_step packet now s).0 e)
+  call-tells (PollRecv now) s e = absurd (poll-tells (poll_recv_step now s).0 e)
+  call-tells (Delete now) s e = absurd cc
+  call-tells (CreatePermission other ip now) s e = absurd cc
+  call-tells (BindChannel other to now) s e = absurd cc
+  call-tells (TcpConnect to now) s e = absurd cc
+  call-tells (AllocatedTcpSocket id tuple to local now) s e = absurd cc
+  call-tells (TcpClosed local remote now) s e = absurd cc
+  call-tells (SendTo other to bytes now) s e = absurd cc
+  call-tells (Poll now) s e = absurd cc
+  call-tells (PollTransmit now) s e = absurd cc
+  call-tells PollEvent s e = absurd cc
+  call-tells ProtocolError s e = absurd cc
+  call-tells RelayedAddresses s e = absurd cc
+  call-tells (Permissions other relayed) s e = absurd cc
+  call-tells (HavePermission other to) s e = absurd cc
+
+  run-tells : (s : State) (calls : List Call) → Has Tells (replies_of s calls) → IsAmong Did (handled_in s calls)
+  run-tells s [] none = absurd none
+  run-tells s (call ∷ calls) (inl e) = among-left Did (handled call s) (handled_in (state_after call s) calls) (call-tells call s e)
+  run-tells s (call ∷ calls) (inr later) = among-right Did (handled call s) (handled_in (state_after call s) calls) (run-tells (state_after call s) calls later)
+
+pub gives-let-in : (s : State) (calls : List Call) → GivesLetIn s calls
+gives-let-in s calls = (
+  gives-data s calls,
+  λ transport peer icmp there.
+      run-tells transport peer icmp s calls
+      (contains-has (Replies.PeerIcmp transport peer icmp.icmp_type icmp.code icmp.data) (replies_of s calls) there),
+)

@@ -34,7 +34,7 @@ never-ends now s t none (u, (n, led), broken) =
     let empty : u.streams ≡ [] = ap (λ (x : State). x.streams) same ∙ none in
     rw empty at broken
 
--- no stream is there to be broken
+-- no stream exists that could be broken
 pub broken-none : (to : SocketAddr) (s : State) → s.streams ≡ [] → broken_at to s ≡ s
 broken-none to s none = by s.streams none
   where
@@ -50,7 +50,7 @@ own-datagram transport from to bytes now s udp own =
     let (first, second) = and_parts (is_from_server transport from s) (same_address to s.local) own in
     rw (first, udp, second) refl
 
--- ---- none come
+-- ---- no stream is added
 
 one-of : {A : Type 0} (b : Bool) (s : State) (x y : A × State) → Same s x.1 → Same s y.1 → Same s (cond b x y).1
 one-of true s x y p q = p
@@ -75,7 +75,7 @@ recv-same transport from to bytes now s udp = subst (λ (carrier : TransportType
         one-of (is_from_server transport from u) u _ (Ignored, u)
         (one-of (same_address to u.local) u (datagram_step bytes now u) (Ignored, u) (datagram-same bytes now u) refl) refl
 
--- what is over UDP opens no data connection
+-- a client over UDP, whose allocations relay over UDP, opens no data connection
 call-same : (call : Call) (s : State) → s.transport ≡ Udp → s.config.allocation_transport ≡ Udp → s.streams ≡ [] → Same s (state_after call s)
 call-same (Recv packet now) s carrier relays none = recv-same packet.transport packet.from packet.to packet.payload now s carrier
 call-same (PollRecv now) s carrier relays none = ap (λ (p : Option Payload × State). p.1.streams) (no-poll_recv now s none)
@@ -103,7 +103,7 @@ ends-same (Permissions transport relayed) s t carrier none ends = absurd ends
 ends-same (HavePermission transport to) s t carrier none ends = absurd ends
 ends-same call s t carrier none ends = ap (λ (x : State). x.streams) ends
 
--- whether or not the call finds memory
+-- even if memory allocation fails
 pub leaves-no_streams : (call : Call) (s t : State) → Leaves call s t → s.transport ≡ Udp → s.config.allocation_transport ≡ Udp → s.streams ≡ [] → t.streams ≡ []
 leaves-no_streams call s t (inl e) carrier relays none = ap (λ (x : State). x.streams) e ∙ (call-same call s carrier relays none ∙ none)
 leaves-no_streams call s t (inr ends) carrier relays none = ends-same call s t carrier none ends ∙ none

@@ -1,4 +1,4 @@
--- What holds of the calls of a run.
+-- What holds for the calls of a run.
 use Rattle.std.proofs.Common.{◌≡◌, ℕ, List, inl, refl}
 use Rattle.std.proofs.Math.ListN.{get_or}
 use Rattle.std.specs.Prelude.{All}
@@ -14,16 +14,16 @@ use Rattle.turn_client_runs.proofs.SleepLemmas.{run-sleeps}
 use Rattle.turn_client_proto.specs.Run.{IsCallable}
 use Rattle.turn_client_proto.proofs.CarrierLemmas.{leaves-SameCarriers}
 
--- no call changes what the allocations relay over
+-- no call changes the transport over which the allocations relay
 pub relays_stay : (call : Call) (s : State) → (state_after call s).config.allocation_transport ≡ s.config.allocation_transport
 relays_stay call s = (leaves-SameCarriers call s (state_after call s) (inl refl)).1
 
--- what can be called is polled in time
+-- a call that can be made polls at a time in range
 callable-polled : (relays : TransportType) (call : Call) → IsCallable relays call → IsPolledInTime call
 callable-polled relays (Poll now) c = c
 callable-polled relays _ c = tt
 
--- a new client that is called so sleeps through nothing
+-- a caller of a new client that makes such calls misses no deadline
 pub timely : (transport : TransportType) (local remote : SocketAddr) (config : Config) (seed : List ℕ) (calls : List Call) → All (IsCallable config.allocation_transport) calls → SleepsThroughNothing (initial transport local remote config seed) calls
 timely transport local remote config seed calls all =
     run-sleeps transport local remote config seed calls (λ k d less. callable-polled config.allocation_transport (get_or calls k d) (all k d less))

@@ -1,4 +1,4 @@
--- What a client over TCP keeps, each call keeps.
+-- What holds for a client over TCP holds after each call.
 use Rattle.std.proofs.Common.{◌≡◌, ◌∙◌, ℕ, List, true, false, Option, None, Some, Result, Ok, Err, IsOk, OnErr, OnOk, ap, inl, inr, refl, subst, sym}
 use Rattle.std.proofs.lemmas.Bool.{false_from_ne_true, false≢true}
 use Rattle.std.specs.declared.net.socket_addr.SocketAddr.{SocketAddr}

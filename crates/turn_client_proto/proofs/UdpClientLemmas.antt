@@ -1,4 +1,4 @@
--- What a client over UDP keeps, each call keeps.
+-- What holds for a client over UDP holds after each call.
 use Rattle.std.proofs.Common.{◌≡◌, ◌∙◌, ℕ, List, Result, Ok, Err, OnErr, OnOk, ap, inl, inr, refl, subst, sym}
 use Rattle.std.specs.declared.net.socket_addr.SocketAddr.{SocketAddr}
 use Rattle.turn_stun.specs.declared.transport.TransportType.TheVariants.{Udp}

@@ -1,18 +1,32 @@
--- What the answers of a run give of peers (RFC 8656, sections 11.6 and 12.6; RFC 6062, section 4.3).
+-- What the replies of a run return of peers (RFC 8656, sections 11.6 and 12.6; RFC 6062, section
+-- 4.3).
 use Rattle.std.specs.Prelude.{◌≡◌, List}
 use Rattle.std.specs.List.{Contains}
 use Rattle.turn_client_api.specs.State.{State}
-use Rattle.turn_client_api.specs.Payloads.{Payload}
+use Rattle.turn_client_api.specs.Payloads.{Payload, PeerIcmp}
+use Rattle.std.specs.declared.net.socket_addr.SocketAddr.{SocketAddr}
+use Rattle.turn_stun.specs.declared.transport.TransportType.{TransportType}
+use Rattle.turn_types.specs.declared.attribute.icmp_report.Icmp.{Icmp}
+use Rattle.turn_client_api.specs.Handled.{made_of}
+use Rattle.turn_client_runs.specs.Turns.{IsAmong, handled_in}
 use Rattle.turn_client_api.specs.declared.call.Call.{Call}
-use Rattle.turn_client_runs.specs.Peers.{IsReceived}
+use Rattle.turn_client_runs.specs.Peers.{IsDeliveredIn, TellsOfPermitted}
 use Rattle.turn_client_proto.specs.Run.{peer_data, replies_of}
 use Rattle.turn_client_proto.specs.declared.runs.reply.PeerData.{PeerData}
 use Rattle.turn_client_proto.specs.declared.runs.reply.Reply.TheVariants as Replies
 
--- it is what a turn of the calls gave of a peer that was let in when the turn came
+-- it is the payload of an input of the calls, whose peer was permitted when the input was processed
 abbrev pub IsHeard : PeerData → State → List Call → Type 0
-IsHeard given s calls = (payload : Payload) × (peer_data payload ≡ given) × IsReceived payload s calls
+IsHeard given s calls = (payload : Payload) × (peer_data payload ≡ given) × IsDeliveredIn payload s calls
 
--- so is all data of peers among the answers of the calls
+-- one of the inputs gave this ICMP report, for a permitted peer
+abbrev pub IsTold : TransportType → SocketAddr → Icmp → State → List Call → Type 0
+IsTold transport peer icmp s calls =
+    IsAmong (λ one. ((made_of one).0 ≡ PeerIcmp transport peer icmp) × TellsOfPermitted one) (handled_in s calls)
+
+-- so is all data of peers among the replies to the calls, and every ICMP report
 abbrev pub GivesLetIn : State → List Call → Type 0
-GivesLetIn s calls = (given : PeerData) → Contains (replies_of s calls) (Replies.PeerData given) → IsHeard given s calls
+GivesLetIn s calls =
+    ((given : PeerData) → Contains (replies_of s calls) (Replies.PeerData given) → IsHeard given s calls)
+    × ((transport : TransportType) (peer : SocketAddr) (icmp : Icmp)
+    → Contains (replies_of s calls) (Replies.PeerIcmp transport peer icmp.icmp_type icmp.code icmp.«data») → IsTold transport peer icmp s calls)

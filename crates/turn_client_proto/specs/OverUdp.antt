@@ -1,4 +1,4 @@
--- What a client over UDP keeps, and what it tells of a datagram.
+-- What holds for every client over UDP, and what it returns for a datagram.
 use Rattle.std.specs.Prelude.{◌≡◌, ◌≤◌, ℕ, List, [], length, ⊤}
 use Rattle.turn_stun.specs.declared.transport.TransportType.TheVariants.{Udp}
 use Rattle.turn_client_api.specs.LawsHoused.{IsHoused}
@@ -7,8 +7,8 @@ use Rattle.turn_client_api.specs.State.{State}
 use Rattle.turn_client_core.specs.declared.told.Told.{Told}
 use Rattle.turn_client_core.specs.declared.told.Told.TheVariants as T
 
--- It has no streams: an allocation over TCP needs a client over TCP (RFC 6062, section 4.1). The rest is what
--- every client keeps.
+-- It has no streams: an allocation over TCP needs a client over TCP (RFC 6062, section 4.1). The rest holds
+-- for every client.
 pub record IsUdpClient (s : State) : Type 0 where
   pub carrier : s.transport ≡ Udp
   pub relays : s.config.allocation_transport ≡ Udp
@@ -16,7 +16,7 @@ pub record IsUdpClient (s : State) : Type 0 where
   pub steady : IsSteady s
   pub housed : IsHoused s
 
--- data of a peer stands in these bytes
+-- data of a peer is a range of these bytes
 abbrev pub IsWithin : List ℕ → Told → Type 0
 IsWithin bytes (T.PeerData transport peer range) = (range.start ≤ range.end) × (range.end ≤ length bytes)
 IsWithin bytes _ = ⊤

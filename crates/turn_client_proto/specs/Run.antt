@@ -22,11 +22,11 @@ use Rattle.turn_client_proto.specs.declared.runs.reply.Reply.TheVariants as Repl
 
 -- ---- one call
 
--- what a peer sent, whoever holds it
+-- data of a peer, whether its bytes are owned or a range
 abbrev pub peer_data : Payload → PeerData
 peer_data payload = record { transport = payload.transport; peer = payload.peer; «data» = payload.bytes }
 
--- the answer of `recv`
+-- the reply of `recv`
 abbrev pub recv_reply : Outcome → Reply
 recv_reply O.Handled = Replies.Handled
 recv_reply O.Ignored = Replies.Ignored
@@ -34,12 +34,12 @@ recv_reply (O.PeerData payload) = Replies.PeerData (peer_data payload)
 recv_reply (O.PeerIcmp transport peer icmp) =
     Replies.PeerIcmp transport peer icmp.icmp_type icmp.code icmp.«data»
 
--- the answer of `poll_recv`
+-- the reply of `poll_recv`
 abbrev pub poll_recv_reply : Option Payload → Reply
 poll_recv_reply None = Replies.NoData
 poll_recv_reply (Some payload) = Replies.PeerData (peer_data payload)
 
--- the answer of the call, which finds memory
+-- the reply of the call if no memory allocation fails
 abbrev pub reply_of : Call → State → Reply
 reply_of (Delete now) s = Replies.Delete (delete_step now s).0
 reply_of (CreatePermission transport peer now) s = Replies.CreatePermission (create_permission_step transport peer now s).0
@@ -58,17 +58,17 @@ reply_of RelayedAddresses s = Replies.RelayedAddresses (relayed_addresses_of s)
 reply_of (Permissions transport relayed) s = Replies.Permissions (permissions_of transport relayed s)
 reply_of (HavePermission transport to) s = Replies.HavePermission (has_permission transport to s)
 
--- the answer, and the client after it
+-- the reply, and the client after it
 abbrev pub step : State → Call → Reply × State
 step s call = (reply_of call s, state_after call s)
 
 -- ---- calls that can be made
 
--- where the server relays over UDP a packet carries the data for a peer
+-- if the server relays over UDP, a packet can carry the data to a peer
 abbrev pub IsShort : TransportType → List ℕ → Type 0
 IsShort transport bytes = transport ≡ Udp → length bytes ≤ 65504
 
--- a client whose allocations relay over this transport can be asked so
+-- the call can be made on a client whose allocations relay over this transport
 abbrev pub IsCallable : TransportType → Call → Type 0
 IsCallable relays (Delete now) = now ≤ 2 ^ 62
 IsCallable relays (CreatePermission transport peer now) = now ≤ 2 ^ 62
@@ -89,12 +89,12 @@ IsCallable relays (HavePermission transport to) = ⊤
 
 -- ---- many calls
 
--- the answers of the calls, one after the other
+-- the replies to the calls in order
 abbrev pub replies_of : State → List Call → List Reply
 replies_of s [] = []
 replies_of s (call ∷ calls) = reply_of call s ∷ replies_of (state_after call s) calls
 
--- the answers of a new client and its last state
+-- the replies of a new client and its last state
 abbrev pub run : TransportType → SocketAddr → SocketAddr → Config → List ℕ → List Call → List Reply × State
 run transport local remote config seed calls = (
   replies_of (initial transport local remote config seed) calls,

@@ -1,8 +1,8 @@
-//! What every client does, and what it is handed and answers.
+//! The interface of every client, with its parameters and results.
 //!
-//! A client reads no clock and opens no socket. Its caller hands in what came and the moment, sends
-//! what `poll_transmit` gives, takes what `poll_event` gives, and calls again at the moment that
-//! `poll` tells.
+//! A client reads no clock and opens no socket. Its caller passes in the bytes that it receives and
+//! the current time, sends the packets that `poll_transmit` returns, processes the events that
+//! `poll_event` returns, and calls `poll` again at the time that it returned.
 
 pub use turn_client_api::{
     BindChannelError, CreatePermissionError, Data, DataRange, DataRangeOrOwned,

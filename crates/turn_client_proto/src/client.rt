@@ -1,4 +1,4 @@
-//! A client over whichever transport.
+//! A client over UDP or TCP.
 
 use crate::tcp::TurnClientTcp;
 use crate::udp::TurnClientUdp;
@@ -18,7 +18,7 @@ use turn_stun::data::Data;
 use turn_stun::instant::Instant;
 use turn_stun::transport::{Transmit, TransportType};
 
-/// A client over whichever transport.
+/// A client over UDP or TCP.
 #[derive(Debug, Drop)]
 pub enum TurnClient {
     /// It reaches its server over UDP.
@@ -50,6 +50,10 @@ impl From<TurnClientTcp> for TurnClient {
 }
 
 impl TurnClientApi for TurnClient {
+    ghost use Rattle.std.specs.Prelude.{◌≡◌, ◌≤◌, ◌^◌, IfOk, IsOk};
+    ghost use Rattle.turn_client_api.specs.Alarm.{IsTimely};
+    ghost use Rattle.turn_client_api.specs.Poll.{poll_step};
+    ghost use Rattle.turn_client_api.specs.Receive.{tcp_closed_step};
     ghost use Rattle.turn_client_proto.specs.Client.{state_of};
 
     ghost state = { state_of };
@@ -161,7 +165,10 @@ impl TurnClientApi for TurnClient {
         local_addr: SocketAddr,
         remote_addr: SocketAddr,
         now: Instant,
-    ) -> Result<(), AllocError> {
+    ) -> Result<(), AllocError>
+        ensures after { state_of self.new ≡ tcp_closed_step local_addr remote_addr (state_of self.old) }
+        ensures free { IsOk result }
+    {
         match self {
             TurnClient::Udp(client) => client.tcp_closed(local_addr, remote_addr, now),
             TurnClient::Tcp(client) => client.tcp_closed(local_addr, remote_addr, now),
@@ -199,7 +206,13 @@ impl TurnClientApi for TurnClient {
         }
     }
 
-    fn poll(&mut self, now: Instant) -> Result<TurnPollRet, AllocError> {
+    fn poll(&mut self, now: Instant) -> Result<TurnPollRet, AllocError>
+        requires moment { now ≤ 2 ^ 62 }
+        ensures answer { IfOk result (λ answer. answer ≡ (poll_step now (state_of self.old)).0) }
+        ensures after { state_of self.new ≡ (poll_step now (state_of self.old)).1 }
+        ensures alarm { IfOk result (λ answer. IsTimely answer now (state_of self.old) (state_of self.new)) }
+        ensures free { IsOk result }
+    {
         match self {
             TurnClient::Udp(client) => client.poll(now),
             TurnClient::Tcp(client) => client.poll(now),

@@ -1,5 +1,5 @@
-//! TURN clients without IO: the caller hands in bytes, moments and a seed, and gets packets, events
-//! and the next moment to call again.
+//! TURN clients without IO: the caller passes in bytes, times and a seed, and gets packets, events and
+//! the next time to call `poll`.
 //!
 //! ```text
 //!           sockets, clock                 this crate
@@ -8,7 +8,7 @@
 //! ```
 //!
 //! Begin with [`udp::TurnClientUdp`] or [`tcp::TurnClientTcp`], and with [`api::TurnClientApi`] for the
-//! calls of a client, which has a caller's loop. [`client::TurnClient`] is either of them.
+//! calls of a client and a caller's loop. [`client::TurnClient`] is either of the two clients.
 //!
 //! ```rust
 //! let config = TurnConfig::new(alloc, TurnCredentials::new(alloc, b"user", b"pass")?);
@@ -16,15 +16,16 @@
 //! while let Some(packet) = client.poll_transmit(now)? {
 //!     send(packet);
 //! }
-//! // once poll_event told of an address
+//! // once poll_event has reported a relayed address
 //! client.create_permission(TransportType::Udp, peer.ip(), now)?;
-//! // and once it told of the permission
+//! // and once it has reported the permission
 //! if let Some(packet) = client.send_to(TransportType::Udp, peer, data, now)? {
 //!     send(packet.build(alloc)?);
 //! }
 //! ```
 //!
-//! [`reply_to`] makes a call that is a value on any client, and [`replay`] a list of them on a new one.
+//! [`reply_to`] makes one call, given as a value, on any client, and [`replay`] a list of calls on a
+//! new one.
 #![tactic(auto)]
 
 pub mod api;

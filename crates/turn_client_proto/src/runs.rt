@@ -1,4 +1,4 @@
-//! Whole runs of a client: calls in, answers out.
+//! Whole runs of a client: a list of calls in, a list of replies out.
 
 mod addresses;
 mod asks;

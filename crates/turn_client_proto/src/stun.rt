@@ -1,4 +1,4 @@
-//! STUN: messages, moments and packets, credentials, and requests that are sent again.
+//! STUN: messages, times and packets, credentials, and requests with their retransmissions.
 
 pub use turn_agent::{agent, number_source, schedule};
 pub use turn_auth as auth;

@@ -1,7 +1,9 @@
 //! A client that reaches its server over TCP.
 
-ghost use Rattle.std.specs.Prelude.{◌≡◌, IfOk};
-ghost use Rattle.turn_client_api.specs.Receive.{is_from_server};
+ghost use Rattle.std.specs.Prelude.{◌≡◌, ◌≤◌, ◌^◌, IfOk, IsOk};
+ghost use Rattle.turn_client_api.specs.Alarm.{IsTimely};
+ghost use Rattle.turn_client_api.specs.Poll.{poll_step};
+ghost use Rattle.turn_client_api.specs.Receive.{is_from_server, tcp_closed_step};
 ghost use Rattle.turn_client_api.specs.State.{initial};
 
 use std::alloc::{AllocError, Global};
@@ -22,8 +24,8 @@ use turn_stun::data::Data;
 use turn_stun::instant::Instant;
 use turn_stun::transport::{Transmit, TransportType};
 
-/// A client that reaches its server over TCP, for allocations over UDP or over TCP. Contracts see its
-/// `State`.
+/// A client that reaches its server over TCP, for allocations over UDP or over TCP. Contracts describe it
+/// by its `State`.
 #[derive(Debug, Drop)]
 pub struct TurnClientTcp {
     core: TurnClientProtocol,
@@ -42,15 +44,15 @@ impl Model for TurnClientTcp {
 
 impl TurnClientTcp {
     /// A client whose control connection goes from `local` to the server at `remote`, and which draws its
-    /// transaction IDs from this seed. It has asked for nothing yet: `poll_transmit` gives the first
+    /// transaction IDs from this seed. It has requested nothing yet: `poll_transmit` returns the first
     /// request.
     ///
-    /// RFC 8489, section 5, wants IDs that cannot be guessed. They are as good as the seed is secret.
-    /// What is asked for relays over UDP, or over TCP (RFC 6062, section 4.1), as the configuration says.
+    /// RFC 8489, section 5, requires IDs that cannot be guessed. They are as good as the seed is secret.
+    /// The allocation relays over UDP, or over TCP (RFC 6062, section 4.1), as the configuration says.
     ///
     /// # Errors
     ///
-    /// There is no memory.
+    /// If memory allocation fails.
     pub fn allocate(
         alloc: Global,
         local: SocketAddr,
@@ -64,7 +66,7 @@ impl TurnClientTcp {
         Ok(TurnClientTcp { core })
     }
 
-    /// Whether what came this way is of a stream of the server.
+    /// Whether bytes from this address over this transport belong to a stream of the server.
     fn is_from_server(&self, transport: TransportType, from: SocketAddr) -> bool
         ensures value { result ≡ is_from_server transport from self.now }
         ensures carrier { self.now.transport ≡ TransportType.Tcp }
@@ -147,7 +149,10 @@ impl TurnClientApi for TurnClientTcp {
         local_addr: SocketAddr,
         remote_addr: SocketAddr,
         _now: Instant,
-    ) -> Result<(), AllocError> {
+    ) -> Result<(), AllocError>
+        ensures after { self.new ≡ tcp_closed_step local_addr remote_addr self.old }
+        ensures free { IsOk result }
+    {
         self.core.tcp_closed(local_addr, remote_addr);
         Ok(())
     }
@@ -177,8 +182,14 @@ impl TurnClientApi for TurnClientTcp {
         self.core.poll_recv(now)
     }
 
-    fn poll(&mut self, now: Instant) -> Result<TurnPollRet, AllocError> {
-        self.core.poll(now)
+    fn poll(&mut self, now: Instant) -> Result<TurnPollRet, AllocError>
+        requires moment { now ≤ 2 ^ 62 }
+        ensures answer { IfOk result (λ answer. answer ≡ (poll_step now self.old).0) }
+        ensures after { self.new ≡ (poll_step now self.old).1 }
+        ensures alarm { IfOk result (λ answer. IsTimely answer now self.old self.new) }
+        ensures free { IsOk result }
+    {
+        Ok(self.core.poll(now))
     }
 
     fn poll_transmit(&mut self, now: Instant) -> Result<Option<Transmit<Data>>, AllocError> {

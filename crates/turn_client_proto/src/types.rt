@@ -1,4 +1,5 @@
-//! What TURN adds to STUN: attributes, channel frames, and packets that are built when they are sent.
+//! What TURN adds to STUN: attributes, ChannelData messages, and packets that are built when they are
+//! sent.
 
 pub use turn_auth::credentials::TurnCredentials;
 pub use turn_types::{

@@ -1,11 +1,14 @@
 //! A client that reaches its server over UDP.
 
-ghost use Rattle.std.specs.Prelude.{◌≡◌, ◌&&◌, [], IfOk, IsOk, OnErr, OnOk, true};
+ghost use Rattle.std.specs.Prelude.{◌≡◌, ◌≤◌, ◌^◌, ◌&&◌, [], IfOk, IsOk, OnErr, OnOk, true};
 ghost use Rattle.turn_agent.specs.Agent.{same_address};
+ghost use Rattle.turn_client_api.specs.Alarm.{IsTimely};
 ghost use Rattle.turn_client_api.specs.Answers.{HandsBack, datagram_takes_none, outcome_of};
 ghost use Rattle.turn_client_api.specs.Effect.{closed};
+ghost use Rattle.turn_client_api.specs.Memory.{packet_takes_memory};
 ghost use Rattle.turn_client_api.specs.Payloads.{datagram_step};
-ghost use Rattle.turn_client_api.specs.Receive.{is_from_server};
+ghost use Rattle.turn_client_api.specs.Poll.{poll_step};
+ghost use Rattle.turn_client_api.specs.Receive.{is_from_server, tcp_closed_step};
 ghost use Rattle.turn_client_api.specs.State.{initial};
 ghost use Rattle.turn_client_core.specs.Told.{outcome_in};
 ghost use Rattle.turn_client_proto.specs.OverUdp.{IsWithin};
@@ -28,7 +31,7 @@ use turn_stun::data::Data;
 use turn_stun::instant::Instant;
 use turn_stun::transport::{Transmit, TransportType};
 
-/// A client that reaches its server over UDP. Contracts see its `State`.
+/// A client that reaches its server over UDP. Contracts describe it by its `State`.
 #[derive(Debug, Drop)]
 pub struct TurnClientUdp {
     core: TurnClientProtocol,
@@ -46,16 +49,16 @@ impl Model for TurnClientUdp {
 }
 
 impl TurnClientUdp {
-    /// A client that sends from `local` to the server at `remote`, and draws its transaction IDs from
-    /// this seed. It has asked for nothing yet: `poll_transmit` gives the first request.
+    /// A client that sends from `local` to the server at `remote`, and draws its transaction IDs from this
+    /// seed. It has requested nothing yet: `poll_transmit` returns the first request.
     ///
-    /// RFC 8489, section 5, wants IDs that cannot be guessed. They are as good as the seed is secret.
-    /// What is asked for relays over UDP, since an allocation over TCP needs a client over TCP (RFC
-    /// 6062, section 4.1).
+    /// RFC 8489, section 5, requires IDs that cannot be guessed. They are as good as the seed is secret.
+    /// The allocation relays over UDP, since an allocation over TCP needs a client over TCP (RFC 6062,
+    /// section 4.1).
     ///
     /// # Errors
     ///
-    /// There is no memory.
+    /// If memory allocation fails.
     pub fn allocate(
         alloc: Global,
         local: SocketAddr,
@@ -70,7 +73,7 @@ impl TurnClientUdp {
         Ok(TurnClientUdp { core })
     }
 
-    /// Whether what came this way is a datagram of the server to the client.
+    /// Whether a packet with these addresses is a datagram of the server to the client.
     fn is_from_server(&self, transport: TransportType, from: SocketAddr, to: SocketAddr) -> bool
         ensures value { result ≡ (is_from_server transport from self.now && same_address to self.now.local) }
         ensures carrier { self.now.transport ≡ TransportType.Udp }
@@ -80,25 +83,26 @@ impl TurnClientUdp {
             && to == self.core.local_addr()
     }
 
-    /// Takes a datagram of the server.
+    /// Processes a datagram of the server.
     ///
     /// # Errors
     ///
-    /// There is no memory. The client has ended then, and nothing else has changed.
+    /// If memory allocation for a message fails. The client has ended then, and nothing else has changed.
     fn datagram(&mut self, bytes: &[u8], now: Instant) -> Result<Told, AllocError>
         ensures answer { IfOk result (λ told. outcome_in bytes.now told ≡ (datagram_step bytes.now now self.old).0) }
         ensures within { IfOk result (IsWithin bytes.now) }
         ensures after { OnOk result (self.new ≡ (datagram_step bytes.now now self.old).1) }
         ensures no_memory { OnErr result (self.new ≡ closed self.old) }
         ensures free { datagram_takes_none bytes.now ≡ true → IsOk result }
+        ensures wanted { OnErr result (packet_takes_memory bytes.now self.old ≡ true) }
         ensures no_streams { self.old.streams ≡ [] }
     {
         self.core.datagram(bytes, now)
     }
 }
 
-/// What the caller is told of its packet: data of a peer is a part of the packet, and what was not for the
-/// client is handed back.
+/// The result that the caller gets for its packet: data of a peer is a range of the packet, and a packet
+/// that is not for the client is returned.
 fn answer_of<T: AsSlice<u8> + Debug + Drop>(told: Told, transmit: Transmit<T>) -> TurnRecvRet<T>
     requires { IsWithin (T.items transmit.payload) told }
     ensures answer { outcome_of result ≡ outcome_in (T.items transmit.payload) told }
@@ -196,7 +200,10 @@ impl TurnClientApi for TurnClientUdp {
         local_addr: SocketAddr,
         remote_addr: SocketAddr,
         _now: Instant,
-    ) -> Result<(), AllocError> {
+    ) -> Result<(), AllocError>
+        ensures after { self.new ≡ tcp_closed_step local_addr remote_addr self.old }
+        ensures free { IsOk result }
+    {
         self.core.tcp_closed(local_addr, remote_addr);
         Ok(())
     }
@@ -231,8 +238,14 @@ impl TurnClientApi for TurnClientUdp {
         Ok(None)
     }
 
-    fn poll(&mut self, now: Instant) -> Result<TurnPollRet, AllocError> {
-        self.core.poll(now)
+    fn poll(&mut self, now: Instant) -> Result<TurnPollRet, AllocError>
+        requires moment { now ≤ 2 ^ 62 }
+        ensures answer { IfOk result (λ answer. answer ≡ (poll_step now self.old).0) }
+        ensures after { self.new ≡ (poll_step now self.old).1 }
+        ensures alarm { IfOk result (λ answer. IsTimely answer now self.old self.new) }
+        ensures free { IsOk result }
+    {
+        Ok(self.core.poll(now))
     }
 
     fn poll_transmit(&mut self, now: Instant) -> Result<Option<Transmit<Data>>, AllocError> {

@@ -1,4 +1,4 @@
--- What requests ask, and how long they are.
+-- What requests contain, and how long they are.
 use Rattle.std.proofs.Common.{◌≡◌, ℕ, ◌+◌, ◌≤◌, List, [], ◌∷◌, None, length, refl, sym, ap, ◌∙◌, arith}
 use Rattle.std.proofs.lemmas.List.{length-drop}
 use Rattle.std.specs.declared.net.socket_addr.SocketAddr.{SocketAddr}
@@ -21,7 +21,7 @@ use Rattle.turn_client_api.specs.declared.grant.Purpose.{Purpose}
 use Rattle.turn_client_api.specs.declared.grant.Purpose.TheVariants.{ForAllocation, ForRefresh, ForPermission, ForChannel, ForConnect, ForBind}
 use Rattle.turn_client_requests.specs.Asked.{AddsAsked, IsAskedLen}
 
--- two families are asked for by the additional one
+-- two families are requested by the additional one
 pub two_families : (families : List AddressFamily) → 2 ≤ length families → family_attributes families ≡ attribute additional_family_kind (family_value IPV6) ∷ []
 two_families [] h = absurd (omega arith)
 two_families (a ∷ []) h = absurd (omega arith)
@@ -36,7 +36,7 @@ request_class (ForChannel number peer) = refl
 request_class (ForConnect peer) = refl
 request_class (ForBind local peer connection_id) = refl
 
--- what is said of every client holds of one
+-- what holds for every client holds for one
 somewhere : SocketAddr
 somewhere = V4 (xor_v4 [] 0)
 
@@ -51,7 +51,7 @@ someone =
       request_timers = None;
     }) []
 
--- a request is as long as it was told to become when it was begun
+-- a request is as long as the length with which it was begun
 pub as_long_as_told : (auth : ClientAuth) (transport : TransportType) (families : List AddressFamily) (purpose : Purpose) (id asked signature : ℕ) (begun message text : List ℕ) → IsMessage begun (type_number (method_for purpose) Request) id [] → AddsAsked transport families purpose begun message → IsAskedLen transport families purpose asked → signature ≡ signature_len auth Request → length text ≡ signed_len auth message → length text ≡ 20 + asked + signature
 as_long_as_told auth transport families purpose id asked signature begun message text is adds told signs signed =
     let all = adds someone in

@@ -1,4 +1,4 @@
--- What a client asks for.
+-- What a client requests.
 use Rattle.std.specs.Prelude.{◌≡◌, ℕ, List}
 use Rattle.turn_stun.specs.Message.{id_of}
 use Rattle.turn_stun.specs.declared.transport.TransportType.{TransportType}
@@ -9,22 +9,22 @@ use Rattle.turn_client_api.specs.Requests.{asked_attributes, request_for}
 use Rattle.turn_client_api.specs.State.{State, auth_of}
 use Rattle.turn_client_api.specs.declared.grant.Purpose.{Purpose}
 
--- the client where it asks for addresses of these families that relay over this transport
+-- the client if it requests addresses of these families that relay over this transport
 abbrev pub asking : TransportType → List AddressFamily → State → State
 asking transport families s =
     record s { config = record s.config { allocation_transport = transport }; families = families }
 
--- the new message is the old one with what is asked for the purpose, whatever else the client's state is
+-- the new message is the old one with the attributes for the purpose, whatever else the client's state is
 abbrev pub AddsAsked : TransportType → List AddressFamily → Purpose → List ℕ → List ℕ → Type 0
 AddsAsked transport families purpose old new =
     (s : State) → AddsAll old new (asked_attributes (asking transport families s) purpose (id_of old))
 
--- what is asked for the purpose takes this many bytes, whatever else the client's state is
+-- the attributes for the purpose take this many bytes, whatever else the client's state is
 abbrev pub IsAskedLen : TransportType → List AddressFamily → Purpose → ℕ → Type 0
 IsAskedLen transport families purpose len =
     (s : State) (id : ℕ) → additions_len (asked_attributes (asking transport families s) purpose id) ≡ len
 
--- the text is the request for the purpose, of every client that signs so
+-- the text is the request for the purpose, of every client that signs with this `ClientAuth`
 abbrev pub IsRequestFor : ClientAuth → TransportType → List AddressFamily → Purpose → ℕ → List ℕ → Type 0
 IsRequestFor auth transport families purpose id text =
     (s : State) → auth_of s ≡ auth → text ≡ request_for (asking transport families s) purpose id

@@ -1,4 +1,5 @@
--- Why a client refuses a connection that the server tells of (RFC 8489, section 14.8, and RFC 6062, section 6.3).
+-- Why a client refuses a connection that the server offers (RFC 8489, section 14.8, and RFC 6062, section
+-- 6.3).
 use Rattle.std.specs.Prelude.{ℕ, List, codes}
 use Rattle.turn_client_api.specs.Requests.{bad_request, connection_already_exists, connection_timed_out}
 use Rattle.turn_client_requests.specs.declared.reply.AttemptRefusal.{AttemptRefusal}

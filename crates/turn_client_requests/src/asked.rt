@@ -1,4 +1,4 @@
-//! What each request asks.
+//! The attributes of each request.
 
 ghost use Rattle.std.specs.Prelude.{◌≡◌, ◌≤◌, ◌+◌, length, true, OnOk};
 ghost use Rattle.turn_stun.specs.Message.{attributes_of};
@@ -22,8 +22,8 @@ use turn_types::message::{
     ALLOCATE, CHANNEL_BIND, CONNECT, CONNECTION_BIND, CREATE_PERMISSION, REFRESH,
 };
 
-/// How long an allocation is to live, in seconds (our choice: RFC 8656, section 7.2, lets a server grant up
-/// to an hour, and ten minutes are its default).
+/// The requested lifetime of an allocation, in seconds (our choice: RFC 8656, section 7.2, lets a server
+/// grant up to an hour, and ten minutes are its default).
 pub(crate) const LIFETIME_SECONDS: u32 = 1_800;
 
 /// The method of a request for this purpose.
@@ -40,7 +40,7 @@ pub(crate) fn method_for(purpose: &Purpose) -> Method
     }
 }
 
-/// Adds to a header what a request for this purpose asks.
+/// Adds to a header the attributes of a request for this purpose.
 pub(crate) fn add_asked(
     message: &mut MessageWriteVec,
     transport: TransportType,
@@ -106,8 +106,8 @@ pub(crate) fn families_len(families: &[AddressFamily]) -> usize
     }
 }
 
-/// Adds which addresses are asked for: an IPv6 one beside the IPv4 one, an IPv6 one alone, or nothing, which
-/// stands for IPv4 (RFC 8656, section 7.1).
+/// Adds the requested address families: an IPv6 one in addition to the IPv4 one, an IPv6 one alone, or
+/// nothing, which means IPv4 (RFC 8656, section 7.1).
 pub(crate) fn add_families(
     message: &mut MessageWriteVec,
     families: &[AddressFamily],
@@ -123,7 +123,7 @@ pub(crate) fn add_families(
     }
 }
 
-/// The IP address with the port 0, as a permission has it (RFC 8656, section 9.1).
+/// The IP address with the port 0, as in a CREATE_PERMISSION (RFC 8656, section 9.1).
 fn without_port(ip: IpAddr) -> SocketAddr
     ensures { result ≡ without_port ip }
 {

@@ -2,14 +2,14 @@
 //! server's own requests (RFC 8656, sections 7 to 12, and RFC 6062, section 4). No IO.
 //!
 //! Begin with [`request_for`], the signed request for a `Purpose`. The first ALLOCATE is not signed, and
-//! [`request_under`] signs as a challenge asks that the client does not hold yet.
+//! [`request_under`] signs with a challenge that the client does not hold yet.
 //!
 //! ```rust
 //! let first = first_allocate(alloc, TransportType::Udp, &families, id)?;
 //! let permit = request_for(alloc, &auth, TransportType::Udp, &families, &Purpose::ForPermission(ip), id)?;
 //! ```
 //!
-//! Which request is made and when it goes out is left to the crates above.
+//! Which request is made and when it is sent is left to the crates above.
 #![tactic(auto)]
 
 mod asked;

@@ -14,13 +14,12 @@ use turn_stun::message::header::MessageClass;
 use turn_stun::transaction::TransactionId;
 use turn_types::message::CONNECTION_ATTEMPT;
 
-/// Why a connection that the server tells of is refused (RFC 8489, section 14.8, and RFC 6062, section
-/// 6.3).
+/// Why a connection that the server offers is refused (RFC 8489, section 14.8, and RFC 6062, section 6.3).
 #[derive(Clone, Copy, Debug, PartialEq, Eq)]
 pub enum AttemptRefusal {
     /// 400: no connection ID, no peer, or no allocation over TCP for that peer.
     BadRequest,
-    /// 446: there is a connection to this peer, or one comes.
+    /// 446: a connection to this peer exists, or is pending.
     ConnectionAlreadyExists,
     /// 447: the caller could not open the data connection.
     ConnectionTimeoutOrFailure,
@@ -51,12 +50,12 @@ impl AttemptRefusal {
     }
 }
 
-/// The success response to the server's request of this ID: the data connection is open. It carries the
+/// The success response to the server's request with this ID: the data connection is open. It carries the
 /// integrity alone (RFC 8489, section 9.2.4).
 ///
 /// # Errors
 ///
-/// `AllocError` where there is no memory.
+/// `AllocError` if memory allocation fails.
 pub fn accepted_reply(
     alloc: Global,
     auth: &LongTermClientAuth,
@@ -72,11 +71,11 @@ pub fn accepted_reply(
     Ok(text)
 }
 
-/// The error response to the server's request of this ID.
+/// The error response to the server's request with this ID.
 ///
 /// # Errors
 ///
-/// `AllocError` where there is no memory.
+/// `AllocError` if memory allocation fails.
 pub fn refused_reply(
     alloc: Global,
     auth: &LongTermClientAuth,

@@ -28,7 +28,7 @@ use turn_types::message::{ALLOCATE, REFRESH};
 ///
 /// # Errors
 ///
-/// `AllocError` where there is no memory.
+/// `AllocError` if memory allocation fails.
 pub fn first_allocate(
     alloc: Global,
     transport: TransportType,
@@ -50,12 +50,12 @@ pub fn first_allocate(
     Ok(Data::from(message.finish()))
 }
 
-/// The request for this purpose, signed by what the client holds. Where it is an ALLOCATE, it asks for
+/// The request for this purpose, signed with what the client holds. If it is an ALLOCATE, it requests
 /// addresses of these families that relay over this transport.
 ///
 /// # Errors
 ///
-/// `AllocError` where there is no memory.
+/// `AllocError` if memory allocation fails.
 pub fn request_for(
     alloc: Global,
     auth: &LongTermClientAuth,
@@ -76,11 +76,11 @@ pub fn request_for(
     Ok(text)
 }
 
-/// The request for this purpose, as `request_for` gives it once the client holds this challenge.
+/// The request for this purpose, as `request_for` returns it once the client holds this challenge.
 ///
 /// # Errors
 ///
-/// `AllocError` where there is no memory.
+/// `AllocError` if memory allocation fails.
 pub fn request_under(
     alloc: Global,
     auth: &LongTermClientAuth,
@@ -102,12 +102,12 @@ pub fn request_under(
     Ok(text)
 }
 
-/// The REFRESH that gives all allocations back, with a lifetime of 0 (RFC 8656, section 8). `id` is the
-/// client's next transaction ID.
+/// The REFRESH with lifetime 0 that deletes all allocations (RFC 8656, section 8). `id` is the client's
+/// next transaction ID.
 ///
 /// # Errors
 ///
-/// `AllocError` where there is no memory.
+/// `AllocError` if memory allocation fails.
 pub fn delete_request(
     alloc: Global,
     auth: &LongTermClientAuth,

@@ -32,8 +32,8 @@ pub(crate) fn len_of<A: AttributeWrite>(attribute: &A) -> usize
     4 + (attribute.value_len() + 3) / 4 * 4
 }
 
-/// A message with no attributes, and with room for `len` bytes in all: where that is its length in the end,
-/// memory is asked for this once.
+/// A message with no attributes, and with room for `len` bytes in all: if that is its final length, memory
+/// is allocated only once.
 pub(crate) fn begun(
     alloc: Global,
     class: MessageClass,
@@ -66,7 +66,7 @@ pub(crate) fn add<A: AttributeWrite>(
     }
 }
 
-/// The message, signed by what is held of a challenge (RFC 8489, section 9.2.4).
+/// The message, signed with the challenge that is held (RFC 8489, section 9.2.4).
 pub(crate) fn signed(
     auth: &LongTermClientAuth,
     message: MessageWriteVec,
@@ -83,7 +83,7 @@ pub(crate) fn signed(
     Ok(Data::from(message.finish()))
 }
 
-/// The message, signed as this challenge asks (RFC 8489, section 9.2.5).
+/// The message, signed with this challenge (RFC 8489, section 9.2.5).
 pub(crate) fn signed_under(
     auth: &LongTermClientAuth,
     challenge: &ServerChallenge,

@@ -1,4 +1,4 @@
--- All turns of the streams, with what each of them gives, and the polls that take them.
+-- All steps of the streams, with what each of them returns, and the polls that take them.
 use Rattle.std.proofs.Common.{◌≡◌, ℕ, zero, suc, ◌+◌, ◌<◌, ◌≤◌, List, [], ◌∷◌, ◌++◌, find, Option, Some, None, refl, ap, sym, ◌∙◌, arith}
 use Rattle.std.specs.Option.{option_map_or}
 use Rattle.turn_client_api.specs.State.{State}
@@ -12,7 +12,7 @@ use Rattle.turn_client_api.proofs.StreamFewerLemmas.{IsLessThan, turns-less}
 use Rattle.turn_client_api.proofs.StreamWeightLemmas.{weight, weight-le}
 use Rattle.turn_client_runs.specs.Cut.{and_then, given_by, polled}
 
--- what an outcome gives, and then what comes in the state after it
+-- what an outcome returns, and then the rest in the state after it
 abbrev pub gives_then : (State → List Payload × State) → Outcome × State → List Payload × State
 gives_then next p = (given_by p.0 ++ (next p.1).0, (next p.1).1)
 
@@ -20,7 +20,7 @@ abbrev turn_by_turn : (State → List Payload × State) → ℕ → State → Op
 turn_by_turn next now s None = ([], s)
 turn_by_turn next now s (Some stream) = gives_then next (turn stream now s)
 
--- so many turns, each of the first stream that is ready, or as many as there are
+-- so many steps, each of the first stream that is ready, or as many as there are
 unfoldable pub all_turns : ℕ → ℕ → State → List Payload × State
 all_turns zero now s = ([], s)
 all_turns (suc n) now s = turn_by_turn (all_turns n now) now s (find is_ready s.streams)
@@ -40,7 +40,7 @@ nothing-ready : (now : ℕ) (s : State) → weight s.streams ≤ 0 → (o : Opti
 nothing-ready now s empty None e = refl
 nothing-ready now s empty (Some stream) e = let less = turn-lighter stream now s e in absurd (omega (arith, empty, less))
 
--- more turns than the streams' weight give the same
+-- more steps than the streams' weight give the same
 pub all-enough : (n m now : ℕ) (s : State) → weight s.streams ≤ n → weight s.streams ≤ m → all_turns n now s ≡ all_turns m now s
 unfolding all_turns
 all-enough zero zero now s hn hm = refl
@@ -79,7 +79,7 @@ and_then-enough n now t h = by (poll_recv_step now t) (turns-less (most_turns t)
         let lighter : weight u.streams < weight t.streams = less refl in
         ap (λ (p : List Payload × State). (q ∷ p.0, p.1)) (all-enough n (suc n) now u (omega (arith, lighter, h)) (omega (arith, lighter, h)))
 
--- the first turn of a poll
+-- the first step of a poll
 poll-first : (now : ℕ) (s : State) (stream : Stream) → find is_ready s.streams ≡ Some stream → (k : ℕ) → most_turns s ≡ k → (m : ℕ) × (most_turns s ≡ suc m) × (poll_recv_step now s ≡ go_on (turns_until_payload m now) (turn stream now s))
 unfolding turns_until_payload
 poll-first now s stream e zero same =
@@ -124,7 +124,7 @@ all-poll (suc n) now s h = by (find is_ready s.streams) refl (λ t p. all-poll n
             ∙ (step m (turn stream now s) (omega (arith, less, h)) (omega (arith, less, most, same)) more
             ∙ ap (and_then (all_turns (suc n) now)) (sym is))
 
--- polled more often than the streams' weight, a client takes all turns
+-- polled more often than the streams' weight, a client takes all steps
 pub polled-all : (k n now : ℕ) (s : State) → weight s.streams < k → weight s.streams ≤ n → polled k now s ≡ all_turns n now s
 unfolding polled
 polled-all zero n now s some h = absurd (omega (arith, some))
@@ -138,7 +138,7 @@ polled-all (suc k) n now s some h = by (poll_recv_step now s) refl (turns-less (
         ∙ (ap (λ (p : List Payload × State). (q ∷ p.0, p.1)) (more u (omega (arith, lighter, some)) (omega (arith, lighter, h)))
         ∙ sym (all-poll n now s h ∙ ap (and_then (all_turns n now)) e))
 
--- ---- after a piece came in
+-- ---- after a piece was received
 
 -- a payload that is polled is owned
 abbrev IsOwned : Option Payload × State → Type 0
@@ -160,7 +160,7 @@ turns-owned (suc n) now s = by (find is_ready s.streams) (λ t. turns-owned n no
     by None later = tt
     by (Some stream) later = go_on-owned (turns_until_payload n now) (turn stream now s) (later (turn stream now s).1)
 
--- what came in, and what is polled then
+-- what the piece returned, and what is polled then
 abbrev pub polled_out : ℕ → Outcome × State → List Payload × State
 polled_out now p = gives_then (polled (most_turns p.1 + 1) now) p
 

@@ -1,4 +1,4 @@
--- What the turn of a message does, and that an accepted success ends its request.
+-- The effect of an input that is a message, and that an accepted success ends its request.
 use Rattle.std.proofs.Common.{◌≡◌, ◌+◌, ℕ, Bool, true, false, not, cond, eqb, ltb, List, length, Option, Some, None, refl}
 use Rattle.std.specs.Prelude.{is_none, drop}
 use Rattle.std.proofs.lemmas.Bool.{and_parts}
@@ -48,7 +48,7 @@ message-begins bytes e = by (ltb (length bytes) 20) (is_stun_header bytes) refl 
     by false false f g = cc
     by false true f g = (and_parts _ _ (and_parts _ _ f).0).0
 
--- ---- what the turn makes of it
+-- ---- the effect of the input
 
 made_in_mode : (m : Mode) (stream : Stream) (bytes : List ℕ) (now : ℕ) (s : State) → m ≡ Control → is_message bytes ≡ true → (made_of (record { stream = Some (record stream { mode = m }); bytes = bytes; is_lent = true; moment = now; before = s })).1 ≡ (message_step bytes now s).1
 made_in_mode Control stream bytes now s e whole = rw (message-begins bytes whole, whole) refl

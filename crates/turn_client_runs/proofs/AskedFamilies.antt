@@ -1,5 +1,5 @@
--- An ALLOCATE whose success grants asks for the families of which the client still asks for an address, and is
--- signed.
+-- An ALLOCATE whose success grants an allocation requests the families of which the client still requests
+-- an address, and is signed.
 use Rattle.std.proofs.Common.{◌≡◌, List, [], refl, subst, true}
 use Rattle.std.specs.List.{Contains}
 use Rattle.turn_stun.specs.Message.{id_of}
@@ -22,11 +22,11 @@ use Rattle.turn_client_api.proofs.TwoPurposes.{purpose-with}
 use Rattle.turn_client_runs.specs.Granted.{AsksForItsFamily}
 use Rattle.turn_client_runs.proofs.SignedLemmas.{AreSigned, Signs, SignsIn, StaySigned, StaySigned-IsKept}
 
--- what calls keep, each turn of a call finds
+-- what calls keep, each input of a call finds
 pub turns-signed : (call : Call) (s : State) → AllocatesInOrder s × Signs s → (one : Turn) → Contains (handled call s) one → AllocatesInOrder one.before × Signs one.before
 turns-signed call s order one among = before-kept StaySigned StaySigned-IsKept call s one among order
 
--- where a reply may grant, and answers an ALLOCATE, the first challenge was answered
+-- if a reply may grant, and answers an ALLOCATE, the first challenge was answered
 module _ (one : Turn) (order : AllocatesInOrder one.before) (signs : Signs one.before) (heard : one.before.phase ≡ Requesting → ⊥) (awaited : IsAwaited one.bytes one.before) (asked : IsAllocate (id_of one.bytes) one.before) where
   answers-signed : AreSigned one.before.config one.before.held one.before.transactions
   answers-signed = by one.before.phase refl

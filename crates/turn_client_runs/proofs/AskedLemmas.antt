@@ -1,4 +1,4 @@
--- What is listed after a run was listed at first, or its request was made in it.
+-- What is listed after a run was listed at first, or its request was made in the run.
 use Rattle.std.proofs.Common.{◌≡◌, ◌⊎◌, ◌∙◌, ℕ, Bool, true, false, cond, List, [], ◌∷◌, ◌++◌, Option, Some, None, inl, inr, refl, sym, subst, ap}
 use Rattle.std.specs.Prelude.{find}
 use Rattle.std.specs.List.{Contains}
@@ -14,7 +14,6 @@ use Rattle.turn_client_api.specs.Grants.{purposes_of}
 use Rattle.turn_client_api.specs.Handled.{Turn, handled, made_of}
 use Rattle.turn_client_api.specs.LawsGone.{GivesBack}
 use Rattle.turn_client_api.specs.LawsHandled.{DiffersInStreams, DoesTurns, TakesTurns, TurnsLead}
-use Rattle.turn_client_api.specs.LawsPurposes.{DrawsFreeIds}
 use Rattle.turn_client_api.specs.LawsRequests.{IsListedFor, IsListingOf}
 use Rattle.turn_client_api.specs.Retry.{first_or, is_allocate_or_connect, is_channel_bind, is_create_permission, is_refresh, retried}
 use Rattle.turn_client_api.specs.Steps.{state_after}
@@ -26,11 +25,11 @@ use Rattle.turn_client_api.proofs.MoveTurnLemmas.{listings-made}
 use Rattle.turn_client_api.proofs.StandLemmas.{contains-has, has-contains}
 use Rattle.turn_client_api.proofs.TurnChainLemmas.{calls-do}
 use Rattle.turn_client_api.proofs.TwoPurposes.{purpose-with}
-use Rattle.turn_client_runs.specs.Granted.{DrawFreeIds, IsAskedInCall, IsAskedInTurn, WasAsked, WasAskedBefore}
+use Rattle.turn_client_runs.specs.Granted.{IsAskedInCall, IsAskedInTurn, WasAsked, WasAskedBefore}
 use Rattle.turn_client_runs.specs.Run.{state_behind}
 use Rattle.turn_client_runs.proofs.CallGrants.{quiet, taking}
 use Rattle.turn_client_runs.proofs.RelistLemmas.{IsRelisted, IsRetriedFor, turn-relists}
-use Rattle.turn_client_runs.proofs.TogetherLemmas.{AllFew, AreTogether, IsListingHere, Together, call-together, differs-together, few-turns, first-together, listing-here}
+use Rattle.turn_client_runs.proofs.TogetherLemmas.{AreTogether, IsListingHere, Together, call-together, differs-together, first-together, listing-here}
 
 -- ---- the first in order
 
@@ -71,9 +70,9 @@ channel-first all number peer ip there = by (find is_refresh all) refl (find is_
         unlike h = cc
     by None e None f g = found-some is_channel_bind (ForChannel number peer) all there refl f
 
--- ---- one turn
+-- ---- one input
 
--- what is made again is made for what it is listed for
+-- what is made again is made for a purpose that it is listed for
 listed-for : (message : List ℕ) (s : State) (purpose p : Purpose) → AreTogether s → (GivesBack p → ⊥) → IsRetriedFor message s purpose p → IsListedFor purpose p
 listed-for message s purpose p together wanted (inl e) = inl e
 listed-for message s purpose p together wanted (inr (first, there)) =
@@ -101,7 +100,7 @@ listed-for message s purpose p together wanted (inr (first, there)) =
     by q r needs f h (inr (inl for)) = for
     by q r needs f h (inr (inr (back, away))) = absurd (needs back)
 
--- of a listing that gives nothing back
+-- for a listing that deletes no allocation
 module _ (l : Listing) (wanted : GivesBack l.purpose → ⊥) where
   turn-asks : (one : Turn) → AreTogether one.before → Has l (made_of one).1.listed → Has l one.before.listed ⊎ IsAskedInTurn l.id l.purpose one
   turn-asks one together there = by (turn-relists one l there)
@@ -110,7 +109,7 @@ module _ (l : Listing) (wanted : GivesBack l.purpose → ⊥) where
       by (inl old) = inl old
       by (inr (purpose, made, is, for)) = inr (purpose, listed-for one.bytes one.before purpose l.purpose together wanted for, made, is)
 
-  -- one of these turns made it
+  -- one of these inputs made it
   abbrev AmongTurns : List Turn → Type 0
   AmongTurns turns = (one : Turn) × Has one turns × IsAskedInTurn l.id l.purpose one
 
@@ -120,7 +119,7 @@ module _ (l : Listing) (wanted : GivesBack l.purpose → ⊥) where
   differs-listed : (s t : State) → DiffersInStreams s t → Has l t.listed → Has l s.listed
   differs-listed s t differs there = subst (λ (u : State). Has l u.listed) differs.others there
 
-  -- the first turn made it, or a later one, or it was listed before
+  -- the first input made it, or a later one, or it was listed before
   step-asks : (one : Turn) (later : List Turn) (s : State) → DiffersInStreams s one.before → AreTogether s → Has l (made_of one).1.listed ⊎ AmongTurns later → Has l s.listed ⊎ AmongTurns (one ∷ later)
   step-asks one later s differs together (inr among) = inr (later-among one later among)
   step-asks one later s differs together (inl there) = by (turn-asks one (differs-together s one.before differs together) there)
@@ -129,24 +128,24 @@ module _ (l : Listing) (wanted : GivesBack l.purpose → ⊥) where
       by (inl old) = inl (differs-listed s one.before differs old)
       by (inr asked) = inr (one, inl refl, asked)
 
-  lead-asks : (turns : List Turn) (s t : State) → TurnsLead turns s t → AllFew turns → AreTogether s → Has l t.listed → Has l s.listed ⊎ AmongTurns turns
-  lead-asks [] s t lead few together there = inl (differs-listed s t lead there)
-  lead-asks (one ∷ later) s t (first, lead) few together there =
+  lead-asks : (turns : List Turn) (s t : State) → TurnsLead turns s t → AreTogether s → Has l t.listed → Has l s.listed ⊎ AmongTurns turns
+  lead-asks [] s t lead together there = inl (differs-listed s t lead there)
+  lead-asks (one ∷ later) s t (first, lead) together there =
       step-asks one later s first together
-      (lead-asks later (made_of one).1 t lead (λ x h. few x (inr h)) (first-together one later s first few together) there)
+      (lead-asks later (made_of one).1 t lead (first-together one later s first together) there)
 
-  -- up to one of the turns
-  front-asks : (front : List Turn) (one : Turn) (back : List Turn) (s t : State) → TurnsLead (front ++ one ∷ back) s t → AllFew (front ++ one ∷ back) → AreTogether s → Has l one.before.listed → Has l s.listed ⊎ AmongTurns front
-  front-asks [] one back s t (first, lead) few together there = inl (differs-listed s one.before first there)
-  front-asks (x ∷ front) one back s t (first, lead) few together there =
+  -- up to one of the inputs
+  front-asks : (front : List Turn) (one : Turn) (back : List Turn) (s t : State) → TurnsLead (front ++ one ∷ back) s t → AreTogether s → Has l one.before.listed → Has l s.listed ⊎ AmongTurns front
+  front-asks [] one back s t (first, lead) together there = inl (differs-listed s one.before first there)
+  front-asks (x ∷ front) one back s t (first, lead) together there =
       step-asks x front s first together
-      (front-asks front one back (made_of x).1 t lead (λ y h. few y (inr h)) (first-together x (front ++ one ∷ back) s first few together) there)
+      (front-asks front one back (made_of x).1 t lead (first-together x (front ++ one ∷ back) s first together) there)
 
   -- ---- a call
 
-  module _ (call : Call) (s : State) (free : DrawsFreeIds call s) (together : AreTogether s) where
+  module _ (call : Call) (s : State) (together : AreTogether s) where
     gone-listed : DoesTurns call s → Has l (state_after call s).listed → Has l s.listed ⊎ AmongTurns (handled call s)
-    gone-listed (inl lead) there = lead-asks (handled call s) s (state_after call s) lead (few-turns call s free) together there
+    gone-listed (inl lead) there = lead-asks (handled call s) s (state_after call s) lead together there
     gone-listed (inr end) there = old ((gone-settles end.local s).1 l (subst (λ (t : State). Has l t.listed) end.gone there))
       where
         old : Has l s.listed ⊎ ⊥ → Has l s.listed ⊎ AmongTurns (handled call s)
@@ -168,12 +167,12 @@ module _ (l : Listing) (wanted : GivesBack l.purpose → ⊥) where
         by (inl takes) = turned (gone-listed (calls-do call s takes) (contains-has l (state_after call s).listed there))
         by (inr own) = itself own (listings-made call s (state_after call s) l (inl refl) there)
 
-    -- up to a turn of it
+    -- up to an input of it
     turn-was-asked : (front : List Turn) (one : Turn) (back : List Turn) → handled call s ≡ front ++ one ∷ back → Has l one.before.listed → DoesTurns call s → Has l s.listed ⊎ AmongTurns front
     turn-was-asked front one back cut there (inl lead) =
         front-asks front one back s (state_after call s)
         (subst (λ (turns : List Turn). TurnsLead turns s (state_after call s)) cut lead)
-        (subst AllFew cut (few-turns call s free)) together there
+        together there
     turn-was-asked front one back cut there (inr end) = absurd (filled front (sym end.nothing ∙ cut))
       where
         filled : (front : List Turn) → [] ≡ front ++ one ∷ back → ⊥
@@ -182,16 +181,16 @@ module _ (l : Listing) (wanted : GivesBack l.purpose → ⊥) where
 
   -- ---- a run
 
-  run-asks : (calls : List Call) (first : State) → DrawFreeIds calls first → AreTogether first → Contains (state_behind first calls).listed l → Contains first.listed l ⊎ WasAsked l.id l.purpose calls first
-  run-asks [] first free together there = inl there
-  run-asks (call ∷ calls) first (now, free) together there = by (run-asks calls (state_after call first) free (call-together call first now together) there)
+  run-asks : (calls : List Call) (first : State) → AreTogether first → Contains (state_behind first calls).listed l → Contains first.listed l ⊎ WasAsked l.id l.purpose calls first
+  run-asks [] first together there = inl there
+  run-asks (call ∷ calls) first together there = by (run-asks calls (state_after call first) (call-together call first together) there)
     where
       at : Contains first.listed l ⊎ IsAskedInCall l.id l.purpose call first → Contains first.listed l ⊎ WasAsked l.id l.purpose (call ∷ calls) first
       at (inl old) = inl old
       at (inr asked) = inr (record { earlier = []; call = call; later = calls; split = refl; asked = asked })
 
       by : Contains (state_after call first).listed l ⊎ WasAsked l.id l.purpose calls (state_after call first) → Contains first.listed l ⊎ WasAsked l.id l.purpose (call ∷ calls) first
-      by (inl there) = at (call-asks call first now together there)
+      by (inl there) = at (call-asks call first together there)
       by (inr was) = inr (record {
         earlier = call ∷ was.earlier;
         call = was.call;
@@ -200,14 +199,9 @@ module _ (l : Listing) (wanted : GivesBack l.purpose → ⊥) where
         asked = was.asked;
       })
 
--- the calls up to one of them draw free IDs, and so does that one
-free-before : (earlier : List Call) (call : Call) (later : List Call) (s : State) → DrawFreeIds (earlier ++ call ∷ later) s → DrawFreeIds earlier s × DrawsFreeIds call (state_behind s earlier)
-free-before [] call later s (now, free) = (tt, now)
-free-before (x ∷ earlier) call later s (now, free) = let rest = free-before earlier call later (state_after x s) free in ((now, rest.0), rest.1)
-
-run-together : (calls : List Call) (s : State) → DrawFreeIds calls s → AreTogether s → AreTogether (state_behind s calls)
-run-together [] s free h = h
-run-together (call ∷ calls) s (now, free) h = run-together calls (state_after call s) free (call-together call s now h)
+run-together : (calls : List Call) (s : State) → AreTogether s → AreTogether (state_behind s calls)
+run-together [] s h = h
+run-together (call ∷ calls) s h = run-together calls (state_after call s) (call-together call s h)
 
 takes-turns : (call : Call) (s : State) (front : List Turn) (one : Turn) (back : List Turn) → handled call s ≡ front ++ one ∷ back → DoesTurns call s
 takes-turns call s front one back cut = by (taking call)
@@ -220,12 +214,12 @@ takes-turns call s front one back cut = by (taking call)
     by (inl takes) = calls-do call s takes
     by (inr other) = absurd (filled front (sym (quiet call s other) ∙ cut))
 
--- the request that a turn answers was made before it
-pub was-asked : (earlier : List Call) (call : Call) (later : List Call) (first : State) → DrawFreeIds (earlier ++ call ∷ later) first → first.listed ≡ []
+-- the request that an input answers was made before it
+pub was-asked : (earlier : List Call) (call : Call) (later : List Call) (first : State) → first.listed ≡ []
     → (front : List Turn) (one : Turn) (back : List Turn) → handled call (state_behind first earlier) ≡ front ++ one ∷ back
     → (p : Purpose) → (GivesBack p → ⊥) → Contains (purposes_of (id_of one.bytes) one.before) p
     → WasAskedBefore (id_of one.bytes) p earlier first front
-was-asked earlier call later first free empty front one back cut p wanted listed = by (turn-was-asked l wanted call s frees.1 together front one back cut there (takes-turns call s front one back cut))
+was-asked earlier call later first empty front one back cut p wanted listed = by (turn-was-asked l wanted call s together front one back cut there (takes-turns call s front one back cut))
   where
     s : State
     s = state_behind first earlier
@@ -233,14 +227,11 @@ was-asked earlier call later first free empty front one back cut p wanted listed
     l : Listing
     l = listing (id_of one.bytes) p
 
-    frees : DrawFreeIds earlier first × DrawsFreeIds call s
-    frees = free-before earlier call later first free
-
     none : AreTogether first
     none x other here there e = absurd (subst (Has x) empty here)
 
     together : AreTogether s
-    together = run-together earlier first frees.0 none
+    together = run-together earlier first none
 
     there : Has l one.before.listed
     there = purpose-with (id_of one.bytes) p one.before (contains-has p (purposes_of (id_of one.bytes) one.before) listed)
@@ -250,5 +241,5 @@ was-asked earlier call later first free empty front one back cut p wanted listed
     at (inr was) = inl was
 
     by : Has l s.listed ⊎ AmongTurns l wanted front → WasAskedBefore (id_of one.bytes) p earlier first front
-    by (inl old) = at (run-asks l wanted earlier first frees.0 none (has-contains l s.listed old))
+    by (inl old) = at (run-asks l wanted earlier first none (has-contains l s.listed old))
     by (inr (x, among, asked)) = inr (x, has-contains x front among, asked)

@@ -69,9 +69,9 @@ one-peer number peer to was is (g ∷ gs) h (inl e) (inl f) = same (e ∙ sym f)
     same : Channel number peer was ≡ Channel number to is → peer ≡ to
     same both = cc
 
--- ---- the channel that a request asks for
+-- ---- the channel that a request is for
 
--- a channel of the number has the peer with which it was asked for
+-- a channel of the number has the peer with which it was requested
 asked-peer : (number : ℕ) (peer to : SocketAddr) (s : State) → AllFounded s → AreApart s.grants → (l : Listing) → Has l s.listed → l.purpose ≡ ForChannel number peer → HasChannelTo number to s → to ≡ peer
 asked-peer number peer to s founded apart l listed asks (progress, there) = by (subst (Founded s.grants) asks (founded l listed))
   where
@@ -90,9 +90,9 @@ asked-peer number peer to s founded apart l listed asks (progress, there) = by (
     by (inl e) = cc
     by (inr some) = let (g, here, e) = any-has (is_asked_by (ForChannel number peer)) s.grants some in at g here e
 
--- ---- the turns of a call
+-- ---- the inputs of a call
 
--- a channel has the peer with which it was asked for
+-- a channel has the peer with which it was requested
 abbrev pub HasAskedPeers : Turn → Type 0
 HasAskedPeers one =
     (number : ℕ) (peer to : SocketAddr) → Contains (purposes_of (id_of one.bytes) one.before) (ForChannel number peer) → HasChannelTo number to one.before → to ≡ peer

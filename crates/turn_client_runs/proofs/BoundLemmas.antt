@@ -1,5 +1,6 @@
--- What is bound after a run was bound by a turn of it.
+-- What is bound after a run was bound by an input of it.
 use Rattle.std.proofs.Common.{◌≡◌, ◌⊎◌, ◌∙◌, eqb, ℕ, Bool, true, false, List, [], ◌∷◌, ◌++◌, Option, Some, None, inl, inr, refl, sym, subst, ap}
+use Rattle.std.specs.Prelude.{⊤}
 use Rattle.std.specs.List.{Contains}
 use Rattle.std.specs.declared.net.socket_addr.SocketAddr.{SocketAddr}
 use Rattle.turn_stun.specs.declared.transport.TransportType.{TransportType}
@@ -31,13 +32,14 @@ use Rattle.turn_client_api.proofs.GrantedLemmas as Grants
 use Rattle.turn_client_api.proofs.StandLemmas as Stand
 use Rattle.turn_client_api.proofs.StandLemmas.{Covers, contains-has, covers-has, covers-left, covers-stood}
 use Rattle.turn_client_api.proofs.TurnBringLemmas.{IsBrought, leaves-bring}
-use Rattle.turn_client_runs.specs.Bound.{BoundConnectionsHaveSuccess, BoundStreamsHaveSuccess, HasConnectionSuccess, HasSuccess, IsAnswered, StreamsAreBoundBefore}
+use Rattle.turn_client_runs.specs.Bound.{BoundConnectionsHaveSuccess, BoundStreamsHaveSuccess, HasConnectionSuccess, HasSuccess, IsAnswered, IsBoundSince, StreamsAreBoundBefore}
 use Rattle.turn_client_runs.specs.Run.{state_behind}
 use Rattle.turn_client_runs.specs.Turns.{IsAmong, handled_in}
 use Rattle.turn_client_runs.proofs.MadeLemmas.{waiting-made}
-use Rattle.turn_client_runs.proofs.TurnsOfRuns.{among-none, run-brings, takes-or, turn-brought}
+use Rattle.turn_client_runs.proofs.RunLemmas.{run-did}
+use Rattle.turn_client_runs.proofs.TurnsOfRuns.{among-none, in_call, run-brings, takes-or}
 
--- ---- a turn that binds ends its request
+-- ---- an input that binds ends its request
 
 -- a message of a connection does nothing, or is answered
 abbrev DoesOrNot : SocketAddr → List ℕ → ℕ → State → Type 0
@@ -57,7 +59,7 @@ bind-does local message now s = by s.phase refl (connection_at local s) refl (eq
     by Allocated e (Some c) f true g = inr (c, f, rw (e, f, g) refl)
     by Allocated e (Some c) f false g = inl (rw (e, f, g) refl)
 
--- where it binds, its request is ended
+-- if it binds, its request is ended
 binds-ended : (local : SocketAddr) (message : List ℕ) (now : ℕ) (s : State) → Binds local message s (bind_step local message now s) → (bind_step local message now s ≡ s) ⊎ IsNotAwaited message (bind_step local message now s)
 binds-ended local message now s b = by (bind-does local message now s)
   where
@@ -73,7 +75,7 @@ binds-ended local message now s b = by (bind-does local message now s)
         let is : b.c ≡ c = one c (sym b.found ∙ found) in
         inr (rw answered (subst (λ (d : DataConnection). IsNotAwaited message (bind_answered d message now s)) is (bind-ended b.c message now s accepted)))
 
--- no turn is over both
+-- no input is over both
 not_both : (local : SocketAddr) (one : Turn) → IsOverControl one → IsOverWaiting local one → ⊥
 not_both local one control waiting = by one.stream refl
   where
@@ -87,7 +89,7 @@ not_both local one control waiting = by one.stream refl
         let (w, ends) : (stream.mode ≡ Waiting) × (stream.local ≡ local) = rw e at waiting in
         unlike (sym c ∙ w)
 
--- ---- what only a turn over a waiting connection brings about ends its request there
+-- ---- what only an input over a waiting connection causes ends its request there
 
 module _ (P : State → Type 0) (Did : Turn → Type 0) (k : IsBrought P Did) (waits : (one : Turn) → Did one → (local : SocketAddr) × IsOverWaiting local one) (spares : (s t : State) → Stand.Leaves s t → t.streams ≡ s.streams → P t → P s) where
   abbrev Ends : Turn → Type 0
@@ -127,7 +129,7 @@ module _ (P : State → Type 0) (Did : Turn → Type 0) (k : IsBrought P Did) (w
       control one over (inl there) = inl there
       control one over (inr did) = let (local, waiting) = waits one did in absurd (not_both local one over waiting)
 
-  -- what no other call brings about
+  -- what no other call causes
   module _ (others : (call : Call) (s : State) → P (state_after call s) → P s ⊎ IsDoneBy Did call s) where
     pub call-ends : (call : Call) (s : State) → P (state_after call s) → P s ⊎ IsDoneBy (λ one. Did one × IsAnswered one) call s
     call-ends call s h = by (leaves-bring P Ends bringing-ends (λ call s. ⊥) other call s (state_after call s) (inl refl) h)
@@ -170,16 +172,24 @@ module _ (local peer : SocketAddr) where
   others : (call : Call) (s : State) → IsBoundTo (state_after call s) → IsBoundTo s ⊎ IsDoneBy BindsIt call s
   others call s h = Streams.leaves-bound local peer call s (state_after call s) (inl refl) h
 
-  -- a call binds a stream by such a turn
+  -- a call binds a stream by such an input
   stream-ends : (call : Call) (s : State) → IsBoundTo (state_after call s) → IsBoundTo s ⊎ IsDoneBy (λ one. BindsIt one × IsAnswered one) call s
   stream-ends = call-ends IsBoundTo BindsIt (Streams.bringing local peer) waits spares others
 
-  streams-after : (s : State) (calls : List Call) → (IsBoundTo s → ⊥) → IsBoundTo (state_behind s calls) → HasSuccess local peer (handled_in s calls)
-  streams-after s calls none h = second none (run-brings IsBoundTo (λ one. BindsIt one × IsAnswered one) stream-ends s calls h)
+  streams-since : (s : State) (calls : List Call) → (IsBoundTo s → ⊥) → IsBoundTo (state_behind s calls) → IsBoundSince local peer calls s
+  streams-since s calls none h =
+      let is = run-did IsBoundTo (λ call u. IsDoneBy (λ one. BindsIt one × IsAnswered one) call u) (λ u. ⊤) (λ call u inv. tt) (λ call u inv. stream-ends call u) calls s tt none h in
+      record { earlier = is.earlier; call = is.call; later = is.later; split = is.split; success = is.did; since = is.holds }
 
-  streams-before : (s : State) (calls : List Call) (earlier later : List Turn) (one : Turn) → (IsBoundTo s → ⊥) → handled_in s calls ≡ earlier ++ one ∷ later → IsBoundTo one.before → HasSuccess local peer earlier
-  streams-before s calls earlier later one none e h =
-      second none (turn-brought IsBoundTo (λ one. BindsIt one × IsAnswered one) (bringing-ends IsBoundTo BindsIt (Streams.bringing local peer) waits spares) stream-ends s calls earlier later one e h)
+  streams-before : (s : State) (calls : List Call) (earlier : List Call) (call : Call) (later : List Call) (front back : List Turn) (one : Turn) → (IsBoundTo s → ⊥)
+      → calls ≡ earlier ++ call ∷ later → handled call (state_behind s earlier) ≡ front ++ one ∷ back → IsBoundTo one.before
+      → IsBoundSince local peer earlier s ⊎ HasSuccess local peer front
+  streams-before s calls earlier call later front back one none split e h =
+      by (in_call IsBoundTo (λ one. BindsIt one × IsAnswered one) (bringing-ends IsBoundTo BindsIt (Streams.bringing local peer) waits spares) stream-ends call (state_behind s earlier) front back one e h)
+    where
+      by : IsBoundTo (state_behind s earlier) ⊎ HasSuccess local peer front → IsBoundSince local peer earlier s ⊎ HasSuccess local peer front
+      by (inl there) = inl (streams-since s earlier none there)
+      by (inr did) = inr did
 
   -- no stream of a new client is bound
   initial-unbound : (transport : TransportType) (own remote : SocketAddr) (config : Config) (seed : List ℕ) → IsBoundTo (initial transport own remote config seed) → ⊥
@@ -195,11 +205,11 @@ module _ (local peer : SocketAddr) where
 
 pub streams-have-success : (transport : TransportType) (own remote : SocketAddr) (config : Config) (seed : List ℕ) (calls : List Call) → BoundStreamsHaveSuccess (initial transport own remote config seed) calls
 streams-have-success transport own remote config seed calls local peer h =
-    streams-after local peer (initial transport own remote config seed) calls (initial-unbound local peer transport own remote config seed) h
+    streams-since local peer (initial transport own remote config seed) calls (initial-unbound local peer transport own remote config seed) h
 
 pub streams-are-bound-before : (transport : TransportType) (own remote : SocketAddr) (config : Config) (seed : List ℕ) (calls : List Call) → StreamsAreBoundBefore (initial transport own remote config seed) calls
-streams-are-bound-before transport own remote config seed calls earlier later one local peer e h =
-    streams-before local peer (initial transport own remote config seed) calls earlier later one (initial-unbound local peer transport own remote config seed) e h
+streams-are-bound-before transport own remote config seed calls earlier call later front back one local peer split e h =
+    streams-before local peer (initial transport own remote config seed) calls earlier call later front back one (initial-unbound local peer transport own remote config seed) split e h
 
 -- ---- data connections
 

@@ -1,4 +1,5 @@
--- What stands after a call stood before it, a `delete` ended it, or a turn of the call granted it.
+-- What is active after a call was active before it, a `delete` ended it, or an input of the call granted
+-- it.
 use Rattle.std.proofs.Common.{◌≡◌, ◌⊎◌, ◌∙◌, ℕ, Bool, true, false, List, [], Ok, refl, subst, sym, ap, inl, inr}
 use Rattle.std.specs.List.{Contains}
 use Rattle.turn_client_api.specs.State.{State}
@@ -20,7 +21,7 @@ use Rattle.turn_client_runs.proofs.GrantTurns.{AreAllocations, Granting, grantin
 
 -- ---- a `delete`
 
--- the call is a `delete`, which ended the allocation that stood
+-- the call is a `delete`, which ended the allocation that was active
 abbrev pub IsEndedBy : Call → State → Grant → Type 0
 IsEndedBy call s g =
     (a : Relay) × (now : ℕ) × (g ≡ Allocation a) × (call ≡ Delete now) × (a.expiry ≡ now) × IsRelayed a.relayed s
@@ -63,7 +64,7 @@ ended-kept call s is g kept (a, now, what, how, ends, was) = by (kept-alike is g
         (c, now, to, how, sym expiry ∙ ends, (was.0, was.1, was.2 ∙ relayed))
     by (inr e) = (a, now, sym e ∙ what, how, ends, was)
 
--- ---- calls that take no turns
+-- ---- calls that process no input
 
 pub taking : (call : Call) → TakesTurns call ⊎ (TakesTurns call → ⊥)
 taking (Recv packet now) = inl tt
@@ -113,7 +114,7 @@ module _ (g : Grant) where
       by (inr (inl ended)) = inr (ended-kept call s is g kept (ended-how call s is ended))
       by (inr (inr done)) = absurd (none-done (IsGrantedIn is) call s other done)
 
-  -- why it stands after a call
+  -- why it is active after a call
   abbrev pub IsCaused : Call → State → Type 0
   IsCaused call s = IsEndedBy call s g ⊎ IsDoneBy (Granting g) call s
 

@@ -20,10 +20,10 @@ use Rattle.turn_client_api.proofs.TurnLemmas.{brought}
 use Rattle.turn_client_runs.specs.Challenges.{CountsIt, IsChallengeTurn, IsHeededAmong, IsPatient, answers_in, is_answer}
 use Rattle.turn_client_runs.specs.Holds.{Reaches}
 use Rattle.turn_client_runs.specs.Run.{state_behind}
-use Rattle.turn_client_runs.specs.Turns.{handled_in}
+use Rattle.turn_client_runs.specs.Turns.{IsAmong, handled_in}
 use Rattle.turn_client_runs.proofs.HoldLemmas.{kept-behind}
 use Rattle.turn_client_runs.proofs.MadeLemmas.{control-made}
-use Rattle.turn_client_runs.proofs.TurnsOfRuns.{among-first, among-later, among-left, among-right, takes-or}
+use Rattle.turn_client_runs.proofs.TurnsOfRuns.{among-first, among-later, among-left, among-none, among-right, takes-or}
 
 -- ---- what is held
 
@@ -53,12 +53,15 @@ challenge-counts one c =
     subst (λ (p : Outcome × State). IsCounted one.before p.1) (sym (control-made one c.over c.whole))
     (challenge-IsCounted one.bytes one.moment one.before c.challenge c.judged)
 
--- ---- how many in a row
+-- ---- how many in sequence
 
 abbrev IsHeededIn : Turn → Type 0
-IsHeededIn one = (is_message one.bytes ≡ true) × IsHeeded one.bytes one.moment one.before
+IsHeededIn one = ((made_of one).1.challenges < one.before.challenges) × (is_message one.bytes ≡ true) × IsHeeded one.bytes one.moment one.before
 
--- a turn makes the count no less, or is heeded
+abbrev IsWellHeeded : Turn → Type 0
+IsWellHeeded one = (is_message one.bytes ≡ true) × IsHeeded one.bytes one.moment one.before
+
+-- an input makes the count no less, or is accepted
 turn-grows : (one : Turn) → (one.before.challenges ≤ (made_of one).1.challenges) ⊎ IsHeededIn one
 turn-grows one = by (ltb (made_of one).1.challenges n) refl
   where
@@ -68,15 +71,15 @@ turn-grows one = by (ltb (made_of one).1.challenges n) refl
     Fewer : State → Type 0
     Fewer s = s.challenges < n
 
-    did : Fewer one.before ⊎ IsHeededIn one → (n ≤ (made_of one).1.challenges) ⊎ IsHeededIn one
-    did (inl less) = absurd (omega (arith, less))
-    did (inr heeded) = inr heeded
+    did : (made_of one).1.challenges < n → Fewer one.before ⊎ IsWellHeeded one → (n ≤ (made_of one).1.challenges) ⊎ IsHeededIn one
+    did fewer (inl less) = absurd (omega (arith, less))
+    did fewer (inr heeded) = inr (fewer, heeded.0, heeded.1)
 
     by : (b : Bool) → ltb (made_of one).1.challenges n ≡ b → (n ≤ (made_of one).1.challenges) ⊎ IsHeededIn one
-    by true e = did (turn-brings (λ s. s.challenges < n) IsHeededIn (brought (λ s. s.challenges < n) IsHeeded (bringing n)) one (ltb-true (made_of one).1.challenges n e))
+    by true e = let fewer = ltb-true (made_of one).1.challenges n e in did fewer (turn-brings (λ s. s.challenges < n) IsWellHeeded (brought (λ s. s.challenges < n) IsHeeded (bringing n)) one fewer)
     by false e = inl (ltb-false (made_of one).1.challenges n e)
 
--- the count grows by each answer, or one of these turns is heeded
+-- the count grows by each answer, or one of these inputs is accepted
 abbrev Counts : State → State → List Turn → Type 0
 Counts s t turns = (s.challenges + answers_in turns ≤ t.challenges) ⊎ IsHeededAmong turns
 
@@ -96,12 +99,12 @@ lead-counts (one ∷ later) s t (first, lead) = by (lead-counts later (made_of o
     by (inl rest) (inr heeded) = inr (among-first IsHeededIn one later heeded)
     by (inr among) grows = inr (among-later IsHeededIn one later among)
 
--- a call that handles nothing
+-- a call that processes nothing
 idle-counts : (call : Call) (s : State) → handled call s ≡ [] → Counts s (state_after call s) (handled call s)
 idle-counts call s none = by (ltb (state_after call s).challenges s.challenges) refl
   where
     by : (b : Bool) → ltb (state_after call s).challenges s.challenges ≡ b → Counts s (state_after call s) (handled call s)
-    by true e = inr (leaves-heeded call s (state_after call s) (inl refl) (ltb-true (state_after call s).challenges s.challenges e))
+    by true e = absurd (among-none IsWellHeeded (subst (λ (turns : List Turn). IsAmong IsWellHeeded turns) none (leaves-heeded call s (state_after call s) (inl refl) (ltb-true (state_after call s).challenges s.challenges e))))
     by false e = rw none (inl (let less = ltb-false (state_after call s).challenges s.challenges e in omega (arith, less)))
 
 call-counts : (call : Call) (s : State) → Counts s (state_after call s) (handled call s)

@@ -1,4 +1,4 @@
--- Where the bytes of a turn stand, and when it comes.
+-- Where the bytes of an input lie, and when it is processed.
 use Rattle.std.proofs.Common.{◌≡◌, ◌⊎◌, ◌++◌, ℕ, zero, suc, Bool, true, false, cond, List, [], ◌∷◌, Option, Some, None, refl, sym, inl, inr}
 use Rattle.std.specs.Prelude.{drop, find, take}
 use Rattle.std.proofs.lemmas.List.{append-nil, take-append-drop}
@@ -20,9 +20,9 @@ use Rattle.turn_client_api.specs.Streams.{is_ready, most_turns, payload_in, stre
 use Rattle.turn_client_api.proofs.HasLemmas.{Has, has-append}
 use Rattle.turn_client_runs.specs.Granted.{ComesIn, IsInFront}
 
--- ---- turns of streams
+-- ---- steps of streams
 
--- it comes now, and is in front of its stream
+-- it is processed now, and is first in its stream
 abbrev IsFrame : ℕ → Turn → Type 0
 IsFrame now one = (one.moment ≡ now) × ((stream : Stream) × (one.stream ≡ Some stream) × IsInFront one.bytes stream.bytes)
 

@@ -1,4 +1,4 @@
--- All turns after a stream was fed give the whole of its bytes.
+-- All steps after a stream was fed return the whole of its bytes.
 use Rattle.std.proofs.Common.{◌≡◌, ℕ, zero, suc, ◌<◌, Bool, true, false, cond, List, [], ◌∷◌, ◌++◌, length, map, drop, take, flat_map, Option, Some, None, refl, ap, sym, subst, ◌∙◌, arith}
 use Rattle.std.proofs.lemmas.Grind.{flat_map-append}
 use Rattle.std.proofs.lemmas.List.{append-nil, length-drop}
@@ -23,15 +23,15 @@ use Rattle.turn_client_runs.proofs.FollowLemmas.{IsFramed, IsThere, Suits, Suits
 use Rattle.turn_client_runs.proofs.StreamAtLemmas.{IsAlone, aside-alone, broken-aside, broken-empty, broken-found, bytes-found, fed-found, found-local}
 use Rattle.turn_client_runs.proofs.WholeLemmas.{bound-whole, unless, whole-breaks, whole-frame, whole-partial}
 
--- In the first state the stream at this local end holds this rest, and in the second nothing: that is
--- all in which they differ.
+-- In the first state the stream at this local address holds this rest, and in the second nothing: they
+-- differ in nothing else.
 pub record IsLeft (a : SocketAddr) (c : Bool) (u t : State) (rest : List ℕ) : Type 0 where
   pub after : u ≡ with_bytes a rest t
   pub empty : with_bytes a [] t ≡ t
   pub held : bytes_at a u ≡ rest
   pub suits : Suits c (stream_at a u)
 
--- What came of turns is what the whole gives.
+-- The result of steps is that of the whole.
 pub record Agrees (a : SocketAddr) (c : Bool) (p : List Payload × State) (d : Drained State Payload) : Type 0 where
   pub given : flat_map (one_by_one c) p.0 ≡ d.given
   pub leaves : IsLeft a c p.1 d.state d.rest
@@ -39,7 +39,7 @@ pub record Agrees (a : SocketAddr) (c : Bool) (p : List Payload × State) (d : D
 agrees-by : (a : SocketAddr) (c : Bool) (p q : List Payload × State) (d e : Drained State Payload) → p ≡ q → d ≡ e → Agrees a c q e → Agrees a c p d
 agrees-by a c p q d e same is h = rw (same, is) h
 
--- where nothing more is handled
+-- if nothing more is processed
 pub rest-left : (a : SocketAddr) (c : Bool) (t : State) (stream : Stream) (rest : List ℕ) → IsAlone a t → stream_at a t ≡ Some stream → SuitsMode c stream.mode → IsLeft a c (with_bytes a rest t) t rest
 rest-left a c t stream rest alone e suits =
     let found = bytes-found a rest t stream e in
@@ -52,12 +52,12 @@ pub none-left : (a : SocketAddr) (c : Bool) (t : State) → IsAlone a t → stre
 none-left a c t alone e = record { after = sym alone.empty; empty = alone.empty; held = rw e refl; suits = rw e tt }
 
 module _ (a : SocketAddr) (now : ℕ) where
-  -- ---- the turn of the stream that is fed
+  -- ---- the step of the stream that is fed
 
   abbrev pub fed : Stream → List ℕ → Stream
   fed stream bytes = record stream { bytes = bytes }
 
-  -- it holds nothing while its frame is handled
+  -- it holds nothing while its frame is processed
   out-alone : (stream : Stream) (bytes : List ℕ) (t : State) → IsAlone a t → stream.local ≡ a → with_bytes stream.local [] (with_bytes a bytes t) ≡ t
   out-alone stream bytes t alone at_a =
       ap (λ (l : SocketAddr). with_bytes l [] (with_bytes a bytes t)) at_a ∙ (bytes-twice a bytes [] t ∙ alone.empty)
@@ -65,7 +65,7 @@ module _ (a : SocketAddr) (now : ℕ) where
   turn-fed : (stream : Stream) (bytes : List ℕ) (t : State) → IsAlone a t → stream_at a t ≡ Some stream → turn (fed stream bytes) now (with_bytes a bytes t) ≡ turned (fed stream bytes) now t
   turn-fed stream bytes t alone e = ap (turned (fed stream bytes) now) (out-alone stream bytes t alone (found-local a t stream e))
 
-  -- a stream that is not ready, and no other is
+  -- a stream that is not ready, while no other is
   waits-fed : (n : ℕ) (stream : Stream) (bytes : List ℕ) (t : State) → IsAlone a t → stream_at a t ≡ Some stream → is_ready (fed stream bytes) ≡ false → all_turns n now (with_bytes a bytes t) ≡ ([], with_bytes a bytes t)
   waits-fed n stream bytes t alone e waits = all-rest n now (with_bytes a bytes t) (fed-found a bytes t stream alone e ∙ rw waits refl)
 
@@ -79,7 +79,7 @@ module _ (a : SocketAddr) (now : ℕ) where
   broken-alone : (t : State) → IsAlone a t → IsAlone a (broken_at a t)
   broken-alone t alone = aside-alone a t (broken_at a t) (broken-aside a t) (broken-empty a t) alone.distinct alone.others
 
-  -- no turn comes after a stream broke
+  -- no step follows after a stream broke
   broken-rests : (n : ℕ) (stream : Stream) (t : State) → IsAlone a t → stream_at a t ≡ Some stream → all_turns n now (broken_at a t) ≡ ([], broken_at a t)
   broken-rests n stream t alone e =
       let u = broken_at a t in
@@ -107,11 +107,11 @@ module _ (a : SocketAddr) (now : ℕ) where
   suits-broken true = tt
   suits-broken false = tt
 
-  -- after so many turns more, for a rest that is shorter
+  -- after so many steps more, for a rest that is shorter
   abbrev Later : Bool → ℕ → Type 0
   Later c n = (t : State) (rest : List ℕ) → length rest < n → IsAlone a t → IsThere c a t → Agrees a c (all_turns n now (with_bytes a rest t)) (whole a now t rest)
 
-  -- Of a stream of frames at this local end.
+  -- For a stream of frames at this local address.
   module _ (c : Bool) (m : Mode) (is : IsFramed c m) (stream : Stream) (t : State) (alone : IsAlone a t) (e : stream_at a t ≡ Some (record stream { mode = m })) where
     abbrev here : Stream
     here = record stream { mode = m }
@@ -134,7 +134,7 @@ module _ (a : SocketAddr) (now : ℕ) where
         (whole-breaks a now c m is stream t e (b ∷ bytes) f)
         (record { given = refl; leaves = empty-left a c u (record stream { mode = Broken; bytes = [] }) (broken-alone t alone) (broken-found a t here e) (suits-broken c) })
 
-    -- no whole frame is there
+    -- no whole frame is present
     partial : (n : ℕ) (bytes : List ℕ) → begins_no_frame bytes ≡ false → frame_len bytes ≡ None → Agrees a c (all_turns (suc n) now (with_bytes a bytes t)) (whole a now t bytes)
     partial n bytes f g =
         agrees-by a c _ ([], with_bytes a bytes t) _ (left t bytes)
@@ -149,7 +149,7 @@ module _ (a : SocketAddr) (now : ℕ) where
         let empty : p.1 ≡ with_bytes a [] p.1 = ap (λ (v : State). (frame_step here frame now v).1) (sym alone.empty) ∙ ap (λ (q : Outcome × State). q.1) (frame-bytes a [] here frame now t) in
         aside-alone a t p.1 (subst (λ (l : SocketAddr). IsAsideFrom l t p.1) local-is (frame-aside here frame now t)) (sym empty) alone.distinct alone.others
 
-    -- a frame of so many bytes is in front
+    -- the first frame has so many bytes
     gives : (n : ℕ) (bytes : List ℕ) (k : ℕ) → begins_no_frame bytes ≡ false → frame_len bytes ≡ Some k → length bytes < suc n → Later c n → Agrees a c (all_turns (suc n) now (with_bytes a bytes t)) (whole a now t bytes)
     gives n bytes k f g few later =
         let w = frame_len-IsWhole bytes k g in
@@ -181,7 +181,7 @@ module _ (a : SocketAddr) (now : ℕ) where
         by false f None g = partial n bytes f g
         by false f (Some k) g = gives n bytes k f g few later
 
-    -- its own turn is the first of all, and where it waits there is none
+    -- its own step is the first of all, and while it waits there is none
     pub framed-first : (n : ℕ) (bytes : List ℕ) → gives_then (all_turns n now) (turned (fed here bytes) now t) ≡ all_turns (suc n) now (with_bytes a bytes t)
     framed-first n bytes = by (begins_no_frame bytes) refl (frame_len bytes) refl
       where
@@ -213,7 +213,7 @@ module _ (a : SocketAddr) (now : ℕ) where
   in-mode false (Bound peer) stream t suits unbroken alone e n bytes few later = bound-agrees n t stream peer bytes alone e
   in-mode false Broken stream t suits unbroken alone e n bytes few later = absurd (unbroken refl)
 
-  -- more turns than bytes give the whole
+  -- more steps than bytes give the whole
   pub turns-whole : (c : Bool) (n : ℕ) (t : State) (bytes : List ℕ) → length bytes < n → IsAlone a t → IsThere c a t → Agrees a c (all_turns n now (with_bytes a bytes t)) (whole a now t bytes)
   turns-whole c zero t bytes few alone there = absurd (omega (arith, few))
   turns-whole c (suc n) t bytes few alone there =

@@ -16,7 +16,7 @@ use Rattle.turn_client_api.proofs.StreamMessageLemmas.{Rebound, Same, frame-rebo
 use Rattle.turn_client_runs.specs.Cut.{framed_step, given_by, meant, one_by_one, part_step}
 use Rattle.turn_client_runs.proofs.StreamAtLemmas.{find-mapped}
 
--- payloads of a stream in this mode count as they are, or byte by byte
+-- payloads of a stream in this mode count one by one, or byte by byte
 abbrev pub SuitsMode : Bool → Mode → Type 0
 SuitsMode true Control = Unit {0}
 SuitsMode true Waiting = ⊥
@@ -31,7 +31,7 @@ abbrev pub Suits : Bool → Option Stream → Type 0
 Suits c None = Unit {0}
 Suits c (Some stream) = SuitsMode c stream.mode
 
--- The stream at this local end is not broken, and its payloads count so.
+-- The stream at this local address is not broken, and its payloads count so.
 pub record IsThere (c : Bool) (a : SocketAddr) (s : State) : Type 0 where
   pub stream : Stream
   pub found : stream_at a s ≡ Some stream

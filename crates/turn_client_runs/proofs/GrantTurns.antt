@@ -1,4 +1,5 @@
--- What stands after a turn stood before it, or the turn granted it and ended the request that it answers.
+-- What is active after an input was active before it, or the input granted it and ended the request that it
+-- answers.
 use Rattle.std.proofs.Common.{◌≡◌, ◌⊎◌, ◌∙◌, ℕ, Bool, true, false, cond, List, Option, Some, None, refl, subst, sym, ap, inl, inr}
 use Rattle.std.specs.List.{Contains}
 use Rattle.std.specs.declared.net.socket_addr.SocketAddr.{SocketAddr}
@@ -41,7 +42,7 @@ use Rattle.turn_client_api.proofs.TurnBringLemmas.{IsBrought}
 use Rattle.turn_client_runs.specs.Granted.{IsGivenIn, IsOverIts}
 use Rattle.turn_client_runs.proofs.AnsweredTurns.{made-control, made-waiting, success-ends}
 
--- ---- what is kept is the same, but for what an allocation was told of
+-- ---- what is kept is the same, except that an allocation keeps only its address and its expiry
 
 abbrev pub AreAllocations : Grant → Grant → Type 0
 AreAllocations was g = (a b : Relay) × (was ≡ Allocation a) × (g ≡ Allocation b) × (a.relayed ≡ b.relayed) × (a.expiry ≡ b.expiry)
@@ -82,7 +83,7 @@ kept-alike (Connection c) (Channel other to progress) k = absurd k
 kept-alike (Connection c) (Connect to) k = absurd k
 kept-alike (Connection c) (Offer offer) k = absurd k
 
--- what is given for a purpose is given as what it is kept as
+-- what is granted for a purpose is granted as what it is kept as
 given-kept : (p : Purpose) (was g : Grant) (message : List ℕ) (now : ℕ) (s : State) → IsKeptAs was g → IsGivenFor p message now s was → IsGivenFor p message now s g
 given-kept p was g message now s kept given = by (kept-alike was g kept)
   where
@@ -98,14 +99,14 @@ given-kept p was g message now s kept given = by (kept-alike was g kept)
     by (inl (a, b, is, to, e, f)) = subst (IsGivenFor p message now s) (sym to) (same p a b e f (subst (IsGivenFor p message now s) is given))
     by (inr e) = subst (IsGivenFor p message now s) e given
 
--- ---- what a turn grants
+-- ---- what an input grants
 
--- what the turn gives: a connection that it binds, and all else as the machine says
+-- what the input grants: a connection that it binds, and all else as the machine says
 abbrev pub IsGivenAt : Turn → Purpose → Grant → Type 0
 IsGivenAt one p (Connection c) = IsGivenIn one p (Connection c)
 IsGivenAt one p g = IsGivenFor p one.bytes one.moment one.before g
 
--- The turn is that of a success, and answers a request for the purpose.
+-- The input is a success, and answers a request for the purpose.
 pub record IsAccepting (purpose : Purpose) (one : Turn) : Type 0 where
   pub whole : is_message one.bytes ≡ true
   pub success : class_in one.bytes ≡ Success
@@ -122,7 +123,7 @@ requesting-unsigned true (Some challenge) e = cc
 requesting-unsigned true None e = cc
 requesting-unsigned false o e = cc
 
--- the turn granted it
+-- the input granted it
 pub record Granting (g : Grant) (one : Turn) : Type 0 where
   pub over : IsOverIts g one
   pub purpose : Purpose
@@ -175,7 +176,7 @@ module _ (one : Turn) (over : IsOverControl one) (whole : is_message one.bytes �
 
 -- ---- over a connection that waits to be bound
 
--- a grant that a map leaves was there, or is a connection at this local end
+-- a grant that a map leaves existed before, or is a connection at this local address
 deadline-has : (local : SocketAddr) (g x : Grant) → g ≡ deadline_set local None x → (g ≡ x) ⊎ ((c : DataConnection) × (g ≡ Connection c) × (c.local ≡ local))
 deadline-has local g (Connection c) e = by (same_address c.local local) refl
   where
@@ -189,7 +190,7 @@ deadline-has local g (Connect peer) e = inl e
 deadline-has local g (Offer offer) e = inl e
 
 module _ (one : Turn) (stream : Stream) (of : one.stream ≡ Some stream) (waits : stream.mode ≡ Waiting) (whole : is_message one.bytes ≡ true) where
-  -- the request is outstanding no longer
+  -- the request is no longer outstanding
   bind-ends : (b : Binds stream.local one.bytes one.before (bind_step stream.local one.bytes one.moment one.before)) → one.before.phase ≡ Allocated → IsNotAwaited one.bytes (made_of one).1
   bind-ends b phase =
       let steps : bind_step stream.local one.bytes one.moment one.before ≡ bind_answered b.c one.bytes one.moment one.before = rw (phase, b.found, b.method) refl in
@@ -207,7 +208,7 @@ module _ (one : Turn) (stream : Stream) (of : one.stream ≡ Some stream) (waits
     heard = λ e. let no : Requesting ≡ Allocated = sym e ∙ phase in cc;
   }
 
-  -- the connection is the one from the local end over which the message came
+  -- the connection is the one from the local address over which the message was received
   bound-granting : (b : Binds stream.local one.bytes one.before (bind_step stream.local one.bytes one.moment one.before)) → one.before.phase ≡ Allocated → (g : Grant) (c : DataConnection) → c.local ≡ b.c.local → IsKeptAs (Connection c) g → Granting g one
   bound-granting b phase (Connection d) c at (same, none) =
       let here : c.local ≡ stream.local = at ∙ found-local stream.local b.c _ b.found in
@@ -251,7 +252,7 @@ module _ (one : Turn) (stream : Stream) (of : one.stream ≡ Some stream) (waits
       by Authenticating e leaves covers = same (rw e refl) covers
       by Closed e leaves covers = same (rw e refl) covers
 
--- ---- all turns
+-- ---- all inputs
 
 pub granting-brought : (g : Grant) → IsBrought (λ s. Covers s.grants g) (Granting g)
 granting-brought g = record {

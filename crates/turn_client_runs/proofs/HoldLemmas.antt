@@ -7,7 +7,7 @@ use Rattle.turn_client_api.specs.LawsStates.{HoldsAtFirst, StaysInCalls}
 use Rattle.turn_client_runs.specs.Run.{state_behind}
 use Rattle.turn_client_runs.specs.Holds.{HoldsInAnyRun, HoldsInRuns, Reaches}
 
--- calls that all find memory lead to the state after them
+-- calls without an allocation failure lead to the state after them
 pub reaches-behind : (s : State) (calls : List Call) → Reaches s calls (state_behind s calls)
 reaches-behind s [] = refl
 reaches-behind s (call ∷ calls) = (state_after call s, inl refl, reaches-behind (state_after call s) calls)

@@ -7,15 +7,11 @@ pub mod BoundLemmas
 pub mod CallGrants
 pub mod ChallengeLemmas
 pub mod ComingLemmas
-pub mod CostCalls
-pub mod CostLemmas
-pub mod CostMessages
-pub mod CostReplies
-pub mod CostTime
 pub mod ConfiguredLemmas
 pub mod FedTurnLemmas
 pub mod FollowLemmas
 pub mod GrantTurns
+pub mod HeldLemmas
 pub mod HoldLemmas
 pub mod MadeLemmas
 pub mod PeerLemmas
@@ -23,6 +19,7 @@ pub mod PieceLemmas
 pub mod PiecesLemmas
 pub mod PromiseLemmas
 pub mod QuietLemmas
+pub mod RealmLemmas
 pub mod ReceivedLemmas
 pub mod ReceivedRuns
 pub mod RelistLemmas
@@ -30,6 +27,7 @@ pub mod ReplyLemmas
 pub mod RunCutLemmas
 pub mod RunGrants
 pub mod RunLemmas
+pub mod ShortLemmas
 pub mod SignedCalls
 pub mod SignedLemmas
 pub mod SleepLemmas
@@ -38,5 +36,4 @@ pub mod TogetherLemmas
 pub mod TurnBytes
 pub mod TurnsOfRuns
 pub mod TwoAllocations
-pub mod WeightLemmas
 pub mod WholeLemmas

@@ -1,4 +1,4 @@
--- What is made of a whole message in its turn.
+-- The effect of an input that is a whole message.
 use Rattle.std.proofs.Common.{◌≡◌, ℕ, true, List, Option, Some, None, refl}
 use Rattle.std.specs.Prelude.{is_none}
 use Rattle.std.proofs.lemmas.Bool.{lt-ltb}
@@ -21,7 +21,7 @@ whole-begins bytes whole = lt-ltb (type_of bytes) 0x4000 (no_fault-IsFaultless b
     none None e = refl
     none (Some x) e = cc
 
--- over the control connection the message is handled
+-- over the control connection the message is processed
 pub control-made : (one : Turn) → IsOverControl one → is_message one.bytes ≡ true → made_of one ≡ message_step one.bytes one.moment one.before
 control-made one over whole = by one.stream refl
   where

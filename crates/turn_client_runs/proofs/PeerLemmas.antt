@@ -1,4 +1,4 @@
--- From whom the payloads of a run come.
+-- The senders of the payloads of a run.
 use Rattle.std.proofs.Common.{◌≡◌, ◌⊎◌, ℕ, zero, suc, Bool, true, false, cond, List, [], ◌∷◌, ◌++◌, map, take, Option, Some, None, refl, sym, subst, ap, ◌∙◌, inl, inr}
 use Rattle.std.proofs.lemmas.List.Elements.{Contains-append_cases}
 use Rattle.std.specs.Prelude.{find}
@@ -25,13 +25,13 @@ use Rattle.turn_client_api.specs.declared.state.Stream.{Stream}
 use Rattle.turn_client_api.proofs.HandledLemmas.{poll_recv-Gives, recv-AreOf, turn-IsLetIn}
 use Rattle.turn_client_api.proofs.HasLemmas.{Has, has-append, has-filter_map, has-found, map-has}
 use Rattle.turn_client_api.proofs.StandLemmas.{contains-has, has-contains}
-use Rattle.turn_client_runs.specs.Peers.{IsGivenBy, IsOfLetIn, IsReceived, TellsOfPermitted}
+use Rattle.turn_client_runs.specs.Peers.{InputDelivers, IsOfLetIn, IsDeliveredIn, TellsOfPermitted}
 use Rattle.turn_client_runs.specs.Turns.{IsAmong, answered, answered_in, handled_in, payloads_in}
 use Rattle.turn_client_runs.proofs.TurnsOfRuns.{among-left, among-right, has-among}
 
--- ---- the stream of a turn stands in the state just before
+-- ---- the stream of an input is in the state just before it
 
--- with its local end and its mode
+-- with its local address and its mode
 abbrev Stands : Stream → State → Type 0
 Stands stream s = (x : Stream) × Contains s.streams x × (x.local ≡ stream.local) × (x.mode ≡ stream.mode)
 
@@ -166,9 +166,9 @@ call-in (Recv packet now) s = recv_over s.transport packet.transport packet.from
 call-in (PollRecv now) s = poll_recv-in now s
 call-in _ s = none-in
 
--- ---- from whom a payload comes
+-- ---- the sender of a payload
 
--- the peer of a payload is the same where it is owned
+-- the peer of a payload is the same if it is owned
 peer-same : (l : Bool) (p payload : Payload) → payload_in (cond l (PeerData p) (owned (PeerData p))) ≡ Some payload → p.peer ≡ payload.peer
 peer-same true p payload e = let same : p ≡ payload = cc in ap (λ (x : Payload). x.peer) same
 peer-same false p payload e = let same : record p { place = None } ≡ payload = cc in ap (λ (x : Payload). x.peer) same
@@ -188,7 +188,7 @@ module _ (payload : Payload) where
   no_icmp true transport peer icmp e = cc
   no_icmp false transport peer icmp e = cc
 
-  -- a whole message or a channel frame
+  -- a whole message or a ChannelData message
   through : (one : Turn) (o : Outcome) → IsLetThrough one.bytes one.before o → Gives one.is_lent o → IsOfLetIn payload.peer one
   through one (PeerData p) exact gives = subst (λ (peer : SocketAddr). IsOfLetIn peer one) (peer-same one.is_lent p payload gives) (by exact)
     where
@@ -199,7 +199,7 @@ module _ (payload : Payload) where
   through one Ignored exact gives = absurd (nothing one.is_lent (inr gives))
   through one (PeerIcmp transport peer icmp) exact gives = absurd (no_icmp one.is_lent transport peer icmp gives)
 
-  -- what nobody sent is no payload
+  -- what no peer sent is no payload
   nobody : (one : Turn) (o : Outcome) → IsNobodys o → Gives one.is_lent o → IsOfLetIn payload.peer one
   nobody one (PeerData p) none gives = absurd none
   nobody one Handled none gives = absurd (nothing one.is_lent (inl gives))
@@ -228,26 +228,26 @@ module _ (payload : Payload) where
 
   -- ---- a call, and a run
 
-  by-call : (call : Call) (s : State) → Contains (payloads_by call s) payload → IsAmong (IsGivenBy payload) (handled call s)
+  by-call : (call : Call) (s : State) → Contains (payloads_by call s) payload → IsAmong (InputDelivers payload) (handled call s)
   by-call call s there = by (has-filter_map turn_payload payload (handled call s) (contains-has payload (payloads_by call s) there))
     where
-      by : (one : Turn) × Has one (handled call s) × (turn_payload one ≡ Some payload) → IsAmong (IsGivenBy payload) (handled call s)
+      by : (one : Turn) × Has one (handled call s) × (turn_payload one ≡ Some payload) → IsAmong (InputDelivers payload) (handled call s)
       by (one, among, gives) =
           let exact = turn-IsLetIn one in
-          has-among (IsGivenBy payload) (handled call s) (one, among, record { given = gives; exact = exact; let_in = let-in one gives exact (call-in call s one among) })
+          has-among (InputDelivers payload) (handled call s) (one, among, record { given = gives; exact = exact; let_in = let-in one gives exact (call-in call s one among) })
 
-  pub received : (s : State) (calls : List Call) → Contains (payloads_in s calls) payload → IsReceived payload s calls
+  pub received : (s : State) (calls : List Call) → Contains (payloads_in s calls) payload → IsDeliveredIn payload s calls
   received s [] there = absurd (contains-has payload [] there)
   received s (call ∷ calls) there = by (received (state_after call s) calls) (Contains-append_cases (payloads_by call s) (payloads_in (state_after call s) calls) payload there)
     where
       more : List Turn
       more = handled_in (state_after call s) calls
 
-      by : (Contains (payloads_in (state_after call s) calls) payload → IsReceived payload (state_after call s) calls) → Contains (payloads_by call s) payload ⊎ Contains (payloads_in (state_after call s) calls) payload → IsReceived payload s (call ∷ calls)
-      by rest (inl here) = among-left (IsGivenBy payload) (handled call s) more (by-call call s here)
-      by rest (inr later) = among-right (IsGivenBy payload) (handled call s) more (rest later)
+      by : (Contains (payloads_in (state_after call s) calls) payload → IsDeliveredIn payload (state_after call s) calls) → Contains (payloads_by call s) payload ⊎ Contains (payloads_in (state_after call s) calls) payload → IsDeliveredIn payload s (call ∷ calls)
+      by rest (inl here) = among-left (InputDelivers payload) (handled call s) more (by-call call s here)
+      by rest (inr later) = among-right (InputDelivers payload) (handled call s) more (rest later)
 
--- ---- what the calls answer
+-- ---- what the calls return
 
 call-answered : (call : Call) (s : State) → payloads_by call s ≡ answered call s
 call-answered (Recv packet now) s = recv-AreOf packet now s
@@ -258,10 +258,10 @@ pub all-answered : (s : State) (calls : List Call) → payloads_in s calls ≡ a
 all-answered s [] = refl
 all-answered s (call ∷ calls) = rw (call-answered call s, all-answered (state_after call s) calls) refl
 
--- ---- what ICMP told
+-- ---- ICMP reports
 
 tells-through : (one : Turn) (o : Outcome) → (made_of one).0 ≡ o → IsLetThrough one.bytes one.before o → TellsOfPermitted one
-tells-through one (PeerIcmp transport peer icmp) e (indicated, is) = rw e indicated.permitted
+tells-through one (PeerIcmp transport peer icmp) e (indicated, is) = rw e (indicated, is)
 tells-through one (PeerData payload) e exact = rw e tt
 tells-through one Handled e exact = rw e tt
 tells-through one Ignored e exact = rw e tt

@@ -1,4 +1,4 @@
--- A piece, and then polling, gives the whole of the bytes that wait and of the piece.
+-- A piece, followed by polling, returns the whole of the buffered bytes and of the piece.
 use Rattle.std.proofs.Common.{◌≡◌, ℕ, suc, ◌+◌, ◌<◌, ◌≤◌, Bool, true, false, cond, List, [], ◌∷◌, ◌++◌, length, Option, Some, None, refl, ap, sym, subst, ◌∙◌, arith}
 use Rattle.std.specs.Prelude.{is_some}
 use Rattle.std.specs.declared.net.socket_addr.SocketAddr.{SocketAddr}
@@ -26,9 +26,9 @@ use Rattle.turn_client_runs.proofs.FollowLemmas.{IsFramed, IsThere, Suits, Suits
 use Rattle.turn_client_runs.proofs.StreamAtLemmas.{IsAlone, OthersWait, aside-alone, bytes-aside, bytes-found, found-local, none-bytes, none-false, self-bytes}
 use Rattle.turn_client_runs.proofs.WholeLemmas.{broken-whole, none-whole, whole-waits}
 
--- ---- what comes in
+-- ---- input
 
--- a piece of this stream comes over TCP from the server
+-- a piece of this stream is received over TCP from the server
 recv-tcp : (a : SocketAddr) (piece : List ℕ) (now : ℕ) (s : State) (stream : Stream) → stream_at a s ≡ Some stream → recv_step Tcp s.remote a piece now (record s { transport = Tcp }) ≡ stream_step stream piece now (record s { transport = Tcp })
 recv-tcp a piece now s stream e = rw (same_address-self s.remote, e) refl
 
@@ -44,7 +44,7 @@ recv-found a piece now s stream tcp e = subst (λ (v : State). recv_step Tcp s.r
 recv-none : (a : SocketAddr) (piece : List ℕ) (now : ℕ) (s : State) → s.transport ≡ Tcp → stream_at a s ≡ None → recv_step Tcp s.remote a piece now s ≡ (Ignored, s)
 recv-none a piece now s tcp e = subst (λ (v : State). recv_step Tcp s.remote a piece now v ≡ (Ignored, v)) (over-tcp s tcp) (recv-nothing a piece now s e)
 
--- where a payload stands doesn't count
+-- the place of a payload does not count
 placed : (waited : List ℕ) (o : Outcome) → given_by (place_kept waited o) ≡ given_by o
 placed [] o = refl
 placed (b ∷ bytes) (PeerData payload) = refl
@@ -73,13 +73,13 @@ module _ (a : SocketAddr) (now : ℕ) (s : State) (quiet : IsQuiet s) where
   out-found : (stream : Stream) → stream_at a s ≡ Some stream → stream_at a out ≡ Some (record stream { bytes = [] })
   out-found stream e = bytes-found a [] s stream e
 
-  -- no turn comes before more comes in
+  -- no step follows before more is received
   rests : (n : ℕ) → all_turns n now s ≡ ([], s)
   rests n = all-rest n now s quiet.none_ready
 
   -- ---- no stream, and a broken one
 
-  -- where nothing waits at this local end
+  -- if nothing is buffered at this local address
   same-out : (stream : Stream) → stream_at a s ≡ Some stream → stream.bytes ≡ [] → out ≡ s
   same-out stream e empty = subst (λ (l : List ℕ). with_bytes a l s ≡ s) empty (self-bytes a s stream quiet.apart.0 e)
 
@@ -104,18 +104,18 @@ module _ (a : SocketAddr) (now : ℕ) (s : State) (quiet : IsQuiet s) where
 
   -- ---- a stream that is not broken
 
-  -- what waits, and the piece behind it
+  -- the buffered bytes, and the piece after them
   abbrev fed_with : Stream → List ℕ → Stream
   fed_with stream piece = record stream { bytes = stream.bytes ++ piece }
 
-  -- The piece is given as one turn of this stream, and then all that come.
+  -- The result of the piece is one step of this stream, and then all that follow.
   abbrev GivesTurn : Stream → List ℕ → ℕ → Type 0
   GivesTurn stream piece n = fed_piece a piece now s ≡ gives_then (all_turns n now) (turned (fed_with stream piece) now out)
 
   turn-out : (stream : Stream) (piece : List ℕ) → stream_at a s ≡ Some stream → turn (fed_with stream piece) now s ≡ turned (fed_with stream piece) now out
   turn-out stream piece e = ap (λ (l : SocketAddr). turned (fed_with stream piece) now (with_bytes l [] s)) (found-local a s stream e)
 
-  -- turns enough for what the first of them leaves
+  -- enough steps for what the first of them leaves
   abbrev enough : Stream → List ℕ → ℕ
   enough stream piece = weight (turned (fed_with stream piece) now out).1.streams + length (stream.bytes ++ piece)
 
@@ -193,7 +193,7 @@ module _ (a : SocketAddr) (now : ℕ) (s : State) (quiet : IsQuiet s) where
   agrees-in false (Bound peer) b piece stream suits e = bound-agrees b piece stream peer e
   agrees-in false Broken b piece stream suits e = broken-agrees false b piece (bytes_at a s ++ b ∷ piece) stream e tt
 
-  -- a piece gives the whole of what waits and of its bytes
+  -- a piece returns the whole of the buffered bytes and its own
   pub piece-agrees : (c : Bool) (b : ℕ) (piece : List ℕ) → Suits c (stream_at a s) → Agrees a c (fed_piece a (b ∷ piece) now s) (whole a now out (bytes_at a s ++ b ∷ piece))
   piece-agrees c b piece suits = by (stream_at a s) refl suits
     where
@@ -201,7 +201,7 @@ module _ (a : SocketAddr) (now : ℕ) (s : State) (quiet : IsQuiet s) where
       by None e h = none-agrees c (b ∷ piece) (bytes_at a s ++ b ∷ piece) e
       by (Some stream) e h = agrees-in c stream.mode b piece stream h e
 
-  -- ---- before a piece comes
+  -- ---- before a piece is received
 
   framed-size : (bytes : List ℕ) → is_some (cond (begins_no_frame bytes) (Some (length bytes)) (frame_len bytes)) ≡ false → T.size_in T.Framed bytes ≡ None
   framed-size bytes h = by (begins_no_frame bytes) refl (frame_len bytes) refl h
@@ -221,7 +221,7 @@ module _ (a : SocketAddr) (now : ℕ) (s : State) (quiet : IsQuiet s) where
       by (b ∷ bytes) k = cc
   waits-size Broken stream h empty = rw (empty refl) refl
 
-  -- nothing is given of what waits
+  -- nothing is returned of the buffered bytes
   pub waits-whole : whole a now out (bytes_at a s) ≡ left out (bytes_at a s)
   waits-whole = by (stream_at a s) refl
     where
@@ -242,7 +242,7 @@ module _ (a : SocketAddr) (now : ℕ) (s : State) (quiet : IsQuiet s) where
       by None e = bytes-twice a [] (bytes_at a s) s ∙ none-bytes a (bytes_at a s) s e
       by (Some stream) e = bytes-twice a [] (bytes_at a s) s ∙ (ap (λ (l : List ℕ). with_bytes a l s) (held-is stream e) ∙ self-bytes a s stream quiet.apart.0 e)
 
-  -- ---- bytes that are not meant at all
+  -- ---- bytes that are dropped
 
   unmeant-is : (m : Mode) → meant m ≡ T.Broken → m ≡ Broken
   unmeant-is Control e = cc

@@ -1,4 +1,4 @@
--- The law of cuts: pieces give what all their bytes give.
+-- The law of cuts: pieces return what all their bytes return.
 use Rattle.std.proofs.Common.{◌≡◌, ◌≢◌, ℕ, Bool, List, [], ◌∷◌, ◌++◌, flat_map, Option, Some, None, refl, ap, sym, ◌∙◌, append_assoc}
 use Rattle.std.specs.List.{concat}
 use Rattle.std.proofs.lemmas.Grind.{flat_map-append}
@@ -33,7 +33,7 @@ suits-first (Some stream) = by stream.mode
     by Broken = tt
 
 module _ (a : SocketAddr) (now : ℕ) where
-  -- the pieces give what these bytes give, where payloads count so
+  -- the pieces return what these bytes return, where payloads count so
   pub record IsSame (c : Bool) (p q : List Payload × State) : Type 0 where
     pub given : flat_map (one_by_one c) p.0 ≡ q.0
     pub after : p.1 ≡ q.1

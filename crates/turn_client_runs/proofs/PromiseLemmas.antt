@@ -1,5 +1,5 @@
 -- Each promise, of any run of a new client.
-use Rattle.std.proofs.Common.{◌≡◌, ℕ, List, ◌++◌}
+use Rattle.std.proofs.Common.{◌≡◌, ℕ, List, ◌++◌, None, Option, ap, subst}
 use Rattle.std.specs.declared.net.socket_addr.SocketAddr.{SocketAddr}
 use Rattle.turn_stun.specs.declared.transport.TransportType.{TransportType}
 use Rattle.turn_client_api.specs.Config.{Config}
@@ -8,15 +8,39 @@ use Rattle.turn_client_api.specs.LawsNumbers.{HasDistinctNumbers}
 use Rattle.turn_client_api.specs.declared.call.Call.{Call}
 use Rattle.turn_client_api.proofs.DistinctNumbers.{initial-numbers, leaves-apart}
 use Rattle.turn_client_runs.specs.Challenges.{IsPatient}
-use Rattle.turn_client_runs.specs.Promises.{AfterEach, BoundHaveSuccess, CutsAgree, FewAreAnswered, GrantsHaveReplies, HearsLetIn, NumbersAreDistinct, RealmStays, RepliesCountOnce}
+use Rattle.turn_client_runs.specs.Promises.{AfterEach, BoundHaveSuccess, CutsAgree, FewAreAnswered, GrantsHaveReplies, HearsLetIn, NumbersAreDistinct, RealmIsAnswered, RealmStays, RepliesCountOnce}
+use Rattle.turn_client_runs.specs.Replies.{CountsOnce}
 use Rattle.turn_client_runs.specs.Run.{state_behind}
+use Rattle.turn_client_runs.specs.Cut.{IsQuiet}
+use Rattle.turn_client_api.specs.Streams.{poll_recv_step}
+use Rattle.turn_client_api.specs.Payloads.{Payload}
+use Rattle.turn_client_api.specs.LawsStreams.{AreApart}
+use Rattle.turn_stun.specs.declared.transport.TransportType.TheVariants.{Tcp}
+use Rattle.turn_client_runs.proofs.QuietLemmas.{calls-keep, poll-quiet}
+use Rattle.turn_client_api.proofs.StreamCallLemmas.{call-apart, initial-apart}
 use Rattle.turn_client_runs.proofs.BoundLemmas.{connections-have-success, streams-are-bound-before, streams-have-success}
-use Rattle.turn_client_runs.proofs.ChallengeLemmas.{few-answered, initial-patient, leaves-patient, realm-stays}
+use Rattle.turn_client_runs.proofs.ChallengeLemmas.{challenge-counts, few-answered, initial-patient, leaves-patient, realm-stays}
+use Rattle.turn_client_runs.proofs.HeldLemmas.{held-from}
+use Rattle.turn_client_runs.proofs.ShortLemmas.{streams-short}
+use Rattle.turn_client_runs.specs.Short.{StreamsAreShort}
 use Rattle.turn_client_runs.proofs.HoldLemmas.{holds-found, reaches-behind}
 use Rattle.turn_client_runs.proofs.PeerLemmas.{received, tells-permitted}
-use Rattle.turn_client_runs.proofs.ReplyLemmas.{reply-ends, reply-gone}
+use Rattle.turn_client_runs.proofs.RealmLemmas.{turns-realm}
+use Rattle.turn_client_runs.proofs.ReplyLemmas.{made-between, made-in, made-until, reply-again, reply-ends}
 use Rattle.turn_client_runs.proofs.RunCutLemmas.{run-cut}
-use Rattle.turn_client_runs.proofs.RunGrants.{grants-have-replies}
+use Rattle.turn_client_runs.proofs.RunGrants.{first-hold, grants-have-replies}
+use Rattle.turn_client_runs.proofs.ComingLemmas.{turns-come}
+use Rattle.turn_client_runs.proofs.ReceivedRuns.{turns-received}
+use Rattle.turn_client_api.proofs.StandLemmas.{contains-has}
+use Rattle.turn_client_api.specs.Handled.{handled}
+
+once : (s : State) (calls : List Call) → CountsOnce s calls
+once s calls = (
+  λ call later one e is. reply-again s call later one is,
+  λ call e. made-between s call,
+  λ call between last e. made-until s call between last,
+  λ id. made-in id s calls,
+)
 
 module _ (transport : TransportType) (local remote : SocketAddr) (config : Config) (seed : List ℕ) (calls : List Call) where
   abbrev first : State
@@ -36,20 +60,40 @@ module _ (transport : TransportType) (local remote : SocketAddr) (config : Confi
   )
 
   pub run-hears : HearsLetIn first calls
-  run-hears = (λ payload. received payload first calls, λ one there. tells-permitted one)
+  run-hears = (
+    λ earlier middle later e. (λ payload. received payload (state_behind first earlier) middle, λ one there. tells-permitted one),
+    λ earlier call later one e there.
+        let has = contains-has one (handled call (state_behind first earlier)) there in
+        (turns-come call (state_behind first earlier) one has, turns-received earlier call first (first-hold transport local remote config seed) one has),
+  )
 
   pub run-replies : RepliesCountOnce first calls
-  run-replies = (λ one there is. reply-ends one is, λ one there is. reply-gone one is)
+  run-replies = (λ one there is. reply-ends one is, λ earlier middle later e. once (state_behind first earlier) middle)
 
   pub run-few : FewAreAnswered first calls
-  run-few earlier middle later e = (patient, few-answered (state_behind first earlier) middle patient)
+  run-few earlier middle later e = (patient, few-answered (state_behind first earlier) middle patient, λ one there. challenge-counts one)
     where
       patient : IsPatient (state_behind first earlier)
       patient = holds-found IsPatient leaves-patient initial-patient transport local remote config seed earlier
 
   pub run-realm : RealmStays first calls
-  run-realm earlier middle later e =
-      realm-stays (state_behind first earlier) middle (state_behind (state_behind first earlier) middle) (reaches-behind (state_behind first earlier) middle)
+  run-realm earlier middle later e = (
+    realm-stays (state_behind first earlier) middle (state_behind (state_behind first earlier) middle) (reaches-behind (state_behind first earlier) middle),
+    turns-realm (state_behind first earlier) middle,
+  )
+
+  pub run-held : RealmIsAnswered first calls
+  run-held earlier later e = held-from transport local remote config seed earlier
+
+  pub run-short : StreamsAreShort first calls
+  run-short = streams-short transport local remote config seed calls
 
   pub run-cuts : CutsAgree first calls
-  run-cuts earlier middle later e = λ at pieces now quiet are. run-cut at pieces now (state_behind first earlier) quiet middle are
+  run-cuts earlier middle later e = λ at pieces now tcp drained are. run-cut at pieces now (state_behind first earlier) (quiet now tcp drained) middle are
+    where
+      apart : AreApart (state_behind first earlier)
+      apart = calls-keep AreApart call-apart earlier first (initial-apart transport local remote config seed)
+
+      quiet : (now : ℕ) → (state_behind first earlier).transport ≡ Tcp → poll_recv_step now (state_behind first earlier) ≡ (None, state_behind first earlier) → IsQuiet (state_behind first earlier)
+      quiet now tcp drained =
+          subst (λ (p : Option Payload × State). IsQuiet p.1) drained (poll-quiet (state_behind first earlier) tcp apart now (ap (λ (p : Option Payload × State). p.0) drained))

@@ -1,4 +1,4 @@
--- A client that was polled until nothing came is quiet.
+-- A client that was polled until nothing was returned is quiet.
 use Rattle.std.proofs.Common.{◌≡◌, ℕ, zero, suc, ◌+◌, List, [], ◌∷◌, find, Option, Some, None, refl, ap, ◌∙◌, arith}
 use Rattle.std.specs.declared.net.socket_addr.SocketAddr.{SocketAddr}
 use Rattle.turn_stun.specs.declared.transport.TransportType.TheVariants.{Tcp}
@@ -22,7 +22,7 @@ use Rattle.turn_client_runs.specs.Run.{state_behind}
 use Rattle.turn_client_runs.specs.Cut.{GetsQuiet, IsQuiet, and_then, fed_piece, polled}
 use Rattle.turn_client_runs.proofs.AllTurnsLemmas.{all-done, polled_out, polled_out-all}
 
--- ---- over what carries its packets
+-- ---- the transport of its packets
 
 abbrev SameTransport : State → State → Type 0
 SameTransport s t = t.transport ≡ s.transport
@@ -113,7 +113,7 @@ pub initial-quiet : (local remote : SocketAddr) (config : Config) (seed : List �
 initial-quiet local remote config seed = record { transport = refl; apart = initial-apart Tcp local remote config seed; none_ready = refl }
 
 -- what each call keeps, all calls keep
-calls-keep : (P : State → Type 0) → ((call : Call) (s : State) → P s → P (state_after call s)) → (calls : List Call) (s : State) → P s → P (state_behind s calls)
+pub calls-keep : (P : State → Type 0) → ((call : Call) (s : State) → P s → P (state_after call s)) → (calls : List Call) (s : State) → P s → P (state_behind s calls)
 calls-keep P step [] s h = h
 calls-keep P step (call ∷ calls) s h = calls-keep P step calls (state_after call s) (step call s h)
 

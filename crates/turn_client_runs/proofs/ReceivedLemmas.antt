@@ -1,4 +1,4 @@
--- What the streams of a client hold came in by `recv`.
+-- What the streams of a client hold was received by `recv`.
 use Rattle.std.proofs.Common.{◌≡◌, ◌⊎◌, ◌∙◌, ◌++◌, ℕ, zero, suc, Bool, true, false, cond, List, [], ◌∷◌, map, filter, Option, Some, None, refl, sym, subst, ap, inl, inr}
 use Rattle.std.specs.Prelude.{drop, find, is_some, take}
 use Rattle.std.specs.declared.net.socket_addr.SocketAddr.{SocketAddr}
@@ -22,12 +22,12 @@ use Rattle.turn_client_api.proofs.HasLemmas.{Has, has-append, has-filter, has-fo
 use Rattle.turn_client_api.proofs.StreamDrainLemmas.{broken_by, bytes_by, mode_by}
 use Rattle.turn_client_api.proofs.StreamMessageLemmas.{Rebound, frame-rebound}
 
--- of bytes at a local end: what is left of what is known is known
+-- for bytes at a local address: the rest of what is known is known
 module _ (Known : SocketAddr → List ℕ → Type 0) (none : (a : SocketAddr) → Known a []) (less : (a : SocketAddr) (n : ℕ) (bytes : List ℕ) → Known a bytes → Known a (drop n bytes)) where
   abbrev pub AllKnown : List Stream → Type 0
   AllKnown xs = (x : Stream) → Has x xs → Known x.local x.bytes
 
-  -- those at other local ends
+  -- those at other local addresses
   abbrev pub OthersKnown : SocketAddr → List Stream → Type 0
   OthersKnown a xs = (x : Stream) → Has x xs → same_address x.local a ≡ false → Known x.local x.bytes
 
@@ -75,7 +75,7 @@ module _ (Known : SocketAddr → List ℕ → Type 0) (none : (a : SocketAddr) �
   pub filter-known : (p : Stream → Bool) (xs : List Stream) → AllKnown xs → AllKnown (filter p xs)
   filter-known p xs all x there = all x (has-filter p x xs there).0
 
-  -- ---- the turn of a stream
+  -- ---- the step of a stream
 
   framed-known : (stream : Stream) (now : ℕ) (t : State) → Known stream.local stream.bytes → AllKnown t.streams → (o : Option ℕ) → AllKnown (framed_by stream now t o).1.streams
   framed-known stream now t is all None = bytes-known stream.local stream.bytes t is (all-others stream.local t.streams all)
@@ -100,9 +100,9 @@ module _ (Known : SocketAddr → List ℕ → Type 0) (none : (a : SocketAddr) �
   turn-known : (stream : Stream) (now : ℕ) (s : State) → Known stream.local stream.bytes → OthersKnown stream.local s.streams → AllKnown (turn stream now s).1.streams
   turn-known stream now s is others = turned-known stream.mode stream now (with_bytes stream.local [] s) is (bytes-known stream.local [] s (none stream.local) others)
 
-  -- ---- the turns of a call
+  -- ---- the inputs of a call
 
-  -- of what its stream holds
+  -- for what its stream holds
   abbrev pub KnownTurn : Turn → Type 0
   KnownTurn one = (stream : Stream) → one.stream ≡ Some stream → Known stream.local stream.bytes
 
@@ -146,7 +146,7 @@ module _ (Known : SocketAddr → List ℕ → Type 0) (none : (a : SocketAddr) �
   taken-turns : (is_lent : Bool) (stream : Stream) (now : ℕ) (s : State) → Known stream.local stream.bytes → KnownTurns (taken is_lent stream now s)
   taken-turns is_lent stream now s is = mode-turns stream.mode is_lent stream now (with_bytes stream.local [] s) is
 
-  -- what the call takes is known, and so is what its streams hold after it
+  -- what the call processes is known, and so is what its streams hold after it
   abbrev pub Goes : List Turn → State → Type 0
   Goes turns t = KnownTurns turns × AllKnown t.streams
 
@@ -188,7 +188,7 @@ module _ (Known : SocketAddr → List ℕ → Type 0) (none : (a : SocketAddr) �
   broken-turns true now s all = then-known now [] (Handled, s) (no-turns, all)
   broken-turns false now s all = (no-turns, all)
 
-  -- what a broken stream takes in is nothing
+  -- a broken stream stores nothing
   piece-known : (m : Mode) (stream : Stream) (piece : List ℕ) (now : ℕ) (s : State) → (m ≡ Broken → AllKnown s.streams) → Known stream.local (stream.bytes ++ unless_broken m piece) → OthersKnown stream.local s.streams
       → Goes (piece_turns (record stream { mode = m }) piece now s) (piece_step (record stream { mode = m }) piece now s).1
   piece-known Control stream piece now s broken is others =
@@ -207,7 +207,7 @@ module _ (Known : SocketAddr → List ℕ → Type 0) (none : (a : SocketAddr) �
       by true = refl
       by false = refl
 
-  -- the end of a stream takes nothing in
+  -- the end of a stream stores nothing
   end-known : (a : SocketAddr) (s : State) → AllKnown s.streams → AllKnown (without_stream a (connection_gone a s)).streams
   end-known a s all = filter-known _ (connection_gone a s).streams (subst AllKnown (sym (gone-streams a s)) all)
 

@@ -1,4 +1,4 @@
--- What stands in the stream of a turn came in by the run's calls of `recv`.
+-- The bytes in the stream of an input were received by the run's calls of `recv`.
 use Rattle.std.proofs.Common.{◌≡◌, ◌∙◌, ◌++◌, ◌&&◌, ℕ, Bool, true, false, cond, List, [], ◌∷◌, Option, Some, None, refl, sym, subst, ap, inl, inr, append_assoc}
 use Rattle.std.specs.Prelude.{drop, take}
 use Rattle.std.proofs.lemmas.List.{append-nil, take-append-drop}
@@ -29,7 +29,7 @@ use Rattle.turn_client_runs.specs.Run.{state_behind}
 use Rattle.turn_client_runs.proofs.CallGrants.{quiet}
 use Rattle.turn_client_runs.proofs.ReceivedLemmas.{AllKnown, Goes, opened-known, poll-known, stream-known}
 
--- ---- what ends all that came in
+-- ---- what ends all that was received
 
 abbrev Ends : (SocketAddr → List ℕ) → SocketAddr → List ℕ → Type 0
 Ends all a bytes = (before : List ℕ) × (all a ≡ before ++ bytes)
@@ -67,7 +67,7 @@ quiet-piece a (Permissions transport relayed) s other = refl
 quiet-piece a (HavePermission transport to) s other = refl
 quiet-piece a ProtocolError s other = refl
 
--- more may have come in
+-- more may have been received
 module _ (all more : SocketAddr → List ℕ) where
   still-ends : (a : SocketAddr) (piece bytes : List ℕ) → more a ≡ all a ++ piece → piece ≡ [] → Ends all a bytes → Ends more a bytes
   still-ends a piece bytes e empty (before, is) = (before, e ∙ (ap (λ (l : List ℕ). all a ++ l) empty ∙ (append-nil (all a) ∙ is)))
@@ -91,7 +91,7 @@ module _ (all more : SocketAddr → List ℕ) where
       by (inl same) = subst (Held more) (sym same) before
       by (inr (local, opened)) = subst (Held more) (sym opened) (opened-known (Ends more) (nothing-ends more) (less-ends more) local s before)
 
-  -- ---- a piece that comes
+  -- ---- a piece that is received
 
   module _ (packet : Transmit (List ℕ)) (now : ℕ) where
     unless-nothing : (m : Mode) → unless_broken m [] ≡ []
@@ -100,7 +100,7 @@ module _ (all more : SocketAddr → List ℕ) where
     unless-nothing (Bound peer) = refl
     unless-nothing Broken = refl
 
-    -- to the stream that stands at this local end
+    -- for the stream at this local address
     fed-steps : (s : State) (stream : Stream) → stream_at packet.to s ≡ Some stream → ((a : SocketAddr) → more a ≡ all a ++ cond (same_address packet.to a) (unless_broken stream.mode packet.payload) []) → Held all s.streams
         → Steps more (stream_turns stream packet.payload now s) (stream_step stream packet.payload now s).1
     fed-steps s stream found e held = stream-known (Ends more) (nothing-ends more) (less-ends more) stream packet.payload now s empty broken is others
@@ -146,7 +146,7 @@ module _ (all more : SocketAddr → List ℕ) where
                     let no : true ≡ false = sym yes ∙ differ in
                     cc
 
-    -- what a client over UDP takes in goes to no stream
+    -- what a client over UDP receives is stored in no stream
     datagram-steps : (b c : Bool) (s : State) → Held more s.streams
         → Steps more (cond b (cond c (record { stream = None; bytes = packet.payload; is_lent = true; moment = now; before = s } ∷ []) []) [])
         (cond {A = Outcome × State} b (cond {A = Outcome × State} c (datagram_step packet.payload now s) (Ignored, s)) (Ignored, s)).1
@@ -246,3 +246,19 @@ turns-received earlier call first empty one there = by one.stream refl
     by : (o : Option Stream) → one.stream ≡ o → IsReceived (earlier ++ call ∷ []) first (record one { stream = o })
     by None e = tt
     by (Some stream) e = let (front, is) = known stream e in (front, pieces-then stream.local earlier call first ∙ is)
+
+-- what a stream holds after a poll ends what was received for it
+pub streams-received : (earlier : List Call) (now : ℕ) (first : State) → HoldNothing first → (x : Stream) → Has x (state_after (PollRecv now) (state_behind first earlier)).streams
+    → (before : List ℕ) × (pieces_for x.local earlier first ≡ before ++ x.bytes)
+streams-received earlier now first empty x there =
+    let (before, is) = known x there in
+    (before, sym (append-nil (pieces_for x.local earlier first)) ∙ is)
+  where
+    s : State
+    s = state_behind first earlier
+
+    after : SocketAddr → List ℕ
+    after a = pieces_for a earlier first ++ piece_for a (PollRecv now) s
+
+    known : Held after (state_after (PollRecv now) s).streams
+    known = (call-steps (λ a. pieces_for a earlier first) after (PollRecv now) s (λ a. refl) (run-held earlier (λ a. []) first (λ y h. ([], sym (empty y h))))).1

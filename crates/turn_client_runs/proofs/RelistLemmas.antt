@@ -1,4 +1,5 @@
--- For what a request is made again, and listed: the first in order of what the old one is listed for.
+-- The purpose for which a request is made again, and listed: the first in order of those that the old one
+-- is listed for.
 use Rattle.std.proofs.Common.{◌≡◌, ◌⊎◌, ℕ, eqb, ltb, leb, Bool, true, false, not, cond, ◌&&◌, List, [], ◌∷◌, filter, length, Option, Some, None, refl, inl, inr}
 use Rattle.std.specs.Prelude.{find, IfSome, is_some}
 use Rattle.std.specs.Option.{option_map_or}
@@ -136,7 +137,7 @@ signed-relists b Requesting message now s = reply-relists b message now (record 
 signed-relists b Allocated message now s = reply-relists b message now (record s { phase = Allocated })
 signed-relists b Closed message now s = reply-relists b message now (record s { phase = Closed })
 
--- ---- what the server asks lists nothing
+-- ---- what the server requests lists nothing
 
 requested-listed : (message : List ℕ) (s : State) → (attempt_requested message s).listed ≡ s.listed
 requested-listed message s = by (connection_id_in message) refl (peer_in message) refl

@@ -13,18 +13,18 @@ use Rattle.turn_client_api.specs.LawsHandled.{TurnsLead}
 use Rattle.turn_client_api.specs.LawsReplies.{IsAccepted, IsAwaited, IsDrawn, IsNotAwaited}
 use Rattle.turn_client_api.specs.Steps.{state_after}
 use Rattle.turn_client_api.specs.declared.call.Call.{Call}
-use Rattle.turn_client_api.proofs.AcceptedReplyLemmas.{accepted-ended, accepted-gone, accepted-outstanding, bind-ended, bind-outstanding}
+use Rattle.turn_client_api.proofs.AcceptedReplyLemmas.{accepted-gone, accepted-outstanding, bind-ended, bind-outstanding}
 use Rattle.turn_client_api.proofs.BoundLemmas.{found-local}
 use Rattle.turn_client_api.proofs.HasLemmas.{Has}
 use Rattle.turn_client_api.proofs.NewIdCallLemmas.{draws-IsBringing, leaves-draws}
 use Rattle.turn_client_api.proofs.TurnBringLemmas.{IsBrought, lead-brings}
 use Rattle.turn_client_api.proofs.TurnLemmas.{brought}
-use Rattle.turn_client_runs.specs.Replies.{AreReplies, EndsItForGood, EndsItsRequest, IsBindReply, IsDrawnAtOnce, IsMadeAmong, IsMadeBetween, IsMadeIn, IsMadeSince, IsMadeUntil, IsReplyTurn, MakesInTurn}
+use Rattle.turn_client_runs.specs.Replies.{AreReplies, EndsItsRequest, IsBindReply, IsMadeAmong, IsMadeBetween, IsMadeIn, IsMadeSince, IsMadeUntil, IsReplyTurn, MakesInTurn}
 use Rattle.turn_client_runs.specs.Run.{state_behind}
 use Rattle.turn_client_runs.proofs.MadeLemmas.{control-made, waiting-made}
 use Rattle.turn_client_runs.proofs.TurnsOfRuns.{handled-leads, has-among, leads-from, leads-to}
 
--- ---- one turn
+-- ---- one input
 
 unlike : true ≡ false → ⊥
 unlike e = cc
@@ -44,22 +44,14 @@ bind-reply-ended one b =
     accepted = subst (λ (local : SocketAddr). IsAccepted (bind_judgement one.before local one.bytes)) (sym (found-local b.local b.connection _ b.found)) b.accepted
 
 pub reply-ends : (one : Turn) → IsReplyTurn one → EndsItsRequest one
-reply-ends one (inl c) = (accepted-outstanding one.bytes one.before c.accepted, after)
-  where
-    after : IsAwaited one.bytes (made_of one).1 → id_of one.bytes ≡ fresh_id one.before
-    after awaited =
-        accepted-ended one.bytes one.moment one.before c.accepted
-        (subst (λ (p : Outcome × State). IsAwaited one.bytes p.1) (control-made one c.over c.whole) awaited)
-reply-ends one (inr b) =
-    (bind-outstanding b.local one.bytes one.before b.accepted, λ awaited. absurd (unlike (sym awaited ∙ bind-reply-ended one b)))
+reply-ends one (inl c) = (
+  accepted-outstanding one.bytes one.before c.accepted,
+  subst (λ (p : Outcome × State). IsNotAwaited one.bytes p.1) (sym (control-made one c.over c.whole))
+      (accepted-gone one.bytes one.moment one.before c.accepted),
+)
+reply-ends one (inr b) = (bind-outstanding b.local one.bytes one.before b.accepted, bind-reply-ended one b)
 
-pub reply-gone : (one : Turn) → IsReplyTurn one → EndsItForGood one
-reply-gone one (inl c) few =
-    subst (λ (p : Outcome × State). IsNotAwaited one.bytes p.1) (sym (control-made one c.over c.whole))
-    (accepted-gone one.bytes one.moment one.before few c.accepted)
-reply-gone one (inr b) few = bind-reply-ended one b
-
--- ---- what comes about in a turn did not hold before it
+-- ---- what an input causes did not hold before it
 
 module _ (P : State → Bool) (Did : Turn → Type 0) (k : IsBrought (λ s. P s ≡ true) Did) where
   abbrev Anew : Turn → Type 0
@@ -91,7 +83,7 @@ module _ (id : ℕ) where
   abbrev is_out : State → Bool
   is_out t = is_outstanding id t.transactions
 
-  -- an ID is outstanding that was, or a call makes a request under it
+  -- an ID that is outstanding was so before, or a call makes a request under it
   pub made-in : (s : State) (calls : List Call) → is_outstanding id (state_behind s calls).transactions ≡ true → (is_outstanding id s.transactions ≡ true) ⊎ IsMadeIn id s calls
   made-in s [] h = inl h
   made-in s (call ∷ calls) h = by (made-in (state_after call s) calls h)
@@ -111,7 +103,7 @@ module _ (id : ℕ) where
   abbrev Draws : Turn → Type 0
   Draws one = (is_message one.bytes ≡ true) × (id ≡ fresh_id one.before)
 
-  -- so do the turns of a call
+  -- so do the inputs of a call
   lead-makes : (turns : List Turn) (s t : State) → TurnsLead turns s t → is_out t ≡ true → (is_out s ≡ true) ⊎ IsMadeAmong id turns
   lead-makes turns s t lead h = by (lead-brings (λ u. is_out u ≡ true) (Anew is_out Draws drawing) (bringing-anew is_out Draws drawing) turns s t lead h)
     where
@@ -132,18 +124,18 @@ reply-again s call calls one reply front later e awaited = by (made-in id (state
     id = id_of one.bytes
 
     Goal : Type 0
-    Goal = IsDrawnAtOnce one ⊎ IsMadeAmong id later ⊎ IsMadeIn id (state_after call s) calls
+    Goal = IsMadeAmong id later ⊎ IsMadeIn id (state_after call s) calls
 
     at_turn : IsAwaited one.bytes (made_of one).1 ⊎ IsMadeAmong id later → Goal
-    at_turn (inl out) = inl ((reply-ends one reply).1 out)
-    at_turn (inr made) = inr (inl made)
+    at_turn (inl out) = absurd (unlike (sym out ∙ (reply-ends one reply).1))
+    at_turn (inr made) = inl made
 
     by : IsAwaited one.bytes (state_after call s) ⊎ IsMadeIn id (state_after call s) calls → Goal
     by (inl out) =
         at_turn (lead-makes id later (made_of one).1 (state_after call s) (leads-from front later one s (state_after call s) (handled-leads call s front later one e)) out)
-    by (inr made) = inr (inr made)
+    by (inr made) = inr made
 
--- ---- two replies of one ID
+-- ---- two replies with one ID
 
 -- the second finds its request outstanding
 second-out : (one other : Turn) → AreReplies one other → is_outstanding (id_of one.bytes) other.before.transactions ≡ true
@@ -162,9 +154,9 @@ made-between s call one other front between rest replies e = by (lead-makes id b
     lead : TurnsLead between (made_of one).1 other.before
     lead = leads-to between rest other (made_of one).1 (state_after call s) (leads-from front (between ++ other ∷ rest) one s (state_after call s) all)
 
-    by : IsAwaited one.bytes (made_of one).1 ⊎ IsMadeAmong id between → IsDrawnAtOnce one ⊎ IsMadeAmong id between
-    by (inl out) = inl ((reply-ends one replies.0).1 out)
-    by (inr made) = inr made
+    by : IsAwaited one.bytes (made_of one).1 ⊎ IsMadeAmong id between → IsMadeAmong id between
+    by (inl out) = absurd (unlike (sym out ∙ (reply-ends one replies.0).1))
+    by (inr made) = made
 
 pub made-until : (s : State) (call : Call) (calls : List Call) (last : Call) → IsMadeUntil s call calls last
 made-until s call calls last one other front later before rest replies e f = by (lead-makes id before u other.before lead (second-out one other replies))
@@ -179,13 +171,12 @@ made-until s call calls last one other front later before rest replies e f = by 
     lead = leads-to before rest other u (state_after last u) (handled-leads last u before rest other f)
 
     Goal : Type 0
-    Goal = IsDrawnAtOnce one ⊎ IsMadeAmong id later ⊎ IsMadeIn id (state_after call s) calls ⊎ IsMadeAmong id before
+    Goal = IsMadeAmong id later ⊎ IsMadeIn id (state_after call s) calls ⊎ IsMadeAmong id before
 
-    earlier : IsDrawnAtOnce one ⊎ IsMadeAmong id later ⊎ IsMadeIn id (state_after call s) calls → Goal
-    earlier (inl drawn) = inl drawn
-    earlier (inr (inl made)) = inr (inl made)
-    earlier (inr (inr made)) = inr (inr (inl made))
+    earlier : IsMadeAmong id later ⊎ IsMadeIn id (state_after call s) calls → Goal
+    earlier (inl made) = inl made
+    earlier (inr made) = inr (inl made)
 
     by : IsAwaited one.bytes u ⊎ IsMadeAmong id before → Goal
     by (inl out) = earlier (reply-again s call calls one replies.0 front later e out)
-    by (inr made) = inr (inr (inr made))
+    by (inr made) = inr (inr made)

@@ -16,7 +16,7 @@ use Rattle.turn_client_runs.specs.Run.{state_behind}
 use Rattle.turn_client_runs.specs.Cut.{AreNonempty, ArePieces, ArePolls, IsQuiet, IsSameInRuns, and_then, fed_pieces, given_by, given_in, given_in_run, joined, polled}
 use Rattle.turn_client_runs.proofs.PiecesLemmas.{any-cut}
 
--- what calls give, and the state after them
+-- what calls return, and the state after them
 abbrev run_from : State → List Call → List Payload × State
 run_from s calls = (given_in_run s calls, state_behind s calls)
 
@@ -40,7 +40,7 @@ polls-same (call ∷ calls) (suc n) now s (e, ends) some =
         let lighter : weight t.streams < weight s.streams = less refl in
         ap (λ (p : List Payload × State). (payload ∷ p.0, p.1)) (later t is (omega (arith, lighter, some)))
 
--- ---- one call after the other
+-- ---- calls in sequence
 
 run-append : (first more : List Call) (s : State) → run_from s (first ++ more) ≡ (given_in_run s first ++ given_in_run (state_behind s first) more, state_behind (state_behind s first) more)
 run-append [] more s = refl

@@ -1,4 +1,4 @@
--- What stands after a run was granted in it.
+-- What is active after a run was granted in it.
 use Rattle.std.proofs.Common.{◌≡◌, ◌⊎◌, ◌∙◌, ◌++◌, arith, ℕ, List, [], ◌∷◌, Ok, refl, subst, sym, ap, inl, inr}
 use Rattle.std.specs.List.{Contains}
 use Rattle.turn_stun.specs.Message.{id_of}
@@ -32,7 +32,7 @@ use Rattle.turn_client_api.proofs.HasLemmas.{Has, has-right}
 use Rattle.turn_client_api.proofs.ListedGrants.{initial-HasGrantsAsked, leaves-HasGrantsAsked}
 use Rattle.turn_client_api.proofs.SendOrderLemmas.{initial-steady, leaves-steadies}
 use Rattle.turn_client_api.proofs.StandLemmas.{contains-has, covers-has, covers-stood}
-use Rattle.turn_client_runs.specs.Granted.{DrawFreeIds, GrantsAddress, HasReply, IsAllocated, IsAnsweredIn, IsGivenBack, IsGivenIn, IsGranted, IsGranting, IsRelayed, HoldsThrough}
+use Rattle.turn_client_runs.specs.Granted.{GrantsAddress, HasReply, IsAllocated, IsAnsweredIn, IsGivenBack, IsGivenIn, IsGranted, IsGranting, IsRelayed, HoldsThrough}
 use Rattle.turn_client_runs.specs.Run.{state_behind}
 use Rattle.turn_client_runs.proofs.AskedFamilies.{asks-family, turns-signed}
 use Rattle.turn_client_runs.proofs.AskedLemmas.{was-asked}
@@ -45,7 +45,7 @@ use Rattle.turn_client_runs.proofs.RunLemmas.{IsDoneLast, run-did}
 use Rattle.turn_client_runs.proofs.SignedCalls.{call-signs}
 use Rattle.turn_client_runs.proofs.SignedLemmas.{Signs}
 
--- ---- one turn
+-- ---- one input
 
 module _ (one : Turn) where
   -- the channel has the peer that the request named
@@ -102,7 +102,7 @@ module _ (one : Turn) where
 
 -- ---- one call
 
--- what every client keeps that speaks of channels, and of what an ALLOCATE asks for and how
+-- what every client keeps about channels, and about what an ALLOCATE requests and how
 abbrev Keeps : State → Type 0
 Keeps s = HasGrantsAsked s × HasDistinctNumbers s × AllocatesInOrder s × IsSteady s × Signs s
 
@@ -115,7 +115,7 @@ call-keeps call s (asked, distinct, order, steady, signs) = (
   call-signs call s order steady signs,
 )
 
--- a turn of the call answered a request for a purpose, and did this for it
+-- an input of the call answered a request for a purpose, and did this for it
 abbrev IsDoneFor : (Purpose → Turn → Type 0) → Call → State → Type 0
 IsDoneFor Did call s = (one : Turn) × Contains (handled call s) one × ((p : Purpose) × Did p one)
 
@@ -127,7 +127,7 @@ granted-in g call s stands (asked, distinct, order, steady, signs) (one, among, 
 abbrev IsAcceptedEnd : Grant → Call → State → Type 0
 IsAcceptedEnd g call s = IsEndedBy call s g × ((now : ℕ) → call ≡ Delete now → (delete_step now s).0 ≡ Ok tt)
 
--- why it stands after the call
+-- why it is active after the call
 abbrev Causes : Grant → Call → State → Type 0
 Causes g call s = IsAcceptedEnd g call s ⊎ IsDoneFor (IsGranting g) call s
 
@@ -170,7 +170,7 @@ call-allocates relayed call s keeps (a, there, e) = by (call-grants (Allocation 
 
 -- ---- a run
 
--- what is in a list stands somewhere in it
+-- what is in a list has a place in it
 has-cut : {X : Type 0} (x : X) (xs : List X) → Has x xs → (front back : List X) × (xs ≡ front ++ x ∷ back)
 has-cut x (y ∷ xs) (inl e) = ([], xs, rw e refl)
 has-cut {X} x (y ∷ xs) (inr there) = by (has-cut x xs there)
@@ -179,11 +179,11 @@ has-cut {X} x (y ∷ xs) (inr there) = by (has-cut x xs there)
     by (front, back, e) = (y ∷ front, back, ap (λ (l : List X). y ∷ l) e)
 has-cut x [] none = absurd none
 
--- it answers a request for this, which gives nothing back
+-- it answers a request for this, which deletes nothing
 abbrev AnswersFor : (Purpose → Turn → Type 0) → Type 0
 AnswersFor Did = (p : Purpose) (one : Turn) → Did p one → Contains (purposes_of (id_of one.bytes) one.before) p × (GivesBack p → ⊥)
 
--- what is granted is granted for a request that gives nothing back
+-- what is granted is granted for a request that deletes nothing
 no-return : (one : Turn) (g : Grant) (p : Purpose) → IsGivenIn one p g → GivesBack p → ⊥
 no-return one (Allocation a) (ForRefresh family lifetime) (least, same, told) back = absurd (omega (arith, least, back))
 no-return one (Permission ip progress) (ForRefresh family lifetime) given back = given
@@ -227,7 +227,7 @@ module _ (first : State) (unlisted : first.listed ≡ []) (hold : HoldNothing fi
         received = turns-received is.earlier is.call first hold one (among one front back e);
         purpose = p;
         did = did;
-        asked = λ free. was-asked is.earlier is.call is.later first (subst (λ (l : List Call). DrawFreeIds l first) is.split free) unlisted front one back e p (answers p one did).1 (answers p one did).0;
+        asked = was-asked is.earlier is.call is.later first unlisted front one back e p (answers p one did).1 (answers p one did).0;
         holds = is.holds;
       }
 
@@ -246,7 +246,7 @@ module _ (first : State) (empty : first.grants ≡ []) (unlisted : first.listed 
   run-caused : (g : Grant) → IsStanding g → (calls : List Call) → Stood (state_behind first calls) g → IsDoneLast (Causes g) (λ s. Stood s g) calls first
   run-caused g stands calls h = run-did (λ s. Stood s g) (Causes g) Keeps call-keeps (call-grants g stands) calls first keeps (λ was. nothing was.0 was.1) h
 
-  -- the last cause was a turn, or a `delete`
+  -- the last cause was an input, or a `delete`
   run-turned : (g : Grant) (calls : List Call) (is : IsDoneLast (Causes g) (λ s. Stood s g) calls first) → IsDoneFor (IsGranting g) is.call (state_behind first is.earlier) → IsGranted g calls first
   run-turned g calls is done =
       answered-in first unlisted hold calls (IsGranting g) (granting-answers g) (λ s. Stood s g)
@@ -292,7 +292,7 @@ module _ (first : State) (empty : first.grants ≡ []) (unlisted : first.listed 
       by (Offer offer) is = turned (Offer offer) is (λ a e. cc)
       by (Connection c) is = turned (Connection c) is (λ a e. cc)
 
-first-hold : (transport : TransportType) (local remote : SocketAddr) (config : Config) (seed : List ℕ) → HoldNothing (initial transport local remote config seed)
+pub first-hold : (transport : TransportType) (local remote : SocketAddr) (config : Config) (seed : List ℕ) → HoldNothing (initial transport local remote config seed)
 first-hold Udp local remote config seed x absent = absurd absent
 first-hold Tcp local remote config seed x (inl e) = rw e refl
 first-hold Tcp local remote config seed x (inr absent) = absurd absent

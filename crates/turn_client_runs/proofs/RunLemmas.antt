@@ -1,4 +1,4 @@
--- What holds after a run held from the first on, or one of its calls brought it about, and it holds since.
+-- What holds after a run held from the first on, or one of its calls caused it, and it holds since.
 use Rattle.std.proofs.Common.{◌≡◌, ◌⊎◌, List, [], ◌∷◌, ◌++◌, refl, ap, inl, inr}
 use Rattle.turn_client_api.specs.State.{State}
 use Rattle.turn_client_api.specs.Steps.{state_after}
@@ -43,7 +43,7 @@ module _ (P : State → Type 0) (Did : Call → State → Type 0) (Inv : State �
         holds = is.holds;
       })
 
-  -- where it does not hold at first
+  -- if it does not hold at first
   pub run-did : (calls : List Call) (first : State) → Inv first → (P first → ⊥) → P (state_behind first calls) → IsDoneLast Did P calls first
   run-did calls first inv none h = by (run-does calls first inv h)
     where

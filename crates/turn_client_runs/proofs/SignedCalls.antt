@@ -1,5 +1,5 @@
--- Once the first challenge is answered, and up to the allocation, all that is outstanding is a signed ALLOCATE:
--- calls keep that.
+-- Once the first challenge is answered, and until the allocation, all that is outstanding is a signed
+-- ALLOCATE: calls keep that.
 use Rattle.std.proofs.Common.{◌≡◌, ◌⊎◌, ◌≤◌, ◌∙◌, ℕ, Bool, true, false, cond, ◌&&◌, [], Option, None, inl, inr, refl, sym, subst, ap, arith}
 use Rattle.std.specs.List.{Contains}
 use Rattle.std.specs.Net.Socket.{socket_ip}
@@ -38,7 +38,7 @@ use Rattle.turn_client_runs.specs.Granted.{IsSignedAllocate}
 use Rattle.turn_client_runs.proofs.ConfiguredLemmas.{call-configured}
 use Rattle.turn_client_runs.proofs.SignedLemmas.{AreSigned, Signs, SignsIn, StaySigned, StaySigned-IsKept, further-signs, later-signs, same-signs}
 
--- ---- what a caller asks for, an allocation has to be there for
+-- ---- what a caller requests needs an allocation
 
 unallocated : (p : Phase) → IsUngranted p → is_allocated p ≡ false
 unallocated New u = refl
@@ -54,7 +54,7 @@ no-allocation transport ip s e = rw e (none (same_transport transport s.config.a
     none true = refl
     none false = refl
 
--- so that before nothing changes
+-- so that before it nothing changes
 abbrev IsIdle : Call → State → Type 0
 IsIdle call s = IsUngranted s.phase → s.grants ≡ [] → state_after call s ≡ s
 
@@ -130,7 +130,7 @@ Awaits-KeepsEdits = record {
 abbrev WasSent : State → Transaction → Type 0
 WasSent s x = (was : Transaction) × Has was s.transactions × (x.id ≡ was.id) × (x.request ≡ was.request)
 
--- or the client asks for itself
+-- or the client requests it by itself
 abbrev Asks : State → Transaction → Type 0
 Asks s x = WasSent s x ⊎ (((s.phase ≡ New) × (x.id ≡ fresh_id s)) ⊎ (s.phase ≡ Allocated))
 

@@ -1,5 +1,5 @@
--- Once the first challenge is answered, and up to the allocation, all that is outstanding is a signed ALLOCATE:
--- messages keep that.
+-- Once the first challenge is answered, and until the allocation, all that is outstanding is a signed
+-- ALLOCATE: messages keep that.
 use Rattle.std.proofs.Common.{◌≡◌, ◌⊎◌, ◌≤◌, ◌∙◌, ◌+◌, ℕ, Bool, true, false, not, eqb, ltb, List, [], ◌∷◌, ◌++◌, Option, Some, None, inl, inr, refl, sym, subst, ap, arith}
 use Rattle.std.specs.Prelude.{IsSome, is_some, ⊤}
 use Rattle.std.proofs.lemmas.Bool.{and_parts, eq-eqb, eqb-true}
@@ -58,7 +58,7 @@ Signs s = SignsIn s.phase s.config s.held s.transactions
 
 -- ---- phases
 
--- from the allocation on nothing is said
+-- from the allocation on there is no claim
 pub far-signs : (t : State) → 3 ≤ rank t.phase → Signs t
 far-signs t far = by t.phase far
   where
@@ -99,7 +99,7 @@ realm-on was s t keeps (c, d, e, f, realm, algorithm) =
 own-realm : (held : Option Challenge) → IsSome held → HaveOneRealm held held
 own-realm held some = let (c, e) = some-held held some in (c, c, e, e, refl, refl)
 
--- where a challenge is answered, what was signed stays so, and what comes is
+-- if a challenge is answered, what was signed stays so, and what is added is
 pub later-signs : (s t : State) → s.phase ≡ Authenticating → Signs s → Keeps s t → t.config ≡ s.config
     → ((x : Transaction) → Has x t.transactions → t.phase ≡ Authenticating → IsSome t.held → AreSigned t.config t.held s.transactions → IsSignedAllocate t.config t.held x)
     → Signs t
@@ -128,7 +128,7 @@ later-signs s t e h keeps same each = by t.phase refl
 
 -- ---- what is made
 
--- up to the allocation all that is listed is an ALLOCATE
+-- until the allocation all that is listed is an ALLOCATE
 pub for-allocation : (id : ℕ) (s : State) (p : Purpose) → AllocatesInOrder s → IsUngranted s.phase → Has p (purposes_of id s) → p ≡ ForAllocation
 for-allocation id s p order u there =
     let (l, listed, e) = purposes-listed id s p there in sym e ∙ order.0.0 u l (has-contains l s.listed listed)
@@ -259,7 +259,7 @@ bind-signs local message now s h = by s.phase refl
         three : 3 ≤ rank Allocated
         three = omega arith
 
--- ---- with what ALLOCATEs ask for
+-- ---- with what ALLOCATEs request
 
 abbrev pub StaySigned : State → State → Type 0
 StaySigned s t = AllocatesInOrder s × Signs s → AllocatesInOrder t × Signs t

@@ -1,4 +1,4 @@
--- What `poll` tells in a run is timely.
+-- What `poll` returns in a run is timely.
 use Rattle.std.proofs.Common.{suc, List, [], ◌∷◌, inl, refl, arith}
 use Rattle.std.specs.Prelude.{All}
 use Rattle.turn_client_api.specs.State.{State, initial}
@@ -14,12 +14,12 @@ use Rattle.turn_client_runs.specs.Holds.{HoldsInAnyRun, HoldsOfRuns}
 use Rattle.turn_client_runs.specs.Sleeps.{IsPolledInTime, SleepsInTime, SleepsThroughNothing, TellsTimely, TellsTimelyNext}
 use Rattle.turn_client_runs.proofs.HoldLemmas.{holds-any}
 
--- what a call tells of a client in order is timely
+-- what a call of a client whose state fits its phase returns is timely
 tells-timely : (s : State) (call : Call) → IsSteady s → IsHoused s → IsPolledInTime call → TellsTimely s call
 tells-timely s (Poll now) steady housed c = poll-timely now s (steady-IsOrderly s steady) (IsHoused-AllStandIn s housed) c
 tells-timely s _ steady housed c = tt
 
--- a client in order sleeps through nothing, whatever is called
+-- such a client misses no deadline, whatever is called
 sleeps-through-nothing : (s : State) (calls : List Call) → IsSteady s → IsHoused s → All IsPolledInTime calls → SleepsThroughNothing s calls
 sleeps-through-nothing s [] steady housed all = tt
 sleeps-through-nothing s (call ∷ calls) steady housed all = (
@@ -32,7 +32,7 @@ pub run-sleeps : HoldsOfRuns SleepsInTime
 run-sleeps transport local remote config seed calls all =
     sleeps-through-nothing (initial transport local remote config seed) calls (initial-steady transport local remote config seed) (initial-IsHoused transport local remote config seed) all
 
--- nor one that found no memory for some calls
+-- nor one for which some memory allocations failed
 pub any-tells : HoldsInAnyRun TellsTimelyNext
 any-tells transport local remote config seed calls t reaches now early =
     tells-timely t (Poll now)

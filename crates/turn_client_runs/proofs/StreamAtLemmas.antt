@@ -1,4 +1,4 @@
--- The stream at a local end, and those at others.
+-- The stream at a local address, and those at others.
 use Rattle.std.proofs.Common.{◌≡◌, ◌⊎◌, ℕ, Bool, true, false, cond, List, [], ◌∷◌, map, find, Option, Some, None, refl, ap, sym, subst, ◌∙◌, inl, inr}
 use Rattle.std.specs.List.{IsDistinct}
 use Rattle.std.specs.Option.{option_map}
@@ -17,7 +17,7 @@ use Rattle.turn_client_api.proofs.StreamApartLemmas.{IsNoneOf, differ-sym, ends}
 
 -- ---- lists
 
--- where none is found, it is of none
+-- if none is found, none passes
 pub none-false : {X : Type 0} (p : X → Bool) (xs : List X) → find p xs ≡ None → (x : X) → Has x xs → p x ≡ false
 none-false p [] e x none = absurd none
 none-false p (y ∷ ys) e x there = by (p y) refl (none-false p ys)
@@ -30,7 +30,7 @@ none-false p (y ∷ ys) e x there = by (p y) refl (none-false p ys)
         now (inl same) = rw same f
         now (inr more) = later (rw f at e) x more
 
--- a change that keeps local ends finds the same stream, changed
+-- a change that keeps local addresses finds the same stream, changed
 pub find-mapped : (a : SocketAddr) (f : Stream → Stream) → ((x : Stream) → (f x).local ≡ x.local) → (xs : List Stream) → find (λ x. same_address x.local a) (map f xs) ≡ option_map f (find (λ x. same_address x.local a) xs)
 find-mapped a f keeps [] = refl
 find-mapped a f keeps (x ∷ xs) = by (same_address x.local a) refl (find-mapped a f keeps xs)
@@ -87,7 +87,7 @@ none-set a bytes (x ∷ xs) e = by (same_address x.local a) refl (none-set a byt
     by true f later = let clash : Some x ≡ None = rw f at e in cc
     by false f later = let same = later (rw f at e) in rw (f, same) refl
 
--- where there is no such stream, nothing changes
+-- if there is no such stream, nothing changes
 pub none-bytes : (a : SocketAddr) (bytes : List ℕ) (s : State) → stream_at a s ≡ None → with_bytes a bytes s ≡ s
 none-bytes a bytes s e = ap (λ (x : List Stream). record s { streams = x }) (none-set a bytes s.streams e)
 
@@ -112,7 +112,7 @@ self-set a (x ∷ xs) stream apart e = by (same_address x.local a) refl (self-se
         subst (λ (y : Stream). map (bytes_by a y.bytes) (x ∷ xs) ≡ x ∷ xs) is (here f)
     by false f later = let same = later (rw f at e) in rw (f, same) refl
 
--- set to what it holds, it is as it was
+-- set to what it holds, it is unchanged
 pub self-bytes : (a : SocketAddr) (s : State) (stream : Stream) → IsDistinct same_address (ends s.streams) → stream_at a s ≡ Some stream → with_bytes a stream.bytes s ≡ s
 self-bytes a s stream apart e = ap (λ (x : List Stream). record s { streams = x }) (self-set a s.streams stream apart e)
 
@@ -133,11 +133,11 @@ broken-empty a s = ap (λ (x : List Stream). record s { streams = x }) (all-brok
 
 -- ---- the only stream that may be ready
 
--- all streams from other local ends wait
+-- all streams from other local addresses wait
 abbrev pub OthersWait : SocketAddr → List Stream → Type 0
 OthersWait a xs = (x : Stream) → Has x xs → same_address x.local a ≡ false → is_ready x ≡ false
 
--- The stream at this local end holds nothing, no other has this local end, and the others wait.
+-- The stream at this local address holds nothing, no other has this local address, and the others wait.
 pub record IsAlone (a : SocketAddr) (s : State) : Type 0 where
   pub distinct : IsDistinct same_address (ends s.streams)
   pub empty : with_bytes a [] s ≡ s
@@ -152,7 +152,7 @@ none-ready a bytes (x ∷ xs) none waits =
 abbrev if_ready : Stream → Option Stream
 if_ready stream = cond (is_ready stream) (Some stream) None
 
--- the first at this local end is fed, and no other is there
+-- the first at this local address is fed, and no other is there
 find-fed : (a : SocketAddr) (bytes : List ℕ) (xs : List Stream) (stream : Stream) → IsDistinct same_address (ends xs) → OthersWait a xs → find (λ x. same_address x.local a) xs ≡ Some stream → find is_ready (map (bytes_by a bytes) xs) ≡ if_ready (record stream { bytes = bytes })
 unfolding IsDistinct
 find-fed a bytes [] stream apart waits e = cc
@@ -175,7 +175,7 @@ find-fed a bytes (x ∷ xs) stream apart waits e = by (same_address x.local a) r
 pub fed-found : (a : SocketAddr) (bytes : List ℕ) (s : State) (stream : Stream) → IsAlone a s → stream_at a s ≡ Some stream → find is_ready (with_bytes a bytes s).streams ≡ cond (is_ready (record stream { bytes = bytes })) (Some (record stream { bytes = bytes })) None
 fed-found a bytes s stream alone e = find-fed a bytes s.streams stream alone.distinct alone.others e
 
--- without a stream at this local end none is ready
+-- without a stream at this local address none is ready
 pub none-found : (a : SocketAddr) (s : State) → IsAlone a s → stream_at a s ≡ None → find is_ready s.streams ≡ None
 none-found a s alone e =
     find-none is_ready s.streams

@@ -1,5 +1,5 @@
--- What the listings of one ID are for: one request, a channel and the permission that it brings, or
--- allocations that are given back.
+-- What the listings of one ID are for: one request, a channel and the permission requested with it, or
+-- allocations that are deleted.
 use Rattle.std.proofs.Common.{◌≡◌, ◌⊎◌, ◌<◌, ◌^◌, ◌∙◌, ℕ, true, false, eqb, List, [], ◌∷◌, Some, None, inl, inr, refl, sym, subst}
 use Rattle.std.specs.List.{Contains, list_any}
 use Rattle.std.proofs.lemmas.Bool.{eq-eqb, or_parts}
@@ -16,10 +16,9 @@ use Rattle.turn_client_api.specs.Grants.{is_of_request, purposes_of}
 use Rattle.turn_client_api.specs.Handled.{Turn, handled, made_of}
 use Rattle.turn_client_api.specs.LawsGone.{GivesBack}
 use Rattle.turn_client_api.specs.LawsHandled.{DiffersInStreams, DoesTurns, TakesTurns, TurnsLead}
-use Rattle.turn_client_api.specs.LawsPurposes.{DrawsFreeIds}
 use Rattle.turn_client_api.specs.LawsRequests.{AsksFor, IsListedAgain, IsListedAs, IsListedFor, IsListingOf}
 use Rattle.turn_client_api.specs.Receive.{connection_gone}
-use Rattle.turn_client_api.specs.Requests.{fresh_id, most_taken}
+use Rattle.turn_client_api.specs.Requests.{fresh_id}
 use Rattle.turn_client_api.specs.Steps.{state_after}
 use Rattle.turn_client_api.specs.Streams.{without_stream}
 use Rattle.turn_client_api.proofs.Edits.{listing}
@@ -41,7 +40,7 @@ Together p q = IsListedFor p q ⊎ IsListedFor q p ⊎ (GivesBack p × GivesBack
 abbrev pub AreTogether : State → Type 0
 AreTogether s = (l other : Listing) → Has l s.listed → Has other s.listed → l.id ≡ other.id → Together l.purpose other.purpose
 
--- both are listed for one, if not as itself then as the permission that it brings
+-- both are listed for one, if not as itself then as the permission requested with it
 listed-with : (p a b : Purpose) → IsListedFor p a → IsListedFor p b → Together a b
 listed-with p a b (inl e) h = inl (subst (λ (x : Purpose). IsListedFor x b) (sym e) h)
 listed-with p a b (inr brings) (inl e) = inr (inl (subst (λ (x : Purpose). IsListedFor x a) (sym e) (inr brings)))
@@ -62,7 +61,7 @@ listed-with (ForPermission ip) a b (inr none) (inr f) = absurd none
 listed-with (ForConnect to) a b (inr none) (inr f) = absurd none
 listed-with (ForBind local to id) a b (inr none) (inr f) = absurd none
 
--- a request that gives back is listed for nothing else
+-- a request that deletes allocations is listed for nothing else
 back-listed : (p a : Purpose) → GivesBack p → IsListedFor p a → GivesBack a
 back-listed p a back (inl e) = subst GivesBack (sym e) back
 back-listed (ForRefresh family lifetime) a back (inr none) = absurd none
@@ -72,12 +71,12 @@ back-listed (ForChannel number peer) a back (inr brings) = absurd back
 back-listed (ForConnect to) a back (inr brings) = absurd back
 back-listed (ForBind local to id) a back (inr brings) = absurd back
 
--- ---- what a call asks for
+-- ---- what a call requests
 
 abbrev Same : Purpose → Purpose → Type 0
 Same p q = (p ≡ q) ⊎ (GivesBack p × GivesBack q)
 
--- the call asks for one thing, or gives allocations back
+-- the call requests one thing, or deletes allocations
 asks-one : (call : Call) (s : State) (p q : Purpose) (at then : ℕ) → AsksFor call s p at → AsksFor call s q then → Same p q
 asks-one (Delete now) s p q at then (is, (family, e)) (was, (other, f)) = inr (subst GivesBack (sym e) refl, subst GivesBack (sym f) refl)
 asks-one (CreatePermission transport ip now) s p q at then (is, e) (was, f) = inl (e ∙ sym f)
@@ -118,7 +117,7 @@ IsListingHere call s l =
     (purpose : Purpose) × (at : ℕ) × AsksFor call s purpose at × IsListedFor purpose l.purpose
     × IsListedAs purpose at s (state_after call s) l
 
--- the call takes turns, or what it lists it asks for itself
+-- the call processes inputs, or what it lists it requests itself
 pub listing-here : (call : Call) (s : State) → TakesTurns call ⊎ ((l : Listing) → IsListingOf call s l → IsListingHere call s l)
 listing-here (Recv packet now) s = inl tt
 listing-here (PollRecv now) s = inl tt
@@ -137,37 +136,37 @@ listing-here (Permissions transport relayed) s = inr (λ l is. is)
 listing-here (HavePermission transport to) s = inr (λ l is. is)
 listing-here ProtocolError s = inr (λ l is. is)
 
--- ---- a request more
+-- ---- one more request
 
 -- nothing is listed under the next ID
-fresh-unlisted : (s : State) → most_taken s < 2 ^ 96 → (l : Listing) → Has l s.listed → l.id ≡ fresh_id s → ⊥
-fresh-unlisted s few l there e =
-    let free = or_parts (is_outstanding (fresh_id s) s.transactions) _ (fresh-free s few) in
+fresh-unlisted : (s : State) → (l : Listing) → Has l s.listed → l.id ≡ fresh_id s → ⊥
+fresh-unlisted s l there e =
+    let free = or_parts (is_outstanding (fresh_id s) s.transactions) _ (fresh-free s) in
     let none : list_any (λ (l : Listing). eqb l.id (fresh_id s)) s.listed ≡ false = (or_parts (list_any (λ (l : Listing). eqb l.id (fresh_id s)) s.listed) (list_any (is_of_request (fresh_id s)) s.grants) free.1).0 in
     let some = has-any (λ (l : Listing). eqb l.id (fresh_id s)) l s.listed there (eq-eqb l.id (fresh_id s) e) in
     let no : true ≡ false = sym some ∙ none in
     cc
 
--- what comes is listed under the next ID, and belongs together
-together-more : (Came : Listing → Type 0) (s t : State) → most_taken s < 2 ^ 96 → ((l other : Listing) → Came l → Came other → Together l.purpose other.purpose)
+-- what is added is listed under the next ID, and belongs together
+together-more : (Came : Listing → Type 0) (s t : State) → ((l other : Listing) → Came l → Came other → Together l.purpose other.purpose)
     → ((l : Listing) → Has l t.listed → Has l s.listed ⊎ ((l.id ≡ fresh_id s) × Came l)) → AreTogether s → AreTogether t
-together-more Came s t few with came h l other here there e = by (came l here) (came other there)
+together-more Came s t with came h l other here there e = by (came l here) (came other there)
   where
     by : Has l s.listed ⊎ ((l.id ≡ fresh_id s) × Came l) → Has other s.listed ⊎ ((other.id ≡ fresh_id s) × Came other) → Together l.purpose other.purpose
     by (inl old) (inl also) = h l other old also e
-    by (inl old) (inr (is, new)) = absurd (fresh-unlisted s few l old (e ∙ is))
-    by (inr (is, new)) (inl old) = absurd (fresh-unlisted s few other old (sym e ∙ is))
+    by (inl old) (inr (is, new)) = absurd (fresh-unlisted s l old (e ∙ is))
+    by (inr (is, new)) (inl old) = absurd (fresh-unlisted s other old (sym e ∙ is))
     by (inr (is, new)) (inr (also, too)) = with l other new too
 
--- no more comes
+-- no more is added
 together-less : (s t : State) → ((l : Listing) → Has l t.listed → Has l s.listed) → AreTogether s → AreTogether t
 together-less s t less h l other here there e = h l other (less l here) (less other there) e
 
--- ---- turns
+-- ---- inputs
 
 -- a request is made again for what the old one is listed for
-turn-together : (one : Turn) → most_taken one.before < 2 ^ 96 → AreTogether one.before → AreTogether (made_of one).1
-turn-together one few h = together-more Came one.before (made_of one).1 few with (λ l there. by l ((turn-turns one).1 l there)) h
+turn-together : (one : Turn) → AreTogether one.before → AreTogether (made_of one).1
+turn-together one h = together-more Came one.before (made_of one).1 with (λ l there. by l ((turn-turns one).1 l there)) h
   where
     Came : Listing → Type 0
     Came l = Has (listing (id_of one.bytes) l.purpose) one.before.listed
@@ -182,24 +181,18 @@ turn-together one few h = together-more Came one.before (made_of one).1 few with
 pub differs-together : (s t : State) → DiffersInStreams s t → AreTogether s → AreTogether t
 differs-together s t differs h = subst AreTogether (sym differs.others) h
 
-abbrev pub AllFew : List Turn → Type 0
-AllFew turns = (one : Turn) → Has one turns → most_taken one.before < 2 ^ 96
+pub first-together : (one : Turn) (later : List Turn) (s : State) → DiffersInStreams s one.before → AreTogether s → AreTogether (made_of one).1
+first-together one later s differs h = turn-together one (differs-together s one.before differs h)
 
-pub first-together : (one : Turn) (later : List Turn) (s : State) → DiffersInStreams s one.before → AllFew (one ∷ later) → AreTogether s → AreTogether (made_of one).1
-first-together one later s differs few h = turn-together one (few one (inl refl)) (differs-together s one.before differs h)
-
-lead-together : (turns : List Turn) (s t : State) → TurnsLead turns s t → AllFew turns → AreTogether s → AreTogether t
-lead-together [] s t lead few h = differs-together s t lead h
-lead-together (one ∷ later) s t (first, lead) few h = lead-together later (made_of one).1 t lead (λ x there. few x (inr there)) (first-together one later s first few h)
+lead-together : (turns : List Turn) (s t : State) → TurnsLead turns s t → AreTogether s → AreTogether t
+lead-together [] s t lead h = differs-together s t lead h
+lead-together (one ∷ later) s t (first, lead) h = lead-together later (made_of one).1 t lead (first-together one later s first h)
 
 -- ---- all calls
 
-module _ (call : Call) (s : State) (free : DrawsFreeIds call s) where
-  pub few-turns : AllFew (handled call s)
-  few-turns one there = free.turns one (has-contains one (handled call s) there)
-
+module _ (call : Call) (s : State) where
   does-together : DoesTurns call s → AreTogether s → AreTogether (state_after call s)
-  does-together (inl lead) h = lead-together (handled call s) s (state_after call s) lead few-turns h
+  does-together (inl lead) h = lead-together (handled call s) s (state_after call s) lead h
   does-together (inr end) h = together-less s (state_after call s) less h
     where
       gone : State
@@ -213,7 +206,7 @@ module _ (call : Call) (s : State) (free : DrawsFreeIds call s) where
       less l there = old l ((gone-settles end.local s).1 l (subst (λ (t : State). Has l t.listed) end.gone there))
 
   here-together : ((l : Listing) → IsListingOf call s l → IsListingHere call s l) → AreTogether s → AreTogether (state_after call s)
-  here-together own h = together-more (IsListingHere call s) s (state_after call s) free.first with (λ l there. by l (listings-made call s (state_after call s) l (inl refl) (has-contains l (state_after call s).listed there))) h
+  here-together own h = together-more (IsListingHere call s) s (state_after call s) with (λ l there. by l (listings-made call s (state_after call s) l (inl refl) (has-contains l (state_after call s).listed there))) h
     where
       with : (l other : Listing) → IsListingHere call s l → IsListingHere call s other → Together l.purpose other.purpose
       with l other (p, at, asks, for, made) (q, then, also, too, again) = of (asks-one call s p q at then asks also)

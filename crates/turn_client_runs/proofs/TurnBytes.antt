@@ -1,4 +1,4 @@
--- Each turn of a stream takes a byte at least from what the streams hold.
+-- Each step of a stream takes a byte at least from what the streams hold.
 use Rattle.std.proofs.Common.{◌≡◌, ◌≤◌, ◌<◌, ◌+◌, ◌-◌, ℕ, zero, suc, max, Bool, true, false, not, cond, List, [], ◌∷◌, ◌++◌, length, map, filter, take, drop, Option, Some, None, inl, inr, refl, sym, ◌∙◌, arith}
 use Rattle.std.specs.Prelude.{find, is_some}
 use Rattle.std.proofs.lemmas.Bool.{false_from_ne_true}
@@ -31,7 +31,7 @@ use Rattle.turn_client_api.proofs.StreamWeightLemmas.{Sets, found-le-top, kept-S
 
 -- ---- one stream
 
--- These many bytes stand at its local end now, in place of those that the stream held.
+-- These many bytes are at its local address now, in place of those that the stream held.
 module _ (p : Stream → Bool) (stream : Stream) (s : State) (found : find p s.streams ≡ Some stream) where
   abbrev out : State
   out = with_bytes stream.local [] s
@@ -72,7 +72,7 @@ module _ (p : Stream → Bool) (stream : Stream) (s : State) (found : find p s.s
       rw (is, ← map-map empty bind s.streams)
       (moved-twice rest (λ x. bind (empty x)) fill (later-Sets stream.local [] rest (λ x. bind (empty x)) fill bound (bytes_by-Sets stream.local rest)))
 
-  -- a turn of these bytes, whatever of them the stream held before
+  -- a step of these bytes, whatever of them the stream held before
   abbrev TakesOut : List ℕ → List Turn → Outcome × State → Type 0
   TakesOut bytes turns q = length turns + (weight q.1.streams + length stream.bytes) ≤ weight s.streams + length bytes
 
@@ -103,7 +103,7 @@ module _ (p : Stream → Bool) (stream : Stream) (s : State) (found : find p s.s
 
 -- ---- all streams
 
--- the turns and what the streams hold then are no more than what they held
+-- the inputs and what the streams hold then are no more than what they held
 abbrev Takes : List Turn → State → State → Type 0
 Takes turns s t = length turns + weight t.streams ≤ weight s.streams
 
@@ -130,7 +130,7 @@ poll-takes now s = turns-take (most_turns s) now s
 
 -- ---- a piece of a stream
 
--- so many bytes came in
+-- so many bytes were received
 abbrev TakesOf : List ℕ → List Turn → State → State → Type 0
 TakesOf piece turns s t = length turns + weight t.streams ≤ weight s.streams + length piece
 
@@ -159,9 +159,9 @@ module _ (to : SocketAddr) (s : State) where
       by true = let takes = poll-takes now s in omega (arith, takes)
       by false = omega arith
 
--- ---- streams come and go
+-- ---- streams are added and removed
 
--- what counts at another local end stays
+-- what counts at another local address stays
 top-left : (local other : SocketAddr) → same_address other local ≡ false → (xs : List Stream) → top other (filter (λ x. not (same_address x.local local)) xs) ≡ top other xs
 unfolding top
 top-left local other differ [] = refl
@@ -211,7 +211,7 @@ opened-weight : (s t : State) → IsOpened s t → weight t.streams ≤ weight s
 opened-weight s t (inl same) = rw same (omega arith)
 opened-weight s t (inr (local, is)) = rw is (let less = weight-left local s.streams in let more = weight-more local Waiting (without_stream local s).streams in omega (arith, less, more))
 
--- ---- what comes in
+-- ---- input
 
 gone-same : (local : SocketAddr) (s : State) → Same s (connection_gone local s)
 gone-same local s = same-cond (is_some (connection_at local s)) s _ _ refl refl
@@ -232,7 +232,7 @@ datagram-weight bytes now s = by (is_message bytes) (is_channel_frame bytes)
     by false true = refl
     by false false = refl
 
--- one turn of a datagram, or turns of bytes
+-- one input that is a datagram, or inputs made of bytes
 abbrev TakesOfPacket : List ℕ → List Turn → State → State → Type 0
 TakesOfPacket bytes turns s t = length turns + weight t.streams ≤ weight s.streams + (1 + length bytes)
 
@@ -257,7 +257,7 @@ recv_over Tcp transport from to bytes now s = by (is_from_server transport from 
     by true e None f = rw (e, f) (omega arith)
     by true e (Some stream) f = let takes = stream-takes to stream bytes now u f in rw (e, f) (omega (arith, takes))
 
--- the turns of a call, and what the streams hold then
+-- the inputs of a call, and what the streams hold then
 pub recv-takes : (packet : Transmit (List ℕ)) (now : ℕ) (s : State) → length (handled (Recv packet now) s) + weight (state_after (Recv packet now) s).streams ≤ weight s.streams + (1 + length packet.payload)
 recv-takes packet now s = recv_over s.transport packet.transport packet.from packet.to packet.payload now s
 

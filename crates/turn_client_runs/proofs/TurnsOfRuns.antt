@@ -1,4 +1,4 @@
--- What the turns of a run bring about.
+-- What the inputs of a run cause.
 use Rattle.std.proofs.Common.{◌≡◌, ◌⊎◌, List, [], ◌∷◌, ◌++◌, inl, inr, refl, sym, subst, ◌∙◌}
 use Rattle.std.proofs.lemmas.List.Elements.{Contains-append_left, Contains-append_right}
 use Rattle.turn_client_api.specs.State.{State}
@@ -14,7 +14,7 @@ use Rattle.turn_client_api.proofs.TurnChainLemmas.{calls-do}
 use Rattle.turn_client_runs.specs.Run.{state_behind}
 use Rattle.turn_client_runs.specs.Turns.{IsAmong, handled_in}
 
--- ---- one of some turns did it
+-- ---- one of some inputs did it
 
 pub among-left : (Did : Turn → Type 0) (turns more : List Turn) → IsAmong Did turns → IsAmong Did (turns ++ more)
 among-left Did turns more (one, there, did) = (one, Contains-append_left turns more one there, did)
@@ -34,9 +34,9 @@ has-among Did turns (one, there, did) = (one, has-contains one turns there, did)
 pub among-none : (Did : Turn → Type 0) → IsAmong Did [] → ⊥
 among-none Did (one, there, did) = contains-has one [] there
 
--- ---- the turns of a call
+-- ---- the inputs of a call
 
--- a call takes turns, or handles nothing
+-- a call processes inputs, or nothing
 pub takes-or : (call : Call) → TakesTurns call ⊎ ((s : State) → handled call s ≡ [])
 takes-or (Recv packet now) = inl tt
 takes-or (PollRecv now) = inl tt
@@ -46,7 +46,7 @@ pub none-front : {X : Type 0} (front later : List X) (x : X) → [] ≡ front ++
 none-front [] later x e = cc
 none-front (y ∷ front) later x e = cc
 
--- where a call handles something, its turns lead to the state after it
+-- if a call processes something, its inputs lead to the state after it
 pub handled-leads : (call : Call) (s : State) (front later : List Turn) (one : Turn) → handled call s ≡ front ++ one ∷ later → TurnsLead (front ++ one ∷ later) s (state_after call s)
 handled-leads call s front later one e = by (takes-or call)
   where
@@ -58,7 +58,7 @@ handled-leads call s front later one e = by (takes-or call)
     by (inl takes) = does (calls-do call s takes)
     by (inr none) = absurd (none-front front later one (sym (none s) ∙ e))
 
--- the turns before one of them, and those after it
+-- the inputs before one of them, and those after it
 pub leads-to : (front later : List Turn) (one : Turn) (s t : State) → TurnsLead (front ++ one ∷ later) s t → TurnsLead front s one.before
 leads-to [] later one s t (first, lead) = first
 leads-to (other ∷ front) later one s t (first, lead) = (first, leads-to front later one (made_of other).1 t lead)
@@ -67,9 +67,9 @@ pub leads-from : (front later : List Turn) (one : Turn) (s t : State) → TurnsL
 leads-from [] later one s t (first, lead) = lead
 leads-from (other ∷ front) later one s t (first, lead) = leads-from front later one (made_of other).1 t lead
 
--- ---- the turns of a run
+-- ---- the inputs of a run
 
--- what holds after a run did so before it, or a turn of it did it
+-- what holds after a run did so before it, or an input of it caused it
 module _ (P : State → Type 0) (Did : Turn → Type 0) (each : (call : Call) (s : State) → P (state_after call s) → P s ⊎ IsDoneBy Did call s) where
   pub run-brings : (s : State) (calls : List Call) → P (state_behind s calls) → P s ⊎ IsAmong Did (handled_in s calls)
   run-brings s [] h = inl h
@@ -86,7 +86,7 @@ module _ (P : State → Type 0) (Did : Turn → Type 0) (each : (call : Call) (s
       by (inl there) = first (each call s there)
       by (inr among) = inr (among-right Did (handled call s) more among)
 
--- ---- one turn of a run
+-- ---- one input of a run
 
 -- where a list in two parts is cut
 abbrev IsCut : {X : Type 0} → List X → List X → List X → List X → X → Type 0
@@ -108,9 +108,9 @@ cut-in {X = X} (y ∷ xs) ys (z ∷ front) later x e = by (cut-in xs ys front la
     by (inl (rest, f)) = inl (rest, cc)
     by (inr (rest, f, g)) = inr (rest, cc, g)
 
--- what holds when a turn comes did so before the run, or an earlier turn did it
+-- what holds when an input is processed did so before the run, or an earlier input caused it
 module _ (P : State → Type 0) (Did : Turn → Type 0) (k : IsBrought P Did) (each : (call : Call) (s : State) → P (state_after call s) → P s ⊎ IsDoneBy Did call s) where
-  in_call : (call : Call) (s : State) (earlier later : List Turn) (one : Turn) → handled call s ≡ earlier ++ one ∷ later → P one.before → P s ⊎ IsAmong Did earlier
+  pub in_call : (call : Call) (s : State) (earlier later : List Turn) (one : Turn) → handled call s ≡ earlier ++ one ∷ later → P one.before → P s ⊎ IsAmong Did earlier
   in_call call s earlier later one e h = by (lead-brings P Did k earlier s one.before (leads-to earlier later one s (state_after call s) (handled-leads call s earlier later one e)) h)
     where
       by : P s ⊎ ((other : Turn) × Has other earlier × Did other) → P s ⊎ IsAmong Did earlier

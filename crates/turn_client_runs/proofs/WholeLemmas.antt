@@ -1,4 +1,4 @@
--- The whole of what comes over a stream, part by part.
+-- The whole of what is received over a stream, part by part.
 use Rattle.std.proofs.Common.{◌≡◌, ℕ, Bool, true, false, cond, eqb, List, [], ◌∷◌, length, map, drop, take, Option, Some, None, refl, ap, sym, ◌∙◌, arith}
 use Rattle.std.proofs.lemmas.Bool.{ne_eqb}
 use Rattle.std.proofs.lemmas.List.{length-take-le}
@@ -21,23 +21,23 @@ use Rattle.turn_client_runs.proofs.FollowLemmas.{IsFramed, control-framed, waiti
 use Rattle.turn_client_runs.proofs.StreamAtLemmas.{broken-found, found-local}
 
 module _ (a : SocketAddr) (now : ℕ) (s : State) where
-  -- no whole part is in front
+  -- there is no first whole part
   pub whole-waits : (bytes : List ℕ) → T.size_in (mode_at a s) bytes ≡ None → whole a now s bytes ≡ left s bytes
   whole-waits bytes e = by_first (λ t. T.size_in (mode_at a t)) (part_at a now) (size_in-IsPrefixCut (mode_at a)) s bytes None e
 
-  -- one is in front
+  -- there is a first one
   pub whole-part : (bytes : List ℕ) (k : ℕ) → T.size_in (mode_at a s) bytes ≡ Some k → (p : State × List Payload) → part_at a now s (take k bytes) ≡ p → whole a now s bytes ≡ behind p.1 (whole a now p.0 (drop k bytes))
   whole-part bytes k e p is =
       by_first (λ t. T.size_in (mode_at a t)) (part_at a now) (size_in-IsPrefixCut (mode_at a)) s bytes (Some k) e
       ∙ ap (λ (q : State × List Payload). behind q.1 (whole a now q.0 (drop k bytes))) is
 
-  -- a byte that is not meant as frames is a part
+  -- a byte that is not part of a frame is a part
   whole-byte : (T.Framed ≡ mode_at a s → ⊥) → (b : ℕ) (bytes : List ℕ) (p : State × List Payload) → part_at a now s (b ∷ []) ≡ p → whole a now s (b ∷ bytes) ≡ behind p.1 (whole a now p.0 bytes)
   whole-byte other b bytes p is =
       byte-drained (mode_at a) (part_at a now) s b bytes (λ e. other (sym e))
       ∙ ap (λ (q : State × List Payload). behind q.1 (whole a now q.0 bytes)) is
 
-  -- bytes that are not meant at all are dropped
+  -- bytes of a broken or missing stream are dropped
   pub whole-unmeant : mode_at a s ≡ T.Broken → ((b : ℕ) → part_at a now s (b ∷ []) ≡ (s, [])) → (bytes : List ℕ) → whole a now s bytes ≡ left s []
   whole-unmeant e part [] = whole-waits [] (rw e refl)
   whole-unmeant e part (b ∷ bytes) = whole-byte other b bytes (s, []) (part b) ∙ ap (λ (d : Drained State Payload). behind [] d) (whole-unmeant e part bytes)
@@ -45,7 +45,7 @@ module _ (a : SocketAddr) (now : ℕ) (s : State) where
       other : T.Framed ≡ mode_at a s → ⊥
       other f = let clash : T.Framed ≡ T.Broken = f ∙ e in cc
 
-  -- a bound stream gives its bytes
+  -- a bound stream returns its bytes
   pub whole-bound : (peer : SocketAddr) → mode_at a s ≡ T.Bound → ((b : ℕ) → part_at a now s (b ∷ []) ≡ (s, sent_by peer (b ∷ []) None ∷ [])) → (bytes : List ℕ) → whole a now s bytes ≡ record { state = s; given = map (λ b. sent_by peer (b ∷ []) None) bytes; rest = [] }
   whole-bound peer e part [] = whole-waits [] (rw e refl)
   whole-bound peer e part (b ∷ bytes) =
@@ -88,11 +88,11 @@ module _ (a : SocketAddr) (now : ℕ) (c : Bool) (m : Mode) (is : IsFramed c m) 
       whole-part a now s (b ∷ bytes) 1 (size-is (b ∷ bytes) (Some 1) (rw f refl)) (broken_at a s, []) part-is
       ∙ ap (λ (d : Drained State Payload). behind [] d) (broken-whole a now (broken_at a s) (record stream { bytes = [] }) (broken-found a s here e) bytes)
 
-  -- no whole frame is there
+  -- no whole frame is present
   pub whole-partial : (bytes : List ℕ) → begins_no_frame bytes ≡ false → frame_len bytes ≡ None → whole a now s bytes ≡ left s bytes
   whole-partial bytes f g = whole-waits a now s bytes (size-is bytes None (unless _ _ _ f ∙ g))
 
-  -- a frame of so many bytes is in front
+  -- the first frame has so many bytes
   pub whole-frame : (bytes : List ℕ) (k : ℕ) → begins_no_frame bytes ≡ false → frame_len bytes ≡ Some k → whole a now s bytes ≡ after_frame a here k now s bytes
   whole-frame bytes k f g =
       let w = frame_len-IsWhole bytes k g in
@@ -109,7 +109,7 @@ module _ (a : SocketAddr) (now : ℕ) (c : Bool) (m : Mode) (is : IsFramed c m) 
       by false f None g = whole-partial bytes f g ∙ rw (g, f) refl
       by false f (Some k) g = whole-frame bytes k f g ∙ rw (g, f) refl
 
--- the whole, read from its front
+-- the whole, read from its start
 pub whole-front : (a : SocketAddr) (now : ℕ) (s : State) (bytes : List ℕ) → whole a now s bytes ≡ read_from_front a now s bytes
 whole-front a now s bytes = by (stream_at a s) refl
   where

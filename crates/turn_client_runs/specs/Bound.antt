@@ -1,41 +1,56 @@
 -- What a run bound.
-use Rattle.std.specs.Prelude.{◌≡◌, List, ◌∷◌, ◌++◌}
+use Rattle.std.specs.Prelude.{◌≡◌, ◌⊎◌, List, ◌∷◌, ◌++◌}
 use Rattle.std.specs.declared.net.socket_addr.SocketAddr.{SocketAddr}
 use Rattle.turn_client_api.specs.State.{State}
-use Rattle.turn_client_api.specs.Handled.{Turn, made_of}
+use Rattle.turn_client_api.specs.Handled.{Turn, handled, made_of}
 use Rattle.turn_client_api.specs.LawsBound.{IsBindTurn, IsBoundConnection, IsConnecting}
 use Rattle.turn_client_api.specs.LawsHandled.{IsBoundAt}
 use Rattle.turn_client_api.specs.LawsReplies.{IsNotAwaited}
 use Rattle.turn_client_api.specs.declared.call.Call.{Call}
 use Rattle.turn_client_api.specs.declared.grant.DataConnection.{DataConnection}
+use Rattle.turn_client_api.specs.Steps.{state_after}
+use Rattle.turn_client_runs.specs.Granted.{HoldsThrough}
 use Rattle.turn_client_runs.specs.Run.{state_behind}
 use Rattle.turn_client_runs.specs.Turns.{IsAmong, handled_in}
 
--- its request is outstanding no longer
+-- its request is no longer outstanding
 abbrev pub IsAnswered : Turn → Type 0
 IsAnswered one = IsNotAwaited one.bytes (made_of one).1
 
--- One of these turns bound the stream at this local end to this peer: by a signed success to the outstanding
--- CONNECTION_BIND that was made for it, which is outstanding no longer after the turn (RFC 6062, section 4.3).
+-- One of these inputs bound the stream at this local address to this peer: by a signed success to the
+-- outstanding CONNECTION_BIND that was made for it, which is no longer outstanding after the input (RFC
+-- 6062, section 4.3).
 abbrev pub HasSuccess : SocketAddr → SocketAddr → List Turn → Type 0
 HasSuccess local peer turns = IsAmong (λ one. IsBindTurn local peer one × IsAnswered one) turns
 
--- so did one of these turns for the data connection
+-- so did one of these inputs for the data connection
 abbrev pub HasConnectionSuccess : DataConnection → List Turn → Type 0
 HasConnectionSuccess c turns = IsAmong (λ one. IsConnecting c one × IsAnswered one) turns
 
--- each stream that is bound after the calls has its success among what they handled
+-- one of these calls bound the stream at this local address to this peer by such an input, and it is bound
+-- since
+pub record IsBoundSince (local peer : SocketAddr) (calls : List Call) (first : State) : Type 0 where
+  pub earlier : List Call
+  pub call : Call
+  pub later : List Call
+  pub split : calls ≡ earlier ++ call ∷ later
+  pub success : HasSuccess local peer (handled call (state_behind first earlier))
+  pub since : HoldsThrough (IsBoundAt local peer) later (state_after call (state_behind first earlier))
+
+-- each stream that is bound after the calls was bound by one of them, and is bound since
 abbrev pub BoundStreamsHaveSuccess : State → List Call → Type 0
 BoundStreamsHaveSuccess s calls =
-    (local peer : SocketAddr) → IsBoundAt local peer (state_behind s calls) → HasSuccess local peer (handled_in s calls)
+    (local peer : SocketAddr) → IsBoundAt local peer (state_behind s calls) → IsBoundSince local peer calls s
 
--- each stream that is bound when a turn comes has its success among what was handled before
+-- each stream that is bound when an input is processed is so since an earlier call, or an earlier input of
+-- the same call bound it
 abbrev pub StreamsAreBoundBefore : State → List Call → Type 0
 StreamsAreBoundBefore s calls =
-    (earlier later : List Turn) (one : Turn) (local peer : SocketAddr)
-    → handled_in s calls ≡ earlier ++ one ∷ later → IsBoundAt local peer one.before → HasSuccess local peer earlier
+    (earlier : List Call) (call : Call) (later : List Call) (front back : List Turn) (one : Turn) (local peer : SocketAddr)
+    → calls ≡ earlier ++ call ∷ later → handled call (state_behind s earlier) ≡ front ++ one ∷ back → IsBoundAt local peer one.before
+    → IsBoundSince local peer earlier s ⊎ HasSuccess local peer front
 
--- each data connection that is bound after the calls has its success among what they handled
+-- each data connection that is bound after the calls has its success among the inputs that they processed
 abbrev pub BoundConnectionsHaveSuccess : State → List Call → Type 0
 BoundConnectionsHaveSuccess s calls =
     (c : DataConnection) → IsBoundConnection c (state_behind s calls) → HasConnectionSuccess c (handled_in s calls)

@@ -1,5 +1,5 @@
 -- How many challenges are answered in a run.
-use Rattle.std.specs.Prelude.{◌≡◌, ◌⊎◌, ◌≤◌, ℕ, nat_lt, Bool, true, List, filter, length}
+use Rattle.std.specs.Prelude.{◌≡◌, ◌⊎◌, ◌≤◌, ◌<◌, ℕ, nat_lt, Bool, true, List, filter, length}
 use Rattle.std.specs.List.{Contains}
 use Rattle.turn_auth.specs.LongTerm.{Challenge}
 use Rattle.turn_client_api.specs.State.{State}
@@ -13,35 +13,36 @@ use Rattle.turn_client_api.specs.LawsSteps.{IsCounted}
 use Rattle.turn_client_api.specs.declared.call.Call.{Call}
 use Rattle.turn_client_runs.specs.Turns.{IsAmong, handled_in}
 
--- no more challenges were answered than may be
+-- no more challenges were answered than allowed
 abbrev pub IsPatient : State → Type 0
 IsPatient s = s.challenges ≤ most_challenges
 
--- the turn is that of a challenge over the control connection
+-- the input is a challenge over the control connection
 pub record IsChallengeTurn (one : Turn) : Type 0 where
   pub over : IsOverControl one
   pub whole : is_message one.bytes ≡ true
   pub challenge : Challenge
   pub judged : judgement_of one.before one.bytes ≡ Challenged challenge
 
--- it is counted where it is answered
+-- it is counted if it is answered
 abbrev pub CountsIt : Turn → Type 0
 CountsIt one = IsCounted one.before (made_of one).1
 
--- the turn answers a challenge
+-- the input answers a challenge
 abbrev pub is_answer : Turn → Bool
 is_answer one = nat_lt one.before.challenges (made_of one).1.challenges
 
--- so many challenges are answered by these turns
+-- so many challenges are answered by these inputs
 abbrev pub answers_in : List Turn → ℕ
 answers_in turns = length (filter is_answer turns)
 
--- one of these turns is that of a signed reply to an outstanding request, after which challenges are
--- counted anew
+-- one of these inputs is a signed reply to an outstanding request, after which challenges are counted anew
 abbrev pub IsHeededAmong : List Turn → Type 0
-IsHeededAmong turns = IsAmong (λ one. (is_message one.bytes ≡ true) × IsHeeded one.bytes one.moment one.before) turns
+IsHeededAmong turns =
+    IsAmong (λ one. ((made_of one).1.challenges < one.before.challenges)
+    × (is_message one.bytes ≡ true) × IsHeeded one.bytes one.moment one.before) turns
 
--- each challenge among the turns of the calls is counted where it is answered
+-- each challenge among the inputs of the calls is counted if it is answered
 abbrev pub CountsAll : State → List Call → Type 0
 CountsAll s calls = (one : Turn) → Contains (handled_in s calls) one → IsChallengeTurn one → CountsIt one
 

@@ -1,5 +1,5 @@
--- One stream of a client over TCP as frames that are handled one after the other, in whatever pieces they
--- come (RFC 8656, section 12.5; RFC 6062, section 4.3).
+-- One stream of a client over TCP as frames that are processed one after the other, in whatever pieces they
+-- are received (RFC 8656, section 12.5; RFC 6062, section 4.3).
 use Rattle.std.specs.Prelude.{◌≡◌, ◌≢◌, ℕ, zero, suc, ◌+◌, ◌==◌, Bool, true, false, if◌then◌else◌, List, [], ◌∷◌, ◌++◌, All, drop, find, flat_map, length, map, take, Option, Some, None, MatchOption, option_to_list}
 use Rattle.std.specs.List.{concat}
 use Rattle.std.specs.Option.{option_map_or}
@@ -22,16 +22,16 @@ use Rattle.turn_client_api.specs.Steps.{packet_step, state_after}
 use Rattle.turn_client_api.specs.LawsStreams.{AreApart}
 use Rattle.turn_client_runs.specs.Run.{state_behind}
 
--- ---- the whole of what comes
+-- ---- the whole of what is received
 
--- how the bytes of a stream are meant
+-- what the bytes of a stream are
 abbrev pub meant : Mode → T.Mode
 meant Control = T.Framed
 meant Waiting = T.Framed
 meant (Bound peer) = T.Bound
 meant Broken = T.Broken
 
--- where no stream is at this local end, its bytes are not meant at all
+-- if no stream is at this local address, its bytes are dropped
 abbrev pub mode_at : SocketAddr → State → T.Mode
 mode_at local s = option_map_or (λ stream. meant stream.mode) (stream_at local s) T.Broken
 
@@ -40,14 +40,14 @@ abbrev pub given_by : Outcome → List Payload
 given_by (PeerData payload) = record payload { place = None } ∷ []
 given_by _ = []
 
--- A whole frame has four bytes at least. A byte that stands alone is one with which no frame begins: it
--- breaks the stream.
+-- A whole frame has four bytes at least. A byte alone is one with which no frame begins: it breaks the
+-- stream.
 abbrev pub framed_step : Stream → List ℕ → ℕ → State → State × List Payload
 framed_step stream frame now s =
     if length frame == 1 then (broken_at stream.local s, [])
     else ((frame_step stream frame now s).1, given_by (frame_step stream frame now s).0)
 
--- what is made of one frame of a stream, or of one byte of a bound one, and what it gives
+-- the effect of one frame of a stream, or of one byte of a bound one, and what it returns
 abbrev pub part_step : Stream → List ℕ → ℕ → State → State × List Payload
 part_step stream part now s = by stream.mode
   where
@@ -60,23 +60,23 @@ part_step stream part now s = by stream.mode
 abbrev pub part_at : SocketAddr → ℕ → State → List ℕ → State × List Payload
 part_at local now s part = option_map_or (λ stream. part_step stream part now s) (stream_at local s) (s, [])
 
--- The parts of these bytes, each handled in the state that the one before left, in which the stream holds
--- nothing. How the bytes are meant is asked anew for each part.
+-- The parts of these bytes, each processed in the state that the one before left, in which the stream holds
+-- nothing. The mode is read anew for each part.
 abbrev pub whole : SocketAddr → ℕ → State → List ℕ → Drained State Payload
 whole local now s bytes = drained (λ t. T.size_in (mode_at local t)) (part_at local now) s bytes
 
--- ---- the whole, read from its front
+-- ---- the whole, read from its start
 
--- nothing is given, and these bytes are left
+-- nothing is returned, and these bytes are left
 abbrev pub left : State → List ℕ → Drained State Payload
 left s rest = record { state = s; given = []; rest = rest }
 
--- the frame in front has so many bytes: what it gives, and then what is behind it
+-- the first frame has so many bytes: what it returns, and then the bytes after it
 abbrev pub after_frame : SocketAddr → Stream → ℕ → ℕ → State → List ℕ → Drained State Payload
 after_frame local stream len now s bytes =
     let p = frame_step stream (take len bytes) now s in behind (given_by p.0) (whole local now p.1 (drop len bytes))
 
--- what no frame begins with breaks the stream, and less than a frame is left
+-- bytes that no frame begins with break the stream, and less than a frame is left
 abbrev pub framed_whole : SocketAddr → Stream → ℕ → State → List ℕ → Drained State Payload
 framed_whole local stream now s bytes = if begins_no_frame bytes then left (broken_at local s) [] else by (frame_len bytes)
   where
@@ -84,7 +84,7 @@ framed_whole local stream now s bytes = if begins_no_frame bytes then left (brok
     by None = left s bytes
     by (Some len) = after_frame local stream len now s bytes
 
--- by how the bytes of this stream are meant; each byte of a bound stream is the peer's
+-- by the mode of this stream; each byte of a bound stream is the peer's
 abbrev pub whole_in : SocketAddr → Stream → ℕ → State → List ℕ → Drained State Payload
 whole_in local stream now s bytes = by stream.mode
   where
@@ -94,22 +94,22 @@ whole_in local stream now s bytes = by stream.mode
     by (Bound peer) = record { state = s; given = map (λ b. sent_by peer (b ∷ []) None) bytes; rest = [] }
     by Broken = left s []
 
--- where there is no stream, nothing is given, and nothing is left
+-- if there is no stream, nothing is returned, and nothing is left
 abbrev pub read_from_front : SocketAddr → ℕ → State → List ℕ → Drained State Payload
 read_from_front local now s bytes = option_map_or (λ stream. whole_in local stream now s bytes) (stream_at local s) (left s [])
 
--- ---- after what waits
+-- ---- after buffered bytes
 
--- what waits in the stream at this local end
+-- the buffered bytes of the stream at this local address
 abbrev pub bytes_at : SocketAddr → State → List ℕ
 bytes_at local s = option_map_or (λ stream. stream.bytes) (stream_at local s) []
 
--- these bytes come after those that wait: the payloads, and the state after them, with its rest
+-- these bytes follow the buffered ones: the payloads, and the state after them, with its rest
 abbrev pub whole_of : SocketAddr → ℕ → State → List ℕ → List Payload × State
 whole_of local now s bytes =
     let d = whole local now (with_bytes local [] s) (bytes_at local s ++ bytes) in (d.given, with_bytes local d.rest d.state)
 
--- ---- what pieces give
+-- ---- what pieces return
 
 abbrev pub and_then : (State → List Payload × State) → Option Payload × State → List Payload × State
 and_then next (None, t) = ([], t)
@@ -120,7 +120,7 @@ unfoldable pub polled : ℕ → ℕ → State → List Payload × State
 polled zero now s = ([], s)
 polled (suc n) now s = and_then (polled n now) (poll_recv_step now s)
 
--- a piece comes from the server for this local end, and then the client is polled
+-- a piece is received from the server for this local address, and then the client is polled
 abbrev pub fed_piece : SocketAddr → List ℕ → ℕ → State → List Payload × State
 fed_piece local piece now s =
     let came = recv_step Tcp s.remote local piece now s in
@@ -142,7 +142,7 @@ is_control (Some stream) = by stream.mode
     by Control = true
     by _ = false
 
--- payloads of the control connection count as they are, those of a data connection byte by byte
+-- payloads of the control connection count one by one, those of a data connection byte by byte
 abbrev pub one_by_one : Bool → Payload → List Payload
 one_by_one is_control payload =
     if is_control then payload ∷ [] else map (λ b. sent_by payload.peer (b ∷ []) None) payload.bytes
@@ -150,19 +150,19 @@ one_by_one is_control payload =
 abbrev pub joined : SocketAddr → State → List Payload → List Payload
 joined local s payloads = flat_map (one_by_one (is_control (stream_at local s))) payloads
 
--- Pieces of a stream give what all their bytes give, and leave the state that these leave.
+-- Pieces of a stream return what all their bytes return, and leave the state that these leave.
 abbrev pub IsSameForAnyCut : SocketAddr → List (List ℕ) → ℕ → State → Type 0
 IsSameForAnyCut local pieces now s =
     (joined local s (fed_pieces local pieces now s).0 ≡ (whole_of local now s (concat pieces)).0)
     × ((fed_pieces local pieces now s).1 ≡ (whole_of local now s (concat pieces)).1)
 
--- a client over TCP that handles nothing before more comes in
+-- a client over TCP that processes nothing before more is received
 pub record IsQuiet (s : State) : Type 0 where
   pub transport : s.transport ≡ Tcp
   pub apart : AreApart s
   pub none_ready : find is_ready s.streams ≡ None
 
--- once it is polled and gives nothing, it is quiet
+-- once it is polled and returns nothing, it is quiet
 abbrev pub GetsQuiet : State → Type 0
 GetsQuiet s = (now : ℕ) → (poll_recv_step now s).0 ≡ None → IsQuiet (poll_recv_step now s).1
 
@@ -177,23 +177,23 @@ given_in (Recv packet now) s = given_by (packet_step packet now s).0
 given_in (PollRecv now) s = option_to_list (poll_recv_step now s).0
 given_in _ s = []
 
--- what the calls give of peers, one after the other
+-- the data of peers that the calls return, one after the other
 abbrev pub given_in_run : State → List Call → List Payload
 given_in_run s [] = []
 given_in_run s (call ∷ calls) = given_in call s ++ given_in_run (state_after call s) calls
 
--- calls of `poll_recv` at this moment, up to the first that gives nothing
+-- calls of `poll_recv` at this time, up to the first that returns nothing
 abbrev pub ArePolls : ℕ → List Call → State → Type 0
 ArePolls now [] s = ⊥
 ArePolls now (call ∷ calls) s =
     (call ≡ PollRecv now)
     × MatchOption (poll_recv_step now s).0 (calls ≡ []) (λ payload. ArePolls now calls (poll_recv_step now s).1)
 
--- from the server, for this local end
+-- from the server, for this local address
 abbrev pub piece_for : SocketAddr → List ℕ → State → Transmit (List ℕ)
 piece_for local piece s = record { payload = piece; transport = Tcp; from = s.remote; to = local }
 
--- each piece comes in, none of them empty, and then the client is polled, all at this moment
+-- each piece is received, none of them empty, and then the client is polled, all at this time
 abbrev pub ArePieces : SocketAddr → List (List ℕ) → ℕ → List Call → State → Type 0
 ArePieces local [] now calls s = calls ≡ []
 ArePieces local (piece ∷ pieces) now calls s =
@@ -201,7 +201,7 @@ ArePieces local (piece ∷ pieces) now calls s =
     × ArePolls now polls (recv_step Tcp s.remote local piece now s).1
     × ArePieces local pieces now later (state_behind (recv_step Tcp s.remote local piece now s).1 polls)
 
--- Such calls give what all their bytes give, and leave the state that these leave.
+-- Such calls return what all their bytes return, and leave the state that these leave.
 abbrev pub IsSameInRuns : SocketAddr → List (List ℕ) → ℕ → State → Type 0
 IsSameInRuns local pieces now s =
     (calls : List Call) → ArePieces local pieces now calls s →

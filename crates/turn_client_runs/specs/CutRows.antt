@@ -1,4 +1,4 @@
--- Worked streams, so that the check computes what is made of them.
+-- Worked streams, so that the check computes their effect.
 use Rattle.std.specs.Prelude.{ℕ, List, [], ◌∷◌, ◌++◌, take, drop, None}
 use Rattle.std.specs.declared.net.socket_addr.SocketAddr.{SocketAddr}
 use Rattle.turn_auth.specs.declared.validation.Validation.{Validation}
@@ -14,7 +14,7 @@ whole_at local bytes s = whole_of local (seconds 1) s bytes
 abbrev pub pieces_at : SocketAddr → List (List ℕ) → State → List Payload × State
 pieces_at local pieces s = fed_pieces local pieces (seconds 1) s
 
--- what comes of a peer
+-- the data of a peer
 
 abbrev pub abc_and_hello : List Payload
 abc_and_hello = relayed abc None ∷ relayed hello None ∷ []
@@ -25,8 +25,8 @@ byte_and_hello = from_peer (0xff ∷ []) None ∷ from_peer hello None ∷ []
 abbrev pub two_bytes : List Payload
 two_bytes = from_peer (0xff ∷ []) None ∷ from_peer (0x00 ∷ []) None ∷ []
 
--- A success to CONNECTION_BIND that is judged so is cut behind so many bytes. These bytes come before it,
--- and data follows in the second piece: this is so of what the two pieces give.
+-- A success to CONNECTION_BIND that is judged so is cut after so many bytes. These bytes precede it, and
+-- data follows in the second piece: this holds of what the two pieces return.
 abbrev pub WhenCut : Validation → List ℕ → ℕ → (List Payload → Type 0) → Type 0
 WhenCut verdict front len Is =
     (byte : ℕ → ℕ) (text : List ℕ) (s : State) → IsJudged verdict (bind_success byte) (with_waiting text s)

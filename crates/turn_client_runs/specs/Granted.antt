@@ -30,7 +30,6 @@ use Rattle.turn_client_api.specs.Steps.{state_after}
 use Rattle.turn_client_api.specs.LawsAllocates.{IsAskedForFamilies}
 use Rattle.turn_client_api.specs.LawsGranted.{Stood}
 use Rattle.turn_client_api.specs.LawsHandled.{IsDoneBy, IsOverControl, IsOverWaiting}
-use Rattle.turn_client_api.specs.LawsPurposes.{DrawsFreeIds}
 use Rattle.turn_client_api.specs.LawsReplies.{IsAwaited, IsNotAwaited}
 use Rattle.turn_client_api.specs.LawsRequests.{AsksFor, IsListedFor, IsMade}
 use Rattle.turn_client_api.specs.Requests.{fresh_id, request_for}
@@ -39,12 +38,12 @@ use Rattle.turn_client_runs.specs.Run.{state_behind}
 
 -- ---- what a reply grants
 
--- a data connection is bound over itself, and all else is granted over the control connection
+-- a data connection is bound over itself, and all other grants are granted over the control connection
 abbrev pub IsOverIts : Grant → Turn → Type 0
 IsOverIts (Connection c) one = IsOverWaiting c.local one
 IsOverIts g one = IsOverControl one
 
--- What the success of the turn gives for a purpose: an allocation up to the LIFETIME that is seen first, at
+-- What the success in the input grants for a purpose: an allocation for the first LIFETIME that is seen, at
 -- least 600 s in answer to a REFRESH for more than 0 s; a permission for 300 s; a channel for 600 s.
 abbrev pub IsGivenIn : Turn → Purpose → Grant → Type 0
 IsGivenIn one ForAllocation (Allocation a) =
@@ -61,7 +60,7 @@ IsGivenIn one (ForChannel number peer) (Channel other to (Active expiry)) =
 IsGivenIn one (ForBind local peer id) (Connection c) = (c.local ≡ local) × (c.deadline ≡ None)
 IsGivenIn one _ _ = ⊥
 
--- both are held, of one realm and one algorithm
+-- both are held, with the same realm and the same algorithm
 abbrev pub HaveOneRealm : Option Challenge → Option Challenge → Type 0
 HaveOneRealm held other =
     (c d : Challenge) × (held ≡ Some c) × (other ≡ Some d) × (c.realm ≡ d.realm) × (c.algorithm ≡ d.algorithm)
@@ -72,10 +71,10 @@ abbrev pub IsSignedAllocate : Config → Option Challenge → Transaction → Ty
 IsSignedAllocate config held x =
     (t : State) × (t.config ≡ config) × HaveOneRealm t.held held × (x.request ≡ request_for t ForAllocation x.id)
 
--- What the turn's reply answers is a signed ALLOCATE, and not the first one, which is not signed and brings the
--- challenge (RFC 8489, section 9.2.3): it is signed under the realm, the key and the algorithm under which the
--- reply is. By its bytes it asks for the families of which the client still asks for an address (RFC 8656,
--- sections 7.1 and 7.3).
+-- The reply in the input answers a signed ALLOCATE, and not the first one, which is not signed and whose
+-- response is the challenge (RFC 8489, section 9.2.3): it is signed under the realm, the key and the
+-- algorithm under which the reply is. By its bytes it requests the families of which the client still
+-- requests an address (RFC 8656, sections 7.1 and 7.3).
 pub record AsksToAllocate (one : Turn) : Type 0 where
   pub families : IsAskedForFamilies (id_of one.bytes) one.before
   pub signed : (x : Transaction) → Contains one.before.transactions x → x.id ≡ id_of one.bytes → IsSignedAllocate one.before.config one.before.held x
@@ -85,9 +84,9 @@ abbrev pub AsksForItsFamily : Purpose → Turn → Type 0
 AsksForItsFamily ForAllocation one = AsksToAllocate one
 AsksForItsFamily _ one = ⊤
 
--- The turn granted it, with this end. It is that of a success, which is signed under the realm, the key and
--- the algorithm that are held then. It answers a request that was made for this purpose: outstanding just
--- before the turn, and not just after it.
+-- The input granted it, with this expiry. It is a success, which is signed under the realm, the key and the
+-- algorithm that are held then. It answers a request that was made for this purpose: outstanding just
+-- before the input, and not just after it.
 pub record IsGranting (g : Grant) (purpose : Purpose) (one : Turn) : Type 0 where
   pub over : IsOverIts g one
   pub whole : is_message one.bytes ≡ true
@@ -99,13 +98,13 @@ pub record IsGranting (g : Grant) (purpose : Purpose) (one : Turn) : Type 0 wher
   pub asks : AsksForItsFamily purpose one
   pub given : IsGivenIn one purpose g
 
--- ---- when a turn comes
+-- ---- when an input is processed
 
 -- these bytes begin with those
 abbrev pub IsInFront : List ℕ → List ℕ → Type 0
 IsInFront front bytes = (rest : List ℕ) × (bytes ≡ front ++ rest)
 
--- a frame stands in front of its stream, and a datagram is these bytes
+-- a frame comes first in its stream, and a datagram is these bytes
 abbrev pub IsWholeOrInFront : List ℕ → Turn → Type 0
 IsWholeOrInFront payload one = by one.stream
   where
@@ -113,7 +112,7 @@ IsWholeOrInFront payload one = by one.stream
     by None = one.bytes ≡ payload
     by (Some stream) = IsInFront one.bytes stream.bytes
 
--- `poll_recv` takes frames alone
+-- `poll_recv` processes only frames
 abbrev pub IsFrameInFront : Turn → Type 0
 IsFrameInFront one = by one.stream
   where
@@ -121,7 +120,7 @@ IsFrameInFront one = by one.stream
     by None = ⊥
     by (Some stream) = IsInFront one.bytes stream.bytes
 
--- the turn comes in this call, and at its moment
+-- the input is processed in this call, and at its time
 abbrev pub ComesIn : Call → Turn → Type 0
 ComesIn (Recv packet now) one = (one.moment ≡ now) × IsWholeOrInFront packet.payload one
 ComesIn (PollRecv now) one = (one.moment ≡ now) × IsFrameInFront one
@@ -129,22 +128,22 @@ ComesIn _ one = ⊥
 
 -- ---- an own request
 
--- Between these two states a request for the purpose was made, or one for a channel that brings the permission
--- with it: under this ID, which was the next one, to the server, and with the bytes that ask for it.
+-- Between these two states a request for the purpose was made, or one for a channel that is requested with
+-- the permission: under this ID, which was the next one, to the server, and with the bytes that request it.
 abbrev pub IsAsked : ℕ → Purpose → ℕ → State → State → Type 0
 IsAsked id p now s t = (request : Purpose) × IsListedFor request p × IsMade request now s t × (id ≡ fresh_id s)
 
--- the turn made it, in answer to a request that was made for the same
+-- the input made it, in answer to a request that was made for the same
 abbrev pub IsAskedInTurn : ℕ → Purpose → Turn → Type 0
 IsAskedInTurn id p one = IsAsked id p one.moment one.before (made_of one).1
 
--- the call asks for this itself, and made it
+-- the call requests this itself, and made it
 abbrev pub IsAskedItself : ℕ → Purpose → Call → State → Type 0
 IsAskedItself id p call s =
     (request : Purpose) × (at : ℕ) × AsksFor call s request at × IsListedFor request p
     × (IsMade request at s (state_after call s) × (id ≡ fresh_id s))
 
--- the call made it, or a turn that it took
+-- the call made it, or an input that it processed
 abbrev pub IsAskedInCall : ℕ → Purpose → Call → State → Type 0
 IsAskedInCall id p call s = IsAskedItself id p call s ⊎ IsDoneBy (IsAskedInTurn id p) call s
 
@@ -156,14 +155,9 @@ pub record WasAsked (id : ℕ) (p : Purpose) (calls : List Call) (first : State)
   pub split : calls ≡ earlier ++ call ∷ later
   pub asked : IsAskedInCall id p call (state_behind first earlier)
 
--- an earlier call made it, or an earlier turn of the same call
+-- an earlier call made it, or an earlier input of the same call
 abbrev pub WasAskedBefore : ℕ → Purpose → List Call → State → List Turn → Type 0
 WasAskedBefore id p earlier first front = WasAsked id p earlier first ⊎ ((one : Turn) × Contains front one × IsAskedInTurn id p one)
-
--- fewer IDs are taken than there are, when each of these calls is made and when each turn comes that it takes
-abbrev pub DrawFreeIds : List Call → State → Type 0
-DrawFreeIds [] s = ⊤
-DrawFreeIds (call ∷ calls) s = DrawsFreeIds call s × DrawFreeIds calls (state_after call s)
 
 -- ---- a run
 
@@ -172,8 +166,8 @@ abbrev pub HoldsThrough : (State → Type 0) → List Call → State → Type 0
 HoldsThrough P [] s = P s
 HoldsThrough P (call ∷ calls) s = P s × HoldsThrough P calls (state_after call s)
 
--- A turn of one of these calls answered a request for a purpose, and did this for it. Its request was made
--- before, where IDs that are drawn are free. The claim holds after that call and after each later one.
+-- An input of one of these calls answered a request for a purpose, and did this for it. Its request was
+-- made before. The claim holds after that call and after each later one.
 pub record IsAnsweredIn (Did : Purpose → Turn → Type 0) (P : State → Type 0) (calls : List Call) (first : State) : Type 0 where
   pub earlier : List Call
   pub call : Call
@@ -187,11 +181,11 @@ pub record IsAnsweredIn (Did : Purpose → Turn → Type 0) (P : State → Type 
   pub received : IsReceived (earlier ++ call ∷ []) first turn
   pub purpose : Purpose
   pub did : Did purpose turn
-  pub asked : DrawFreeIds calls first → WasAskedBefore (id_of turn.bytes) purpose earlier first front
+  pub asked : WasAskedBefore (id_of turn.bytes) purpose earlier first front
   pub holds : HoldsThrough P later (state_after call (state_behind first earlier))
 
--- A turn of one of these calls granted it with the end that it has, and no later call dropped it or gave it
--- another end.
+-- An input of one of these calls granted it with the expiry that it has, and no later call removed it or
+-- gave it another expiry.
 abbrev pub IsGranted : Grant → List Call → State → Type 0
 IsGranted g calls first = IsAnsweredIn (IsGranting g) (λ s. Stood s g) calls first
 
@@ -204,12 +198,12 @@ IsRelayed relayed s = (a : Relay) × Contains s.grants (Allocation a) × (a.rela
 abbrev pub GrantsAddress : SocketAddr → Purpose → Turn → Type 0
 GrantsAddress relayed purpose one = (a : Relay) × IsGranting (Allocation a) purpose one × (a.relayed ≡ relayed)
 
--- a turn of one of these calls granted an allocation with this address, and no later call dropped it
+-- an input of one of these calls granted an allocation with this address, and no later call removed it
 abbrev pub IsAllocated : SocketAddr → List Call → State → Type 0
 IsAllocated relayed calls first = IsAnsweredIn (GrantsAddress relayed) (IsRelayed relayed) calls first
 
--- One of these calls, an accepted `delete`, ended it at its moment, after a turn of an earlier call had granted
--- it. No later call dropped it or gave it another end.
+-- One of these calls, an accepted `delete`, ended it at the time of the call, after an input of an earlier
+-- call had granted it. No later call removed it or gave it another expiry.
 pub record IsGivenBack (a : Relay) (calls : List Call) (first : State) : Type 0 where
   pub earlier : List Call
   pub now : ℕ
@@ -222,12 +216,12 @@ pub record IsGivenBack (a : Relay) (calls : List Call) (first : State) : Type 0 
 
 -- ---- all grants
 
--- why it stands after these calls
+-- why it is active after these calls
 abbrev pub HasReply : Grant → List Call → State → Type 0
 HasReply (Allocation a) calls first = IsGranted (Allocation a) calls first ⊎ IsGivenBack a calls first
 HasReply g calls first = IsGranted g calls first
 
--- all of this kind that stands after any calls of a new client was granted in them
+-- each grant of this kind that is active after any calls of a new client was granted in them
 abbrev pub HaveReplies : (Grant → Type 0) → Type 0
 HaveReplies Kind =
     (transport : TransportType) (local remote : SocketAddr) (config : Config) (seed : List ℕ) (calls : List Call) (g : Grant)

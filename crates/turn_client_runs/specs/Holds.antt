@@ -8,24 +8,24 @@ use Rattle.turn_client_api.specs.Steps.{Leaves}
 use Rattle.turn_client_api.specs.declared.call.Call.{Call}
 use Rattle.turn_client_runs.specs.Run.{state_behind}
 
--- the client may be in the second state after these calls, whether or not each found memory
+-- the client may be in the second state after these calls, even if some memory allocations failed
 abbrev pub Reaches : State → List Call → State → Type 0
 Reaches s [] t = t ≡ s
 Reaches s (call ∷ calls) t = (u : State) × Leaves call s u × Reaches u calls t
 
--- after any calls, which all found memory
+-- after any calls without an allocation failure
 abbrev pub HoldsInRuns : (State → Type 0) → Type 0
 HoldsInRuns P =
     (transport : TransportType) (local remote : SocketAddr) (config : Config) (seed : List ℕ) (calls : List Call)
     → P (state_behind (initial transport local remote config seed) calls)
 
--- after any calls, whether or not each found memory
+-- after any calls, even if some memory allocations failed
 abbrev pub HoldsInAnyRun : (State → Type 0) → Type 0
 HoldsInAnyRun P =
     (transport : TransportType) (local remote : SocketAddr) (config : Config) (seed : List ℕ) (calls : List Call) (t : State)
     → Reaches (initial transport local remote config seed) calls t → P t
 
--- whatever calls a new client gets, which all find memory
+-- whatever calls a new client gets, without an allocation failure
 abbrev pub HoldsOfRuns : (State → List Call → Type 0) → Type 0
 HoldsOfRuns Q =
     (transport : TransportType) (local remote : SocketAddr) (config : Config) (seed : List ℕ) (calls : List Call)

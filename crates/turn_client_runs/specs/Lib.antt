@@ -3,12 +3,13 @@ pub mod Challenges
 pub mod Cut
 pub mod CutRows
 pub mod Granted
+pub mod Held
 pub mod Holds
 pub mod Peers
 pub mod Promises
 pub mod Received
 pub mod Replies
 pub mod Run
+pub mod Short
 pub mod Sleeps
 pub mod Turns
-pub mod Weight

@@ -1,4 +1,4 @@
--- From whom the payloads of a run come.
+-- The senders of the payloads of a run.
 use Rattle.std.specs.Prelude.{◌≡◌, ◌⊎◌, ℕ, List, Some, ⊤}
 use Rattle.std.specs.List.{Contains}
 use Rattle.std.specs.Net.Socket.{socket_ip}
@@ -7,47 +7,47 @@ use Rattle.turn_client_api.specs.State.{State}
 use Rattle.turn_client_api.specs.Payloads.{Payload, Outcome, PeerIcmp}
 use Rattle.turn_client_api.specs.Handled.{Turn, made_of, turn_payload}
 use Rattle.turn_client_api.specs.LawsHandled.{IsBoundAt}
-use Rattle.turn_client_api.specs.LawsPeers.{HasChannel, HasPermission, IsLetInTurn}
+use Rattle.turn_client_api.specs.LawsPeers.{HasChannel, HasPermission, IsIcmpAttribute, IsIndicated, IsLetInTurn}
 use Rattle.turn_client_api.specs.declared.call.Call.{Call}
 use Rattle.turn_client_api.specs.declared.state.Mode.TheVariants.{Bound}
 use Rattle.turn_client_api.specs.declared.state.Stream.{Stream}
 use Rattle.turn_client_runs.specs.Turns.{IsAmong, handled_in, payloads_in}
 
--- the turn takes the bytes of a stream that is bound to this peer, which stands in the state just before
+-- the input is bytes of a stream that is bound to this peer, which is in the state just before
 abbrev pub IsOverBound : SocketAddr → Turn → Type 0
 IsOverBound peer one = (stream : Stream) × (one.stream ≡ Some stream) × (stream.mode ≡ Bound peer) × IsBoundAt stream.local peer one.before
 
--- When its turn came, the peer was let in: its IP address had an active permission, it had an active
--- channel, or its data connection was bound (RFC 8656, sections 9 and 12; RFC 6062, section 4.3).
+-- When the input was processed, the peer was permitted: its IP address had an active permission, it had an
+-- active channel, or its data connection was bound (RFC 8656, sections 9 and 12; RFC 6062, section 4.3).
 abbrev pub IsOfLetIn : SocketAddr → Turn → Type 0
 IsOfLetIn peer one =
     HasPermission (socket_ip peer) one.before
     ⊎ ((number : ℕ) × HasChannel number peer one.before)
     ⊎ IsOverBound peer one
 
--- the turn gives the payload: exactly what the frame carries, or the bytes of the stream, of a peer that was
--- let in
-pub record IsGivenBy (payload : Payload) (one : Turn) : Type 0 where
+-- the input returns the payload: exactly what the frame carries, or the bytes of the stream, of a permitted
+-- peer
+pub record InputDelivers (payload : Payload) (one : Turn) : Type 0 where
   pub given : turn_payload one ≡ Some payload
   pub exact : IsLetInTurn one
   pub let_in : IsOfLetIn payload.peer one
 
--- a turn of the run gave it
-abbrev pub IsReceived : Payload → State → List Call → Type 0
-IsReceived payload s calls = IsAmong (IsGivenBy payload) (handled_in s calls)
+-- an input of the run returned it
+abbrev pub IsDeliveredIn : Payload → State → List Call → Type 0
+IsDeliveredIn payload s calls = IsAmong (InputDelivers payload) (handled_in s calls)
 
--- each payload that a call of the run gives, a turn of the run gave
+-- each payload that a call of the run returns, an input of the run returned
 abbrev pub ReceivesLetIn : State → List Call → Type 0
-ReceivesLetIn s calls = (payload : Payload) → Contains (payloads_in s calls) payload → IsReceived payload s calls
+ReceivesLetIn s calls = (payload : Payload) → Contains (payloads_in s calls) payload → IsDeliveredIn payload s calls
 
--- what a turn tells of ICMP is about a peer whose IP address has an active permission
+-- an ICMP report of an input is about a peer whose IP address has an active permission
 abbrev pub TellsOfPermitted : Turn → Type 0
 TellsOfPermitted one = by (made_of one).0
   where
     by : Outcome → Type 0
-    by (PeerIcmp transport peer icmp) = HasPermission (socket_ip peer) one.before
+    by (PeerIcmp transport peer icmp) = IsIndicated one.bytes peer one.before × IsIcmpAttribute one.bytes one.before transport icmp
     by _ = ⊤
 
--- so it is in each turn of the run
+-- this holds for each input of the run
 abbrev pub IcmpIsOfPermitted : State → List Call → Type 0
 IcmpIsOfPermitted s calls = (one : Turn) → Contains (handled_in s calls) one → TellsOfPermitted one

@@ -1,4 +1,4 @@
--- What `recv` takes in for the streams of a client over TCP (RFC 8656, section 12.5; RFC 6062, section 4.3).
+-- What `recv` stores in the streams of a client over TCP (RFC 8656, section 12.5; RFC 6062, section 4.3).
 use Rattle.std.specs.Prelude.{◌≡◌, ◌&&◌, if◌then◌else◌, ℕ, List, [], ◌∷◌, ◌++◌, Option, Some, None, ⊤}
 use Rattle.std.specs.declared.net.socket_addr.SocketAddr.{SocketAddr}
 use Rattle.turn_stun.specs.declared.transport.TransportType.{TransportType}
@@ -15,12 +15,12 @@ use Rattle.turn_client_api.specs.Receive.{is_from_server}
 use Rattle.turn_client_api.specs.Steps.{state_after}
 use Rattle.turn_client_api.specs.Streams.{stream_at}
 
--- a broken stream takes nothing in
+-- a broken stream stores nothing
 abbrev pub unless_broken : Mode → List ℕ → List ℕ
 unless_broken Broken piece = []
 unless_broken mode piece = piece
 
--- a piece that comes from the server over TCP, for the stream at this local end
+-- a piece that is received from the server over TCP, for the stream at this local address
 abbrev pub piece_for : SocketAddr → Call → State → List ℕ
 piece_for local (Recv packet now) s =
     if is_from_server packet.transport packet.from s && same_address packet.to local then by s.transport (stream_at packet.to s) else []
@@ -35,8 +35,8 @@ abbrev pub pieces_for : SocketAddr → List Call → State → List ℕ
 pieces_for local [] s = []
 pieces_for local (call ∷ calls) s = piece_for local call s ++ pieces_for local calls (state_after call s)
 
--- What the stream of the turn holds ends what came in for it by these calls, so that a frame in front of it came in
--- as it is. A datagram has no stream.
+-- What the stream of the input holds ends what was received for it by these calls, so that its first frame
+-- was received unchanged. A datagram has no stream.
 abbrev pub IsReceived : List Call → State → Turn → Type 0
 IsReceived calls first one = by one.stream
   where

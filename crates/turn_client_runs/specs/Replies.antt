@@ -1,11 +1,11 @@
--- Which replies count in a run.
-use Rattle.std.specs.Prelude.{◌≡◌, ◌⊎◌, ◌<◌, ◌^◌, ℕ, true, false, List, [], ◌∷◌, ◌++◌, Some}
+-- Which replies are accepted in a run.
+use Rattle.std.specs.Prelude.{◌≡◌, ◌⊎◌, ℕ, true, false, List, [], ◌∷◌, ◌++◌, Some}
 use Rattle.std.specs.List.{Contains}
 use Rattle.std.specs.declared.net.socket_addr.SocketAddr.{SocketAddr}
 use Rattle.turn_stun.specs.Message.{id_of}
 use Rattle.turn_agent.specs.Agent.{is_outstanding}
 use Rattle.turn_client_api.specs.State.{State}
-use Rattle.turn_client_api.specs.Requests.{connection_bind_method, fresh_id, most_taken}
+use Rattle.turn_client_api.specs.Requests.{connection_bind_method, fresh_id}
 use Rattle.turn_client_api.specs.Judgement.{bind_judgement, judgement_of, method_in}
 use Rattle.turn_client_api.specs.Connections.{connection_at}
 use Rattle.turn_client_api.specs.Payloads.{is_message}
@@ -19,15 +19,15 @@ use Rattle.turn_client_api.specs.declared.state.Phase.TheVariants.{Allocated}
 use Rattle.turn_client_runs.specs.Run.{state_behind}
 use Rattle.turn_client_runs.specs.Turns.{IsAmong, handled_in}
 
--- The turn is that of a whole message over the control connection, or of a datagram, which is a signed
--- reply to an outstanding request.
+-- The input is a whole message over the control connection, or a datagram, which is a signed reply to an
+-- outstanding request.
 pub record IsControlReply (one : Turn) : Type 0 where
   pub over : IsOverControl one
   pub whole : is_message one.bytes ≡ true
   pub accepted : IsAccepted (judgement_of one.before one.bytes)
 
--- The turn is that of a whole message on a connection that waits to be bound, which is a signed reply to
--- its outstanding CONNECTION_BIND (RFC 6062, section 4.3).
+-- The input is a whole message on a connection that waits to be bound, which is a signed reply to its
+-- outstanding CONNECTION_BIND (RFC 6062, section 4.3).
 pub record IsBindReply (one : Turn) : Type 0 where
   pub local : SocketAddr
   pub over : IsOverWaiting local one
@@ -38,36 +38,31 @@ pub record IsBindReply (one : Turn) : Type 0 where
   pub found : connection_at local one.before ≡ Some connection
   pub accepted : IsAccepted (bind_judgement one.before local one.bytes)
 
--- the turn is that of a reply that is accepted
+-- the input is a reply that is accepted
 abbrev pub IsReplyTurn : Turn → Type 0
 IsReplyTurn one = IsControlReply one ⊎ IsBindReply one
 
--- its request was outstanding, and is so no longer after the turn, unless its ID is drawn anew
+-- its request was outstanding, and is no longer so after the input
 abbrev pub EndsItsRequest : Turn → Type 0
-EndsItsRequest one =
-    IsAwaited one.bytes one.before × (IsAwaited one.bytes (made_of one).1 → id_of one.bytes ≡ fresh_id one.before)
-
--- while an ID is free it is not drawn anew
-abbrev pub EndsItForGood : Turn → Type 0
-EndsItForGood one = most_taken one.before < 2 ^ 96 → IsNotAwaited one.bytes (made_of one).1
+EndsItsRequest one = IsAwaited one.bytes one.before × IsNotAwaited one.bytes (made_of one).1
 
 -- ---- new requests under an ID
 
--- The turn is that of a whole message, in answer to which a request is made under this ID: the next one when the
--- turn comes. None was outstanding under it before, and one is after the turn.
+-- The input is a whole message, in answer to which a request is made under this ID: the next one when the
+-- input is processed. No request was outstanding under it before, and one is after the input.
 pub record MakesInTurn (id : ℕ) (one : Turn) : Type 0 where
   pub whole : is_message one.bytes ≡ true
   pub drawn : id ≡ fresh_id one.before
   pub free : is_outstanding id one.before.transactions ≡ false
   pub made : is_outstanding id (made_of one).1.transactions ≡ true
 
--- The call draws this ID for a request. None was outstanding under it before the call, and one is after it.
+-- The call uses this ID for a request. None was outstanding under it before the call, and one is after it.
 pub record MakesInCall (id : ℕ) (call : Call) (s : State) : Type 0 where
   pub drawn : IsDrawn call id s
   pub free : is_outstanding id s.transactions ≡ false
   pub made : is_outstanding id (state_after call s).transactions ≡ true
 
--- one of these turns makes a request under the ID
+-- one of these inputs makes a request under the ID
 abbrev pub IsMadeAmong : ℕ → List Turn → Type 0
 IsMadeAmong id turns = IsAmong (MakesInTurn id) turns
 
@@ -76,34 +71,30 @@ abbrev pub IsMadeIn : ℕ → State → List Call → Type 0
 IsMadeIn id s [] = ⊥
 IsMadeIn id s (call ∷ calls) = MakesInCall id call s ⊎ IsMadeIn id (state_after call s) calls
 
--- the ID of the reply is drawn anew in its own turn, which is not so while fewer IDs are taken than there are
-abbrev pub IsDrawnAtOnce : Turn → Type 0
-IsDrawnAtOnce one = id_of one.bytes ≡ fresh_id one.before
-
--- Where a call has the turn of the reply, and its ID is outstanding after it and these further calls, a new request
--- was made under it since: by a later turn of the call, or by a further call, unless it was drawn at once.
+-- If a call processes the reply, and its ID is outstanding after it and these further calls, a new request
+-- was made under it since: by a later input of the call, or by a further call.
 abbrev pub IsMadeSince : State → Call → List Call → Turn → Type 0
 IsMadeSince s call calls one =
     (front later : List Turn) → handled call s ≡ front ++ one ∷ later → IsAwaited one.bytes (state_behind (state_after call s) calls)
-    → IsDrawnAtOnce one ⊎ IsMadeAmong (id_of one.bytes) later ⊎ IsMadeIn (id_of one.bytes) (state_after call s) calls
+    → IsMadeAmong (id_of one.bytes) later ⊎ IsMadeIn (id_of one.bytes) (state_after call s) calls
 
 -- both are replies that are accepted, and they have one ID
 abbrev pub AreReplies : Turn → Turn → Type 0
 AreReplies one other = IsReplyTurn one × IsReplyTurn other × (id_of one.bytes ≡ id_of other.bytes)
 
--- Where a call has the turns of two such replies, a new request was made under the ID between them.
+-- If a call processes two such replies, a new request was made under the ID between them.
 abbrev pub IsMadeBetween : State → Call → Type 0
 IsMadeBetween s call =
     (one other : Turn) (front between rest : List Turn) → AreReplies one other → handled call s ≡ front ++ one ∷ (between ++ other ∷ rest)
-    → IsDrawnAtOnce one ⊎ IsMadeAmong (id_of one.bytes) between
+    → IsMadeAmong (id_of one.bytes) between
 
--- So it is where a call has the turn of the first, and another, after these calls, that of the second: the request
--- was made in the one call, in the calls between, or in the other before the turn of the second.
+-- So it is if a call processes the first, and another, after these calls, the second: the request was made
+-- in the one call, in the calls between, or in the other before the second input.
 abbrev pub IsMadeUntil : State → Call → List Call → Call → Type 0
 IsMadeUntil s call calls last =
     (one other : Turn) (front later before rest : List Turn) → AreReplies one other → handled call s ≡ front ++ one ∷ later
     → handled last (state_behind (state_after call s) calls) ≡ before ++ other ∷ rest
-    → IsDrawnAtOnce one ⊎ IsMadeAmong (id_of one.bytes) later
+    → IsMadeAmong (id_of one.bytes) later
     ⊎ IsMadeIn (id_of one.bytes) (state_after call s) calls ⊎ IsMadeAmong (id_of one.bytes) before
 
 -- each ID that is outstanding after the calls was so before them, or one of them makes a request under it
@@ -111,6 +102,16 @@ abbrev pub MakesNewOnesIn : State → List Call → Type 0
 MakesNewOnesIn s calls =
     (id : ℕ) → is_outstanding id (state_behind s calls).transactions ≡ true → (is_outstanding id s.transactions ≡ true) ⊎ IsMadeIn id s calls
 
--- what holds of each turn of the calls in which a reply is accepted
+-- what holds for each input of the calls in which a reply is accepted
 abbrev pub EachReply : (Turn → Type 0) → State → List Call → Type 0
 EachReply Q s calls = (one : Turn) → Contains (handled_in s calls) one → IsReplyTurn one → Q one
+
+-- For calls that follow each other: after a reply its ID is outstanding again only if a new request was
+-- made under it since, of two replies with one ID the second is to a new request, and no other ID becomes
+-- outstanding.
+abbrev pub CountsOnce : State → List Call → Type 0
+CountsOnce s calls =
+    ((call : Call) (later : List Call) (one : Turn) → calls ≡ call ∷ later → IsReplyTurn one → IsMadeSince s call later one)
+    × ((call : Call) → calls ≡ call ∷ [] → IsMadeBetween s call)
+    × ((call : Call) (between : List Call) (last : Call) → calls ≡ call ∷ (between ++ last ∷ []) → IsMadeUntil s call between last)
+    × MakesNewOnesIn s calls

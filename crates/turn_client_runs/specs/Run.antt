@@ -4,7 +4,7 @@ use Rattle.turn_client_api.specs.State.{State}
 use Rattle.turn_client_api.specs.Steps.{state_after}
 use Rattle.turn_client_api.specs.declared.call.Call.{Call}
 
--- the client after these calls, which all found memory
+-- the client after these calls, without an allocation failure
 abbrev pub state_behind : State → List Call → State
 state_behind s [] = s
 state_behind s (call ∷ calls) = state_behind (state_after call s) calls

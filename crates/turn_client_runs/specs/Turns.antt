@@ -1,4 +1,4 @@
--- What a run handles.
+-- What a run processes.
 use Rattle.std.specs.Prelude.{List, [], ◌∷◌, ◌++◌, option_to_list}
 use Rattle.std.specs.List.{Contains}
 use Rattle.turn_client_api.specs.State.{State}
@@ -9,27 +9,27 @@ use Rattle.turn_client_api.specs.Steps.{packet_step, state_after}
 use Rattle.turn_client_api.specs.declared.call.Call.{Call}
 use Rattle.turn_client_api.specs.declared.call.Call.TheVariants.{Recv, PollRecv}
 
--- all datagrams and frames that the calls handle, in order, each with the state just before
+-- all datagrams and frames that the calls process, in order, each with the state just before
 abbrev pub handled_in : State → List Call → List Turn
 handled_in s [] = []
 handled_in s (call ∷ calls) = handled call s ++ handled_in (state_after call s) calls
 
--- all payloads that the calls give, in order
+-- all payloads that the calls return, in order
 abbrev pub payloads_in : State → List Call → List Payload
 payloads_in s [] = []
 payloads_in s (call ∷ calls) = payloads_by call s ++ payloads_in (state_after call s) calls
 
--- what a call answers of peers
+-- the data of peers that a call returns
 abbrev pub answered : Call → State → List Payload
 answered (Recv packet now) s = option_to_list (payload_in (packet_step packet now s).0)
 answered (PollRecv now) s = option_to_list (poll_recv_step now s).0
 answered _ s = []
 
--- what the calls answer of peers, in order
+-- the data of peers that the calls return, in order
 abbrev pub answered_in : State → List Call → List Payload
 answered_in s [] = []
 answered_in s (call ∷ calls) = answered call s ++ answered_in (state_after call s) calls
 
--- one of these turns did it
+-- one of these inputs did it
 abbrev pub IsAmong : (Turn → Type 0) → List Turn → Type 0
 IsAmong Did turns = (one : Turn) × Contains turns one × Did one

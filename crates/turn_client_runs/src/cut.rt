@@ -1,4 +1,4 @@
-//! One stream gives the same, in whatever pieces it comes.
+//! One stream returns the same, in whatever pieces it is received.
 
 ghost use Rattle.std.specs.Prelude.{◌≡◌, ℕ, true, List, [], ◌∷◌, ◌++◌, None};
 ghost use Rattle.std.specs.declared.net.socket_addr.SocketAddr.{SocketAddr};
@@ -15,19 +15,19 @@ ghost use Rattle.turn_client_runs.specs.Cut.{AreNonempty, GetsQuiet, IsQuiet, Is
 ghost use Rattle.turn_client_runs.specs.Run.{state_behind};
 ghost use Rattle.turn_client_runs.specs.CutRows.{WhenCut, abc_and_hello, byte_and_hello, pieces_at, two_bytes, whole_at};
 
-/// The whole of what comes over a stream is read from its front (RFC 8656, section 12.5; RFC 6062,
-/// section 4.3). Of a control connection, or of a data connection that waits to be bound: the frame in
-/// front is handled, and then the rest in the state that it left; less than a frame is left; and what no
-/// frame begins with breaks the stream, which drops it. On a bound stream each byte is the peer's. Of a
-/// broken one, and where there is none, nothing comes, and a client that is quiet stays as it is.
+/// The whole of what is received over a stream is read from its start (RFC 8656, section 12.5; RFC 6062,
+/// section 4.3). For a control connection, or a data connection that waits to be bound: the first frame is
+/// processed, and then the rest in the state that it left; less than a frame is left; and bytes that no
+/// frame begins with break the stream, which drops them. On a bound stream each byte is the peer's. For a
+/// broken one, and if there is none, nothing is returned, and a client that is quiet stays unchanged.
 pub fn wholes_are_frames()
     ensures front { (local : SocketAddr) (now : ℕ) (s : State) (bytes : List ℕ) → whole local now s bytes ≡ read_from_front local now s bytes }
     ensures unmeant { (local : SocketAddr) (now : ℕ) (s : State) (bytes : List ℕ) → IsQuiet s → mode_at local s ≡ Broken → whole_of local now s bytes ≡ ([], s) }
 {}
 
-/// A client over TCP is quiet from the first, after any calls once it is polled and gives nothing, and after
-/// pieces that were each polled up to the first none. So is any client over TCP whose streams are apart, as
-/// those of every client are, once it is polled and gives nothing.
+/// A client over TCP is quiet when it is new, after any calls once it is polled and returns nothing, and
+/// after pieces that were each polled up to the first none. So is any client over TCP whose streams have
+/// distinct local addresses, as those of every client have, once it is polled and returns nothing.
 pub fn polled_clients_are_quiet()
     ensures initial { (local remote : SocketAddr) (config : Config) (seed : List ℕ) → IsQuiet (initial Tcp local remote config seed) }
     ensures run { (local remote : SocketAddr) (config : Config) (seed : List ℕ) (calls : List Call) → GetsQuiet (state_behind (initial Tcp local remote config seed) calls) }
@@ -35,28 +35,28 @@ pub fn polled_clients_are_quiet()
     ensures fed { (local : SocketAddr) (pieces : List (List ℕ)) (now : ℕ) (s : State) → IsQuiet s → IsQuiet (fed_pieces local pieces now s).1 }
 {}
 
-/// The pieces of one stream that come to a quiet client at one moment, none of them empty and each
-/// followed by `poll_recv` until it gives nothing, give what all their bytes give, and leave exactly the
-/// state that these leave (RFC 8656, section 12.5; RFC 6062, section 4.3). Only the joined bytes stand on
-/// the other side, so any two cuts agree. Payloads of the control connection agree one by one, those of a
-/// data connection once they are joined. That covers a connection that is bound by a reply with data after
-/// it or with frames before it, one whose bind fails, a stream that breaks or is broken, and a local end
-/// without a stream. Not covered are the answers `Handled` and `Ignored`, and ICMP packets, which `recv`
-/// alone answers.
+/// The pieces of one stream that a quiet client receives at one time, none of them empty and each followed
+/// by `poll_recv` until it returns nothing, return what all their bytes return, and leave exactly the state
+/// that these leave (RFC 8656, section 12.5; RFC 6062, section 4.3). Only the joined bytes are on the other
+/// side, so any two cuts agree. Payloads of the control connection agree one by one, those of a data
+/// connection once they are joined. That covers a connection that is bound by a reply with data after it or
+/// with frames before it, one whose bind fails, a stream that breaks or is broken, and a local address
+/// without a stream. Not covered are the results `Handled` and `Ignored`, and ICMP packets, which only
+/// `recv` returns.
 pub fn streams_give_the_same_for_any_cut()
     ensures { (local : SocketAddr) (pieces : List (List ℕ)) (now : ℕ) (s : State) → IsQuiet s → AreNonempty pieces → IsSameForAnyCut local pieces now s }
 {}
 
-/// The same of calls as they stand in a run: for each piece, of which none is empty, a `recv` from the
-/// server, and then `poll_recv` up to the first that gives nothing.
+/// The same for calls as they are in a run: for each piece, none of them empty, a `recv` from the server,
+/// and then `poll_recv` up to the first that returns nothing.
 pub fn runs_give_the_same_for_any_cut()
     ensures { (local : SocketAddr) (pieces : List (List ℕ)) (now : ℕ) (s : State) → IsQuiet s → IsSameInRuns local pieces now s }
 {}
 
-/// What comes of a few streams, so that the check computes the definitions: a frame that is cut in its
-/// header, and a message behind it; less than a frame, which waits; a byte with which no frame begins;
+/// The results of a few streams, so that the check computes the definitions: a frame that is cut in its
+/// header, and a message after it; less than a frame, which is buffered; a byte with which no frame begins;
 /// bytes of a bound data connection; and a reply to CONNECTION_BIND, cut in two, with data after it, also
-/// with a frame before it, which is ignored, and where it is not signed as it has to be.
+/// with a frame before it, which is ignored, and without the required signature.
 pub fn streams_are_worked()
     ensures whole { (s : State) → whole_at client (abc_frame ++ hello_message) (with_channel s) ≡ (abc_and_hello, with_channel s) }
     ensures cut { (s : State) → pieces_at client (half_header ∷ (behind_half ++ hello_message) ∷ []) (with_channel s) ≡ (abc_and_hello, with_channel s) }

@@ -6,7 +6,7 @@
 //!               answer          answer          answer          the laws speak of all of these
 //! ```
 //!
-//! The functions of this crate do nothing: their contracts are the laws. A proof takes one by calling its
+//! The functions of this crate do nothing: their contracts are the laws. A proof uses one by calling its
 //! function, or names it.
 //!
 //! ```rust
@@ -23,7 +23,6 @@ mod peers;
 mod promises;
 mod replies;
 mod sleeps;
-mod weight;
 
 pub use bound::{bound_connections_have_their_success, bound_streams_have_their_success};
 pub use challenges::{few_challenges_are_answered, realm_stays_in_runs};
@@ -37,4 +36,3 @@ pub use peers::only_let_in_is_received;
 pub use promises::runs_keep_their_promises;
 pub use replies::replies_count_once_in_runs;
 pub use sleeps::runs_sleep_through_nothing;
-pub use weight::few_ids_are_taken;

@@ -1,17 +1,16 @@
 //! All that runs keep, as `turn_client_proto::replay` carries it.
 
 ghost use Rattle.turn_client_runs.specs.Holds.{HoldsOfRuns};
-ghost use Rattle.turn_client_runs.specs.Promises.{AfterEach, BoundHaveSuccess, CutsAgree, FewAreAnswered, GrantsHaveReplies, HearsLetIn, NumbersAreDistinct, RealmStays, RepliesCountOnce};
-ghost use Rattle.turn_client_runs.specs.Weight.{FewDrawFreeIds};
+ghost use Rattle.turn_client_runs.specs.Promises.{AfterEach, BoundHaveSuccess, CutsAgree, FewAreAnswered, GrantsHaveReplies, HearsLetIn, NumbersAreDistinct, RealmIsAnswered, RealmStays, RepliesCountOnce};
+ghost use Rattle.turn_client_runs.specs.Short.{StreamsAreShort};
 
-/// What a run of a new client keeps, whatever its configuration, its seed and its calls, which all find
-/// memory. After each call every standing grant has its signed reply to an own request, no channel number
-/// names two peers, and what is bound has the success that bound it (RFC 8656, sections 7.3, 9, 12; RFC
-/// 6062, section 4.3). Each payload is of a peer that was let in, a reply counts once, and of any calls that
-/// follow each other at most nine challenges are answered before a signed reply, realm and algorithm stay,
-/// and the pieces of a stream give what their joined bytes give. Where calls and their bytes are fewer than 2^90,
-/// each ID that is drawn is free. Each clause is a law of this crate, spoken
-/// of one run.
+/// What a run of a new client keeps, whatever its configuration, its seed and its calls, if no memory
+/// allocation fails. After each call every active grant has its signed reply to an own request, no channel
+/// number names two peers, and what is bound has the success that bound it (RFC 8656, sections 7.3, 9, 12;
+/// RFC 6062, section 4.3). Each payload is of a permitted peer, a reply is accepted once, and of any calls
+/// that follow each other at most nine challenges are answered before a signed reply, realm and algorithm
+/// stay, and the pieces of a stream return what their joined bytes return. Each clause is a law of this
+/// crate, stated for one run.
 pub fn runs_keep_their_promises()
     ensures granted { HoldsOfRuns (AfterEach GrantsHaveReplies) }
     ensures numbers { HoldsOfRuns (AfterEach NumbersAreDistinct) }
@@ -20,6 +19,7 @@ pub fn runs_keep_their_promises()
     ensures counted { HoldsOfRuns RepliesCountOnce }
     ensures challenges { HoldsOfRuns FewAreAnswered }
     ensures realm { HoldsOfRuns RealmStays }
+    ensures held { HoldsOfRuns RealmIsAnswered }
+    ensures short { HoldsOfRuns StreamsAreShort }
     ensures cuts { HoldsOfRuns CutsAgree }
-    ensures ids { HoldsOfRuns FewDrawFreeIds }
 {}

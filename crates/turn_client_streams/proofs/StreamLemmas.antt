@@ -1,4 +1,4 @@
--- Streams with local ends of their own: to change one of them is to change the one at its local end.
+-- Streams with distinct local addresses: to change one of them is to change the one at its local address.
 use Rattle.std.proofs.Common.{◌≡◌, ℕ, zero, suc, Bool, true, false, not, cond, List, [], ◌∷◌, ◌++◌, map, filter, Some, None, refl, sym, subst, ap, ◌∙◌, get_or}
 use Rattle.std.specs.Prelude.{find, slice_get, set}
 use Rattle.std.specs.List.{IsDistinct, AllByRecursion, position}
@@ -14,11 +14,11 @@ use Rattle.turn_client_streams.specs.Held.{HasOwnEnds}
 abbrev pub is_at : SocketAddr → Stream → Bool
 is_at local x = same_address x.local local
 
--- the stream at this local end is changed so
+-- the stream at this local address is changed so
 abbrev pub at_end : SocketAddr → (Stream → Stream) → List Stream → List Stream
 at_end local f xs = map (λ x. cond (same_address x.local local) (f x) x) xs
 
--- a change that leaves a stream its local end
+-- a change that leaves a stream its local address
 abbrev pub KeepsEnd : (Stream → Stream) → Type 0
 KeepsEnd f = (x : Stream) → (f x).local ≡ x.local
 
@@ -69,14 +69,14 @@ set-first p f xs i d h e =
     let first = position-IsFirst p xs i e in
     set-at_end f xs i (get_or xs i d) h (slice_get-get_or xs i d first.within)
 
--- the stream at this local end is changed
+-- the stream at this local address is changed
 pub set-local : (local : SocketAddr) (f : Stream → Stream) (xs : List Stream) (i : ℕ) (d : Stream) → HasOwnEnds xs → position (is_at local) xs ≡ Some i → set xs i (f (get_or xs i d)) ≡ at_end local f xs
 set-local local f xs i d h e =
     let first = position-IsFirst (is_at local) xs i e in
     let same = found-local local xs (get_or xs i d) (first.found d) in
     set-first (is_at local) f xs i d h e ∙ ap (λ a. at_end a f xs) same
 
--- with none there nothing changes
+-- with none at it nothing changes
 pub none-local : (local : SocketAddr) (f : Stream → Stream) (xs : List Stream) → position (is_at local) xs ≡ None → at_end local f xs ≡ xs
 none-local local f xs e = by xs (position-none (is_at local) xs e)
   where
@@ -88,7 +88,7 @@ none-local local f xs e = by xs (position-none (is_at local) xs e)
         one true g later = let clash : Some x ≡ None = rw g at e in cc
         one false g later = rw g (ap (λ t. x ∷ t) (later (rw g at e)))
 
--- ---- streams go and come
+-- ---- streams are removed and added
 
 are-filtered : (P : SocketAddr → Type 0) (p : Stream → Bool) (xs : List Stream) → AllByRecursion P (ends xs) → AllByRecursion P (ends (filter p xs))
 are-filtered P p [] h = h

@@ -10,22 +10,22 @@ use Rattle.turn_client_api.specs.declared.state.Stream.{Stream}
 abbrev pub holding : List ℕ → Stream → Stream
 holding bytes stream = record stream { bytes = bytes }
 
--- its bytes are meant so
+-- its bytes have this mode
 abbrev pub meant : Mode → Stream → Stream
 meant mode stream = record stream { mode = mode }
 
--- nothing more comes of it, and what waits is dropped
+-- nothing more is read from it, and the buffered bytes are dropped
 abbrev pub broken : Stream → Stream
 broken stream = record stream { mode = Broken; bytes = [] }
 
--- the frame in front, where the whole of it is there (RFC 8656, section 12.5)
+-- the first frame, if the whole of it is present (RFC 8656, section 12.5)
 abbrev pub front_of : Stream → Option (List ℕ)
 front_of stream = option_map (λ len. take len stream.bytes) (frame_len stream.bytes)
 
--- that frame is gone
+-- that frame is dropped
 abbrev pub passed : Stream → Stream
 passed stream = option_map_or (λ len. holding (drop len stream.bytes) stream) (frame_len stream.bytes) stream
 
--- that frame is gone, and what no frame begins with breaks the stream
+-- that frame is dropped, and bytes that no frame begins with break the stream
 abbrev pub without_front : Stream → Stream
 without_front stream = if begins_no_frame stream.bytes then broken stream else passed stream

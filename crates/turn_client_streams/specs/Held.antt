@@ -10,11 +10,12 @@ use Rattle.turn_client_api.specs.declared.state.Stream.{Stream}
 abbrev pub with_streams : List Stream → State → State
 with_streams streams s = record s { streams = streams }
 
--- a stream that is out holds nothing in the list
+-- a stream that is taken out holds nothing in the list
 abbrev pub taken_out : Option Stream → State → State
 taken_out None s = s
 taken_out (Some stream) s = with_bytes stream.local [] s
 
--- no two streams have one local end: each connection is a TCP connection of its own (RFC 6062, section 4.3)
+-- no two streams have one local address: each connection is a TCP connection of its own (RFC 6062,
+-- section 4.3)
 abbrev pub HasOwnEnds : List Stream → Type 0
 HasOwnEnds streams = IsDistinct same_address (map (λ stream. stream.local) streams)

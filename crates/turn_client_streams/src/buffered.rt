@@ -1,8 +1,8 @@
 //! One stream, and the buffer of its bytes.
 
-ghost use Rattle.std.specs.Prelude.{◌≡◌, ◌↔◌, ◌++◌, [], false, IsTrue, OnOk, OnErr, option_copied};
+ghost use Rattle.std.specs.Prelude.{◌≡◌, ◌<◌, ◌↔◌, ◌++◌, [], false, length, IsNone, IsTrue, OnOk, OnErr, option_copied};
 ghost use Rattle.turn_types.specs.Frames.{begins_no_frame};
-ghost use Rattle.turn_client_api.specs.Streams.{is_ready};
+ghost use Rattle.turn_client_api.specs.Streams.{HoldsLittle, is_ready};
 ghost use Rattle.turn_client_streams.specs.Buffered.{broken, front_of, holding, meant, passed};
 
 mod incoming;
@@ -14,9 +14,9 @@ use std::net::SocketAddr;
 use turn_client_api::Mode;
 use turn_types::tcp::TurnTcpBuffer;
 
-/// A stream of a client: the local end of its connection, how its bytes are meant, and those that wait.
+/// A stream of a client: the local address of its connection, what its bytes are, and its buffered bytes.
 ///
-/// It holds at most twice the bytes that wait, as `TurnTcpBuffer` does.
+/// It holds at most twice the buffered bytes, as `TurnTcpBuffer` does.
 #[derive(Debug, Drop)]
 pub struct BufferedStream {
     alloc: Global,
@@ -33,12 +33,12 @@ impl Model for BufferedStream {
 
     ghost view = { λ s. record { local = s.local; mode = s.mode; bytes = s.buffer.stream.bytes } };
 
-    // A stream breaks by its mode alone, and then has a buffer that has not begun.
+    // A stream is broken only by its mode, and then has a buffer that has not begun.
     ghost invariant = { λ s. s.buffer.stream.is_broken ≡ false };
 }
 
 impl BufferedStream {
-    /// A stream of which nothing has come. It takes no memory.
+    /// A stream of which nothing was received. Allocates no memory.
     pub(crate) fn new(alloc: Global, local: SocketAddr, mode: Mode) -> BufferedStream
         ensures { result ≡ record { local = local; mode = mode; bytes = [] } }
     {
@@ -50,31 +50,32 @@ impl BufferedStream {
         }
     }
 
-    /// The local end of its connection.
+    /// The local address of its connection.
     pub fn local(&self) -> SocketAddr
         ensures { result ≡ self.now.local }
     {
         self.local
     }
 
-    /// How its bytes are meant.
+    /// What its bytes are: frames, data of the bound peer, or nothing.
     pub fn mode(&self) -> Mode
         ensures { result ≡ self.now.mode }
     {
         self.mode
     }
 
-    /// Whether no byte waits.
+    /// Whether no byte is buffered.
     pub fn is_empty(&self) -> bool
         ensures { IsTrue result ↔ (self.now.bytes ≡ []) }
     {
         self.buffer.is_empty()
     }
 
-    /// Whether it can have its turn: a whole frame is in front, or what no frame begins with, or data of
-    /// its peer.
+    /// Whether it can be processed: it begins with a whole frame, with bytes that no frame begins with,
+    /// or with data of its peer.
     pub fn is_ready(&self) -> bool
-        ensures { result ≡ is_ready self.now }
+        ensures exact { result ≡ is_ready self.now }
+        ensures little { result ≡ false → HoldsLittle self.now }
     {
         match self.mode {
             Mode::Control | Mode::Waiting => self.is_stuck() || self.front().is_some(),
@@ -83,22 +84,23 @@ impl BufferedStream {
         }
     }
 
-    /// Whether what waits begins with the bits 10 or 11, as no frame does (RFC 8656, section 12). A
-    /// stream of frames breaks then when its turn comes.
+    /// Whether the buffered bytes begin with the bits 10 or 11, as no frame does (RFC 8656, section 12).
+    /// A stream of frames breaks when it is processed then.
     pub fn is_stuck(&self) -> bool
         ensures { result ≡ begins_no_frame self.now.bytes }
     {
         self.buffer.is_stuck()
     }
 
-    /// The frame in front, where it is held, or `None` while it is not whole.
+    /// The first frame, borrowed from the buffer, or `None` while it is not whole.
     pub fn front(&self) -> Option<&[u8]>
-        ensures { option_copied result ≡ front_of self.now }
+        ensures exact { option_copied result ≡ front_of self.now }
+        ensures little { IsNone result → begins_no_frame self.now.bytes ≡ false → length self.now.bytes < 65556 }
     {
         self.buffer.front()
     }
 
-    /// Lets the frame in front go. It takes no memory. With no whole frame in front nothing changes.
+    /// Drops the first frame. Allocates no memory. Without a whole first frame nothing changes.
     pub fn pass(&mut self)
         requires { begins_no_frame self.old.bytes ≡ false }
         ensures { self.new ≡ passed self.old }
@@ -106,7 +108,7 @@ impl BufferedStream {
         self.buffer.pass();
     }
 
-    /// The bytes that wait. It takes no memory.
+    /// The buffered bytes. Allocates no memory.
     pub fn into_bytes(self) -> Vec<u8>
         ensures { result.items ≡ self.bytes }
     {
@@ -114,12 +116,12 @@ impl BufferedStream {
         buffer.into_inner()
     }
 
-    /// Takes in a piece of the stream, behind what waits.
+    /// Appends a piece of the stream to the buffered bytes.
     ///
     /// # Errors
     ///
-    /// `AllocError` where there is no memory for the piece. The stream is then broken, since bytes of it
-    /// are lost.
+    /// `AllocError` if memory allocation for the piece fails. The stream is then broken, since bytes of
+    /// it are lost.
     pub fn feed(&mut self, piece: &[u8]) -> Result<(), AllocError>
         ensures ok { OnOk result (self.new ≡ holding (self.old.bytes ++ piece.now) self.old) }
         ensures err { OnErr result (self.new ≡ broken self.old) }
@@ -136,7 +138,7 @@ impl BufferedStream {
 }
 
 impl BufferedStream {
-    /// Drops what waits. Nothing more comes of the stream.
+    /// Drops the buffered bytes. Nothing more is read from the stream.
     pub(crate) fn break_off(&mut self)
         ensures { self.new ≡ broken self.old }
     {
@@ -144,14 +146,14 @@ impl BufferedStream {
         self.buffer = TurnTcpBuffer::new(self.alloc);
     }
 
-    /// From now on its bytes are meant so, also those that wait.
+    /// From now on its bytes have this mode, also the buffered ones.
     pub(crate) fn set_mode(&mut self, mode: Mode)
         ensures { self.new ≡ meant mode self.old }
     {
         self.mode = mode;
     }
 
-    /// The stream with its bytes, of which none is left here.
+    /// The stream with its bytes; none of them remains here.
     pub(crate) fn take_out(&mut self) -> BufferedStream
         ensures stream { result ≡ self.old }
         ensures after { self.new ≡ holding [] self.old }
@@ -164,7 +166,7 @@ impl BufferedStream {
         }
     }
 
-    /// Holds the bytes of another, in place of its own.
+    /// Holds the bytes of another stream, in place of its own.
     pub(crate) fn hold(&mut self, other: BufferedStream)
         ensures { self.new ≡ holding other.bytes self.old }
     {

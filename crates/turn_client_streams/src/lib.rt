@@ -1,14 +1,14 @@
 //! The streams of a TURN client over TCP: the control connection and the data connections (RFC 8656,
-//! section 3.1, and RFC 6062), each with the bytes that wait for their turn. No IO.
+//! section 3.1, and RFC 6062), each with its buffered bytes. No IO.
 //!
 //! ```text
-//!  piece --feed--> | control connection | --front--> a message or a channel frame
+//!  piece --feed--> | control connection | --front--> a STUN message or a ChannelData message
 //!  piece --feed--> | data connection    | --front--> messages, and once it is bound --into_bytes--> data of its peer
 //! ```
 //!
 //! Begin with [`Streams`], the list of a client's streams. A stream is taken out of it while one of its
-//! frames is handled, and put back: the frame is read where it lies, and whoever handles it may change
-//! the list meanwhile.
+//! frames is processed, and put back: the frame is read in place, and the code that processes it may
+//! change the list meanwhile.
 //!
 //! ```rust
 //! if let Some(mut stream) = streams.take_at(local) {

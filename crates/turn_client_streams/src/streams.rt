@@ -1,13 +1,13 @@
 //! The list of a client's streams.
 
-ghost use Rattle.std.specs.Prelude.{◌≡◌, find, OnOk, OnErr, IfOk, IsOk, option_copied};
+ghost use Rattle.std.specs.Prelude.{◌≡◌, All, IsNone, find, OnOk, OnErr, IfOk, IsOk, option_copied};
 ghost use Rattle.std.specs.List.{position};
 ghost use Rattle.turn_agent.specs.Agent.{same_address};
 ghost use Rattle.turn_stun.specs.declared.transport.TransportType.TheVariants.{Udp};
 ghost use Rattle.turn_client_api.specs.Calls.{with_stream};
 ghost use Rattle.turn_client_api.specs.Connections.{with_mode};
 ghost use Rattle.turn_client_api.specs.State.{State, first_streams};
-ghost use Rattle.turn_client_api.specs.Streams.{broken_at, is_ready, stream_at, with_bytes, without_stream};
+ghost use Rattle.turn_client_api.specs.Streams.{HoldsLittle, broken_at, is_ready, stream_at, with_bytes, without_stream};
 ghost use Rattle.turn_client_streams.specs.Held.{taken_out, with_streams};
 
 use crate::buffered::BufferedStream;
@@ -17,11 +17,11 @@ use std::net::SocketAddr;
 use turn_client_api::Mode;
 use turn_stun::transport::TransportType;
 
-/// The streams of a client, in the order of their opening, which is that of their turns. No two have one
-/// local end. A client over UDP has none.
+/// The streams of a client, in the order in which they were opened, which is that in which they are
+/// processed. No two have one local address. A client over UDP has none.
 ///
-/// A stream whose turn it is is taken out, and put back without the frame that was handled: meanwhile the
-/// list has it with no bytes, and another call may change how they are meant.
+/// To process a frame, its stream is taken out, and put back without that frame: meanwhile the list has
+/// it with no bytes, and another call may change its mode.
 #[derive(Debug, Drop)]
 pub struct Streams {
     alloc: Global,
@@ -40,14 +40,15 @@ impl Model for Streams {
     ghost invariant = { λ s. HasOwnEnds s.list.items };
 }
 
-/// Where the first stream stands that can have its turn.
+/// The place of the first stream that can be processed.
 fn ready_place(list: &[BufferedStream]) -> Option<usize>
-    ensures { result ≡ position is_ready list.now }
+    ensures exact { result ≡ position is_ready list.now }
+    ensures little { IsNone result → All HoldsLittle list.now }
 {
     list.iter().position(|stream| stream.is_ready())
 }
 
-/// Where the stream at this local end stands.
+/// The place of the stream at this local address.
 fn place_at(list: &[BufferedStream], local: SocketAddr) -> Option<usize>
     ensures { result ≡ position (λ stream. same_address stream.local local) list.now }
 {
@@ -59,7 +60,7 @@ impl Streams {
     ///
     /// # Errors
     ///
-    /// `AllocError` where there is no memory. Over UDP none is wanted.
+    /// `AllocError` if memory allocation fails. Over UDP none is needed.
     pub fn new(
         alloc: Global,
         transport: TransportType,
@@ -75,7 +76,7 @@ impl Streams {
         Ok(Streams { alloc, list })
     }
 
-    /// The stream at this local end.
+    /// The stream at this local address.
     pub fn get(&self, local: SocketAddr) -> Option<&BufferedStream>
         ensures { (s : State) → option_copied result ≡ stream_at local (with_streams self.now s) }
     {
@@ -85,9 +86,10 @@ impl Streams {
         Some(&self.list[place])
     }
 
-    /// Takes out the first stream that can have its turn.
+    /// Takes out the first stream that can be processed.
     pub fn take_ready(&mut self) -> Option<BufferedStream>
         ensures stream { result ≡ find is_ready self.old }
+        ensures little { IsNone result → All HoldsLittle self.new }
         ensures after { (s : State) → with_streams self.new s ≡ taken_out result (with_streams self.old s) }
     {
         let Some(place) = ready_place(self.list.as_slice()) else {
@@ -96,7 +98,7 @@ impl Streams {
         Some(self.list[place].take_out())
     }
 
-    /// Takes out the stream at this local end.
+    /// Takes out the stream at this local address.
     pub fn take_at(&mut self, local: SocketAddr) -> Option<BufferedStream>
         ensures stream { (s : State) → result ≡ stream_at local (with_streams self.old s) }
         ensures after { (s : State) → with_streams self.new s ≡ taken_out result (with_streams self.old s) }
@@ -107,8 +109,8 @@ impl Streams {
         Some(self.list[place].take_out())
     }
 
-    /// Gives the stream at the same local end the bytes of this one, which was taken out. It is meant as
-    /// the list says by now, and where it is gone from there the bytes are dropped.
+    /// Puts the bytes of this stream, which was taken out, back into the one at the same local address.
+    /// The mode in the list counts; if the stream is no longer there, the bytes are dropped.
     pub fn put(&mut self, stream: BufferedStream)
         ensures { (s : State) → with_streams self.new s ≡ with_bytes stream.local stream.bytes (with_streams self.old s) }
     {
@@ -117,7 +119,8 @@ impl Streams {
         }
     }
 
-    /// Breaks the stream at this local end: what waits there is dropped, and nothing more comes of it.
+    /// Breaks the stream at this local address: its buffered bytes are dropped, and nothing more is read
+    /// from it.
     pub fn break_at(&mut self, local: SocketAddr)
         ensures { (s : State) → with_streams self.new s ≡ broken_at local (with_streams self.old s) }
     {
@@ -126,8 +129,8 @@ impl Streams {
         }
     }
 
-    /// From now on the bytes of the stream at this local end are meant so, also those that wait: once the
-    /// server has bound a data connection, they are its peer's (RFC 6062, section 4.3).
+    /// From now on the bytes of the stream at this local address have this mode, also the buffered ones:
+    /// once the server has bound a data connection, they are its peer's (RFC 6062, section 4.3).
     pub fn set_mode(&mut self, local: SocketAddr, mode: Mode)
         ensures { (s : State) → with_streams self.new s ≡ with_mode local mode (with_streams self.old s) }
     {
@@ -136,19 +139,19 @@ impl Streams {
         }
     }
 
-    /// Lets the stream at this local end go, with what waits there.
+    /// Removes the stream at this local address, with its buffered bytes.
     pub fn remove(&mut self, local: SocketAddr)
         ensures { (s : State) → with_streams self.new s ≡ without_stream local (with_streams self.old s) }
     {
         self.list.retain(|stream| stream.local() != local);
     }
 
-    /// Opens the stream of a data connection that waits to be bound, behind all others and in place of any
-    /// at this local end (RFC 6062, section 4.3).
+    /// Opens the stream of a data connection that waits to be bound, after all others and in place of any
+    /// at this local address (RFC 6062, section 4.3).
     ///
     /// # Errors
     ///
-    /// `AllocError` where there is no memory. All stays as it was.
+    /// `AllocError` if memory allocation fails. All stays as it was.
     pub fn open(&mut self, local: SocketAddr) -> Result<(), AllocError>
         ensures ok { OnOk result ((s : State) → with_streams self.new s ≡ with_stream local (with_streams self.old s)) }
         ensures err { OnErr result (self.new ≡ self.old) }

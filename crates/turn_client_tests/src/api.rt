@@ -1,5 +1,5 @@
-//! What no clause says: outside values, printed texts, and that each call succeeds while there is
-//! memory.
+//! What no clause says: external values, printed texts, and that each call succeeds while memory allocation
+//! does.
 
 mod addresses;
 mod configuration;
@@ -16,7 +16,7 @@ use turn_auth::credentials::CredentialsError;
 use turn_client_api::{TurnConfig, TurnPeerData};
 use turn_types::TransportType;
 
-/// A Data indication from 10.0.0.3:9000 (RFC 8656, section 11.4): `hello` stands at 36 to 41.
+/// A Data indication from 10.0.0.3:9000 (RFC 8656, section 11.4): `hello` is at bytes 36 to 41.
 const HELLO: [u8; 44] = [
     0x00, 0x17, 0x00, 0x18, 0x21, 0x12, 0xa4, 0x42, 0, 0, 0, 0, 0, 0, 0, 0, 0, 0, 0, 1, 0x00, 0x12,
     0x00, 0x08, 0x00, 0x01, 0x02, 0x3a, 0x2b, 0x12, 0xa4, 0x41, 0x00, 0x13, 0x00, 0x05, 0x68, 0x65,
@@ -34,8 +34,8 @@ fn relayed_ipv6() -> SocketAddr {
     SocketAddr::new(IpAddr::V6(ip), 40000)
 }
 
-// Configurations stand in a box. A function that holds one by itself is far more to prove, since a proof opens
-// all that is dropped at its end.
+// Configurations are boxed: a function that owns one directly costs far more to prove, since a proof opens all
+// values that are dropped at its end.
 
 fn boxed(alloc: Global, config: TurnConfig) -> Result<Box<TurnConfig>, AllocError> {
     Ok(Box::new(alloc, config)?)

@@ -1,4 +1,4 @@
-//! What no clause says: outside bytes, worked runs, and that calls succeed while there is memory.
+//! What no clause says: external bytes, worked runs, and that calls succeed while memory allocation does.
 
 mod calls;
 mod fixture;

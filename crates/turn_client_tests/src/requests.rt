@@ -1,4 +1,4 @@
-//! Each message against one that was made elsewhere. Where there is no memory, none is given.
+//! Each message against one from another implementation. If memory allocation fails, no message is returned.
 
 ghost use Rattle.std.specs.Prelude.{IfOk, IsSome};
 ghost use Rattle.turn_auth.specs.Challenge.{MayTake};
@@ -21,7 +21,7 @@ use turn_stun::transaction::TransactionId;
 use turn_stun::transport::TransportType;
 use turn_types::AddressFamily;
 
-/// An ALLOCATE for UDP and IPv4, of the first ID of the zero seed, without integrity.
+/// An ALLOCATE for UDP and IPv4, with the first ID of the zero seed, without integrity.
 const FIRST_ALLOCATE: &[u8] =
     b"\x00\x03\x00\x14\x21\x12\xa4\x42\x76\xb8\xe0\xad\xa0\xf1\x3d\x90\x40\x5d\x6a\xe5\
     \x00\x0d\x00\x04\x00\x00\x07\x08\x00\x19\x00\x04\x11\x00\x00\x00\x00\x1a\x00\x00";
@@ -32,8 +32,8 @@ fn id() -> TransactionId {
     TransactionId::from_bytes(vectors::ID)
 }
 
-/// The same bytes, where there was memory for them, in a vector that never grew: it would have twice its
-/// room then.
+/// The same bytes, if memory allocation succeeded, in a vector that never grew: else its capacity would be
+/// twice as large.
 fn is_text(rt: &impl Abort, found: Result<Data, AllocError>, want: &[u8]) {
     if let Ok(text) = found {
         let bytes = text.into_bytes();
@@ -49,7 +49,7 @@ fn the_first_allocate_is_not_signed(rt: HostRuntime) {
     is_text(&rt, text, FIRST_ALLOCATE);
 }
 
-/// A client with the credentials `user` and `pass`, and what the challenge gives it.
+/// A client with the credentials `user` and `pass`, and its view of the challenge.
 fn challenged(alloc: Global) -> Result<(LongTermClientAuth, ServerChallenge), Fail>
     ensures known { IfOk result (λ found. IsSome found.0.credentials) }
     ensures fits { IfOk result (λ found. MayTake found.0 found.1) }
@@ -63,7 +63,7 @@ fn challenged(alloc: Global) -> Result<(LongTermClientAuth, ServerChallenge), Fa
     Ok((auth, challenge))
 }
 
-/// What a client asks for that holds the challenge.
+/// The request of a client that holds the challenge.
 fn asks(rt: &impl Abort, alloc: Global, auth: &LongTermClientAuth, purpose: Purpose, want: &[u8])
     requires { IsSome auth.now.held }
 {

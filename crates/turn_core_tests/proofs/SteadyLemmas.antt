@@ -1,4 +1,4 @@
--- What every client keeps, each call keeps.
+-- Each call keeps what holds of every client.
 use Rattle.std.proofs.Common.{◌≡◌, ◌∙◌, ℕ, List, Option, Result, Ok, Err, OnErr, OnOk, ap, inl, inr, refl, subst, sym}
 use Rattle.std.specs.declared.net.ip_addr.IpAddr.{IpAddr}
 use Rattle.std.specs.declared.net.socket_addr.SocketAddr.{SocketAddr}
@@ -36,7 +36,7 @@ module _ (s t : State) where
   closed-steady : t ≡ closed s → IsSteady s → IsSteady t
   closed-steady e = leaves-steadies (Call.Poll 0) s t (inr e)
 
-  -- over UDP a datagram of the server to the client's own address
+  -- over UDP a datagram from the server to the client's own address
   datagram-is : (bytes : List ℕ) (now : ℕ) → s.transport ≡ Udp → datagram_step bytes now s ≡ recv_step Udp s.remote s.local bytes now s
   datagram-is bytes now udp = rw (udp, same_address-self s.remote, same_address-self s.local) refl
 

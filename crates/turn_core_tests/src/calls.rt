@@ -1,4 +1,4 @@
-//! The calls of a client that has no allocation, and of one that lost its server.
+//! The calls of a client without an allocation, and of a client that lost its server.
 
 use crate::fixture::{IPV4, Setup, at, client_for, local, server};
 use std::alloc::AllocError;
@@ -17,7 +17,7 @@ fn peer() -> SocketAddr {
     SocketAddr::new(IpAddr::V4(Ipv4Addr::new(10, 0, 0, 3)), 9_000)
 }
 
-/// A call for which an allocation is wanted.
+/// A call that needs an allocation.
 #[derive(Clone, Copy)]
 enum Wanting {
     Permission,
@@ -46,7 +46,7 @@ fn control() -> Socket5Tuple {
     }
 }
 
-/// Whether the client refuses the call since it has no allocation.
+/// Whether the client refuses the call because it has no allocation.
 fn refuses(client: &mut TurnClientProtocol, call: Wanting) -> bool {
     match call {
         Wanting::Permission => refuses_permission(client),
@@ -58,7 +58,7 @@ fn refuses(client: &mut TurnClientProtocol, call: Wanting) -> bool {
     }
 }
 
-// Each call stands alone: a proof follows all that one function calls.
+// Each call has its own function: a proof follows all calls of one function.
 
 fn refuses_permission(client: &mut TurnClientProtocol) -> bool {
     let refused = client.create_permission(TransportType::Udp, peer().ip(), at(0));
@@ -90,7 +90,7 @@ fn refuses_data(client: &mut TurnClientProtocol) -> bool {
     matches!(refused, Err(SendError::NoPermission))
 }
 
-/// Whether the client refuses all of them, and nothing can be read off it.
+/// Whether the client refuses all of them, and its getters return nothing.
 pub(crate) fn has_nothing(client: &mut TurnClientProtocol) -> bool {
     refuses_all(client) && shows_nothing(client)
 }
@@ -110,7 +110,7 @@ fn shows_nothing(client: &TurnClientProtocol) -> bool {
         && relays_nothing(client)
 }
 
-/// Whether the client is where it was made.
+/// Whether the client has the transport and addresses with which it was made.
 fn has_ends(client: &TurnClientProtocol) -> bool {
     client.transport() == TransportType::Udp
         && client.local_addr() == local()
@@ -125,7 +125,7 @@ fn relays_nothing(client: &TurnClientProtocol) -> bool {
             .is_none()
 }
 
-/// Whether the first event tells that there is no address of this family, or there is none for `None`.
+/// Whether the first event reports that this family failed, or with `None` that there is no event.
 pub(crate) fn tells(client: &mut TurnClientProtocol, family: Option<AddressFamily>) -> bool {
     client.poll_event() == family.map(TurnEvent::AllocationCreateFailed)
 }
@@ -141,13 +141,13 @@ fn a_new_client_refuses_what_wants_an_allocation(rt: HostRuntime) -> Result<(), 
     Ok(())
 }
 
-/// It asks for both.
+/// The client requests both families.
 pub(crate) const BOTH: Setup = Setup {
     second: AddressFamily::IPV6,
     ..IPV4
 };
 
-/// The events of a client that asked for addresses of both families.
+/// The events of a client that requested addresses of both families.
 pub(crate) const FAILED: [Option<AddressFamily>; 4] = [
     Some(AddressFamily::IPV4),
     Some(AddressFamily::IPV6),
@@ -162,7 +162,7 @@ fn a_client_that_loses_its_server_ends_once(rt: HostRuntime) -> Result<(), Fail>
     Ok(())
 }
 
-/// Whether each family is told of.
+/// Whether the failure of each family is reported.
 fn fails(client: &mut TurnClientProtocol) -> Result<bool, AllocError> {
     client.protocol_error()?;
     Ok(tells_all(client))
@@ -177,23 +177,20 @@ pub(crate) fn tells_all(client: &mut TurnClientProtocol) -> bool {
     true
 }
 
-/// Whether the client has ended, and tells of no family again.
+/// Whether the client has ended, and reports no failure again.
 fn ends(client: &mut TurnClientProtocol) -> Result<bool, AllocError> {
     client.protocol_error()?;
     client.tcp_closed(local(), server());
     Ok(has_ended(client) && sends_nothing(client)?)
 }
 
-/// Whether nothing is to be had of the client.
+/// Whether the client has ended: no event, all calls refused, and `Closed`.
 pub(crate) fn has_ended(client: &mut TurnClientProtocol) -> bool {
     tells(client, None) && has_nothing(client) && is_closed(client)
 }
 
 fn is_closed(client: &mut TurnClientProtocol) -> bool {
-    match client.poll(at(0)) {
-        Ok(told) => told == TurnPollRet::Closed,
-        Err(_) => false,
-    }
+    client.poll(at(0)) == TurnPollRet::Closed
 }
 
 fn sends_nothing(client: &mut TurnClientProtocol) -> Result<bool, AllocError> {

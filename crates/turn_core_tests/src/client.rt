@@ -1,4 +1,4 @@
-//! A client in the hands of a caller that keeps to what each call asks for.
+//! A client whose caller keeps the requirements of each call.
 
 ghost use Rattle.std.specs.Prelude.{◌≤◌, ◌^◌};
 ghost use Rattle.turn_client_api.specs.LawsOrder.{IsSteady};
@@ -17,12 +17,12 @@ use turn_stun::instant::Instant;
 use turn_stun::transport::{Transmit, TransportType};
 use turn_types::transmit::TransmitBuild;
 
-/// A client that was new, and that only these calls moved: no grant is there before the server allocated, which
-/// is what a datagram asks for.
+/// A client that was new, and that only these calls changed: it has no grant before the server's ALLOCATE success,
+/// which is what `datagram` requires.
 #[derive(Debug, Drop)]
 pub(crate) struct Client {
     core: TurnClientProtocol,
-    /// What the server is asked to relay over.
+    /// The transport between the server and peers.
     relays: TransportType,
 }
 
@@ -38,7 +38,7 @@ impl Model for Client {
 }
 
 impl Client {
-    /// A new client, which asks the server to relay over this transport.
+    /// A new client that requests this transport between the server and peers.
     pub(crate) fn new(core: TurnClientProtocol, relays: TransportType) -> Client
         requires { IsSteady core }
     {
@@ -68,7 +68,7 @@ impl Client {
     pub(crate) fn poll(&mut self, now: Instant) -> Result<TurnPollRet, AllocError>
         requires { now ≤ 2 ^ 62 }
     {
-        self.core.poll(now)
+        Ok(self.core.poll(now))
     }
 
     pub(crate) fn poll_transmit(
@@ -84,7 +84,7 @@ impl Client {
         self.core.poll_event()
     }
 
-    /// Takes a datagram, which only a client over UDP gets.
+    /// Processes a datagram, which only a client over UDP receives.
     pub(crate) fn datagram(&mut self, bytes: &[u8], now: Instant) -> Result<Told, AllocError> {
         match self.core.transport() {
             TransportType::Udp => self.core.datagram(bytes, now),
@@ -112,7 +112,7 @@ impl Client {
         self.core.delete(now)
     }
 
-    /// Says hello to the peer.
+    /// Sends `hello` to the peer.
     pub(crate) fn greet(
         &mut self,
         peer: SocketAddr,
@@ -129,7 +129,7 @@ impl Client {
         self.core.tcp_connect(peer, now)
     }
 
-    /// The connection of this number, for this peer, was opened from this end.
+    /// Reports that the data connection with this number, for this peer, was opened from this address.
     pub(crate) fn allocated_tcp_socket(
         &mut self,
         id: u32,

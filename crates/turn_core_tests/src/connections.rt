@@ -1,5 +1,5 @@
-//! Connections to peers (RFC 6062, sections 4.3 and 4.4). The core leaves it to the clients above that only one over
-//! TCP asks for them.
+//! Connections to peers (RFC 6062, sections 4.3 and 4.4). The core leaves it to the clients above that only a
+//! client over TCP requests them.
 
 use crate::fixture::{IPV4, Setup};
 use crate::grants::{ASK_PERMISSION, PERMITTED};
@@ -45,7 +45,7 @@ const ASK_CONNECTION: Text<'static> = Text {
     ],
 };
 
-/// The connection of number 7.
+/// The connection with number 7.
 const CONNECTED: Text<'static> = Text {
     kind: 0x010a,
     len: 0x20,
@@ -53,7 +53,7 @@ const CONNECTED: Text<'static> = Text {
     attributes: &[0x00, 0x2a, 0x00, 0x04, 0x00, 0x00, 0x00, 0x07],
 };
 
-/// CONNECTION_BIND of it.
+/// CONNECTION_BIND for it.
 const ASK_BINDING: Text<'static> = Text {
     kind: 0x000b,
     len: 0x40,

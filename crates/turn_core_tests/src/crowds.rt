@@ -1,5 +1,5 @@
-//! Messages as long as they may be, of 65,552 bytes, nearly all of them attributes with no bytes (RFC 8489, section 5:
-//! the length is 65,532). The server may send them, and anyone who pretends to be the server.
+//! Messages of the maximum length, 65,552 bytes, nearly all of them attributes without a value (RFC 8489, section
+//! 5: the length field is 65,532). The server may send them, and anyone who can forge the server's address.
 
 use crate::fixture::IPV4;
 use crate::grants::PERMITTED;
@@ -12,7 +12,7 @@ use std::test::Fail;
 
 const LONGEST: u16 = 65_532;
 
-/// A challenge to another request, and one to the client's: 32 bytes, and 16,375 attributes of four.
+/// A challenge to another request, and one to the client's: 32 bytes, and 16,375 attributes of four bytes.
 const CHALLENGES: &[Row<'static>] = &[
     (Ask::Transmit(0), Want::Send(FIRST_ALLOCATE)),
     (
@@ -49,7 +49,7 @@ fn a_crowded_challenge_is_answered(rt: HostRuntime) -> Result<(), Fail> {
     follow(&rt, rt.alloc(), IPV4, &[CHALLENGES])
 }
 
-/// An address of nobody and of the server: 20 bytes, 16,378 or 16,372 attributes, and the integrity.
+/// An unsigned address, and a signed one: 20 bytes, 16,378 or 16,372 attributes, and the integrity.
 const ADDRESSES: &[Row<'static>] = &[
     (
         Ask::Crowd(
@@ -84,7 +84,7 @@ fn a_crowded_address_is_granted(rt: HostRuntime) -> Result<(), Fail> {
     follow(&rt, rt.alloc(), IPV4, &[CHALLENGE, ADDRESSES])
 }
 
-/// A permission: no bytes, 16,377 attributes and the integrity. Data: 24 bytes and 16,377 attributes.
+/// A permission: no other attributes, 16,377 empty ones and the integrity. Data: 24 bytes and 16,377 attributes.
 const PAYLOADS: &[Row<'static>] = &[
     (
         Ask::Crowd(50, CROWDED_DATA, 16_377, Signer::Nobody),

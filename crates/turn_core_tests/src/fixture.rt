@@ -29,27 +29,28 @@ pub(crate) fn server() -> SocketAddr {
     SocketAddr::new(IpAddr::V4(Ipv4Addr::new(10, 0, 0, 2)), 2_000)
 }
 
-/// So many milliseconds after the start.
+/// This many milliseconds after the start.
 pub(crate) fn at(millis: u32) -> Instant
     ensures { result ≤ 2 ^ 62 }
 {
     Instant::from_nanos(u64::from(millis) * 1_000_000)
 }
 
-/// What a client asks for, over what, and how long it waits.
+/// What a client requests, over which transports, and its retransmission times.
 #[derive(Clone, Copy)]
 pub(crate) struct Setup {
-    /// What carries its packets.
+    /// The transport between client and server.
     pub(crate) transport: TransportType,
-    /// What the server is asked to relay over. The core leaves it to the clients above which of both go together.
+    /// The transport between server and peers. The core leaves it to the clients above which of both may be
+    /// combined.
     pub(crate) relays: TransportType,
-    /// It asks for addresses of these families, or of one of them where they are the same.
+    /// It requests relayed addresses of these families, or of one of them if both are the same.
     pub(crate) first: AddressFamily,
     pub(crate) second: AddressFamily,
     pub(crate) waits: Option<Waits>,
 }
 
-/// Waits that were set, in milliseconds, and how often a request is sent.
+/// Retransmission times, in milliseconds, and how often a request is sent.
 #[derive(Clone, Copy)]
 pub(crate) struct Waits {
     pub(crate) initial: u32,
@@ -58,7 +59,7 @@ pub(crate) struct Waits {
     pub(crate) last: u32,
 }
 
-/// For an IPv4 address over UDP, with the waits of the standard.
+/// An IPv4 allocation over UDP, with the default times.
 pub(crate) const IPV4: Setup = Setup {
     transport: TransportType::Udp,
     relays: TransportType::Udp,
@@ -67,7 +68,7 @@ pub(crate) const IPV4: Setup = Setup {
     waits: None,
 };
 
-/// The configuration of `user` with the password `pass`, with that setup.
+/// The configuration of `user` with the password `pass`, with this setup.
 fn config_for(alloc: Global, setup: Setup) -> Result<TurnConfig, CredentialsError> {
     let credentials = TurnCredentials::new(alloc, b"user", b"pass")?;
     let mut config = TurnConfig::new(alloc, credentials);
@@ -95,7 +96,7 @@ fn millis(millis: u32) -> Duration {
     Duration::from_millis(u64::from(millis))
 }
 
-/// A new client of the seed of zeros, with that setup.
+/// A new client of the seed of zeros, with this setup.
 pub(crate) fn client_for(
     alloc: Global,
     setup: Setup,

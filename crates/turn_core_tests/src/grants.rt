@@ -1,5 +1,5 @@
-//! Permissions, channels, refreshes and the end of an allocation (RFC 8656, sections 8, 10 and 12). An allocation
-//! was granted for 1000 seconds at 50 ms, and moments were added up by hand.
+//! Permissions, channels, refreshes and the expiry of an allocation (RFC 8656, sections 8, 10 and 12). The
+//! allocation was granted for 1000 seconds at 50 ms, and times were added up by hand.
 
 use crate::fixture::IPV4;
 use crate::handshake::{BOTH, CHALLENGE, CHALLENGE_BOTH, GRANT, GRANT_BOTH, STALE_NONCE};
@@ -45,7 +45,7 @@ const FORBIDDEN: Text<'static> = Text {
     attributes: &[0x00, 0x09, 0x00, 0x04, 0x00, 0x00, 0x04, 0x03],
 };
 
-/// Up to the permission for 10.0.0.3.
+/// Rows up to the permission for 10.0.0.3.
 pub(crate) const PERMISSION: &[Row<'static>] = &[
     (Ask::Permit(50, PEER), Want::Done),
     (Ask::Permit(50, PEER), Want::AlreadyExists),
@@ -84,6 +84,21 @@ fn a_permission_is_granted_once(rt: HostRuntime) -> Result<(), Fail> {
         IPV4,
         &[CHALLENGE, GRANT, PERMISSION, AGAIN],
     )
+}
+
+// The pause and the refresh times stay the same when time goes back.
+const TIME_GOES_BACK: &[Row<'static>] = &[
+    (Ask::Poll(500_000), Want::Wait(940_050)),
+    (Ask::Poll(1_000), Want::Wait(940_050)),
+    (Ask::Permit(50, PEER), Want::Done),
+    (Ask::Transmit(10), Want::Nothing),
+    (Ask::Poll(10), Want::Wait(100)),
+    (Ask::Transmit(100), Want::Request(ASK_PERMISSION)),
+];
+
+#[test]
+fn time_may_go_back(rt: HostRuntime) -> Result<(), Fail> {
+    follow(&rt, rt.alloc(), IPV4, &[CHALLENGE, GRANT, TIME_GOES_BACK])
 }
 
 const DENIED: &[Row<'static>] = &[
@@ -135,7 +150,7 @@ fn a_permission_is_refreshed(rt: HostRuntime) -> Result<(), Fail> {
     )
 }
 
-// The end of the pause after a send comes later than the end of the permission.
+// The pause after a transmission ends later than the permission.
 const LAPSED: &[Row<'static>] = &[
     (Ask::Permit(300_070, Place::V4(5, 0)), Want::Done),
     (Ask::Transmit(300_070), Want::Request(ASK_ANOTHER)),
@@ -167,7 +182,7 @@ const ASK_ONCE_MORE: Text<'static> = Text {
     ..ASK_PERMISSION
 };
 
-// Each is sent seven times in 39.5 seconds, and the permission ends at 300.1 s.
+// Each request is sent seven times and times out after 39.5 seconds; the permission expires at 300.1 s.
 const SILENT: &[Row<'static>] = &[
     (Ask::Transmit(240_100), Want::Request(ASK_AGAIN)),
     (Ask::Poll(240_100), Want::Wait(240_600)),
@@ -235,7 +250,7 @@ const BOUND: Text<'static> = Text {
     attributes: &[],
 };
 
-/// Up to the first of two channels, where addresses of both families are relayed.
+/// Rows up to the first of two channels, with relayed addresses of both families.
 pub(crate) const CHANNELS: &[Row<'static>] = &[
     (Ask::Bind(50, PEER), Want::Done),
     (Ask::Bind(50, OTHER), Want::Done),
@@ -262,7 +277,7 @@ fn channel_numbers_count_up(rt: HostRuntime) -> Result<(), Fail> {
     )
 }
 
-// It is sent as often as the first ALLOCATE. The failures jump: the permission's is told first.
+// It is sent as often as the first ALLOCATE. The failures come before other events, that of the permission first.
 const UNANSWERED: &[Row<'static>] = &[
     (Ask::Bind(50, PEER), Want::Done),
     (Ask::Transmit(100), Want::Request(ASK_CHANNEL)),
@@ -347,7 +362,7 @@ const ASK_DELETE: Text<'static> = Text {
     attributes: &[0x00, 0x0d, 0x00, 0x04, 0x00, 0x00, 0x00, 0x00],
 };
 
-/// It is made again with the fourth ID.
+/// The request is made again with the fourth ID.
 const DELETE_AGAIN: Text<'static> = Text {
     id: ID4,
     ..ASK_DELETE
@@ -367,7 +382,7 @@ const DELETED: Text<'static> = Text {
     attributes: &[0x00, 0x0d, 0x00, 0x04, 0x00, 0x00, 0x00, 0x00],
 };
 
-/// Up to the REFRESH of 0 that is made again.
+/// Rows up to the REFRESH of 0 that is made again.
 const DELETE: &[Row<'static>] = &[
     (Ask::Delete(50), Want::Done),
     (Ask::Relayed, Want::Addresses(&[])),

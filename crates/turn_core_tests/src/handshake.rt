@@ -1,5 +1,5 @@
-//! The first challenge, and what a signed ALLOCATE is answered (RFC 8656, sections 7.1 to 7.4; RFC 8489, section
-//! 9.2). Lifetimes are 1000 seconds, and moments were added up by hand.
+//! The first challenge, and the answers to a signed ALLOCATE (RFC 8656, sections 7.1 to 7.4; RFC 8489, section
+//! 9.2). Lifetimes are 1000 seconds, and times were added up by hand.
 
 use crate::fixture::{IPV4, Setup};
 use crate::run::{Ask, Place, Row, Want, follow};
@@ -8,7 +8,7 @@ use crate::silence::{ALLOCATE_BOTH, FIRST_ALLOCATE};
 use std::test::Fail;
 use turn_types::AddressFamily;
 
-/// Addresses of both families are asked for.
+/// Addresses of both families are requested.
 pub(crate) const BOTH: Setup = Setup {
     second: AddressFamily::IPV6,
     ..IPV4
@@ -26,7 +26,7 @@ pub(crate) const UNAUTHENTICATED: Text<'static> = Text {
     ],
 };
 
-/// Error 438 of a request, with the same.
+/// Error 438 to a request, with the same realm and nonce.
 pub(crate) const STALE_NONCE: &[u8] = &[
     0x00, 0x09, 0x00, 0x04, 0x00, 0x00, 0x04, 0x26, 0x00, 0x14, 0x00, 0x05, 0x72, 0x65, 0x61, 0x6c,
     0x6d, 0x00, 0x00, 0x00, 0x00, 0x15, 0x00, 0x05, 0x6e, 0x6f, 0x6e, 0x63, 0x65, 0x00, 0x00, 0x00,
@@ -42,7 +42,7 @@ const SIGNED_ALLOCATE: &[u8] = &[
     0x15, 0x9d, 0x74, 0x7e, 0x20, 0xf8, 0xb9, 0xda, 0x8e, 0x79, 0x50, 0x41,
 ];
 
-/// The one that asks for an IPv6 address beside.
+/// The one that requests an IPv6 address in addition.
 const SIGNED_BOTH: Text<'static> = Text {
     kind: 0x0003,
     len: 0x50,
@@ -53,7 +53,7 @@ const SIGNED_BOTH: Text<'static> = Text {
     ],
 };
 
-/// The one that asks for an IPv6 address alone.
+/// The one that requests an IPv6 address alone.
 const SIGNED_IPV6: Text<'static> = Text {
     id: ID3,
     attributes: &[
@@ -90,7 +90,7 @@ const V4: Place = Place::V4(4, 40_000);
 
 const V6: Place = Place::V6(40_000);
 
-/// Up to the signed ALLOCATE.
+/// Rows up to the signed ALLOCATE.
 pub(crate) const CHALLENGE: &[Row<'static>] = &[
     (Ask::Transmit(0), Want::Send(FIRST_ALLOCATE)),
     (Ask::Hear(0, UNAUTHENTICATED, Signer::Nobody), Want::Handled),
@@ -99,7 +99,7 @@ pub(crate) const CHALLENGE: &[Row<'static>] = &[
     (Ask::Transmit(50), Want::Send(SIGNED_ALLOCATE)),
 ];
 
-/// And up to the event that tells of the address.
+/// In addition the rows up to the event that reports the address.
 pub(crate) const GRANT: &[Row<'static>] = &[
     (Ask::Hear(50, GRANTED, Signer::Server), Want::Handled),
     (Ask::Event, Want::Allocated(V4)),
@@ -113,14 +113,14 @@ fn an_address_is_granted(rt: HostRuntime) -> Result<(), Fail> {
     follow(&rt, rt.alloc(), IPV4, &[CHALLENGE, GRANT])
 }
 
-/// The same where both families are asked for.
+/// The same if both families are requested.
 pub(crate) const CHALLENGE_BOTH: &[Row<'static>] = &[
     (Ask::Transmit(0), Want::Send(ALLOCATE_BOTH)),
     (Ask::Hear(0, UNAUTHENTICATED, Signer::Nobody), Want::Handled),
     (Ask::Transmit(50), Want::Request(SIGNED_BOTH)),
 ];
 
-/// Events tell of addresses in the order of the message.
+/// Events report addresses in the order of the message.
 pub(crate) const GRANT_BOTH: &[Row<'static>] = &[
     (Ask::Hear(50, BOTH_GRANTED, Signer::Server), Want::Handled),
     (Ask::Event, Want::Allocated(V6)),
@@ -135,7 +135,7 @@ fn two_addresses_are_granted(rt: HostRuntime) -> Result<(), Fail> {
     follow(&rt, rt.alloc(), BOTH, &[CHALLENGE_BOTH, GRANT_BOTH])
 }
 
-// Nothing is taken of a challenge to another request.
+// Nothing is taken from a challenge to another request.
 const OTHER_CHALLENGE: &[Row<'static>] = &[
     (Ask::Transmit(0), Want::Send(FIRST_ALLOCATE)),
     (
@@ -183,7 +183,7 @@ fn a_refusal_ends_the_client(rt: HostRuntime) -> Result<(), Fail> {
     follow(&rt, rt.alloc(), IPV4, &[REFUSED])
 }
 
-/// A success that nobody signed.
+/// A success that is not signed.
 const UNSIGNED: Text<'static> = Text {
     len: 0x14,
     ..GRANTED
@@ -272,6 +272,27 @@ fn a_lifetime_after_the_integrity_is_not_seen(rt: HostRuntime) -> Result<(), Fai
     follow(&rt, rt.alloc(), BOTH, &[CHALLENGE_BOTH, NO_LIFETIME])
 }
 
+/// A success that grants nothing: it has a lifetime, and no address.
+const EMPTY_GRANT: Text<'static> = Text {
+    kind: 0x0103,
+    len: 0x20,
+    id: ID2,
+    attributes: &[0x00, 0x0d, 0x00, 0x04, 0x00, 0x00, 0x03, 0xe8],
+};
+
+const NO_ADDRESS: &[Row<'static>] = &[
+    (Ask::Hear(50, EMPTY_GRANT, Signer::Server), Want::Handled),
+    (Ask::Event, Want::Failed(AddressFamily::IPV4)),
+    (Ask::Event, Want::Failed(AddressFamily::IPV6)),
+    (Ask::Event, Want::Nothing),
+    (Ask::Poll(50), Want::Closed),
+];
+
+#[test]
+fn a_success_without_an_address_ends_the_client(rt: HostRuntime) -> Result<(), Fail> {
+    follow(&rt, rt.alloc(), BOTH, &[CHALLENGE_BOTH, NO_ADDRESS])
+}
+
 /// Error 438.
 const STALE: Text<'static> = Text {
     kind: 0x0113,
@@ -280,7 +301,7 @@ const STALE: Text<'static> = Text {
     attributes: STALE_NONCE,
 };
 
-// The first challenge was one, and after nine in a row none is answered.
+// The first challenge counts, and after nine in a row no other is answered.
 const TEN_CHALLENGES: &[Row<'static>] = &[
     (
         Ask::Hear(50, Text { id: ID2, ..STALE }, Signer::Nobody),

@@ -1,7 +1,7 @@
-//! The tests of `turn_client_core`, by what it makes public.
+//! The tests of `turn_client_core`, through its public items.
 //!
-//! The gate proves a crate that has tests twice, with them and without. So the tests stand here, and the
-//! crate that they test is proved once.
+//! The gate proves a crate that has tests twice, with them and without. So the tests are here, and the crate under
+//! test is proved once.
 //! To run them, unproved, in this folder:
 //!
 //! ```text
@@ -33,3 +33,5 @@ mod run;
 mod server;
 #[cfg(test)]
 mod silence;
+#[cfg(test)]
+mod unowed;

@@ -1,12 +1,12 @@
-//! Want of memory: each request for memory that is refused in turn is an answer here, and the client is
-//! what the answer says.
+//! Memory allocation that fails at each place: each failure is an answer here, and the client is in the state that
+//! the answer says.
 
 use crate::calls::{BOTH, assert_so, has_ended, tells_all};
 use crate::fixture::client_for;
 use std::test::Fail;
 use turn_client_core::TurnClientProtocol;
 
-/// Whether each family is told of, or none where there is no memory.
+/// Whether the failure of each family is reported, or none if memory allocation fails.
 fn fails(client: &mut TurnClientProtocol) -> bool {
     match client.protocol_error() {
         Ok(()) => tells_all(client),

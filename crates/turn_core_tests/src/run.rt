@@ -1,7 +1,7 @@
 //! Runs of a client against its server, written as tables.
 //!
-//! A proof follows each local of a test on each way out of it, and the text of each assertion again. So
-//! an assertion stands once, here, and rows are data.
+//! A proof follows each local of a test on each path out of it, and the text of each assertion again. So each
+//! assertion is written once, here, and rows are data.
 
 ghost use Rattle.std.specs.Prelude.{◌≡◌, ◌≤◌, ◌*◌, ◌^◌};
 
@@ -24,67 +24,67 @@ use turn_types::AddressFamily;
 use turn_types::attribute::Icmp;
 use turn_types::transmit::{DelayedTransmitBuild, TransmitBuild};
 
-/// A peer, or an address that the server relays.
+/// A peer, or a relayed address.
 #[derive(Clone, Copy)]
 pub(crate) enum Place {
-    /// The last number of an address from 10.0.0.0 on, and a port.
+    /// The last number of an address `10.0.0.x`, and a port.
     V4(u8, u16),
-    /// The port of `::1`.
+    /// A port of `::1`.
     V6(u16),
 }
 
-/// A call, with its moment in milliseconds.
+/// A call, with its time in milliseconds.
 #[derive(Clone, Copy)]
 pub(crate) enum Ask<'a> {
     Poll(u32),
     Transmit(u32),
     Event,
-    /// A datagram of these bytes comes.
+    /// A datagram with these bytes is received.
     Bytes(u32, &'a [u8]),
-    /// This message comes.
+    /// This message is received.
     Hear(u32, Text<'a>, Signer),
-    /// This message comes, with so many attributes more that have no bytes.
+    /// This message is received, with this many empty attributes in addition.
     Crowd(u32, Text<'a>, u16, Signer),
     Permit(u32, Place),
     Bind(u32, Place),
     Delete(u32),
-    /// The peer is greeted.
+    /// `hello` is sent to the peer.
     Greet(u32, Place),
-    /// Which addresses are relayed.
+    /// The relayed addresses.
     Relayed,
     /// Whether the peer has a permission.
     Permitted(Place),
-    /// Which peers have a permission in the allocation of this address.
+    /// The peers with a permission in the allocation with this address.
     Peers(Place),
     Connect(u32, Place),
-    /// The connection of this number, for this peer, was opened from this port.
+    /// The data connection with this number, for this peer, was opened from this port.
     Open(u32, u32, Place, u16),
 }
 
-/// What it answers, with its moment in milliseconds.
+/// The expected answer, with its time in milliseconds.
 #[derive(Clone, Copy)]
 pub(crate) enum Want<'a> {
     Wait(u32),
     Closed,
-    /// These bytes are sent.
+    /// A packet with these bytes.
     Send(&'a [u8]),
-    /// This request is sent, signed.
+    /// This request, signed.
     Request(Text<'a>),
-    /// And from this port.
+    /// The same, from this port.
     RequestFrom(u16, Text<'a>),
-    /// A connection of this number, for this peer, is to be opened.
+    /// A data connection with this number, for this peer, is to be opened.
     Offer(u32, Place),
     Allocated(Place),
     Failed(AddressFamily),
-    /// A permission is there, or is not.
+    /// A permission was granted, or failed.
     Granted(Place),
     Denied(Place),
-    /// A channel is there, or is not.
+    /// A channel was bound, or failed.
     Bound(Place),
     Unbound(Place),
     Handled,
     Ignored,
-    /// Data of this peer, from here to there.
+    /// Data of this peer, at this range of the bytes.
     Data(Place, usize, usize),
     /// An ICMP packet about data for this peer: its type, its code and its data.
     Report(Place, u8, u8, u32),
@@ -93,7 +93,7 @@ pub(crate) enum Want<'a> {
     NoAllocation,
     NoPermission,
     NoTcpSocket,
-    /// The call says so.
+    /// The call returns yes, or no.
     Yes,
     No,
     Addresses(&'a [Place]),
@@ -118,7 +118,7 @@ impl Place {
     }
 }
 
-/// Whether `poll` tells what is wanted.
+/// Whether `poll` returns the expected answer.
 fn tells(client: &mut Client, now: u32, want: &Want<'_>) -> Result<bool, AllocError> {
     let told = client.poll(at(now))?;
     Ok(match want {
@@ -137,7 +137,7 @@ fn offer(id: u32, socket: Socket5Tuple, place: Place) -> TurnPollRet {
     }
 }
 
-/// Whether the packet takes these bytes from this port to the server.
+/// Whether the packet has these bytes and goes from this port to the server.
 fn takes(packet: &Transmit<Data>, transport: TransportType, port: u16, bytes: &[u8]) -> bool {
     packet.payload.as_bytes() == bytes
         && packet.transport == transport
@@ -145,7 +145,7 @@ fn takes(packet: &Transmit<Data>, transport: TransportType, port: u16, bytes: &[
         && packet.to == server()
 }
 
-/// Whether `poll_transmit` gives what is wanted.
+/// Whether `poll_transmit` returns the expected answer.
 fn sends(
     client: &mut Client,
     alloc: Global,
@@ -159,7 +159,7 @@ fn sends(
     }
 }
 
-/// Whether the packet is the one that is wanted.
+/// Whether the packet is the expected one.
 fn is_packet(
     packet: &Transmit<Data>,
     transport: TransportType,
@@ -174,7 +174,7 @@ fn is_packet(
     }
 }
 
-/// Whether the packet is that request, signed, from this port.
+/// Whether the packet is this request, signed, from this port.
 fn is_request(
     packet: &Transmit<Data>,
     transport: TransportType,
@@ -186,12 +186,12 @@ fn is_request(
     Ok(takes(packet, transport, port, bytes.as_slice()))
 }
 
-/// Whether the first event is the one that is wanted.
+/// Whether the first event is the expected one.
 fn happens(client: &mut Client, want: &Want<'_>) -> bool {
     client.poll_event() == event_of(client.relays(), want)
 }
 
-/// The event that is wanted, if one is, where the server relays over this transport.
+/// The expected event, if there is one, with this transport between server and peers.
 fn event_of(relays: TransportType, want: &Want<'_>) -> Option<TurnEvent> {
     match want {
         Want::Allocated(place) => Some(TurnEvent::AllocationCreated(relays, place.address())),
@@ -204,13 +204,13 @@ fn event_of(relays: TransportType, want: &Want<'_>) -> Option<TurnEvent> {
     }
 }
 
-/// Whether what comes of the datagram is what is wanted.
+/// Whether the datagram has the expected result.
 fn hears(client: &mut Client, now: u32, bytes: &[u8], want: &Want<'_>) -> Result<bool, AllocError> {
     let told = client.datagram(bytes, at(now))?;
     Ok(is_told(&told, want))
 }
 
-/// Whether that is what is wanted.
+/// Whether the result is the expected one.
 fn is_told(told: &Told, want: &Want<'_>) -> bool {
     match told {
         Told::Handled => matches!(want, Want::Handled),
@@ -220,7 +220,7 @@ fn is_told(told: &Told, want: &Want<'_>) -> bool {
     }
 }
 
-/// Whether data of this peer, in these of the bytes, is what is wanted.
+/// Whether data of this peer, at this range of the bytes, is expected.
 fn is_data(
     transport: TransportType,
     peer: SocketAddr,
@@ -238,7 +238,7 @@ fn is_data(
     }
 }
 
-/// Whether an ICMP packet about data for this peer is what is wanted.
+/// Whether an ICMP packet about data for this peer is expected.
 fn is_report(transport: TransportType, peer: SocketAddr, icmp: &Icmp, want: &Want<'_>) -> bool {
     match want {
         Want::Report(place, icmp_type, code, data) => {
@@ -250,7 +250,7 @@ fn is_report(transport: TransportType, peer: SocketAddr, icmp: &Icmp, want: &Wan
     }
 }
 
-/// Whether the message is taken as is wanted, with so many attributes more that have no bytes.
+/// Whether the message has the expected result, with this many empty attributes in addition.
 fn takes_message(
     client: &mut Client,
     alloc: Global,
@@ -264,7 +264,7 @@ fn takes_message(
     hears(client, now, bytes.as_slice(), want)
 }
 
-/// Whether the permission is asked for, or refused, as is wanted.
+/// Whether the permission is requested, or refused, as expected.
 fn permits(client: &mut Client, now: u32, place: Place, want: &Want<'_>) -> bool {
     match client.create_permission(place.ip(), at(now)) {
         Ok(()) => matches!(want, Want::Done),
@@ -274,7 +274,7 @@ fn permits(client: &mut Client, now: u32, place: Place, want: &Want<'_>) -> bool
     }
 }
 
-/// Whether the channel is asked for, or refused, as is wanted.
+/// Whether the channel is requested, or refused, as expected.
 fn binds(client: &mut Client, now: u32, place: Place, want: &Want<'_>) -> bool {
     match client.bind_channel(place.address(), at(now)) {
         Ok(()) => matches!(want, Want::Done),
@@ -285,7 +285,7 @@ fn binds(client: &mut Client, now: u32, place: Place, want: &Want<'_>) -> bool {
     }
 }
 
-/// Whether the connection is asked for, or refused, as is wanted.
+/// Whether the connection is requested, or refused, as expected.
 fn connects(client: &mut Client, now: u32, place: Place, want: &Want<'_>) -> bool {
     match client.tcp_connect(place.address(), at(now)) {
         Ok(()) => matches!(want, Want::Done),
@@ -296,7 +296,7 @@ fn connects(client: &mut Client, now: u32, place: Place, want: &Want<'_>) -> boo
     }
 }
 
-/// Whether the connection of this number is taken, or refused, as is wanted.
+/// Whether the data connection with this number is accepted, or refused, as expected.
 fn opens(client: &mut Client, now: u32, id: u32, place: Place, port: u16, want: &Want<'_>) -> bool {
     match client.allocated_tcp_socket(id, place.address(), local_at(port), at(now)) {
         Ok(()) => matches!(want, Want::Done),
@@ -306,7 +306,7 @@ fn opens(client: &mut Client, now: u32, id: u32, place: Place, port: u16, want: 
     }
 }
 
-/// Whether all is given back, or not, as is wanted.
+/// Whether all allocations are deleted, or not, as expected.
 fn deletes(client: &mut Client, now: u32, want: &Want<'_>) -> bool {
     match client.delete(at(now)) {
         Ok(()) => matches!(want, Want::Done),
@@ -315,7 +315,7 @@ fn deletes(client: &mut Client, now: u32, want: &Want<'_>) -> bool {
     }
 }
 
-/// Whether the greeting goes to the server as is wanted.
+/// Whether `hello` is sent to the server as expected.
 fn greets(
     client: &mut Client,
     alloc: Global,
@@ -332,7 +332,7 @@ fn greets(
     }
 }
 
-/// Whether the packet takes the bytes to the server that are wanted.
+/// Whether the packet takes the expected bytes to the server.
 fn is_greeting(
     packet: TransmitBuild<DelayedMessageOrChannelSend<[u8; 5]>>,
     alloc: Global,
@@ -345,7 +345,7 @@ fn is_greeting(
     Ok(is_sent(bytes.as_slice(), want))
 }
 
-/// Whether these bytes are wanted.
+/// Whether these bytes are expected.
 fn is_sent(bytes: &[u8], want: &Want<'_>) -> bool {
     match want {
         Want::Send(wanted) => bytes == *wanted,
@@ -353,7 +353,7 @@ fn is_sent(bytes: &[u8], want: &Want<'_>) -> bool {
     }
 }
 
-/// Whether the addresses that are relayed are the ones that are wanted.
+/// Whether the relayed addresses are the expected ones.
 fn relays(client: &Client, want: &Want<'_>) -> bool {
     match want {
         Want::Addresses(places) => has_addresses(client, places),
@@ -371,7 +371,7 @@ fn has_addresses(client: &Client, places: &[Place]) -> bool {
     left.next().is_none()
 }
 
-/// Whether the peers that have a permission in the allocation of this address are the ones that are wanted.
+/// Whether the peers with a permission in the allocation with this address are the expected ones.
 fn lists(client: &Client, relayed: Place, want: &Want<'_>) -> bool {
     match want {
         Want::Addresses(places) => has_peers(client, relayed, places),
@@ -389,7 +389,7 @@ fn has_peers(client: &Client, relayed: Place, places: &[Place]) -> bool {
     left.next().is_none()
 }
 
-/// Whether the peer has a permission, or not, as is wanted.
+/// Whether the peer has a permission, or not, as expected.
 fn lets_in(client: &Client, place: Place, want: &Want<'_>) -> bool {
     match want {
         Want::Yes => client.have_permission(place.ip()),
@@ -398,7 +398,7 @@ fn lets_in(client: &Client, place: Place, want: &Want<'_>) -> bool {
     }
 }
 
-/// Whether the call answers so.
+/// Whether the call has this answer.
 fn answers(client: &mut Client, alloc: Global, row: &Row<'_>) -> Result<bool, AllocError> {
     let want = &row.1;
     match &row.0 {
@@ -422,7 +422,7 @@ fn answers(client: &mut Client, alloc: Global, row: &Row<'_>) -> Result<bool, Al
     }
 }
 
-/// Asserts that each call of a run answers so.
+/// Asserts that each call of a run has its expected answer.
 fn follows(
     rt: &impl Abort,
     client: &mut Client,
@@ -436,7 +436,7 @@ fn follows(
     Ok(())
 }
 
-/// Asserts that each call of a new client's run, which is written in parts, answers so.
+/// Asserts that each call of a new client's run, which is written in parts, has its expected answer.
 pub(crate) fn follow(
     rt: &impl Abort,
     alloc: Global,

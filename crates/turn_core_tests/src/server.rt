@@ -1,10 +1,10 @@
-//! What a server sends and is sent, written by hand: a header, attributes, and where it is signed the HMAC-SHA1
-//! of what stands before (RFC 8489, sections 5, 9.2 and 14.5).
+//! What a server sends and receives, written by hand: a header, attributes, and in signed messages the HMAC-SHA1 of
+//! the bytes before it (RFC 8489, sections 5, 9.2 and 14.5).
 
 use std::alloc::{AllocError, Global};
 use turn_auth::hmac::hmac_sha1;
 
-/// The MD5 of `user:realm:pass`, by which both sides sign.
+/// The MD5 of `user:realm:pass`, with which both sides sign.
 const KEY: [u8; 16] = [
     0x84, 0x93, 0xfb, 0xc5, 0x3b, 0xa5, 0x82, 0xfb, 0x4c, 0x04, 0x4c, 0x45, 0x6b, 0xdc, 0x40, 0xeb,
 ];
@@ -14,7 +14,7 @@ const COOKIE: [u8; 4] = [0x21, 0x12, 0xa4, 0x42];
 /// The type and the length of MESSAGE-INTEGRITY.
 const INTEGRITY: [u8; 4] = [0x00, 0x08, 0x00, 0x14];
 
-/// An attribute that nobody has to understand, with no bytes (RFC 8489, section 14).
+/// An empty comprehension-optional attribute (RFC 8489, section 14).
 const EMPTY: [u8; 4] = [0x80, 0x30, 0x00, 0x00];
 
 /// USERNAME `user`, REALM `realm` and NONCE `nonce`.
@@ -23,7 +23,7 @@ const CREDENTIALS: [u8; 32] = [
     0x6d, 0x00, 0x00, 0x00, 0x00, 0x15, 0x00, 0x05, 0x6e, 0x6f, 0x6e, 0x63, 0x65, 0x00, 0x00, 0x00,
 ];
 
-// The transaction IDs that the seed of zeros gives, in their order: twelve bytes each of ChaCha20's key stream.
+// The transaction IDs of the seed of zeros, in order: twelve bytes each of ChaCha20's key stream.
 pub(crate) const ID1: [u8; 12] = [
     0x76, 0xb8, 0xe0, 0xad, 0xa0, 0xf1, 0x3d, 0x90, 0x40, 0x5d, 0x6a, 0xe5,
 ];
@@ -64,32 +64,32 @@ pub(crate) const ID10: [u8; 12] = [
     0x74, 0xd8, 0x39, 0xd5, 0x31, 0xed, 0x1f, 0x28, 0x51, 0x0a, 0xfb, 0x45,
 ];
 
-/// A message, but for what signs it.
+/// A message without its signature.
 #[derive(Clone, Copy)]
 pub(crate) struct Text<'a> {
     /// Its class and its method.
     pub(crate) kind: u16,
-    /// How many bytes follow its header, with what signs it.
+    /// The length of the message after its header, with the signature.
     pub(crate) len: u16,
     pub(crate) id: [u8; 12],
     pub(crate) attributes: &'a [u8],
 }
 
-/// Who signs a message.
+/// The signer of a message.
 #[derive(Clone, Copy)]
 pub(crate) enum Signer {
-    /// Nobody.
+    /// The message is not signed.
     Nobody,
     /// The server, which adds the integrity alone.
     Server,
-    /// The client, which names itself, the realm and the nonce before it.
+    /// The client, which adds user name, realm and nonce before the integrity.
     Client,
-    /// Someone without the key.
+    /// A stranger without the key.
     Stranger,
 }
 
 impl Text<'_> {
-    /// The bytes of the message, with so many attributes more that have no bytes, which is signed so.
+    /// The bytes of the message, with this many empty attributes in addition, signed by this signer.
     pub(crate) fn bytes(
         &self,
         alloc: Global,
@@ -123,7 +123,7 @@ impl Text<'_> {
     }
 }
 
-/// Adds the integrity under this key.
+/// Adds the integrity with this key.
 fn sign(bytes: &mut Vec<u8>, key: &[u8]) -> Result<(), AllocError> {
     let integrity = hmac_sha1(key, bytes.as_slice());
     bytes.extend_from_slice(&INTEGRITY)?;

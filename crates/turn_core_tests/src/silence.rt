@@ -1,5 +1,5 @@
-//! The first ALLOCATE, what is sent again, and when a client is to be polled while no response comes.
-//! The bytes are those of RFC 8656, section 18, and the moments were added up by hand.
+//! The first ALLOCATE, its retransmissions, and when a client is to be polled while no response is received. The
+//! bytes are those of RFC 8656, section 18, and the times were added up by hand.
 
 use crate::fixture::{IPV4, Setup, Waits};
 use crate::run::{Ask, Row, Want, follow};
@@ -14,7 +14,7 @@ pub(crate) const FIRST_ALLOCATE: &[u8] = &[
     0x11, 0x00, 0x00, 0x00, 0x00, 0x1a, 0x00, 0x00,
 ];
 
-/// The one that asks for an IPv6 address beside the IPv4 one (RFC 8656, section 18.11).
+/// The ALLOCATE that requests an IPv6 address in addition to the IPv4 address (RFC 8656, section 18.11).
 pub(crate) const ALLOCATE_BOTH: &[u8] = &[
     0x00, 0x03, 0x00, 0x1c, 0x21, 0x12, 0xa4, 0x42, 0x76, 0xb8, 0xe0, 0xad, 0xa0, 0xf1, 0x3d, 0x90,
     0x40, 0x5d, 0x6a, 0xe5, 0x00, 0x0d, 0x00, 0x04, 0x00, 0x00, 0x07, 0x08, 0x00, 0x19, 0x00, 0x04,
@@ -39,7 +39,7 @@ fn a_new_client_is_to_send_now(rt: HostRuntime) -> Result<(), Fail> {
     follow(&rt, rt.alloc(), IPV4, &[FIRST_CALLS])
 }
 
-/// Three sends, after 0.6 and 1 seconds, and 3 seconds more.
+/// Three transmissions, after 0.6 and 1 seconds, and 3 seconds more.
 const SHORT_WAITS: Setup = Setup {
     waits: Some(Waits {
         initial: 600,
@@ -129,7 +129,7 @@ const BOTH: Setup = Setup {
     ..IPV4
 };
 
-// Each failure jumps before the one before.
+// Each failure comes before the one that was queued before it.
 const BOTH_FAIL: &[Row<'static>] = &[
     (Ask::Transmit(0), Want::Send(ALLOCATE_BOTH)),
     (Ask::Poll(0), Want::Wait(600)),
@@ -144,4 +144,25 @@ const BOTH_FAIL: &[Row<'static>] = &[
 #[test]
 fn each_family_that_is_asked_for_fails(rt: HostRuntime) -> Result<(), Fail> {
     follow(&rt, rt.alloc(), BOTH, &[BOTH_FAIL])
+}
+
+const BOTH_BY_DEFAULT: Setup = Setup {
+    transport: TransportType::Tcp,
+    second: AddressFamily::IPV6,
+    ..IPV4
+};
+
+// The capacity for both failures was reserved when the request was made.
+const BOTH_TIME_OUT: &[Row<'static>] = &[
+    (Ask::Transmit(0), Want::Send(ALLOCATE_BOTH)),
+    (Ask::Poll(39_499), Want::Wait(39_500)),
+    (Ask::Poll(39_500), Want::Closed),
+    (Ask::Event, Want::Failed(AddressFamily::IPV6)),
+    (Ask::Event, Want::Failed(AddressFamily::IPV4)),
+    (Ask::Event, Want::Nothing),
+];
+
+#[test]
+fn each_family_fails_after_39_seconds_and_a_half(rt: HostRuntime) -> Result<(), Fail> {
+    follow(&rt, rt.alloc(), BOTH_BY_DEFAULT, &[BOTH_TIME_OUT])
 }

@@ -1,4 +1,4 @@
--- What holds of a list of calls.
+-- Properties of a list of calls.
 use Rattle.std.proofs.Common.{◌≡◌, ◌∙◌, Bool, true, false, List, [], ◌∷◌, ◌++◌, Option, Some, None, ap, filter_map, option_map, refl}
 use Rattle.std.specs.List.{cons_option}
 use Rattle.std.specs.declared.net.socket_addr.SocketAddr.{SocketAddr}
@@ -36,9 +36,9 @@ step-relays s t call reply e =
     ap (λ (p : GatherReply × Gathering). p.1.client.config.allocation_transport) e
     ∙ ap (λ c. c.allocation_transport) (client_after-config call s.client)
 
--- ---- what is passed up
+-- ---- the payloads passed up
 
--- what an answer passes up, as a list
+-- the payload that an answer passes up, as a list
 abbrev one_passed : GatherReply → List PeerPayload
 one_passed reply = filter_map passed_up (reply ∷ [])
 
@@ -56,7 +56,7 @@ polled-passed : (given : Option Payload) (pairs : List (TransportType × SocketA
 polled-passed None pairs = refl
 polled-passed (Some payload) pairs = given_up-passed (is_checked_in payload.transport payload.peer pairs) payload pairs refl
 
--- one answer passes up what the client gave in its call, if its pair is checked
+-- one answer passes up what the client delivered in its call, if its pair is checked
 reply_of-passed : (call : GatherCall) (s : Gathering) → one_passed (reply_of call s) ≡ if_checked s.checked (payload_given call s.client)
 reply_of-passed Candidates s = refl
 reply_of-passed (IsChecked transport peer) s = refl

@@ -1,4 +1,4 @@
--- What is passed up is what the client gave.
+-- The payload passed up is the one that the client delivered.
 use Rattle.std.proofs.Common.{◌≡◌, ℕ, subst, sym}
 use Rattle.std.specs.declared.convert.AsSlice.{Ghosts}
 use Rattle.turn_stun.specs.declared.transport.Transmit.{Transmit}
@@ -11,7 +11,7 @@ use Rattle.turn_gather.specs.Received.{HandsOn, PassesUp}
 use Rattle.turn_gather.specs.declared.receive.GatherRecv.{GatherRecv}
 use Rattle.turn_gather.specs.declared.receive.GatherRecv.TheVariants as Recv
 
--- it is a part of what the caller handed in where the client's answer was
+-- it is a part of the caller's input wherever the client's payload was
 pub passed-HandsOn : {T : Type 0} {g : Ghosts T ℕ} (transmit : Transmit T) (told : TurnRecvRet T g) (given : TurnPeerData T g) (r : GatherRecv T g) → HandsBack transmit told → told ≡ Client.PeerData given → PassesUp given r → HandsOn transmit r
 passed-HandsOn transmit told given (Recv.Payload passed) back is up =
     subst (λ p. IsPartOf transmit.payload (held_in p)) (sym up) (subst (λ answer. HandsBack transmit answer) is back)

@@ -1,4 +1,4 @@
--- Lists of calls: each by its own step, one after the other.
+-- Lists of calls: each call is its own step, in order.
 use Rattle.std.specs.Prelude.{◌≡◌, ℕ, ◌≤◌, ◌^◌, List, [], ◌∷◌, ◌++◌, length, Option, Some, None, ⊤, if◌then◌else◌}
 use Rattle.std.specs.declared.net.socket_addr.SocketAddr.{SocketAddr}
 use Rattle.turn_stun.specs.declared.transport.TransportType.{TransportType}
@@ -22,7 +22,7 @@ use Rattle.turn_gather.specs.declared.calls.reply.GatherReply.TheVariants as Rep
 
 -- ---- one call
 
--- what a peer sent, whoever holds it
+-- what a peer sent, by value: no matter who owns the bytes
 abbrev pub peer_payload : Payload → PeerPayload
 peer_payload payload = record { transport = payload.transport; peer = payload.peer; «data» = payload.bytes }
 
@@ -38,7 +38,7 @@ abbrev pub polled_reply : Option Gathered → GatherReply
 polled_reply None = Replies.NoPayload
 polled_reply (Some given) = gathered_reply given
 
--- the answer of the call, which finds memory
+-- the answer of the call, if memory allocation succeeds
 abbrev pub reply_of : GatherCall → Gathering → GatherReply
 reply_of Candidates s = Replies.Candidates (relayed_addresses_of s.client)
 reply_of (IsChecked transport peer) s = Replies.IsChecked (is_checked_in transport peer s.checked)
@@ -86,11 +86,11 @@ step s call = (reply_of call s, after call s)
 
 -- ---- calls that can be made
 
--- where the server relays over UDP a packet carries the data for a peer
+-- a packet has room for the data of a peer where the server relays over UDP
 abbrev pub IsShort : TransportType → List ℕ → Type 0
 IsShort transport bytes = transport ≡ Udp → length bytes ≤ 65504
 
--- a gatherer whose client's allocations relay over this transport can be called so
+-- the call is allowed on a gatherer whose client's allocations relay over this transport
 abbrev pub IsCallable : TransportType → GatherCall → Type 0
 IsCallable relays Candidates = ⊤
 IsCallable relays (IsChecked transport peer) = ⊤
@@ -105,36 +105,36 @@ IsCallable relays PollEvent = ⊤
 
 -- ---- many calls
 
--- the answers of the calls, one after the other
+-- the answers of the calls, in order
 abbrev pub all_replies : Gathering → List GatherCall → List GatherReply
 all_replies s [] = []
 all_replies s (call ∷ calls) = reply_of call s ∷ all_replies (after call s) calls
 
--- the gatherer after them
+-- the gatherer after all calls
 abbrev pub after_all : Gathering → List GatherCall → Gathering
 after_all s [] = s
 after_all s (call ∷ calls) = after_all (after call s) calls
 
--- ---- what is passed up
+-- ---- the payloads passed up
 
 -- the payload that an answer passes up
 abbrev pub passed_up : GatherReply → Option PeerPayload
 passed_up (Replies.Payload payload) = Some payload
 passed_up _ = None
 
--- the payload of a peer that the client gives in a call (RFC 8656, section 11.7)
+-- the payload of a peer that the client delivers in a call (RFC 8656, sections 11.4 and 12.6)
 abbrev pub payload_given : GatherCall → State → Option Payload
 payload_given (Recv packet now) s = payload_in (packet_step packet now s).0
 payload_given (PollRecv now) s = (poll_recv_step now s).0
 payload_given _ s = None
 
--- it alone, if its pair is one of these
+-- this payload alone, if its pair is in the list
 abbrev pub if_checked : List (TransportType × SocketAddr) → Option Payload → List PeerPayload
 if_checked pairs None = []
 if_checked pairs (Some payload) =
     if is_checked_in payload.transport payload.peer pairs then peer_payload payload ∷ [] else []
 
--- the payloads that the client gives in these calls, of the peers whose pairs were checked before
+-- the payloads that the client delivers in these calls, from peers whose pairs were checked before
 abbrev pub checked_payloads : Gathering → List GatherCall → List PeerPayload
 checked_payloads s [] = []
 checked_payloads s (call ∷ calls) = if_checked s.checked (payload_given call s.client) ++ checked_payloads (after call s) calls

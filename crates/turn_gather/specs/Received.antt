@@ -1,4 +1,4 @@
--- What an agent makes of what came in.
+-- How a gatherer processes input.
 use Rattle.std.specs.Prelude.{◌≡◌, ℕ, List, Option, option_map, ⊤, if◌then◌else◌}
 use Rattle.std.specs.declared.convert.AsSlice.{Ghosts}
 use Rattle.std.specs.declared.net.socket_addr.SocketAddr.{SocketAddr}
@@ -16,55 +16,55 @@ use Rattle.turn_gather.specs.Gathering.{Gathering, is_checked_in}
 use Rattle.turn_gather.specs.declared.receive.GatherRecv.{GatherRecv}
 use Rattle.turn_gather.specs.declared.receive.GatherRecv.TheVariants as Recv
 
--- what the client makes of a packet with these bytes
+-- how the client processes a packet with these bytes
 abbrev pub client_step : {T : Type 0} → Transmit T → List ℕ → ℕ → State → Outcome × State
 client_step transmit bytes now s = recv_step transmit.transport transmit.from transmit.to bytes now s
 
--- what came in was for the client, was not, is passed up, or is dropped
+-- the input was for the client, was not, is passed up, or is dropped
 pub data Gathered : Type 0 where
   Handled : Gathered
   Ignored : Gathered
   PassedUp : Payload → Gathered
   Dropped : Gathered
 
--- a payload is passed up where its pair is checked
+-- a payload is passed up if its pair is checked
 abbrev pub given_up : List (TransportType × SocketAddr) → Payload → Gathered
 given_up checked payload =
     if is_checked_in payload.transport payload.peer checked then PassedUp payload else Dropped
 
--- by what the client made of it
+-- the result, from the client's outcome
 abbrev pub gathered : List (TransportType × SocketAddr) → Outcome → Gathered
 gathered checked O.Handled = Handled
 gathered checked O.Ignored = Ignored
 gathered checked (O.PeerData payload) = given_up checked payload
 gathered checked (O.PeerIcmp transport peer icmp) = Dropped
 
--- what an answer tells
+-- the result that an answer stands for
 abbrev pub gathered_of : {T : Type 0} {g : Ghosts T ℕ} → GatherRecv T g → Gathered
 gathered_of Recv.Handled = Handled
 gathered_of (Recv.Ignored transmit) = Ignored
 gathered_of (Recv.Payload given) = PassedUp (given_payload given)
 gathered_of Recv.Dropped = Dropped
 
--- what is not for the client is handed back whole, and bytes that are not owned are a part of what the
--- caller handed in
+-- input that is not for the client is returned unchanged, and bytes that are not owned are a part of the
+-- caller's input
 abbrev pub HandsOn : {T : Type 0} {g : Ghosts T ℕ} → Transmit T → GatherRecv T g → Type 0
 HandsOn transmit Recv.Handled = ⊤
 HandsOn transmit (Recv.Ignored back) = back ≡ transmit
 HandsOn transmit (Recv.Payload given) = IsPartOf transmit.payload (held_in given)
 HandsOn transmit Recv.Dropped = ⊤
 
--- what the client gave is passed up as it is, or dropped
+-- what the client delivered is passed up unchanged, or dropped
 abbrev pub PassesUp : {T : Type 0} {g : Ghosts T ℕ} → TurnPeerData T g → GatherRecv T g → Type 0
 PassesUp given Recv.Handled = ⊥
 PassesUp given (Recv.Ignored transmit) = ⊥
 PassesUp given (Recv.Payload passed) = passed ≡ given
 PassesUp given Recv.Dropped = ⊤
 
--- what is made of the packet
+-- the result for a packet
 abbrev pub received : {T : Type 0} → Transmit T → List ℕ → ℕ → Gathering → Gathered
 received transmit bytes now s = gathered s.checked (client_step transmit bytes now s.client).0
 
--- what is made of what the streams hold next
+-- the result for the next payload in the buffered bytes of the streams
 abbrev pub polled : ℕ → Gathering → Option Gathered
 polled now s = option_map (given_up s.checked) (poll_recv_step now s.client).0

@@ -14,25 +14,26 @@ pub use reply::{Candidates, GatherReply, PeerPayload};
 use std::alloc::{AllocError, Global};
 use turn_client_api::TurnClientApi;
 
-/// What came of a list of calls.
+/// The result of a list of calls.
 #[derive(Debug, Drop)]
 pub struct Driven<C: TurnClientApi> {
-    /// What each call answered, in their order.
+    /// The answer of each call, in order.
     pub replies: Vec<GatherReply>,
     /// The gatherer after the last call.
     pub gatherer: Gatherer<C>,
 }
 
-/// Makes these calls on the gatherer, one after the other. A packet for a peer is built at once, and what
-/// a peer sent is copied.
+/// Makes these calls on the gatherer in order. A packet for a peer is built at once, and the data of a
+/// peer is copied.
 ///
-/// The payloads that are passed up are, in order, exactly those that the client gives of peers whose
-/// pairs were checked before, whatever client it is. Moments are at most 2^62, and may go back from call
+/// The payloads passed up are, in order, exactly those that the client delivers from peers whose pairs
+/// were checked before. This holds for every client. Times are at most 2^62 ns, and may go back from call
 /// to call. Where the server relays over UDP, data for a peer is at most 65,504 bytes.
 ///
 /// # Errors
 ///
-/// There is no memory for a call or for its answer. The calls end there, and the gatherer is dropped.
+/// Memory allocation failed, for a call or for its answer. No further call is made, and the gatherer is
+/// dropped.
 pub fn drive<C: TurnClientApi>(
     alloc: Global,
     mut gatherer: Gatherer<C>,

@@ -1,15 +1,15 @@
-//! Why a gatherer refuses a pair.
+//! Why a pair cannot be checked.
 
 use std::alloc::AllocError;
 use thiserror::Error;
 
-/// Why a pair is not checked. Nothing changes then.
+/// Why a pair cannot be checked. On an error nothing changes.
 #[derive(Clone, Copy, Debug, PartialEq, Eq, Error)]
 pub enum GatherError {
     /// There are 1,024 pairs already, and this is not one of them.
     #[error("There are too many checked pairs.")]
     Full,
-    /// There is no memory for the pair.
+    /// Memory allocation for the pair failed.
     #[error("out of memory")]
     OutOfMemory,
 }

@@ -1,4 +1,4 @@
-//! An agent's end of a TURN client.
+//! A TURN client as an ICE agent uses it.
 
 ghost use Rattle.std.specs.Prelude.{◌≡◌, ◌≤◌, ◌^◌, [], true, length, option_map, IfOk, IsOk, OnErr, OnOk};
 ghost use Rattle.turn_stun.specs.declared.transport.TransportType.TheVariants.{Udp};
@@ -27,13 +27,13 @@ use turn_stun::data::Data;
 use turn_stun::instant::Instant;
 use turn_stun::transport::{Transmit, TransportType};
 
-/// How many pairs can be checked.
+/// The maximum number of checked pairs.
 pub(crate) const MOST_CHECKED: usize = 1024;
 
 /// A TURN client, and the pairs that an ICE agent has checked: the transport of the relay and the peer's
-/// address (RFC 8445, section 6.1.2). What other peers send is dropped. There are at most 1,024 pairs.
+/// address (RFC 8445, section 6.1.2). Data from other peers is dropped. There are at most 1,024 pairs.
 ///
-/// Contracts see the client's `State` and the pairs, in the order in which they were checked.
+/// In contracts this is the client's `State` and the pairs, in the order in which they were checked.
 #[derive(Debug, Drop)]
 pub struct Gatherer<C: TurnClientApi> {
     client: C,
@@ -52,7 +52,7 @@ impl<C: TurnClientApi> Model for Gatherer<C> {
 }
 
 impl<C: TurnClientApi> Gatherer<C> {
-    /// A gatherer with this client, and with no pair checked yet.
+    /// A gatherer with this client and no checked pair.
     pub fn new(alloc: Global, client: C) -> Gatherer<C>
         ensures client { result.client ≡ C.state client }
         ensures checked { result.checked ≡ [] }
@@ -70,7 +70,7 @@ impl<C: TurnClientApi> Gatherer<C> {
         &self.client
     }
 
-    /// Hands out the client.
+    /// Returns the client.
     pub fn into_client(self) -> C
         ensures { C.state result ≡ self.client }
     {
@@ -86,25 +86,25 @@ impl<C: TurnClientApi> Gatherer<C> {
             .any(|pair| pair.0 == transport && pair.1 == peer)
     }
 
-    /// The addresses that the server relays for the client, with their transports, in the order in which
-    /// it granted them: what the agent offers as relayed candidates (RFC 8445, section 5.1.1.2).
+    /// The relayed addresses of the client with their transports, in the order in which the server
+    /// granted them: the agent's relayed candidates (RFC 8445, section 5.1.1.2).
     ///
     /// # Errors
     ///
-    /// There is no memory for them.
+    /// Memory allocation failed.
     pub fn candidates(&self, alloc: Global) -> Result<Vec<(TransportType, SocketAddr)>, AllocError>
         ensures { IfOk result (λ candidates. candidates.items ≡ relayed_addresses_of self.now.client) }
     {
         self.client.relayed_addresses().collect(alloc)
     }
 
-    /// Takes it that the pair is checked: from now on what this peer sends is passed up. A pair that is
-    /// there already changes nothing, and takes no memory. Addresses are compared whole, and a server tells
-    /// those of IPv6 without flow information and scope, so a peer is checked with both zero.
+    /// Marks the pair as checked: from now on data from this peer is passed up. A pair that is checked
+    /// already changes nothing and allocates no memory. Addresses are compared whole. A server sends IPv6
+    /// addresses without flow information and scope, so check a pair with both zero.
     ///
     /// # Errors
     ///
-    /// In this order: `Full` where there are 1,024 other pairs; `OutOfMemory`. Nothing changes then.
+    /// In this order: `Full` if there are 1,024 other pairs; `OutOfMemory`. On an error nothing changes.
     pub fn check(&mut self, transport: TransportType, peer: SocketAddr) -> Result<(), GatherError>
         ensures { Checks transport peer result self.old self.new }
     {
@@ -120,12 +120,12 @@ impl<C: TurnClientApi> Gatherer<C> {
         }
     }
 
-    /// Hands the client what came in, as [`TurnClientApi::recv`] takes it, and passes up what the peer
-    /// of a checked pair sent. Over TCP more payloads may wait then: ask `poll_recv` until it has none.
+    /// Passes input to [`TurnClientApi::recv`], and passes up data from the peer of a checked pair. Over
+    /// TCP more payloads may be buffered: call `poll_recv` until it returns `None`.
     ///
     /// # Errors
     ///
-    /// There is no memory for the client, which has ended then, as for [`TurnClientApi::recv`].
+    /// Memory allocation in the client failed. The client has then ended, as for [`TurnClientApi::recv`].
     pub fn recv<T: AsSlice<u8> + Debug + Drop>(
         &mut self,
         transmit: Transmit<T>,
@@ -147,12 +147,13 @@ impl<C: TurnClientApi> Gatherer<C> {
         }
     }
 
-    /// The next payload of a peer that the client's streams hold, or none. It is passed up where the pair
-    /// is checked, and else dropped: ask again until there is none.
+    /// The next payload of a peer in the client's streams, or `None`. It is passed up if its pair is
+    /// checked, and dropped otherwise: call this until it returns `None`.
     ///
     /// # Errors
     ///
-    /// There is no memory for the client, which has ended then, as for [`TurnClientApi::poll_recv`].
+    /// Memory allocation in the client failed. The client has then ended, as for
+    /// [`TurnClientApi::poll_recv`].
     pub fn poll_recv(&mut self, now: Instant) -> Result<Option<GatherRecv<Vec<u8>>>, AllocError>
         requires moment { now ≤ 2 ^ 62 }
         ensures answer { IfOk result (λ given. option_map gathered_of given ≡ polled now self.old) }
@@ -166,7 +167,7 @@ impl<C: TurnClientApi> Gatherer<C> {
         }
     }
 
-    /// What is made of this data of a peer, by whether its pair is checked.
+    /// Passes up this data of a peer if its pair is checked, and drops it otherwise.
     fn pass_up<T: AsSlice<u8> + Debug + Drop>(&self, given: TurnPeerData<T>) -> GatherRecv<T>
         ensures answer { gathered_of result ≡ given_up self.now.checked (given_payload given) }
         ensures hands_on { PassesUp given result }
@@ -178,12 +179,11 @@ impl<C: TurnClientApi> Gatherer<C> {
         }
     }
 
-    /// Asks the server to let this peer address through, whatever the port, as
-    /// [`TurnClientApi::create_permission`] does.
+    /// Requests a permission for this IP address of a peer, as [`TurnClientApi::create_permission`] does.
     ///
     /// # Errors
     ///
-    /// Those of the client's own call.
+    /// Those of the client's call.
     pub fn create_permission(
         &mut self,
         transport: TransportType,
@@ -197,12 +197,12 @@ impl<C: TurnClientApi> Gatherer<C> {
         self.client.create_permission(transport, peer_addr, now)
     }
 
-    /// Makes the packet that carries the data to this peer, whose pair need not be checked: checks are
-    /// sent so too. It is [`TurnClientApi::send_to`] of the client.
+    /// The packet that carries the data to this peer, as [`TurnClientApi::send_to`] returns it. The pair
+    /// need not be checked: connectivity checks are sent this way too.
     ///
     /// # Errors
     ///
-    /// Those of the client's own call.
+    /// Those of the client's call.
     pub fn send_to<T: AsSlice<u8> + Debug + Drop>(
         &mut self,
         transport: TransportType,
@@ -219,11 +219,11 @@ impl<C: TurnClientApi> Gatherer<C> {
         self.client.send_to(transport, to, data, now)
     }
 
-    /// Does what time asks for, and tells what is to be done next, as [`TurnClientApi::poll`] does.
+    /// Handles expired timers and returns what to do next, as [`TurnClientApi::poll`] does.
     ///
     /// # Errors
     ///
-    /// There is no memory. The client has ended then, and nothing else has changed.
+    /// Memory allocation failed. The client has then ended, and nothing else has changed.
     pub fn poll(&mut self, now: Instant) -> Result<TurnPollRet, AllocError>
         requires moment { now ≤ 2 ^ 62 }
         ensures answer { IfOk result (λ answer. answer ≡ (poll_step now self.old.client).0) }
@@ -235,11 +235,11 @@ impl<C: TurnClientApi> Gatherer<C> {
         self.client.poll(now)
     }
 
-    /// The next packet to be sent, or none, as [`TurnClientApi::poll_transmit`] gives it.
+    /// The next packet to send, or `None`, as [`TurnClientApi::poll_transmit`] returns it.
     ///
     /// # Errors
     ///
-    /// There is no memory. The client has ended then, and nothing else has changed.
+    /// Memory allocation failed. The client has then ended, and nothing else has changed.
     pub fn poll_transmit(&mut self, now: Instant) -> Result<Option<Transmit<Data>>, AllocError>
         requires moment { now ≤ 2 ^ 62 }
         ensures answer { IfOk result (λ packet. packet ≡ (transmit_step now self.old.client).0) }
@@ -250,7 +250,7 @@ impl<C: TurnClientApi> Gatherer<C> {
         self.client.poll_transmit(now)
     }
 
-    /// The client's next event, or none. It takes no memory.
+    /// The client's next event, or `None`. It allocates no memory.
     pub fn poll_event(&mut self) -> Option<TurnEvent>
         ensures answer { result ≡ (event_step self.old.client).0 }
         ensures after { self.new.client ≡ (event_step self.old.client).1 }

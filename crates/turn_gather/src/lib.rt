@@ -1,5 +1,5 @@
-//! What an ICE agent does with a TURN client, whichever it is: it takes the relayed addresses as
-//! candidates, and passes up what its checked pairs sent, and nothing else. No IO.
+//! A TURN client as an ICE agent uses it, over any client: the relayed addresses are its candidates, and
+//! only data from the peers of checked pairs is passed up. No IO.
 //!
 //! ```text
 //!  packets --recv--> Gatherer --recv--> client --payload of a peer--> is its pair checked? --yes--> the agent
@@ -19,8 +19,8 @@
 //! }
 //! ```
 //!
-//! It stands on the trait [`TurnClientApi`](turn_client_api::TurnClientApi) alone, so what is proved of it
-//! holds over every client that keeps the trait's contracts.
+//! It uses the trait [`TurnClientApi`](turn_client_api::TurnClientApi) alone, so its guarantees hold for
+//! every client that keeps the trait's contracts.
 #![tactic(auto)]
 
 mod calls;

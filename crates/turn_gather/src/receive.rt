@@ -1,19 +1,19 @@
-//! What came in for an agent.
+//! How a gatherer processed its input.
 
 use std::convert::AsSlice;
 use turn_client_api::TurnPeerData;
 use turn_stun::transport::Transmit;
 
-/// What a gatherer has made of what came in.
+/// How a gatherer processed its input.
 #[derive(Debug, Drop)]
 pub enum GatherRecv<T: AsSlice<u8>> {
-    /// It was for the client, and is used up.
+    /// It was for the client, and is consumed.
     Handled,
-    /// It was not for the client, and is handed back as it was.
+    /// It was not for the client, and is returned unchanged.
     Ignored(Transmit<T>),
-    /// The peer of a checked pair sent this.
+    /// Data from the peer of a checked pair.
     Payload(TurnPeerData<T>),
-    /// It came from a peer whose pair is not checked, or tells of an ICMP packet (RFC 8656, section
-    /// 11.6). It is used up.
+    /// It came from a peer whose pair is not checked, or reports an ICMP packet (RFC 8656, section 11.6).
+    /// It is consumed.
     Dropped,
 }

@@ -1,4 +1,4 @@
--- An address that was printed is read again.
+-- Parsing a printed address gives that address.
 use Rattle.std.proofs.Common.{◌≡◌, ℕ, zero, suc, ◌+◌, ◌-◌, ◌*◌, ◌/◌, ◌%◌, ◌^◌, ◌<◌, cond, Bool, true, false, List, [], ◌∷◌, ◌++◌, length, get_or, take, drop, Some, None, refl, sym, ap, ◌∙◌, arith, append_assoc, length-append}
 use Rattle.std.specs.Prelude.{◌==◌, ◌&&◌, ◌||◌, nat_le, slice_index, decimal}
 use Rattle.std.specs.Option.{option_map}
@@ -31,7 +31,7 @@ use Rattle.turn_lines.proofs.LawLemmas.{Free, Free-append, Free-from_test, parts
 abbrev pub is_lower : ℕ → Bool
 is_lower c = (nat_le 48 c && nat_le c 57) || (nat_le 97 c && nat_le c 102)
 
--- the digits of the table below a place pass
+-- the digits of the table below this index are lower-case hexadecimal
 below : ℕ → Bool
 below zero = true
 below (suc n) = below n && is_lower (slice_index lower_digits n)
@@ -87,7 +87,7 @@ unfolding ipv4_of
 ipv4_of-dotted a b c d ha hb hc hd =
     rw (parts_of-dotted a b c d ha hb hc hd, decimal_up_to-decimal 255 a (omega arith) (omega arith), decimal_up_to-decimal 255 b (omega arith) (omega arith), decimal_up_to-decimal 255 c (omega arith) (omega arith), decimal_up_to-decimal 255 d (omega arith) (omega arith)) refl
 
--- an IPv4 address has no byte that is neither a digit nor a dot
+-- a byte that is neither a digit nor a dot does not occur in an IPv4 address
 dotted_free : (x a b c d : ℕ) → is_ascii_digit x ≡ false → (46 == x) ≡ false → a < 256 → b < 256 → c < 256 → d < 256 → Free x (dotted_text a b c d)
 dotted_free x a b c d digit dot ha hb hc hd =
     let add = Free-append x in
@@ -183,7 +183,7 @@ length-ipv6_text ip h =
 ipv6_bytes : (ip : Ipv6Addr) → IsIpv6Addr ip → IsBytes (ipv6_octets ip)
 ipv6_bytes ip h = octets_are_bytes (ipv6_segments ip) h.1
 
--- an IP address that was printed
+-- parsing a printed IP address gives that address
 pub ip_of-ip_text : (ip : IpAddr) → IsIp ip → ip_of (ip_text ip) ≡ Some ip
 ip_of-ip_text (Ip.V4 ip) h =
     let text = ipv4_text (ipv4_octets ip) in
@@ -191,7 +191,7 @@ ip_of-ip_text (Ip.V4 ip) h =
 ip_of-ip_text (Ip.V6 ip) h =
     ip_of-ipv6 (encode_lower (ipv6_octets ip)) (length-ipv6_text ip h) ∙ ap (option_map Ip.V6) (ipv6_of-digits ip h)
 
--- no byte of it is a space
+-- no byte of a printed IP address is a space
 pub ip_free : (ip : IpAddr) → IsIp ip → Free 32 (ip_text ip)
 ip_free (Ip.V4 ip) h = ipv4_text_free 32 ip refl refl h
 ip_free (Ip.V6 ip) h = (refl, Free-append 32 (encode_lower (ipv6_octets ip)) _ (hex_free 32 (ipv6_octets ip) refl (ipv6_bytes ip h)) (refl, tt))
@@ -200,7 +200,7 @@ address_of-parts : (text host : List ℕ) (ip : IpAddr) (port : ℕ) → parts_o
 unfolding address_of
 address_of-parts text host ip port e found h = rw (e, found, decimal_up_to-decimal 65535 port (omega arith) (omega arith)) refl
 
--- an address that was printed
+-- parsing a printed address gives that address
 pub address_of-address_text : (address : SocketAddr) → IsSpelled address → address_of (address_text address) ≡ Some address
 address_of-address_text (V4 a) h =
     let ip = a.ip in
@@ -220,14 +220,14 @@ address_of-address_text (V6 a) h =
     (v6_parts digits port (hex_free 58 (ipv6_octets ip) refl (ipv6_bytes ip range.0)) range.1) (ip_of-ip_text (Ip.V6 ip) range.0) range.1
     ∙ ap Some same
 
--- no byte of it is a space
+-- no byte of a printed address is a space
 pub address_free : (address : SocketAddr) → IsSpelled address → Free 32 (address_text address)
 address_free (V4 a) h =
     Free-append 32 _ _ (Free-append 32 _ _ (ipv4_text_free 32 a.ip refl refl h.in_range.0) (refl, tt)) (decimal_free 32 a.port refl (omega (arith, h.in_range.1)))
 address_free (V6 a) h =
     (refl, Free-append 32 (encode_lower (ipv6_octets a.ip)) _ (hex_free 32 (ipv6_octets a.ip) refl (ipv6_bytes a.ip h.in_range.0)) (refl, (refl, decimal_free 32 a.port refl (omega (arith, h.in_range.1)))))
 
--- it is more than one byte
+-- a printed address has more than one byte
 pub address_long : (address : SocketAddr) → IsSpelled address → 1 < length (address_text address)
 address_long (V4 a) h =
     let host = ipv4_text (ipv4_octets a.ip) in

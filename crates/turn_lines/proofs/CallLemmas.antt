@@ -1,4 +1,4 @@
--- The line of a call is read again as that call.
+-- Parsing the line of a call gives that call.
 use Rattle.std.proofs.Common.{◌≡◌, ℕ, ◌-◌, ◌^◌, ◌<◌, ◌≤◌, Bool, true, false, List, [], ◌∷◌, length, Option, Some, None, Result, Ok, Err, cond, not, refl, sym, ap, subst, ◌∙◌, arith}
 use Rattle.std.specs.Prelude.{◌==◌, nat_le, decimal, codes}
 use Rattle.std.specs.List.{list_all}
@@ -35,7 +35,7 @@ use Rattle.turn_lines.proofs.AddressLemmas.{address_of-address_text, address_fre
 abbrev not_space : ℕ → Bool
 not_space c = not (c == 32)
 
--- the words of calls
+-- a word without a space, as the names of calls are
 word_free : (text : List ℕ) → list_all not_space text ≡ true → Free 32 text
 word_free text h = Free-from_test not_space 32 refl text h
 
@@ -50,7 +50,7 @@ transport_free Tcp = (refl, (refl, (refl, tt)))
 some_length : (x : ℕ) (xs : List ℕ) → (length (x ∷ xs) == 0) ≡ false
 some_length x xs = ne_eqb (length (x ∷ xs)) 0 (λ e. absurd (omega arith))
 
--- some bytes are written as their digits
+-- bytes, unless there are none, are written as their digits
 bytes_text-some : (b : ℕ) (bytes : List ℕ) → bytes_text (b ∷ bytes) ≡ encode_lower (b ∷ bytes)
 bytes_text-some b bytes = ap (λ t. cond t (codes "-") (encode_lower (b ∷ bytes))) (some_length b bytes)
 
@@ -91,7 +91,7 @@ text_if_any_free (Some address) h = address_free address h
 
 -- ---- the line
 
--- the name and the arguments of a call at this moment
+-- the name and the arguments of a call at this time
 abbrev with_name : TransportType → ℕ → List (List ℕ) → Result Call BadKind
 with_name relays now rest =
     needed (next name_of rest) Bad.Call (λ name. needed (call_with now name.0 name.1) Bad.Argument (if_short relays))
@@ -102,7 +102,7 @@ call_of-parts relays now rest line e h =
     ap (λ parts. needed {A = ℕ × List (List ℕ)} (next moment_of parts) Bad.Moment (λ at. with_name relays at.0 at.1)) e
     ∙ ap (λ o. needed {A = ℕ × List (List ℕ)} (option_map (λ value. (value, rest)) o) Bad.Moment (λ at. with_name relays at.0 at.1)) (decimal_up_to-decimal (2 ^ 62) now h (omega arith))
 
--- the fields of a line, of which the first is a moment
+-- the fields of a line whose first field is a time
 call_of-fields : (relays : TransportType) (now : ℕ) (rest : List (List ℕ)) → now ≤ 2 ^ 62 → AllFree 32 rest → call_of relays (fields_text (decimal now ∷ rest)) ≡ with_name relays now rest
 call_of-fields relays now rest low free =
     call_of-parts relays now rest (fields_text (decimal now ∷ rest))
@@ -144,16 +144,16 @@ data_ends_of-fields : (peer : SocketAddr) (local : Option SocketAddr) → IsSpel
 unfolding data_ends_of
 data_ends_of-fields peer local h k = rw (address_of-address_text peer h, address_if_any-text local k) refl
 
--- the arguments are read as those of the call
+-- the call with these arguments, or an error
 abbrev as_read : TransportType → Option Call → Result Call BadKind
 as_read relays o = needed o Bad.Argument (if_short relays)
 
--- bytes that an allocation over this transport takes
+-- bytes that fit an allocation over this transport
 short_is : (relays : TransportType) (payload : List ℕ) → IsShort relays payload → is_short relays payload ≡ true
 short_is Udp payload h = le-leb (length payload) 65504 (h refl)
 short_is Tcp payload h = refl
 
--- the line of a call is read again as that call
+-- parsing the line of a call gives that call
 pub call_is_read_again : (relays : TransportType) (idle : ℕ) (call : Call) → idle ≤ 2 ^ 62 → HasLine relays call → call_of relays (call_line idle call) ≡ Ok call
 call_is_read_again relays idle (Calls.Poll now) low h = call_of-fields relays now (codes "poll" ∷ []) h (word_free (codes "poll") refl, tt)
 call_is_read_again relays idle (Calls.PollTransmit now) low h =

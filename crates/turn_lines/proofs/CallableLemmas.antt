@@ -1,4 +1,4 @@
--- Each call of a line can be made on a client whose allocation is over the transport for which it was read.
+-- Each parsed call is allowed on a client whose allocation is over the transport for which it was parsed.
 use Rattle.std.proofs.Common.{◌≡◌, ℕ, ◌^◌, ◌≤◌, true, List, [], ◌∷◌, length, Option, Some, Ok, subst}
 use Rattle.std.specs.Prelude.{◌&&◌, nat_le}
 use Rattle.std.specs.Option.{option_map, option_and_then}
@@ -34,7 +34,7 @@ low_moment (field ∷ fields) now h =
     let m = of_map (λ value. (value, fields)) (moment_of field) now h in
     subst (λ (at : ℕ × List (List ℕ)). at.0 ≤ 2 ^ 62) m.2 (low_decimal (2 ^ 62) field m.0 m.1)
 
--- it can be made, unless it sends too much
+-- the call is allowed, unless it sends too many bytes
 abbrev IsCallableIfShort : TransportType → Call → Type 0
 IsCallableIfShort relays call = has_short_payload relays call ≡ true → IsCallable relays call
 

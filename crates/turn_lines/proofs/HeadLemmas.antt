@@ -1,4 +1,4 @@
--- The client of a head can be made: over UDP it asks for an allocation over UDP.
+-- The client of a head can be made: over UDP it requests an allocation over UDP.
 use Rattle.std.proofs.Common.{◌≡◌, ℕ, List, Option, Some, refl, subst}
 use Rattle.std.specs.Option.{option_and_then}
 use Rattle.turn_stun.specs.declared.transport.TransportType.{TransportType}
@@ -16,7 +16,7 @@ use Rattle.turn_lines.proofs.StepLemmas.{of_and_then, some_is}
 abbrev pub IsMade : Head → Type 0
 IsMade head = head.ends.transport ≡ Udp → head.request.allocation ≡ Udp
 
--- the head, by what its fields say one after the other
+-- the head made of these fields
 abbrev with_waits : Ends → Request → Credentials → List ℕ → Option Waits → Option Head
 with_waits places request credentials seed waits =
     Some (record { ends = places; request = request; credentials = credentials; seed = seed; waits = waits })
@@ -34,13 +34,13 @@ with_request places request =
 abbrev with_ends : Ends × List (List ℕ) → Option Head
 with_ends places = request_of places.1 >>= with_request places.0
 
--- the test of both transports, passed
+-- the check of both transports succeeded
 relayed_is : (transport allocation : TransportType) (f : Unit {0} → Option Head) (head : Head) → option_and_then f (relayed_for transport allocation) ≡ Some head → transport ≡ Udp → allocation ≡ Udp
 relayed_is Udp Udp f head h over = refl
 relayed_is Udp Tcp f head h over = cc
 relayed_is Tcp allocation f head h over = cc
 
--- the head that came of these
+-- the head was made of these fields
 made_of : (places : Ends) (request : Request) (credentials : Credentials) (seed : List ℕ) (waits : Option Waits) (head : Head) → with_waits places request credentials seed waits ≡ Some head → (places.transport ≡ Udp → request.allocation ≡ Udp) → IsMade head
 made_of places request credentials seed waits head h made =
     subst IsMade (some_is (record { ends = places; request = request; credentials = credentials; seed = seed; waits = waits }) head h) made

@@ -1,4 +1,4 @@
--- A text with separators is read in its parts again, and each part as what it was made of.
+-- Splitting a joined text gives its parts again, and parsing a part gives its value.
 use Rattle.std.proofs.Common.{◌≡◌, ℕ, zero, suc, ◌^◌, ◌<◌, ◌≤◌, cond, Bool, true, false, not, List, [], ◌∷◌, ◌++◌, length, get_or, Some, None, refl, ap, ◌∙◌, arith, eq-eqb}
 use Rattle.std.specs.Prelude.{⊤, ◌==◌, ◌&&◌, nat_le, nat_lt, decimal}
 use Rattle.std.specs.List.{list_all, onto_first, join_with_byte}
@@ -12,7 +12,7 @@ use Rattle.turn_lines.proofs.NumberLemmas.{own, both}
 
 -- ---- parts
 
--- no byte of the text is that one
+-- this byte does not occur in the text
 abbrev pub Free : ℕ → List ℕ → Type 0
 Free c [] = ⊤
 Free c (x ∷ xs) = ((x == c) ≡ false) × Free c xs
@@ -25,7 +25,7 @@ pub Free-append : (c : ℕ) (xs ys : List ℕ) → Free c xs → Free c ys → F
 Free-append c [] ys f g = g
 Free-append c (x ∷ xs) ys f g = (f.0, Free-append c xs ys f.1 g)
 
--- a text whose bytes pass a test is free of a byte that does not
+-- a byte that fails a test does not occur in a text whose bytes all pass it
 pub Free-from_test : (p : ℕ → Bool) (c : ℕ) → p c ≡ false → (text : List ℕ) → list_all p text ≡ true → Free c text
 Free-from_test p c fails [] h = tt
 Free-from_test p c fails (x ∷ xs) h =
@@ -44,7 +44,7 @@ parts_of_whole c [] free = refl
 parts_of_whole c (x ∷ xs) free =
     ap (λ b. cond b ([] ∷ parts_of c xs) (onto_first x (parts_of c xs))) free.0 ∙ ap (onto_first x) (parts_of_whole c xs free.1)
 
--- what was joined is taken apart
+-- splitting a joined text gives its parts
 pub parts_of-join : (c : ℕ) (part : List ℕ) (parts : List (List ℕ)) → AllFree c (part ∷ parts) → parts_of c (join_with_byte c (part ∷ parts)) ≡ part ∷ parts
 parts_of-join c part [] free = parts_of_whole c part free.0
 parts_of-join c part (next ∷ parts) free =
@@ -69,7 +69,7 @@ is_decimal-decimal n h =
     let digits : list_all is_ascii_digit (decimal n) ≡ true = digits_decimal own n h in
     λ i. some i && not (plain i) && digits i
 
--- a number that was printed
+-- parsing a printed number gives that number
 pub decimal_up_to-decimal : (most n : ℕ) → n ≤ most → n < 2 ^ 64 → decimal_up_to most (decimal n) ≡ Some n
 decimal_up_to-decimal most n low h =
     let t = decimal n in

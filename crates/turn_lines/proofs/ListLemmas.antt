@@ -1,4 +1,4 @@
--- A list that is printed: how many there are, and then each behind a space.
+-- A printed list: the number of its elements, and then each after a space.
 use Rattle.std.proofs.Common.{◌≡◌, ℕ, List, [], ◌∷◌, ◌++◌, length, refl, sym, ap, ◌∙◌}
 use Rattle.std.specs.Prelude.{codes, decimal}
 use Rattle.std.specs.List.{flat_map}
@@ -19,7 +19,7 @@ spaced-flat_map fields [] = refl
 spaced-flat_map fields (x ∷ xs) =
     flat_map-append (λ part. 32 ∷ part) (fields x) (flat_map fields xs) ∙ ap (λ text. spaced (fields x) ++ text) (spaced-flat_map fields xs)
 
--- the text of the first of them, under the count of all
+-- the text of the first elements, after the count of all
 abbrev pub list_text : {X : Type 0} → (X → List (List ℕ)) → ℕ → List X → List ℕ
 list_text fields count xs = fields_text (codes "list" ∷ decimal count ∷ []) ++ flat_map (λ x. spaced (fields x)) xs
 

@@ -20,7 +20,7 @@ AreDigits text = list_all is_ascii_digit text ≡ true
 pub own : IsNumeralModel AreDigits (digits_value 10)
 own = numerals_by_value AreDigits (search rules)
 
--- both of a test hold
+-- both operands are true
 pub both : {a b : Bool} → a && b ≡ true → (a ≡ true) × (b ≡ true)
 both {a = true} h = (refl, h)
 both {a = false} h = cc
@@ -32,7 +32,7 @@ digits_of_decimal text h = (both h).1
 pub utf8_of_decimal : (text : List ℕ) → is_decimal text ≡ true → IsUtf8 text
 utf8_of_decimal text h = IsUtf8-from_ascii text (IsAscii-from_digits text (own.to text (digits_of_decimal text h)))
 
--- what std reads of a decimal is its number, unless that is too large
+-- std parses a decimal to its value, unless that is too large
 pub parse_of_decimal : {E : Type 0} → (text : List ℕ) (r : Result ℕ E) → ParsesUnsigned 64 10 text r → is_decimal text ≡ true → OkIff r ((0 < length text) × (digits_value 10 text < 2 ^ 64)) (digits_value 10 text)
 parse_of_decimal text r h decimal = parse_digits own 64 text r h (digits_of_decimal text decimal)
 
@@ -40,7 +40,7 @@ too_large : (most n : ℕ) (p : Bool) → most < n → cond (p && nat_le n most)
 too_large most n false h = refl
 too_large most n true h = ap (λ b. cond b (Some n) None) (lt-leb n most h)
 
--- a decimal that std does not read is too large
+-- a decimal that std refuses is too large
 pub decimal_not_parsed : {E : Type 0} → (most : ℕ) (text digits : List ℕ) (e : E) → most < 2 ^ 64 → digits ≡ text → ParsesUnsigned 64 10 digits (Err e) → is_decimal text ≡ true → decimal_up_to most text ≡ None
 decimal_not_parsed {E} most text digits e small same h decimal =
     let read : ParsesUnsigned 64 10 text (Err e) = rw same at h in

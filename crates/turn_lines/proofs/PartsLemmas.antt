@@ -1,4 +1,4 @@
--- A text in parts, from its front.
+-- Splitting a text, from the first part on.
 use Rattle.std.proofs.Common.{◌≡◌, ℕ, ◌+◌, ◌-◌, ◌<◌, ◌≤◌, false, List, [], ◌∷◌, ◌++◌, length, get_or, take, drop, Some, None, refl, sym, ap, ◌∙◌, arith}
 use Rattle.std.specs.Prelude.{◌==◌}
 use Rattle.std.specs.List.{All}
@@ -8,7 +8,7 @@ use Rattle.std.proofs.lemmas.List.Splits.{slice_split_at, slice_split_none, leng
 use Rattle.memchr.specs.Find.{Nowhere, Passes, IsFirstByte, is_byte}
 use Rattle.turn_lines.specs.Parts.{parts_of, ends}
 
--- no byte of a front is a separator where none of those places has one
+-- the bytes before this place are no separators
 clear_front : (separator : ℕ) (text : List ℕ) (place : ℕ) → place ≤ length text → Nowhere (Passes (is_byte separator) text) 0 place → All (λ byte. (byte == separator) ≡ false) (take place text)
 clear_front separator text place inside none k d low =
     let below : k < place = omega (arith, length-take place text) in
@@ -34,6 +34,6 @@ some_left : (parts : List (List ℕ)) → 0 < length parts → ends parts ≡ No
 some_left [] h = absurd (omega arith)
 some_left (part ∷ parts) h = refl
 
--- a text has a part at least
+-- a text has at least one part
 pub ends_of_parts : (separator : ℕ) (text : List ℕ) → ends (parts_of separator text) ≡ None
 ends_of_parts separator text = some_left (parts_of separator text) (omega (arith, length-slice_split (λ byte. byte == separator) text))

@@ -1,4 +1,4 @@
--- Steps of a reader that went on, since all of it gave a value.
+-- Steps of a parser that succeeded: each of them gave a value.
 use Rattle.std.proofs.Common.{◌≡◌, cond, Bool, true, false, Option, Some, None, Result, Ok, Err, refl}
 use Rattle.std.specs.Option.{option_map, option_and_then}
 use Rattle.turn_lines.specs.Fault.{needed, ◌>>=◌}

@@ -33,7 +33,7 @@ ipv6_of digits =
     if is_lower_hex digits then option_map (λ octets. record { segments = segments_of octets }) (result_ok (decode_sized digits 16))
     else None
 
--- an IPv6 address stands in brackets
+-- an IPv6 address in brackets
 abbrev pub ip_of : List ℕ → Option IpAddr
 ip_of text =
     if nat_le 2 (length text) && (slice_index text 0 == 91) && (slice_index text (length text - 1) == 93)

@@ -1,4 +1,4 @@
--- What a client answers to calls, as text.
+-- The answers of a client to calls, as text.
 use Rattle.std.specs.Prelude.{ℕ, List}
 use Rattle.turn_client_proto.specs.Run.{run}
 use Rattle.turn_client_api.specs.declared.call.Call.{Call}
@@ -6,7 +6,7 @@ use Rattle.turn_lines.specs.Configuration.{config_with}
 use Rattle.turn_lines.specs.Text.{answers_text}
 use Rattle.turn_lines.specs.declared.head.Head.{Head}
 
--- a line for each answer of the client to the calls
+-- one line for each answer of the client
 abbrev pub answered_text : Head → List Call → List ℕ
 answered_text head calls =
     answers_text (run head.ends.transport head.ends.local head.ends.remote (config_with head.request head.credentials head.waits) head.seed calls).0

@@ -1,4 +1,4 @@
--- What is behind the name of a call.
+-- The fields after the name of a call.
 use Rattle.std.specs.Prelude.{ℕ, ◌-◌, ◌^◌, if◌then◌else◌, List, codes, Option, Some, None}
 use Rattle.std.specs.Option.{option_map}
 use Rattle.std.specs.Str.{bytes_eq}
@@ -68,7 +68,7 @@ two_addresses_of fields = do
   _ ← ends remote.1
   Some (local.0, remote.0)
 
--- `-` is no address
+-- `-` for no address
 abbrev pub address_if_any : List ℕ → Option (Option SocketAddr)
 address_if_any text = if bytes_eq text (codes "-") then Some None else option_map Some (address_of text)
 

@@ -20,13 +20,13 @@ use Rattle.turn_lines.specs.declared.fault.BadKind.TheVariants as Bad
 abbrev pub moment_of : List ℕ → Option ℕ
 moment_of = decimal_up_to (2 ^ 62)
 
--- calls that bring the client time, packets or sockets, or take what it has, each with its name
+-- the calls that bring the client time, packets or sockets, or take its output, each with its name
 abbrev pub driving_calls : List (List ℕ × CallName)
 driving_calls =
     (codes "poll", Name.Poll) ∷ (codes "transmit", Name.Transmit) ∷ (codes "event", Name.Event) ∷ (codes "recv", Name.Recv)
     ∷ (codes "poll_recv", Name.PollRecv) ∷ (codes "socket", Name.Socket) ∷ (codes "closed", Name.Closed) ∷ (codes "error", Name.Error) ∷ []
 
--- calls that ask something of the client
+-- the calls that request something of the client, or read its state
 abbrev pub asking_calls : List (List ℕ × CallName)
 asking_calls =
     (codes "send", Name.Send) ∷ (codes "permit", Name.Permit) ∷ (codes "bind", Name.Bind) ∷ (codes "connect", Name.Connect)
@@ -38,11 +38,11 @@ named calls text = option_map (λ call. call.1) (find (λ call. bytes_eq text ca
 abbrev pub name_of : List ℕ → Option CallName
 name_of text = option_or (named driving_calls text) (named asking_calls text)
 
--- the call where it has no arguments
+-- a call without arguments
 abbrev pub without_arguments : Call → List (List ℕ) → Option Call
 without_arguments call fields = option_map (λ _. call) (ends fields)
 
--- the connection that the caller has opened, or could not open
+-- the data connection that the caller has opened, or could not open
 abbrev pub socket_of : ℕ → List (List ℕ) → Option Call
 socket_of now fields = do
   tuple ← tuple_of fields
@@ -57,7 +57,7 @@ permissions_of fields = option_map (λ a. Calls.Permissions a.0 a.1) (transport_
 abbrev pub have_of : List (List ℕ) → Option Call
 have_of fields = option_map (λ p. Calls.HavePermission p.0 p.1) (transport_and_ip_of fields)
 
--- a call by its moment, its name and its arguments
+-- a call from its time, its name and its arguments
 abbrev pub call_with : ℕ → CallName → List (List ℕ) → Option Call
 call_with now Name.Poll fields = without_arguments (Calls.Poll now) fields
 call_with now Name.Transmit fields = without_arguments (Calls.PollTransmit now) fields
@@ -76,7 +76,7 @@ call_with now Name.Relayed fields = without_arguments Calls.RelayedAddresses fie
 call_with now Name.Permissions fields = permissions_of fields
 call_with now Name.Have fields = have_of fields
 
--- what one message or channel frame carries to an allocation over UDP; over TCP bytes have no bound
+-- the most that one message to the server carries for an allocation over UDP; over TCP there is no limit
 abbrev pub is_short : TransportType → List ℕ → Bool
 is_short Udp payload = nat_le (length payload) 65504
 is_short Tcp payload = true

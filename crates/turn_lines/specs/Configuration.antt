@@ -9,17 +9,17 @@ use Rattle.turn_agent.specs.Schedule.{Timers}
 use Rattle.turn_lines.specs.declared.head.Request.{Request}
 use Rattle.turn_lines.specs.declared.head.waits.Waits.{Waits}
 
--- the first family, and the other if there is another
+-- the first family, and the second if there is one
 abbrev pub families_with : AddressFamily × Option AddressFamily → List AddressFamily
 families_with (first, None) = first ∷ []
 families_with (first, Some second) = with_family (first ∷ []) second
 
--- the same of algorithms
+-- the same for algorithms
 abbrev pub algorithms_with : IntegrityAlgorithm × Option IntegrityAlgorithm → List IntegrityAlgorithm
 algorithms_with (first, None) = first ∷ []
 algorithms_with (first, Some second) = with_algorithm (first ∷ []) second
 
--- when requests are sent again, where the head says so
+-- the retransmission times, if the head has them
 abbrev pub timers_with : Option Waits → Option Timers
 timers_with None = None
 timers_with (Some waits) = Some (record {

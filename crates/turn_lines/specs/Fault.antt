@@ -1,22 +1,22 @@
--- What a reader answers where something may be wrong, or memory may run out.
+-- The result of a parser, which may be an error, or that memory allocation failed.
 use Rattle.std.specs.Prelude.{◌≡◌, ℕ, Option, Some, None, Result, Ok, Err, ⊤}
 use Rattle.turn_lines.specs.declared.fault.BadKind.{BadKind}
 use Rattle.turn_lines.specs.declared.fault.BadLine.{BadLine}
 use Rattle.turn_lines.specs.declared.fault.ReadError.{ReadError}
 use Rattle.turn_lines.specs.declared.fault.ReadError.TheVariants.{Bad, OutOfMemory}
 
--- what is read goes on, and where nothing was read that is the fault
+-- continue with the value, or return the error if there is none
 abbrev pub needed : {A B E : Type 0} → Option A → E → (A → Result B E) → Result B E
 needed None fault go_on = Err fault
 needed (Some value) fault go_on = go_on value
 
--- the second step, where nothing is wrong with the first
+-- the second step, if the first succeeded
 infixl 10 ◌>>=◌
 abbrev pub ◌>>=◌ : {A B E : Type 0} → Result A E → (A → Result B E) → Result B E
 (Ok value) >>= f = f value
 (Err fault) >>= f = Err fault
 
--- a reader's answer, seen by `view`, is what a definition reads, unless memory runs out
+-- the parser's result, seen by `view`, is the specified one, unless memory allocation fails
 abbrev pub Reads : {X Y E : Type 0} → (X → Y) → Result X (ReadError E) → Result Y E → Type 0
 Reads view (Ok value) reading = reading ≡ Ok (view value)
 Reads view (Err (Bad fault)) reading = reading ≡ Err fault
@@ -27,7 +27,7 @@ Reads view (Err OutOfMemory) reading = ⊤
 abbrev pub bad_line : ℕ → BadKind → BadLine
 bad_line number kind = record { number = number; kind = kind }
 
--- the fault of a line, with its number
+-- the error of a line, with its number
 abbrev pub at_line : {A : Type 0} → ℕ → Result A BadKind → Result A BadLine
 at_line number (Ok value) = Ok value
 at_line number (Err kind) = Err (bad_line number kind)

@@ -1,4 +1,4 @@
--- What a field of a line says.
+-- The value of one field of a line.
 use Rattle.std.specs.Prelude.{◌≡◌, ℕ, ◌==◌, ◌&&◌, ◌||◌, nat_le, Bool, if◌then◌else◌, List, [], length, codes, Option, Some, None, Result, Ok, Err, ⊤}
 use Rattle.std.specs.List.{list_all}
 use Rattle.std.specs.Str.{bytes_eq}
@@ -9,7 +9,7 @@ use Rattle.turn_stun.specs.declared.transport.TransportType.TheVariants.{Udp, Tc
 use Rattle.turn_lines.specs.declared.field.FieldError.{FieldError}
 use Rattle.turn_lines.specs.declared.field.FieldError.TheVariants.{Malformed, OutOfMemory}
 
--- a reader's answer, seen by `view`, is what a definition reads, unless memory runs out
+-- the parser's result, seen by `view`, is the specified one, unless memory allocation fails
 abbrev pub Gives : {X Y : Type 0} → (X → Y) → Result X FieldError → Option Y → Type 0
 Gives view (Ok value) reading = reading ≡ Some (view value)
 Gives view (Err Malformed) reading = reading ≡ None
@@ -21,11 +21,11 @@ transport_of text =
     else if bytes_eq text (codes "tcp") then Some Tcp
     else None
 
--- digits, and letters in lower case alone
+-- digits and lower-case letters only
 abbrev pub is_lower_hex : List ℕ → Bool
 is_lower_hex text = list_all (λ c. (nat_le 48 c && nat_le c 57) || (nat_le 97 c && nat_le c 102)) text
 
--- `-` is no bytes, and an empty text is no field of bytes
+-- `-` for no bytes; an empty text is an error
 abbrev pub bytes_of : List ℕ → Option (List ℕ)
 bytes_of text =
     if bytes_eq text (codes "-") then Some []

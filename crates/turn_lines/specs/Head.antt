@@ -90,7 +90,7 @@ waits_of text = do
   _ ← ends last.1
   Some (record { initial = initial.0; max = max.0; count = count.0; last = last.0 })
 
--- the waits, if there is a field for them, and nothing behind them
+-- the retransmission times, if there is a field for them, and no field after it
 abbrev pub last_of : List (List ℕ) → Option (Option Waits)
 last_of [] = Some None
 last_of (field ∷ fields) = do
@@ -98,7 +98,7 @@ last_of (field ∷ fields) = do
   _ ← ends fields
   Some (Some waits)
 
--- T LOCAL REMOTE ALLOC FAMS INTEG ANON USER PASS SEED, and then the waits
+-- T LOCAL REMOTE ALLOC FAMS INTEG ANON USER PASS SEED, and optionally the retransmission times
 unfoldable pub head_of : List ℕ → Option Head
 head_of line = do
   places ← ends_of (parts_of 32 line)

@@ -1,4 +1,4 @@
--- A call as a line of a trace, for the law that such a line is read again.
+-- A call as a line of a trace, for the law that parsing this line gives the call.
 use Rattle.std.specs.Prelude.{◌≡◌, ℕ, ◌^◌, ◌<◌, ◌≤◌, List, [], ◌∷◌, length, codes, decimal, Option, Some, None, ⊤}
 use Rattle.std.specs.Net.Addr.{IsIpv4Addr, IsIpv6Addr}
 use Rattle.std.specs.Net.Socket.{IsSocketAddr, socket_flowinfo, socket_scope_id}
@@ -13,7 +13,7 @@ use Rattle.turn_client_api.specs.declared.poll.Socket5Tuple.{Socket5Tuple}
 use Rattle.turn_client_proto.specs.Run.{IsShort}
 use Rattle.turn_lines.specs.Text.{address_text, bytes_text, fields_text, ip_text, transport_text}
 
--- `-` is no address
+-- `-` for no address
 abbrev pub text_if_any : Option SocketAddr → List ℕ
 text_if_any None = codes "-"
 text_if_any (Some address) = address_text address
@@ -21,7 +21,7 @@ text_if_any (Some address) = address_text address
 abbrev pub tuple_fields : Socket5Tuple → List (List ℕ) → List (List ℕ)
 tuple_fields tuple others = transport_text tuple.transport ∷ address_text tuple.from ∷ address_text tuple.to ∷ others
 
--- the fields of a call; one that takes no moment is written at this one
+-- the fields of a call; a call without a time is written with this one
 abbrev pub call_fields : ℕ → Call → List (List ℕ)
 call_fields idle (Calls.Poll now) = decimal now ∷ codes "poll" ∷ []
 call_fields idle (Calls.PollTransmit now) = decimal now ∷ codes "transmit" ∷ []
@@ -52,23 +52,23 @@ call_fields idle (Calls.HavePermission transport to) =
 abbrev pub call_line : ℕ → Call → List ℕ
 call_line idle call = fields_text (call_fields idle call)
 
--- an IP address, which a line tells whole
+-- an IP address, which a line holds completely
 abbrev pub IsIp : IpAddr → Type 0
 IsIp (Ip.V4 ip) = IsIpv4Addr ip
 IsIp (Ip.V6 ip) = IsIpv6Addr ip
 
--- an address that a line tells whole: flow information and scope are not written
+-- an address that a line holds completely: flow information and scope are not written
 pub record IsSpelled (address : SocketAddr) : Type 0 where
   pub in_range : IsSocketAddr address
   pub no_flow : socket_flowinfo address ≡ 0
   pub no_scope : socket_scope_id address ≡ 0
 
--- the same of one that may be missing
+-- the same for an optional address
 abbrev pub IsSpelledIfAny : Option SocketAddr → Type 0
 IsSpelledIfAny None = ⊤
 IsSpelledIfAny (Some address) = IsSpelled address
 
--- bytes that are carried to a peer, where an allocation over this transport takes them
+-- bytes for a peer that an allocation over this transport takes
 abbrev pub IsPayload : TransportType → List ℕ → Type 0
 IsPayload relays bytes = IsBytes bytes × IsShort relays bytes
 

@@ -12,7 +12,7 @@ has_leading_zero text = nat_lt 1 (length text) && (slice_index text 0 == 48)
 abbrev pub is_decimal : List ℕ → Bool
 is_decimal text = nat_lt 0 (length text) && not (has_leading_zero text) && list_all is_ascii_digit text
 
--- the number of a decimal, where it is small enough
+-- the value of a decimal, if it is at most this
 abbrev pub decimal_up_to : ℕ → List ℕ → Option ℕ
 decimal_up_to most text =
     if is_decimal text && nat_le (digits_value 10 text) most then Some (digits_value 10 text) else None

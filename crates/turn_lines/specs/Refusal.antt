@@ -1,4 +1,4 @@
--- The refusals of all calls in one type.
+-- The errors of all calls as one type.
 use Rattle.turn_client_api.specs.declared.error.BindChannelError.{BindChannelError}
 use Rattle.turn_client_api.specs.declared.error.BindChannelError.TheVariants as Bind
 use Rattle.turn_client_api.specs.declared.error.CreatePermissionError.{CreatePermissionError}

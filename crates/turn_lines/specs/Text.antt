@@ -1,4 +1,4 @@
--- What is printed: a line for each answer, and what the lines are made of.
+-- The printed text: a line for each answer, and the fields of the lines.
 use Rattle.std.specs.Prelude.{ℕ, ◌==◌, Bool, true, false, if◌then◌else◌, List, [], ◌∷◌, ◌++◌, length, codes, decimal, Some, None, Ok, Err}
 use Rattle.std.specs.List.{flat_map, join_with_byte}
 use Rattle.std.specs.Net.Addr.{ipv4_octets, ipv6_octets}
@@ -43,7 +43,7 @@ abbrev pub ip_text : IpAddr → List ℕ
 ip_text (Ip.V4 ip) = ipv4_text (ipv4_octets ip)
 ip_text (Ip.V6 ip) = codes "[" ++ (encode_lower (ipv6_octets ip) ++ codes "]")
 
--- no bytes are `-`
+-- `-` for no bytes
 abbrev pub bytes_text : List ℕ → List ℕ
 bytes_text bytes = if (length bytes == 0) then codes "-" else encode_lower bytes
 
@@ -55,20 +55,20 @@ family_text IPV6 = codes "6"
 abbrev pub fields_text : List (List ℕ) → List ℕ
 fields_text fields = join_with_byte 32 fields
 
--- a socket that is to be opened
+-- a data connection that the caller is to open
 abbrev pub socket_fields : ℕ → Socket5Tuple → SocketAddr → List (List ℕ)
 socket_fields id socket peer =
     codes "socket" ∷ decimal id ∷ transport_text socket.transport ∷ address_text socket.from
     ∷ address_text socket.to ∷ address_text peer ∷ []
 
--- what `poll` told
+-- the result of `poll`
 abbrev pub poll_fields : TurnPollRet → List (List ℕ)
 poll_fields (WaitUntil moment) = codes "wait" ∷ decimal moment ∷ []
 poll_fields (AllocateTcpSocket id socket peer) = socket_fields id socket peer
 poll_fields (TcpClose local remote) = codes "close" ∷ address_text local ∷ address_text remote ∷ []
 poll_fields Closed = codes "closed" ∷ []
 
--- what is to be sent
+-- a packet to send
 abbrev pub packet_fields : Transmit (List ℕ) → List (List ℕ)
 packet_fields packet =
     codes "send" ∷ transport_text packet.transport ∷ address_text packet.from ∷ address_text packet.to
@@ -87,16 +87,16 @@ event_fields (ChannelCreateFailed transport peer) =
 event_fields (TcpConnected peer) = codes "connected" ∷ address_text peer ∷ []
 event_fields (TcpConnectFailed peer) = codes "connect-failed" ∷ address_text peer ∷ []
 
--- data of a peer
+-- data from a peer
 abbrev pub data_fields : PeerData → List (List ℕ)
 data_fields sent = codes "data" ∷ transport_text sent.transport ∷ address_text sent.peer ∷ bytes_text sent.«data» ∷ []
 
--- an ICMP packet: its type, its code and what else it says (RFC 8656, section 18.13)
+-- an ICMP packet: its type, its code and its other data (RFC 8656, section 18.13)
 abbrev pub icmp_fields : TransportType → SocketAddr → ℕ → ℕ → ℕ → List (List ℕ)
 icmp_fields transport peer icmp_type icmp_code icmp_data =
     codes "icmp" ∷ transport_text transport ∷ address_text peer ∷ decimal icmp_type ∷ decimal icmp_code ∷ decimal icmp_data ∷ []
 
--- why a call was refused
+-- the error of a call
 abbrev pub refusal_fields : Refusal → List (List ℕ)
 refusal_fields Refused.AlreadyExists = codes "refused" ∷ codes "already-exists" ∷ []
 refusal_fields Refused.NoAllocation = codes "refused" ∷ codes "no-allocation" ∷ []
@@ -105,7 +105,7 @@ refusal_fields Refused.NoSocket = codes "refused" ∷ codes "no-socket" ∷ []
 refusal_fields (Refused.Expired until) = codes "refused" ∷ codes "expired" ∷ decimal until ∷ []
 refusal_fields Refused.OutOfMemory = codes "refused" ∷ codes "no-memory" ∷ []
 
--- how many there are, and then the fields of each
+-- the number of elements, and then the fields of each
 abbrev pub list_fields : {X : Type 0} → (X → List (List ℕ)) → List X → List (List ℕ)
 list_fields fields xs = codes "list" ∷ decimal (length xs) ∷ flat_map fields xs
 
@@ -116,7 +116,7 @@ abbrev pub yes_or_no : Bool → List ℕ
 yes_or_no true = codes "yes"
 yes_or_no false = codes "no"
 
--- what a call answered
+-- the answer of a call
 abbrev pub reply_fields : Reply → List (List ℕ)
 reply_fields (Replies.Poll told) = poll_fields told
 reply_fields (Replies.Transmit None) = codes "none" ∷ []

@@ -25,20 +25,21 @@ use turn_types::TransportType;
 mod arguments;
 mod name;
 
-/// The greatest moment of a trace, in nanoseconds: 2^62.
+/// The largest time of a trace, in nanoseconds: 2^62.
 const GREATEST_MOMENT: u64 = 0x4000_0000_0000_0000;
 
-/// The most bytes that a `send` may have where the allocation is over UDP: what one packet to the server
-/// carries.
+/// The maximum length of the data of a `send` if the allocation is over UDP, in bytes: what fits into one
+/// packet to the server.
 const MAX_PAYLOAD: usize = 65_504;
 
-/// The call of a line: its moment, its name and its arguments. The client's allocation is over `relays`.
+/// The call of a line: its time, its name and its arguments. The client's allocation is over `relays`.
 ///
 /// # Errors
 ///
-/// The first of these: `Moment` where the first field is no moment, `Call` where the second is no
-/// call, `Argument` where the other fields are not the arguments of that call, `Payload` where it is
-/// a `send` of too many bytes for an allocation over UDP. `OutOfMemory` where there is no memory for the bytes of a packet.
+/// The first of these: `Moment` if the first field is not a time, `Call` if the second is not the name of a
+/// call, `Argument` if the other fields are not the arguments of that call, `Payload` if it is a `send` of
+/// too many bytes for an allocation over UDP. `OutOfMemory` if memory allocation for the bytes of a packet
+/// failed.
 #[tactic(auto, unfolding(crate::specs::Call::call_of))]
 pub fn parse_call(
     alloc: Global,
@@ -76,7 +77,7 @@ fn take_name(fields: &mut Parts<'_>) -> Option<CallName>
     parse_name(fields.next()?)
 }
 
-/// Whether it is no `send` of too many bytes for an allocation over this transport.
+/// Whether the call is not a `send` of too many bytes for an allocation over this transport.
 fn has_short_payload(relays: TransportType, call: &Call) -> bool
     ensures { result ≡ has_short_payload relays call.now }
 {
@@ -86,7 +87,7 @@ fn has_short_payload(relays: TransportType, call: &Call) -> bool
     }
 }
 
-/// Whether an allocation over this transport takes these bytes at once.
+/// Whether an allocation over this transport takes these bytes in one packet.
 fn is_short(relays: TransportType, payload: &[u8]) -> bool
     ensures { result ≡ is_short relays payload.now }
 {
@@ -96,7 +97,7 @@ fn is_short(relays: TransportType, payload: &[u8]) -> bool
     }
 }
 
-/// Reads the other fields of a call.
+/// Parses the other fields of a call.
 fn take_arguments(
     alloc: Global,
     name: CallName,

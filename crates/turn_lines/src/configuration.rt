@@ -11,8 +11,8 @@ use turn_auth::integrity::IntegrityAlgorithm;
 use turn_client_api::TurnConfig;
 use turn_types::AddressFamily;
 
-/// The configuration of a client that makes this request as this user, and sends it again by these
-/// waits, or by default.
+/// The configuration of a client that makes this request with these credentials, and retransmits it by
+/// these times, or by the default ones.
 pub fn configuration(
     alloc: Global,
     request: Request,
@@ -37,7 +37,7 @@ pub fn configuration(
     config
 }
 
-/// Asks for an address of the first family, and for one of the other if there is another.
+/// Requests a relayed address of the first family, and one of the second if there is a second.
 fn set_families(config: &mut TurnConfig, families: (AddressFamily, Option<AddressFamily>))
     ensures { config.new ≡ record config.old { address_families = families_with families } }
 {
@@ -48,7 +48,7 @@ fn set_families(config: &mut TurnConfig, families: (AddressFamily, Option<Addres
     }
 }
 
-/// Lets the server pick the first algorithm, and the other if there is another.
+/// Offers the server the first algorithm, and the second if there is a second.
 fn set_algorithms(
     config: &mut TurnConfig,
     algorithms: (IntegrityAlgorithm, Option<IntegrityAlgorithm>),

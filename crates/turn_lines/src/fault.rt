@@ -1,39 +1,39 @@
-//! What is wrong with a trace.
+//! Errors in a trace.
 
 use std::alloc::{AllocError, AllocFailed};
 
-/// The first line of a trace that is not as it is to be.
+/// The first bad line of a trace.
 #[derive(Clone, Copy, Debug, PartialEq, Eq)]
 pub struct BadLine {
-    /// Its number, counted from 1, or 0 for the trace as a whole.
+    /// Its number, counted from 1, or 0 for the whole trace.
     pub number: usize,
-    /// What is wrong with it.
+    /// The error.
     pub kind: BadKind,
 }
 
-/// What is wrong with a line.
+/// An error in a line.
 #[derive(Clone, Copy, Debug, PartialEq, Eq)]
 pub enum BadKind {
-    /// The trace has too many bytes, or the line is one call too many.
+    /// The trace has too many bytes, or this line is one call too many.
     Size,
-    /// The line does not say what client runs.
+    /// The line is not a head: it does not describe a client.
     Head,
-    /// The call has no moment.
+    /// The call has no valid time.
     Moment,
     /// There is no such call.
     Call,
-    /// The call has other arguments, or one more, or one less.
+    /// The arguments are not those of this call, or there is one too many or too few.
     Argument,
-    /// The call sends more bytes to a peer than one packet has room for, where the allocation is over UDP.
+    /// The call sends more bytes to a peer than fit into one packet, and the allocation is over UDP.
     Payload,
 }
 
-/// Why a call or a trace was not read: what is wrong with it, or that there is no memory for it.
+/// Why a call or a trace could not be parsed.
 #[derive(Clone, Copy, Debug, PartialEq, Eq)]
 pub enum ReadError<E> {
-    /// It is not as it is to be.
+    /// It has an error.
     Bad(E),
-    /// There is no memory for it.
+    /// Memory allocation failed.
     OutOfMemory,
 }
 

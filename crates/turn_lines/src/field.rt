@@ -1,4 +1,4 @@
-//! What a field of a line says.
+//! The value of one field of a line.
 
 ghost use Rattle.std.specs.Prelude.{◌≡◌};
 ghost use Rattle.turn_lines.specs.Field.{Gives, transport_of, bytes_of, seed_of, is_lower_hex};
@@ -7,12 +7,12 @@ use hex::{FromHex, FromHexError};
 use std::alloc::{AllocError, Global};
 use turn_types::TransportType;
 
-/// Why a field, or a line, was not read.
+/// Why a field, or a line, could not be parsed.
 #[derive(Clone, Copy, Debug, PartialEq, Eq)]
 pub enum FieldError {
-    /// It does not have the form that it is to have.
+    /// It does not have the required form.
     Malformed,
-    /// There is no memory for what it says.
+    /// Memory allocation for its value failed.
     OutOfMemory,
 }
 

@@ -21,25 +21,25 @@ mod words;
 
 pub use waits::Waits;
 
-/// The client and its server, as the first line names them.
+/// The client and its server, as the first line describes them.
 #[derive(Debug, Drop)]
 pub struct Head {
-    /// Where the client is, and where its server.
+    /// The addresses of the client and its server.
     pub ends: Ends,
-    /// What the client asks for, and how.
+    /// The allocation that the client requests, and how.
     pub request: Request,
-    /// Who the client is.
+    /// The credentials of the client.
     pub credentials: TurnCredentials,
-    /// What its transaction IDs are drawn from.
+    /// The seed of its transaction IDs.
     pub seed: [u8; 32],
-    /// When requests are sent again, if that is not left to the default.
+    /// The retransmission times, or `None` for the default ones.
     pub waits: Option<Waits>,
 }
 
-/// Where the client is, and where its server.
+/// The addresses of the client and its server.
 #[derive(Clone, Copy, Debug, PartialEq, Eq)]
 pub struct Ends {
-    /// What carries the packets between them.
+    /// The transport between them.
     pub transport: TransportType,
     /// The client's address.
     pub local: SocketAddr,
@@ -47,16 +47,16 @@ pub struct Ends {
     pub remote: SocketAddr,
 }
 
-/// What a client asks for, and how.
+/// The allocation that a client requests, and how.
 #[derive(Clone, Copy, Debug, PartialEq, Eq)]
 pub struct Request {
-    /// What the server is to relay over. It is UDP where the client reaches its server over UDP.
+    /// The transport between the server and peers. It is UDP if the client reaches its server over UDP.
     pub allocation: TransportType,
-    /// The family of the address that is asked for first, and the other where it is asked for too.
+    /// The address family that is requested first, and the second if it is requested too.
     pub families: (AddressFamily, Option<AddressFamily>),
-    /// The algorithm that is named first, and the other where it is named too.
+    /// The algorithm that is offered first, and the second if it is offered too.
     pub algorithms: (IntegrityAlgorithm, Option<IntegrityAlgorithm>),
-    /// Whether the user name is kept from those who look on.
+    /// Whether the user name is hidden from observers (USERHASH; RFC 8489, section 14.4).
     pub anonymous: Feature,
 }
 
@@ -64,8 +64,7 @@ pub struct Request {
 ///
 /// # Errors
 ///
-/// `Malformed` where the line is no head, `OutOfMemory` where there is no memory for the
-/// credentials.
+/// `Malformed` if the line is not a head, `OutOfMemory` if memory allocation for the credentials failed.
 #[tactic(auto, unfolding(crate::specs::Head::head_of))]
 pub fn parse_head(alloc: Global, line: &[u8]) -> Result<Head, FieldError>
     ensures { Gives (λ head. head) result (head_of line.now) }

@@ -7,8 +7,8 @@ ghost use Rattle.turn_lines.specs.Number.{is_decimal, has_leading_zero, decimal_
 
 use std::str;
 
-/// The number that a decimal without leading zeros tells, or `None` where the text is no such
-/// decimal or the number is greater than `most`.
+/// The value of a decimal without leading zeros, or `None` if the text is not such a decimal or the value
+/// is greater than `most`.
 pub fn parse_decimal(text: &[u8], most: u64) -> Option<u64>
     ensures { result ≡ decimal_up_to most text.now }
 {
@@ -24,7 +24,7 @@ pub fn parse_decimal(text: &[u8], most: u64) -> Option<u64>
     if number <= most { Some(number) } else { None }
 }
 
-/// Whether the text has digits alone, at least one, and no leading zero.
+/// Whether the text has only digits, at least one, and no leading zero.
 fn is_decimal(text: &[u8]) -> bool
     ensures { result ≡ is_decimal text.now }
 {

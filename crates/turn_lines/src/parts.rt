@@ -1,4 +1,4 @@
-//! A text in parts: a trace in its lines, a line in its fields.
+//! A text split into parts: a trace into lines, a line into fields.
 
 ghost use Rattle.std.specs.Prelude.{◌≡◌, [], ◌∷◌, ◌+◌, ◌≤◌, length, MatchOption, IfSome, is_some};
 ghost use Rattle.std.specs.Option.{option_copied};
@@ -7,14 +7,14 @@ ghost use Rattle.turn_lines.specs.Parts.{parts_of, parts_left, ends};
 use memchr::memchr;
 use std::marker::Model;
 
-/// The parts of a text that are still to be read. Between two of them stands one separator, so that
-/// two separators in a row have an empty part between them.
+/// The parts of a text that are not read yet. They are separated by one separator each, so that between two
+/// adjacent separators there is an empty part.
 ///
-/// Contracts see it as the list of these parts.
+/// In contracts this is the list of these parts.
 #[derive(Drop)]
 pub struct Parts<'a> {
     separator: u8,
-    /// The text from the next part on, or `None` behind the last one.
+    /// The text from the next part on, or `None` after the last part.
     rest: Option<&'a [u8]>,
 }
 
@@ -39,7 +39,7 @@ impl<'a> Parts<'a> {
         }
     }
 
-    /// Takes the next part, or gives `None` behind the last one.
+    /// Takes the next part, or returns `None` after the last one.
     pub fn next(&mut self) -> Option<&'a [u8]>
         ensures { MatchOption result ((self.old ≡ []) × (self.new ≡ [])) (λ part. self.old ≡ part.now ∷ self.new) }
     {
@@ -48,7 +48,7 @@ impl<'a> Parts<'a> {
         Some(part)
     }
 
-    /// `None` where a part is left.
+    /// `Some` if no part is left.
     #[tactic(auto, using(crate::proofs::PartsLemmas::ends_of_parts))]
     pub fn end(&self) -> Option<()>
         ensures { result ≡ ends self.now }
@@ -60,7 +60,7 @@ impl<'a> Parts<'a> {
     }
 }
 
-/// The text up to the first separator, and the text behind that separator, if there is one.
+/// The text up to the first separator, and the text after that separator, if there is one.
 fn first_part(text: &[u8], separator: u8) -> (&[u8], Option<&[u8]>)
     ensures { parts_of separator text.now ≡ result.0.now ∷ parts_left separator (option_copied result.1) }
 {

@@ -26,7 +26,7 @@ pub fn answers_text(alloc: Global, replies: &[Reply]) -> Result<String, AllocErr
     Ok(text)
 }
 
-/// The one line that says which line of a trace is bad, and what is wrong with it.
+/// The line that reports which line of a trace is bad, and why.
 pub fn bad_text(alloc: Global, bad: BadLine) -> Result<String, AllocError>
     ensures { IfOk result (λ text. string_bytes text ≡ bad_text bad) }
 {

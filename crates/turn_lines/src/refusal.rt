@@ -1,4 +1,4 @@
-//! Why a call was refused, whatever the call.
+//! The error of a call, for all calls.
 
 use turn_client_api::{
     BindChannelError, CreatePermissionError, DeleteError, SendError, TcpAllocateError,
@@ -6,10 +6,10 @@ use turn_client_api::{
 };
 use turn_stun::instant::Instant;
 
-/// Why a call was refused.
+/// The error of a call.
 #[derive(Clone, Copy, Debug, PartialEq, Eq)]
 pub enum Refusal {
-    /// What is asked for is there, or is asked for already.
+    /// What the call requests is active, or is requested already.
     AlreadyExists,
     /// There is no allocation for it.
     NoAllocation,
@@ -17,9 +17,9 @@ pub enum Refusal {
     NoPermission,
     /// No data connection to the peer is bound.
     NoSocket,
-    /// The peer had a channel, and may have another only once this moment has passed.
+    /// The peer had a channel, and no other may be bound to it until this time has passed.
     Expired(Instant),
-    /// There is no memory. A run ends there, so that no answer of a run says it.
+    /// Memory allocation failed. A run ends then, so that no answer of a run holds this.
     OutOfMemory,
 }
 

@@ -3,23 +3,23 @@
 ghost use Rattle.std.specs.Prelude.{◌≡◌};
 ghost use Rattle.turn_lines.specs.Status.{code_of};
 
-/// How a run of the program ended, and what it has written.
+/// How a run of the program ended, and what it has printed.
 #[derive(Clone, Copy, Debug, PartialEq, Eq)]
 pub enum Status {
     /// The answers to the calls of the trace.
     Answered,
     /// Which line of the trace is bad.
     Malformed,
-    /// That there was no memory.
+    /// That memory allocation failed.
     OutOfMemory,
     /// That the trace could not be read.
     ReadFailed,
-    /// Not all that there was to write.
+    /// Not everything: writing failed.
     WriteFailed,
 }
 
 impl Status {
-    /// The exit status: 0 with answers, 2 for a bad line, 3 without memory, 4 where reading or
+    /// The exit status: 0 with answers, 2 for a bad line, 3 if memory allocation failed, 4 if reading or
     /// writing failed.
     pub fn code(self) -> u8
         ensures { result ≡ code_of self }

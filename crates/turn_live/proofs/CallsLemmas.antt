@@ -1,4 +1,4 @@
--- The calls of lines, one line after the other.
+-- The calls of lines, line by line.
 use Rattle.std.proofs.Common.{◌≡◌, ℕ, ◌+◌, ◌<◌, cond, true, List, [], ◌∷◌, ◌++◌, Option, Some, None, Result, Ok, Err, length, refl, sym, ap, subst, ◌∙◌, arith}
 use Rattle.std.specs.Prelude.{nat_lt}
 use Rattle.std.proofs.lemmas.Bool.{lt-ltb}
@@ -29,7 +29,7 @@ of_line : (number : ℕ) (r : Result Call BadKind) (call : Call) → at_line num
 of_line number (Ok x) call h = ap Ok (ok_is x call h)
 of_line number (Err kind) call h = cc
 
--- a call of a line can be made
+-- the call of a line is allowed
 pub line_is_callable : (relays : TransportType) (number : ℕ) (line : List ℕ) (call : Call) → line_call relays number line ≡ Ok call → IsCallable relays call
 line_is_callable relays number line call h =
     let read = of_else (nat_lt 1048576 (length line)) (bad_line number Bad.Size) (at_line number (call_of relays line)) call h in
@@ -42,7 +42,7 @@ head_is_made line head h =
     let found = of_needed (head_of line) (bad_line 1 Bad.Head) Ok head read in
     subst IsMade (ok_is found.0 head found.2) (made_line line found.0 found.1)
 
--- a line that is too long is no call, and no head
+-- a line that is too long is not a call, and not a head
 pub long_is_no_call : (relays : TransportType) (number : ℕ) (line : List ℕ) (call : Call) → 1048576 < length line → line_call relays number line ≡ Ok call → ⊥
 long_is_no_call relays number line call long h =
     let test : nat_lt 1048576 (length line) ≡ true = lt-ltb 1048576 (length line) long in
@@ -57,18 +57,18 @@ long_is_no_head line head long h =
 
 -- ---- many lines
 
--- where all lines are good the first is
+-- if all lines are good, the first is
 of_first : (r : Result Call BadLine) (rest : Calls) (calls : List Call) → with_first r rest ≡ (calls, None) → (call : Call) × (more : List Call) × (r ≡ Ok call) × (rest ≡ (more, None)) × (calls ≡ call ∷ more)
 of_first (Ok call) (more, bad) calls h =
     let none : bad ≡ None = ap (λ (c : Calls). c.1) h in
     (call, more, refl, ap (λ (b : Option BadLine). (more, b)) none, sym (ap (λ (c : Calls). c.0) h))
 of_first (Err bad) rest calls h = let wrong : Some bad ≡ None = ap (λ (c : Calls). c.1) h in cc
 
--- these calls before others
+-- these calls, then others
 abbrev pub before : List Call → Calls → Calls
 before calls rest = (calls ++ rest.0, rest.1)
 
--- good lines, and what is behind them
+-- good lines, and the lines after them
 pub calls_until-append : (relays : TransportType) (number at : ℕ) (lines more : List (List ℕ)) (calls : List Call) → at ≡ number + length lines → calls_until relays number lines ≡ (calls, None) → calls_until relays number (lines ++ more) ≡ before calls (calls_until relays at more)
 calls_until-append relays number at [] more calls place good =
     let none : calls ≡ [] = sym (ap (λ (c : Calls). c.0) good) in
@@ -81,13 +81,13 @@ calls_until-append relays number at (line ∷ lines) more calls place good =
     ∙ ap (with_first (Ok first.0)) rest
     ∙ ap (λ front. before front (calls_until relays at more)) (sym first.4)
 
--- one more line, which is a call
+-- one more line, a call
 pub calls_until-call : (relays : TransportType) (number at : ℕ) (lines : List (List ℕ)) (calls : List Call) (line : List ℕ) (call : Call) → at ≡ number + length lines → calls_until relays number lines ≡ (calls, None) → line_call relays at line ≡ Ok call → calls_until relays number (lines ++ line ∷ []) ≡ (calls ++ call ∷ [], None)
 calls_until-call relays number at lines calls line call place good says =
     calls_until-append relays number at lines (line ∷ []) calls place good
     ∙ ap (λ r. before calls (with_first r ([], None))) says
 
--- one more line, which is bad
+-- one more line, a bad one
 pub calls_until-bad : (relays : TransportType) (number at : ℕ) (lines : List (List ℕ)) (calls : List Call) (line : List ℕ) (bad : BadLine) → at ≡ number + length lines → calls_until relays number lines ≡ (calls, None) → line_call relays at line ≡ Err bad → calls_until relays number (lines ++ line ∷ []) ≡ (calls ++ [], Some bad)
 calls_until-bad relays number at lines calls line bad place good says =
     calls_until-append relays number at lines (line ∷ []) calls place good

@@ -1,4 +1,4 @@
--- Known bytes that are read or written one after the other.
+-- Known bytes that are read or written in sequence.
 use Rattle.std.proofs.Common.{ℕ, ◌+◌, ◌≤◌, List, [], ◌++◌, Option, Some, None, length, take, drop, refl, sym, ap, subst, ◌∙◌, append_assoc, arith}
 use Rattle.std.proofs.lemmas.List.{append-nil}
 use Rattle.std.proofs.lemmas.List.{take_all}
@@ -25,11 +25,11 @@ Appends-then (Some u) None c xs ys h k = absurd h
 Appends-then (Some u) (Some v) None xs ys h k = absurd k
 Appends-then (Some u) (Some v) (Some w) xs ys h k = k ∙ ap (λ (front : List ℕ). front ++ ys) h ∙ append_assoc u xs ys
 
--- the beginning of what is behind a text, as the beginning of both
+-- a text and a prefix of the next one, as a prefix of both
 pub Appends-cut : (a b c : Option (List ℕ)) (xs ys : List ℕ) (count : ℕ) → Appends a b xs → Appends b c (take count ys) → Appends a c (take (length xs + count) (xs ++ ys))
 Appends-cut a b c xs ys count h k = subst (Appends a c) (sym (take-append-add xs ys count)) (Appends-then a b c xs (take count ys) h k)
 
--- more of a text, behind what was written of it
+-- more of a text, after the part that was written
 pub Appends-more : (a b c : Option (List ℕ)) (text : List ℕ) (at n : ℕ) → Appends a b (take at text) → Appends b c (take n (drop at text)) → Appends a c (take (at + n) text)
 Appends-more a b c text at n h k = subst (Appends a c) (sym (take-add at n text)) (Appends-then a b c (take at text) (take n (drop at text)) h k)
 
@@ -47,10 +47,10 @@ Consumes-kept None b k = tt
 Consumes-kept (Some u) None k = absurd k
 Consumes-kept (Some u) (Some v) k = sym k
 
--- all of a text was written, and then nothing
+-- the whole text was written, and then nothing
 pub flush_failed : (a b c : Option (List ℕ)) (text : List ℕ) → Appends a b text → Keeps b c → (count : ℕ) × Appends a c (take count text)
 flush_failed a b c text h k = (length text, subst (Appends a c) (sym (take_all (length text) text (omega arith))) (Appends-kept a b c text h k))
 
--- a failed write writes nothing more
+-- a write that failed writes nothing more
 pub cut_at : (a b c : Option (List ℕ)) (text : List ℕ) (at : ℕ) → Appends a b (take at text) → Appends b c [] → (count : ℕ) × Appends a c (take count text)
 cut_at a b c text at h k = (at, subst (Appends a c) (append-nil (take at text)) (Appends-then a b c (take at text) [] h k))

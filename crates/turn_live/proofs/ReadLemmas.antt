@@ -1,4 +1,4 @@
--- Lines that are read one after the other.
+-- Lines that are read in sequence.
 use Rattle.std.proofs.Common.{◌≡◌, ℕ, zero, suc, All, List, [], ◌∷◌, ◌++◌, Option, refl, sym, ap, subst, ◌∙◌, append_assoc, arith}
 use Rattle.std.proofs.lemmas.List.{append-nil}
 use Rattle.std.proofs.lemmas.List.Elements.{All-append}
@@ -11,7 +11,7 @@ use Rattle.turn_live.specs.declared.line.LineEnd.{LineEnd}
 use Rattle.turn_live.specs.declared.line.LineEnd.TheVariants.{Feed, Input, Size}
 use Rattle.turn_live.proofs.KnownLemmas.{Consumes-none, Consumes-then}
 
--- a line and its LF, whichever of them was read
+-- a line and its LF, whether the LF was read or is missing
 whole_line : (line : List ℕ) (end : LineEnd) → (line ++ feed_at end) ++ missing_at end ≡ line ++ 10 ∷ []
 whole_line line Feed = append-nil (line ++ 10 ∷ [])
 whole_line line Input = ap (λ (front : List ℕ). front ++ 10 ∷ []) (append-nil line)
@@ -60,7 +60,7 @@ rest_read a b c lines rest r t =
       each = r.each;
     }
 
--- the end behind whole lines
+-- the end of the input after whole lines
 pub end_read : (a b c : Option (List ℕ)) (lines : List (List ℕ)) (line : List ℕ) → AreRead a b lines [] Feed → line ≡ [] → IsTaken b c line Input → AreRead a c lines [] Feed
 end_read a b c lines line r none t = rest_read a b c lines [] r (subst (Consumes b c) (append-nil line ∙ none) t.consumed)
 
@@ -68,7 +68,7 @@ first_line : (line : List ℕ) (lines : List (List ℕ)) → IsLine line → All
 first_line line lines clear each zero d low = clear
 first_line line lines clear each (suc k) d low = each k d (omega arith)
 
--- a line before others
+-- a line, then others
 pub read_behind : (a b c : Option (List ℕ)) (line : List ℕ) (lines : List (List ℕ)) (rest : List ℕ) (end : LineEnd) → IsTaken a b line Feed → AreRead b c lines rest end → AreRead a c (line ∷ lines) rest end
 read_behind a b c line lines rest end t r =
     let front = line ++ 10 ∷ [] in

@@ -1,4 +1,4 @@
--- A session, one step after the other.
+-- A session, step by step.
 use Rattle.std.proofs.Common.{◌≡◌, ℕ, ◌+◌, true, false, List, [], ◌∷◌, ◌++◌, Option, Some, None, Result, Ok, Err, length, take, inl, inr, refl, sym, ap, subst, ◌∙◌, arith}
 use Rattle.std.proofs.lemmas.List.{append-nil, length-append}
 use Rattle.std.specs.Io.KnownBytes.{Appends}
@@ -21,7 +21,7 @@ use Rattle.turn_live.proofs.CallsLemmas.{answered-more, calls_until-bad, calls_u
 use Rattle.turn_live.proofs.KnownLemmas.{Appends-cut, Appends-none, Appends-then}
 use Rattle.turn_live.proofs.ReadLemmas.{end_read, more_read, none_read, read_behind, rest_read}
 
--- what a session has said before its next line is read: all lines that were read are answered
+-- the state of a session before its next line is read: all lines that were read are answered
 pub record GoesOn (relays : TransportType) (s now : State) (number : ℕ) (input left old new : Option (List ℕ)) : Type 0 where
   pub lines : List (List ℕ)
   pub calls : List Call
@@ -56,7 +56,7 @@ told_more s now calls call w x y state told more =
     let here : Appends x y one = subst (λ (at : State). Appends x y (answered at (call ∷ []))) state more in
     subst (Appends w y) (sym (answered-more s calls call)) (Appends-then w x y (answered s calls) one told here)
 
--- the beginning of one more answer
+-- a prefix of one more answer
 cut_more : (s now : State) (calls : List Call) (call : Call) (count : ℕ) (w x y : Option (List ℕ)) → now ≡ state_behind s calls → Appends w x (answered s calls) → Appends x y (take count (answered now (call ∷ []))) → Appends w y (take (length (answered s calls) + count) (answered s (calls ++ call ∷ [])))
 cut_more s now calls call count w x y state told more =
     let one = answered (state_behind s calls) (call ∷ []) in
@@ -64,7 +64,7 @@ cut_more s now calls call count w x y state told more =
     subst (λ (text : List ℕ). Appends w y (take (length (answered s calls) + count) text)) (sym (answered-more s calls call))
     (Appends-cut w x y (answered s calls) one count told here)
 
--- what is said of lines, by their calls
+-- the answers to lines, by their calls
 said_of : (relays : TransportType) (s : State) (lines : List (List ℕ)) (calls : Calls) → calls_until relays 2 lines ≡ calls → calls_said relays s lines ≡ (answered s calls.0, calls.1)
 said_of relays s lines calls h = ap (λ (c : Calls). (answered s c.0, c.1)) h
 
@@ -152,7 +152,7 @@ stops relays s now after number a b c w x y Stops.WriteFailed k (line, end, take
 no_bytes : IsLine []
 no_bytes k d low = absurd (omega arith)
 
--- all line numbers were used
+-- all line numbers are used up
 pub tires : (relays : TransportType) (s now : State) (number : ℕ) (a b w x : Option (List ℕ)) → GoesOn relays s now number a b w x → Talks (calls_said relays s) a b w x (Err Stops.ReadFailed)
 tires relays s now number a b w x k = (
   k.lines,
@@ -164,7 +164,7 @@ tires relays s now number a b w x k = (
 
 -- ---- the first line
 
--- nothing was said before the head was read
+-- nothing is written before the head is read
 pub head_lost : (a b w : Option (List ℕ)) (stop : Stop) → IsLost a b stop → Talks session_of a b w w (Err stop)
 head_lost a b w (Stops.Bad bad) lost = absurd lost
 head_lost a b w Stops.OutOfMemory lost =
@@ -187,7 +187,7 @@ head_bad a b w line end bad taken says =
 pub head_unheard : (a b w : Option (List ℕ)) (line : List ℕ) (end : LineEnd) → IsTaken a b line end → Talks session_of a b w w (Err Stops.OutOfMemory)
 head_unheard a b w line end taken = head_lost a b w Stops.OutOfMemory (line ++ feed_at end, taken.consumed)
 
--- the head is all there is
+-- the head is the only line
 pub head_alone : (a b w : Option (List ℕ)) (line : List ℕ) (end : LineEnd) (head : Head) → IsTaken a b line end → line_head line ≡ Ok head → (end ≡ Feed → ⊥) → Talks session_of a b w w (Ok tt)
 head_alone a b w line Feed head taken says more = absurd (more refl)
 head_alone a b w line Input head taken says more =
@@ -200,7 +200,7 @@ head_alone a b w line Input head taken says more =
     )
 head_alone a b w line Size head taken says more = absurd (long_is_no_head line head taken.ends says)
 
--- lines behind a head
+-- the lines after a head
 goes_behind : (a b c : Option (List ℕ)) (line : List ℕ) (head : Head) (lines : List (List ℕ)) (rest : List ℕ) (end : LineEnd) (bad : Option BadLine) → IsTaken a b line Feed → line_head line ≡ Ok head → Goes (calls_said head.request.allocation (client_of head)) b c lines rest end bad → Goes session_of a c (line ∷ lines) rest end bad
 goes_behind a b c line head lines rest end bad taken says g = record {
   read = read_behind a b c line lines rest end taken g.read;

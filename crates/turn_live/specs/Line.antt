@@ -1,4 +1,4 @@
--- One line, off a reader.
+-- One line, from a reader.
 use Rattle.std.specs.Prelude.{◌≡◌, ◌≢◌, ℕ, ◌<◌, List, [], ◌∷◌, ◌++◌, All, length, Option, Result, Ok, Err, Vec, ⊤}
 use Rattle.std.specs.Global.{Global}
 use Rattle.std.specs.Io.KnownBytes.{Consumes, IsAtEnd}
@@ -16,35 +16,35 @@ TakesByte old new (Ok Nothing) = Consumes old new []
 TakesByte old new (Ok End) = Consumes old new [] × IsAtEnd new
 TakesByte old new (Err stop) = (stop ≡ Stops.ReadFailed) × Consumes old new []
 
--- a line has no LF within
+-- a line has no LF in it
 abbrev pub IsLine : List ℕ → Type 0
 IsLine line = All (λ byte. byte ≢ 10) line
 
--- what was read behind a line
+-- the bytes that were read after the line
 abbrev pub feed_at : LineEnd → List ℕ
 feed_at Feed = 10 ∷ []
 feed_at Input = []
 feed_at Size = []
 
--- what is missing of a whole line
+-- the bytes that the line lacks
 abbrev pub missing_at : LineEnd → List ℕ
 missing_at Feed = []
 missing_at Input = 10 ∷ []
 missing_at Size = 10 ∷ []
 
--- a line without its LF is one at the end of the input, or one that is too long
+-- a line without its LF is at the end of the input, or too long
 abbrev pub EndsSo : Option (List ℕ) → List ℕ → LineEnd → Type 0
 EndsSo left line Feed = ⊤
 EndsSo left line Input = IsAtEnd left
 EndsSo left line Size = 1048576 < length line
 
--- a line was read off, and nothing behind it
+-- a line was read, and nothing after it
 pub record IsTaken (old new : Option (List ℕ)) (line : List ℕ) (end : LineEnd) : Type 0 where
   pub consumed : Consumes old new (line ++ feed_at end)
   pub clear : IsLine line
   pub ends : EndsSo new line end
 
--- what was read of a line that is not given; where the reader failed its LF was not there
+-- the bytes of a line that could not be returned; if the reader failed, its LF was not read
 abbrev pub IsLost : Option (List ℕ) → Option (List ℕ) → Stop → Type 0
 IsLost old new Stops.ReadFailed = (bytes : List ℕ) × Consumes old new bytes × IsLine bytes
 IsLost old new Stops.OutOfMemory = (bytes : List ℕ) × Consumes old new bytes

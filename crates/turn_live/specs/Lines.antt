@@ -1,4 +1,4 @@
--- What the lines of a session say.
+-- The meaning of the lines of a session.
 use Rattle.std.specs.Prelude.{ℕ, ◌+◌, nat_lt, if◌then◌else◌, List, [], ◌∷◌, ◌++◌, length, Option, Some, None, Result, Ok, Err}
 use Rattle.std.specs.List.{flat_map}
 use Rattle.turn_stun.specs.declared.transport.TransportType.{TransportType}
@@ -14,7 +14,7 @@ use Rattle.turn_lines.specs.declared.fault.BadKind.TheVariants as Bad
 use Rattle.turn_lines.specs.declared.fault.BadLine.{BadLine}
 use Rattle.turn_lines.specs.declared.head.Head.{Head}
 
--- lines, each with the LF that ends it
+-- lines, each ended by LF
 abbrev pub fed : List (List ℕ) → List ℕ
 fed lines = flat_map (λ line. line ++ 10 ∷ []) lines
 
@@ -26,7 +26,7 @@ line_head line = if nat_lt 1048576 (length line) then Err (bad_line 1 Bad.Size) 
 abbrev pub line_call : TransportType → ℕ → List ℕ → Result Call BadLine
 line_call relays number line = if nat_lt 1048576 (length line) then Err (bad_line number Bad.Size) else at_line number (call_of relays line)
 
--- calls, and the bad line that ended them, if one did
+-- calls, and the bad line that ended them, if there was one
 abbrev pub Calls : Type 0
 Calls = List Call × Option BadLine
 
@@ -34,18 +34,19 @@ abbrev pub with_first : Result Call BadLine → Calls → Calls
 with_first (Ok call) rest = (call ∷ rest.0, rest.1)
 with_first (Err bad) rest = ([], Some bad)
 
--- the calls of these lines up to the first bad one, and that one; the first line has this number
+-- the calls of these lines up to the first bad line, and that line; the first line has this number
 abbrev pub calls_until : TransportType → ℕ → List (List ℕ) → Calls
 calls_until relays number [] = ([], None)
 calls_until relays number (line ∷ lines) = with_first (line_call relays number line) (calls_until relays (number + 1) lines)
 
 -- ---- answers
 
--- a line for each answer of a client in this state
+-- one line for each answer of a client in this state
 abbrev pub answered : State → List Call → List ℕ
 answered s calls = answers_text (replies_of s calls)
 
--- of these lines, from the second of a session on: the answers of a client to the calls up to the first bad one, and that one
+-- for lines from the second of a session on: the client's answers to the calls up to the first bad line, and that
+-- line
 abbrev pub calls_said : TransportType → State → List (List ℕ) → List ℕ × Option BadLine
 calls_said relays s lines = (answered s (calls_until relays 2 lines).0, (calls_until relays 2 lines).1)
 
@@ -56,7 +57,7 @@ client_of head =
 
 -- ---- whole sessions
 
--- the text that answers these lines, and the first bad one of them: the answers to all calls up to that
+-- the text that answers these lines, which are the answers to the calls up to the first bad line, and that line
 abbrev pub session_with : Result Head BadLine → List (List ℕ) → List ℕ × Option BadLine
 session_with (Err bad) lines = ([], Some bad)
 session_with (Ok head) lines = calls_said head.request.allocation (client_of head) lines

@@ -20,17 +20,17 @@ use Rattle.turn_live.specs.declared.stop.Stop.TheVariants as Stops
 
 -- ---- writing
 
--- a text was written, or the beginning of it where the writer failed
+-- a text was written, or a prefix of it if the writer failed
 abbrev pub Writes : Option (List ℕ) → Option (List ℕ) → List ℕ → Result (Unit {0}) Stop → Type 0
 Writes old new text (Ok _) = Appends old new text
 Writes old new text (Err stop) = (stop ≡ Stops.WriteFailed) × (count : ℕ) × Appends old new (take count text)
 
--- the beginning of these bytes was written, of this length, or nothing where the writer failed
+-- a prefix of these bytes was written, of this length, or nothing if the writer failed
 abbrev pub WritesSome : Option (List ℕ) → Option (List ℕ) → List ℕ → Result ℕ Stop → Type 0
 WritesSome old new bytes (Ok count) = (count ≤ length bytes) × Appends old new (take count bytes)
 WritesSome old new bytes (Err stop) = (stop ≡ Stops.WriteFailed) × Appends old new []
 
--- a text was written and the answer is that status, or the writer failed
+-- a text was written and the result is that status, or the writer failed
 abbrev pub Told : Option (List ℕ) → Option (List ℕ) → Status → List ℕ → Status → Type 0
 Told old new status text result =
     ((result ≡ WriteFailed) × (count : ℕ) × Appends old new (take count text)) ⊎ ((result ≡ status) × Appends old new text)
@@ -47,14 +47,14 @@ ReadsCall relays number line (Ok call) = line_call relays number line ≡ Ok cal
 ReadsCall relays number line (Err (Stops.Bad bad)) = line_call relays number line ≡ Err bad
 ReadsCall relays number line (Err stop) = stop ≡ Stops.OutOfMemory
 
--- a line was answered by the answer of its call, and the client is in the state after it
+-- a line was answered by the answer of its call, and the client has made that call
 pub record IsAnswered (relays : TransportType) (number : ℕ) (s after : State) (line : List ℕ) (old new : Option (List ℕ)) : Type 0 where
   pub call : Call
   pub says : line_call relays number line ≡ Ok call
   pub told : Appends old new (answered s (call ∷ []))
   pub state : after ≡ state_after call s
 
--- the writer failed at that answer
+-- the writer failed during that answer
 pub record IsCutOff (relays : TransportType) (number : ℕ) (s : State) (line : List ℕ) (old new : Option (List ℕ)) : Type 0 where
   pub call : Call
   pub says : line_call relays number line ≡ Ok call
@@ -68,7 +68,7 @@ AnswersLine relays number s after line old new (Err Stops.OutOfMemory) = Appends
 AnswersLine relays number s after line old new (Err Stops.ReadFailed) = ⊥
 AnswersLine relays number s after line old new (Err Stops.WriteFailed) = IsCutOff relays number s line old new
 
--- One step of a session: it reads at most one line, and what it answers is written before it ends. It tells whether there
+-- One step of a session: it reads at most one line, and writes the answer before it ends. It returns whether there
 -- may be more lines.
 abbrev pub Steps : TransportType → ℕ → State → State → Option (List ℕ) → Option (List ℕ) → Option (List ℕ) → Option (List ℕ) → Result Bool Stop → Type 0
 Steps relays number s after input left old new (Ok true) =
@@ -86,34 +86,34 @@ Steps relays number s after input left old new (Err Stops.WriteFailed) =
 
 -- ---- many lines
 
--- These lines were read, and then this much of the next. The last line may lack its LF.
+-- These lines were read, and then this much of the next line. The last line may lack its LF.
 pub record AreRead (input left : Option (List ℕ)) (lines : List (List ℕ)) (rest : List ℕ) (end : LineEnd) : Type 0 where
   pub bytes : List ℕ
   pub consumed : Consumes input left bytes
   pub whole : fed lines ++ rest ≡ bytes ++ missing_at end
   pub each : All IsLine lines
 
--- what is said of these lines is as told: the answers, and the first bad line
+-- the lines were read, and their first bad line is this one
 pub record Goes (said : List (List ℕ) → List ℕ × Option BadLine) (input left : Option (List ℕ)) (lines : List (List ℕ)) (rest : List ℕ) (end : LineEnd) (bad : Option BadLine) : Type 0 where
   pub read : AreRead input left lines rest end
   pub bad_is : (said lines).1 ≡ bad
 
--- What a session does that says this of lines, by how it ends.
+-- A session with these answers to lines, by how it ends.
 abbrev pub Talks : (List (List ℕ) → List ℕ × Option BadLine) → Option (List ℕ) → Option (List ℕ) → Option (List ℕ) → Option (List ℕ) → Result (Unit {0}) Stop → Type 0
--- to the end of the input, with each line answered
+-- at the end of the input, with each line answered
 Talks said input left old new (Ok _) =
     (lines : List (List ℕ)) × (end : LineEnd) × Goes said input left lines [] end None × IsAtEnd left × Appends old new (said lines).0
--- up to a bad line, which is the last that was read
+-- at a bad line, which is the last that was read
 Talks said input left old new (Err (Stops.Bad bad)) =
     (lines : List (List ℕ)) × (line : List ℕ) × (end : LineEnd) × Goes said input left (lines ++ line ∷ []) [] end (Some bad)
     × EndsSo left line end × Appends old new (said (lines ++ line ∷ [])).0
--- up to a line that finds no memory
+-- at a line for which memory allocation failed
 Talks said input left old new (Err Stops.OutOfMemory) =
     (lines : List (List ℕ)) × (rest : List ℕ) × Goes said input left lines rest Feed None × Appends old new (said lines).0
--- up to a line that could not be read whole
+-- at a line that could not be read to its end
 Talks said input left old new (Err Stops.ReadFailed) =
     (lines : List (List ℕ)) × (rest : List ℕ) × Goes said input left lines rest Feed None × IsLine rest × Appends old new (said lines).0
--- up to a line whose answer could not be written
+-- at a line whose answer could not be written
 Talks said input left old new (Err Stops.WriteFailed) =
     (lines : List (List ℕ)) × (line : List ℕ) × (end : LineEnd) × (count : ℕ) × Goes said input left (lines ++ line ∷ []) [] end None
     × EndsSo left line end × Appends old new (take count (said (lines ++ line ∷ [])).0)
@@ -124,20 +124,20 @@ IsHeld = Talks session_of
 
 -- ---- the program
 
--- the last text, by why the session ended
+-- the last text of a session, by why it ended
 abbrev pub Closes : Stop → Option (List ℕ) → Option (List ℕ) → Status → Type 0
 Closes (Stops.Bad bad) old new status = Told old new Malformed (bad_text bad) status ⊎ Told old new OutOfMemory (codes "no memory\n") status
 Closes Stops.OutOfMemory old new status = Told old new OutOfMemory (codes "no memory\n") status
 Closes Stops.ReadFailed old new status = Told old new ReadFailed (codes "read failed\n") status
 Closes Stops.WriteFailed old new status = (status ≡ WriteFailed) × Appends old new []
 
--- What a run of the program does. `input` is what the reader has, `left` what it has afterwards, `old` what the writer
--- holds and `new` what it holds afterwards, where these are known.
+-- What a run of the program does. `input` is the content of the reader before, `left` after; `old` is the content of
+-- the writer before, `new` after, where these are known.
 abbrev pub Runs : Option (List ℕ) → Option (List ℕ) → Option (List ℕ) → Option (List ℕ) → Status → Type 0
 Runs input left old new status =
     ((status ≡ Answered) × IsHeld input left old new (Ok tt))
     ⊎ ((stop : Stop) × (answers : Option (List ℕ)) × IsHeld input left old answers (Err stop) × Closes stop answers new status)
 
--- a run that ends with this exit status, and does what goes with it
+-- a run with this exit status, and its effects
 abbrev pub Exits : Option (List ℕ) → Option (List ℕ) → Option (List ℕ) → Option (List ℕ) → ℕ → Type 0
 Exits input left old new code = (status : Status) × (code ≡ code_of status) × Runs input left old new status

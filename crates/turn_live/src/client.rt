@@ -1,4 +1,4 @@
-//! The client that a head names.
+//! The client of a head.
 
 ghost use Rattle.std.specs.Prelude.{◌≡◌, IfOk};
 ghost use Rattle.turn_client_proto.specs.Client.{state_of};
@@ -11,7 +11,7 @@ use turn_lines::configuration::configuration;
 use turn_lines::head::Head;
 use turn_types::TransportType;
 
-/// A new client, as the head names it.
+/// A new client, as the head describes it.
 pub fn new_client(alloc: Global, head: Head) -> Result<TurnClient, AllocError>
     requires allocation { head.ends.transport ≡ TransportType.Udp → head.request.allocation ≡ TransportType.Udp }
     ensures { IfOk result (λ client. state_of client ≡ client_of head) }
@@ -24,7 +24,7 @@ pub fn new_client(alloc: Global, head: Head) -> Result<TurnClient, AllocError>
         waits,
     } = head;
     let config = configuration(alloc, request, credentials, waits);
-    // After no calls the client of a run is a new one.
+    // The state of a run without calls is that of a new client.
     let replayed = replay(
         alloc,
         ends.transport,

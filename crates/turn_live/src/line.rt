@@ -1,4 +1,4 @@
-//! One line, off a reader.
+//! One line, from a reader.
 
 ghost use Rattle.turn_live.specs.Line.{TakesByte, TakesLine};
 
@@ -6,37 +6,37 @@ use crate::stop::Stop;
 use std::alloc::Global;
 use std::io::{ErrorKind, Read};
 
-/// The most bytes that a line may have, besides its LF: as many as a whole trace.
+/// The maximum length of a line in bytes, without its LF: that of a whole trace.
 pub const MAX_LINE: usize = 1_048_576;
 
 /// What ended a line.
 #[derive(Clone, Copy, Debug, PartialEq, Eq)]
 pub enum LineEnd {
-    /// Its LF.
+    /// The LF.
     Feed,
     /// The end of the input.
     Input,
-    /// Its size: it has a byte more than a line may have.
+    /// The limit: it has a byte more than a line may have.
     Size,
 }
 
-/// What one read gave.
+/// The result of one read.
 #[derive(Clone, Copy, Debug, PartialEq, Eq)]
 enum Taken {
     /// This byte.
     Byte(u8),
-    /// Nothing, since it was interrupted.
+    /// Nothing, as the read was interrupted.
     Nothing,
     /// The end of the input.
     End,
 }
 
-/// Takes the next line, and gives it without its LF. It reads nothing behind that.
+/// Takes the next line and returns it without its LF. It reads nothing after that.
 ///
 /// # Errors
 ///
-/// `ReadFailed` where the reader fails, other than by an interruption, which is tried again.
-/// `OutOfMemory` where there is no memory for the line.
+/// `ReadFailed` if the reader fails, except by an interruption, after which it reads again. `OutOfMemory` if memory
+/// allocation for the line failed.
 pub fn take_line<R: Read>(alloc: Global, reader: &mut R) -> Result<(Vec<u8>, LineEnd), Stop>
     ensures { TakesLine (R.remaining reader.old) (R.remaining reader.new) result }
 {

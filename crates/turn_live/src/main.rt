@@ -1,19 +1,19 @@
-//! Runs a client by calls that come line by line, and answers each at once.
+//! Runs a client by calls that arrive line by line, and answers each at once.
 //!
 //! ```text
 //!  a caller in any language, ---- a line a call -------> run: a client,
 //!  with sockets and a clock  <--- its answer, at once -- which has neither
 //! ```
 //!
-//! The lines come on standard input, and the answers go to standard output: a line that names a client and
-//! its server, and then a line for each call, as `turn_replay` reads them. From the crate's folder
+//! The lines come on standard input, and the answers go to standard output: a line that describes a client and its
+//! server, and then a line for each call, in the format of `turn_replay`. From the crate's folder
 //!
 //! ```text
 //! rt run < stdin
 //! ```
 //!
-//! proves and builds the program, and hands it the lines of its file `stdin`; `examples/turn.py` is a caller. Begin with
-//! [`run`].
+//! proves and builds the program, and runs it on the lines of its file `stdin`; `examples/turn.py` is a caller. Begin
+//! with [`run`].
 #![tactic(auto)]
 
 mod client;

@@ -12,17 +12,17 @@ use std::process::ExitCode;
 use turn_lines::print::bad_text;
 use turn_lines::status::Status;
 
-/// Answers lines as [`run`] does. The exit status tells how that ended: 0 with the end of the input, 2 by a bad line, 3
-/// without memory, and 4 where reading or writing failed.
+/// Answers lines as [`run`] does. The exit status says how that ended: 0 at the end of the input, 2 at a bad line, 3
+/// if memory allocation failed, and 4 if reading or writing failed.
 pub fn exit_code<R: Read, W: Write>(alloc: Global, reader: &mut R, writer: &mut W) -> ExitCode
     ensures { Exits (R.remaining reader.old) (R.remaining reader.new) (W.contents writer.old) (W.contents writer.new) (exit_status result) }
 {
     ExitCode::from(run(alloc, reader, writer).code())
 }
 
-/// Reads the line that names a client, and then its calls. The answer to each call is written, and the writer flushed,
-/// before the next line is read. A bad line ends it with the one line that says so, want of memory with `no memory`, and
-/// a reader that fails with `read failed`. It writes nothing else.
+/// Reads the line that describes a client, and then its calls. The answer to each call is written, and the writer
+/// flushed, before the next line is read. A bad line ends the session with the one line that reports it, a failed
+/// memory allocation with `no memory`, and a reader that fails with `read failed`. It writes nothing else.
 pub fn run<R: Read, W: Write>(alloc: Global, reader: &mut R, writer: &mut W) -> Status
     ensures { Runs (R.remaining reader.old) (R.remaining reader.new) (W.contents writer.old) (W.contents writer.new) result }
 {
@@ -32,7 +32,7 @@ pub fn run<R: Read, W: Write>(alloc: Global, reader: &mut R, writer: &mut W) -> 
     }
 }
 
-/// Writes the last text of a session that was stopped.
+/// Writes the last text of a session that ended early.
 fn close<W: Write>(alloc: Global, stop: Stop, writer: &mut W) -> Status
     ensures { Closes stop (W.contents writer.old) (W.contents writer.new) result }
 {

@@ -1,4 +1,4 @@
-//! A session: a line that names a client, and then its calls, each answered before the next line is read.
+//! A session: a line that describes a client, and then its calls, each answered before the next line is read.
 
 ghost use Rattle.std.specs.Prelude.{◌≡◌};
 ghost use Rattle.turn_lines.specs.Fault.{bad_line};
@@ -20,12 +20,12 @@ use turn_lines::head::{Head, parse_head};
 use turn_lines::print::answers_text;
 use turn_types::TransportType;
 
-/// Reads lines to the end of the input, and answers each that is a call before it reads the next.
+/// Reads lines to the end of the input, and answers each call before it reads the next line.
 ///
 /// # Errors
 ///
-/// `Bad` with the first line that is bad, which is not answered, and after which nothing is read. `OutOfMemory`,
-/// `ReadFailed` and `WriteFailed` as they come.
+/// `Bad` for the first bad line, which is not answered and after which nothing is read; `OutOfMemory`, `ReadFailed`
+/// and `WriteFailed` when they occur.
 pub fn hold_session<R: Read, W: Write>(
     alloc: Global,
     reader: &mut R,
@@ -43,7 +43,7 @@ pub fn hold_session<R: Read, W: Write>(
     }
 }
 
-/// The client of the first line.
+/// Parses the head, from the first line.
 fn read_head(alloc: Global, line: &[u8]) -> Result<Head, Stop>
     ensures { ReadsHead line.now result }
 {
@@ -57,7 +57,7 @@ fn read_head(alloc: Global, line: &[u8]) -> Result<Head, Stop>
     }
 }
 
-/// Reads calls from the second line on, to the end of the input, and answers each before it reads the next.
+/// Reads calls from the second line to the end of the input, and answers each before it reads the next.
 fn answer_calls<C: TurnClientApi, R: Read, W: Write>(
     alloc: Global,
     client: C,
@@ -77,7 +77,7 @@ fn answer_calls<C: TurnClientApi, R: Read, W: Write>(
     Err(Stop::ReadFailed)
 }
 
-/// Reads one line, which has this number, and answers it: the answer is written, and the writer flushed. Tells whether
+/// Reads the line with this number, and answers it: the answer is written, and the writer flushed. Returns whether
 /// there may be more lines.
 ///
 /// # Errors
@@ -123,7 +123,7 @@ fn answer_line<C: TurnClientApi, W: Write>(
     write_text(writer, text.as_str())
 }
 
-/// The call of a line with this number.
+/// Parses the call of the line with this number.
 fn read_call(alloc: Global, relays: TransportType, number: usize, line: &[u8]) -> Result<Call, Stop>
     ensures { ReadsCall relays number line.now result }
 {
@@ -137,7 +137,7 @@ fn read_call(alloc: Global, relays: TransportType, number: usize, line: &[u8]) -
     }
 }
 
-/// The end of a session by a bad line.
+/// The error for a bad line, which ends a session.
 fn bad(number: usize, kind: BadKind) -> Stop
     ensures { result ≡ Stop.Bad (bad_line number kind) }
 {

@@ -8,7 +8,7 @@ use turn_lines::fault::BadLine;
 pub enum Stop {
     /// This line is bad.
     Bad(BadLine),
-    /// There is no memory for a line, for the client or for an answer.
+    /// Memory allocation failed, for a line, for the client or for an answer.
     OutOfMemory,
     /// The reader failed.
     ReadFailed,

@@ -1,4 +1,4 @@
-//! What no clause says: outside bytes and texts, and what comes of readers and writers that fail.
+//! What no clause says: external bytes and texts, and failing readers and writers.
 
 mod bad_lines;
 mod fixture;

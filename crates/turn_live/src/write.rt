@@ -1,4 +1,4 @@
-//! Text, to a writer.
+//! Writes text to a writer.
 
 ghost use Rattle.turn_live.specs.Session.{Told, Writes, WritesSome};
 
@@ -6,11 +6,11 @@ use crate::stop::Stop;
 use std::io::{ErrorKind, Write};
 use turn_lines::status::Status;
 
-/// Writes a text and flushes the writer. Where the writer fails, what was written is the beginning of the text.
+/// Writes a text and flushes the writer. If the writer fails, a prefix of the text was written.
 ///
 /// # Errors
 ///
-/// `WriteFailed` where the writer fails, other than by an interruption, which is tried again.
+/// `WriteFailed` if the writer fails, except by an interruption, after which it writes again.
 pub fn write_text<W: Write>(writer: &mut W, text: &str) -> Result<(), Stop>
     ensures { Writes (W.contents writer.old) (W.contents writer.new) text.now result }
 {
@@ -21,7 +21,7 @@ pub fn write_text<W: Write>(writer: &mut W, text: &str) -> Result<(), Stop>
     Ok(())
 }
 
-/// Writes all bytes, as often as it takes.
+/// Writes all bytes, by as many writes as necessary.
 fn write_bytes<W: Write>(writer: &mut W, bytes: &[u8]) -> Result<(), Stop>
     ensures { Writes (W.contents writer.old) (W.contents writer.new) bytes.now result }
 {
@@ -35,7 +35,7 @@ fn write_bytes<W: Write>(writer: &mut W, bytes: &[u8]) -> Result<(), Stop>
     Err(Stop::WriteFailed)
 }
 
-/// Writes once, and gives how many bytes were taken: none where it was interrupted.
+/// Writes once, and returns how many bytes were written: 0 if the write was interrupted.
 fn write_some<W: Write>(writer: &mut W, bytes: &[u8]) -> Result<usize, Stop>
     ensures { WritesSome (W.contents writer.old) (W.contents writer.new) bytes.now result }
 {
@@ -51,7 +51,7 @@ fn write_some<W: Write>(writer: &mut W, bytes: &[u8]) -> Result<usize, Stop>
     }
 }
 
-/// Writes the last text of a session, and gives the status that goes with it, or `WriteFailed` where the writer fails.
+/// Writes the last text of a session. Returns its status, or `WriteFailed` if the writer fails.
 pub fn tell<W: Write>(writer: &mut W, status: Status, text: &str) -> Status
     ensures { Told (W.contents writer.old) (W.contents writer.new) status text.now result }
 {

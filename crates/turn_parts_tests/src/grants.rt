@@ -1,4 +1,4 @@
-//! `turn_client_grants`: worked rows that are the table's alone, and random changes.
+//! `turn_client_grants`: worked rows of the table alone, and random changes.
 
 mod numbers;
 mod plain;

@@ -1,4 +1,4 @@
-//! Worked streams, and that each call succeeds while there is memory.
+//! Worked streams, and that each call succeeds if no memory allocation fails.
 
 ghost use Rattle.std.specs.Prelude.{◌<◌, length};
 
@@ -14,7 +14,7 @@ use turn_client_streams::{BufferedStream, Streams};
 use turn_stun::transport::TransportType;
 use turn_types::tcp::IncomingTcp;
 
-/// Three bytes over the channel of number 0x4000.
+/// Three bytes over the channel with number 0x4000.
 const CHANNEL_FRAME: [u8; 8] = [0x40, 0x00, 0x00, 0x03, 0x61, 0x62, 0x63, 0x00];
 
 /// A BINDING request without attributes.
@@ -27,7 +27,7 @@ fn end(port: u16) -> SocketAddr {
     SocketAddr::V4(SocketAddrV4::new(Ipv4Addr::new(192, 168, 0, 1), port))
 }
 
-/// The stream that has its turn.
+/// The stream that is ready.
 fn ready(streams: &mut Streams) -> Result<BufferedStream, Fail> {
     let Some(stream) = streams.take_ready() else {
         return Err(Fail::from("no stream is ready"));
@@ -35,7 +35,7 @@ fn ready(streams: &mut Streams) -> Result<BufferedStream, Fail> {
     Ok(stream)
 }
 
-/// A piece comes for the stream at this local end.
+/// Feeds a piece to the stream at this local address.
 fn feed(streams: &mut Streams, local: SocketAddr, piece: &[u8]) -> Result<(), AllocError> {
     if let Some(mut stream) = streams.take_at(local) {
         stream.feed(piece)?;
@@ -44,7 +44,8 @@ fn feed(streams: &mut Streams, local: SocketAddr, piece: &[u8]) -> Result<(), Al
     Ok(())
 }
 
-/// It is the turn of this stream, whose front is this frame, and which is put back without it.
+/// The stream that is ready is this one, its first frame is this one, and it is put back without
+/// it.
 fn passes(
     rt: &impl Abort,
     streams: &mut Streams,
@@ -134,7 +135,7 @@ fn a_client_over_udp_has_no_stream(rt: HostRuntime) -> Result<(), Fail> {
     Ok(())
 }
 
-/// Where the message in the piece ends.
+/// The end of the message in the piece.
 fn len_of(stream: &mut BufferedStream, piece: &[u8]) -> Result<usize, Fail>
     requires { 0 < length piece.now }
 {

@@ -1,17 +1,17 @@
--- Reading off a reader, one read after the other.
+-- Reads from a reader, in order.
 use Rattle.std.proofs.Common.{◌≡◌, ℕ, ◌<◌, ◌≤◌, Bool, List, ◌++◌, length, Option, Some, None, sym, ap, ◌∙◌, arith, append_assoc}
 use Rattle.std.proofs.lemmas.List.{append-nil, take_all, take-append-le}
 use Rattle.std.specs.Io.KnownBytes.{Consumes, IsAtEnd}
 use Rattle.turn_replay.specs.Answer.{IsRead, ReadsMore, taken}
 
--- what two reads took, one behind the other
+-- the bytes of two reads, joined
 Consumes-append : (old mid new : Option (List ℕ)) (a b : List ℕ) → Consumes old mid a → Consumes mid new b → Consumes old new (a ++ b)
 Consumes-append None mid new a b h k = tt
 Consumes-append (Some xs) None new a b h k = absurd h
 Consumes-append (Some xs) (Some ys) None a b h k = absurd k
 Consumes-append (Some xs) (Some ys) (Some zs) a b h k = h ∙ ap (λ rest. a ++ rest) k ∙ sym (append_assoc a b zs)
 
--- what is kept from read to read
+-- the invariant of the loop of reads
 abbrev pub Kept : Option (List ℕ) → Option (List ℕ) → List ℕ → Type 0
 Kept old new bytes = Consumes old new bytes × (length bytes ≤ 1048577)
 
@@ -28,7 +28,7 @@ read_when_full (Some xs) (Some ys) bytes k full =
     let all : bytes ≡ taken xs = sym (ap taken k.0 ∙ take-append-le 1048577 bytes ys (omega arith) ∙ take_all 1048577 bytes few) in
     record { all = all; consumed = k.0 }
 
--- there is no more
+-- the end of the input is reached
 pub read_at_end : (old new : Option (List ℕ)) (bytes : List ℕ) → Kept old new bytes → IsAtEnd new → IsRead old new bytes
 read_at_end None new bytes k end = record { all = tt; consumed = tt }
 read_at_end (Some xs) None bytes k end = absurd k.0

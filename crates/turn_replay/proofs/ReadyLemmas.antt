@@ -1,4 +1,4 @@
--- Each call of a trace can be made on the client of its head, and that client can be made.
+-- Each call of a trace is allowed on the client of its head, and that client can be made.
 use Rattle.std.proofs.Common.{◌≡◌, ℕ, zero, suc, ◌+◌, List, [], ◌∷◌, length, Result, Ok, Err, subst, ap, arith}
 use Rattle.std.specs.Prelude.{All, nat_lt}
 use Rattle.turn_stun.specs.declared.transport.TransportType.{TransportType}
@@ -55,7 +55,7 @@ made_lines (line ∷ lines) first h =
 
 -- ---- a trace
 
--- the client is made, and the calls can be made on it
+-- the client can be made, and the calls are allowed on it
 abbrev IsReady : Head × List Call → Type 0
 IsReady trace = IsMade trace.0 × AreCallable trace.0.request.allocation trace.1
 

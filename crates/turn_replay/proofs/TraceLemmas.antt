@@ -1,4 +1,4 @@
--- The calls of a trace, one line after the other.
+-- The calls of a trace, line by line.
 use Rattle.std.proofs.Common.{◌≡◌, ℕ, ◌+◌, List, [], ◌∷◌, ◌++◌, Result, Ok, Err, Vec, Global, refl, sym, ap, ◌∙◌, append_assoc}
 use Rattle.std.proofs.lemmas.List.{append-nil}
 use Rattle.turn_stun.specs.declared.transport.TransportType.{TransportType}
@@ -9,7 +9,7 @@ use Rattle.turn_lines.specs.declared.fault.ReadError.TheVariants.{Bad, OutOfMemo
 use Rattle.turn_replay.specs.Trace.{calls_of, numbered_call_of}
 use Rattle.turn_lines.specs.declared.fault.BadLine.{BadLine}
 
--- these calls, and then those that are read
+-- these calls, and then the parsed ones
 abbrev pub with_front : List Call → Result (List Call) BadLine → Result (List Call) BadLine
 with_front front reading = reading >>= λ calls. Ok (front ++ calls)
 
@@ -26,7 +26,7 @@ pub with_front-call : (relays : TransportType) (front : List Call) (number : ℕ
 unfolding calls_of
 with_front-call relays front number line lines call e = rw e (moved front call (calls_of relays (number + 1) lines))
 
--- a line that is none
+-- a bad line
 pub with_front-bad : (relays : TransportType) (front : List Call) (number : ℕ) (line : List ℕ) (lines : List (List ℕ)) (bad : BadLine) → numbered_call_of relays number line ≡ Err bad → with_front front (calls_of relays number (line ∷ lines)) ≡ Err bad
 unfolding calls_of
 with_front-bad relays front number line lines bad e = rw e refl
@@ -36,7 +36,7 @@ pub with_front-end : (relays : TransportType) (front : List Call) (number : ℕ)
 unfolding calls_of
 with_front-end relays front number = ap Ok (append-nil front)
 
--- the loop over the lines, by what it keeps: it goes on behind a call, stops at a bad line, and ends
+-- the invariant of the loop over the lines: it continues after a call, stops at a bad line, and ends
 pub goes_on : (relays : TransportType) (front after : List Call) (number next : ℕ) (lines : List (List ℕ)) (line : List ℕ) (rest : List (List ℕ)) (call : Call) (whole : Result (List Call) BadLine) → lines ≡ line ∷ rest → after ≡ front ++ call ∷ [] → next ≡ number + 1 → numbered_call_of relays number line ≡ Ok call → with_front front (calls_of relays number lines) ≡ whole → with_front after (calls_of relays next rest) ≡ whole
 goes_on relays front after number next lines line rest call whole l a n e kept =
     rw (a, n) (with_front-call relays front number line rest call e ∙ (rw l at kept))

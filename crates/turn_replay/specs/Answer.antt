@@ -11,16 +11,16 @@ use Rattle.turn_lines.specs.declared.head.Head.{Head}
 use Rattle.turn_lines.specs.declared.status.Status.{Status}
 use Rattle.turn_lines.specs.declared.status.Status.TheVariants.{Answered, Malformed, OutOfMemory, ReadFailed, WriteFailed}
 
--- all of the input, or of a longer one a byte more than a trace may have
+-- the whole input, or, of a longer input, one byte more than a trace may have
 abbrev pub taken : List ℕ → List ℕ
 taken input = take 1048577 input
 
--- these bytes were read off a reader, and no more
+-- these bytes were read from a reader, and no more
 pub record IsRead (old new : Option (List ℕ)) (bytes : List ℕ) : Type 0 where
   pub all : IfSome old (λ input. bytes ≡ taken input)
   pub consumed : Consumes old new bytes
 
--- a read added some bytes; where it does not go on, there are no more
+-- a read appended some bytes; if it does not continue, no bytes are left
 pub record ReadsMore (old new : Option (List ℕ)) (before after : List ℕ) (goes_on : Bool) : Type 0 where
   pub more : List ℕ
   pub appended : after ≡ before ++ more
@@ -28,7 +28,7 @@ pub record ReadsMore (old new : Option (List ℕ)) (before after : List ℕ) (go
   pub few : length after ≤ 1048577
   pub end : goes_on ≡ false → IsAtEnd new
 
--- ---- what is written
+-- ---- the output
 
 -- the status and the text for a trace: a line for each call, or the one line for its first bad line
 abbrev pub answer_of : Result (Head × List Call) BadLine → Status × List ℕ
@@ -38,19 +38,19 @@ answer_of (Err bad) = (Malformed, bad_text bad)
 abbrev pub answer_to : List ℕ → Status × List ℕ
 answer_to trace = answer_of (trace_of trace)
 
--- a writer was told this text alone and the answer is that status, or the writer failed
+-- this text alone was written and the result is that status, or the writer failed
 abbrev pub Told : Option (List ℕ) → Option (List ℕ) → Status → List ℕ → Status → Type 0
 Told old new status text result = (result ≡ WriteFailed) ⊎ ((result ≡ status) × Appends old new text)
 
--- what was read of an input was answered, and nothing else was written
+-- the bytes read were answered, and nothing else was written
 abbrev pub Answers : Option (List ℕ) → Option (List ℕ) → Option (List ℕ) → Option (List ℕ) → Status → Type 0
 Answers input left old new status = IfSome input (λ bytes.
     Consumes input left (taken bytes)
     × (status ≡ (answer_to (taken bytes)).0)
     × Appends old new (answer_to (taken bytes)).1)
 
--- What a run of the program does, by how it ends. `input` is what the reader has, `left` what it has
--- afterwards, `old` what the writer holds and `new` what it holds afterwards, where these are known.
+-- What a run of the program does, by how it ends. `input` is the content of the reader before, `left` after; `old`
+-- is the content of the writer before, `new` after, where these are known.
 abbrev pub Runs : Option (List ℕ) → Option (List ℕ) → Option (List ℕ) → Option (List ℕ) → Status → Type 0
 Runs input left old new Answered = Answers input left old new Answered
 Runs input left old new Malformed = Answers input left old new Malformed
@@ -58,6 +58,6 @@ Runs input left old new OutOfMemory = Appends old new (codes "no memory\n")
 Runs input left old new ReadFailed = Appends old new (codes "read failed\n")
 Runs input left old new WriteFailed = ⊤
 
--- a run that ends with this exit status, and does what goes with it
+-- a run with this exit status, and its effects
 abbrev pub Exits : Option (List ℕ) → Option (List ℕ) → Option (List ℕ) → Option (List ℕ) → ℕ → Type 0
 Exits input left old new code = (status : Status) × (code ≡ code_of status) × Runs input left old new status

@@ -1,4 +1,4 @@
-//! What a trace is answered.
+//! The answer to a trace.
 
 ghost use Rattle.std.specs.Prelude.{◌≡◌, All, IfOk, string_bytes};
 ghost use Rattle.turn_client_proto.specs.Run.{IsCallable};
@@ -15,12 +15,12 @@ use turn_lines::print::{answers_text, bad_text};
 use turn_lines::status::Status;
 use turn_types::TransportType;
 
-/// The text that answers a trace: a line for each call of it, or the one line that says which line
-/// of it is bad. The whole trace is read before a client runs.
+/// The text that answers a trace: a line for each call of it, or the one line that reports its first bad line. The
+/// whole trace is parsed before a client runs.
 ///
 /// # Errors
 ///
-/// There is no memory for the trace, for the client or for the text.
+/// Memory allocation failed, for the trace, for the client or for the text.
 pub fn answer(alloc: Global, text: &[u8]) -> Result<(Status, String), AllocError>
     ensures { IfOk result (λ answer. (answer.0, string_bytes answer.1) ≡ answer_to text.now) }
 {

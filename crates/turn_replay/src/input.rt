@@ -8,12 +8,12 @@ use crate::trace::MAX_TRACE;
 use std::alloc::{AllocError, Global};
 use std::io::{ErrorKind, Read};
 
-/// Why an input was not read.
+/// Why an input could not be read.
 #[derive(Clone, Copy, Debug, PartialEq, Eq)]
 pub enum InputError {
     /// The reader failed.
     ReadFailed,
-    /// There is no memory for what was read.
+    /// Memory allocation for the bytes failed.
     OutOfMemory,
 }
 
@@ -32,8 +32,8 @@ impl From<AllocError> for InputError {
 ///
 /// # Errors
 ///
-/// `ReadFailed` where the reader fails, other than by an interruption, which is tried again.
-/// `OutOfMemory` where there is no memory for the bytes.
+/// `ReadFailed` if the reader fails, except by an interruption, after which it reads again. `OutOfMemory` if memory
+/// allocation for the bytes failed.
 pub fn read_input<R: Read>(alloc: Global, reader: &mut R) -> Result<Vec<u8>, InputError>
     ensures { IfOk result (λ input. IsRead (R.remaining reader.old) (R.remaining reader.new) input.items) }
 {
@@ -49,7 +49,7 @@ pub fn read_input<R: Read>(alloc: Global, reader: &mut R) -> Result<Vec<u8>, Inp
     Err(InputError::ReadFailed)
 }
 
-/// Reads once, and tells whether the end was not yet reached.
+/// Reads once. Returns `false` if the end was reached.
 fn read_more<R: Read>(reader: &mut R, input: &mut Vec<u8>) -> Result<bool, InputError>
     requires { vec_len input.old ≤ 1048576 }
     ensures { IfOk result (λ goes_on. ReadsMore (R.remaining reader.old) (R.remaining reader.new) input.old.items input.new.items goes_on) }

@@ -1,10 +1,10 @@
-//! Runs a client by the calls of a trace, and prints what each of them answered.
+//! Runs a client by the calls of a trace, and prints the answer of each call.
 //!
 //! ```text
 //!  standard input: a head, and a line a call --run--> standard output: a line an answer
 //! ```
 //!
-//! The head names a client and its server; `docs/PROTOCOL.md` has the format. From the crate's folder
+//! The head describes a client and its server; `docs/LINES.md` has the format. From the crate's folder
 //!
 //! ```text
 //! rt try < stdin

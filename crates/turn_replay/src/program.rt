@@ -1,4 +1,4 @@
-//! The program: a trace in, its answers out.
+//! The program: a trace in, the answers out.
 
 ghost use Rattle.std.specs.Prelude.{◌≡◌, ◌⊎◌};
 ghost use Rattle.std.specs.Io.KnownBytes.{Appends};
@@ -12,21 +12,20 @@ use std::io::{Read, Write};
 use std::process::ExitCode;
 use turn_lines::status::Status;
 
-/// Reads a trace, and writes its answers, as [`run`] does. The exit status tells what was written:
-/// 0 the answers to the calls, 2 which line of the trace is bad, 3 that there was no memory, and 4
-/// that the trace could not be read, or not all that there was to write.
+/// Reads a trace and writes its answers, as [`run`] does. The exit status says what was written: 0 the answers to
+/// the calls, 2 which line of the trace is bad, 3 that memory allocation failed, and 4 that the trace could not be
+/// read, or not everything, as writing failed.
 pub fn exit_code<R: Read, W: Write>(alloc: Global, reader: &mut R, writer: &mut W) -> ExitCode
     ensures { Exits (R.remaining reader.old) (R.remaining reader.new) (W.contents writer.old) (W.contents writer.new) (exit_status result) }
 {
     ExitCode::from(run(alloc, reader, writer).code())
 }
 
-/// Reads a trace, and writes its answers: a line for each call, or the one line that says which line
-/// of the trace is bad. Without memory that is the one line `no memory`, and where the trace could
-/// not be read `read failed`. It writes nothing else.
+/// Reads a trace and writes its answers: a line for each call, or the one line that reports the first bad line of
+/// the trace. If memory allocation fails that is the one line `no memory`, and if the trace could not be read `read
+/// failed`. It writes nothing else.
 ///
-/// The whole trace is read and found to be good before a client runs, and the whole text is made
-/// before a byte of it is written.
+/// The whole trace is parsed before a client runs, and the whole text is made before a byte of it is written.
 pub fn run<R: Read, W: Write>(alloc: Global, reader: &mut R, writer: &mut W) -> Status
     ensures { Runs (R.remaining reader.old) (R.remaining reader.new) (W.contents writer.old) (W.contents writer.new) result }
 {
@@ -40,7 +39,7 @@ pub fn run<R: Read, W: Write>(alloc: Global, reader: &mut R, writer: &mut W) -> 
     }
 }
 
-/// Writes a text, and gives the status that goes with it, or `WriteFailed` where it is not written.
+/// Writes a text. Returns its status, or `WriteFailed` if it could not be written.
 fn tell<W: Write>(writer: &mut W, status: Status, text: &str) -> Status
     ensures { Told (W.contents writer.old) (W.contents writer.new) status text.now result }
 {

@@ -1,4 +1,4 @@
-//! A caller with a clock of its own: it polls, sends what is due, hands in what comes, and sleeps until it is told.
+//! A caller with its own clock: it polls, sends due packets, passes input in, and sleeps until the wake-up time.
 
 use crate::fixture::{at, local, server};
 use crate::server::{Rule, Server};
@@ -7,42 +7,42 @@ use turn_client_api::{TurnClientApi, TurnEvent, TurnPollRet, TurnRecvRet};
 use turn_stun::data::Data;
 use turn_stun::transport::Transmit;
 
-/// How many milliseconds a request is on its way with its answer.
+/// The time from a request to its response, in milliseconds.
 const DELAY: u32 = 20;
 
-/// More than a client ever sends or tells at once here.
+/// More than a client ever sends or reports at once here.
 const MANY: u32 = 16_384;
 
-/// A caller's clock, and what is on its way to it.
+/// A caller's clock, and the packets on their way to it.
 #[derive(Drop)]
 pub(crate) struct Caller {
     pub(crate) server: Server,
     /// Milliseconds since the start.
     now: u32,
-    /// What the server answered, with the moments at which it comes.
+    /// The server's responses, each with its time of arrival.
     coming: Vec<(u32, Vec<u8>)>,
-    /// How much of that came.
+    /// How many of these have arrived.
     came: usize,
-    /// What the client told, with the moments at which it did.
+    /// The client's events, each with the time at which it was reported.
     told: Vec<(u32, TurnEvent)>,
-    /// How much of that was looked at.
+    /// How many of these have been read.
     seen: usize,
     /// How many packets the client sent.
     pub(crate) sent: u32,
-    /// How many answers the client had no use for.
+    /// How many responses the client ignored.
     pub(crate) ignored: u32,
-    /// How often the caller woke when it was told, and nothing was to be done.
+    /// How often the caller woke up at the wake-up time without anything due.
     pub(crate) idle: u32,
     /// Whether the client has ended.
     pub(crate) has_ended: bool,
 }
 
-/// What a turn of the caller came to.
+/// The result of one iteration of the caller's loop.
 #[derive(Clone, Copy)]
 struct Turn {
-    /// Whether something was sent, came in, or was told.
+    /// Whether there was a packet, an input or an event.
     has_done: bool,
-    /// Milliseconds until which nothing is to be done.
+    /// The time until which nothing is due, in milliseconds.
     until: u32,
 }
 
@@ -62,14 +62,14 @@ impl Caller {
         }
     }
 
-    /// What the client told next, if it told anything by now, with its moment.
+    /// The next event that the client has reported by now, with its time, if there is one.
     pub(crate) fn next_event(&mut self) -> Option<(u32, TurnEvent)> {
         let event = *self.told.as_slice().get(self.seen)?;
         self.seen = self.seen.saturating_add(1);
         Some(event)
     }
 
-    /// The last answer of the server.
+    /// The last response of the server.
     pub(crate) fn last_answer(&self) -> &[u8] {
         match self.coming.as_slice().last() {
             Some((_, bytes)) => bytes.as_slice(),
@@ -77,7 +77,7 @@ impl Caller {
         }
     }
 
-    /// Does all that is to be done up to this moment, and sleeps in between.
+    /// Runs the loop up to this time, and sleeps between its iterations.
     pub(crate) fn wait<C: TurnClientApi>(
         &mut self,
         client: &mut C,
@@ -104,7 +104,7 @@ impl Caller {
         Ok(())
     }
 
-    /// Does what is to be done now.
+    /// Runs one iteration of the loop, at the current time.
     fn turn<C: TurnClientApi>(
         &mut self,
         client: &mut C,
@@ -124,11 +124,11 @@ impl Caller {
         })
     }
 
-    /// The moment until which the client lets its caller sleep.
+    /// The wake-up time that the client returns.
     fn poll<C: TurnClientApi>(&mut self, client: &mut C) -> Result<u32, AllocError> {
         match client.poll(at(self.now))? {
             TurnPollRet::WaitUntil(moment) => {
-                // A caller with a clock of milliseconds wakes at the next of them.
+                // A caller with a clock of milliseconds rounds up.
                 let millis = moment.as_nanos().div_ceil(1_000_000);
                 Ok(u32::try_from(millis).unwrap_or(u32::MAX))
             }
@@ -139,7 +139,7 @@ impl Caller {
         }
     }
 
-    /// Hands in what has come, and answers whether something has.
+    /// Passes in the packets that have arrived, and returns whether there were any.
     fn hand_in<C: TurnClientApi>(&mut self, client: &mut C) -> Result<bool, AllocError> {
         let first = self.came;
         for (comes, bytes) in self.coming.as_slice().iter().skip(first) {
@@ -155,7 +155,7 @@ impl Caller {
         Ok(self.came > first)
     }
 
-    /// Sends what is due, and answers whether something was.
+    /// Sends the due packets, and returns whether there were any.
     fn send<C: TurnClientApi>(
         &mut self,
         client: &mut C,
@@ -171,7 +171,7 @@ impl Caller {
         Ok(self.sent > before)
     }
 
-    /// Takes a packet to the server, whose answer is on its way then.
+    /// Takes a packet to the server, whose response is then on its way.
     fn carry(&mut self, packet: &Transmit<Data>, rules: &[Rule<'_>]) -> Result<(), AllocError> {
         self.sent = self.sent.saturating_add(1);
         match self.server.answer(rules, packet.payload.as_bytes())? {
@@ -181,7 +181,7 @@ impl Caller {
         Ok(())
     }
 
-    /// Draws what the client tells, and answers whether it told something.
+    /// Reads the client's events, and returns whether there were any.
     fn draw_events<C: TurnClientApi>(&mut self, client: &mut C) -> Result<bool, AllocError> {
         let before = self.told.len();
         for _ in 0..MANY {

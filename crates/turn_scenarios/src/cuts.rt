@@ -1,4 +1,4 @@
-//! Streams that come in pieces of any length give what they give as a whole (RFC 8656, section 12.5; RFC 6062, section
+//! Streams in pieces of any length have the same payloads as in one piece (RFC 8656, section 12.5; RFC 6062, section
 //! 4.5).
 
 use crate::caller::Caller;
@@ -14,8 +14,8 @@ use turn_client_api::{Socket5Tuple, TurnClientApi, TurnEvent, TurnPollRet, TurnR
 use turn_client_proto::tcp::TurnClientTcp;
 use turn_stun::transport::{Transmit, TransportType};
 
-/// `hello` over channel 4000, `to` of 10.0.0.3:9001, nothing over channel 4000, a byte over a channel that is not bound, a
-/// message of another method, `ff00` of 10.0.0.3:9002, and `you` over channel 4000.
+/// `hello` over channel 4000, `to` of 10.0.0.3:9001, nothing over channel 4000, a byte over a channel that is not
+/// bound, a message of another method, `ff00` of 10.0.0.3:9002, and `you` over channel 4000.
 const FRAMES: &[u8] = &[
     0x40, 0x00, 0x00, 0x05, 0x68, 0x65, 0x6c, 0x6c, 0x6f, 0x00, 0x00, 0x00, 0x00, 0x17, 0x00, 0x14,
     0x21, 0x12, 0xa4, 0x42, 0x00, 0x00, 0x00, 0x00, 0x00, 0x00, 0x00, 0x00, 0x00, 0x00, 0x00, 0x01,
@@ -28,32 +28,32 @@ const FRAMES: &[u8] = &[
     0x79, 0x6f, 0x75, 0x00,
 ];
 
-/// What comes of them: the last byte of each peer's port, the length of its data, and the data.
+/// Their payloads: the last byte of each peer's port, the length of its data, and the data.
 const OVER_UDP: &[u8] = &[
     0x28, 5, b'h', b'e', b'l', b'l', b'o', 0x29, 2, b't', b'o', 0x28, 0, 0x2a, 2, 0xff, 0x00, 0x28,
     3, b'y', b'o', b'u',
 ];
 
-/// The same where no channel is bound.
+/// The same if no channel is bound.
 const OVER_TCP: &[u8] = &[0x29, 2, b't', b'o', 0x2a, 2, 0xff, 0x00];
 
 /// Bytes of a peer, some of which could begin a frame, and some not.
 const BYTES: &[u8] = b"\x00\x17\x00\x04\x40\x00\x00\x02hello\x80\xff\x00\xc0over a connection\x40";
 
-/// 10.0.0.3:9000 connected, under the number 9 (RFC 6062, section 4.4).
+/// A report that 10.0.0.3:9000 connected, with the number 9 (RFC 6062, section 4.4).
 const OFFER: &[u8] = &[
     0x00, 0x1c, 0x00, 0x14, 0x21, 0x12, 0xa4, 0x42, 0x00, 0x00, 0x00, 0x00, 0x00, 0x00, 0x00, 0x00,
     0x00, 0x00, 0x00, 0x04, 0x00, 0x2a, 0x00, 0x04, 0x00, 0x00, 0x00, 0x09, 0x00, 0x12, 0x00, 0x08,
     0x00, 0x01, 0x02, 0x3a, 0x2b, 0x12, 0xa4, 0x41,
 ];
 
-/// How often streams are drawn, but for the first two runs.
+/// The number of random runs, without the first two.
 const SEEDS: u32 = 200;
 
-/// More than streams here give.
+/// More than the payloads of a stream here.
 const MANY: usize = 1_024;
 
-/// How long the pieces are.
+/// The lengths of the pieces.
 #[derive(Clone, Copy)]
 enum Cut {
     Whole,
@@ -63,7 +63,7 @@ enum Cut {
 }
 
 impl Cut {
-    /// All at once, then byte by byte, and then drawn.
+    /// All at once, then byte by byte, and then random lengths.
     fn of(seed: u32) -> Cut {
         match seed {
             0 => Cut::Whole,
@@ -81,7 +81,7 @@ impl Cut {
     }
 }
 
-/// Numbers that are drawn one after the other, by a linear congruence.
+/// Pseudo-random numbers, from a linear congruential generator.
 #[derive(Drop)]
 struct Draws {
     state: u64,
@@ -101,7 +101,7 @@ impl Draws {
     }
 }
 
-/// What is still to come of the control stream and of a data connection.
+/// The bytes not yet received of the control stream and of a data connection.
 #[derive(Drop)]
 struct Streams<'a> {
     control: &'a [u8],
@@ -109,7 +109,7 @@ struct Streams<'a> {
 }
 
 impl<'a> Streams<'a> {
-    /// The next piece, and the end to which it comes.
+    /// The next piece, and the local end that receives it.
     fn next(&mut self, cut: Cut, draws: &mut Draws) -> Option<(SocketAddr, &'a [u8])> {
         let len = cut.len(draws.draw());
         let is_control = draws.draw() % 2 == 0;
@@ -129,12 +129,12 @@ impl<'a> Streams<'a> {
     }
 }
 
-/// What came of streams.
+/// The payloads of streams.
 #[derive(Drop)]
 struct Heard {
-    /// What came in frames: the last byte of each peer's port, the length of its data, and the data.
+    /// The payloads in frames: the last byte of each peer's port, the length of its data, and the data.
     frames: Vec<u8>,
-    /// What came over the data connection.
+    /// The bytes from the data connection.
     bytes: Vec<u8>,
 }
 
@@ -146,7 +146,7 @@ impl Heard {
         }
     }
 
-    /// Notes data of this peer.
+    /// Records data of this peer.
     fn note(
         &mut self,
         transport: TransportType,
@@ -167,7 +167,7 @@ impl Heard {
     }
 }
 
-/// Hands a piece in.
+/// Passes a piece in.
 fn hear<C: TurnClientApi>(
     client: &mut C,
     to: SocketAddr,
@@ -182,7 +182,7 @@ fn hear<C: TurnClientApi>(
     }
 }
 
-/// Takes all that the streams hold.
+/// Reads all payloads that are buffered.
 fn drain<C: TurnClientApi>(client: &mut C, now: u32, heard: &mut Heard) -> Result<(), AllocError> {
     for _ in 0..MANY {
         match client.poll_recv(at(now))? {
@@ -193,7 +193,7 @@ fn drain<C: TurnClientApi>(client: &mut C, now: u32, heard: &mut Heard) -> Resul
     Ok(())
 }
 
-/// What comes of these streams where they are cut and drained as the seed says.
+/// The payloads of these streams if they are cut and read as the seed says.
 fn heard_of<C: TurnClientApi>(
     client: &mut C,
     alloc: Global,
@@ -216,7 +216,7 @@ fn heard_of<C: TurnClientApi>(
     Ok(heard)
 }
 
-/// A client with a channel to 10.0.0.3:9000, of the number 4000.
+/// A client with a channel to 10.0.0.3:9000, with the number 4000.
 fn client_with_channel(alloc: Global) -> Result<TurnClientTcp, Fail> {
     let mut client = client_over_tcp(alloc, IPV4)?;
     let mut caller = Caller::new(alloc);
@@ -226,7 +226,7 @@ fn client_with_channel(alloc: Global) -> Result<TurnClientTcp, Fail> {
     Ok(client)
 }
 
-/// Whether the frames give their payloads.
+/// Whether the frames have the expected payloads.
 fn frames_are_heard<C: TurnClientApi>(
     client: &mut C,
     alloc: Global,
@@ -250,7 +250,7 @@ fn frames_come_in_any_pieces(rt: HostRuntime) -> Result<(), Fail> {
     Ok(())
 }
 
-/// A client with a permission for 10.0.0.3, whose peers connect.
+/// A client with a permission for 10.0.0.3, for TCP connections with peers.
 fn client_with_permission(alloc: Global) -> Result<TurnClientTcp, Fail> {
     let mut client = client_with_connections(alloc)?;
     let mut caller = Caller::new(alloc);
@@ -260,7 +260,8 @@ fn client_with_permission(alloc: Global) -> Result<TurnClientTcp, Fail> {
     Ok(client)
 }
 
-/// Opens the connection that is offered, and gives what it carries then: the response that binds it, and the bytes.
+/// Opens the offered data connection, and returns the bytes that it carries: the response that binds it, and the
+/// data.
 fn opened<C: TurnClientApi>(client: &mut C, alloc: Global, now: u32) -> Result<Vec<u8>, Fail> {
     let control = Socket5Tuple {
         transport: TransportType::Tcp,
@@ -283,7 +284,7 @@ fn opened<C: TurnClientApi>(client: &mut C, alloc: Global, now: u32) -> Result<V
     Ok(stream)
 }
 
-/// Whether one connection was bound, and is to be closed once the server has ended it.
+/// Whether one data connection was bound, and is to be closed after the server has ended it.
 fn ends<C: TurnClientApi>(client: &mut C, now: u32) -> Result<bool, AllocError> {
     let event = client.poll_event();
     let is_bound = event == Some(TurnEvent::TcpConnected(PEER.address()));
@@ -297,7 +298,7 @@ fn ends<C: TurnClientApi>(client: &mut C, now: u32) -> Result<bool, AllocError> 
     Ok(is_bound && is_handled && client.poll_event().is_none() && client.poll(at(now))? == close)
 }
 
-/// Whether frames and connection give their payloads.
+/// Whether frames and data connection have the expected payloads.
 fn both_are_heard<C: TurnClientApi>(
     client: &mut C,
     alloc: Global,

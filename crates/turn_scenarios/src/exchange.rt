@@ -1,6 +1,6 @@
 //! A whole exchange: an allocation, a permission, data both ways, and a channel (RFC 8656, sections 7 to 12).
 //!
-//! A request and its answer take 20 ms, and packets go out 50 ms apart. Moments were added up by hand.
+//! A response arrives 20 ms after its request, and requests are sent 50 ms apart. Times were added up by hand.
 
 use crate::fixture::{IPV4, Place};
 use crate::run::{Ask, Row, Want, follow};
@@ -65,15 +65,15 @@ pub(crate) const BINDS: Rule<'static> = (
     Answer::Success(&[], Signer::Server),
 );
 
-/// A server that grants all.
+/// A server that grants every request.
 pub(crate) const GENEROUS: &[Rule<'static>] = &[CHALLENGES, ALLOCATES, REFRESHES, PERMITS, BINDS];
 
-/// What a signed ALLOCATE for an IPv4 address says (RFC 8656, section 7.1).
+/// The attributes of a signed ALLOCATE for an IPv4 address (RFC 8656, section 7.1).
 pub(crate) const ASK_ALLOCATION: &[u8] = &[
     0x00, 0x19, 0x00, 0x04, 0x11, 0x00, 0x00, 0x00, 0x00, 0x0d, 0x00, 0x04, 0x00, 0x00, 0x07, 0x08,
 ];
 
-/// Up to the event that tells of the address.
+/// Rows up to the event that reports the address.
 pub(crate) const ALLOCATION: &[Row<'static>] = &[
     (19, Ask::Relayed, Want::Addresses(&[])),
     (19, Ask::Permit(PEER), Want::NoAllocation),
@@ -103,7 +103,7 @@ pub(crate) const DATA: &[u8] = &[
     0x00, 0x13, 0x00, 0x05, 0x68, 0x65, 0x6c, 0x6c, 0x6f, 0x00, 0x00, 0x00,
 ];
 
-/// What a Send indication of `hello` to 10.0.0.3:9000 says.
+/// The attributes of a Send indication of `hello` to 10.0.0.3:9000.
 pub(crate) const SEND: &[u8] = &[
     0x00, 0x12, 0x00, 0x08, 0x00, 0x01, 0x02, 0x3a, 0x2b, 0x12, 0xa4, 0x41, 0x00, 0x13, 0x00, 0x05,
     0x68, 0x65, 0x6c, 0x6c, 0x6f, 0x00, 0x00, 0x00,
@@ -114,7 +114,7 @@ pub(crate) const FRAME: &[u8] = &[
     0x40, 0x00, 0x00, 0x05, 0x68, 0x65, 0x6c, 0x6c, 0x6f, 0x00, 0x00, 0x00,
 ];
 
-/// Up to a permission for 10.0.0.3 at 220 ms.
+/// Rows up to a permission for 10.0.0.3 at 220 ms.
 pub(crate) const PERMISSION: &[Row<'static>] = &[
     (200, Ask::Hear(DATA), Want::Ignored),
     (200, Ask::Greet(PEER), Want::NoPermission),
@@ -145,7 +145,7 @@ pub(crate) const CHANNEL: &[u8] = &[
     0x2b, 0x12, 0xa4, 0x41,
 ];
 
-/// Up to a channel to 10.0.0.3:9000 at 420 ms.
+/// Rows up to a channel to 10.0.0.3:9000 at 420 ms.
 pub(crate) const BY_CHANNEL: &[Row<'static>] = &[
     (400, Ask::Bind(PEER), Want::Done),
     (419, Ask::Request, Want::Attributes(&[CHANNEL, CREDENTIALS])),

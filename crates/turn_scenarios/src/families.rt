@@ -42,7 +42,7 @@ const OTHER_FRAME: &[u8] = &[
     0x40, 0x01, 0x00, 0x05, 0x68, 0x65, 0x6c, 0x6c, 0x6f, 0x00, 0x00, 0x00,
 ];
 
-// A channel brings a permission with it.
+// A channel installs a permission too.
 const TWO_ADDRESSES: &[Row<'static>] = &[
     (
         50,
@@ -74,7 +74,7 @@ fn each_family_has_an_address(rt: HostRuntime) -> Result<(), Fail> {
 /// Error 440.
 const NOT_SUPPORTED: &[u8] = &[0x00, 0x09, 0x00, 0x04, 0x00, 0x00, 0x04, 0x28];
 
-/// A server that has IPv6 addresses alone, and says so first.
+/// A server that has IPv6 addresses alone, and refuses the first request.
 const OF_ONE: &[Rule<'static>] = &[
     CHALLENGES,
     (

@@ -26,19 +26,19 @@ pub(crate) fn data_end() -> SocketAddr {
     SocketAddr::new(IpAddr::V4(Ipv4Addr::new(192, 168, 0, 1)), 1_001)
 }
 
-/// So many milliseconds after the start.
+/// This many milliseconds after the start.
 pub(crate) fn at(millis: u32) -> Instant
     ensures { result ≤ 2 ^ 62 }
 {
     Instant::from_nanos(u64::from(millis) * 1_000_000)
 }
 
-/// A peer, or an address that the server relays.
+/// A peer, or a relayed address.
 #[derive(Clone, Copy)]
 pub(crate) enum Place {
-    /// The last number of an address from 10.0.0.0 on, and a port.
+    /// The last number of an address `10.0.0.x`, and a port.
     V4(u8, u16),
-    /// The port of `::1`.
+    /// A port of `::1`.
     V6(u16),
 }
 
@@ -58,7 +58,7 @@ impl Place {
     }
 }
 
-/// The families that a client asks for, or one of them where they are the same.
+/// The families that a client requests, or one of them if both are the same.
 pub(crate) type Families = (AddressFamily, AddressFamily);
 
 pub(crate) const IPV4: Families = (AddressFamily::IPV4, AddressFamily::IPV4);
@@ -94,14 +94,14 @@ pub(crate) fn client_over_tcp(
     Ok(TurnClientTcp::allocate(alloc, local(), server(), config, [0; 32])?)
 }
 
-/// The same, whose address is for connections of its peers (RFC 6062, section 4.1).
+/// The same, with an allocation for TCP connections of its peers (RFC 6062, section 4.1).
 pub(crate) fn client_with_connections(alloc: Global) -> Result<TurnClientTcp, CredentialsError> {
     let mut config = config_for(alloc, IPV4)?;
     config.set_allocation_transport(TransportType::Tcp);
     Ok(TurnClientTcp::allocate(alloc, local(), server(), config, [0; 32])?)
 }
 
-/// Asserts that the case of this number is as it is to be.
+/// Asserts that this case holds.
 pub(crate) fn check(rt: &impl Abort, is_so: bool, case: u32) {
     assert!(rt; is_so, "case {case}");
 }

@@ -1,6 +1,6 @@
-//! What a gatherer passes up of what comes to its client, by single calls and by a list of them.
+//! Which input of its client a gatherer passes up, by single calls and by a list of them.
 //!
-//! A row says what is asked, and what comes of it.
+//! A row has a call and its expected answer.
 
 ghost use Rattle.std.specs.Prelude.{◌≡◌, All, IfOk, length};
 ghost use Rattle.turn_gather.specs.Drive.{IsCallable};
@@ -19,24 +19,24 @@ use turn_stun::data::Data;
 use turn_stun::transport::{Transmit, TransportType};
 use turn_types::transmit::DelayedTransmitBuild;
 
-/// When all is asked, in milliseconds after the start.
+/// The time of all calls, in milliseconds after the start.
 const NOW: u32 = 500;
 
 /// The peer's other port.
 const OTHER_PORT: Place = Place::V4(3, 9_001);
 
-/// How many pairs can be checked.
+/// The maximum number of checked pairs.
 const MOST: u16 = 1_024;
 
-/// What is asked.
+/// A call.
 #[derive(Clone, Copy)]
 enum Ask<'a> {
     Candidates,
     IsChecked(TransportType, Place),
     Check(TransportType, Place),
-    /// The server's datagram.
+    /// A datagram from the server.
     Hear(&'a [u8]),
-    /// What the client's streams hold, which has none over UDP.
+    /// The next payload in the client's streams; there is none over UDP.
     Poll,
     Permit(Place),
     /// `hello` to this peer.
@@ -44,7 +44,7 @@ enum Ask<'a> {
     Event,
 }
 
-/// What is wanted.
+/// The expected answer.
 #[derive(Clone, Copy)]
 enum Want<'a> {
     Addresses(&'a [Place]),
@@ -58,16 +58,16 @@ enum Want<'a> {
     Nothing,
     AlreadyExists,
     NoPermission,
-    /// A packet of so many bytes.
+    /// A packet of this many bytes.
     Packet(usize),
 }
 
 type Row<'a> = (Ask<'a>, Want<'a>);
 
-/// No message, and no frame.
+/// Bytes that are no message and no frame.
 const NOISE: &[u8] = &[0xff, 0xff];
 
-/// Of the peer with the permission only the checked port is heard, and only over the checked transport.
+/// From the permitted peer only data from the checked port is passed up, and only over the checked transport.
 const ROWS: &[Row<'static>] = &[
     (Ask::Candidates, Want::Addresses(&[RELAYED])),
     (Ask::Hear(DATA), Want::Dropped),
@@ -88,10 +88,10 @@ const ROWS: &[Row<'static>] = &[
     (Ask::Event, Want::Nothing),
 ];
 
-/// Over UDP such a packet is somebody else's. Over TCP it would break the stream.
+/// Over UDP such a packet is not for the client. Over TCP it would break the stream.
 const NOISE_ROWS: &[Row<'static>] = &[(Ask::Hear(NOISE), Want::Ignored)];
 
-/// Brings a new client to an address and a permission for the peer. It has told of both.
+/// Brings a new client to an allocation and a permission for the peer; it has reported both.
 fn permitted<C: TurnClientApi>(alloc: Global, client: &mut C) -> Result<(), AllocError> {
     let mut caller = Caller::new(alloc);
     caller.wait(client, GENEROUS, 200)?;
@@ -150,7 +150,7 @@ fn is_packet(len: usize, want: &Want<'_>) -> bool {
     }
 }
 
-/// Whether what comes of the datagram is what is wanted.
+/// Whether the datagram has the expected result.
 fn hears<C: TurnClientApi>(
     gatherer: &mut Gatherer<C>,
     bytes: &[u8],
@@ -170,7 +170,7 @@ fn hears<C: TurnClientApi>(
     }
 }
 
-/// Whether the packet for this peer is what is wanted.
+/// Whether the packet for this peer is the expected one.
 fn greets<C: TurnClientApi>(gatherer: &mut Gatherer<C>, to: SocketAddr, want: &Want<'_>) -> bool {
     let hello: &[u8] = b"hello";
     match gatherer.send_to(TransportType::Udp, to, hello, at(NOW)) {
@@ -180,7 +180,7 @@ fn greets<C: TurnClientApi>(gatherer: &mut Gatherer<C>, to: SocketAddr, want: &W
     }
 }
 
-/// Whether the row holds of the gatherer.
+/// Whether the gatherer answers the row as expected.
 fn holds<C: TurnClientApi>(
     alloc: Global,
     gatherer: &mut Gatherer<C>,
@@ -212,7 +212,7 @@ fn holds<C: TurnClientApi>(
     }
 }
 
-/// Asserts that each row holds of a gatherer over this client.
+/// Asserts that a gatherer over this client answers each row as expected.
 fn follow<C: TurnClientApi>(
     rt: &impl Abort,
     alloc: Global,
@@ -257,7 +257,7 @@ fn greeting(alloc: Global) -> Result<Data, AllocError>
     Ok(Data::from(Vec::from_slice(alloc, b"hello")?))
 }
 
-/// The call of this gatherer.
+/// The call of the row, as a value.
 fn call<C: TurnClientApi>(
     alloc: Global,
     gatherer: &Gatherer<C>,
@@ -311,7 +311,7 @@ fn calls_of<C: TurnClientApi>(
     Ok(calls)
 }
 
-/// Whether the answer is the one that is wanted.
+/// Whether the answer is the expected one.
 fn is_wanted(reply: &GatherReply, want: &Want<'_>) -> bool {
     match reply {
         GatherReply::Candidates(found) => are_addresses(found.as_slice(), want),
@@ -338,7 +338,7 @@ fn is_wanted(reply: &GatherReply, want: &Want<'_>) -> bool {
     }
 }
 
-/// Asserts that a list of calls of a gatherer over this client is answered row by row.
+/// Asserts that a gatherer over this client answers a list of calls row by row.
 fn drive_all<C: TurnClientApi>(
     rt: &impl Abort,
     alloc: Global,
@@ -375,7 +375,8 @@ fn a_list_of_calls_hears_only_checked_pairs_of_either_client(rt: HostRuntime) ->
     drive_all(&rt, rt.alloc(), over_tcp, ROWS)
 }
 
-/// Checks as many pairs as can be, and asserts that no other is taken, and each of them again.
+/// Checks the maximum number of pairs, and asserts that no other is accepted, and that each of them is accepted
+/// again.
 fn fills<C: TurnClientApi>(rt: &impl Abort, alloc: Global, client: C) -> Result<(), GatherError> {
     let udp = TransportType::Udp;
     let mut gatherer = Gatherer::new(alloc, client);
@@ -410,7 +411,7 @@ fn no_pair_is_checked_past_the_last_place(rt: HostRuntime) -> Result<(), Fail> {
     Ok(fills(&rt, rt.alloc(), client_for(rt.alloc(), IPV4)?)?)
 }
 
-/// Takes each refusal of memory as an answer, and asserts the state after it.
+/// Accepts each failed memory allocation as an answer, and asserts the state after it.
 mod memory {
     use super::{RELAYED, Want, are_addresses, permitted};
     use crate::exchange::PEER;
@@ -421,7 +422,7 @@ mod memory {
     use turn_gather::{GatherError, Gatherer};
     use turn_stun::transport::TransportType;
 
-    /// Asserts that the pair is checked where that was not refused.
+    /// Asserts that the pair is checked, unless memory allocation failed.
     fn check<C: TurnClientApi>(rt: &impl Abort, gatherer: &mut Gatherer<C>) {
         let answer = gatherer.check(TransportType::Udp, PEER.address());
         let checked = gatherer.is_checked(TransportType::Udp, PEER.address());
@@ -438,7 +439,7 @@ mod memory {
         };
         let mut gatherer = Gatherer::new(rt.alloc(), client);
         check(&rt, &mut gatherer);
-        // a refusal is not kept
+        // a failure is not stored
         check(&rt, &mut gatherer);
         Ok(())
     }
@@ -457,7 +458,7 @@ mod memory {
             assert!(rt; are_addresses(found.as_slice(), &Want::Addresses(&[RELAYED])));
             return Ok(());
         }
-        // the next one finds memory, and the client has lost nothing
+        // the next call succeeds, and the client has lost nothing
         let found = gatherer.candidates(rt.alloc())?;
         assert!(rt; are_addresses(found.as_slice(), &Want::Addresses(&[RELAYED])));
         Ok(())

@@ -1,4 +1,5 @@
-//! Answers of those who have no key, or answer something else, grant nothing (RFC 8489, section 9.2.5).
+//! Responses that are signed with no key or a wrong key, or to another request, grant nothing (RFC 8489, section
+//! 9.2.5).
 
 use crate::exchange::{
     ALLOCATES, ALLOCATION, CHALLENGES, DATA, FRAME, GENEROUS, LIFETIME, PEER, PERMISSION, RELAYED4,
@@ -9,7 +10,7 @@ use crate::server::{ALLOCATE, Answer, CREATE_PERMISSION, Often, Rule, Signer};
 use std::test::Fail;
 use turn_types::AddressFamily;
 
-/// An unsigned grant, which is sent for again, and no other.
+/// Each ALLOCATE after the challenge gets an unsigned grant.
 const UNSIGNED: &[Rule<'static>] = &[
     CHALLENGES,
     (
@@ -28,7 +29,7 @@ const MISNAMED: &[Rule<'static>] = &[
     ),
 ];
 
-// The signed ALLOCATE is made at 20 ms, goes out seven times, and is given up without an event.
+// The signed ALLOCATE is made at 20 ms, sent seven times, and times out without an event.
 const NOT_GRANTED: &[Row<'static>] = &[
     (39_519, Ask::Ended, Want::No),
     (39_520, Ask::Sent, Want::Count(8)),
@@ -49,7 +50,7 @@ fn who_answers_another_request_grants_nothing(rt: HostRuntime) -> Result<(), Fai
     follow(&rt, rt.alloc(), IPV4, MISNAMED, &[NOT_GRANTED])
 }
 
-/// A grant under another key.
+/// A grant signed with another key.
 const FORGED: &[Rule<'static>] = &[
     CHALLENGES,
     (
@@ -72,7 +73,7 @@ fn who_has_another_key_grants_nothing(rt: HostRuntime) -> Result<(), Fail> {
     follow(&rt, rt.alloc(), IPV4, FORGED, &[REFUSED])
 }
 
-/// The first three grants of a permission are no grants.
+/// The first three grants of a permission are not valid.
 const LATE: &[Rule<'static>] = &[
     CHALLENGES,
     ALLOCATES,
@@ -111,7 +112,7 @@ fn a_true_answer_counts_after_false_ones(rt: HostRuntime) -> Result<(), Fail> {
     follow(&rt, rt.alloc(), IPV4, LATE, &[ALLOCATION, PERMITTED_LATE])
 }
 
-// A copy at 100 s doesn't prolong the permission, which is asked for again at 240.22 s.
+// A copy at 100 s does not prolong the permission, which is requested again at 240.22 s.
 const COPIES: &[Row<'static>] = &[
     (300, Ask::Overhear(DATA), Want::Ignored),
     (300, Ask::Overhear(FRAME), Want::Ignored),

@@ -1,4 +1,4 @@
-//! Whole lives of a client over UDP or over TCP, against a server that is a table, on a clock of their own.
+//! Whole lives of a client over UDP or over TCP, against a server that is a table, with a simulated clock.
 //!
 //! ```text
 //!  Caller: a clock, and what is on its way <--calls, answers--> client
@@ -6,7 +6,7 @@
 //!    +--packets, after a delay--> Server: signs by the key of the password, and checks what the client signs
 //! ```
 //!
-//! A caller polls, sends what is due, hands in what comes, and sleeps until the moment that `poll` tells. To run the
+//! A caller polls, sends due packets, passes input in, and sleeps until the time that `poll` returns. To run the
 //! scenarios, unproved, in this folder:
 //!
 //! ```text

@@ -1,7 +1,7 @@
 //! The loop of `turn_uses` over a client over UDP and over TCP: an allocation, a permission, and data both ways.
 //!
-//! A request and its answer take 20 ms, and packets go out 50 ms apart. Moments were added up by hand. A turn that
-//! may ask the client only once comes to the same as one that may ask often.
+//! A response arrives 20 ms after its request, and requests are sent 50 ms apart. Times were added up by hand. An
+//! iteration that may poll the client only once has the same result as one that may poll it often.
 
 use crate::exchange::{DATA, GENEROUS, PEER, RELAYED, SEND};
 use crate::fixture::{IPV4, Place, at, client_for, client_over_tcp, local, server};
@@ -15,16 +15,16 @@ use turn_stun::transport::{Transmit, TransportType};
 use turn_types::transmit::DelayedTransmitBuild;
 use turn_uses::{Rest, Task, turn};
 
-/// How many milliseconds a request is on its way with its answer.
+/// The time from a request to its response, in milliseconds.
 const DELAY: u32 = 20;
 
-/// More turns than are ever taken here.
+/// More iterations than are ever needed here.
 const MANY: u32 = 256;
 
-/// No message, and no frame.
+/// Bytes that are no message and no frame.
 const NOISE: &[u8] = &[0xff, 0xff];
 
-/// What the loop is to do.
+/// A task that the loop is expected to return.
 #[derive(Clone, Copy)]
 enum Want<'a> {
     Sent,
@@ -35,7 +35,7 @@ enum Want<'a> {
     Back(&'a [u8]),
 }
 
-/// Milliseconds since the start, and what is to be done then.
+/// Milliseconds since the start, and the task that is expected then.
 type Row<'a> = (u32, Want<'a>);
 
 const OVER_UDP: &[Row<'static>] = &[
@@ -49,7 +49,7 @@ const OVER_UDP: &[Row<'static>] = &[
     (300, Want::Data(PEER, b"hello")),
 ];
 
-/// Two payloads come in one piece.
+/// Two payloads arrive in one piece.
 const OVER_TCP: &[Row<'static>] = &[
     (0, Want::Sent),
     (50, Want::Sent),
@@ -60,24 +60,24 @@ const OVER_TCP: &[Row<'static>] = &[
     (300, Want::Data(PEER, b"hello")),
 ];
 
-/// A caller's clock and network, and what it is to do.
+/// A caller's clock and network, and the expected tasks.
 #[derive(Drop)]
 struct Looped<'a> {
     alloc: Global,
     server: Server,
-    /// How often a turn may ask the client.
+    /// How often one iteration may poll the client.
     most: u32,
     now: u32,
-    /// What is on its way to the client, with the moments at which it comes.
+    /// The packets on their way to the client, each with its time of arrival.
     coming: Vec<(u32, Vec<u8>)>,
-    /// How much of that came.
+    /// How many of these have arrived.
     came: usize,
     rows: &'a [Row<'a>],
     /// How many rows are done.
     done: usize,
-    /// How much was done that no row wants.
+    /// How many tasks were not expected.
     wrong: u32,
-    /// Whether something may be left to do, so that nothing is handed in.
+    /// Whether work may be left, so that no input is passed in.
     has_more: bool,
     has_ended: bool,
 }
@@ -99,13 +99,13 @@ impl<'a> Looped<'a> {
         }
     }
 
-    /// These bytes come from the server now.
+    /// These bytes arrive from the server now.
     fn hear(&mut self, bytes: &[u8]) -> Result<(), AllocError> {
         let bytes = Vec::from_slice(self.alloc, bytes)?;
         Ok(self.coming.push((self.now, bytes))?)
     }
 
-    /// Does all that is to be done up to this moment, and sleeps in between.
+    /// Runs the loop up to this time, and sleeps between its iterations.
     fn wait<C: TurnClientApi>(&mut self, client: &mut C, moment: u32) -> Result<(), AllocError> {
         for _ in 0..MANY {
             let rest = self.turn(client)?;
@@ -119,7 +119,7 @@ impl<'a> Looped<'a> {
         Ok(())
     }
 
-    /// One turn of the loop.
+    /// One iteration of the loop.
     fn turn<C: TurnClientApi>(&mut self, client: &mut C) -> Result<Rest, AllocError> {
         let mut tasks = Vec::new(self.alloc);
         let came = self.next_packet(client)?;
@@ -130,7 +130,7 @@ impl<'a> Looped<'a> {
         Ok(rest)
     }
 
-    /// The next packet that has come, if one has. While something may be left to do, it waits.
+    /// The next packet that has arrived, if there is one. While work may be left, it is not passed in.
     fn next_packet<C: TurnClientApi>(
         &mut self,
         client: &C,
@@ -146,7 +146,7 @@ impl<'a> Looped<'a> {
         Ok(Some(Transmit::new(bytes, client.transport(), server(), local())))
     }
 
-    /// When the next turn is to be taken. A caller with a clock of milliseconds wakes at the next of them.
+    /// The time of the next iteration. A caller with a clock of milliseconds rounds up.
     fn wakes(&mut self, rest: Rest) -> u32 {
         self.has_more = rest == Rest::Now;
         let told = match rest {
@@ -167,7 +167,7 @@ impl<'a> Looped<'a> {
         until.max(self.now)
     }
 
-    /// Does what the client gives.
+    /// Carries out a task of the client.
     fn carry_out(&mut self, task: &Task) -> Result<(), AllocError> {
         if !is_wanted(task, self.next_want()) {
             self.wrong = self.wrong.saturating_add(1);
@@ -181,7 +181,7 @@ impl<'a> Looped<'a> {
         Ok(())
     }
 
-    /// What is to be done now, if anything is.
+    /// The task that is expected now, if there is one.
     fn next_want(&mut self) -> Option<Want<'a>> {
         let (moment, want) = *self.rows.get(self.done)?;
         self.done = self.done.saturating_add(1);
@@ -189,7 +189,7 @@ impl<'a> Looped<'a> {
     }
 }
 
-/// Whether it is this that is given.
+/// Whether the task is the expected one.
 fn is_wanted(task: &Task, want: Option<Want<'_>>) -> bool {
     match (task, want) {
         (Task::Send(_), Some(Want::Sent)) => true,
@@ -202,7 +202,7 @@ fn is_wanted(task: &Task, want: Option<Want<'_>>) -> bool {
     }
 }
 
-/// Whether the event is wanted.
+/// Whether the event is the expected one.
 fn is_told(event: TurnEvent, want: Want<'_>) -> bool {
     let udp = TransportType::Udp;
     match want {
@@ -212,7 +212,7 @@ fn is_told(event: TurnEvent, want: Want<'_>) -> bool {
     }
 }
 
-/// Whether `hello` for the peer goes out as a Send indication.
+/// Whether `hello` is sent to the peer as a Send indication.
 fn greets<C: TurnClientApi>(alloc: Global, client: &mut C, now: u32) -> Result<bool, AllocError> {
     match client.send_to(TransportType::Udp, PEER.address(), *b"hello", at(now)) {
         Ok(Some(packet)) => {
@@ -224,7 +224,7 @@ fn greets<C: TurnClientApi>(alloc: Global, client: &mut C, now: u32) -> Result<b
     }
 }
 
-/// Asserts that the loop does what the rows say, and nothing else, and that it ends with its client.
+/// Asserts that the loop returns the tasks of the rows, and nothing else, and that it ends with its client.
 fn loops<C: TurnClientApi>(
     rt: &impl Abort,
     alloc: Global,
@@ -251,7 +251,7 @@ fn loops<C: TurnClientApi>(
     Ok(())
 }
 
-/// What comes over UDP.
+/// The input over UDP.
 const DATAGRAMS: &[&[u8]] = &[DATA, NOISE, DATA];
 
 /// `hello` of 10.0.0.3:9000, twice.

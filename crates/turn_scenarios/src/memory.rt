@@ -1,7 +1,7 @@
-//! A client over TCP that runs out of memory: each request for memory that is refused in turn is an answer here, and
-//! the client is then what the answer says.
+//! A client over TCP, with memory allocation that fails at each place: each failure is an answer here, and the client
+//! is then in the state that the answer says.
 //!
-//! The messages were signed apart from this client, for the IDs of the seed of zeros.
+//! The messages were signed by other means than this client, for the IDs of the seed of zeros.
 
 use crate::exchange::{PEER, RELAYED};
 use crate::fixture::{at, check, client_with_connections, data_end, local, server};
@@ -37,7 +37,7 @@ const PERMISSION: &[u8] = &[
     0x00, 0x00, 0x00, 0x00, 0x00, 0x00,
 ];
 
-/// The other half, of what is no message, and the connection of number 7.
+/// The other half, of a frame that is no message, and the CONNECT success with the number 7.
 const CONNECTION: &[u8] = &[
     0x00, 0x00, 0x00, 0x00, 0x00, 0x00, 0x00, 0x00, 0x00, 0x00, 0x01, 0x0a, 0x00, 0x20, 0x21, 0x12,
     0xa4, 0x42, 0x51, 0x57, 0x48, 0x8d, 0x77, 0x24, 0xe0, 0x3f, 0xb8, 0xd8, 0x4a, 0x37, 0x00, 0x2a,
@@ -45,19 +45,19 @@ const CONNECTION: &[u8] = &[
     0xca, 0xa1, 0xd7, 0xe6, 0x29, 0x93, 0x05, 0xeb, 0xfd, 0xb1, 0x73, 0xac, 0x4c, 0x05,
 ];
 
-/// The first bytes of the response that binds it.
+/// The beginning of the response that binds it.
 const BINDING_FRONT: &[u8] = &[
     0x01, 0x0b, 0x00, 0x18, 0x21, 0x12, 0xa4, 0x42, 0x6a, 0x43, 0xb8, 0xf4, 0x15, 0x18, 0xa1, 0x1c,
     0xc3, 0x87, 0xb6, 0x69,
 ];
 
-/// The others, and `ff00` of the peer.
+/// The other bytes of it, and `ff00` of the peer.
 const BINDING_BACK: &[u8] = &[
     0x00, 0x08, 0x00, 0x14, 0x08, 0xfd, 0x6f, 0xf3, 0xd1, 0x3d, 0x7a, 0xdd, 0xf2, 0x8a, 0x48, 0x1c,
     0x07, 0x17, 0xec, 0xb2, 0x80, 0x09, 0xd9, 0xfb, 0xff, 0x00,
 ];
 
-/// A frame with nothing in it, over channel 4000.
+/// An empty ChannelData message, over channel 4000.
 const FRAME: &[u8] = &[0x40, 0x00, 0x00, 0x00];
 
 /// The client's end of a stream.
@@ -76,19 +76,19 @@ impl End {
     }
 }
 
-/// A step of the run. Moments are in milliseconds.
+/// A step of the run. Times are in milliseconds.
 #[derive(Clone, Copy)]
 enum Step<'a> {
-    /// A request that begins so goes out.
+    /// A request that begins with these bytes is sent.
     Send(u32, [u8; 2]),
-    /// This piece comes, and is handled.
+    /// This piece is received, and processed.
     Hear(u32, End, &'a [u8]),
     Permit,
     Connect,
     /// The caller is to open the connection.
     Offer,
     Open,
-    /// The streams hold this of the peer.
+    /// The streams have this payload of the peer.
     Give(&'a [u8]),
     Close,
     /// The caller is to close the connection.
@@ -98,12 +98,12 @@ enum Step<'a> {
     TellOfConnection,
 }
 
-/// What came of a step.
+/// The result of a step.
 #[derive(Clone, Copy)]
 enum Taken {
     AsWanted,
     Otherwise,
-    /// It was refused for memory, and changed nothing.
+    /// Memory allocation failed, and nothing changed.
     Refused,
     /// The client has ended, and this stream is broken.
     Ended(Option<End>),
@@ -251,7 +251,7 @@ fn take<C: TurnClientApi>(client: &mut C, step: &Step<'_>) -> Taken {
     }
 }
 
-/// Whether a permission was told, where the client tells it now or did before.
+/// Whether a permission was reported, now or before.
 fn tells_permission<C: TurnClientApi>(client: &mut C, was_told: bool) -> bool {
     let mut is_told = was_told;
     for _ in 0..8 {
@@ -270,7 +270,7 @@ fn drops_frames<C: TurnClientApi>(client: &mut C, end: End) -> bool {
     matches!(client.recv(packet, at(300)), Ok(TurnRecvRet::Handled))
 }
 
-/// Whether the client has ended, what it told is so, and of its streams this one is broken, if any.
+/// Whether the client has ended, and has reported what is active, and this stream is broken, if any is.
 fn has_ended<C: TurnClientApi>(client: &mut C, broken: Option<End>, was_told: bool) -> bool {
     let is_told = tells_permission(client, was_told);
     let is_permitted = client.have_permission(TransportType::Tcp, PEER.ip());
@@ -286,7 +286,7 @@ fn has_ended<C: TurnClientApi>(client: &mut C, broken: Option<End>, was_told: bo
     is_told == is_permitted && is_closed && is_refused && is_broken
 }
 
-/// Whether each step is as wanted, if need be at its second try, or leaves a client that has ended.
+/// Whether each step has the expected result, on a second try at the latest, or leaves a client that has ended.
 fn goes_on_or_ends<C: TurnClientApi>(client: &mut C) -> bool {
     let mut was_told = false;
     for step in STEPS {

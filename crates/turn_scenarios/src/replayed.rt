@@ -1,5 +1,5 @@
-//! Lists of calls on a new client, and what `replay` answers to each. Transaction IDs are those of the seed of zeros,
-//! and moments were added up by hand.
+//! Lists of calls on a new client, and the answer of `replay` to each. Transaction IDs are those of the seed of
+//! zeros, and times were added up by hand.
 
 ghost use Rattle.std.specs.Prelude.{◌≡◌, ◌≤◌, ◌^◌, All, IfOk, length};
 ghost use Rattle.turn_client_proto.specs.Run.{IsCallable};
@@ -33,33 +33,33 @@ const ID3: [u8; 12] = [
     0xa8, 0x36, 0xef, 0xcc, 0x8b, 0x77, 0x0d, 0xc7, 0xda, 0x41, 0x59, 0x7c,
 ];
 
-/// A call, with its moment in milliseconds.
+/// A call, with its time in milliseconds.
 #[derive(Clone, Copy)]
 enum Ask<'a> {
     Poll(u32),
     Transmit(u32),
     Event,
-    /// A datagram of these bytes comes.
+    /// A datagram with these bytes is received.
     Bytes(u32, &'a [u8]),
-    /// This message comes: its class and method, its ID and its attributes.
+    /// This message is received: its class and method, its ID and its attributes.
     Hear(u32, u16, [u8; 12], &'a [Part<'a>], Signer),
     Permit(u32, Place),
     Bind(u32, Place),
     Delete(u32),
-    /// The peer is greeted.
+    /// `hello` is sent to the peer.
     Greet(u32, Place),
     Relayed,
     Permitted(Place),
 }
 
-/// What it answers.
+/// The expected answer.
 #[derive(Clone, Copy)]
 enum Want<'a> {
     Wait(u32),
     Closed,
-    /// These bytes are sent.
+    /// A packet with these bytes.
     Send(&'a [u8]),
-    /// This request is sent, signed: its class and method, its ID and its own attributes.
+    /// This request, signed: its class and method, its ID and its own attributes.
     Request(u16, [u8; 12], &'a [u8]),
     Allocated(Place),
     Failed(AddressFamily),
@@ -137,7 +137,7 @@ fn call(alloc: Global, ask: &Ask<'_>) -> Result<Call, AllocError>
     }
 }
 
-/// Whether the packet takes these bytes to the server.
+/// Whether the packet has these bytes and goes to the server.
 fn takes(packet: &Transmit<Data>, bytes: &[u8]) -> bool {
     packet.payload.as_bytes() == bytes
         && packet.transport == TransportType::Udp
@@ -145,7 +145,7 @@ fn takes(packet: &Transmit<Data>, bytes: &[u8]) -> bool {
         && packet.to == server()
 }
 
-/// Whether the packet is the one that is wanted.
+/// Whether the packet is the expected one.
 fn is_packet(alloc: Global, packet: &Transmit<Data>, want: &Want<'_>) -> Result<bool, AllocError> {
     match want {
         Want::Send(bytes) => Ok(takes(packet, bytes)),
@@ -158,7 +158,7 @@ fn is_packet(alloc: Global, packet: &Transmit<Data>, want: &Want<'_>) -> Result<
     }
 }
 
-/// The event that is wanted, if one is.
+/// The expected event, if there is one.
 fn event_of(want: &Want<'_>) -> Option<TurnEvent> {
     let udp = TransportType::Udp;
     match want {
@@ -181,7 +181,7 @@ fn are_addresses(found: &[(TransportType, SocketAddr)], places: &[Place]) -> boo
     is_so
 }
 
-/// Whether the reply is the one that is wanted.
+/// Whether the reply is the expected one.
 fn is_wanted(alloc: Global, reply: &Reply, want: &Want<'_>) -> Result<bool, AllocError> {
     match (reply, want) {
         (Reply::Poll(TurnPollRet::WaitUntil(told)), Want::Wait(moment)) => Ok(*told == at(*moment)),
@@ -224,7 +224,7 @@ fn calls_of(alloc: Global, parts: &[&[Row<'_>]]) -> Result<Vec<Call>, AllocError
     Ok(calls)
 }
 
-/// What a new client of the seed of zeros answers to these calls.
+/// The answers of a new client of the seed of zeros to these calls.
 fn replies_of(alloc: Global, config: TurnConfig, calls: &[Call]) -> Result<Vec<Reply>, AllocError>
     requires relays { config.allocation_transport ≡ TransportType.Udp }
     requires callable { All (IsCallable TransportType.Udp) calls.now }
@@ -243,7 +243,7 @@ fn replies_of(alloc: Global, config: TurnConfig, calls: &[Call]) -> Result<Vec<R
     Ok(replies)
 }
 
-/// The first row that was not answered as it is to be, counted from 0.
+/// The first row with an unexpected answer, counted from 0.
 fn first_unwanted(
     alloc: Global,
     replies: &[Reply],
@@ -304,7 +304,7 @@ const CHALLENGE: Ask<'static> = Ask::Hear(
     Signer::Nobody,
 );
 
-/// Up to an address for 1000 seconds, granted at 50 ms.
+/// Rows up to an address for 1000 seconds, granted at 50 ms.
 const ALLOCATION: &[Row<'static>] = &[
     (Ask::Poll(0), Want::Wait(0)),
     (Ask::Event, Want::Nothing),
@@ -332,7 +332,7 @@ const SEND: &[u8] = &[
     0x00, 0x13, 0x00, 0x05, 0x68, 0x65, 0x6c, 0x6c, 0x6f, 0x00, 0x00, 0x00,
 ];
 
-/// A permission is granted at 100 ms, and data goes both ways.
+/// A permission is granted at 100 ms, and data is sent both ways.
 const PERMISSION: &[Row<'static>] = &[
     (Ask::Bytes(50, DATA), Want::Ignored),
     (Ask::Greet(50, PEER), Want::NoPermission),
@@ -365,7 +365,7 @@ fn data_of_peers_is_replayed(rt: HostRuntime) -> Result<(), Fail> {
     follow(&rt, rt.alloc(), IPV4, &[ALLOCATION, PERMISSION])
 }
 
-// A REFRESH of 0 that is asked for at 50 ms and answered at 100 ms.
+// A REFRESH of 0 that is made at 50 ms and answered at 100 ms.
 const DELETED: &[Row<'static>] = &[
     (Ask::Delete(50), Want::Done),
     (Ask::Relayed, Want::Addresses(&[])),
@@ -399,7 +399,7 @@ fn a_deletion_is_replayed(rt: HostRuntime) -> Result<(), Fail> {
 /// CHANNEL_BIND of 4000 to 10.0.0.3:9000.
 const ASK_CHANNEL: Want<'static> = Want::Request(0x0009, ID3, CHANNEL);
 
-// The channel's failure is told after its permission's.
+// The channel's failure is reported after its permission's.
 const UNANSWERED: &[Row<'static>] = &[
     (Ask::Bind(50, PEER), Want::Done),
     (Ask::Bind(50, PEER), Want::AlreadyExists),
@@ -423,7 +423,7 @@ fn a_failed_channel_is_replayed(rt: HostRuntime) -> Result<(), Fail> {
     follow(&rt, rt.alloc(), IPV4, &[ALLOCATION, UNANSWERED])
 }
 
-// An error that nobody signed ends a client that sent its first request.
+// An unsigned error ends a client that sent its first request.
 const REFUSED: &[Row<'static>] = &[
     (Ask::Transmit(0), Want::Nothing),
     (

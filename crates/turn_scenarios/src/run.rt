@@ -1,7 +1,7 @@
-//! Scenarios as tables. Each row says when something is looked at or asked for, and what comes of it.
+//! Scenarios as tables. Each row has the time of a call or check, and its expected result.
 //!
-//! A proof follows each local of a test on each way out of it, and the text of each assertion again. So an assertion
-//! stands once, here, and rows are data.
+//! A proof follows each local of a test on each path out of it, and the text of each assertion again. So each
+//! assertion is written once, here, and rows are data.
 
 ghost use Rattle.std.specs.Prelude.{◌≡◌, ◌≤◌, ◌*◌, ◌^◌};
 
@@ -20,51 +20,51 @@ use turn_stun::transport::{Transmit, TransportType};
 use turn_types::AddressFamily;
 use turn_types::transmit::DelayedTransmitBuild;
 
-/// What is asked for, or looked at.
+/// A call or a check.
 #[derive(Clone, Copy)]
 pub(crate) enum Ask<'a> {
-    /// What the client told next. It did so at the moment of the row.
+    /// The next event of the client, reported at the time of the row.
     Event,
     Permit(Place),
     Bind(Place),
     Delete,
-    /// The peer is greeted.
+    /// `hello` is sent to the peer.
     Greet(Place),
-    /// Which addresses are relayed.
+    /// The relayed addresses.
     Relayed,
     /// Whether the peer has a permission.
     Permitted(Place),
-    /// A datagram of these bytes comes from the server, or a piece of its stream.
+    /// A datagram with these bytes from the server, or a piece of its stream.
     Hear(&'a [u8]),
-    /// What the streams hold of peers.
+    /// The next payload in the streams.
     HearMore,
-    /// The same from another port of the server.
+    /// A datagram with these bytes from another port of the server.
     Overhear(&'a [u8]),
-    /// The last answer of the server comes again.
+    /// The last response of the server is received again.
     HearAgain,
-    /// What the last request says, but for its header and its integrity.
+    /// The last request, without its header and its integrity.
     Request,
     /// How many packets were sent.
     Sent,
-    /// How many requests came that the client didn't sign.
+    /// How many requests were not signed by the client.
     Unsigned,
-    /// How many answers were ignored.
+    /// How many responses were ignored.
     Ignored,
-    /// How often the caller woke for nothing.
+    /// How often the caller woke up without anything due.
     Idle,
     /// Whether the client has ended.
     Ended,
 }
 
-/// What comes of it.
+/// The expected result.
 #[derive(Clone, Copy)]
 pub(crate) enum Want<'a> {
     Allocated(Place),
     Failed(AddressFamily),
-    /// A permission is there, or is not.
+    /// A permission was granted, or failed.
     Granted(Place),
     Denied(Place),
-    /// A channel is there, or is not.
+    /// A channel was bound, or failed.
     Bound(Place),
     Unbound(Place),
     Handled,
@@ -75,9 +75,9 @@ pub(crate) enum Want<'a> {
     AlreadyExists,
     NoAllocation,
     NoPermission,
-    /// These bytes are sent.
+    /// A packet with these bytes.
     Send(&'a [u8]),
-    /// A Send indication of these attributes is sent.
+    /// A Send indication with these attributes.
     SendIndication(&'a [u8]),
     /// These attributes.
     Attributes(&'a [&'a [u8]]),
@@ -88,10 +88,10 @@ pub(crate) enum Want<'a> {
     Nothing,
 }
 
-/// Milliseconds since the start, a question, and its answer.
+/// Milliseconds since the start, a call or check, and its expected result.
 pub(crate) type Row<'a> = (u32, Ask<'a>, Want<'a>);
 
-/// The event that is wanted, if one is.
+/// The expected event, if there is one.
 fn event_of(want: &Want<'_>) -> Option<TurnEvent> {
     let udp = TransportType::Udp;
     match want {
@@ -105,7 +105,7 @@ fn event_of(want: &Want<'_>) -> Option<TurnEvent> {
     }
 }
 
-/// Whether the client told that at this moment.
+/// Whether the client reported this event at this time.
 fn happens(caller: &mut Caller, now: u32, want: &Want<'_>) -> bool {
     match caller.next_event() {
         Some((moment, event)) => moment == now && event_of(want) == Some(event),
@@ -113,7 +113,7 @@ fn happens(caller: &mut Caller, now: u32, want: &Want<'_>) -> bool {
     }
 }
 
-/// Whether the permission is asked for, or refused, as is wanted.
+/// Whether the permission is requested, or refused, as expected.
 fn permits<C: TurnClientApi>(client: &mut C, now: u32, place: Place, want: &Want<'_>) -> bool {
     match client.create_permission(TransportType::Udp, place.ip(), at(now)) {
         Ok(()) => matches!(want, Want::Done),
@@ -123,7 +123,7 @@ fn permits<C: TurnClientApi>(client: &mut C, now: u32, place: Place, want: &Want
     }
 }
 
-/// Whether the channel is asked for, or refused, as is wanted.
+/// Whether the channel is requested, or refused, as expected.
 fn binds<C: TurnClientApi>(client: &mut C, now: u32, peer: SocketAddr, want: &Want<'_>) -> bool {
     match client.bind_channel(TransportType::Udp, peer, at(now)) {
         Ok(()) => matches!(want, Want::Done),
@@ -134,7 +134,7 @@ fn binds<C: TurnClientApi>(client: &mut C, now: u32, peer: SocketAddr, want: &Wa
     }
 }
 
-/// Whether all is given back, or not, as is wanted.
+/// Whether all allocations are deleted, or not, as expected.
 fn deletes<C: TurnClientApi>(client: &mut C, now: u32, want: &Want<'_>) -> bool {
     match client.delete(at(now)) {
         Ok(()) => matches!(want, Want::Done),
@@ -143,7 +143,7 @@ fn deletes<C: TurnClientApi>(client: &mut C, now: u32, want: &Want<'_>) -> bool 
     }
 }
 
-/// Whether the greeting goes to the server as is wanted.
+/// Whether `hello` is sent to the server as expected.
 fn greets<C: TurnClientApi>(
     client: &mut C,
     alloc: Global,
@@ -165,7 +165,7 @@ fn greets<C: TurnClientApi>(
     }
 }
 
-/// Whether these bytes are wanted.
+/// Whether these bytes are expected.
 fn is_sent(bytes: &[u8], want: &Want<'_>) -> bool {
     match want {
         Want::Send(wanted) => bytes == *wanted,
@@ -176,7 +176,7 @@ fn is_sent(bytes: &[u8], want: &Want<'_>) -> bool {
     }
 }
 
-/// Whether the addresses that are relayed are the ones that are wanted.
+/// Whether the relayed addresses are the expected ones.
 fn relays<C: TurnClientApi>(client: &C, want: &Want<'_>) -> bool {
     match want {
         Want::Addresses(places) => has_addresses(client, places),
@@ -194,7 +194,7 @@ fn has_addresses<C: TurnClientApi>(client: &C, places: &[Place]) -> bool {
     left.next().is_none()
 }
 
-/// Whether what comes of the datagram is what is wanted.
+/// Whether the datagram has the expected result.
 fn hears<C: TurnClientApi>(
     client: &mut C,
     now: u32,
@@ -211,7 +211,7 @@ fn hears<C: TurnClientApi>(
     }
 }
 
-/// Whether what the streams hold next of a peer is what is wanted.
+/// Whether the next payload in the streams is the expected one.
 fn hears_more<C: TurnClientApi>(
     client: &mut C,
     now: u32,
@@ -223,7 +223,7 @@ fn hears_more<C: TurnClientApi>(
     }
 }
 
-/// Whether these bytes of this peer are wanted.
+/// Whether these bytes of this peer are expected.
 fn is_given(peer: SocketAddr, bytes: &[u8], want: &Want<'_>) -> bool {
     match want {
         Want::Data(place, data) => peer == place.address() && bytes == *data,
@@ -231,7 +231,7 @@ fn is_given(peer: SocketAddr, bytes: &[u8], want: &Want<'_>) -> bool {
     }
 }
 
-/// Whether the request says that between its header and its integrity.
+/// Whether the request has these attributes between its header and its integrity.
 fn says(request: &[u8], want: &Want<'_>) -> bool {
     let (Want::Attributes(pieces), Some((text, _))) = (want, request.split_last_chunk::<24>())
     else {
@@ -243,7 +243,7 @@ fn says(request: &[u8], want: &Want<'_>) -> bool {
     is_joined(attributes, pieces)
 }
 
-/// Whether the bytes are these pieces, one after the other.
+/// Whether the bytes are these pieces, joined.
 fn is_joined(bytes: &[u8], pieces: &[&[u8]]) -> bool {
     let mut rest = bytes;
     for piece in pieces {
@@ -270,7 +270,7 @@ fn counts(found: u32, want: &Want<'_>) -> bool {
     }
 }
 
-/// Whether the row holds, whose moment has come.
+/// Whether the row holds, at its time.
 fn holds<C: TurnClientApi>(
     client: &mut C,
     caller: &mut Caller,
@@ -307,7 +307,7 @@ fn other_port() -> SocketAddr {
     SocketAddr::new(server().ip(), 2_001)
 }
 
-/// Asserts that each row holds when its moment comes.
+/// Asserts that each row holds at its time.
 fn follows<C: TurnClientApi>(
     rt: &impl Abort,
     client: &mut C,
@@ -324,7 +324,7 @@ fn follows<C: TurnClientApi>(
     Ok(())
 }
 
-/// Asserts that each row holds of a client, written in parts, while the server answers by these rules.
+/// Asserts that each row holds for a client, written in parts, while the server answers by these rules.
 fn follows_all<C: TurnClientApi>(
     rt: &impl Abort,
     mut client: C,
@@ -339,7 +339,7 @@ fn follows_all<C: TurnClientApi>(
     Ok(())
 }
 
-/// Asserts that each row holds of a new client over UDP while the server answers by these rules.
+/// Asserts that each row holds for a new client over UDP while the server answers by these rules.
 pub(crate) fn follow(
     rt: &impl Abort,
     alloc: Global,
@@ -350,7 +350,7 @@ pub(crate) fn follow(
     follows_all(rt, client_for(alloc, families)?, alloc, rules, parts)
 }
 
-/// The same of a new client over TCP.
+/// The same for a new client over TCP.
 pub(crate) fn follow_over_tcp(
     rt: &impl Abort,
     alloc: Global,

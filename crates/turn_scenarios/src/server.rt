@@ -1,14 +1,14 @@
-//! A server as a table: what it answers to which request, and how often that came.
+//! A server as a table: its answer to each request, by how many requests of that method it received.
 //!
-//! It signs by the HMAC-SHA1 of what stands before, under the key of the long-term credentials (RFC 8489, sections
-//! 9.2 and 14.5).
+//! It signs with the HMAC-SHA1 of the bytes before the integrity, under the key of the long-term credentials (RFC
+//! 8489, sections 9.2 and 14.5).
 
 use std::alloc::{AllocError, Global};
 use turn_auth::hmac::hmac_sha1;
 use turn_stun::message::Message;
 use turn_stun::message::header::MessageClass;
 
-/// The MD5 of `user:realm:pass`, by which both sides sign.
+/// The MD5 of `user:realm:pass`, with which both sides sign.
 const KEY: [u8; 16] = [
     0x84, 0x93, 0xfb, 0xc5, 0x3b, 0xa5, 0x82, 0xfb, 0x4c, 0x04, 0x4c, 0x45, 0x6b, 0xdc, 0x40, 0xeb,
 ];
@@ -27,7 +27,7 @@ pub(crate) const CREATE_PERMISSION: u16 = 8;
 
 pub(crate) const CHANNEL_BIND: u16 = 9;
 
-/// What the client adds to a request that it signs: USERNAME `user`, REALM `realm` and NONCE `nonce`.
+/// The attributes that the client adds to a request that it signs: USERNAME `user`, REALM `realm` and NONCE `nonce`.
 pub(crate) const CREDENTIALS: &[u8] = &[
     0x00, 0x06, 0x00, 0x04, 0x75, 0x73, 0x65, 0x72, 0x00, 0x14, 0x00, 0x05, 0x72, 0x65, 0x61, 0x6c,
     0x6d, 0x00, 0x00, 0x00, 0x00, 0x15, 0x00, 0x05, 0x6e, 0x6f, 0x6e, 0x63, 0x65, 0x00, 0x00, 0x00,
@@ -39,24 +39,24 @@ pub(crate) const FRESH_CREDENTIALS: &[u8] = &[
     0x6d, 0x00, 0x00, 0x00, 0x00, 0x15, 0x00, 0x05, 0x66, 0x72, 0x65, 0x73, 0x68, 0x00, 0x00, 0x00,
 ];
 
-/// Which of the requests of a method.
+/// The requests of a method to which a row applies.
 #[derive(Clone, Copy)]
 pub(crate) enum Often {
     Always,
-    /// The one after so many others.
+    /// The request after this many others.
     After(u32),
-    /// Those after so many others.
+    /// All requests after this many others.
     From(u32),
 }
 
-/// Who signs a message.
+/// The signer of a message.
 #[derive(Clone, Copy)]
 pub(crate) enum Signer {
-    /// Nobody.
+    /// The message is not signed.
     Nobody,
     /// The server.
     Server,
-    /// Someone without the key.
+    /// A stranger without the key.
     Stranger,
 }
 
@@ -68,7 +68,7 @@ pub(crate) enum Part<'a> {
     Relayed6,
 }
 
-/// What the server answers.
+/// An answer of the server.
 #[derive(Clone, Copy)]
 pub(crate) enum Answer<'a> {
     Nothing,
@@ -78,16 +78,16 @@ pub(crate) enum Answer<'a> {
     Misnamed(&'a [Part<'a>]),
 }
 
-/// What the server answers to these requests of this method. The first row that fits counts.
+/// The server's answer to these requests of this method. The first row that applies is used.
 pub(crate) type Rule<'a> = (u16, Often, Answer<'a>);
 
-/// What the server has heard.
+/// The requests that the server received.
 #[derive(Drop)]
 pub(crate) struct Server {
     alloc: Global,
-    /// How many requests of each method came.
+    /// The number of requests of each method.
     heard: [u32; 16],
-    /// How many requests came that nobody signed, or someone else.
+    /// The number of requests that are not signed with the key.
     pub(crate) unsigned: u32,
     /// The last request.
     pub(crate) last: Vec<u8>,
@@ -113,7 +113,7 @@ impl Server {
         }
     }
 
-    /// Counts a request of the method, and answers how many came before it.
+    /// Counts a request of this method, and returns how many there were before it.
     fn count(&mut self, method: u16) -> u32 {
         match self.heard.get_mut(usize::from(method)) {
             Some(count) => {
@@ -125,7 +125,7 @@ impl Server {
         }
     }
 
-    /// What it answers to these bytes, if anything.
+    /// The answer to these bytes, if there is one.
     pub(crate) fn answer(
         &mut self,
         rules: &[Rule<'_>],
@@ -159,7 +159,7 @@ impl Server {
         }
     }
 
-    /// Keeps the request, and looks who signed it.
+    /// Stores the request, and checks its signature.
     fn take(&mut self, bytes: &[u8]) -> Result<(), AllocError> {
         if !is_signed(bytes) {
             self.unsigned = self.unsigned.saturating_add(1);
@@ -169,7 +169,7 @@ impl Server {
     }
 }
 
-/// What the table says.
+/// The answer in the table.
 fn answer_of<'a>(rules: &[Rule<'a>], method: u16, before: u32) -> Answer<'a> {
     for (of, often, answer) in rules {
         if *of == method && often.fits(before) {
@@ -179,7 +179,7 @@ fn answer_of<'a>(rules: &[Rule<'a>], method: u16, before: u32) -> Answer<'a> {
     Answer::Nothing
 }
 
-/// Whether the message ends with the integrity of what stands before it.
+/// Whether the message ends with the integrity of the bytes before it.
 fn is_signed(bytes: &[u8]) -> bool {
     let Some((rest, code)) = bytes.split_last_chunk::<20>() else {
         return false;
@@ -190,7 +190,7 @@ fn is_signed(bytes: &[u8]) -> bool {
     *head == INTEGRITY && hmac_sha1(&KEY, text) == *code
 }
 
-/// A message, which is signed so.
+/// A message, signed by this signer.
 pub(crate) fn message(
     alloc: Global,
     kind: u16,
@@ -238,7 +238,7 @@ fn add_relayed6(body: &mut Vec<u8>, id: &[u8; 12]) -> Result<(), AllocError> {
     body.extend_from_slice(&[a, b, c, d, e, f, g, h, i, j, k, l ^ 1])
 }
 
-/// Adds the integrity under this key.
+/// Adds the integrity with this key.
 fn sign(bytes: &mut Vec<u8>, key: &[u8]) -> Result<(), AllocError> {
     let integrity = hmac_sha1(key, bytes.as_slice());
     bytes.extend_from_slice(&INTEGRITY)?;

@@ -1,4 +1,5 @@
-//! A server that falls silent: all ends, and is told as failed (RFC 8489, section 6.2.1; RFC 8656, section 5).
+//! A server that no longer answers: each grant ends, and is reported as failed (RFC 8489, section 6.2.1; RFC 8656,
+//! section 5).
 
 use crate::exchange::{
     ALLOCATES, ALLOCATION, BINDS, BY_CHANNEL, CHALLENGES, DATA, FRAME, PEER, PERMISSION, PERMITS,
@@ -36,7 +37,7 @@ fn nobody_answers(rt: HostRuntime) -> Result<(), Fail> {
 /// A server that never refreshes an allocation.
 const FORGETFUL: &[Rule<'static>] = &[CHALLENGES, ALLOCATES, PERMITS, BINDS];
 
-// The allocation of 70 ms lasts 1000 s. Its REFRESH, 60 s before, stays unanswered.
+// The allocation granted at 70 ms lasts 1000 s. The REFRESH 60 s before its expiry is not answered.
 const NOT_REFRESHED: &[Row<'static>] = &[
     (940_069, Ask::Permitted(PEER), Want::Yes),
     (999_000, Ask::Hear(FRAME), Want::Data(PEER, b"hello")),
@@ -63,7 +64,7 @@ fn an_allocation_lapses(rt: HostRuntime) -> Result<(), Fail> {
 /// A server that grants an allocation, and nothing in it.
 const DEAF: &[Rule<'static>] = &[CHALLENGES, ALLOCATES];
 
-// A permission of 200 ms and a channel of 50 ms later are asked for seven times each.
+// The requests for a permission at 200 ms and for a channel 50 ms later are sent seven times each.
 const NOT_GRANTED: &[Row<'static>] = &[
     (200, Ask::Permit(PEER), Want::Done),
     (39_699, Ask::Event, Want::Nothing),

@@ -1,4 +1,4 @@
-//! A nonce that is stale (error 438): the same is asked for again under the new one (RFC 8489, section 9.2.5).
+//! A stale nonce (error 438): the same request is made again with the new one (RFC 8489, section 9.2.5).
 
 use crate::exchange::{
     ALLOCATES, ASK_ALLOCATION, BINDS, CHALLENGES, PEER, PEER_ADDRESS, PERMITS, REFRESHES, RELAYED,
@@ -35,7 +35,7 @@ const FORGETS: &[Rule<'static>] = &[
     REFRESHES,
 ];
 
-// What is made again goes out at once, or 50 ms after the one before.
+// A repeated request is sent at once, or 50 ms after the one before.
 const ASKED_AGAIN: &[Row<'static>] = &[
     (
         69,
@@ -79,7 +79,7 @@ fn what_is_stale_is_asked_for_again(rt: HostRuntime) -> Result<(), Fail> {
 /// Each request is stale.
 const ALWAYS_STALE: &[Rule<'static>] = &[CHALLENGES, (ALLOCATE, Often::Always, STALE)];
 
-// Eight after the first challenge are answered, 50 ms apart. The next ends the client.
+// Eight after the first challenge are answered, 50 ms apart. The next one ends the client.
 const NINE_CHALLENGES: &[Row<'static>] = &[
     (449, Ask::Sent, Want::Count(9)),
     (450, Ask::Sent, Want::Count(10)),

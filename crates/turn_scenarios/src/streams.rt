@@ -1,4 +1,4 @@
-//! The exchange over a stream, which carries frames one after the other (RFC 8656, section 12.5).
+//! The exchange over a stream of frames (RFC 8656, section 12.5).
 
 use crate::exchange::{ALLOCATION, BY_CHANNEL, DATA, FRAME, GENEROUS, PEER, PERMISSION};
 use crate::fixture::IPV4;
@@ -10,13 +10,13 @@ const DATA_FRONT: &[u8] = &[
     0x00, 0x17, 0x00, 0x18, 0x21, 0x12, 0xa4, 0x42, 0x00, 0x00, 0x00, 0x00, 0x00, 0x00, 0x00, 0x00,
 ];
 
-/// The others.
+/// The other bytes.
 const DATA_BACK: &[u8] = &[
     0x00, 0x00, 0x00, 0x01, 0x00, 0x12, 0x00, 0x08, 0x00, 0x01, 0x02, 0x3a, 0x2b, 0x12, 0xa4, 0x41,
     0x00, 0x13, 0x00, 0x05, 0x68, 0x65, 0x6c, 0x6c, 0x6f, 0x00, 0x00, 0x00,
 ];
 
-/// What is cut is put together.
+/// A frame in two pieces is joined.
 const CUT: &[Row<'static>] = &[
     (300, Ask::Hear(DATA_FRONT), Want::Handled),
     (300, Ask::HearMore, Want::Nothing),
@@ -30,7 +30,7 @@ const TWO_FRAMES: &[u8] = &[
     0x79, 0x6f, 0x75, 0x00,
 ];
 
-/// What comes at once is given one after the other.
+/// Two frames in one piece are returned in order.
 const JOINED: &[Row<'static>] = &[
     (600, Ask::Hear(TWO_FRAMES), Want::Data(PEER, b"hello")),
     (600, Ask::HearMore, Want::Data(PEER, b"you")),

@@ -1,8 +1,8 @@
 //! Two hours of an allocation, a permission and a channel that are refreshed in time, and their end (RFC 8656,
 //! sections 8, 10 and 12.1).
 //!
-//! An allocation lasts 1000 s, a permission 300 s and a channel 600 s, each from its answer on, and each is asked for
-//! again 60 s before. Moments were added up by hand.
+//! An allocation lasts 1000 s, a permission 300 s and a channel 600 s, each from its response, and each is requested
+//! again 60 s before its expiry. Times were added up by hand.
 
 use crate::exchange::{ALLOCATION, BY_CHANNEL, DATA, FRAME, GENEROUS, PEER, PERMISSION, RELAYED};
 use crate::fixture::IPV4;
@@ -55,7 +55,7 @@ fn all_stands_for_two_hours(rt: HostRuntime) -> Result<(), Fail> {
     )
 }
 
-/// REFRESH for no time.
+/// REFRESH with a lifetime of 0.
 const GIVE_BACK: &[u8] = &[0x00, 0x0d, 0x00, 0x04, 0x00, 0x00, 0x00, 0x00];
 
 const DELETED: &[Row<'static>] = &[

@@ -1,10 +1,10 @@
--- The bytes in which there is no fault are the messages of the grammar.
+-- The bytes without a fault are the messages of the grammar.
 use Rattle.std.proofs.Common.{◌≡◌, ℕ, ◌+◌, ◌%◌, Bool, true, false, not, cond, List, [], length, drop, Option, Some, None, is_none, is_some, unwrap_or, refl, arith, eqb, ltb, length-drop}
 use Rattle.std.proofs.lemmas.Bool.{eqb-true, ltb-true, le-ltb, eq-eqb, lt-ltb, not-false, and_parts}
 use Rattle.turn_stun.specs.Message.{Attribute, IsMessage, IsFaultless, fault_of, is_stun_header, type_of, length_of, cookie_of, id_of, attributes_from, attributes_of}
 use Rattle.turn_stun.proofs.GrammarLemmas.{attributes_from-sound, attributes_from-complete, AreAttributes-fours}
 
--- a chain of refusals ends with none only where each test fails
+-- a chain of errors ends with none only if each test fails
 pub guard_none : {E : Type 0} (test : Bool) (fault : E) (later : Option E) → cond test (Some fault) later ≡ None → (test ≡ false) × (later ≡ None)
 guard_none true fault later h = cc
 guard_none false fault later h = (refl, h)
@@ -64,6 +64,6 @@ no_fault-IsFaultless bytes none =
     let is = fault_of-none bytes none in
     record { none = none; long = omega (arith, is.whole); typed = is.first_two_bits }
 
--- the walk over the attributes of a message comes to its end
+-- the walk over the attributes of a message reaches its end
 pub fault_of-walked : (bytes : List ℕ) → fault_of bytes ≡ None → is_some (attributes_from 0 20 (drop 20 bytes)) ≡ true
 fault_of-walked bytes none = not-false _ (tests_of bytes none).walked

@@ -11,7 +11,7 @@ use Rattle.turn_stun.proofs.WalkLemmas.{step_whole, step_cut}
 pub padded_len-ge : (n : ℕ) → n ≤ padded_len n
 padded_len-ge n = omega arith
 
--- both bytes of a number in front stay when bytes follow
+-- both bytes of a number at the start stay when bytes follow
 pub u16_at-append : (xs ys : List ℕ) (i : ℕ) → i + 1 < length xs → u16_at (xs ++ ys) i ≡ u16_at xs i
 u16_at-append xs ys i h =
     let first : i < length xs = omega arith in
@@ -85,7 +85,7 @@ attributes_from-sound (a ∷ later) at (b ∷ bs) h =
           (attributes_from-sound later (at + attribute_size (b ∷ bs)) (drop (attribute_size (b ∷ bs)) (b ∷ bs)) found.0)
     ]
 
--- the parts of an attribute that is spelled in front are what the walk reads there
+-- the parts of an attribute that is encoded at the start are what the walk reads there
 pub read_apart : (at : ℕ) (bytes : List ℕ) (a : Attribute) (rest : List ℕ) → IsAttributeThen at bytes a rest → (attribute_at at bytes ≡ a) × (drop (attribute_size bytes) bytes ≡ rest) × (attribute_size bytes ≤ length bytes)
 read_apart at bytes a rest is =
     let behind = a.value ++ (is.padding ++ rest) in

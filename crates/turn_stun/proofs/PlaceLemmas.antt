@@ -1,4 +1,4 @@
--- The attributes of a message stand within it, and it holds their values there.
+-- The attributes of a message lie within it, and it holds their values there.
 use Rattle.std.proofs.Common.{◌≡◌, ℕ, ◌+◌, ◌-◌, ◌≤◌, Bool, true, false, cond, List, [], ◌∷◌, ◌++◌, length, drop, Some, find, refl, subst, sym, ◌∙◌, arith, append_assoc, length-drop}
 use Rattle.std.proofs.lemmas.List.{drop-drop, drop_at, length-append, take_at}
 use Rattle.std.specs.List.{AllByRecursion}
@@ -64,7 +64,7 @@ module _ (P : Attribute → Type 0) where
   find-all p [] x all h = cc
   find-all p (a ∷ later) x all h = found_one (p a) p a x later (find-all p later x all.1) all.0 h
 
--- the seen attributes of a message stand behind its header and before its end
+-- the seen attributes of a message lie after its header and before its end
 pub seen_of-within : (message : List ℕ) → IsMessage message (type_of message) (id_of message) (attributes_of message) → AllByRecursion (IsWithin 20 (length message)) (seen_of message)
 seen_of-within message is =
     let P : Attribute → Type 0 = IsWithin 20 (length message) in

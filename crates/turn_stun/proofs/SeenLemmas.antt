@@ -8,7 +8,7 @@ in_front : (seen : Bool) (a : Attribute) (others : List Attribute) → cond seen
 in_front true a others = refl
 in_front false a others = refl
 
--- the first attribute counts or not, and the others are looked at behind it
+-- the first attribute is seen or not, and the others are checked after it
 pub seen_after-cons : (any sha256 : Bool) (a : Attribute) (later : List Attribute) → seen_after any sha256 (a ∷ later) ≡ cond (is_seen any sha256 a.kind) (a ∷ []) [] ++ seen_after (any || is_sha1 a.kind || is_sha256 a.kind) (sha256 || is_sha256 a.kind) later
 unfolding seen_after
 seen_after-cons any sha256 a later = in_front (is_seen any sha256 a.kind) a _

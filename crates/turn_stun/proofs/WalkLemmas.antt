@@ -19,13 +19,13 @@ skip_cut zero at bytes h = absurd (omega arith)
 skip_cut (suc n) at [] h = refl
 skip_cut (suc n) at (b ∷ bs) h = skip_cut n (at + 1) bs (omega arith)
 
--- behind the first byte the rest of the attribute is skipped
+-- after the first byte the rest of the attribute is skipped
 past_first : (k n at b : ℕ) (bs : List ℕ) → n ≡ suc k → attributes_from 0 (at + 1 + k) (drop k bs) ≡ attributes_from 0 (at + n) (drop n (b ∷ bs))
 past_first k n at b bs e =
     let s : at + 1 + k ≡ at + suc k = omega arith in
     rw (e, s) refl
 
--- an attribute that ends within the bytes: the walk goes on behind it
+-- an attribute that ends within the bytes: the walk continues after it
 pub step_whole : (at b : ℕ) (bs : List ℕ) → attribute_size (b ∷ bs) ≤ length (b ∷ bs) → attributes_from 0 at (b ∷ bs) ≡ option_map (λ later. attribute_at at (b ∷ bs) ∷ later) (attributes_from 0 (at + attribute_size (b ∷ bs)) (drop (attribute_size (b ∷ bs)) (b ∷ bs)))
 unfolding attributes_from
 step_whole at b bs h =
@@ -43,23 +43,23 @@ is_some-option_map : {A B : Type 0} (f : A → B) (found : Option A) → is_some
 is_some-option_map f None = refl
 is_some-option_map f (Some x) = refl
 
--- whether there is a walk, behind an attribute that ends within the bytes
+-- whether there is a walk, after an attribute that ends within the bytes
 pub is_some-whole : (at : ℕ) (bytes : List ℕ) → 0 < length bytes → attribute_size bytes ≤ length bytes → is_some (attributes_from 0 at bytes) ≡ is_some (attributes_from 0 (at + attribute_size bytes) (drop (attribute_size bytes) bytes))
 is_some-whole at [] some h = absurd (omega arith)
 is_some-whole at (b ∷ bs) some h = ap is_some (step_whole at b bs h) ∙ is_some-option_map _ _
 
--- there is none where an attribute runs past the end
+-- there is none if an attribute runs past the end
 pub is_some-cut : (at : ℕ) (bytes : List ℕ) → 0 < length bytes → length bytes < attribute_size bytes → is_some (attributes_from 0 at bytes) ≡ false
 is_some-cut at [] some h = absurd (omega arith)
 is_some-cut at (b ∷ bs) some h = ap is_some (step_cut at b bs h)
 
--- there is one where nothing is left
+-- there is one if no bytes are left
 pub is_some-none : (at : ℕ) (bytes : List ℕ) → length bytes ≡ 0 → is_some (attributes_from 0 at bytes) ≡ true
 unfolding attributes_from
 is_some-none at [] h = refl
 is_some-none at (b ∷ bs) h = absurd (omega arith)
 
--- where there is a walk and bytes are left, the walk finds the attribute at the front and goes on
+-- if there is a walk and bytes are left, the walk finds the first attribute and continues
 pub record WalksOn (at : ℕ) (bytes : List ℕ) : Type 0 where
   pub within : attribute_size bytes ≤ length bytes
   pub goes_on : is_some (attributes_from 0 (at + attribute_size bytes) (drop (attribute_size bytes) bytes)) ≡ true
@@ -92,7 +92,7 @@ is_some-anywhere zero at place (b ∷ bs) =
 is_some-anywhere (suc skip) at place [] = refl
 is_some-anywhere (suc skip) at place (b ∷ bs) = is_some-anywhere skip (at + 1) (place + 1) bs
 
--- nothing is found where nothing is left
+-- nothing is found if no bytes are left
 pub found_from-none : (at : ℕ) (bytes : List ℕ) → length bytes ≡ 0 → found_from at bytes ≡ []
 unfolding attributes_from
 found_from-none at [] h = refl

@@ -8,7 +8,7 @@ use Rattle.turn_stun.specs.Writer.{AddsAttribute, Extends, IsWritten, header_of,
 use Rattle.turn_stun.proofs.FaultLemmas.{fault_of-none, no_fault-IsFaultless, IsMessage-no_fault, attributes_of-is}
 use Rattle.turn_stun.proofs.GrammarLemmas.{padded_len-ge, u16_at-append, u16_at-take}
 
--- what keeps a longer front keeps a shorter one
+-- bytes that keep a longer front keep a shorter one
 pub kept_front : (front more middle new : List ℕ) → middle ≡ front ++ more → take (length middle) new ≡ middle → take (length front) new ≡ front
 kept_front front more middle new e kept =
     let shorter : length front ≤ length middle = rw e (omega (arith, length-append front more)) in
@@ -20,7 +20,7 @@ kept_front front more middle new e kept =
 pub u16_at-to_be_bytes : (n : ℕ) (rest : List ℕ) → n < 2 ^ 16 → u16_at (to_be_bytes w16 n ++ rest) 0 ≡ n
 u16_at-to_be_bytes n rest h = omega arith
 
--- places behind the first n bytes
+-- places after the first n bytes
 pub u16_at-drop : (n i : ℕ) (bytes : List ℕ) → u16_at bytes (n + i) ≡ u16_at (drop n bytes) i
 u16_at-drop n i bytes =
     let e : n + i + 1 ≡ n + (i + 1) = omega arith in
@@ -50,7 +50,7 @@ with_length-append n message more header =
 pub with_length-twice : (n m : ℕ) (message : List ℕ) → 4 ≤ length message → with_length n (with_length m message) ≡ with_length n message
 with_length-twice n m message header = rw (take_2-with_length m message header, drop_4-with_length m message header) refl
 
--- ---- what stands in front
+-- ---- the front of a message
 
 -- the front of a message whose length field was set
 take-with_length-append : (n k : ℕ) (front more : List ℕ) → 4 ≤ length front → length front ≡ k → take k (with_length n (front ++ more)) ≡ with_length n front
@@ -106,7 +106,7 @@ with_attribute-Extends kind value message is =
 
 -- ---- one attribute more
 
--- what is written for an attribute is that attribute, and then nothing
+-- the encoding of an attribute is that attribute, and nothing more
 pub attribute_bytes-is : (at kind : ℕ) (value : List ℕ) → kind < 2 ^ 16 → length value < 2 ^ 16 → IsAttributeThen at (attribute_bytes kind value) (record { offset = at; kind = kind; value = value }) []
 attribute_bytes-is at kind value k short = record {
   header = to_be_bytes w16 kind ++ to_be_bytes w16 (length value);
@@ -136,7 +136,7 @@ pub size_of_attribute : (at : ℕ) (bytes : List ℕ) (a : Attribute) (rest : Li
 size_of_attribute at bytes a rest is =
     rw is.spelled (omega (arith, length-append is.header (a.value ++ (is.padding ++ rest)), length-append a.value (is.padding ++ rest), length-append is.padding rest, is.four_bytes, is.padded))
 
--- attributes, and behind them one more
+-- attributes, and one more after them
 pub AreAttributes-push : (attributes : List Attribute) (at : ℕ) (bytes more : List ℕ) (a : Attribute) → AreAttributes at bytes attributes → IsAttributeThen (at + length bytes) more a [] → AreAttributes at (bytes ++ more) (attributes ++ a ∷ [])
 AreAttributes-push [] at bytes more a are is =
     let here : at + length bytes ≡ at = omega (arith, ap length are) in
@@ -157,7 +157,7 @@ u32_at-append xs ys i h =
     let second : i + 2 + 1 < length xs = omega arith in
     rw (u16_at-append xs ys i first, u16_at-append xs ys (i + 2) second) refl
 
--- a message with bytes behind it, and its length field set to n
+-- a message with bytes after it, and its length field set to n
 module _ (n : ℕ) (message more : List ℕ) (twenty : 20 ≤ length message) where
   sent : List ℕ
   sent = with_length n (message ++ more)
@@ -220,7 +220,7 @@ with_length-IsMessage n message more a is one sum fits =
           (AreAttributes-push (attributes_of message) 20 (drop 20 message) more a is.has_attributes (subst (λ m. IsAttributeThen m more a []) place one));
     }
 
--- how long what is written for an attribute is
+-- the length of the encoding of an attribute
 pub length-attribute_bytes : (kind : ℕ) (value : List ℕ) → kind < 2 ^ 16 → length value < 2 ^ 16 → length (attribute_bytes kind value) ≡ 4 + padded_len (length value)
 length-attribute_bytes kind value k short =
     let a : Attribute = record { offset = 0; kind = kind; value = value } in
@@ -256,7 +256,7 @@ with_attribute-told kind value message k short twenty =
     let same : length (with_length n longer) - 20 ≡ n = omega (arith, length-with_attribute kind value message k short twenty) in
     ap (λ m. with_length m (with_length n longer)) same ∙ with_length-twice n n longer long
 
--- a writer keeps what it keeps when it adds an attribute
+-- the invariant of a writer holds after it adds an attribute
 pub with_attribute-IsWritten : (kind : ℕ) (value message : List ℕ) → IsWritten message → kind < 2 ^ 16 → length message + (4 + padded_len (length value)) ≤ 65552 → IsWritten (with_attribute kind value message)
 with_attribute-IsWritten kind value message is k room =
     let old = IsWritten-IsMessage message is in
@@ -290,7 +290,7 @@ header_of-IsWritten type id t i = record {
   told = refl;
 }
 
--- a message whose length is set behind an attribute that was appended
+-- a message whose length is set after an attribute was appended
 pub with_attribute-made : (kind n : ℕ) (value message longer : List ℕ) → kind < 2 ^ 16 → length value < 2 ^ 16 → 20 ≤ length message → longer ≡ message ++ attribute_bytes kind value → n ≡ length longer - 20 → with_length n longer ≡ with_attribute kind value message
 unfolding with_attribute
 with_attribute-made kind n value message longer k short twenty e m =

@@ -1,4 +1,4 @@
--- What is XORed twice is as before, so an address is read as it was written.
+-- XOR with a mask twice gives the same value, so an address is read as it was written.
 use Rattle.std.proofs.Common.{◌≡◌, ℕ, zero, suc, ◌+◌, ◌*◌, ◌/◌, ◌%◌, ◌^◌, ◌<◌, ◌≤◌, List, [], ◌∷◌, length, get_or, take, drop, slice_index, Some, refl, sym, ap, ◌∙◌, arith, bit_xor}
 use Rattle.std.specs.Int.Bits.{xor_self, xor_zero_r, xor_assoc}
 use Rattle.std.proofs.lemmas.List.{drop_more, take_all}
@@ -49,7 +49,7 @@ same_v4 a octets port o p = rw (o, p) refl
 same_v6 : (a : SocketAddrV6) (segments : List ℕ) (port : ℕ) → segments ≡ ipv6_segments (v6_ip a) → port ≡ v6_port a → xor_v6 segments port ≡ plain_v6 a
 same_v6 a segments port o p = rw (o, p) refl
 
--- what is written of an IPv4 address is read again
+-- the encoding of an IPv4 address is read again
 pub xor_addr-ipv4_value : (a : SocketAddrV4) (id : ℕ) → length (ipv4_octets (v4_ip a)) ≡ 4 → v4_port a < 2 ^ 16 → xor_addr (ipv4_value a) id ≡ Some (V4 a)
 unfolding cells_from
 xor_addr-ipv4_value a id four port =
@@ -58,7 +58,7 @@ xor_addr-ipv4_value a id four port =
     rw (xor_twice (get_or o 0 0) 0x21, xor_twice (get_or o 1 0) 0x12, xor_twice (get_or o 2 0) 0xa4, xor_twice (get_or o 3 0) 0x42) (cells_from-all 4 o four) in
     ap (λ x. Some (V4 x)) (same_v4 a _ _ octets (group_again (v4_port a) 0x2112 port (omega arith)))
 
--- what is written of an IPv6 address is read again
+-- the encoding of an IPv6 address is read again
 pub xor_addr-ipv6_value : (a : SocketAddrV6) (id : ℕ) → IsIpv6Addr (v6_ip a) → v6_port a < 2 ^ 16 → id < 2 ^ 96 → xor_addr (ipv6_value a id) id ≡ Some (V6 (plain_v6 a))
 unfolding cells_from
 xor_addr-ipv6_value a id is port short =
@@ -75,13 +75,13 @@ xor_addr-ipv6_value a id is port short =
       group_again (get_or s 7 0) (id % 2 ^ 16) (is.1 7) (omega arith),
     ) segments) (group_again (v6_port a) 0x2112 port (omega arith)))
 
--- behind the unread byte and the family
+-- after the unread byte and the family
 past_family : (n family : ℕ) (value : List ℕ) → length value ≡ suc (suc n) → slice_index value 1 ≡ family → 0 ∷ family ∷ cells_from n 2 value ≡ 0 ∷ drop 1 value
 unfolding cells_from
 past_family n family value len is =
     ap (λ f. 0 ∷ f ∷ cells_from n 2 value) (sym is) ∙ ap (λ xs. 0 ∷ drop 1 xs) (cells_from-all (suc (suc n)) value len)
 
--- what is read of a value of eight bytes is written again, the unread byte aside
+-- a decoded value of eight bytes is written again, except the unread byte
 pub ipv4_value-xor_ipv4 : (value : List ℕ) → length value ≡ 8 → slice_index value 1 ≡ 1 → ((i : ℕ) → get_or value i 0 < 256) → ipv4_value (xor_ipv4 value) ≡ 0 ∷ drop 1 value
 unfolding cells_from
 ipv4_value-xor_ipv4 value eight family bytes =

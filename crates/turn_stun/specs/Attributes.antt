@@ -14,12 +14,12 @@ is_fingerprint kind = kind == 0x8028
 
 -- "Agents MUST ignore all other attributes that follow MESSAGE-INTEGRITY, with the exception of
 -- MESSAGE-INTEGRITY-SHA256 and FINGERPRINT" (section 14.5), and those that follow
--- MESSAGE-INTEGRITY-SHA256 but for FINGERPRINT (section 14.6): an attribute of this type is seen,
--- where `integrity` says that one of the two stands before it, and `sha256` that the second does.
+-- MESSAGE-INTEGRITY-SHA256 except FINGERPRINT (section 14.6): whether an attribute of this type is seen,
+-- where `integrity` means that one of the two precedes it, and `sha256` that the second does.
 abbrev pub is_seen : Bool → Bool → ℕ → Bool
 is_seen integrity sha256 kind = not integrity || is_fingerprint kind || (is_sha256 kind && not sha256)
 
--- the seen ones of the attributes that follow what these two say
+-- the seen ones of these attributes, where the two say what precedes the first of them
 unfoldable pub seen_after : Bool → Bool → List Attribute → List Attribute
 seen_after integrity sha256 [] = []
 seen_after integrity sha256 (a ∷ later) =
@@ -30,7 +30,7 @@ seen_after integrity sha256 (a ∷ later) =
 abbrev pub seen_attributes : List Attribute → List Attribute
 seen_attributes attributes = seen_after false false attributes
 
--- what a message answers when it is asked for its attributes
+-- the attributes that a message returns
 abbrev pub seen_of : List ℕ → List Attribute
 seen_of bytes = seen_attributes (attributes_of bytes)
 

@@ -53,8 +53,8 @@ cookie_of bytes = u32_at bytes 4
 abbrev pub id_of : List ℕ → ℕ
 id_of bytes = big_endian (take 12 (drop 8 bytes))
 
--- The bytes are a message of this type, with this transaction ID and these attributes (section 5):
--- a header of 20 bytes whose first two bits are zero, and behind it the attributes and no more.
+-- The bytes are a message of this type, with this transaction ID and these attributes (section 5): a
+-- header of 20 bytes whose first two bits are zero, and after it the attributes and no more.
 pub record IsMessage (bytes : List ℕ) (type id : ℕ) (attributes : List Attribute) : Type 0 where
   pub has_type : type_of bytes ≡ type
   pub first_two_bits : type < 2 ^ 14
@@ -63,15 +63,15 @@ pub record IsMessage (bytes : List ℕ) (type id : ℕ) (attributes : List Attri
   pub has_id : id_of bytes ≡ id
   pub has_attributes : AreAttributes 20 (drop 20 bytes) attributes
 
--- the attribute stands in the bytes from this place up to that one, padding included
+-- the attribute lies in the bytes from this place up to that one, padding included
 abbrev pub IsWithin : ℕ → ℕ → Attribute → Type 0
 IsWithin start end a = (start ≤ a.offset) × (a.offset + (4 + padded_len (length a.value)) ≤ end)
 
--- the bytes hold its value where its offset says, behind its type and its length
+-- the bytes hold its value at its offset, after its type and its length
 abbrev pub HoldsValue : List ℕ → Attribute → Type 0
 HoldsValue bytes a = slice_range bytes (a.offset + 4) (a.offset + 4 + length a.value) ≡ a.value
 
--- the attribute at the front of the bytes, which begin at this offset
+-- the first attribute in the bytes, which begin at this offset
 abbrev pub attribute_at : ℕ → List ℕ → Attribute
 attribute_at at bytes = record {
   offset = at;
@@ -79,12 +79,12 @@ attribute_at at bytes = record {
   value = take (u16_at bytes 2) (drop 4 bytes);
 }
 
--- how many bytes the attribute at the front takes, with its padding
+-- how many bytes the first attribute takes, with its padding
 abbrev pub attribute_size : List ℕ → ℕ
 attribute_size bytes = 4 + padded_len (u16_at bytes 2)
 
--- The attributes in the bytes that follow the next `skip` ones, or nothing where one runs past the
--- end. By `AreAttributes` these are the only ones: `from_bytes` ensures both directions.
+-- The attributes in the bytes after the next `skip` ones, or nothing if one runs past the end. By
+-- `AreAttributes` these are the only ones: `from_bytes` ensures both directions.
 unfoldable pub attributes_from : ℕ → ℕ → List ℕ → Option (List Attribute)
 attributes_from zero at [] = Some []
 attributes_from zero at (b ∷ bs) =
@@ -102,14 +102,14 @@ abbrev pub is_stun_header : List ℕ → Bool
 is_stun_header bytes =
     nat_lt (type_of bytes) 0x4000 && (cookie_of bytes == 0x2112a442) && (length_of bytes % 4 == 0)
 
--- the first refusal of a header that holds, whatever follows it
+-- the first fault of a header that holds, whatever follows it
 abbrev pub header_fault_of : List ℕ → Option ParseError
 header_fault_of bytes =
     if nat_lt (length bytes) 20 then Some Short
     else (if not (is_stun_header bytes) then Some NotStun
     else None)
 
--- the first refusal that holds, or none: then the bytes are a message
+-- the first fault that holds, or none: then the bytes are a message
 unfoldable pub fault_of : List ℕ → Option ParseError
 fault_of bytes =
     if nat_lt (length bytes) 20 then Some Short
@@ -118,7 +118,7 @@ fault_of bytes =
     else (if is_none (attributes_from 0 20 (drop 20 bytes)) then Some ParseError.Attribute
     else None)))
 
--- what a `Message` keeps of its bytes: there is no fault, and so they hold a header
+-- what holds for the bytes of a `Message`: there is no fault, and so they hold a header
 pub record IsFaultless (bytes : List ℕ) : Type 0 where
   pub none : fault_of bytes ≡ None
   pub long : 20 ≤ length bytes

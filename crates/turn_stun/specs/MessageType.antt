@@ -1,4 +1,4 @@
--- How a message type is made of a method and a class (RFC 8489, section 5, figure 3).
+-- How a message type is composed of a method and a class (RFC 8489, section 5, figure 3).
 use Rattle.std.specs.Prelude.{ℕ, zero, suc, ◌+◌, ◌*◌, ◌/◌, ◌%◌}
 use Rattle.turn_stun.specs.declared.message.header.MessageClass.{MessageClass}
 use Rattle.turn_stun.specs.declared.message.header.MessageClass.TheVariants.{Request, Indication, Success, Error}

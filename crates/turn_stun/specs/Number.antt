@@ -2,7 +2,7 @@
 use Rattle.std.specs.Prelude.{ℕ, ◌+◌, ◌*◌, ◌/◌, ◌%◌, ◌^◌, List, [], ◌∷◌, ◌++◌, fold, slice_index}
 use Rattle.std.specs.Int.{w32, w64, to_be_bytes}
 
--- the number that the bytes are, the first byte the most significant
+-- the number that the bytes encode, the first byte the most significant
 abbrev pub big_endian : List ℕ → ℕ
 big_endian bytes = fold (λ number byte. number * 256 + byte) 0 bytes
 

@@ -1,4 +1,4 @@
--- What an ERROR-CODE says (RFC 8489, section 14.8).
+-- The contents of an ERROR-CODE (RFC 8489, section 14.8).
 use Rattle.std.specs.Prelude.{ℕ, List}
 
 -- the code, and the bytes of the reason

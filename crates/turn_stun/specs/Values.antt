@@ -1,11 +1,11 @@
--- What the value of an attribute gives, or nothing where it is malformed (RFC 8489, section 14).
+-- The decoded value of an attribute, or nothing if it is malformed (RFC 8489, section 14).
 use Rattle.std.specs.Prelude.{ℕ, ◌+◌, ◌*◌, ◌/◌, ◌%◌, nat_le, ◌&&◌, if◌then◌else◌, List, [], ◌∷◌, ◌++◌, length, drop, slice_index, Bool, ◌==◌, Option, Some, None, is_some, unwrap_or}
 use Rattle.turn_stun.specs.declared.attribute.password_algorithms.PasswordAlgorithm.{PasswordAlgorithm}
 use Rattle.turn_stun.specs.declared.attribute.password_algorithms.PasswordAlgorithm.TheVariants.{Md5, Sha256}
 use Rattle.turn_stun.specs.Message.{Attribute, attributes_from}
 use Rattle.turn_stun.specs.Refusal.{Refusal}
 
--- the value itself, where it has so many bytes
+-- the value itself, if it has so many bytes
 abbrev pub sized : ℕ → ℕ → List ℕ → Option (List ℕ)
 sized least most value =
     if nat_le least (length value) && nat_le (length value) most then Some value else None
@@ -45,9 +45,8 @@ error_code_of value =
 abbrev pub error_code_value : Refusal → List ℕ
 error_code_value error = (0 ∷ 0 ∷ (error.code / 100) ∷ (error.code % 100) ∷ []) ++ error.reason
 
--- PASSWORD-ALGORITHMS (section 14.11): a list of entries, and each of them is spelled as an
--- attribute is: the number of the algorithm, the length of its parameters, these, and padding to a
--- multiple of four
+-- PASSWORD-ALGORITHMS (section 14.11): a list of entries, each of them encoded like an attribute: the
+-- number of the algorithm, the length of its parameters, these, and padding to a multiple of four
 abbrev pub password_algorithms_of : List ℕ → Option (List ℕ)
 password_algorithms_of value = if is_some (attributes_from 0 0 value) then Some value else None
 

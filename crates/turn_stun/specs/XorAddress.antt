@@ -9,7 +9,7 @@ use Rattle.std.specs.declared.net.socket_addr.SocketAddrV6.{SocketAddrV6}
 use Rattle.std.specs.declared.net.socket_addr.SocketAddr.TheVariants.{V4, V6}
 use Rattle.turn_stun.specs.Number.{u16_at, id_segments}
 
--- the numbers, each XORed with the one of the mask at its place
+-- the numbers, each XORed with the number of the mask at its place
 abbrev pub xored_from : ℕ → List ℕ → List ℕ → List ℕ
 xored_from at [] numbers = []
 xored_from at (m ∷ mask) numbers = bit_xor (slice_index numbers at) m ∷ xored_from (at + 1) mask numbers
@@ -25,8 +25,8 @@ xored_port port = bit_xor port 0x2112
 abbrev pub cookie_octets : List ℕ
 cookie_octets = 0x21 ∷ 0x12 ∷ 0xa4 ∷ 0x42 ∷ []
 
--- an IPv6 address is XORed with the magic cookie and the 96 bits of the transaction ID behind it:
--- these are the groups of 16 bits
+-- an IPv6 address is XORed with the magic cookie followed by the 96 bits of the transaction ID: these are
+-- the groups of 16 bits
 abbrev pub cookie_and_id : ℕ → List ℕ
 cookie_and_id id = 0x2112 ∷ 0xa442 ∷ id_segments id
 
@@ -56,12 +56,12 @@ xor_addr value id =
     else (if (slice_index value 1 == 2) && (length value == 20) then Some (V6 (xor_ipv6 value id))
     else None)
 
--- how an IPv4 address is spelled
+-- the encoding of an IPv4 address
 abbrev pub ipv4_value : SocketAddrV4 → List ℕ
 ipv4_value a =
     0 ∷ 1 ∷ (to_be_bytes w16 (xored_port (v4_port a)) ++ xored cookie_octets (ipv4_octets (v4_ip a)))
 
--- how an IPv6 address is spelled
+-- the encoding of an IPv6 address
 abbrev pub ipv6_value : SocketAddrV6 → ℕ → List ℕ
 ipv6_value a id =
     0 ∷ 2 ∷ (to_be_bytes w16 (xored_port (v6_port a))

@@ -1,4 +1,4 @@
-//! Attributes: what a message carries behind its header (RFC 8489, section 14).
+//! Attributes: what a message carries after its header (RFC 8489, section 14).
 
 ghost use Rattle.std.specs.Prelude.{◌≡◌, ◌+◌, ◌^◌, ◌<◌, ◌≤◌, ◌↔◌, length, take, drop, IsTrue, IfNone, OnSome, IfSome};
 ghost use Rattle.turn_stun.specs.Number.{u16_at};
@@ -47,8 +47,8 @@ impl AttributeType {
     /// FINGERPRINT (section 14.7).
     pub const FINGERPRINT: AttributeType = AttributeType { value: 0x8028 };
 
-    /// Whether a receiver has to know the type to make use of the message (RFC 8489, section 14):
-    /// the types below 0x8000.
+    /// Whether a receiver has to know the type to use the message (RFC 8489, section 14): the types below
+    /// 0x8000.
     pub fn is_comprehension_required(self) -> bool
         ensures { IsTrue result ↔ (self.value < 0x8000) }
     {
@@ -56,18 +56,18 @@ impl AttributeType {
     }
 }
 
-/// An attribute as it stands in a message: its type, and its value without padding.
+/// An attribute as it is in a message: its type, and its value without padding.
 #[derive(Clone, Copy, Debug)]
 pub struct RawAttribute<'a> {
     /// The type.
     pub attribute_type: AttributeType,
-    /// The bytes of the value, which the type gives a meaning.
+    /// The bytes of the value, whose meaning depends on the type.
     pub value: &'a [u8],
 }
 
 impl<'a> RawAttribute<'a> {
-    /// The attribute at the front of the bytes, or `None` where it runs past their end. Bytes behind
-    /// it are unread, and so is its padding (RFC 8489, section 14).
+    /// The attribute at the start of the bytes, or `None` if it runs past their end. Bytes after it are
+    /// unread, and so is its padding (RFC 8489, section 14).
     pub fn from_bytes(bytes: &'a [u8]) -> Option<RawAttribute<'a>>
         ensures cut { IfNone result (length bytes.now < attribute_size bytes.now) }
         ensures whole { OnSome result (attribute_size bytes.now ≤ length bytes.now) }
@@ -86,7 +86,7 @@ impl<'a> RawAttribute<'a> {
         Some(RawAttribute::at_front(bytes))
     }
 
-    /// The attribute at the front of bytes that hold the whole of it.
+    /// The attribute at the start of bytes that hold the whole of it.
     pub(crate) fn at_front(bytes: &'a [u8]) -> RawAttribute<'a>
         requires { attribute_size bytes.now ≤ length bytes.now }
         ensures kind { result.attribute_type.value ≡ u16_at bytes.now 0 }
@@ -112,7 +112,7 @@ impl<'a> RawAttribute<'a> {
     }
 }
 
-/// An attribute of any type is written as it is.
+/// An attribute of any type is written unchanged.
 impl AttributeWrite for RawAttribute<'_> {
     ghost written_kind = { λ raw. raw.attribute_type.value };
 

@@ -27,7 +27,7 @@ impl Data {
         self.bytes.as_slice()
     }
 
-    /// Hands out the vector of the bytes.
+    /// Returns the vector of the bytes.
     pub fn into_bytes(self) -> Vec<u8>
         ensures { result.items ≡ self }
     {

@@ -1,4 +1,4 @@
-//! What this crate refuses, and why.
+//! The errors of this crate.
 
 use std::alloc::AllocError;
 use thiserror::Error;
@@ -13,7 +13,7 @@ pub enum ParseError {
     /// of four (RFC 8489, section 5).
     #[error("not the header of a message")]
     NotStun,
-    /// The length of the header is not that of the bytes behind it.
+    /// The length in the header is not that of the bytes after it.
     #[error("the length of the message is not that of its header")]
     Length,
     /// An attribute runs past the end of the message.
@@ -21,7 +21,7 @@ pub enum ParseError {
     Attribute,
 }
 
-/// Why a message does not answer with an attribute.
+/// Why a message does not return an attribute.
 #[derive(Clone, Copy, Debug, PartialEq, Eq, Error)]
 pub enum AttributeError {
     /// No seen attribute has the type.
@@ -39,7 +39,7 @@ pub enum WriteError {
     /// multiple of four (RFC 8489, section 5).
     #[error("the attributes of the message would be too long")]
     TooLong,
-    /// There is no memory for the attribute.
+    /// Memory allocation for the attribute failed.
     #[error("out of memory")]
     OutOfMemory,
 }

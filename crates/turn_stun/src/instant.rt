@@ -1,4 +1,4 @@
-//! Moments on the caller's clock.
+//! Times on the caller's clock.
 
 ghost use Rattle.std.specs.Prelude.{◌≡◌, ◌+◌, ◌-◌, ◌^◌, ◌<◌, min};
 ghost use Rattle.std.specs.Duration.{as_nanos};
@@ -7,15 +7,15 @@ use std::fmt;
 use std::marker::Model;
 use std::time::Duration;
 
-/// The greatest moment, in nanoseconds: 2^63 - 1, some 292 years after the start.
+/// The greatest time, in nanoseconds: 2^63 - 1, some 292 years after the start.
 const GREATEST_NANOS: u64 = 0x7fff_ffff_ffff_ffff;
 
 const NANOS_PER_SECOND: u64 = 1_000_000_000;
 
-/// A moment: the nanoseconds since a start that the caller chose.
+/// A time: the nanoseconds since a start that the caller chose.
 ///
-/// Nothing in this crate reads a clock. The greatest moment is 2^63 - 1 ns: sums stop there, and
-/// differences stop at zero, so that no call has to refuse a moment (our choice).
+/// Nothing in this crate reads a clock. The greatest time is 2^63 - 1 ns: sums stop there, and
+/// differences stop at zero, so that no call has to refuse a time (our choice).
 #[derive(Clone, Copy, Debug, PartialEq, Eq, PartialOrd, Ord)]
 pub struct Instant {
     nanos: u64,
@@ -37,7 +37,7 @@ impl Instant {
     /// The start of the caller's clock.
     pub const ZERO: Instant = Instant { nanos: 0 };
 
-    /// The moment that many nanoseconds after the start, or the greatest moment if that is earlier.
+    /// The time that many nanoseconds after the start, or the greatest time if that is earlier.
     pub fn from_nanos(nanos: u64) -> Instant
         ensures { result ≡ min nanos (2 ^ 63 - 1) }
     {
@@ -54,7 +54,7 @@ impl Instant {
         self.nanos
     }
 
-    /// The moment that much later, or the greatest moment if that is earlier.
+    /// The time that much later, or the greatest time if that is earlier.
     pub fn plus(self, duration: Duration) -> Instant
         ensures { result ≡ min (self + as_nanos duration) (2 ^ 63 - 1) }
     {
@@ -65,7 +65,7 @@ impl Instant {
         }
     }
 
-    /// How long after `earlier` this moment comes, or zero where it comes before it.
+    /// How long after `earlier` this time is, or zero if it is before it.
     pub fn since(self, earlier: Instant) -> Duration
         ensures { as_nanos result ≡ self - earlier }
     {

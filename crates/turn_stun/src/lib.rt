@@ -1,13 +1,12 @@
-//! STUN messages (RFC 8489), moments and packets, with no IO: nothing here opens a socket or reads a
-//! clock.
+//! STUN messages (RFC 8489), times and packets, with no IO: nothing here opens a socket or reads a clock.
 //!
 //! ```text
 //!  bytes --Message::from_bytes--> Message --attribute--> ErrorCode, Realm, Nonce ..
 //!  bytes <------- finish ------- MessageWriteVec <--add_attribute-- ErrorCode, Realm, Nonce ..
 //! ```
 //!
-//! Begin with [`message::Message::from_bytes`], which says whether bytes are a message and lets the
-//! caller look into it without memory, and with [`message::write::MessageWriteVec`], which makes
+//! Begin with [`message::Message::from_bytes`], which checks whether bytes are a message and lets the
+//! caller read it without memory allocation, and with [`message::write::MessageWriteVec`], which makes
 //! one. The values of attributes are in [`attribute`].
 //!
 //! ```rust
@@ -50,7 +49,7 @@ pub use message::write::MessageWriteVec;
 pub use transaction::TransactionId;
 pub use transport::{Transmit, TransportType};
 
-/// The traits of attributes, as `use turn_stun::prelude::*` brings them.
+/// The traits of attributes, for `use turn_stun::prelude::*`.
 pub mod prelude {
     pub use crate::attribute::typed::{AttributeFromRaw, AttributeWrite};
 }

@@ -1,4 +1,4 @@
-//! Messages: parsing, and what may be read in one (RFC 8489, sections 5 and 14).
+//! Messages: parsing, and look-ups of attributes (RFC 8489, sections 5 and 14).
 
 ghost use Rattle.std.specs.Prelude.{◌≡◌, ℕ, ◌+◌, ◌≤◌, ◌↔◌, List, length, All, IsTrue, IsOk, IsSome, IfOk, IfErr, IfSome, MatchOption, MatchResult, Some, None};
 ghost use Rattle.std.specs.List.{AllByRecursion};
@@ -25,10 +25,10 @@ use crate::message::parse::{fault_in, id_at, u16_at};
 use crate::transaction::TransactionId;
 use std::marker::Model;
 
-/// A STUN message: its bytes, which were found to be one.
+/// A STUN message: its bytes, which were checked to be one.
 ///
-/// Contracts see it as its bytes. All look-ups pass over what an integrity attribute hides
-/// (RFC 8489, sections 14.5 and 14.6), take no memory and copy nothing.
+/// Contracts see it as its bytes. All look-ups skip attributes that follow an integrity attribute and are
+/// to be ignored (RFC 8489, sections 14.5 and 14.6), allocate no memory and copy nothing.
 #[derive(Debug, Drop)]
 pub struct Message<'a> {
     bytes: &'a [u8],
@@ -46,7 +46,7 @@ impl<'a> Model for Message<'a> {
 }
 
 impl<'a> Message<'a> {
-    /// The message that the bytes are, all of them.
+    /// The message in the bytes, which are all of it.
     ///
     /// # Errors
     ///
@@ -56,7 +56,7 @@ impl<'a> Message<'a> {
         ensures found { IfOk result (λ message. (message ≡ bytes.now) × IsMessage bytes.now (type_of bytes.now) (id_of bytes.now) (attributes_of bytes.now)) }
         // What is a message is accepted, and has no other type, transaction ID or attributes.
         ensures only { (type id : ℕ) (attributes : List Attribute) → IsMessage bytes.now type id attributes → IsOk result × (attributes_of bytes.now ≡ attributes) }
-        // Which refusal it is.
+        // Which error it is.
         ensures fault { IfErr result (λ fault. fault_of bytes.now ≡ Some fault) }
     {
         match fault_in(bytes) {
@@ -73,14 +73,14 @@ impl<'a> Message<'a> {
         self.bytes
     }
 
-    /// What the message asks, grants, refuses or tells.
+    /// The method of the request, indication or response.
     pub fn method(&self) -> Method
         ensures { result.value ≡ method_of (type_of self.now) }
     {
         self.message_type().method
     }
 
-    /// Whether it asks, grants, refuses or tells.
+    /// Whether it is a request, an indication, a success or an error.
     pub fn class(&self) -> MessageClass
         ensures { result ≡ class_of (type_of self.now) }
     {
@@ -95,7 +95,7 @@ impl<'a> Message<'a> {
         MessageType::from_number(u16_at(self.bytes, 0))
     }
 
-    /// The transaction ID, which a response has in common with its request.
+    /// The transaction ID, which is the same in a response and its request.
     pub fn transaction_id(&self) -> TransactionId
         ensures { result ≡ id_of self.now }
     {
@@ -156,8 +156,8 @@ impl<'a> Message<'a> {
     ///
     /// # Errors
     ///
-    /// `Absent` where no attribute of the type is seen, `Malformed` where the first one has a value
-    /// that the type does not allow.
+    /// `Absent` if no attribute of the type is seen, `Malformed` if the first one has a value that the
+    /// type does not allow.
     pub fn attribute<A: AttributeFromRaw<'a>>(&self) -> Result<A, AttributeError>
         ensures { MatchOption (first_of A.kind (seen_of self.now))
             (result ≡ Err AttributeError.Absent)
@@ -171,12 +171,12 @@ impl<'a> Message<'a> {
         }
     }
 
-    /// The seen attribute of the type `A` before which `n` others of the type are seen.
+    /// The seen attribute of the type `A` that follows `n` other seen ones of the type.
     ///
     /// # Errors
     ///
-    /// `Absent` where there are not so many, `Malformed` where that one has a value that the type
-    /// does not allow.
+    /// `Absent` if there are not so many, `Malformed` if that one has a value that the type does not
+    /// allow.
     pub fn nth_attribute<A: AttributeFromRaw<'a>>(&self, n: usize) -> Result<A, AttributeError>
         ensures { MatchOption (nth_of A.kind n (seen_of self.now))
             (result ≡ Err AttributeError.Absent)

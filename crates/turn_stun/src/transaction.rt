@@ -6,10 +6,10 @@ ghost use Rattle.turn_stun.specs.Number.{big_endian, id_bytes, id_segments};
 use std::fmt;
 use std::marker::Model;
 
-/// The 96-bit number by which a response names its request (RFC 8489, section 5).
+/// The 96-bit number that identifies a request and its response (RFC 8489, section 5).
 ///
 /// Contracts see it as a number below 2^96: the big-endian value of its twelve bytes.
-#[derive(Clone, Copy, PartialEq, Eq, PartialOrd, Ord)]
+#[derive(Clone, Copy, PartialEq, Eq, PartialOrd, Ord, Hash)]
 pub struct TransactionId {
     number: u128,
 }
@@ -27,8 +27,8 @@ impl Model for TransactionId {
 }
 
 impl TransactionId {
-    /// The next ID in counting order, and zero after the greatest (our choice: it stands in for an
-    /// ID that is taken).
+    /// The next ID in counting order, and zero after the greatest (our choice: it replaces an ID that is
+    /// taken).
     pub fn successor(self) -> TransactionId
         ensures { result ≡ (self + 1) % 2 ^ 96 }
     {
@@ -37,7 +37,7 @@ impl TransactionId {
         }
     }
 
-    /// The twelve bytes of the ID, as they stand in a header.
+    /// The twelve bytes of the ID, as in a header.
     pub fn to_bytes(self) -> [u8; 12]
         ensures bytes { result ≡ id_bytes self }
         ensures number { big_endian result ≡ self }
@@ -50,7 +50,7 @@ impl TransactionId {
         [a, b, c, d, e, f, g, h, i, j, k, l]
     }
 
-    /// The ID that these twelve bytes of a header are.
+    /// The ID in these twelve bytes of a header.
     pub fn from_bytes(bytes: [u8; 12]) -> TransactionId
         ensures { result ≡ big_endian bytes }
     {

@@ -4,7 +4,7 @@ ghost use Rattle.std.specs.Prelude.{◌≡◌};
 
 use std::net::SocketAddr;
 
-/// What carries a packet.
+/// The transport of a packet.
 #[derive(Clone, Copy, Debug, PartialEq, Eq)]
 pub enum TransportType {
     /// Datagrams.
@@ -13,23 +13,23 @@ pub enum TransportType {
     Tcp,
 }
 
-/// A packet, which the caller sends or has received: its bytes and its way.
+/// A packet, which the caller sends or has received: its bytes, source, destination and transport.
 ///
 /// `T` holds the bytes, as `Data` or a slice of the caller's own.
 #[derive(Debug, Drop)]
 pub struct Transmit<T> {
-    /// What the packet carries.
+    /// The bytes of the packet.
     pub payload: T,
-    /// What carries the packet.
+    /// The transport of the packet.
     pub transport: TransportType,
-    /// Where it comes from.
+    /// Its source.
     pub from: SocketAddr,
-    /// Where it goes.
+    /// Its destination.
     pub to: SocketAddr,
 }
 
 impl<T> Transmit<T> {
-    /// The packet with this payload and this way.
+    /// The packet with this payload, source, destination and transport.
     pub fn new(
         payload: T,
         transport: TransportType,
@@ -49,7 +49,7 @@ impl<T> Transmit<T> {
         }
     }
 
-    /// The packet of the same way whose payload is what `f` makes of this one's.
+    /// The packet with the same source, destination and transport whose payload is `f` of this one's.
     pub fn reinterpret_data<U, F: FnOnce(T) -> U>(self, f: F) -> Transmit<U>
         requires { F.pre f self.payload }
         ensures payload { F.post f self.payload result.payload }

@@ -1,4 +1,4 @@
-//! What no clause says: outside vectors, worked schedules, many requests at once.
+//! What no clause says: external vectors, worked schedules, many requests at once.
 
 mod fixture;
 mod ids;
@@ -24,7 +24,7 @@ static TO_THE_GREATEST: [Step; 4] = [
     Waits(u64::MAX, 0x7fff_ffff_ffff_ffff),
 ];
 
-// A wait past the greatest moment is told as that moment, and nothing outstanding as 9999 s.
+// A deadline past the largest time is returned as that time, and one for no outstanding request as 9999 s.
 #[test]
 fn moments_stop_at_the_greatest(rt: HostRuntime) {
     let mut agent = agent_with(rt.alloc(), TransportType::Udp, u64::MAX, u64::MAX, 2, 0);
@@ -93,7 +93,7 @@ static EARLIEST: [Step; 8] = [
     Waits(1, 2_000_000),
 ];
 
-// Before `poll` the moments are gone through, after it the least of them is kept.
+// Before `poll` the earliest time is computed from all requests, after it the stored one is used.
 #[test]
 fn earliest_moment_counts_the_callers_own(rt: HostRuntime) {
     let mut agent = short_agent(rt.alloc());
@@ -125,7 +125,7 @@ static BACK: [Step; 7] = [
     Waits(0, 24_000_006),
 ];
 
-// A wait runs from the moment of its send, also where that lies before an earlier one.
+// A wait counts from the time of its transmission, even if that is before the time of an earlier one.
 #[test]
 fn moments_may_go_back(rt: HostRuntime) {
     let mut agent = agent_with(rt.alloc(), TransportType::Udp, 2_000_000, u64::MAX, 3, 5);

@@ -1,4 +1,4 @@
-//! Values from the standards, worked messages, each public call once, and refused memory.
+//! Values from the standards, worked messages, each public call once, and failed memory allocations.
 
 mod configuration;
 mod fixture;

@@ -1,7 +1,7 @@
 //! Assertions, IDs and attributes that the tests of more than one crate use.
 //!
-//! A proof follows each local of a test on each way out of it, and the text of each assertion again. So an
-//! assertion stands once, here, rows are data, and a call that finds no memory ends the test.
+//! A proof follows each local of a test on each path out of it, and the text of each assertion again. So each
+//! assertion is written once, here; rows are data; and a failed memory allocation ends the test.
 
 ghost use Rattle.std.specs.Prelude.{◌≡◌};
 
@@ -12,27 +12,27 @@ use turn_stun::message::method::Method;
 
 pub(crate) const ALLOCATE: Method = Method { value: 3 };
 
-/// The first and the second transaction ID that ChaCha20 gives under a seed of zeros.
+/// The first and the second transaction ID from ChaCha20 under a seed of zeros.
 pub(crate) const FIRST_ID: [u8; 12] = *b"\x76\xb8\xe0\xad\xa0\xf1\x3d\x90\x40\x5d\x6a\xe5";
 
 pub(crate) const SECOND_ID: [u8; 12] = *b"\x53\x86\xbd\x28\xbd\xd2\x19\xb8\xa0\x8d\xed\x1a";
 
-/// Asserts that it holds.
+/// Asserts that this holds.
 pub(crate) fn check(rt: &impl Abort, holds: bool) {
     assert!(rt; holds);
 }
 
-/// Asserts that both are the same.
+/// Asserts that both values are equal.
 pub(crate) fn same<T: PartialEq + Debug + Drop>(rt: &impl Abort, found: T, want: T) {
     assert_eq!(rt; found, want);
 }
 
-/// Asserts that the same bytes are in both.
+/// Asserts that both have the same bytes.
 pub(crate) fn same_bytes(rt: &impl Abort, found: &[u8], want: &[u8]) {
     same(rt, found, want);
 }
 
-/// An attribute of that type and value.
+/// An attribute with this type and value.
 pub(crate) fn raw(kind: u16, value: &[u8]) -> RawAttribute<'_>
     ensures { result.attribute_type.value ≡ kind }
 {

@@ -1,7 +1,7 @@
-//! The tests of `turn_stun`, `turn_types`, `turn_auth` and `turn_agent`, by what these make public.
+//! The tests of `turn_stun`, `turn_types`, `turn_auth` and `turn_agent`, through their public items.
 //!
-//! The gate proves a crate that has tests twice, with them and without. So the tests stand here, a module for each
-//! crate, and the crates that they test are proved once.
+//! The gate proves a crate that has tests twice, with them and without. So the tests are here, a module for
+//! each crate, and the crates under test are proved once.
 //! To run them, unproved, in this folder:
 //!
 //! ```text

@@ -1,4 +1,4 @@
-//! Values from the standards, bounds, each public call once, and refused memory.
+//! Values from the standards, limits, each public call once, and failed memory allocations.
 
 mod fixture;
 mod memory;

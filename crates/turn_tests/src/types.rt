@@ -1,4 +1,4 @@
-//! What no clause says: outside values, and that each call succeeds while there is memory.
+//! What no clause says: external values, and that each call succeeds while memory allocation does.
 
 mod attributes;
 mod frames;

@@ -32,7 +32,7 @@ broken_off-IsCounted b is = record {
   start = zero_or (b.start + left_of b.stream.bytes (broken_off 0 b)) _ refl;
 }
 
--- what a buffer is before its rest may move
+-- a buffer before its rest may move
 abbrev front_cut : ℕ → Buffered → Buffered
 front_cut k b = record {
   stream = record { bytes = drop k b.stream.bytes; is_broken = b.stream.is_broken };
@@ -70,7 +70,7 @@ settled_by old b left counts low false e =
       refl,
     )
 
--- a frame that is given out is taken off
+-- a frame that is returned is taken off
 pub cut_off-IsCounted : (b : Buffered) (k : ℕ) → k ≤ length b.stream.bytes → IsKept b → IsCounted b (cut_off k b) (left_of b.stream.bytes (cut_off k b)) (b.start + left_of b.stream.bytes (cut_off k b))
 cut_off-IsCounted b k h is =
     let done = settled_by b (front_cut k b) k refl (omega (arith, is.paid, is.bounded)) (nat_lt (length (drop k b.stream.bytes)) (b.start + k)) refl in
@@ -78,7 +78,7 @@ cut_off-IsCounted b k h is =
     ap (λ (s : Stream). length b.stream.bytes - length s.bytes) done.1 ∙ rw length-drop (omega (arith, h)) in
     subst (λ n. IsCounted b (cut_off k b) n (b.start + n)) (sym left) done.0
 
--- what is kept of a piece has moved nothing
+-- keeping the rest of a piece moves nothing
 pub kept_behind-IsCounted : (old new : Buffered) (piece : List ℕ) (k : ℕ) → k ≤ length piece → new.stream.bytes ≡ drop k piece → new.start ≡ 0 → new.counts ≡ with_taken k old.counts → IsKept new → IsCounted old new (left_of piece new) 0
 kept_behind-IsCounted old new piece k h bytes start counts is =
     let left : left_of piece new ≡ k = rw (bytes, length-drop) (omega (arith, h)) in
@@ -91,7 +91,7 @@ kept_behind-IsCounted old new piece k h bytes start counts is =
       start = rw short start;
     }
 
--- where nothing waited, nothing of the buffer stands in front
+-- if the buffer was empty, none of its bytes precede the rest
 pub first-IsCounted : (old new : Buffered) (piece : List ℕ) → old.stream.bytes ≡ [] → old.stream.is_broken ≡ false → IsCounted old new (left_of piece new) 0 → IsCounted old new (left_of (with_piece old.stream piece).bytes new) (front_of old (left_of (with_piece old.stream piece).bytes new))
 first-IsCounted old new piece bytes broken is =
     let e : old.stream ≡ record { bytes = []; is_broken = false } = rw (bytes, broken) refl in

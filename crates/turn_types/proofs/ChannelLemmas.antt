@@ -1,4 +1,4 @@
--- The bytes in which there is no fault begin with a channel frame, and with no other one.
+-- The bytes without a fault begin with a ChannelData message, and with no other one.
 use Rattle.std.proofs.Common.{◌≡◌, ℕ, ◌-◌, ◌^◌, ◌+◌, ◌<◌, ◌≤◌, true, false, List, ◌++◌, length, take, drop, replicate, None, refl, sym, ◌∙◌, arith, length-append, nat_lt, nat_le}
 use Rattle.std.proofs.lemmas.Bool.{ltb-true, ltb-false, leb-true, le-ltb, lt-ltb, le-leb, not-false, and_parts}
 use Rattle.std.proofs.lemmas.List.{take-append-drop, drop-drop, take_at, drop_at, length-take, length-drop}
@@ -9,7 +9,7 @@ use Rattle.turn_stun.proofs.GrammarLemmas.{u16_at-append, u16_at-take}
 use Rattle.turn_stun.proofs.FaultLemmas.{guard_none}
 use Rattle.turn_types.specs.Channel.{IsChannel, channel_at, channel_fault_of, channel_frame, is_channel_number}
 
--- what the tests of a channel frame find
+-- what the tests of a ChannelData message find
 pub record PassesTests (bytes : List ℕ) : Type 0 where
   pub least : 0x4000 ≤ u16_at bytes 0
   pub most : u16_at bytes 0 < 0x8000
@@ -38,7 +38,7 @@ three_parts n bytes =
 pub length-payload : (bytes : List ℕ) → PassesTests bytes → length (channel_at bytes).payload ≡ u16_at bytes 2
 length-payload bytes tests = rw (length-take, length-drop) (omega (arith, tests.whole))
 
--- what passes the tests begins with the frame that is read
+-- bytes that pass the tests begin with the message that is read
 pub PassesTests-IsChannel : (bytes : List ℕ) → PassesTests bytes → IsChannel bytes (channel_at bytes).id (channel_at bytes).payload (drop (4 + length (channel_at bytes).payload) bytes)
 PassesTests-IsChannel bytes tests =
     record {
@@ -51,7 +51,7 @@ PassesTests-IsChannel bytes tests =
       payload_length = u16_at-take 4 bytes 2 (omega arith) ∙ sym (length-payload bytes tests);
     }
 
--- a frame in front is what is read there
+-- the message at the start is the one that is read
 pub record ReadsChannel (bytes : List ℕ) (id : ℕ) (payload : List ℕ) : Type 0 where
   pub tests : PassesTests bytes
   pub number : u16_at bytes 0 ≡ id
@@ -74,7 +74,7 @@ IsChannel-ReadsChannel bytes id payload rest is =
       payload_is = rw (size, is.spelled, drop_at is.header behind 4 is.four_bytes) (take_at payload rest (length payload) refl);
     }
 
--- where a frame is in front there is no fault
+-- if a message is at the start there is no fault
 pub PassesTests-no_fault : (bytes : List ℕ) → PassesTests bytes → channel_fault_of bytes ≡ None
 unfolding channel_fault_of
 PassesTests-no_fault bytes tests =
@@ -84,7 +84,7 @@ PassesTests-no_fault bytes tests =
     let whole : nat_lt (length bytes) (4 + u16_at bytes 2) ≡ false = le-ltb _ _ tests.whole in
     rw (long, least, most, whole) refl
 
--- a frame that is written is a frame of its number and payload, with its padding behind
+-- a ChannelData message that is written has its number and payload, followed by its padding
 pub channel_frame-IsChannel : (id : ℕ) (payload : List ℕ) → 0x4000 ≤ id → id < 0x8000 → length payload < 2 ^ 16 → IsChannel (channel_frame id payload) id payload (replicate (padded_len (length payload) - length payload) 0)
 channel_frame-IsChannel id payload least most short = record {
   header = to_be_bytes w16 id ++ to_be_bytes w16 (length payload);

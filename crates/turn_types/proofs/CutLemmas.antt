@@ -1,4 +1,4 @@
--- The law of cuts: a stream gives the same wherever it is cut.
+-- The law of cuts: the result of a stream is the same wherever it is cut.
 use Rattle.std.proofs.Common.{◌≡◌, ℕ, zero, suc, ◌<◌, ◌≤◌, List, [], ◌∷◌, ◌++◌, length, take, drop, Option, Some, None, refl, sym, ap, ◌∙◌, arith, append_assoc}
 use Rattle.std.proofs.lemmas.List.{length-drop, append-nil, take-append-le, drop-append-le}
 use Rattle.std.specs.List.{concat}
@@ -8,12 +8,12 @@ behind-behind : {S O : Type 0} (first second : List O) (d : Drained S O) → beh
 behind-behind first second d = simp append_assoc
 
 module _ {S O : Type 0} (size : S → List ℕ → Option ℕ) (handle : S → List ℕ → S × List O) (is : IsPrefixCut size) where
-  -- a stream of no bytes has no frame in front
+  -- a stream of no bytes has no first frame
   nothing_in_front : (s : S) (bytes : List ℕ) → length bytes ≤ 0 → (found : Option ℕ) → size s bytes ≡ found → found ≡ None
   nothing_in_front s bytes empty None e = refl
   nothing_in_front s bytes empty (Some k) e = let within = is.within s bytes k e in absurd (omega arith)
 
-  -- what follows the frame in front is shorter
+  -- the rest after the first frame is shorter
   same_later : (next other : S → List ℕ → Drained S O) (s : S) (bytes : List ℕ) (found : Option ℕ) → size s bytes ≡ found → ((t : S) (rest : List ℕ) → length rest < length bytes → next t rest ≡ other t rest) → one_frame size handle next s bytes found ≡ one_frame size handle other s bytes found
   same_later next other s bytes None e same = refl
   same_later next other s bytes (Some k) e same =
@@ -21,7 +21,7 @@ module _ {S O : Type 0} (size : S → List ℕ → Option ℕ) (handle : S → L
       let shorter : length (drop k bytes) < length bytes = rw length-drop (omega arith) in
       ap (λ (d : Drained S O). behind (handle s (take k bytes)).1 d) (same (handle s (take k bytes)).0 (drop k bytes) shorter)
 
-  -- where there are as many turns as bytes, more turns give the same
+  -- with as many steps as bytes, more steps give the same
   enough : (n m : ℕ) (s : S) (bytes : List ℕ) → length bytes ≤ n → length bytes ≤ m → drained_at_most size handle n s bytes ≡ drained_at_most size handle m s bytes
   unfolding drained_at_most
   enough zero zero s bytes hn hm = refl
@@ -38,7 +38,7 @@ module _ {S O : Type 0} (size : S → List ℕ → Option ℕ) (handle : S → L
       same_later (drained_at_most size handle n) (drained size handle) s bytes _ refl
       (λ t rest shorter. enough n (length rest) t rest (omega arith) (omega arith))
 
-  -- the frame in front, and then what is drained of the rest
+  -- the first frame, and then what is drained of the rest
   pub by_first : (s : S) (bytes : List ℕ) (found : Option ℕ) → size s bytes ≡ found → drained size handle s bytes ≡ one_frame size handle (drained size handle) s bytes found
   by_first s bytes found e = drained_at_most-first (length bytes) s bytes (omega arith) ∙ ap (one_frame size handle (drained size handle) s bytes) e
 

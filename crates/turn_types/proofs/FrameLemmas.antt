@@ -1,4 +1,4 @@
--- The frame in front is a frame, it is the only one, and it is the same whatever follows.
+-- The first frame is a frame, it is the only one, and it is the same whatever follows.
 use Rattle.std.proofs.Common.{◌≡◌, ℕ, ◌+◌, ◌<◌, ◌≤◌, Bool, true, false, not, nat_le, nat_lt, ◌&&◌, if◌then◌else◌, List, [], ◌∷◌, ◌++◌, length, Some, None, refl, ap, ◌∙◌, arith, length-append}
 use Rattle.std.proofs.lemmas.Bool.{leb-true, le-leb, not-true, and_parts}
 use Rattle.turn_stun.specs.Message.{padded_len}
@@ -9,7 +9,7 @@ use Rattle.turn_types.specs.Frames.{begins_message, begins_no_frame, frame_size,
 use Rattle.turn_types.specs.Streams.{Mode, size_in, one_byte}
 use Rattle.turn_types.specs.Streams.Mode.{Framed, Bound, Broken}
 
--- what the tests find of a whole frame in front
+-- what the tests find for a whole first frame
 pub record IsWhole (bytes : List ℕ) (k : ℕ) : Type 0 where
   pub begins : begins_no_frame bytes ≡ false
   pub size : frame_size bytes ≡ k
@@ -46,13 +46,13 @@ IsWhole-frame_len bytes k is =
     let fits : frame_size bytes ≤ length bytes = rw is.size is.within in
     some_of (begins_no_frame bytes) (nat_le (frame_size bytes) (length bytes)) (frame_size bytes) k is.begins (le-leb _ _ fits) is.size
 
--- the header tells the size, and stands in the first four bytes
+-- the size is in the header, in the first four bytes
 same_size : (first second : List ℕ) → u16_at first 0 ≡ u16_at second 0 → u16_at first 2 ≡ u16_at second 2 → frame_size first ≡ frame_size second
 same_size first second number len =
     ap (λ n. if nat_lt n 0x4000 then 20 + u16_at first 2 else 4 + padded_len (u16_at first 2)) number
     ∙ ap (λ n. if nat_lt (u16_at second 0) 0x4000 then 20 + n else 4 + padded_len n) len
 
--- a whole frame stays whole where its header stays and its bytes are there
+-- a whole frame stays whole if its header stays and its bytes are present
 pub IsWhole-along : (first second : List ℕ) (k : ℕ) → IsWhole first k → u16_at second 0 ≡ u16_at first 0 → u16_at second 2 ≡ u16_at first 2 → k ≤ length second → IsWhole second k
 IsWhole-along first second k is number len fits = record {
   begins = ap (λ n. nat_le 0x8000 n) number ∙ is.begins;
@@ -72,7 +72,7 @@ IsWhole-append bytes more k is =
 pub frame_len-append : (bytes more : List ℕ) (k : ℕ) → frame_len bytes ≡ Some k → frame_len (bytes ++ more) ≡ Some k
 frame_len-append bytes more k h = IsWhole-frame_len (bytes ++ more) k (IsWhole-append bytes more k (frame_len-IsWhole bytes k h))
 
--- what no frame begins with stays so, whatever follows: its first byte tells
+-- bytes that begin no frame still begin none, whatever follows: the first byte decides
 pub begins_no_frame-append : (bytes more : List ℕ) → begins_no_frame bytes ≡ true → begins_no_frame (bytes ++ more) ≡ true
 begins_no_frame-append [] more h = cc
 begins_no_frame-append (b ∷ []) more h =
@@ -80,7 +80,7 @@ begins_no_frame-append (b ∷ []) more h =
     le-leb 0x8000 (u16_at (b ∷ more) 0) (omega arith)
 begins_no_frame-append (b ∷ d ∷ bytes) more h = h
 
--- where no frame begins there is no whole one
+-- bytes that begin no frame have no whole first frame
 pub begins_no_frame-frame_len : (bytes : List ℕ) → begins_no_frame bytes ≡ true → frame_len bytes ≡ None
 begins_no_frame-frame_len bytes h = ap (λ b. if not b && nat_le (frame_size bytes) (length bytes) then Some (frame_size bytes) else None) h
 

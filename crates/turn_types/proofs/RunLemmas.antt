@@ -1,4 +1,4 @@
--- Over any calls a stream gives the frames of its bytes.
+-- Over any calls a stream returns the frames of its bytes.
 use Rattle.std.proofs.Common.{◌≡◌, ℕ, ◌≤◌, Bool, true, false, if◌then◌else◌, List, [], ◌∷◌, ◌++◌, length, take, drop, Option, Some, None, refl, sym, ap, subst, ◌∙◌, append_assoc}
 use Rattle.std.proofs.lemmas.List.{append-nil, take-append-le, drop-append-le}
 use Rattle.turn_types.specs.Frames.{Frames, begins_no_frame, frame_len, frames_of}
@@ -7,7 +7,7 @@ use Rattle.turn_types.specs.Streams.Call.{Piece, Feed, Poll}
 use Rattle.turn_types.proofs.FrameLemmas.{begins_no_frame-append, begins_no_frame-frame_len, frame_len-IsWhole, frame_len-append}
 use Rattle.turn_types.proofs.SplitLemmas.{frames_of-none, frames_of-some}
 
--- a broken stream gives nothing and stays broken
+-- a broken stream returns nothing and stays broken
 pub run_of-broken_stream : (calls : List Call) → run_of broken_stream calls ≡ record { given = []; after = broken_stream }
 run_of-broken_stream [] = refl
 run_of-broken_stream (Piece piece ∷ calls) = ap (given_first None) (run_of-broken_stream calls)
@@ -22,7 +22,7 @@ pub turn-frame_len : (s : Stream) (found : Option ℕ) → begins_no_frame s.byt
 turn-frame_len s found begins e =
     ap (λ b. if b then record { frame = None; after = broken_stream } else turn_by s (frame_len s.bytes)) begins ∙ ap (turn_by s) e
 
--- a run that begins with this turn gives the frames of all the bytes, where what follows does
+-- a run that begins with this step returns the frames of all the bytes, if the rest of the run does
 abbrev GivesAfter : List ℕ → List Call → Turn → Type 0
 GivesAfter bytes calls t = GivesFrames (bytes ++ bytes_in calls) (given_first t.frame (run_of t.after calls))
 

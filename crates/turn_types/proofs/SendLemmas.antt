@@ -14,7 +14,7 @@ pub length-xor_value : (peer : SocketAddr) (id : ℕ) → length (xor_value peer
 length-xor_value (V4 a) id = refl
 length-xor_value (V6 a) id = refl
 
--- an address takes no padding
+-- an address needs no padding
 padded_len-xor_value_len : (peer : SocketAddr) → padded_len (xor_value_len peer) ≡ xor_value_len peer
 padded_len-xor_value_len (V4 a) = refl
 padded_len-xor_value_len (V6 a) = refl
@@ -60,7 +60,7 @@ module _ (peer : SocketAddr) (payload : List ℕ) (id : ℕ) (short : length pay
   two_adds : AddsAttribute (with_peer peer id) (with_attribute data_kind payload (with_peer peer id)) data_kind payload
   two_adds = with_attribute-AddsAttribute data_kind payload (with_peer peer id) one (omega arith) room_2
 
-  -- which length field is in the message is set last
+  -- the length field that is set last is in the message
   any_length : (n : ℕ) → with_length n (with_peer peer id ++ attribute_bytes data_kind payload) ≡ with_length n (header_of send_type id) ++ attribute_bytes peer_kind (xor_value peer id) ++ attribute_bytes data_kind payload
   unfolding with_peer with_attribute
   any_length n = refl
@@ -99,7 +99,7 @@ module _ (peer : SocketAddr) (payload : List ℕ) (id : ℕ) (short : length pay
   unfolding seen_after
   seen_of-send_indication = rw attributes_of-send_indication refl
 
--- what is written of the peer is what is written of it as its receiver reads it
+-- the encoding of the peer's address is that of the address as its receiver reads it
 pub send_indication-plain : (sent peer : SocketAddr) (payload : List ℕ) (id : ℕ) → sent ≡ plain peer → send_indication sent payload id ≡ send_indication peer payload id
 send_indication-plain sent (V4 a) payload id e = ap (λ addr. send_indication addr payload id) e
 send_indication-plain sent (V6 a) payload id e = ap (λ addr. send_indication addr payload id) e

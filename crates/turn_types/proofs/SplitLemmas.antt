@@ -15,7 +15,7 @@ use Rattle.turn_types.proofs.ChannelLemmas.{channel_frame-IsChannel}
 use Rattle.turn_types.proofs.CutLemmas.{by_first}
 use Rattle.turn_types.proofs.FrameLemmas.{IsWhole, IsWhole-frame_len, IsWhole-append, frame_len-IsWhole, frame_len-append}
 
--- what the first two bits make of the size
+-- the size by the first two bits
 size_of_message : (bytes : List ℕ) → u16_at bytes 0 < 0x4000 → frame_size bytes ≡ 20 + u16_at bytes 2
 size_of_message bytes low = ap (λ b. if b then 20 + u16_at bytes 2 else 4 + padded_len (u16_at bytes 2)) (lt-ltb _ _ low)
 
@@ -106,19 +106,19 @@ frame_len-IsPrefixCut = record {
   stays = λ s bytes more k h. frame_len-append bytes more k h;
 }
 
--- with no whole frame in front there is none
+-- with no whole first frame there is none
 pub frames_of-none : (bytes : List ℕ) → frame_len bytes ≡ None → frames_of bytes ≡ record { frames = []; rest = bytes }
 frames_of-none bytes none =
     ap (λ (d : Drained (Unit {0}) (List ℕ)). record { frames = d.given; rest = d.rest })
     (by_first (λ s front. frame_len front) (λ s frame. (s, frame ∷ [])) frame_len-IsPrefixCut tt bytes None none)
 
--- the frame in front, and then those of the rest
+-- the first frame, and then those of the rest
 pub frames_of-some : (bytes : List ℕ) (k : ℕ) → frame_len bytes ≡ Some k → frames_of bytes ≡ record { frames = take k bytes ∷ (frames_of (drop k bytes)).frames; rest = (frames_of (drop k bytes)).rest }
 frames_of-some bytes k some =
     ap (λ (d : Drained (Unit {0}) (List ℕ)). record { frames = d.given; rest = d.rest })
     (by_first (λ s front. frame_len front) (λ s frame. (s, frame ∷ [])) frame_len-IsPrefixCut tt bytes (Some k) some)
 
--- a frame that stands in front is found, whatever follows
+-- a frame at the start is found, whatever follows
 pub IsFrame-frame_len : (frame more : List ℕ) → IsFrame frame → frame_len (frame ++ more) ≡ Some (length frame)
 IsFrame-frame_len frame more is =
     IsWhole-frame_len (frame ++ more) (length frame) (IsWhole-append frame more (length frame) (IsFrame-IsWhole frame is))
@@ -145,7 +145,7 @@ sound_at (suc n) bytes h (Some k) e =
       no_more = later.no_more;
     })
 
--- what is cut off is frames
+-- what is cut off are frames
 pub frames_of-AreFrames : (bytes : List ℕ) → AreFrames bytes (frames_of bytes)
 frames_of-AreFrames bytes = sound_at (length bytes) bytes (omega arith) (frame_len bytes) refl
 
@@ -168,7 +168,7 @@ complete_at (frame ∷ frames) rest bytes is =
     rw (frames_of-some bytes (length frame) found, front, later)
     (ap (λ (cut : Frames). record { frames = frame ∷ cut.frames; rest = cut.rest }) more)
 
--- what is frames is cut off
+-- frames are cut off
 pub AreFrames-frames_of : (bytes : List ℕ) (cut : Frames) → AreFrames bytes cut → cut ≡ frames_of bytes
 AreFrames-frames_of bytes cut is = complete_at cut.frames cut.rest bytes is
 
@@ -198,7 +198,7 @@ IsMessage-IsMessageFrame bytes type id attributes is =
       body_length = u16_at-take 20 bytes 2 (omega arith) ∙ rw length-drop (omega (arith, whole));
     }
 
--- a channel frame that is written is a frame
+-- a ChannelData message that is written is a frame
 pub channel_frame-IsChannelFrame : (id : ℕ) (payload : List ℕ) → 0x4000 ≤ id → id < 0x8000 → length payload < 2 ^ 16 → IsChannelFrame (channel_frame id payload)
 channel_frame-IsChannelFrame id payload least most short = record {
   id = id;

@@ -1,4 +1,4 @@
--- A turn of a stream is a step of draining it.
+-- Taking the next frame of a stream is a step of draining it.
 use Rattle.std.proofs.Common.{◌≡◌, ℕ, Bool, true, false, if◌then◌else◌, List, [], ◌∷◌, take, drop, Option, Some, None, refl, sym, ap, subst, ◌∙◌}
 use Rattle.turn_types.specs.Cuts.{behind, one_frame, drained}
 use Rattle.turn_types.specs.Frames.{begins_no_frame, frame_len}
@@ -8,7 +8,7 @@ use Rattle.turn_types.proofs.CutLemmas.{by_first}
 use Rattle.turn_types.proofs.FrameLemmas.{size_in-IsPrefixCut}
 use Rattle.turn_types.proofs.RunLemmas.{turn-no_frame, turn-frame_len}
 
--- what a turn finds in front, and what it makes of it
+-- what the call finds at the start, and what it makes of it
 pub data Found : List ℕ → Turn → Type 0 where
   Breaks : {bytes : List ℕ} → begins_no_frame bytes ≡ true → Found bytes (record { frame = None; after = broken_stream })
   Waits : {bytes : List ℕ} → begins_no_frame bytes ≡ false → frame_len bytes ≡ None → Found bytes (record { frame = None; after = framed bytes })
@@ -34,7 +34,7 @@ size-byte Bound byte bytes other = refl
 size-byte Broken byte bytes other = refl
 
 module _ {S O : Type 0} (mode : S → Mode) (handle : S → List ℕ → S × List O) where
-  -- the step that the mode says
+  -- the step that the mode requires
   pub step_in : (state : S) (bytes : List ℕ) (m : Mode) (found : Option ℕ) → mode state ≡ m → size_in m bytes ≡ found → drained (λ s. size_in (mode s)) handle state bytes ≡ one_frame (λ s. size_in (mode s)) handle (drained (λ s. size_in (mode s)) handle) state bytes found
   step_in state bytes m found e h =
       by_first (λ s. size_in (mode s)) handle (size_in-IsPrefixCut mode) state bytes found (ap (λ n. size_in n bytes) e ∙ h)

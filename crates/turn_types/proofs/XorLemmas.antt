@@ -1,4 +1,4 @@
--- What is written of an address is read back, but for what is not sent.
+-- An address that is written is read back, except the parts that are not sent.
 use Rattle.std.proofs.Common.{◌≡◌, ℕ, ◌^◌, ◌<◌, Some, refl}
 use Rattle.std.specs.Net.Socket.{IsSocketAddr}
 use Rattle.std.specs.declared.net.socket_addr.SocketAddr.{SocketAddr}
@@ -10,7 +10,7 @@ pub xor_addr-xor_value : (addr : SocketAddr) (id : ℕ) → IsSocketAddr (plain 
 xor_addr-xor_value (V4 a) id is small = xor_addr-ipv4_value a id is.0.0 is.1
 xor_addr-xor_value (V6 a) id is small = xor_addr-ipv6_value a id is.0 is.1 small
 
--- what is not sent makes no difference
+-- the parts that are not sent make no difference
 pub xor_value-plain : (addr : SocketAddr) (id : ℕ) → xor_value (plain addr) id ≡ xor_value addr id
 xor_value-plain (V4 a) id = refl
 xor_value-plain (V6 a) id = refl

@@ -1,21 +1,21 @@
--- Streams that the network cuts where it likes: a state, a rule for the length of the frame at the
--- front, which may depend on the state, and what the state makes of one whole frame.
+-- Streams that the network cuts anywhere: a state, a rule for the length of the first frame, which may
+-- depend on the state, and the effect of one whole frame on the state.
 use Rattle.std.specs.Prelude.{◌≡◌, ℕ, zero, suc, ◌<◌, ◌≤◌, List, [], ◌∷◌, ◌++◌, length, take, drop, Option, Some, None}
 
--- what is left of a stream from whose front each whole frame was taken, and what the frames gave
+-- the rest of a stream from which each whole first frame was taken, and the outputs of the frames
 pub record Drained (S O : Type 0) : Type 0 where
   pub state : S
   pub given : List O
   pub rest : List ℕ
 
--- the same, with what earlier frames gave in front
+-- the same, after the outputs of earlier frames
 abbrev pub behind : {S O : Type 0} → List O → Drained S O → Drained S O
 behind given d = record { state = d.state; given = given ++ d.given; rest = d.rest }
 
--- `size` says how many bytes the frame at the front has, where the whole of it is there, and
--- `handle` what one whole frame makes of the state, and what it gives.
+-- `size` is the length of the first frame in bytes, if the whole of it is present, and `handle` the
+-- effect of one whole frame on the state, with its outputs.
 module _ {S O : Type 0} (size : S → List ℕ → Option ℕ) (handle : S → List ℕ → S × List O) where
-  -- the frame at the front, and then what `next` makes of the rest
+  -- the first frame, and then what `next` makes of the rest
   abbrev pub one_frame : (S → List ℕ → Drained S O) → S → List ℕ → Option ℕ → Drained S O
   one_frame next s bytes None = record { state = s; given = []; rest = bytes }
   one_frame next s bytes (Some k) = behind (handle s (take k bytes)).1 (next (handle s (take k bytes)).0 (drop k bytes))
@@ -29,11 +29,11 @@ module _ {S O : Type 0} (size : S → List ℕ → Option ℕ) (handle : S → L
   abbrev pub drained : S → List ℕ → Drained S O
   drained s bytes = drained_at_most (length bytes) s bytes
 
-  -- the stream goes on with one more piece
+  -- the stream continues with one more piece
   abbrev pub fed : Drained S O → List ℕ → Drained S O
   fed d piece = behind d.given (drained d.state (d.rest ++ piece))
 
-  -- the stream goes on with these pieces, one after the other
+  -- the stream continues with these pieces, in sequence
   abbrev pub fed_each : Drained S O → List (List ℕ) → Drained S O
   fed_each d [] = d
   fed_each d (piece ∷ pieces) = fed_each (fed d piece) pieces

@@ -1,4 +1,4 @@
--- What packets that are built late are made of.
+-- The contents of packets that are built late.
 use Rattle.std.specs.Prelude.{ℕ, List}
 use Rattle.std.specs.declared.convert.AsSlice.{Ghosts}
 use Rattle.turn_types.specs.declared.transmit.delayed_channel.DelayedChannel.{DelayedChannel}
@@ -6,7 +6,7 @@ use Rattle.turn_types.specs.declared.transmit.delayed_message.DelayedMessage.{De
 use Rattle.turn_types.specs.Channel.{channel_frame}
 use Rattle.turn_types.specs.Send.{send_indication}
 
--- the channel frame that a `DelayedChannel` makes
+-- the ChannelData message that a `DelayedChannel` makes
 abbrev pub delayed_channel_bytes : {T : Type 0} {g : Ghosts T ℕ} → DelayedChannel T g → List ℕ
 delayed_channel_bytes {g = g} frame = channel_frame frame.id (g.items frame.payload)
 

@@ -1,4 +1,4 @@
--- How address families are numbered (RFC 8656, section 18.6).
+-- The numbers of address families (RFC 8656, section 18.6).
 use Rattle.std.specs.Prelude.{ℕ, ◌==◌, if◌then◌else◌, Option, Some, None}
 use Rattle.turn_types.specs.declared.family.AddressFamily.{AddressFamily}
 use Rattle.turn_types.specs.declared.family.AddressFamily.TheVariants.{IPV4, IPV6}

@@ -1,5 +1,4 @@
--- What the value of ICMP gives, or nothing where it is malformed, and how it is spelled (RFC 8656,
--- section 18.13).
+-- The decoded value of ICMP, or nothing if it is malformed, and its encoding (RFC 8656, section 18.13).
 use Rattle.std.specs.Prelude.{ℕ, ◌==◌, if◌then◌else◌, List, ◌∷◌, length, slice_index, Option, Some, None}
 use Rattle.std.specs.Int.{w32, to_be_bytes}
 use Rattle.turn_stun.specs.Number.{u32_at}

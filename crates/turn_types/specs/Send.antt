@@ -1,4 +1,4 @@
--- The Send indication, by which a client sends to a peer (RFC 8656, section 11.1).
+-- The Send indication, with which a client sends to a peer (RFC 8656, section 11.1).
 use Rattle.std.specs.Prelude.{ℕ, ◌+◌, List, [], ◌∷◌, ◌++◌, length}
 use Rattle.std.specs.declared.net.socket_addr.SocketAddr.{SocketAddr}
 use Rattle.turn_stun.specs.Message.{Attribute, padded_len}
@@ -18,14 +18,14 @@ peer_kind = 0x0012
 abbrev pub data_kind : ℕ
 data_kind = 0x0013
 
--- a header, and behind it the address of the peer and the data; it is unsigned
+-- a header, and after it the address of the peer and the data; it is unsigned
 abbrev pub send_indication : SocketAddr → List ℕ → ℕ → List ℕ
 send_indication peer payload id =
     with_length (8 + xor_value_len peer + padded_len (length payload)) (header_of send_type id)
     ++ attribute_bytes peer_kind (xor_value peer id)
     ++ attribute_bytes data_kind payload
 
--- the attributes of a Send indication, where they stand
+-- the attributes of a Send indication, with their places
 abbrev pub send_attributes : SocketAddr → List ℕ → ℕ → List Attribute
 send_attributes peer payload id =
     record { offset = 20; kind = peer_kind; value = xor_value peer id }

@@ -1,14 +1,14 @@
--- How the bytes of a stream are meant, and what one call takes off its front.
+-- What the bytes of a stream are, and what one call takes off its start.
 use Rattle.std.specs.Prelude.{◌≡◌, ℕ, Bool, true, false, if◌then◌else◌, List, [], ◌∷◌, ◌++◌, take, drop, Option, Some, None, option_to_list}
 use Rattle.turn_types.specs.Frames.{begins_no_frame, frame_len, frames_of}
 
--- how the bytes of a stream are meant when their turn comes
+-- what the bytes of a stream are when they are processed
 pub data Mode : Type 0 where
-  -- as frames
+  -- frames
   Framed : Mode
-  -- as a peer's payload, byte by byte (RFC 6062: a data connection that is bound)
+  -- a peer's payload, byte by byte (RFC 6062: a data connection that is bound)
   Bound : Mode
-  -- not at all
+  -- nothing: they are dropped
   Broken : Mode
 
 -- one byte at a time
@@ -16,7 +16,7 @@ abbrev pub one_byte : List ℕ → Option ℕ
 one_byte [] = None
 one_byte (b ∷ bytes) = Some 1
 
--- How many bytes are handled next. A byte with which no frame begins is handled alone: it breaks the
+-- How many bytes are processed next. A byte with which no frame begins is processed alone: it breaks the
 -- stream.
 abbrev pub size_in : Mode → List ℕ → Option ℕ
 size_in Framed bytes = if begins_no_frame bytes then Some 1 else frame_len bytes
@@ -36,11 +36,11 @@ framed bytes = record { bytes = bytes; is_broken = false }
 abbrev pub broken_stream : Stream
 broken_stream = record { bytes = []; is_broken = true }
 
--- one more piece has come in: on a broken stream it is dropped
+-- one more piece was received: on a broken stream it is dropped
 abbrev pub with_piece : Stream → List ℕ → Stream
 with_piece s piece = if s.is_broken then s else record { bytes = s.bytes ++ piece; is_broken = false }
 
--- what one call gives, and the stream behind it
+-- what one call returns, and the stream after it
 pub record Turn : Type 0 where
   pub frame : Option (List ℕ)
   pub after : Stream
@@ -50,26 +50,26 @@ turn_by s None = record { frame = None; after = s }
 turn_by s (Some k) =
     record { frame = Some (take k s.bytes); after = record { bytes = drop k s.bytes; is_broken = s.is_broken } }
 
--- The turn of what is at the front: a whole frame is given, less than one waits, and what no frame
--- begins with breaks the stream (our choice: where the next frame begins can't be known).
+-- The next frame: a whole frame is returned, less than one stays buffered, and bytes that no frame begins
+-- with break the stream (our choice: where the next frame begins can't be known).
 abbrev pub turn : Stream → Turn
 turn s =
     if begins_no_frame s.bytes then record { frame = None; after = broken_stream }
     else turn_by s (frame_len s.bytes)
 
--- what is done to a stream: a piece comes in and it is asked for a frame, or one of the two
+-- what is done to a stream: a piece is added and the next frame is requested, or one of the two
 pub data Call : Type 0 where
   Piece : List ℕ → Call
   Feed : List ℕ → Call
   Poll : Call
 
--- it has its turn where it is asked for a frame
+-- the next frame is taken if it is requested
 abbrev pub turn_at : Stream → Call → Turn
 turn_at s (Piece piece) = turn (with_piece s piece)
 turn_at s (Feed piece) = record { frame = None; after = with_piece s piece }
 turn_at s Poll = turn s
 
--- what calls give, one after the other, and the stream behind them
+-- what calls return, one after the other, and the stream after them
 pub record Run : Type 0 where
   pub given : List (List ℕ)
   pub after : Stream
@@ -81,15 +81,15 @@ abbrev pub run_of : Stream → List Call → Run
 run_of s [] = record { given = []; after = s }
 run_of s (call ∷ calls) = given_first (turn_at s call).frame (run_of (turn_at s call).after calls)
 
--- the bytes that come in
+-- the bytes received
 abbrev pub bytes_in : List Call → List ℕ
 bytes_in [] = []
 bytes_in (Piece piece ∷ calls) = piece ++ bytes_in calls
 bytes_in (Feed piece ∷ calls) = piece ++ bytes_in calls
 bytes_in (Poll ∷ calls) = bytes_in calls
 
--- What was given of these bytes is their frames, in order, but for those that still wait, and the rest
--- is theirs. A stream that is broken by then has given all: behind them no frame begins.
+-- The frames returned are the frames of these bytes, in order, except those that are still buffered, and
+-- the rest is theirs. A stream that is broken by then has returned all: after them no frame begins.
 pub record GivesFrames (bytes : List ℕ) (run : Run) : Type 0 where
   pub frames : (frames_of bytes).frames ≡ run.given ++ (frames_of run.after.bytes).frames
   pub rest : run.after.is_broken ≡ false → (frames_of bytes).rest ≡ (frames_of run.after.bytes).rest

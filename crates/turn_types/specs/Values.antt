@@ -1,5 +1,5 @@
--- What the value of an attribute of TURN gives, or nothing where it is malformed, and how it is
--- spelled (RFC 8656, section 18, and RFC 6062, section 6.2).
+-- The decoded value of an attribute of TURN, or nothing if it is malformed, and its encoding (RFC 8656,
+-- section 18, and RFC 6062, section 6.2).
 use Rattle.std.specs.Prelude.{ℕ, ◌==◌, ◌&&◌, if◌then◌else◌, List, [], ◌∷◌, ◌++◌, length, slice_index, Option, Some, None, option_and_then}
 use Rattle.std.specs.Int.{w16, w32, to_be_bytes}
 use Rattle.turn_stun.specs.Number.{u16_at, u32_at}
@@ -22,7 +22,7 @@ channel_number_of value = if length value == 4 then Some (u16_at value 0) else N
 abbrev pub channel_number_value : ℕ → List ℕ
 channel_number_value number = to_be_bytes w16 number ++ 0 ∷ 0 ∷ []
 
--- the first byte of a value of four, where the other three are zero
+-- the first byte of a value of four, if the other three are zero
 abbrev pub leading_byte : List ℕ → Option ℕ
 leading_byte value =
     if (length value == 4) && (slice_index value 1 == 0) && (slice_index value 2 == 0) && (slice_index value 3 == 0) then Some (slice_index value 0)

@@ -1,4 +1,4 @@
-//! What of an address is sent (RFC 8489, section 14.2).
+//! The part of an address that is sent (RFC 8489, section 14.2).
 
 ghost use Rattle.std.specs.Prelude.{◌≡◌};
 ghost use Rattle.std.specs.Net.Socket.{IsSocketAddr, IsSocketAddrV4, IsSocketAddrV6};

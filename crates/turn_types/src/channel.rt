@@ -1,4 +1,4 @@
-//! Channel frames (RFC 8656, section 12.4).
+//! ChannelData messages (RFC 8656, section 12.4).
 
 ghost use Rattle.std.specs.Prelude.{◌≡◌, ℕ, ◌+◌, ◌^◌, ◌<◌, ◌≤◌, List, length, drop, IfOk, IfErr, IsOkAnd, Some};
 ghost use Rattle.turn_stun.specs.Number.{u16_at};
@@ -7,8 +7,8 @@ ghost use Rattle.turn_types.specs.Channel.{IsChannel, channel_at, channel_fault_
 use crate::error::ChannelParseError;
 use std::marker::Model;
 
-/// A channel frame, as the ChannelData message of RFC 8656, section 12.4: the number of a channel,
-/// and data to or from its peer. Contracts see it as these two.
+/// A ChannelData message (RFC 8656, section 12.4): the number of a channel, and data to or from its peer.
+/// Contracts see it as these two.
 #[derive(Debug, Drop)]
 pub struct ChannelData<'a> {
     id: u16,
@@ -27,19 +27,19 @@ impl<'a> Model for ChannelData<'a> {
 }
 
 impl<'a> ChannelData<'a> {
-    /// The channel frame at the front of the bytes, which borrows them. Bytes behind it are unread:
-    /// in a datagram the frame need not be padded (RFC 8656, section 12.5). Takes no memory.
+    /// The ChannelData message at the start of the bytes, which it borrows. Bytes after it are unread: in
+    /// a datagram it need not be padded (RFC 8656, section 12.5). Allocates no memory.
     ///
     /// # Errors
     ///
     /// The first of `Short`, `NotChannel` and `Length` that holds: `ChannelParseError` says when.
     pub fn parse(bytes: &'a [u8]) -> Result<ChannelData<'a>, ChannelParseError>
-        // What is accepted begins with a channel frame.
+        // What is accepted begins with a ChannelData message.
         ensures found { IfOk result (λ frame. IsChannel bytes.now frame.id frame.payload (drop (4 + length frame.payload) bytes.now)) }
         ensures front { IfOk result (λ frame. frame ≡ channel_at bytes.now) }
-        // What begins with a channel frame is accepted, and has no other channel or data.
+        // What begins with a ChannelData message is accepted, and has no other channel or data.
         ensures only { (id : ℕ) (payload rest : List ℕ) → IsChannel bytes.now id payload rest → IsOkAnd result (λ frame. (frame.id ≡ id) × (frame.payload ≡ payload)) }
-        // Which refusal it is.
+        // Which error it is.
         ensures fault { IfErr result (λ fault. channel_fault_of bytes.now ≡ Some fault) }
     {
         match fault_in(bytes) {
@@ -48,7 +48,7 @@ impl<'a> ChannelData<'a> {
         }
     }
 
-    /// The frame at the front of bytes that hold the whole of it.
+    /// The message at the start of bytes that hold the whole of it.
     fn at_front(bytes: &'a [u8]) -> ChannelData<'a>
         requires whole { 4 + u16_at bytes.now 2 ≤ length bytes.now }
         requires least { 0x4000 ≤ u16_at bytes.now 0 }
@@ -71,7 +71,7 @@ impl<'a> ChannelData<'a> {
         self.id
     }
 
-    /// What is sent to the peer, or has come from it: at most 65,535 bytes, without padding.
+    /// The data to or from the peer: at most 65,535 bytes, without padding.
     pub fn data(&self) -> &'a [u8]
         ensures payload { result.now ≡ self.now.payload }
         ensures short { length result.now < 2 ^ 16 }
@@ -80,7 +80,7 @@ impl<'a> ChannelData<'a> {
     }
 }
 
-/// The first thing that keeps the bytes from beginning with a channel frame.
+/// The first fault that keeps the bytes from beginning with a ChannelData message.
 #[tactic(auto, unfolding(crate::specs::Channel::channel_fault_of))]
 fn fault_in(bytes: &[u8]) -> Option<ChannelParseError>
     ensures { result ≡ channel_fault_of bytes.now }

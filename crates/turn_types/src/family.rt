@@ -3,7 +3,7 @@
 ghost use Rattle.std.specs.Prelude.{◌≡◌};
 ghost use Rattle.turn_types.specs.Family.{family_number, family_with_number};
 
-/// Which kind of address an allocation is to have.
+/// The IP version of the address that an allocation is to have.
 #[derive(Clone, Copy, Debug, Default, PartialEq, Eq)]
 pub enum AddressFamily {
     /// IPv4.

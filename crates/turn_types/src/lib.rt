@@ -1,13 +1,13 @@
-//! What TURN (RFC 8656, RFC 6062) adds to STUN: its attributes, its channel frames, streams that are cut
-//! into frames, and packets that are built when they are sent. No IO.
+//! What TURN (RFC 8656, RFC 6062) adds to STUN: its attributes, ChannelData messages, streams that are
+//! cut into frames, and packets that are built when they are sent. No IO.
 //!
 //! ```text
-//!  pieces of a stream --TurnTcpBuffer--> messages, and channel frames --ChannelData::parse--> number, payload
+//!  pieces of a stream --TurnTcpBuffer--> messages, and ChannelData --ChannelData::parse--> number, payload
 //!  payload for a peer --DelayedChannel, DelayedMessage--> TransmitBuild --write_into--> bytes of a packet
 //! ```
 //!
 //! Begin with [`attribute`], [`channel`] and [`tcp`] for what a server sends, and with [`transmit`] for
-//! what goes to it.
+//! what is sent to it.
 //!
 //! ```rust
 //! stream.feed(piece)?;
@@ -17,7 +17,7 @@
 //! }
 //! ```
 //!
-//! Messages themselves are STUN's, in `stun`, and who signed one is not judged here.
+//! Messages themselves are STUN's, in `stun`, and their signatures are not checked here.
 #![tactic(auto)]
 
 mod address;

@@ -1,9 +1,9 @@
 //! Streams that are cut into frames (RFC 8656, section 12.5, and RFC 8489, section 6.2.2).
 //!
-//! Over TCP the network cuts a stream where it likes. `TurnTcpBuffer` takes its pieces and gives out
-//! its frames, which are messages and channel frames, told apart by their first two bits.
+//! Over TCP the network cuts a stream anywhere. `TurnTcpBuffer` takes its pieces and returns its frames,
+//! which are STUN messages and ChannelData messages, distinguished by their first two bits.
 //!
-//! What holds of frames whatever the cut are the laws: `frames_are_unique`, `frames_are_found`,
+//! The laws say what holds of frames wherever the stream is cut: `frames_are_unique`, `frames_are_found`,
 //! `calls_give_frames`, `turns_are_steps` and `same_for_any_cut`. Each is a function that does nothing,
 //! and ensures its law.
 

@@ -12,7 +12,7 @@ pub use delayed_message::DelayedMessage;
 use std::alloc::{AllocError, Global};
 pub use transmit_build::TransmitBuild;
 
-/// Bytes that are made when they are sent: at once as a vector, or into a place of the caller's.
+/// Bytes that are made when they are sent: as a vector, or in a slice of the caller's.
 pub trait DelayedTransmitBuild {
     // The bytes that are made.
     ghost bytes: { Self → List ℕ };
@@ -32,7 +32,7 @@ pub trait DelayedTransmitBuild {
     fn build(self, alloc: Global) -> Result<Vec<u8>, AllocError>
         ensures { IfOk result (λ built. built.items ≡ bytes self) };
 
-    /// Writes the bytes into a place of just their length, `len`, and answers this length.
+    /// Writes the bytes into a slice of exactly their length, `len`, and returns this length.
     fn write_into(self, place: &mut [u8]) -> usize
         requires { length place.old ≡ length (bytes self) }
         ensures written { place.new ≡ bytes self }

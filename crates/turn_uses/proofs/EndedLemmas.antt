@@ -1,4 +1,4 @@
--- A client that has ended and gives nothing has nothing left.
+-- A client that has ended and returns nothing has nothing left to return.
 use Rattle.std.proofs.Common.{◌≡◌, ◌∙◌, ℕ, Bool, true, false, cond, List, [], ◌∷◌, Option, Some, None, ap, filter_map, refl, slice_get, subst, sym}
 use Rattle.std.specs.Option.{option_map_or}
 use Rattle.std.specs.List.{cons_option}
@@ -18,7 +18,7 @@ use Rattle.turn_uses.specs.declared.next.Next.{Next}
 use Rattle.turn_uses.specs.declared.task.Rest.{Rest}
 use Rattle.turn_uses.specs.declared.task.Rest.TheVariants.{Now, Ended}
 
--- where no packet is given nothing changes
+-- if no packet is returned, nothing changes
 abbrev IsIdle : State → Option (Transmit (List ℕ)) × State → Type 0
 IsIdle s p = p.0 ≡ None → p.1 ≡ s
 
@@ -63,7 +63,7 @@ paused-IsIdle false now s = queue-IsIdle now s
 transmit-IsIdle : (now : ℕ) (s : State) → IsIdle s (transmit_step now s)
 transmit-IsIdle now s = option-IsIdle s (due (agent_of s) now) _ _ (λ t. some-IsIdle s _ _) (paused-IsIdle (is_paused now s) now s)
 
--- ---- the rest of a client that has ended
+-- ---- what is left of a client that has ended
 
 sent-ended : (now : ℕ) (s : State) (p : Option (Transmit (List ℕ)) × State) → transmit_step now s ≡ p → IsIdle s p → s.events ≡ [] → AnswersRest (to_send Ended p).0 now (to_send Ended p).1
 sent-ended now s (Some packet, t) e idle none = tt
@@ -78,7 +78,7 @@ waiting-ended now s = by s.events
     by [] = let u : State = record s { events = [] } in sent-ended now u (transmit_step now u) refl (transmit-IsIdle now u) refl
     by (event ∷ events) = tt
 
--- ---- where something may be left
+-- ---- work may be left
 
 sent-now : (now : ℕ) (p : Option (Transmit (List ℕ)) × State) → AnswersRest (to_send Now p).0 now (to_send Now p).1
 sent-now now (Some packet, t) = tt

@@ -1,4 +1,4 @@
--- A turn is a run of calls, of which nothing is lost.
+-- What the loop does is a sequence of calls, and nothing that they return is lost.
 use Rattle.std.proofs.Common.{◌≡◌, ◌∙◌, ℕ, zero, suc, Bool, true, false, nat_lt, cond, List, [], ◌∷◌, ◌++◌, Option, Some, None, ap, inl, inr, option_map, refl, subst, sym}
 use Rattle.std.specs.Prelude.{IfOk, OnOk, Result, Ok, Err, option_to_list}
 use Rattle.std.specs.List.{AllByRecursion}
@@ -30,7 +30,7 @@ abbrev in_answer : Answer → List Given
 in_answer (Does given) = given ∷ []
 in_answer (Rests rest) = []
 
--- behind a call that gave this, some calls give the rest of an answer
+-- after a call that returned this, some calls return the remaining part of an answer
 abbrev GoesOn : ℕ → List Given → State → Answer × State → Type 0
 GoesOn now front s p =
     (calls : List Call) × AllByRecursion (IsAsk now) calls × ((in_answer p.0 ≡ front ++ all_given s calls) × (p.1 ≡ state_behind s calls))
@@ -66,7 +66,7 @@ streams-run now (None, s) = first now (Poll now) s (by_time now (poll_step now s
 next-run : (now : ℕ) (s : State) → GoesOn now [] s (next_step now s)
 next-run now s = first now (PollRecv now) s (next_step now s) (inl refl) (streams-run now (poll_recv_step now s))
 
--- ---- runs behind one another
+-- ---- sequences of calls joined
 
 given-append : (s : State) (calls more : List Call) → all_given s (calls ++ more) ≡ all_given s calls ++ all_given (state_behind s calls) more
 given-append s [] more = refl
@@ -92,7 +92,7 @@ IsRun-append calls more t u v one other = (
   other.1 ∙ (ap (λ (s : State). state_behind s more) one.1 ∙ sym (behind-append t.client calls more)),
 )
 
--- ---- a turn
+-- ---- one iteration of the loop
 
 abbrev Runs : ℕ → Turned → Turned → Type 0
 Runs now t u = (calls : List Call) × AllByRecursion (IsAsk now) calls × IsRun calls t u
@@ -116,7 +116,7 @@ turned-run (suc n) now t =
     let u = turned n now t in
     Runs-append now t u (once_more now u) (turned-run n now t) (once_more-run now u.given u.rest u.client)
 
--- what came is handed in first
+-- the input is passed in first
 begun-run : (packet : Transmit (List ℕ)) (now : ℕ) (t : Turned) → IsRun (Recv packet now ∷ []) t (begun (Some packet) now t)
 begun-run packet now t = (ap (λ given. t.given ++ given) (sym (append-nil (given_by (Recv packet now) t.client))), refl)
 
@@ -127,7 +127,7 @@ turn-whole (Some packet) most now t = by (turned-run most now (begun (Some packe
     by : Runs now (begun (Some packet) now t) (turned most now (begun (Some packet) now t)) → IsWhole (Some packet) now t (turned most now (begun (Some packet) now t))
     by (calls, all, run) = (calls, all, IsRun-append (Recv packet now ∷ []) calls t (begun (Some packet) now t) (turned most now (begun (Some packet) now t)) (begun-run packet now t) run)
 
--- and so is the list that is handed back
+-- the same holds of the list that is returned
 pub whole-ok : {E : Type 0} (r : Result Rest E) (came : Option (Transmit (List ℕ))) (most now : ℕ) (t : Turned) (tasks : List Task) (s : State) → IfOk r (λ rest. stands tasks rest s ≡ turned most now (begun came now t)) → OnOk r (IsWhole came now t (stands tasks Now s))
 whole-ok (Ok rest) came most now t tasks s told = subst (λ (u : Turned). IsWhole came now t (record u { rest = Now })) (sym told) (turn-whole came most now t)
 whole-ok (Err e) came most now t tasks s told = tt

@@ -1,4 +1,4 @@
--- What holds of a turn as it goes on.
+-- Properties of the loop after some steps.
 use Rattle.std.proofs.Common.{◌≡◌, ◌∙◌, ℕ, zero, suc, ◌+◌, ◌-◌, ◌<◌, List, add-one, ap, arith, inl, inr, refl, subst, suc-add, sym, zero-add}
 use Rattle.std.specs.Prelude.{OnErr, Result, Ok, Err}
 use Rattle.turn_client_api.specs.State.{State}
@@ -8,13 +8,13 @@ use Rattle.turn_uses.specs.Turned.{Draws, Turned, going, once_more, turned, with
 use Rattle.turn_uses.specs.declared.task.Rest.{Rest}
 use Rattle.turn_uses.specs.declared.task.Rest.TheVariants.{Until, Now, Ended}
 
--- where something may be left, the next answer comes to what was given
+-- if work may be left, the next answer is appended to what was returned so far
 pub turned-going : (n now : ℕ) (start : Turned) (given : List Given) (s t : State) (answer : Answer) → turned n now start ≡ going given s → answer ≡ (next_step now s).0 → t ≡ (next_step now s).1 → turned (n + 1) now start ≡ with_answer given (answer, t)
 unfolding turned
 turned-going n now start given s t answer e told after =
     rw (add-one n) (ap (once_more now) e ∙ sym (ap (λ (a : Answer). with_answer given (a, t)) told ∙ ap (λ (u : State). with_answer given ((next_step now s).0, u)) after))
 
--- a turn that rests is not asked again
+-- once there is nothing to do, the client is not polled again
 once_more-rests : (now : ℕ) (given : List Given) (rest : Rest) (s : State) → (rest ≡ Now → ⊥) → once_more now (record { given = given; rest = rest; client = s }) ≡ record { given = given; rest = rest; client = s }
 once_more-rests now given (Until moment) s other = refl
 once_more-rests now given Now s other = absurd (other refl)
@@ -26,14 +26,14 @@ turned-rests zero n now start given rest s other e = rw (zero-add n) e
 turned-rests (suc j) n now start given rest s other e = rw (suc-add j n)
     (ap (once_more now) (turned-rests j n now start given rest s other e) ∙ once_more-rests now given rest s other)
 
--- so it stays, up to the most that it may be asked
+-- the result then stays the same, up to the maximum number of polls
 pub turned-rest : (n most now : ℕ) (start : Turned) (given : List Given) (rest : Rest) (s t : State) → n < most → (rest ≡ Now → ⊥) → turned n now start ≡ going given s → Rests rest ≡ (next_step now s).0 → t ≡ (next_step now s).1 → record { given = given; rest = rest; client = t } ≡ turned most now start
 turned-rest n most now start given rest s t less other e told after =
     let ends : turned (n + 1) now start ≡ record { given = given; rest = rest; client = t } = turned-going n now start given s t (Rests rest) e told after in
     let is : (most - (n + 1)) + (n + 1) ≡ most = omega arith in
     sym (subst (λ (m : ℕ). turned m now start ≡ record { given = given; rest = rest; client = t }) is (turned-rests (most - (n + 1)) (n + 1) now start given rest t other ends))
 
--- ---- want of memory
+-- ---- allocation failure
 
 pub on_err : {T E P : Type 0} (r : Result T E) → P → OnErr r P
 on_err (Ok x) p = tt

@@ -1,4 +1,4 @@
--- What a client gives its caller, whoever holds the bytes.
+-- What a client returns to its caller, by value: no matter who owns the bytes.
 use Rattle.std.specs.Prelude.{ℕ, List, Option, Some, None, option_map}
 use Rattle.std.specs.declared.alloc.Global.{Global}
 use Rattle.std.specs.declared.net.socket_addr.SocketAddr.{SocketAddr}
@@ -34,7 +34,7 @@ packet_of packet = record {
 abbrev pub packet_in : Option (Transmit (Vec ℕ Global)) → Option (Transmit (List ℕ))
 packet_in came = option_map packet_of came
 
--- what a task stands for
+-- the value that a task stands for
 abbrev pub given_of : Task → Given
 given_of (Task.Payload given) = FromPeer (given_payload given)
 given_of (Task.Icmp transport peer icmp_type icmp_code icmp_data) =
@@ -45,7 +45,7 @@ given_of (Task.Send packet) = ToSend packet
 given_of (Task.Open id socket peer) = ToOpen id socket peer
 given_of (Task.Close local remote) = ToClose local remote
 
--- what is given at once of a packet that came in
+-- what `recv` returns at once for a packet
 abbrev pub given_in : Transmit (List ℕ) → Outcome → Option Given
 given_in packet O.Handled = None
 given_in packet O.Ignored = Some (NotOurs packet)

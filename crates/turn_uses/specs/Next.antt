@@ -1,4 +1,4 @@
--- What a client gives next.
+-- The next task of a client.
 use Rattle.std.specs.Prelude.{◌≡◌, ◌⊎◌, ℕ, ◌<◌, ◌≤◌, nat_lt, List, [], Option, Some, None, if◌then◌else◌, ⊤}
 use Rattle.turn_stun.specs.declared.transport.Transmit.{Transmit}
 use Rattle.turn_client_api.specs.State.{State}
@@ -22,19 +22,19 @@ pub data Answer : Type 0 where
   Does : Given → Answer
   Rests : Rest → Answer
 
--- what is told of it
+-- the answer that a result of the code stands for
 abbrev pub answer_of : Next → Answer
 answer_of (Code.Do task) = Does (given_of task)
 answer_of (Code.Rest rest) = Rests rest
 
--- ---- the calls, one after the other
+-- ---- the calls, in order
 
 -- the next packet, or this rest
 abbrev pub to_send : Rest → Option (Transmit (List ℕ)) × State → Answer × State
 to_send rest (Some packet, s) = (Does (ToSend packet), s)
 to_send rest (None, s) = (Rests rest, s)
 
--- the next event, and else the next packet
+-- the next event, or else the next packet
 abbrev pub to_tell : ℕ → Rest → Option TurnEvent × State → Answer × State
 to_tell now rest (Some event, s) = (Does (Happened event), s)
 to_tell now rest (None, s) = to_send rest (transmit_step now s)
@@ -42,7 +42,7 @@ to_tell now rest (None, s) = to_send rest (transmit_step now s)
 abbrev pub waiting : ℕ → Rest → State → Answer × State
 waiting now rest s = to_tell now rest (event_step s)
 
--- what time asks for: up to a moment that is later than now there is nothing to do
+-- what `poll` returns: nothing is due before a wake-up time in the future
 abbrev pub by_time : ℕ → TurnPollRet × State → Answer × State
 by_time now (Poll.AllocateTcpSocket id socket peer, s) = (Does (ToOpen id socket peer), s)
 by_time now (Poll.TcpClose local remote, s) = (Does (ToClose local remote), s)
@@ -52,19 +52,19 @@ by_time now (Poll.Closed, s) = waiting now Ended s
 abbrev pub poll_answer : ℕ → State → Answer × State
 poll_answer now s = by_time now (poll_step now s)
 
--- first what the streams hold
+-- payloads in the streams come first
 abbrev pub by_streams : ℕ → Option Payload × State → Answer × State
 by_streams now (Some payload, s) = (Does (FromPeer payload), s)
 by_streams now (None, s) = poll_answer now s
 
--- what the client gives next, or what follows
+-- the next task of the client, or what follows
 abbrev pub next_step : ℕ → State → Answer × State
 next_step now s = by_streams now (poll_recv_step now s)
 
 -- ---- what a rest means
 
--- Up to the moment that is told nothing is to be done: no packet is due, nothing waits, no request is given up,
--- and no grant ends. A client that has ended has nothing left to tell or to send.
+-- Until the wake-up time nothing is due: no packet, no event, no timeout of a request and no expiry of a grant.
+-- A client that has ended has no event and no packet left.
 abbrev pub IsRestful : Rest → ℕ → State → Type 0
 IsRestful (Until moment) now s = (now < moment) × IsSilent now moment s
 IsRestful Now now s = ⊤
@@ -74,9 +74,9 @@ abbrev pub AnswersRest : Answer → ℕ → State → Type 0
 AnswersRest (Does given) now s = ⊤
 AnswersRest (Rests rest) now s = IsRestful rest now s
 
--- ---- want of memory
+-- ---- allocation failure
 
--- there was none for the packet
+-- it failed for the packet
 abbrev pub NoPacket : Option TurnEvent × State → State → Type 0
 NoPacket (Some event, s) t = ⊥
 NoPacket (None, s) t = t ≡ closed s
@@ -84,7 +84,7 @@ NoPacket (None, s) t = t ≡ closed s
 abbrev pub SendEnds : ℕ → State → State → Type 0
 SendEnds now s t = NoPacket (event_step s) t
 
--- nor for it where time asks for nothing
+-- it failed for the packet, when `poll` had nothing else to return
 abbrev pub NothingSent : ℕ → TurnPollRet × State → State → Type 0
 NothingSent now (Poll.WaitUntil moment, s) t = (moment ≤ now) × SendEnds now s t
 NothingSent now (Poll.Closed, s) t = SendEnds now s t
@@ -97,6 +97,6 @@ abbrev pub NothingPolled : ℕ → Option Payload × State → State → Type 0
 NothingPolled now (Some payload, s) t = ⊥
 NothingPolled now (None, s) t = PollEnds now s t
 
--- there was none for what the streams hold, or for what is asked of the client after that
+-- it failed in `poll_recv`, or in a call of the client after that
 abbrev pub NextEnds : ℕ → State → State → Type 0
 NextEnds now s t = EndsAfterTurns now s t ⊎ NothingPolled now (poll_recv_step now s) t

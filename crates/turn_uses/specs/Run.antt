@@ -1,4 +1,4 @@
--- A turn as the calls that it makes: nothing that they give is lost.
+-- The loop as the calls that it makes: nothing that they return is lost.
 use Rattle.std.specs.Prelude.{◌≡◌, ◌⊎◌, ℕ, List, [], ◌∷◌, ◌++◌, Option, Some, None, option_map, option_to_list}
 use Rattle.std.specs.List.{AllByRecursion}
 use Rattle.turn_stun.specs.declared.transport.Transmit.{Transmit}
@@ -15,15 +15,15 @@ use Rattle.turn_client_api.specs.declared.poll.TurnPollRet.TheVariants as Poll
 use Rattle.turn_uses.specs.Given.{Given, FromPeer, Happened, ToSend, ToOpen, ToClose, given_in}
 use Rattle.turn_uses.specs.Turned.{Turned}
 
--- ---- what the calls of a client give
+-- ---- what the calls of a client return
 
--- the connection that the caller is to open or to close
+-- the data connection that the caller is to open or to close
 abbrev pub asked_for : TurnPollRet → List Given
 asked_for (Poll.AllocateTcpSocket id socket peer) = ToOpen id socket peer ∷ []
 asked_for (Poll.TcpClose local remote) = ToClose local remote ∷ []
 asked_for _ = []
 
--- what a call gives to a client in this state
+-- what a call of a client in this state returns
 abbrev pub given_by : Call → State → List Given
 given_by (Recv packet now) s = option_to_list (given_in packet (packet_step packet now s).0)
 given_by (PollRecv now) s = option_to_list (option_map FromPeer (poll_recv_step now s).0)
@@ -32,33 +32,33 @@ given_by PollEvent s = option_to_list (option_map Happened (event_step s).0)
 given_by (PollTransmit now) s = option_to_list (option_map ToSend (transmit_step now s).0)
 given_by _ s = []
 
--- what all of these give, one after the other
+-- what these calls return, in order
 abbrev pub all_given : State → List Call → List Given
 all_given s [] = []
 all_given s (call ∷ calls) = given_by call s ++ all_given (state_after call s) calls
 
--- the client after them
+-- the client after these calls
 abbrev pub state_behind : State → List Call → State
 state_behind s [] = s
 state_behind s (call ∷ calls) = state_behind (state_after call s) calls
 
--- ---- the calls of a turn
+-- ---- the calls of the loop
 
--- it asks at this moment for what is to be done
+-- the call polls the client at this time
 abbrev pub IsAsk : ℕ → Call → Type 0
 IsAsk now call = (call ≡ PollRecv now) ⊎ ((call ≡ Poll now) ⊎ ((call ≡ PollEvent) ⊎ (call ≡ PollTransmit now)))
 
--- what came is handed in first
+-- the input is passed in first
 abbrev pub hand_in_calls : Option (Transmit (List ℕ)) → ℕ → List Call
 hand_in_calls None now = []
 hand_in_calls (Some packet) now = Recv packet now ∷ []
 
--- the calls give this, and leave this client
+-- the calls return this, and leave the client so
 abbrev pub IsRun : List Call → Turned → Turned → Type 0
 IsRun calls was is = (is.given ≡ was.given ++ all_given was.client calls) × (is.client ≡ state_behind was.client calls)
 
--- Some calls were made that hand in what came and then ask. What they give is in the list, all of it, in their
--- order, and nothing else is; and the client is what they leave.
+-- The calls made are one that passes in the input, if any, and then polls. The list has everything that they
+-- return, in order, and nothing else; the client is as they leave it.
 abbrev pub IsWhole : Option (Transmit (List ℕ)) → ℕ → Turned → Turned → Type 0
 IsWhole came now was is =
     (calls : List Call) × AllByRecursion (IsAsk now) calls × IsRun (hand_in_calls came now ++ calls) was is

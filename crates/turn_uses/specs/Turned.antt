@@ -1,4 +1,4 @@
--- One turn of a caller's loop.
+-- One iteration of the caller's loop.
 use Rattle.std.specs.Prelude.{◌≡◌, ◌⊎◌, ℕ, zero, suc, ◌<◌, false, List, [], ◌∷◌, ◌++◌, map, Option, Some, None, option_to_list}
 use Rattle.std.specs.declared.alloc.Global.{Global}
 use Rattle.std.specs.declared.vec.Vec.{Vec}
@@ -13,7 +13,7 @@ use Rattle.turn_uses.specs.declared.task.Rest.{Rest}
 use Rattle.turn_uses.specs.declared.task.Task.{Task}
 use Rattle.turn_uses.specs.declared.task.Rest.TheVariants.{Now}
 
--- all that was given, what follows, and the client
+-- all that was returned, what follows, and the client
 pub record Turned : Type 0 where
   pub given : List Given
   pub rest : Rest
@@ -23,30 +23,30 @@ pub record Turned : Type 0 where
 abbrev pub stands : List Task → Rest → State → Turned
 stands tasks rest s = record { given = map given_of tasks; rest = rest; client = s }
 
--- where something may be left to do
+-- the same while work may be left
 abbrev pub so_far : List Task → State → Turned
 so_far tasks s = stands tasks Now s
 
 abbrev pub going : List Given → State → Turned
 going given s = record { given = given; rest = Now; client = s }
 
--- ---- what came in
+-- ---- the input
 
 abbrev pub handed : Transmit (List ℕ) → List Given → Outcome × State → Turned
 handed packet given (outcome, s) = going (given ++ option_to_list (given_in packet outcome)) s
 
--- a turn begins with what came in, if anything did
+-- the loop begins with the input, if there is any
 abbrev pub begun : Option (Transmit (List ℕ)) → ℕ → Turned → Turned
 begun None now t = t
 begun (Some packet) now t = handed packet t.given (packet_step packet now t.client)
 
--- ---- what is asked for
+-- ---- the polls
 
 abbrev pub with_answer : List Given → Answer × State → Turned
 with_answer given (Does one, s) = going (given ++ one ∷ []) s
 with_answer given (Rests rest, s) = record { given = given; rest = rest; client = s }
 
--- the client is asked once more where something may be left
+-- the client is polled once more if work may be left
 abbrev pub once_more : ℕ → Turned → Turned
 once_more now t = by t.rest
   where
@@ -54,28 +54,28 @@ once_more now t = by t.rest
     by Now = with_answer t.given (next_step now t.client)
     by _ = t
 
--- so many times at most
+-- at most this many polls
 unfoldable pub turned : ℕ → ℕ → Turned → Turned
 turned zero now t = t
 turned (suc n) now t = once_more now (turned n now t)
 
--- a whole turn, from these tasks and this client on
+-- a whole iteration, from these tasks and this client
 abbrev pub turn_step : ℕ → Option (Transmit (Vec ℕ Global)) → ℕ → List Task → State → Turned
 turn_step most came now tasks s = turned most now (begun (packet_in came) now (so_far tasks s))
 
--- ---- want of memory
+-- ---- allocation failure
 
--- there was none to hand the packet in
+-- it failed when the packet was passed in
 abbrev pub StopsAtHand : Option (Transmit (List ℕ)) → ℕ → State → State → Type 0
 StopsAtHand None now s t = ⊥
 StopsAtHand (Some packet) now s t =
     (t ≡ s) ⊎ ((takes_no_memory packet.transport packet.from packet.to packet.payload s ≡ false) × RecvEnds packet.to packet.payload now s t)
 
--- there was none for the list, or for the client, when it was asked once more
+-- it failed for the list, or in the client, at one of the polls
 abbrev pub StopsAt : ℕ → Turned → Turned → Type 0
 StopsAt now t is = (t.rest ≡ Now) × (is.given ≡ t.given) × ((is.client ≡ t.client) ⊎ NextEnds now t.client is.client)
 
--- what was given before stays
+-- what was returned before is kept
 abbrev pub Draws : ℕ → ℕ → Turned → Turned → Type 0
 Draws most now was is = (n : ℕ) × (n < most) × StopsAt now (turned n now was) is
 

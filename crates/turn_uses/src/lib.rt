@@ -1,16 +1,16 @@
-//! The loop that a user of a TURN client writes, whichever client it is. No IO.
+//! The loop of a caller of a TURN client, over any client. No IO.
 //!
 //! ```text
-//!           what came in                       give to the program, send,
+//!              input                           give to the program, send,
 //!  sockets --------------> turn --> [Task] -->  open and close connections
 //!     ^                      |
 //!     +--- sleep until <-----+ Rest
 //! ```
 //!
-//! Begin with [`turn`]: it takes one packet in, asks the client for all that is to be done, and says when to
-//! wake. [`next_task`] asks for one thing alone, and takes no list. Both stand on the trait
-//! [`TurnClientApi`](turn_client_api::TurnClientApi) alone, so what is proved of them holds over every
-//! client that keeps the trait's contracts.
+//! Begin with [`turn`]: it passes one packet in, polls the client for all that it has to do, and returns when
+//! to wake up. [`next_task`] polls for one task alone, and takes no list. Both use the trait
+//! [`TurnClientApi`](turn_client_api::TurnClientApi) alone, so their guarantees hold for every client that
+//! keeps the trait's contracts.
 //!
 //! ```text
 //! loop {
@@ -19,7 +19,7 @@
 //!         app.carry_out(task, &mut client);
 //!     }
 //!     match rest {
-//!         Rest::Until(moment) => came = sockets.wait(moment),
+//!         Rest::Until(deadline) => came = sockets.wait(deadline),
 //!         Rest::Now => {}
 //!         Rest::Ended => break,
 //!     }

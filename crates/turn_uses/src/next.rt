@@ -1,4 +1,4 @@
-//! The next thing that a client gives.
+//! The next task of a client.
 
 ghost use Rattle.std.specs.Prelude.{◌≡◌, ◌≤◌, ◌^◌, IfOk, OnErr, OnOk};
 ghost use Rattle.turn_uses.specs.Next.{AnswersRest, NextEnds, PollEnds, SendEnds, answer_of, next_step, poll_answer, waiting};
@@ -8,22 +8,22 @@ use std::alloc::AllocError;
 use turn_client_api::{TurnClientApi, TurnPollRet};
 use turn_stun::instant::Instant;
 
-/// What comes next of a client.
+/// The next task of a client, or none.
 #[derive(Debug, Drop)]
 pub enum Next {
-    /// Do this, and ask again.
+    /// Do this, and poll again.
     Do(Task),
     /// There is nothing to do now.
     Rest(Rest),
 }
 
-/// The next thing that the client gives: a payload that its streams hold, a connection to open or to close,
-/// an event, or a packet to send. Where there is none, what follows.
+/// The next task of the client: a payload from its streams, a data connection to open or to close, an event, or
+/// a packet to send. If there is none, what follows.
 ///
 /// # Errors
 ///
-/// There is no memory for the call of the client that was made last: `poll_recv`, `poll` or
-/// `poll_transmit`. The client has ended then, as that call says.
+/// Memory allocation failed in the last call of the client: `poll_recv`, `poll` or `poll_transmit`. The client
+/// has then ended, as the docs of that call say.
 pub fn next_task<C: TurnClientApi>(client: &mut C, now: Instant) -> Result<Next, AllocError>
     requires moment { now ≤ 2 ^ 62 }
     ensures answer { IfOk result (λ next. answer_of next ≡ (next_step now (C.state client.old)).0) }
@@ -37,7 +37,7 @@ pub fn next_task<C: TurnClientApi>(client: &mut C, now: Instant) -> Result<Next,
     }
 }
 
-/// What time asks for next, or else what waits.
+/// The next thing that `poll` returns, or else a pending event or packet.
 fn poll<C: TurnClientApi>(client: &mut C, now: Instant) -> Result<Next, AllocError>
     requires moment { now ≤ 2 ^ 62 }
     ensures answer { IfOk result (λ next. answer_of next ≡ (poll_answer now (C.state client.old)).0) }
@@ -73,7 +73,7 @@ fn poll<C: TurnClientApi>(client: &mut C, now: Instant) -> Result<Next, AllocErr
     }
 }
 
-/// An event or a packet that waits, or else this rest.
+/// A pending event or packet, or else this rest.
 fn what_waits<C: TurnClientApi>(
     client: &mut C,
     now: Instant,

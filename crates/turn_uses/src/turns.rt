@@ -1,4 +1,4 @@
-//! One turn of a caller's loop.
+//! One iteration of the caller's loop.
 
 ghost use Rattle.std.specs.Prelude.{◌≡◌, ◌≤◌, ◌^◌, IfOk, OnErr, OnOk, Some};
 ghost use Rattle.turn_uses.specs.Given.{packet_in, packet_of};
@@ -13,14 +13,15 @@ use turn_client_api::{TurnClientApi, TurnRecvRet};
 use turn_stun::instant::Instant;
 use turn_stun::transport::Transmit;
 
-/// One turn of a caller's loop: hands in what came, if anything, and then asks the client for what is to be
-/// done until there is nothing, at most so many times. All that it gives goes to the end of the list, in order,
-/// and the answer says what follows.
+/// One iteration of the caller's loop: passes in a packet, if there is one, and then polls the client until it
+/// has nothing more to do, at most `most` times. All that the client returns is appended to the list, in order.
+/// The result says what follows.
 ///
 /// # Errors
 ///
-/// There is no memory for the list, and the client was not called then; or for the client, which has ended as
-/// its own call says. What it gave before is in the list.
+/// Memory allocation failed. Either it failed for the list, and that call of the client was not made; or it
+/// failed in the client, which has then ended as its own docs say. The list keeps what the client returned
+/// before.
 pub fn turn<C: TurnClientApi>(
     client: &mut C,
     came: Option<Transmit<Vec<u8>>>,
@@ -40,7 +41,7 @@ pub fn turn<C: TurnClientApi>(
     draw(client, now, most, tasks)
 }
 
-/// Hands a packet in. What is given at once goes to the end of the list.
+/// Passes a packet in. What the client returns at once is appended to the list.
 fn hand_in<C: TurnClientApi>(
     client: &mut C,
     came: Transmit<Vec<u8>>,
@@ -74,7 +75,7 @@ fn hand_in<C: TurnClientApi>(
     Ok(tasks.push(task)?)
 }
 
-/// Asks for what is to be done until there is nothing, at most so many times.
+/// Polls the client until it has nothing more to do, at most `most` times.
 fn draw<C: TurnClientApi>(
     client: &mut C,
     now: Instant,

@@ -1,4 +1,4 @@
-//! What a call gives of what peers sent.
+//! Which payloads of peers a call returns.
 
 ghost use Rattle.std.specs.Prelude.{◌≡◌, ℕ, List, option_to_list};
 ghost use Rattle.turn_stun.specs.declared.transport.Transmit.{Transmit};
@@ -8,10 +8,10 @@ ghost use Rattle.turn_client_api.specs.Steps.{Recv, PollRecv, packet_step};
 ghost use Rattle.turn_client_api.specs.Handled.{Turn, payloads_by};
 ghost use Rattle.turn_client_api.specs.LawsPeers.{IsLetInTurn};
 
-/// `recv` and `poll_recv` answer the payloads of what they handle and no others: of a datagram, of a
-/// DATA indication or a channel frame in a stream, and of the bytes of a bound stream (RFC 8656, sections
-/// 11.6 and 12.6; RFC 6062, section 4.3). Each has the place at which it stands in what the caller handed
-/// in, or is owned, and was let in by the state that stood when its turn came.
+/// `recv` and `poll_recv` return the payloads of the inputs that they process and no others: of a datagram,
+/// of a DATA indication or a ChannelData message in a stream, and of the bytes of a bound stream (RFC 8656,
+/// sections 11.6 and 12.6; RFC 6062, section 4.3). Each has the place at which it lies in what the caller
+/// passed in, or is owned, and its peer was permitted in the state in which the input was processed.
 pub fn payloads_are_answered()
     ensures recv { (packet : Transmit (List ℕ)) (now : ℕ) (s : State) → payloads_by (Recv packet now) s ≡ option_to_list (payload_in (packet_step packet now s).0) }
     ensures poll_recv { (now : ℕ) (s : State) → payloads_by (PollRecv now) s ≡ option_to_list (poll_recv_step now s).0 }

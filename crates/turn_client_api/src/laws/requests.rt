@@ -7,13 +7,14 @@ ghost use Rattle.turn_client_api.specs.State.{State, Listing};
 ghost use Rattle.turn_client_api.specs.Steps.{Call, Leaves};
 ghost use Rattle.turn_client_api.specs.LawsRequests.{IsListingOf, IsOldOrMade};
 
-/// What is outstanding or listed after a call was so before, or the call made the request, which is outstanding
-/// then: under the ID that was the next one, to the server, and with the bytes that ask for its purpose. A call
-/// of the caller asks for what its name says, `poll_transmit` for the first ALLOCATE or for the first grant
-/// that is to be refreshed, and it sends requests again. In `recv` and `poll_recv` a message whose turn comes
-/// brings it: the new request has a purpose of the request that the message answers, and is listed for
-/// purposes of that one alone (RFC 8489, section 9.2.5; RFC 8656, section 7.4). No other call makes one, and a
-/// call that finds no memory makes none but in the turns that it took.
+/// What is outstanding or listed after a call was so before, or the call made the request, which is
+/// outstanding then: under the ID that was the next one, to the server, and with the bytes that request its
+/// purpose. A call of the caller requests what its name says, `poll_transmit` requests the first ALLOCATE
+/// or refreshes the first grant that is due, and it retransmits requests. In `recv` and `poll_recv` a
+/// message that is processed causes it: the new request has a purpose of the request that the message
+/// answers, and is listed for purposes of that one alone (RFC 8489, section 9.2.5; RFC 8656, section 7.4).
+/// No other call makes one, and a call whose memory allocation fails makes none except by the inputs that
+/// it processed.
 pub fn requests_are_made()
     ensures request { (call : Call) (s t : State) (x : Transaction) → Leaves call s t → Contains t.transactions x → IsOldOrMade call s x }
     ensures listing { (call : Call) (s t : State) (l : Listing) → Leaves call s t → Contains t.listed l → Contains s.listed l ⊎ IsListingOf call s l }

@@ -22,10 +22,10 @@ use turn_types::message::{
     REFRESH,
 };
 
-/// The machine's numbers are those that the crates below write and read: its types of attributes (RFC 8656,
+/// The machine's numbers are those that the crates below write and read: its attribute types (RFC 8656,
 /// section 18, and RFC 6062, section 6.2), its error codes (RFC 8489, section 14.8), its methods (RFC 8656,
-/// section 17, and RFC 6062, section 6.1), and both ends of its clock. The methods and these two moments are
-/// given, in the order of the clauses.
+/// section 17, and RFC 6062, section 6.1), and both ends of its clock. The methods and these two times are
+/// returned, in the order of the clauses.
 pub fn numbers_are_the_standards() -> (
     Method,
     Method,
@@ -66,7 +66,8 @@ pub fn numbers_are_the_standards() -> (
     ensures connect { result.5.value ≡ connect_method }
     ensures connection_bind { result.6.value ≡ connection_bind_method }
     ensures connection_attempt { result.7.value ≡ connection_attempt_method }
-    // The pause of a client that has sent nothing ends at the first moment, and the machine's sums stop at the last.
+    // The pause of a client that has sent nothing ends at time 0, and the machine's sums stop at the
+    // greatest `Instant`.
     ensures first_moment { result.8 ≡ 0 }
     ensures last_moment { result.9 ≡ greatest_moment }
 {

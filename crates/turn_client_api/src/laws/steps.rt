@@ -1,4 +1,4 @@
-//! What every call keeps, whether or not it finds memory.
+//! What every call keeps, even if memory allocation fails.
 
 ghost use Rattle.std.specs.Prelude.{◌≡◌, ◌<◌, ℕ, false, List, [], Some};
 ghost use Rattle.turn_client_api.specs.State.{State, Closed};
@@ -10,17 +10,17 @@ ghost use Rattle.turn_client_api.specs.LawsReplies.{IsHeeded};
 ghost use Rattle.turn_client_api.specs.LawsSteps.{StaysClosed, StaysPatient, KeepsRealm, CountsChallenge, GoesOn};
 ghost use Rattle.turn_client_api.specs.declared.poll.TurnPollRet.TheVariants as Do;
 
-/// A client that has ended stays so, whatever is called, whether or not a call finds memory. Once no
-/// event waits, nor a reply to be sent, `poll` says that it has ended (our choice).
+/// A client that has ended stays ended after every call, even if memory allocation fails. Once no event and
+/// no reply is queued, `poll` reports that it has ended (our choice).
 pub fn stays_closed()
     ensures stays { (call : Call) (s t : State) → Leaves call s t → StaysClosed s t }
     ensures told { (now : ℕ) (s : State) → s.phase ≡ Closed → s.events ≡ [] → has_reply s ≡ false → (poll_step now s).0 ≡ Do.Closed }
 {}
 
-/// At most nine challenges are answered one after the other, but for those to a CONNECTION_BIND (our
-/// choice: RFC 8489, section 9.2.5, has no end): each answer is counted, and the count falls only by a
-/// message whose turn comes in the call, that is a signed reply to an outstanding request and answers
-/// something that this was made for.
+/// At most nine challenges are answered in sequence, except those to a CONNECTION_BIND (our choice: RFC
+/// 8489, section 9.2.5, sets no limit): each answer is counted, and the count falls only by a message that
+/// the call processes, a signed reply to an outstanding request that answers something that this was made
+/// for.
 pub fn challenges_are_counted()
     ensures stays { (call : Call) (s t : State) → Leaves call s t → StaysPatient s t }
     ensures each { (message : List ℕ) (now : ℕ) (s : State) → CountsChallenge message now s }
@@ -33,8 +33,8 @@ pub fn realm_stays()
     ensures { (call : Call) (s t : State) → Leaves call s t → KeepsRealm s t }
 {}
 
-/// A client goes on from phase to phase and never back: new, requesting, authenticating, allocated and
-/// closed. Once it has sent a packet, the moment of the last one is known.
+/// A client advances from phase to phase and never back: new, requesting, authenticating, allocated and
+/// closed. Once it has sent a packet, the time of the last one is known.
 pub fn phases_go_on()
     ensures { (call : Call) (s t : State) → Leaves call s t → GoesOn s t }
 {}

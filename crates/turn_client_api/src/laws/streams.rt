@@ -1,4 +1,4 @@
-//! What waits in the streams of a client over TCP.
+//! What the streams of a client over TCP hold.
 
 ghost use Rattle.std.specs.Prelude.{◌≡◌, ◌≢◌, ℕ, ◌<◌, ◌≤◌, length, List, All, None, IsSome};
 ghost use Rattle.turn_client_api.specs.State.{State, Stream, Control, Broken};
@@ -7,12 +7,12 @@ ghost use Rattle.turn_client_api.specs.Receive.{piece_step};
 ghost use Rattle.turn_client_api.specs.LawsStreams.{AreApart, DrainsOrGives, IsDrained};
 ghost use Rattle.turn_client_api.specs.LawsStates.{HoldsAtFirst, StaysInCalls};
 
-/// `poll_recv` leaves nothing behind (RFC 8656, section 12.5): where it gives no payload, no stream
-/// holds a whole frame, nor a bound one any byte, and each that is not broken holds less than the
-/// longest frame, a message of 65,555 bytes. The same holds behind a piece of the control stream that
-/// brings nothing of a peer. It takes as many turns as it needs: more would give the same. With each
-/// payload the streams of a client, which stay apart, hold fewer bytes: a caller that polls until
-/// nothing comes gets to the end.
+/// `poll_recv` leaves nothing that it could process (RFC 8656, section 12.5): if it returns no payload, no
+/// stream holds a whole frame, nor a bound one any byte, and each that is not broken holds less than the
+/// longest frame, a message of 65,555 bytes. The same holds after a piece of the control stream that
+/// returns nothing of a peer. It takes as many steps as it needs: more would give the same. With each
+/// payload the streams of a client, which have distinct local addresses, hold fewer bytes: a caller that
+/// polls until nothing is returned comes to an end.
 pub fn streams_are_drained()
     ensures drained { (now : ℕ) (s : State) → (poll_recv_step now s).0 ≡ None → All IsDrained (poll_recv_step now s).1.streams }
     ensures piece { (stream : Stream) (piece : List ℕ) (now : ℕ) (s : State) → stream.mode ≡ Control → DrainsOrGives (piece_step stream piece now s) }
@@ -21,9 +21,9 @@ pub fn streams_are_drained()
     ensures fewer { (now : ℕ) (s : State) → AreApart s → IsSome (poll_recv_step now s).0 → most_turns (poll_recv_step now s).1 < most_turns s }
 {}
 
-/// No two streams have one local end (RFC 6062, section 4.3: each data connection is a TCP connection of
-/// its own), and a broken stream holds nothing. So it is from the first, and stays so whatever is called,
-/// whether or not a call finds memory.
+/// No two streams have one local address (RFC 6062, section 4.3: each data connection is a TCP connection
+/// of its own), and a broken stream holds nothing. This holds for a new client and after every call, even
+/// if memory allocation fails.
 pub fn streams_stay_apart()
     ensures initial { HoldsAtFirst AreApart }
     ensures kept { StaysInCalls AreApart }

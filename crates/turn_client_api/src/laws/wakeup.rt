@@ -5,9 +5,9 @@ ghost use Rattle.turn_client_api.specs.State.{State, New, Allocated};
 ghost use Rattle.turn_client_api.specs.Due.{due_moments, has_reply, least_due, next_wakeup};
 ghost use Rattle.turn_client_api.specs.LawsWakeup.{IsLeast};
 
-/// The moment that `poll` tells (our choice) is now while nothing was sent yet, an event or a reply
-/// waits, or the call gave up a transaction. Else it is the least of the moments at which something
-/// falls due, but for a client with allocations none in the past.
+/// The time that `poll` returns (our choice) is now if nothing was sent yet, an event or a reply is queued,
+/// or the call timed a transaction out. Else it is the earliest time at which something is due, but for a
+/// client with allocations none in the past.
 pub fn wakeup_is_the_least_moment()
     ensures new { (has_given_up : Bool) (now : ℕ) (s : State) → s.phase ≡ New → next_wakeup has_given_up now s ≡ now }
     ensures event { (has_given_up : Bool) (now : ℕ) (s : State) → s.events ≢ [] → next_wakeup has_given_up now s ≡ now }

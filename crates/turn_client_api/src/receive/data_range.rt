@@ -1,11 +1,11 @@
-//! A part of what a caller handed in.
+//! A range of the bytes that a caller passed in.
 
 ghost use Rattle.std.specs.Prelude.{◌≡◌, ◌≤◌, length, slice_range};
 
 use std::convert::AsSlice;
 use std::ops::Range;
 
-/// A part of some bytes, which are lent or owned. No byte is copied.
+/// A range of some bytes, which are borrowed or owned. No byte is copied.
 #[derive(Debug, Drop)]
 pub struct DataRange<T: AsSlice<u8>> {
     source: T,
@@ -17,7 +17,7 @@ pub struct DataRange<T: AsSlice<u8>> {
 impl<T: AsSlice<u8>> DataRange<T> {
     ghost use Rattle.turn_client_api.specs.Range.{source_of, place_of, part_of};
 
-    /// The part of these bytes in this range, which lies inside them.
+    /// This range of these bytes, inside which it lies.
     pub fn new(source: T, range: Range<usize>) -> DataRange<T>
         requires ordered { range.start ≤ range.end }
         requires inside { range.end ≤ length (T.items source) }
@@ -28,14 +28,14 @@ impl<T: AsSlice<u8>> DataRange<T> {
         DataRange { source, range }
     }
 
-    /// All the bytes, of which this is a part.
+    /// All the bytes, of which this is a range.
     pub fn source(&self) -> &T
         ensures { result.now ≡ source_of self.now }
     {
         &self.source
     }
 
-    /// Where the part stands in them.
+    /// Where the range lies in them.
     pub fn range(&self) -> Range<usize>
         ensures { result ≡ place_of self.now }
     {

@@ -1,4 +1,4 @@
-//! When something is to be sent or given up (RFC 8489, section 6.2).
+//! When a request is to be sent, retransmitted or timed out (RFC 8489, section 6.2).
 
 ghost use Rattle.std.specs.List.{list_any};
 ghost use Rattle.std.specs.Option.{option_map_or};
@@ -14,12 +14,12 @@ use turn_agent::agent::StunAgentPollRet;
 use turn_stun::instant::Instant;
 use turn_stun::transaction::TransactionId;
 
-/// How long after a request was sent no other is sent for the first time, in milliseconds, so that a
-/// server is not flooded (our choice).
+/// The pause after a request is sent, in milliseconds: before its end no other request is sent for the
+/// first time, so that the server is not flooded (our choice).
 const PAUSE_MILLIS: u64 = 50;
 
 impl Outbox {
-    /// The moment before which no request is sent that was not sent before.
+    /// The time before which no request is sent for the first time.
     pub(crate) fn pause_end(&self) -> Instant
         ensures { result ≡ option_map_or (later_by pause) self.now.last_send 0 }
     {
@@ -29,29 +29,29 @@ impl Outbox {
         }
     }
 
-    /// Whether a reply to the server waits to be sent.
+    /// Whether a reply to the server is queued.
     pub(crate) fn has_reply(&self) -> bool
         ensures { result ≡ list_any (λ q. not q.is_request) self.now.queue }
     {
         self.queue.iter().any(|queued| !queued.is_request)
     }
 
-    /// Whether a request waits to be sent.
+    /// Whether a request is queued.
     pub(crate) fn has_request(&self) -> bool
         ensures { result ≡ list_any (λ q. q.is_request) self.now.queue }
     {
         self.queue.iter().any(|queued| queued.is_request)
     }
 
-    /// The least of this moment and of those at which a request is to be sent again or given up.
+    /// The earliest of this time and of those at which a request is to be retransmitted or timed out.
     pub(crate) fn earliest(&self, moment: Instant) -> Instant
         ensures { result ≡ fold min moment (map (next_moment self.now.timers self.now.transport) self.now.transactions) }
     {
         self.agent.earliest(moment)
     }
 
-    /// Gives up the oldest request whose last wait is over, if there is one. It awaits no response any
-    /// more.
+    /// Times out the oldest request whose last wait has ended, if there is one. It is no longer
+    /// outstanding.
     pub(crate) fn give_up(&mut self, now: Instant) -> Option<TransactionId>
         ensures { (result, self.new) ≡ give_up_step now self.old }
     {

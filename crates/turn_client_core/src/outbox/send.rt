@@ -15,15 +15,15 @@ use turn_stun::instant::Instant;
 use turn_stun::transport::Transmit;
 
 impl Outbox {
-    /// Sends the oldest request that is due again.
+    /// Retransmits the oldest request that is due.
     ///
     /// # Errors
     ///
-    /// `AllocError` where there is no memory. It is still due.
+    /// `AllocError` if memory allocation fails. The request is still due.
     pub(crate) fn resend(&mut self, now: Instant) -> Result<Option<Transmit<Data>>, AllocError>
         ensures step { IfOk result (λ packet. (packet, self.new) ≡ resend_step now self.old) }
         ensures err { OnErr result (self.new ≡ self.old) }
-        // Where none is due, no memory is taken.
+        // If none is due, no memory is allocated.
         ensures free { OnErr result (IsSome (resend_step now self.old).0) }
     {
         match self.agent.poll_transmit(now)? {
@@ -35,7 +35,8 @@ impl Outbox {
         }
     }
 
-    /// Takes the first reply that waits. It does not prolong the pause, which is for requests.
+    /// Removes and returns the first queued reply. It does not extend the pause, which applies to
+    /// requests.
     pub(crate) fn take_reply(&mut self) -> Option<Transmit<Data>>
         ensures { (result, with_room self.old.room self.new) ≡ first_reply_step self.old }
     {
@@ -44,7 +45,7 @@ impl Outbox {
         Some(reply.packet)
     }
 
-    /// Takes what waits in front.
+    /// Removes and returns the first queued packet.
     pub(crate) fn take_front(&mut self, now: Instant) -> Option<Transmit<Data>>
         ensures { (result, with_room self.old.room self.new) ≡ front_step now self.old }
     {
@@ -53,7 +54,7 @@ impl Outbox {
         Some(queued.packet)
     }
 
-    /// Begins the pause anew: a request was sent.
+    /// Restarts the pause: a request was sent.
     pub(crate) fn note_sent(&mut self, now: Instant)
         ensures { self.new ≡ record self.old { last_send = Some now } }
     {
@@ -61,7 +62,7 @@ impl Outbox {
     }
 }
 
-/// The place of the first reply that waits.
+/// The index of the first queued reply.
 fn reply_place(queue: &VecDeque<Queued>) -> Option<usize>
     ensures first { result ≡ position (λ q. not q.is_request) queue.now.items }
     ensures within { IfSome result (λ place. place < deque_len queue.now) }

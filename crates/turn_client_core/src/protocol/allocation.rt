@@ -1,4 +1,4 @@
-//! The allocation in which a call asks for something.
+//! The allocation in which a call requests something.
 
 ghost use Rattle.std.specs.Prelude.{◌≡◌};
 ghost use Rattle.turn_client_api.specs.Grants.{allocation_for, family_of_ip, with_expired};
@@ -17,8 +17,8 @@ impl TurnClientProtocol {
         self.ledger.allocation_for(transport, ip)
     }
 
-    /// The allocation that relays to this IP address is used no more for sending: a call found it past its
-    /// end.
+    /// Marks the allocation that relays to this IP address as expired, so that it is no longer used for
+    /// sending: a call found that its expiry has passed.
     pub(super) fn expire(&mut self, ip: IpAddr)
         ensures { self.new ≡ with_expired (family_of_ip ip) self.old }
     {

@@ -1,4 +1,4 @@
-//! What comes in over a stream (RFC 8656, section 12.5; RFC 6062, section 4.3).
+//! Bytes received over a stream (RFC 8656, section 12.5; RFC 6062, section 4.3).
 
 ghost use Rattle.std.specs.Prelude.{◌≡◌, ◌<◌, ℕ, [], false, true, length, option_map, IfOk, IsOk, OnErr, OnOk};
 ghost use Rattle.std.specs.Option.{option_map_or};
@@ -21,18 +21,19 @@ use turn_stun::instant::Instant;
 use turn_stun::transport::Transmit;
 
 impl TurnClientProtocol {
-    /// Takes a piece of the stream at its local end, which came over TCP from the server. An empty piece says
-    /// that the stream has ended. Where no stream is there, the piece is not for the client.
+    /// Processes a piece of the stream at its local address, received over TCP from the server. An
+    /// empty piece reports the end of the stream. If there is no such stream, the piece is not for the
+    /// client.
     ///
-    /// What a peer sent is a part of the bytes that were handed in, or owned where they had to be put
-    /// together. What is not for the client is handed back as it was. More payloads may wait then: ask
-    /// `poll_recv` until it has none.
+    /// Data of a peer is returned as a range of the bytes passed in, or as owned bytes if it was joined
+    /// from several pieces. A piece that is not for the client is returned unchanged. More payloads may
+    /// be buffered then: call `poll_recv` until it returns none.
     ///
     /// # Errors
     ///
-    /// There is no memory. The client has ended then, and the stream gives nothing more; whole frames that
-    /// were handled before keep their effect. Bytes of a bound connection whose stream holds none take no
-    /// memory, nor does an empty piece.
+    /// If memory allocation fails. The client has ended then, and the stream delivers nothing more;
+    /// whole frames that were processed before keep their effect. Bytes of a bound connection whose
+    /// stream is empty allocate no memory, nor does an empty piece.
     pub fn piece<T: AsSlice<u8> + Debug + Drop>(
         &mut self,
         transmit: Transmit<T>,
@@ -51,7 +52,8 @@ impl TurnClientProtocol {
         self.next_piece(transmit, now)
     }
 
-    /// The stream at the local end of the empty piece has ended, if there is one, and its connection is gone.
+    /// Ends the stream at the local address of the empty piece, if there is one, and removes its
+    /// connection.
     fn stream_end<T: AsSlice<u8> + Debug + Drop>(&mut self, transmit: Transmit<T>) -> TurnRecvRet<T>
         ensures answer { (now : ℕ) → outcome_of result ≡ (piece_at transmit.to [] now self.old).0 }
         ensures hands_back { HandsBack transmit result }
@@ -65,7 +67,7 @@ impl TurnClientProtocol {
         TurnRecvRet::Handled
     }
 
-    /// The local end of the stream at this local end, if there is one.
+    /// The local address of the stream at this local address, if there is one.
     fn stream_local(&self, local: SocketAddr) -> Option<SocketAddr>
         ensures { result ≡ option_map (λ stream. stream.local) (stream_at local self.now) }
     {
@@ -75,18 +77,18 @@ impl TurnClientProtocol {
         }
     }
 
-    /// The stream at this local end is let go.
+    /// Drops the stream at this local address.
     fn remove(&mut self, local: SocketAddr)
         ensures { self.new ≡ without_stream local self.old }
     {
         self.streams.remove(local);
     }
 
-    /// Takes the next bytes of the stream at their local end.
+    /// Processes the next bytes of the stream at their local address.
     ///
     /// # Errors
     ///
-    /// There is no memory. The stream whose turn it was is broken then, and the client has ended.
+    /// If memory allocation fails. The stream being processed is broken then, and the client has ended.
     fn next_piece<T: AsSlice<u8> + Debug + Drop>(
         &mut self,
         transmit: Transmit<T>,
@@ -106,7 +108,7 @@ impl TurnClientProtocol {
         self.whole_piece(transmit, now)
     }
 
-    /// Whether the stream at this local end is broken.
+    /// Whether the stream at this local address is broken.
     fn is_broken_at(&self, local: SocketAddr) -> bool
         ensures { result ≡ option_map_or (λ stream. is_broken stream.mode) (stream_at local self.now) false }
     {
@@ -116,12 +118,13 @@ impl TurnClientProtocol {
         }
     }
 
-    /// Takes bytes of the broken stream at this local end: they are dropped, and those of the control
-    /// stream set all others going.
+    /// Processes bytes of the broken stream at this local address: they are dropped, and if it is the
+    /// control stream, all other streams are processed.
     ///
     /// # Errors
     ///
-    /// There is no memory for what a stream holds. It is broken then, and the client has ended.
+    /// If memory allocation for the bytes of a stream fails. That stream is broken then, and the client
+    /// has ended.
     fn broken_piece<T: AsSlice<u8> + Debug + Drop>(
         &mut self,
         local: SocketAddr,
@@ -139,12 +142,12 @@ impl TurnClientProtocol {
         Ok(TurnRecvRet::Handled)
     }
 
-    /// Takes bytes of the stream at their local end, which is not broken.
+    /// Processes bytes of the stream at their local address, which is not broken.
     ///
     /// # Errors
     ///
-    /// There is no memory. The stream whose turn it was is broken then, and the client has ended. Bytes of a
-    /// bound stream in which nothing waits take none.
+    /// If memory allocation fails. The stream being processed is broken then, and the client has ended.
+    /// Bytes of a bound stream with no buffered bytes allocate none.
     fn whole_piece<T: AsSlice<u8> + Debug + Drop>(
         &mut self,
         transmit: Transmit<T>,
@@ -165,7 +168,7 @@ impl TurnClientProtocol {
         self.turned_piece(stream, transmit, now)
     }
 
-    /// Takes out the stream at this local end.
+    /// Takes out the stream at this local address.
     fn take_at(&mut self, local: SocketAddr) -> Option<BufferedStream>
         ensures stream { result ≡ stream_at local self.old }
         ensures after { self.new ≡ taken_out result self.old }
@@ -174,7 +177,7 @@ impl TurnClientProtocol {
     }
 }
 
-/// Whether nothing more comes of a stream whose bytes are meant so.
+/// Whether a stream in this mode delivers nothing more.
 fn is_broken(mode: Mode) -> bool
     ensures { result ≡ is_broken mode }
 {

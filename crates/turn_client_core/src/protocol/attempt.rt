@@ -1,7 +1,7 @@
-//! The server tells of a peer that connected to the relayed address (RFC 6062, section 4.4).
+//! The server reports a peer that connected to the relayed address (RFC 6062, section 4.4).
 
-ghost use Rattle.std.specs.Prelude.{◌≡◌, IfOk, OnErr, OnOk};
-ghost use Rattle.turn_client_api.specs.Connections.{attempt_requested, is_heeded};
+ghost use Rattle.std.specs.Prelude.{◌≡◌, IfOk, IsSome, OnErr, OnOk};
+ghost use Rattle.turn_client_api.specs.Connections.{attempt_indicated, attempt_requested, is_heeded};
 ghost use Rattle.turn_client_api.specs.Effect.{with_offer};
 ghost use Rattle.turn_client_api.specs.Requests.{refused_reply, replied};
 ghost use Rattle.turn_client_core.specs.Attempts.{CanSign, attempt_step};
@@ -20,16 +20,16 @@ use turn_stun::message::Message;
 use turn_stun::transaction::TransactionId;
 use turn_stun::transport::TransportType;
 
-/// So many offers by indications stand at most, since these are not signed (our choice).
+/// How many offers from indications may exist at a time, since indications are not signed (our choice).
 const MOST_INDICATED: usize = 64;
 
 impl TurnClientProtocol {
-    /// A request of the server makes an offer to the caller, or is refused: it is always answered (our choice:
-    /// RFC 6062 has an indication alone).
+    /// A request of the server makes an offer to the caller, or is refused: it is always answered (our
+    /// choice: RFC 6062 has only an indication).
     ///
     /// # Errors
     ///
-    /// There is no memory. Nothing changes then.
+    /// If memory allocation fails. Nothing changes then.
     pub(super) fn attempt_requested(&mut self, message: &Message<'_>) -> Result<(), AllocError>
         requires { CanSign self.old.phase }
         ensures ok { OnOk result (self.new ≡ attempt_requested message.now self.old) }
@@ -52,16 +52,18 @@ impl TurnClientProtocol {
         self.offer(connection_id, peer, Origin::ServerRequest(id))
     }
 
-    /// An indication makes an offer to the caller where it is heeded, and is ignored elsewhere.
+    /// An indication makes an offer to the caller if it is accepted, and is ignored otherwise. Memory
+    /// is allocated only for an offer.
     ///
     /// # Errors
     ///
-    /// There is no memory. Nothing changes then.
+    /// If memory allocation fails. Nothing changes then.
     pub(super) fn attempt_indicated(&mut self, message: &Message<'_>) -> Result<Told, AllocError>
         ensures answer { IfOk result (λ told. outcome_in message.now told ≡ (attempt_step message.now self.old).0) }
         ensures part { IfOk result (IsPart message.now self.old self.new) }
         ensures after { OnOk result (self.new ≡ (attempt_step message.now self.old).1) }
         ensures err { OnErr result (self.new ≡ self.old) }
+        ensures wanted { OnErr result (IsSome (attempt_indicated message.now self.old)) }
     {
         let Some(connection_id) = connection_id_in(message) else {
             return Ok(Told::Ignored);
@@ -76,8 +78,9 @@ impl TurnClientProtocol {
         Ok(Told::Handled)
     }
 
-    /// Whether an indication that tells of this peer makes an offer: only for a peer with a permission, as
-    /// RFC 6062, section 4.4, has it, and where no other connection to it is there or comes.
+    /// Whether an indication that names this peer makes an offer: only for a peer with a permission, as
+    /// RFC 6062, section 4.4, requires, and if no other connection to it exists, is offered or is
+    /// pending.
     fn is_heeded(&self, peer: SocketAddr) -> bool
         ensures { result ≡ is_heeded peer self.now }
     {
@@ -96,11 +99,11 @@ impl TurnClientProtocol {
         self.ledger.table().indicated_count() < MOST_INDICATED
     }
 
-    /// The caller is to open a data connection to the peer, by the server's number of it.
+    /// Offers the caller a data connection to the peer, with the server's ID of it.
     ///
     /// # Errors
     ///
-    /// There is no memory. Nothing changes then.
+    /// If memory allocation fails. Nothing changes then.
     fn offer(
         &mut self,
         connection_id: u32,
@@ -110,16 +113,17 @@ impl TurnClientProtocol {
         ensures ok { OnOk result (self.new ≡ with_offer connection_id peer origin self.old) }
         ensures err { OnErr result (self.new ≡ self.old) }
     {
-        self.ledger.reserve(1, 0, 0)?;
+        // Keeps the room for the failure events of families that are still requested.
+        self.ledger.reserve(1, 0, self.families.len())?;
         self.ledger.offer(connection_id, peer, origin);
         Ok(())
     }
 
-    /// The server's request of this ID is refused.
+    /// Refuses the server's request with this ID.
     ///
     /// # Errors
     ///
-    /// There is no memory. Nothing changes then.
+    /// If memory allocation fails. Nothing changes then.
     fn refuse_attempt(
         &mut self,
         refusal: AttemptRefusal,

@@ -1,12 +1,12 @@
-//! A data connection is bound, or is not (RFC 6062, section 4.3).
+//! A data connection is bound, or its binding fails (RFC 6062, section 4.3).
 
 ghost use Rattle.std.specs.Prelude.{◌≡◌, find, true, IsSome, OnErr, OnOk, Some};
 ghost use Rattle.turn_client_api.specs.Connections.{bind_answered, bind_step, bound, connection_at, not_bound};
 ghost use Rattle.turn_client_api.specs.Effect.{ended};
 ghost use Rattle.turn_client_api.specs.Grants.{purposes_of};
 ghost use Rattle.turn_client_api.specs.Judgement.{bind_judgement, challenge_in, is_bind_of};
+ghost use Rattle.turn_client_api.specs.Memory.{bind_takes_memory, keeps_connection};
 ghost use Rattle.turn_client_core.specs.Challenges.{BindsAgain};
-ghost use Rattle.turn_client_core.specs.Judged.{bind_takes_memory, keeps_connection};
 ghost use Rattle.turn_stun.specs.Message.{id_of};
 
 use crate::protocol::TurnClientProtocol;
@@ -20,12 +20,13 @@ use turn_stun::message::Message;
 use turn_types::message::CONNECTION_BIND;
 
 impl TurnClientProtocol {
-    /// Takes a message of the data connection from this local end. Where there is no such connection, or
-    /// the message is of another method than CONNECTION_BIND, nothing comes of it.
+    /// Processes a message on the data connection from this local address. If there is no such
+    /// connection, or the message has another method than CONNECTION_BIND, nothing changes.
     ///
     /// # Errors
     ///
-    /// There is no memory to bind the connection, or to ask for it again. Nothing changes then.
+    /// If memory allocation fails, to bind the connection or to request that again. Nothing changes
+    /// then.
     pub(super) fn bind_step(
         &mut self,
         local: SocketAddr,
@@ -48,11 +49,11 @@ impl TurnClientProtocol {
         self.bind_answered(&connection, message, now)
     }
 
-    /// Takes a message of a data connection, which waits to be bound.
+    /// Processes a message on a data connection that waits to be bound.
     ///
     /// # Errors
     ///
-    /// There is no memory to bind it, or to ask for it again. Nothing changes then.
+    /// If memory allocation fails, to bind it or to request that again. Nothing changes then.
     fn bind_answered(
         &mut self,
         connection: &DataConnection,
@@ -78,12 +79,12 @@ impl TurnClientProtocol {
         }
     }
 
-    /// The server bound the connection, as it says in this message: what follows on the stream is what the
-    /// peer sent.
+    /// The server bound the connection with this message: what follows on the stream is data of the
+    /// peer.
     ///
     /// # Errors
     ///
-    /// There is no memory. Nothing changes then.
+    /// If memory allocation fails. Nothing changes then.
     fn bound(
         &mut self,
         connection: &DataConnection,
@@ -92,7 +93,11 @@ impl TurnClientProtocol {
         ensures ok { OnOk result (self.new ≡ bound connection.now (ended (id_of message.now) self.old)) }
         ensures err { OnErr result (self.new ≡ self.old) }
     {
-        self.ledger.reserve(0, 0, 1)?;
+        // Keeps the room for the failure events of families that are still requested.
+        let Some(events) = self.families.len().checked_add(1) else {
+            return Err(AllocError);
+        };
+        self.ledger.reserve(0, 0, events)?;
         self.outbox.end(message.transaction_id());
         self.streams
             .set_mode(connection.local, Mode::Bound(connection.peer));
@@ -100,7 +105,7 @@ impl TurnClientProtocol {
         Ok(())
     }
 
-    /// The server did not bind the connection, as it says in this message. Takes no memory.
+    /// The server did not bind the connection, as this message says. Allocates no memory.
     fn bind_refused(&mut self, connection: &DataConnection, message: &Message<'_>)
         requires { connection_at connection.now.local self.old ≡ Some connection.now }
         ensures { self.new ≡ not_bound connection.now (ended (id_of message.now) self.old) }
@@ -109,7 +114,7 @@ impl TurnClientProtocol {
         self.not_bound(connection);
     }
 
-    /// The connection is not bound, and the caller is to close it. Takes no memory.
+    /// The connection is not bound, and the caller is to close it. Allocates no memory.
     fn not_bound(&mut self, connection: &DataConnection)
         requires { connection_at connection.now.local self.old ≡ Some connection.now }
         ensures { self.new ≡ not_bound connection.now self.old }
@@ -117,13 +122,13 @@ impl TurnClientProtocol {
         self.ledger.not_bound(connection);
     }
 
-    /// Takes what the challenge gives, and asks again for the connection to be bound, where that was asked
-    /// under the challenge's ID. The old request stays outstanding, and the challenge is not counted: each
-    /// takes one connection (our choice).
+    /// Accepts the challenge, and requests the binding of the connection again, if the request with the
+    /// challenge's ID was for that. The old request stays outstanding, and the challenge is not
+    /// counted: each concerns one connection, not the client (our choice).
     ///
     /// # Errors
     ///
-    /// There is no memory. Nothing changes then.
+    /// If memory allocation fails. Nothing changes then.
     fn bind_again(
         &mut self,
         connection: &DataConnection,
@@ -140,11 +145,11 @@ impl TurnClientProtocol {
         self.ask_bind(connection, message, &purpose, now)
     }
 
-    /// The same for this purpose, which the challenge's ID is listed for.
+    /// The same for this purpose, for which the challenge's ID is listed.
     ///
     /// # Errors
     ///
-    /// There is no memory. Nothing changes then.
+    /// If memory allocation fails. Nothing changes then.
     fn ask_bind(
         &mut self,
         connection: &DataConnection,

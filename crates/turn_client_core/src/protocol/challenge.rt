@@ -1,8 +1,10 @@
-//! A challenge is answered: the request is made again, signed as the server asks (RFC 8489, section 9.2.5).
+//! A challenge is answered: the request is made again, signed as the server requires (RFC 8489, section
+//! 9.2.5).
 
-ghost use Rattle.std.specs.Prelude.{◌≡◌, ◌<◌, IfOk, IsSome, OnErr, OnOk, Some};
+ghost use Rattle.std.specs.Prelude.{◌≡◌, ◌<◌, IfOk, IsSome, OnErr, OnOk, Some, true};
 ghost use Rattle.turn_client_api.specs.Grants.{purposes_of};
 ghost use Rattle.turn_client_api.specs.Judgement.{challenge_in};
+ghost use Rattle.turn_client_api.specs.Memory.{challenge_takes_memory};
 ghost use Rattle.turn_client_api.specs.Retry.{phase_after, retried};
 ghost use Rattle.turn_client_core.specs.Challenges.{AsksAgain, MeetsChallenge, TellsOfChallenge};
 ghost use Rattle.turn_client_core.specs.Told.{IsPart};
@@ -17,17 +19,18 @@ use turn_client_requests::request_under;
 use turn_stun::instant::Instant;
 use turn_stun::message::Message;
 
-/// So many challenges are answered one after the other: a server that always asks for another nonce ends the
+/// How many challenges are answered in a row: a server that always requires another nonce ends the
 /// client (our choice).
 const MOST_CHALLENGES: u32 = 9;
 
 impl TurnClientProtocol {
-    /// Answers the challenge, or ends the client where it is one too many. One that is about nothing is not
-    /// taken.
+    /// Answers the challenge, or ends the client if it is one too many. A challenge that concerns no
+    /// request over the control connection is ignored unless it is one too many.
     ///
     /// # Errors
     ///
-    /// There is no memory. Nothing changes then, and what is held of earlier challenges stays.
+    /// If memory allocation fails. Nothing changes then, and the values of earlier challenges are kept.
+    /// A challenge that is ignored allocates none.
     pub(super) fn challenged(
         &mut self,
         message: &Message<'_>,
@@ -38,6 +41,7 @@ impl TurnClientProtocol {
         ensures part { IfOk result (IsPart message.now self.old self.new) }
         ensures after { MeetsChallenge message.now now self.old self.new result }
         ensures err { OnErr result (self.new ≡ self.old) }
+        ensures wanted { OnErr result (challenge_takes_memory message.now self.old ≡ true) }
     {
         if self.challenges < MOST_CHALLENGES {
             return self.answer_challenge(message, now);
@@ -46,12 +50,12 @@ impl TurnClientProtocol {
         Ok(Told::Handled)
     }
 
-    /// Answers the challenge where its ID is listed for something that is asked for over the control
-    /// connection.
+    /// Answers the challenge if its ID is listed for something that is requested over the control
+    /// connection. Memory is allocated only then.
     ///
     /// # Errors
     ///
-    /// There is no memory. Nothing changes then.
+    /// If memory allocation fails. Nothing changes then.
     fn answer_challenge(&mut self, message: &Message<'_>, now: Instant) -> Result<Told, AllocError>
         requires challenge { IsSome (challenge_in self.old message.now) }
         requires few { self.old.challenges < 9 }
@@ -59,6 +63,7 @@ impl TurnClientProtocol {
         ensures part { IfOk result (IsPart message.now self.old self.new) }
         ensures after { MeetsChallenge message.now now self.old self.new result }
         ensures err { OnErr result (self.new ≡ self.old) }
+        ensures wanted { OnErr result (IsSome (retried (purposes_of (id_of message.now) self.old))) }
     {
         let purposes = self.ledger.table().purposes_of(message.transaction_id());
         let Some(purpose) = retried(&purposes) else {
@@ -68,12 +73,12 @@ impl TurnClientProtocol {
         Ok(Told::Handled)
     }
 
-    /// Takes what the challenge gives, and makes the request of its ID again for this purpose. The old one
-    /// awaits no response any more.
+    /// Accepts the challenge, and makes the request with its ID again for this purpose. The old request
+    /// is no longer outstanding.
     ///
     /// # Errors
     ///
-    /// There is no memory. Nothing changes then.
+    /// If memory allocation fails. Nothing changes then.
     fn ask_again(
         &mut self,
         message: &Message<'_>,
@@ -112,7 +117,7 @@ impl TurnClientProtocol {
     }
 }
 
-/// Once it is answered, the first ALLOCATE is a signed one.
+/// The phase after the answer to a challenge: the first ALLOCATE is signed then.
 fn after_challenge(phase: Phase) -> Phase
     ensures { result ≡ phase_after phase }
 {

@@ -15,15 +15,15 @@ use turn_stun::instant::Instant;
 use turn_stun::transport::TransportType;
 
 impl TurnClientProtocol {
-    /// Asks the server to bind a channel to this peer: a CHANNEL_BIND is queued (RFC 8656, section 12.1).
-    /// Where no permission for the peer is there or asked for, one comes with it.
+    /// Requests a channel to this peer: queues a CHANNEL_BIND (RFC 8656, section 12.1). If no
+    /// permission for the peer is active or pending, one is requested with it.
     ///
     /// # Errors
     ///
-    /// In this order: `NoAllocation` as for `create_permission`; `AlreadyExists` where the peer has a
-    /// channel, or one is asked for; `ExpiredChannelExists` where it had one that is still reserved, with
-    /// the moment up to which the first of these is; `NoAllocation` where the client has ended;
-    /// `AlreadyExists` where all numbers are taken; `OutOfMemory`. Nothing else changes then.
+    /// In this order: `NoAllocation` as for `create_permission`; `AlreadyExists` if the peer has an
+    /// active or a pending channel; `ExpiredChannelExists` if it had one that is still reserved, with
+    /// the time until which the first of these is reserved; `NoAllocation` if the client has ended;
+    /// `AlreadyExists` if all channel numbers are taken; `OutOfMemory`. Nothing else changes then.
     pub fn bind_channel(
         &mut self,
         transport: TransportType,
@@ -43,7 +43,7 @@ impl TurnClientProtocol {
         self.ask_channel(peer_addr, now)
     }
 
-    /// The same in an allocation that can be used.
+    /// The same, in an allocation that can be used.
     fn ask_channel(&mut self, peer: SocketAddr, now: Instant) -> Result<(), BindChannelError>
         ensures step { BindsChannel result self.old self.new (channel_step peer now self.old) }
     {
@@ -65,11 +65,11 @@ impl TurnClientProtocol {
         }
     }
 
-    /// Asks for the channel of this number, and for a permission where none is there or asked for.
+    /// Requests the channel with this number, and a permission if none is active or pending.
     ///
     /// # Errors
     ///
-    /// `AllocError` where there is no memory. Nothing changes then.
+    /// `AllocError` if memory allocation fails. Nothing changes then.
     fn ask_number(&mut self, number: u16, peer: SocketAddr, now: Instant) -> Result<(), AllocError>
         requires held { IsSome self.old.held }
         requires numbered { (nat_le 0x4000 number && nat_lt number 0x5000) ≡ true }

@@ -1,4 +1,4 @@
-//! Data connections that a client asks for (RFC 6062, section 4.3).
+//! Data connections that a client requests (RFC 6062, section 4.3).
 
 ghost use Rattle.turn_client_api.specs.Answers.{Connects};
 ghost use Rattle.turn_client_api.specs.Calls.{connect_step, tcp_connect_step};
@@ -11,14 +11,14 @@ use turn_stun::instant::Instant;
 use turn_stun::transport::TransportType;
 
 impl TurnClientProtocol {
-    /// Asks the server to connect to this peer: a CONNECT is queued (RFC 6062, section 4.3).
+    /// Requests a data connection to this peer: queues a CONNECT (RFC 6062, section 4.3).
     ///
     /// # Errors
     ///
-    /// In this order: `NoAllocation` where no allocation relays over TCP to addresses of this IP version,
-    /// or where it is past its end, and it is expired then; `NoAllocation` where the client has ended;
-    /// `NoPermission` where the peer has none; `AlreadyExists` where a connection to the peer is there, is
-    /// asked for, or waits for the caller's socket; `OutOfMemory`. Nothing else changes then.
+    /// In this order: `NoAllocation` if no allocation relays over TCP to addresses of this IP version,
+    /// or if its expiry has passed (it is marked as expired then); `NoAllocation` if the client has
+    /// ended; `NoPermission` if the peer has none; `AlreadyExists` if a data connection to the peer
+    /// exists, is pending, or is offered to the caller; `OutOfMemory`. Nothing else changes then.
     pub fn tcp_connect(
         &mut self,
         peer_addr: SocketAddr,
@@ -37,7 +37,7 @@ impl TurnClientProtocol {
         self.ask_connection(peer_addr, now)
     }
 
-    /// The same in an allocation that can be used.
+    /// The same, in an allocation that can be used.
     fn ask_connection(&mut self, peer: SocketAddr, now: Instant) -> Result<(), TcpConnectError>
         ensures step { Connects result self.old self.new (connect_step peer now self.old) }
     {

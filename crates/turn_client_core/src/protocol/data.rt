@@ -1,4 +1,4 @@
-//! What peers send: DATA indications and channel frames (RFC 8656, sections 11.6 and 12.6).
+//! Data of peers: Data indications and ChannelData messages (RFC 8656, sections 11.6 and 12.6).
 
 ghost use Rattle.std.specs.Prelude.{◌≡◌, ◌≤◌, ◌+◌, length};
 ghost use Rattle.std.specs.Net.Socket.{socket_ip};
@@ -17,8 +17,9 @@ use turn_types::attribute::Icmp;
 use turn_types::channel::ChannelData;
 
 impl TurnClientProtocol {
-    /// What a DATA indication gives: data of a peer whose IP address has a permission, whether or not its
-    /// allocation is expired, or where there is no data an ICMP error. Takes no memory.
+    /// The result of a Data indication: data of a peer whose IP address has an active permission,
+    /// whether or not its allocation is expired, or an ICMP error if there is no data. Allocates no
+    /// memory.
     pub(super) fn data_indicated(&self, message: &Message<'_>) -> Told
         ensures outcome { outcome_in message.now result ≡ data_indicated self.now message.now }
         ensures part { IsPart message.now self.now self.now result }
@@ -38,7 +39,7 @@ impl TurnClientProtocol {
         }
     }
 
-    /// What a DATA indication without data gives.
+    /// The result of a Data indication without data.
     fn icmp_indicated(&self, peer: SocketAddr, icmp: &Option<Icmp>) -> Told
         ensures { result ≡ icmp_of_peer peer icmp.now self.now }
     {
@@ -50,8 +51,8 @@ impl TurnClientProtocol {
         }
     }
 
-    /// What a channel frame gives, which these bytes begin with: data of the peer whose active channel has the
-    /// number, in any phase. Takes no memory.
+    /// The result of the ChannelData message at the start of these bytes: data of the peer whose active
+    /// channel has the number, in any phase. Allocates no memory.
     pub(super) fn channel_sent(&self, bytes: &[u8], frame: &ChannelData<'_>) -> Told
         requires frame { frame.now ≡ channel_at bytes.now }
         requires whole { 4 + length frame.now.payload ≤ length bytes.now }
@@ -64,7 +65,8 @@ impl TurnClientProtocol {
         }
     }
 
-    /// This, which came from the peer, where the server lets the peer's IP address through.
+    /// This result of an input from the peer, if the peer's IP address has an active permission, or
+    /// else `Ignored`.
     fn let_in(&self, peer: SocketAddr, told: Told) -> Told
         ensures { result ≡ let_in (is_permitted (socket_ip peer) self.now) told }
     {

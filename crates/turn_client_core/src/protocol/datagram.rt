@@ -3,7 +3,8 @@
 ghost use Rattle.std.specs.Prelude.{◌≡◌, [], if◌then◌else◌, IfOk, IsOk, OnErr, OnOk, true};
 ghost use Rattle.turn_client_api.specs.Answers.{datagram_takes_none, is_data_indication};
 ghost use Rattle.turn_client_api.specs.Effect.{closed};
-ghost use Rattle.turn_client_api.specs.Payloads.{Ignored, channel_sent, datagram_step, is_channel_frame, is_message, message_step};
+ghost use Rattle.turn_client_api.specs.Memory.{message_takes_memory, packet_takes_memory};
+ghost use Rattle.turn_client_api.specs.Payloads.{Ignored, channel_sent, datagram_step, is_channel_frame, message_step};
 ghost use Rattle.turn_client_core.specs.Told.{IsPart, outcome_in};
 
 use crate::protocol::TurnClientProtocol;
@@ -15,13 +16,14 @@ use turn_stun::message::Message;
 use turn_types::channel::ChannelData;
 
 impl TurnClientProtocol {
-    /// Takes a datagram that came from the server to the client's address: a message, or else a channel
-    /// frame at its front. Anything else is not for the client.
+    /// Processes a datagram received from the server at the client's address: a STUN message, or else a
+    /// ChannelData message at its start. Anything else is not for the client.
     ///
     /// # Errors
     ///
-    /// There is no memory for what a message asks for. The client has ended then, and nothing else has
-    /// changed. A channel frame and a DATA indication take no memory.
+    /// If memory allocation fails for an action that a message requires. The client has ended then, and
+    /// nothing else has changed. A ChannelData message and a Data indication allocate no memory, nor
+    /// does a message that requires no action.
     pub fn datagram(&mut self, bytes: &[u8], now: Instant) -> Result<Told, AllocError>
         requires before { self.old.phase ≡ Phase.Authenticating → self.old.grants ≡ [] }
         ensures answer { IfOk result (λ told. outcome_in bytes.now told ≡ (datagram_step bytes.now now self.old).0) }
@@ -29,8 +31,8 @@ impl TurnClientProtocol {
         ensures after { OnOk result (self.new ≡ (datagram_step bytes.now now self.old).1) }
         ensures no_memory { OnErr result (self.new ≡ closed self.old) }
         ensures free { datagram_takes_none bytes.now ≡ true → IsOk result }
-        // Memory is wanted for messages alone.
-        ensures wanted { OnErr result (is_message bytes.now ≡ true) }
+        // Only messages allocate memory, and only those that require an action.
+        ensures wanted { OnErr result (packet_takes_memory bytes.now self.old ≡ true) }
     {
         match Message::from_bytes(bytes) {
             Ok(message) => self.message_or_end(&message, now),
@@ -38,11 +40,11 @@ impl TurnClientProtocol {
         }
     }
 
-    /// Takes a message, and ends where there is no memory for what it asks for.
+    /// Processes a message, and ends the client if memory allocation for it fails.
     ///
     /// # Errors
     ///
-    /// There is no memory. The client has ended then, and nothing else has changed.
+    /// If memory allocation fails. The client has ended then, and nothing else has changed.
     fn message_or_end(&mut self, message: &Message<'_>, now: Instant) -> Result<Told, AllocError>
         requires before { self.old.phase ≡ Phase.Authenticating → self.old.grants ≡ [] }
         ensures answer { IfOk result (λ told. outcome_in message.now told ≡ (message_step message.now now self.old).0) }
@@ -50,6 +52,7 @@ impl TurnClientProtocol {
         ensures after { OnOk result (self.new ≡ (message_step message.now now self.old).1) }
         ensures no_memory { OnErr result (self.new ≡ closed self.old) }
         ensures free { is_data_indication message.now ≡ true → IsOk result }
+        ensures wanted { OnErr result (message_takes_memory message.now self.old ≡ true) }
     {
         match self.message(message, now) {
             Ok(told) => Ok(told),
@@ -60,8 +63,8 @@ impl TurnClientProtocol {
         }
     }
 
-    /// What a channel frame at the front of the bytes gives, if there is one: data of a peer. Takes no
-    /// memory.
+    /// The result of the ChannelData message at the start of the bytes, if there is one: data of a
+    /// peer. Allocates no memory.
     fn frame_sent(&self, bytes: &[u8]) -> Told
         ensures outcome { outcome_in bytes.now result ≡ (if is_channel_frame bytes.now then channel_sent self.now bytes.now else Ignored) }
         ensures part { IsPart bytes.now self.now self.now result }

@@ -1,4 +1,4 @@
-//! How a client gives its allocations back (RFC 8656, section 8).
+//! How a client deletes its allocations (RFC 8656, section 8).
 
 ghost use Rattle.std.specs.Prelude.{◌≡◌, IfOk, IsSome, OnErr, OnOk};
 ghost use Rattle.turn_client_api.specs.Answers.{Deletes};
@@ -14,13 +14,13 @@ use turn_stun::instant::Instant;
 use turn_stun::transaction::TransactionId;
 
 impl TurnClientProtocol {
-    /// Gives all allocations back: a REFRESH with a lifetime of 0 is queued (RFC 8656, section 8.1).
-    /// Permissions and channels are gone at once. What is asked for may still be granted.
+    /// Deletes all allocations: queues a REFRESH with lifetime 0 (RFC 8656, section 8.1). Permissions
+    /// and channels are removed at once. Pending grants may still be granted.
     ///
     /// # Errors
     ///
-    /// `NoAllocation` where the client has not been granted any, or has ended. `OutOfMemory`. Nothing
-    /// changes then.
+    /// `NoAllocation` if the server has not granted an allocation yet, or if the client has ended.
+    /// `OutOfMemory`. Nothing changes then.
     pub fn delete(&mut self, now: Instant) -> Result<(), DeleteError>
         ensures step { Deletes result self.old self.new (delete_step now self.old) }
     {
@@ -33,11 +33,11 @@ impl TurnClientProtocol {
         }
     }
 
-    /// One REFRESH gives all allocations back.
+    /// Queues one REFRESH that deletes all allocations.
     ///
     /// # Errors
     ///
-    /// `AllocError` where there is no memory. Nothing changes then.
+    /// `AllocError` if memory allocation fails. Nothing changes then.
     fn give_back(&mut self, now: Instant) -> Result<(), AllocError>
         requires { IsSome self.old.held }
         ensures ok { OnOk result (self.new ≡ deleted now self.old) }
@@ -52,11 +52,11 @@ impl TurnClientProtocol {
         Ok(())
     }
 
-    /// The REFRESH that gives all allocations back. `id` is the client's next transaction ID.
+    /// The REFRESH that deletes all allocations. `id` is the client's next transaction ID.
     ///
     /// # Errors
     ///
-    /// `AllocError` where there is no memory.
+    /// `AllocError` if memory allocation fails.
     fn delete_text(&self, id: TransactionId) -> Result<Data, AllocError>
         requires held { IsSome self.now.held }
         requires next { id ≡ fresh_id self.now }

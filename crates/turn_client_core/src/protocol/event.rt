@@ -1,4 +1,4 @@
-//! What the caller is told, and the end of a client.
+//! Events for the caller, and the end of a client.
 
 ghost use Rattle.std.specs.Prelude.{◌≡◌, OnOk, OnErr};
 ghost use Rattle.turn_client_api.specs.Answers.{event_step};
@@ -10,7 +10,7 @@ use std::alloc::AllocError;
 use turn_client_api::{Phase, TurnEvent};
 
 impl TurnClientProtocol {
-    /// The next event, or none. It takes no memory.
+    /// The next event, or none. Allocates no memory.
     pub fn poll_event(&mut self) -> Option<TurnEvent>
         ensures answer { result ≡ (event_step self.old).0 }
         ensures after { self.new ≡ (event_step self.old).1 }
@@ -18,12 +18,11 @@ impl TurnClientProtocol {
         self.ledger.next_event()
     }
 
-    /// Takes it that what carries the client's packets has failed: what is still asked for has failed, and
-    /// the client has ended.
+    /// Reports that the control connection failed: all that is pending fails, and the client has ended.
     ///
     /// # Errors
     ///
-    /// There is no memory for the events. The client has ended all the same.
+    /// If memory allocation for the events fails. The client has ended all the same.
     pub fn protocol_error(&mut self) -> Result<(), AllocError>
         ensures ok { OnOk result (self.new ≡ protocol_error_step self.old) }
         ensures err { OnErr result (self.new ≡ closed self.old) }
@@ -34,11 +33,11 @@ impl TurnClientProtocol {
         self.close_failing()
     }
 
-    /// Each family that is still asked for is told of as failed, and the client ends.
+    /// Queues a failure event for each family that is still requested, and ends the client.
     ///
     /// # Errors
     ///
-    /// There is no memory for the events. The client has ended all the same.
+    /// If memory allocation for the events fails. The client has ended all the same.
     pub(super) fn close_failing(&mut self) -> Result<(), AllocError>
         ensures ok { OnOk result (self.new ≡ closed (fail_all self.old)) }
         ensures err { OnErr result (self.new ≡ closed self.old) }
@@ -55,11 +54,11 @@ impl TurnClientProtocol {
         }
     }
 
-    /// Each family that is still asked for is told of as failed, and asked for no more.
+    /// Queues a failure event for each family that is still requested, and requests none any more.
     ///
     /// # Errors
     ///
-    /// There is no memory for the events. Nothing changes then.
+    /// If memory allocation for the events fails. Nothing changes then.
     pub(super) fn fail_all(&mut self) -> Result<(), AllocError>
         ensures ok { OnOk result (self.new ≡ fail_all self.old) }
         ensures err { OnErr result (self.new ≡ self.old) }
@@ -70,7 +69,7 @@ impl TurnClientProtocol {
         Ok(())
     }
 
-    /// The client ends: no reply to an ALLOCATE is awaited any more.
+    /// Ends the client: no response to an ALLOCATE is awaited any more.
     pub(super) fn close(&mut self)
         ensures { self.new ≡ closed self.old }
     {

@@ -13,12 +13,12 @@ use turn_client_api::Phase;
 use turn_stun::message::Message;
 
 impl TurnClientProtocol {
-    /// A message that ends the client: what it asks for fails. With it ends the transaction of a first
-    /// ALLOCATE.
+    /// Processes a message that ends the client: what the client requests fails. If it answers the
+    /// first ALLOCATE, that transaction ends too.
     ///
     /// # Errors
     ///
-    /// There is no memory. Nothing changes then.
+    /// If memory allocation fails. Nothing changes then.
     pub(super) fn fatal(&mut self, message: &Message<'_>) -> Result<Told, AllocError>
         ensures answer { IfOk result (λ told. outcome_in message.now told ≡ (wrong_step message.now self.old).0) }
         ensures part { IfOk result (IsPart message.now self.old self.new) }
@@ -33,12 +33,12 @@ impl TurnClientProtocol {
         Ok(Told::Handled)
     }
 
-    /// The request that the message answers is outstanding no longer, what the client asks for fails, and it
-    /// ends.
+    /// Ends the request that the message answers, queues failure events for what the client requests,
+    /// and ends the client.
     ///
     /// # Errors
     ///
-    /// There is no memory. Nothing changes then.
+    /// If memory allocation fails. Nothing changes then.
     pub(super) fn fail_with(&mut self, message: &Message<'_>) -> Result<(), AllocError>
         ensures ok { OnOk result (self.new ≡ closed (fail_all (ended (id_of message.now) self.old))) }
         ensures err { OnErr result (self.new ≡ self.old) }
@@ -48,11 +48,11 @@ impl TurnClientProtocol {
         Ok(())
     }
 
-    /// Each family that is still asked for is told of as failed, and the client ends.
+    /// Queues a failure event for each family that is still requested, and ends the client.
     ///
     /// # Errors
     ///
-    /// There is no memory. Nothing changes then.
+    /// If memory allocation fails. Nothing changes then.
     pub(super) fn fail(&mut self) -> Result<(), AllocError>
         ensures ok { OnOk result (self.new ≡ closed (fail_all self.old)) }
         ensures err { OnErr result (self.new ≡ self.old) }

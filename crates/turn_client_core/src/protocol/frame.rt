@@ -2,6 +2,7 @@
 
 ghost use Rattle.std.specs.Prelude.{◌≡◌, [], IfOk, IsOk, OnErr, OnOk, Some, length, true};
 ghost use Rattle.turn_client_api.specs.Answers.{datagram_takes_none};
+ghost use Rattle.turn_client_api.specs.Memory.{packet_takes_memory, waiting_takes_memory};
 ghost use Rattle.turn_client_api.specs.Streams.{control_frame_step, waiting_frame_step};
 ghost use Rattle.turn_client_core.specs.Told.{IsPart, outcome_in};
 ghost use Rattle.turn_types.specs.Frames.{begins_message, frame_len};
@@ -16,13 +17,15 @@ use turn_stun::message::Message;
 use turn_types::channel::ChannelData;
 
 impl TurnClientProtocol {
-    /// Takes a whole frame of the control connection: a message, or a channel frame, which is data of its
-    /// channel's peer. What begins as a message does and is none is dropped.
+    /// Processes a whole frame of the control connection: a STUN message, or a ChannelData message,
+    /// which is data of its channel's peer. A frame that begins like a STUN message but is none is
+    /// dropped.
     ///
     /// # Errors
     ///
-    /// There is no memory for what a message asks for. Nothing changes then. A channel frame and a DATA
-    /// indication take no memory.
+    /// If memory allocation fails for an action that a message requires. Nothing changes then. A
+    /// ChannelData message and a Data indication allocate no memory, nor does a message that requires
+    /// no action.
     pub(super) fn control_frame(&mut self, frame: &[u8], now: Instant) -> Result<Told, AllocError>
         requires whole { frame_len frame.now ≡ Some (length frame.now) }
         requires before { self.old.phase ≡ Phase.Authenticating → self.old.grants ≡ [] }
@@ -31,6 +34,7 @@ impl TurnClientProtocol {
         ensures after { OnOk result (self.new ≡ (control_frame_step frame.now now self.old).1) }
         ensures err { OnErr result (self.new ≡ self.old) }
         ensures free { datagram_takes_none frame.now ≡ true → IsOk result }
+        ensures wanted { OnErr result (packet_takes_memory frame.now self.old ≡ true) }
     {
         match ChannelData::parse(frame) {
             Ok(channel) => Ok(self.channel_sent(frame, &channel)),
@@ -38,11 +42,11 @@ impl TurnClientProtocol {
         }
     }
 
-    /// Takes a frame of the control connection that begins as a message does.
+    /// Processes a frame of the control connection that begins like a STUN message.
     ///
     /// # Errors
     ///
-    /// There is no memory. Nothing changes then. A DATA indication takes none.
+    /// If memory allocation fails. Nothing changes then. A Data indication allocates none.
     fn control_message(&mut self, frame: &[u8], now: Instant) -> Result<Told, AllocError>
         requires begins { begins_message frame.now ≡ true }
         requires before { self.old.phase ≡ Phase.Authenticating → self.old.grants ≡ [] }
@@ -51,6 +55,7 @@ impl TurnClientProtocol {
         ensures after { OnOk result (self.new ≡ (control_frame_step frame.now now self.old).1) }
         ensures err { OnErr result (self.new ≡ self.old) }
         ensures free { datagram_takes_none frame.now ≡ true → IsOk result }
+        ensures wanted { OnErr result (packet_takes_memory frame.now self.old ≡ true) }
     {
         match Message::from_bytes(frame) {
             Ok(message) => self.message(&message, now),
@@ -58,12 +63,13 @@ impl TurnClientProtocol {
         }
     }
 
-    /// Takes a whole frame of the data connection from this local end, which waits to be bound: only
-    /// messages are handled there (RFC 6062, section 4.3).
+    /// Processes a whole frame of the data connection from this local address, which waits to be bound:
+    /// only STUN messages are processed there (RFC 6062, section 4.3).
     ///
     /// # Errors
     ///
-    /// There is no memory for what a message asks for. Nothing changes then.
+    /// If memory allocation fails for an action that a message requires. Nothing changes then. Only a
+    /// message that keeps the connection allocates memory.
     pub(super) fn waiting_frame(
         &mut self,
         local: SocketAddr,
@@ -75,6 +81,7 @@ impl TurnClientProtocol {
         ensures part { IfOk result (IsPart frame.now self.old self.new) }
         ensures after { OnOk result (self.new ≡ (waiting_frame_step local frame.now now self.old).1) }
         ensures err { OnErr result (self.new ≡ self.old) }
+        ensures wanted { OnErr result (waiting_takes_memory local frame.now self.old ≡ true) }
     {
         match ChannelData::parse(frame) {
             Ok(_) => Ok(Told::Ignored),
@@ -82,11 +89,11 @@ impl TurnClientProtocol {
         }
     }
 
-    /// Takes a frame of such a data connection that begins as a message does.
+    /// Processes a frame of such a data connection that begins like a STUN message.
     ///
     /// # Errors
     ///
-    /// There is no memory. Nothing changes then.
+    /// If memory allocation fails. Nothing changes then.
     fn waiting_message(
         &mut self,
         local: SocketAddr,
@@ -98,6 +105,7 @@ impl TurnClientProtocol {
         ensures part { IfOk result (IsPart frame.now self.old self.new) }
         ensures after { OnOk result (self.new ≡ (waiting_frame_step local frame.now now self.old).1) }
         ensures err { OnErr result (self.new ≡ self.old) }
+        ensures wanted { OnErr result (waiting_takes_memory local frame.now self.old ≡ true) }
     {
         match Message::from_bytes(frame) {
             Ok(message) => {

@@ -15,12 +15,13 @@ use turn_stun::instant::Instant;
 use turn_stun::message::Message;
 
 impl TurnClientProtocol {
-    /// The server allocated what its signed success response says: the first address of each family that is
-    /// asked for. Without a lifetime, or with no address, the client ends. The request awaits no response any more.
+    /// Grants what the signed success response of the server allocates: the first address of each
+    /// requested family. Without a lifetime, or with no address, the client ends. The request is no
+    /// longer outstanding.
     ///
     /// # Errors
     ///
-    /// `AllocError` where there is no memory. Nothing changes then.
+    /// `AllocError` if memory allocation fails. Nothing changes then.
     pub(super) fn allocate_granted(
         &mut self,
         message: &Message<'_>,
@@ -37,11 +38,11 @@ impl TurnClientProtocol {
         self.allocated(lifetime, message, now)
     }
 
-    /// The server allocated, for so many seconds, the addresses that its response has.
+    /// Grants, for so many seconds, the addresses in the response of the server.
     ///
     /// # Errors
     ///
-    /// `AllocError` where there is no memory. Nothing changes then.
+    /// `AllocError` if memory allocation fails. Nothing changes then.
     fn allocated(
         &mut self,
         lifetime: u32,
@@ -65,7 +66,7 @@ impl TurnClientProtocol {
     }
 }
 
-/// The phase of a client that is granted these addresses.
+/// The phase of a client to which these addresses are granted.
 fn phase_with(addresses: &[SocketAddr]) -> Phase
     ensures { result ≡ phase_with addresses.now }
 {

@@ -15,33 +15,33 @@ use turn_stun::message::Message;
 use turn_stun::message::header::MessageClass;
 use turn_types::message::{CONNECTION_ATTEMPT, DATA};
 
-/// What a message is to a client. What a challenge gives is read when it is answered.
+/// What a message is to a client. The contents of a challenge are read when it is answered.
 #[derive(Clone, Copy, Debug, PartialEq, Eq)]
 pub(super) enum Judged {
-    /// It is not for the client, or says nothing that it can trust.
+    /// It is not for the client, or contains nothing that the client can trust.
     Unrelated,
-    /// The server asks for another signature.
+    /// A challenge: the server requires another signature.
     Challenged,
     /// It ends the client.
     Fatal,
     /// A signed reply to a request that is no longer outstanding.
     LateResponse,
-    /// DATA.
+    /// A Data indication.
     DataIndication,
     /// A ConnectionAttempt that is an indication.
     ConnectionAttempt,
     /// A signed request.
     SignedRequest,
-    /// A signed success, whose request is outstanding.
+    /// A signed success response to an outstanding request.
     SignedSuccess,
-    /// A signed error, whose request is outstanding.
+    /// A signed error response to an outstanding request.
     SignedError,
 }
 
 impl TurnClientProtocol {
-    /// What the message is in the phase that the client is in. It takes no memory, and for a response
-    /// that is about nothing no digest is computed. The attributes are walked at most twice: for what a
-    /// challenge says, and for the integrity or the algorithms that a first challenge offers.
+    /// What the message is in the phase of the client. Allocates no memory, and computes no digest for
+    /// a response that concerns no request. The attributes are walked at most twice: for the contents
+    /// of a challenge, and for the integrity or the algorithms that a first challenge offers.
     pub(super) fn judge(&self, message: &Message<'_>) -> Judged
         ensures { result ≡ kind_of (judgement_of self.now message.now) }
     {
@@ -103,7 +103,7 @@ impl TurnClientProtocol {
         }
     }
 
-    /// What a success is to a client with an allocation.
+    /// What a success response is to a client with an allocation.
     fn judge_success(&self, message: &Message<'_>) -> Judged
         requires { class_of (type_of message.now) ≡ MessageClass.Success }
         ensures { result ≡ kind_of (allocated_judgement self.now message.now) }
@@ -118,7 +118,7 @@ impl TurnClientProtocol {
         }
     }
 
-    /// What an error is to a client with an allocation.
+    /// What an error response is to a client with an allocation.
     fn judge_error(&self, message: &Message<'_>) -> Judged
         requires { class_of (type_of message.now) ≡ MessageClass.Error }
         ensures { result ≡ kind_of (allocated_judgement self.now message.now) }
@@ -136,7 +136,7 @@ impl TurnClientProtocol {
         }
     }
 
-    /// A signed message by its class, where its request is outstanding, or else this.
+    /// What a signed message is by its class, if its request is outstanding, or else `otherwise`.
     pub(super) fn signed_or(&self, message: &Message<'_>, otherwise: Judged) -> Judged
         ensures { result ≡ signed_kind message.now self.now otherwise }
     {
@@ -151,7 +151,7 @@ impl TurnClientProtocol {
         }
     }
 
-    /// Whether the message is a response to a request that is outstanding.
+    /// Whether the message is a response to an outstanding request.
     fn answers_one(&self, message: &Message<'_>) -> bool
         ensures { result ≡ answers_one self.now message.now }
     {
@@ -170,7 +170,7 @@ impl TurnClientProtocol {
                 .is_for_allocation()
     }
 
-    /// Who signed the message.
+    /// Whether the message is signed, is a challenge, or is refused.
     pub(super) fn validate(&self, message: &Message<'_>) -> Validation
         ensures exact { result ≡ validation_of (auth_of self.now) message.now }
         ensures resend { IsResendRequest result ↔ IsSome (challenge_in self.now message.now) }
@@ -178,7 +178,7 @@ impl TurnClientProtocol {
         self.auth.validate_incoming_message(message)
     }
 
-    /// Whether the server asks for another signature.
+    /// Whether the message is a challenge, so that the server requires another signature.
     fn is_challenge(&self, message: &Message<'_>) -> bool
         ensures { result ≡ is_some (challenge_in self.now message.now) }
     {

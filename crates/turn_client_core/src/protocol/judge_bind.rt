@@ -1,4 +1,4 @@
-//! What a message of a data connection is that waits to be bound (RFC 6062, section 4.3).
+//! What a message is on a data connection that waits to be bound (RFC 6062, section 4.3).
 
 ghost use Rattle.std.specs.List.{list_any};
 ghost use Rattle.std.specs.Prelude.{◌≡◌, ◌&&◌, find};
@@ -17,9 +17,9 @@ use turn_stun::message::Message;
 use turn_stun::transaction::TransactionId;
 
 impl TurnClientProtocol {
-    /// What the message is to the data connection from this local end, which waits to be bound: only a
-    /// signed success of its CONNECTION_BIND binds it. It takes no memory, and for a message that answers
-    /// no such request no digest is computed.
+    /// What the message is to the data connection from this local address, which waits to be bound:
+    /// only a signed success response to its CONNECTION_BIND binds it. Allocates no memory, and
+    /// computes no digest for a message that answers no such request.
     pub(super) fn judge_bind(&self, local: SocketAddr, message: &Message<'_>) -> Judged
         ensures { result ≡ kind_of (bind_judgement self.now local message.now) }
     {
@@ -33,16 +33,16 @@ impl TurnClientProtocol {
         }
     }
 
-    /// Whether the message is a response to a request that is to bind the data connection from this local
-    /// end.
+    /// Whether the message is a response to a request to bind the data connection from this local
+    /// address.
     fn answers_bind(&self, local: SocketAddr, message: &Message<'_>) -> bool
         ensures { result ≡ (is_response (class_in message.now) && list_any (is_bind_of local) (purposes_of (id_of message.now) self.now)) }
     {
         message.is_response() && self.bind_purpose(local, message.transaction_id()).is_some()
     }
 
-    /// For which purpose the request of this ID is to bind the data connection from this local end, if it
-    /// was made for that.
+    /// The purpose of the request with this ID to bind the data connection from this local address, if
+    /// it was made for that.
     pub(super) fn bind_purpose(&self, local: SocketAddr, id: TransactionId) -> Option<Purpose>
         ensures { result ≡ find (is_bind_of local) (purposes_of id self.now) }
     {

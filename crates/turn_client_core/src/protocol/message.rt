@@ -1,9 +1,12 @@
 //! A whole message of the server (RFC 8656, sections 7 to 12; RFC 6062, section 4).
 
-ghost use Rattle.std.specs.Prelude.{◌≡◌, [], IfOk, IsOk, OnErr, OnOk, false, true};
+ghost use Rattle.std.specs.Prelude.{◌≡◌, ◌==◌, [], IfOk, IsOk, OnErr, OnOk, false, true};
 ghost use Rattle.turn_agent.specs.Agent.{is_outstanding};
 ghost use Rattle.turn_client_api.specs.Answers.{is_data_indication};
+ghost use Rattle.turn_client_api.specs.Judgement.{method_in};
+ghost use Rattle.turn_client_api.specs.Memory.{message_takes_memory};
 ghost use Rattle.turn_client_api.specs.Payloads.{message_step, signed_step};
+ghost use Rattle.turn_client_api.specs.Requests.{connection_attempt_method};
 ghost use Rattle.turn_client_core.specs.Attempts.{CanSign, request_step};
 ghost use Rattle.turn_client_core.specs.Replies.{is_authenticating};
 ghost use Rattle.turn_client_core.specs.Told.{IsPart, outcome_in};
@@ -19,11 +22,12 @@ use turn_stun::message::Message;
 use turn_types::message::CONNECTION_ATTEMPT;
 
 impl TurnClientProtocol {
-    /// Takes a message of the control connection, or over UDP a datagram that is one.
+    /// Processes a message on the control connection, or over UDP a datagram that is one.
     ///
     /// # Errors
     ///
-    /// There is no memory. Nothing changes then. A DATA indication takes none.
+    /// If memory allocation fails. Nothing changes then. A Data indication allocates none, nor does any
+    /// other message that requires no action.
     pub(super) fn message(
         &mut self,
         message: &Message<'_>,
@@ -35,6 +39,7 @@ impl TurnClientProtocol {
         ensures after { OnOk result (self.new ≡ (message_step message.now now self.old).1) }
         ensures err { OnErr result (self.new ≡ self.old) }
         ensures free { is_data_indication message.now ≡ true → IsOk result }
+        ensures wanted { OnErr result (message_takes_memory message.now self.old ≡ true) }
     {
         let judged = self.judge(message);
         match judged {
@@ -50,17 +55,19 @@ impl TurnClientProtocol {
         }
     }
 
-    /// Takes a signed request of the server. Only a ConnectionAttempt is for a client.
+    /// Processes a signed request of the server. Only a ConnectionAttempt is for a client, and
+    /// allocates memory.
     ///
     /// # Errors
     ///
-    /// There is no memory. Nothing changes then.
+    /// If memory allocation fails. Nothing changes then.
     fn requested(&mut self, message: &Message<'_>) -> Result<Told, AllocError>
         requires { CanSign self.old.phase }
         ensures answer { IfOk result (λ told. outcome_in message.now told ≡ (request_step message.now self.old).0) }
         ensures part { IfOk result (IsPart message.now self.old self.new) }
         ensures after { OnOk result (self.new ≡ (request_step message.now self.old).1) }
         ensures err { OnErr result (self.new ≡ self.old) }
+        ensures wanted { OnErr result ((method_in message.now == connection_attempt_method) ≡ true) }
     {
         if message.method() != CONNECTION_ATTEMPT {
             return Ok(Told::Ignored);
@@ -69,11 +76,11 @@ impl TurnClientProtocol {
         Ok(Told::Handled)
     }
 
-    /// Takes a signed success, whose request is outstanding.
+    /// Processes a signed success response to an outstanding request.
     ///
     /// # Errors
     ///
-    /// There is no memory. Nothing changes then.
+    /// If memory allocation fails. Nothing changes then.
     fn succeeded(&mut self, message: &Message<'_>, now: Instant) -> Result<Told, AllocError>
         requires before { self.old.phase ≡ Phase.Authenticating → self.old.grants ≡ [] }
         ensures answer { IfOk result (λ told. outcome_in message.now told ≡ (signed_step true message.now now self.old).0) }
@@ -88,11 +95,11 @@ impl TurnClientProtocol {
         self.respond(message, true, now)
     }
 
-    /// Takes a signed error, whose request is outstanding.
+    /// Processes a signed error response to an outstanding request.
     ///
     /// # Errors
     ///
-    /// There is no memory. Nothing changes then.
+    /// If memory allocation fails. Nothing changes then.
     fn failed(&mut self, message: &Message<'_>, now: Instant) -> Result<Told, AllocError>
         requires { self.old.phase ≡ Phase.Authenticating → is_outstanding (id_of message.now) self.old.transactions ≡ true }
         ensures answer { IfOk result (λ told. outcome_in message.now told ≡ (signed_step false message.now now self.old).0) }

@@ -16,14 +16,15 @@ use turn_client_streams::Streams;
 use turn_stun::transport::TransportType;
 
 impl TurnClientProtocol {
-    /// A client that reaches the server at `remote` from `local`, and draws its transaction IDs from this
-    /// seed. It has asked for nothing yet.
+    /// A client that sends from `local` to the server at `remote`, and draws its transaction IDs from
+    /// this seed. It has requested nothing yet.
     ///
-    /// RFC 8489, section 5, wants IDs that cannot be guessed. They are as good as the seed is secret.
+    /// RFC 8489, section 5, requires IDs that cannot be guessed. They are only as unpredictable as the
+    /// seed is secret.
     ///
     /// # Errors
     ///
-    /// `AllocError` where there is no memory.
+    /// `AllocError` if memory allocation fails.
     pub fn new(
         alloc: Global,
         transport: TransportType,
@@ -52,7 +53,7 @@ impl TurnClientProtocol {
     }
 }
 
-/// Who signs for a client with this configuration (RFC 8489, section 9.2).
+/// The signer of a client with this configuration (RFC 8489, section 9.2).
 fn auth_for(alloc: Global, config: &TurnConfig) -> Result<LongTermClientAuth, AllocError>
     ensures { IfOk result (λ auth. auth ≡ record {
       credentials = Some config.now.credentials;
@@ -68,7 +69,7 @@ fn auth_for(alloc: Global, config: &TurnConfig) -> Result<LongTermClientAuth, Al
     Ok(auth)
 }
 
-/// Lets challenges pick these algorithms, and no other.
+/// Allows challenges to choose these algorithms, and no others.
 #[tactic(auto, using(crate::proofs::AlgorithmLemmas::two_algorithms))]
 fn support(auth: &mut LongTermClientAuth, algorithms: &[IntegrityAlgorithm])
     requires some { 0 < length algorithms.now }

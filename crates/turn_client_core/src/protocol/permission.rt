@@ -11,15 +11,15 @@ use turn_stun::instant::Instant;
 use turn_stun::transport::TransportType;
 
 impl TurnClientProtocol {
-    /// Asks the server to let this peer address through, whatever the port: a CREATE_PERMISSION is queued
-    /// (RFC 8656, section 10.1). `poll_event` tells what came of it.
+    /// Requests a permission for the IP address of this peer, whatever the port: queues a
+    /// CREATE_PERMISSION (RFC 8656, section 10.1). `poll_event` reports the result.
     ///
     /// # Errors
     ///
-    /// In this order: `NoAllocation` where no allocation relays over this transport to addresses of this
-    /// IP version, or where it is past its end, and it is expired then; `AlreadyExists` where the
-    /// permission is there or asked for; `NoAllocation` where the client has ended; `OutOfMemory`.
-    /// Nothing else changes then.
+    /// In this order: `NoAllocation` if no allocation relays over this transport to addresses of this
+    /// IP version, or if its expiry has passed (it is marked as expired then); `AlreadyExists` if the
+    /// permission is active or pending; `NoAllocation` if the client has ended; `OutOfMemory`. Nothing
+    /// else changes then.
     pub fn create_permission(
         &mut self,
         transport: TransportType,
@@ -38,7 +38,7 @@ impl TurnClientProtocol {
         self.ask_permission(peer_addr, now)
     }
 
-    /// The same in an allocation that can be used.
+    /// The same, in an allocation that can be used.
     fn ask_permission(&mut self, ip: IpAddr, now: Instant) -> Result<(), CreatePermissionError>
         ensures step { CreatesPermission result self.old self.new (permission_step ip now self.old) }
     {

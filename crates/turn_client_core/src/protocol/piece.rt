@@ -5,6 +5,7 @@ ghost use Rattle.std.specs.Option.{option_map_or};
 ghost use Rattle.turn_client_api.specs.Answers.{EndsAfterTurns, HandsBack, IsPartOf, given_payload, outcome_of};
 ghost use Rattle.turn_client_api.specs.Effect.{closed};
 ghost use Rattle.turn_client_api.specs.LawsOrder.{IsUngranted};
+ghost use Rattle.turn_client_api.specs.Memory.{frame_takes_memory, is_free_frame};
 ghost use Rattle.turn_client_api.specs.PeerBytes.{held_in};
 ghost use Rattle.turn_client_api.specs.Payloads.{PeerData};
 ghost use Rattle.turn_client_api.specs.Receive.{then_all};
@@ -28,13 +29,13 @@ use turn_stun::transport::{Transmit, TransportType};
 use turn_types::tcp::IncomingTcp;
 
 impl TurnClientProtocol {
-    /// Takes a piece of a stream that is taken out, and is not broken.
+    /// Processes a piece of a stream that is taken out and not broken.
     ///
     /// # Errors
     ///
-    /// There is no memory for the piece, or for what other streams hold, which a piece of the control
-    /// stream sets going. The stream is broken then, and the client has ended. Bytes of a bound stream in
-    /// which nothing waits take none.
+    /// If memory allocation fails, for the piece or for the bytes of other streams, which are processed
+    /// after a piece of the control stream. The stream being processed is broken then, and the client
+    /// has ended. Bytes of a bound stream with no buffered bytes allocate none.
     pub(super) fn turned_piece<T: AsSlice<u8> + Debug + Drop>(
         &mut self,
         stream: BufferedStream,
@@ -48,6 +49,7 @@ impl TurnClientProtocol {
         ensures after { OnOk result (self.new ≡ (piece_turned stream (T.items transmit.payload) now self.old).1) }
         ensures no_memory { OnErr result (PieceEnds stream (T.items transmit.payload) now self.old self.new) }
         ensures free { is_bound stream.mode ≡ true → stream.bytes ≡ [] → IsOk result }
+        ensures free_frame { is_free_frame (T.items transmit.payload) self.old stream ≡ true → IsOk result }
     {
         match stream.mode() {
             Mode::Control => self.control_piece(stream, transmit, now),
@@ -57,12 +59,12 @@ impl TurnClientProtocol {
         }
     }
 
-    /// Takes a piece of the control stream, which is taken out. Unless something of a peer comes, all
-    /// streams have their turns then.
+    /// Processes a piece of the control stream, which is taken out. Unless that gives something of a
+    /// peer, all streams are processed then.
     ///
     /// # Errors
     ///
-    /// There is no memory. The stream whose turn it was is broken then, and the client has ended.
+    /// If memory allocation fails. The stream being processed is broken then, and the client has ended.
     fn control_piece<T: AsSlice<u8> + Debug + Drop>(
         &mut self,
         stream: BufferedStream,
@@ -76,17 +78,19 @@ impl TurnClientProtocol {
         ensures hands_back { IfOk result (HandsBack transmit) }
         ensures after { OnOk result (self.new ≡ (then_all now (fed_turned stream (T.items transmit.payload) now self.old)).1) }
         ensures no_memory { OnErr result (PieceEnds stream (T.items transmit.payload) now self.old self.new) }
+        ensures free { is_free_frame (T.items transmit.payload) self.old stream ≡ true → IsOk result }
     {
         let first = self.framed_piece(stream, transmit, now)?;
         self.then_all(first, now)
     }
 
-    /// Unless something of a peer came, all streams have their turns, and data that comes then is the
-    /// answer.
+    /// Unless something of a peer was received, processes all streams, and returns the data that they
+    /// give.
     ///
     /// # Errors
     ///
-    /// There is no memory for what a stream holds. It is broken then, and the client has ended.
+    /// If memory allocation for the bytes of a stream fails. That stream is broken then, and the client
+    /// has ended.
     fn then_all<T: AsSlice<u8> + Debug + Drop>(
         &mut self,
         first: TurnRecvRet<T>,
@@ -118,11 +122,12 @@ impl TurnClientProtocol {
         }
     }
 
-    /// All streams have their turns, and data that comes then is told in the place of this.
+    /// Processes all streams, and returns the data that they give in place of `otherwise`.
     ///
     /// # Errors
     ///
-    /// There is no memory for what a stream holds. It is broken then, and the client has ended.
+    /// If memory allocation for the bytes of a stream fails. That stream is broken then, and the client
+    /// has ended.
     pub(super) fn others<T: AsSlice<u8> + Debug + Drop>(
         &mut self,
         otherwise: TurnRecvRet<T>,
@@ -140,11 +145,11 @@ impl TurnClientProtocol {
         }
     }
 
-    /// Takes a piece of a stream of frames, which is taken out.
+    /// Processes a piece of a stream of frames, which is taken out.
     ///
     /// # Errors
     ///
-    /// There is no memory. The stream is broken then, and the client has ended.
+    /// If memory allocation fails. The stream is broken then, and the client has ended.
     fn framed_piece<T: AsSlice<u8> + Debug + Drop>(
         &mut self,
         stream: BufferedStream,
@@ -158,6 +163,7 @@ impl TurnClientProtocol {
         ensures hands_back { IfOk result (HandsBack transmit) }
         ensures after { OnOk result (self.new ≡ (fed_turned stream (T.items transmit.payload) now self.old).1) }
         ensures no_memory { OnErr result (self.new ≡ closed (broken_at stream.local self.old)) }
+        ensures free { is_free_frame (T.items transmit.payload) self.old stream ≡ true → IsOk result }
     {
         let local = stream.local();
         match self.first_turn(stream, transmit, now) {
@@ -169,7 +175,8 @@ impl TurnClientProtocol {
         }
     }
 
-    /// There was no memory for the stream at this local end: it is broken, and the client has ended.
+    /// Breaks the stream at this local address and ends the client: memory allocation for the stream
+    /// failed.
     fn end_at(&mut self, local: SocketAddr)
         ensures { self.new ≡ closed (broken_at local self.old) }
     {
@@ -177,11 +184,11 @@ impl TurnClientProtocol {
         self.close();
     }
 
-    /// The first turn of a stream of frames, which is taken out, behind a piece of it.
+    /// Appends a piece to a stream of frames, which is taken out, and processes its first frame.
     ///
     /// # Errors
     ///
-    /// There is no memory. Nothing changes then.
+    /// If memory allocation fails. Nothing changes then.
     fn first_turn<T: AsSlice<u8> + Debug + Drop>(
         &mut self,
         mut stream: BufferedStream,
@@ -195,6 +202,7 @@ impl TurnClientProtocol {
         ensures hands_back { IfOk result (HandsBack transmit) }
         ensures after { OnOk result (self.new ≡ (fed_turned stream (T.items transmit.payload) now self.old).1) }
         ensures err { OnErr result (self.new ≡ self.old) }
+        ensures free { is_free_frame (T.items transmit.payload) self.old stream ≡ true → IsOk result }
     {
         let front = stream.incoming_tcp(transmit)?;
         let Some(front) = front else {
@@ -204,7 +212,8 @@ impl TurnClientProtocol {
         self.first_frame(stream, front, now)
     }
 
-    /// The stream waits for more of its frame, or is broken where no frame begins with what came.
+    /// Puts the stream back, to receive the rest of its frame, or breaks it if no frame begins with the
+    /// received bytes.
     fn put_or_break(&mut self, stream: BufferedStream)
         ensures { self.new ≡ put_or_broken stream self.old }
     {
@@ -216,11 +225,11 @@ impl TurnClientProtocol {
         }
     }
 
-    /// What comes of the frame in front. The stream was taken out, and holds what is behind the frame.
+    /// The result of the first frame. The stream was taken out, and holds the bytes behind the frame.
     ///
     /// # Errors
     ///
-    /// There is no memory. Nothing changes then.
+    /// If memory allocation fails. Nothing changes then.
     fn first_frame<T: AsSlice<u8> + Debug + Drop>(
         &mut self,
         stream: BufferedStream,
@@ -234,6 +243,7 @@ impl TurnClientProtocol {
         ensures hands_back { IfOk result (HandsBack (came_with front)) }
         ensures after { OnOk result (self.new ≡ left_by stream (frame_step stream (incoming_bytes T.items front) now self.old).1) }
         ensures err { OnErr result (self.new ≡ self.old) }
+        ensures wanted { OnErr result (frame_takes_memory stream (incoming_bytes T.items front) self.old ≡ true) }
     {
         match front {
             IncomingTcp::CompleteMessage(transmit, place) => {
@@ -251,11 +261,11 @@ impl TurnClientProtocol {
         }
     }
 
-    /// What comes of a whole frame that is a part of the piece.
+    /// The result of a whole frame that is a part of the piece.
     ///
     /// # Errors
     ///
-    /// There is no memory. Nothing changes then.
+    /// If memory allocation fails. Nothing changes then.
     fn lent_frame<T: AsSlice<u8> + Debug + Drop>(
         &mut self,
         stream: BufferedStream,
@@ -271,6 +281,7 @@ impl TurnClientProtocol {
         ensures hands_back { IfOk result (HandsBack transmit) }
         ensures after { OnOk result (self.new ≡ left_by stream (frame_step stream (part_at (T.items transmit.payload) place) now self.old).1) }
         ensures err { OnErr result (self.new ≡ self.old) }
+        ensures wanted { OnErr result (frame_takes_memory stream (part_at (T.items transmit.payload) place) self.old ≡ true) }
     {
         let frame = &transmit.payload.as_slice()[place.start..place.end];
         let told = self.frame(&stream, frame, now)?;
@@ -278,11 +289,11 @@ impl TurnClientProtocol {
         Ok(told.lent(transmit))
     }
 
-    /// What comes of a whole frame that began before the piece.
+    /// The result of a whole frame that began before the piece.
     ///
     /// # Errors
     ///
-    /// There is no memory. Nothing changes then.
+    /// If memory allocation fails. Nothing changes then.
     fn stored_frame<T: AsSlice<u8> + Debug + Drop>(
         &mut self,
         stream: BufferedStream,
@@ -296,18 +307,19 @@ impl TurnClientProtocol {
         ensures hands_back { IfOk result (HandsBack transmit) }
         ensures after { OnOk result (self.new ≡ left_by stream (frame_step stream frame.items now self.old).1) }
         ensures err { OnErr result (self.new ≡ self.old) }
+        ensures wanted { OnErr result (frame_takes_memory stream frame.items self.old ≡ true) }
     {
         let told = self.frame(&stream, frame.as_slice(), now)?;
         self.put(stream);
         Ok(told.owned(frame, transmit))
     }
 
-    /// Takes a piece of a stream that is bound to this peer, and is taken out.
+    /// Processes a piece of a stream that is bound to this peer, and is taken out.
     ///
     /// # Errors
     ///
-    /// There is no memory to put the piece behind what waited. The stream is broken then, and the client
-    /// has ended.
+    /// If memory allocation fails, to append the piece to the buffered bytes. The stream is broken
+    /// then, and the client has ended.
     fn bound_piece<T: AsSlice<u8> + Debug + Drop>(
         &mut self,
         stream: BufferedStream,
@@ -331,12 +343,12 @@ impl TurnClientProtocol {
     }
 }
 
-/// What comes on a bound stream: all of it is the peer's. Where nothing waited, it is the piece as it came,
-/// and takes no memory.
+/// The data received over a bound stream: all of it is the peer's. If no bytes were buffered, it is the
+/// piece unchanged, and no memory is allocated.
 ///
 /// # Errors
 ///
-/// There is no memory to put the piece behind what waited.
+/// If memory allocation fails, to append the piece to the buffered bytes.
 fn bound_data<T: AsSlice<u8> + Debug + Drop>(
     mut stream: BufferedStream,
     peer: SocketAddr,

@@ -1,4 +1,4 @@
-//! What can be read off a client.
+//! What can be read from a client.
 
 ghost use Rattle.std.specs.List.{list_any};
 ghost use Rattle.std.specs.Prelude.{◌≡◌, ◌&&◌, ◌||◌, false, filter_map, nat_le, nat_lt, slice_get, true, IfSome};
@@ -14,14 +14,14 @@ use turn_stun::instant::Instant;
 use turn_stun::transport::TransportType;
 
 impl TurnClientProtocol {
-    /// What carries the packets between the client and its server.
+    /// The transport between the client and its server.
     pub fn transport(&self) -> TransportType
         ensures { result ≡ self.now.transport }
     {
         self.outbox.transport()
     }
 
-    /// The client's end of the control connection.
+    /// The client's address on the control connection.
     pub fn local_addr(&self) -> SocketAddr
         ensures { result ≡ self.now.local }
     {
@@ -35,17 +35,17 @@ impl TurnClientProtocol {
         self.outbox.remote_addr()
     }
 
-    /// The addresses that the server relays for the client, with their transports, in the order in which
-    /// it granted them (RFC 8656, section 7.3). Expired allocations are passed over.
+    /// The relayed addresses of the client with their transports, in the order in which the server
+    /// granted them (RFC 8656, section 7.3). Expired allocations are skipped.
     pub fn relayed_addresses(&self) -> RelayedAddressesIter<'_>
         ensures { relayed_left result ≡ relayed_addresses_of self.now }
     {
         self.ledger.relayed_addresses()
     }
 
-    /// The peer addresses that have a permission in the allocation with this relayed address, in the order
-    /// in which the server granted them (RFC 8656, section 9). There are none where no allocation has it,
-    /// or it is expired.
+    /// The peer IP addresses that have a permission in the allocation with this relayed address, in the
+    /// order in which the server granted them (RFC 8656, section 9). None if no allocation has this
+    /// relayed address, or if it is expired.
     pub fn permissions(
         &self,
         transport: TransportType,
@@ -56,8 +56,8 @@ impl TurnClientProtocol {
         self.ledger.permissions(transport, relayed)
     }
 
-    /// Whether the server lets this peer address through. Expired allocations are passed over; whether the
-    /// permission is past its end is not looked at.
+    /// Whether this peer IP address has an active permission. Expired allocations are skipped; the
+    /// expiry of the permission is not checked.
     pub fn have_permission(&self, transport: TransportType, to: IpAddr) -> bool
         ensures { result ≡ has_permission transport to self.now }
     {
@@ -66,14 +66,14 @@ impl TurnClientProtocol {
 }
 
 impl TurnClientProtocol {
-    /// How far the permission for this IP address has come.
+    /// The progress of the permission for this IP address, or none if there is no such permission.
     pub(super) fn permission_for(&self, ip: IpAddr) -> Option<Progress>
         ensures { result ≡ permission_for ip self.now }
     {
         self.ledger.table().permission_for(ip)
     }
 
-    /// Whether the server lets this IP address through.
+    /// Whether this IP address has an active permission.
     pub(super) fn is_permitted(&self, ip: IpAddr) -> bool
         ensures { result ≡ is_permitted ip self.now }
     {
@@ -90,8 +90,8 @@ impl TurnClientProtocol {
         self.ledger.table().has_channel(peer)
     }
 
-    /// Up to when a reserved channel keeps the peer from being bound, if that is now or later. Of several
-    /// it is the first.
+    /// The time until which a reserved channel keeps the peer from being bound, if that is now or
+    /// later. Of several it is the first.
     pub(super) fn reserved_until(&self, peer: SocketAddr, now: Instant) -> Option<Instant>
         ensures { result ≡ slice_get (filter_map (reserved_from now) (channels_to peer self.now)) 0 }
     {
@@ -108,21 +108,21 @@ impl TurnClientProtocol {
         self.ledger.table().free_number()
     }
 
-    /// Whether a data connection to the peer is there, the caller is to open it, or it is asked for.
+    /// Whether a data connection to the peer exists, is offered to the caller, or is pending.
     pub(super) fn has_connection(&self, peer: SocketAddr) -> bool
         ensures { result ≡ (is_connected peer self.now || is_connecting peer self.now) }
     {
         self.is_connected(peer) || self.is_connecting(peer)
     }
 
-    /// Whether a data connection to the peer is there, or the caller is to open it.
+    /// Whether a data connection to the peer exists, or is offered to the caller.
     pub(super) fn is_connected(&self, peer: SocketAddr) -> bool
         ensures { result ≡ is_connected peer self.now }
     {
         self.ledger.table().is_connected(peer)
     }
 
-    /// Whether a data connection to the peer is asked for.
+    /// Whether a data connection to the peer is pending.
     pub(super) fn is_connecting(&self, peer: SocketAddr) -> bool
         ensures { result ≡ is_connecting peer self.now }
     {

@@ -21,7 +21,7 @@ use turn_stun::instant::Instant;
 use turn_stun::transaction::TransactionId;
 
 impl TurnClientProtocol {
-    /// Whether the server allocated an address. Requests can be signed then.
+    /// Whether the server has granted an allocation. Requests can be signed then.
     pub(super) fn is_allocated(&self) -> bool
         ensures value { result ≡ is_allocated self.now.phase }
         ensures phase { IsTrue result ↔ (self.now.phase ≡ Phase.Allocated) }
@@ -30,14 +30,15 @@ impl TurnClientProtocol {
         self.phase == Phase::Allocated
     }
 
-    /// Whether an outstanding request, a listed one or one of the server that is to be answered has this ID.
+    /// Whether an outstanding request, a listed one, or one of the server that is to be answered has
+    /// this ID.
     fn is_taken(&self, id: TransactionId) -> bool
         ensures { result ≡ is_taken id self.now }
     {
         self.outbox.is_outstanding(id) || self.is_listed(id)
     }
 
-    /// Whether a request of this ID is listed, or one of the server that is to be answered has it.
+    /// Whether a listed request, or one of the server that is to be answered, has this ID.
     pub(super) fn is_listed(&self, id: TransactionId) -> bool
         ensures { result ≡ is_listed id self.now }
     {
@@ -60,8 +61,8 @@ impl TurnClientProtocol {
         None
     }
 
-    /// The ID of the next request: what the seed gives, or where that is taken the first after it that is
-    /// not. Among one more than are taken, one is free.
+    /// The ID of the next request: the next one of the seed, or if that is taken, the first after it
+    /// that is not. One more ID is tried than are taken, so that one is free.
     pub(super) fn fresh_id(&self) -> TransactionId
         ensures id { result ≡ fresh_id self.now }
         ensures unsent { is_outstanding result self.now.transactions ≡ false }
@@ -75,8 +76,8 @@ impl TurnClientProtocol {
         self.first_free(first, taken + 1).unwrap_or(first)
     }
 
-    /// From where a request for this purpose is sent: a CONNECTION_BIND goes over the connection that it
-    /// binds (RFC 6062, section 4.3).
+    /// The local address from which a request for this purpose is sent: a CONNECTION_BIND goes over the
+    /// connection that it binds (RFC 6062, section 4.3).
     pub(super) fn sent_from(&self, purpose: &Purpose) -> SocketAddr
         ensures { result ≡ sent_from self.now purpose.now }
     {
@@ -86,11 +87,11 @@ impl TurnClientProtocol {
         }
     }
 
-    /// The signed request of this ID for a purpose.
+    /// The signed request with this ID for a purpose.
     ///
     /// # Errors
     ///
-    /// `AllocError` where there is no memory.
+    /// `AllocError` if memory allocation fails.
     pub(super) fn text_for(&self, purpose: &Purpose, id: TransactionId) -> Result<Data, AllocError>
         requires { IsSome self.now.held }
         ensures { IfOk result (λ text. text ≡ request_for self.now purpose.now id) }
@@ -106,12 +107,12 @@ impl TurnClientProtocol {
         Ok(text)
     }
 
-    /// A request for the purpose waits to be sent. It is listed for these purposes, and asks for these
-    /// grants, which come after all others. They are none of those that are there, and differ.
+    /// Queues a request for the purpose. It is listed for these purposes, and requests these grants,
+    /// which come after all others. They differ from each other and from all that exist.
     ///
     /// # Errors
     ///
-    /// `AllocError` where there is no memory. Nothing changes then.
+    /// `AllocError` if memory allocation fails. Nothing changes then.
     pub(super) fn ask(
         &mut self,
         purpose: &Purpose,
@@ -128,7 +129,8 @@ impl TurnClientProtocol {
         let id = self.fresh_id();
         let from = self.sent_from(purpose);
         let text = self.text_for(purpose, id)?;
-        self.ledger.reserve(grants.len(), 2, 0)?;
+        // Keeps the room for the failure events of families that are still requested.
+        self.ledger.reserve(grants.len(), 2, self.families.len())?;
         self.outbox.ask(id, text, from, now)?;
         self.ledger.ask(id, grants, purposes);
         Ok(())

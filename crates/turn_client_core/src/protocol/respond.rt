@@ -1,5 +1,5 @@
-//! Signed replies of the server to requests that are outstanding (RFC 8656, sections 7.4, 8.3, 10.3 and
-//! 12.3; RFC 6062, section 4.3).
+//! Signed replies of the server to outstanding requests (RFC 8656, sections 7.4, 8.3, 10.3 and 12.3;
+//! RFC 6062, section 4.3).
 
 ghost use Rattle.std.specs.Prelude.{◌≡◌, ◌∷◌, [], IfOk, OnErr, OnOk, true};
 ghost use Rattle.turn_agent.specs.Agent.{is_outstanding};
@@ -30,11 +30,11 @@ use turn_types::AddressFamily;
 use turn_types::message::REFRESH;
 
 impl TurnClientProtocol {
-    /// The reply to a request of a client with an allocation.
+    /// Processes the reply to a request of a client with an allocation.
     ///
     /// # Errors
     ///
-    /// There is no memory. Nothing changes then.
+    /// If memory allocation fails. Nothing changes then.
     pub(super) fn respond(
         &mut self,
         message: &Message<'_>,
@@ -48,14 +48,18 @@ impl TurnClientProtocol {
     {
         let id = message.transaction_id();
         let purposes = answered(message.method(), &self.ledger.table().purposes_of(id));
-        self.ledger.reserve(6, 0, 6)?;
+        // Keeps the room for the failure events of families that are still requested.
+        let Some(events) = self.families.len().checked_add(6) else {
+            return Err(AllocError);
+        };
+        self.ledger.reserve(6, 0, events)?;
         self.outbox.end(id);
         let effect = answer_all(&mut self.ledger, &purposes, message, is_granted, now);
         self.heed(effect);
         Ok(told_of(message, &purposes))
     }
 
-    /// What a reply changes beside the grants.
+    /// Applies what a reply changes apart from the grants.
     fn heed(&mut self, effect: Effect)
         ensures { self.new ≡ after effect self.old }
     {
@@ -69,12 +73,12 @@ impl TurnClientProtocol {
         }
     }
 
-    /// The server allocates no address. Where it has none of one of two families, IPv4 is given up, and IPv6
-    /// asked for alone (RFC 8656, section 7.4); else the client ends.
+    /// The server denies the allocation. If it does not support one of two families, IPv4 fails, and
+    /// IPv6 is requested alone (RFC 8656, section 7.4); else the client ends.
     ///
     /// # Errors
     ///
-    /// There is no memory. Nothing changes then.
+    /// If memory allocation fails. Nothing changes then.
     pub(super) fn allocate_denied(
         &mut self,
         message: &Message<'_>,
@@ -91,12 +95,12 @@ impl TurnClientProtocol {
         self.fail_with(message)
     }
 
-    /// IPv4 fails, and IPv6 is asked for alone. The request that the message answers awaits no response any
-    /// more.
+    /// Queues a failure event for IPv4, and requests IPv6 alone. The request that the message answers
+    /// is no longer outstanding.
     ///
     /// # Errors
     ///
-    /// There is no memory. Nothing changes then.
+    /// If memory allocation fails. Nothing changes then.
     fn ask_ipv6(&mut self, message: &Message<'_>, now: Instant) -> Result<(), AllocError>
         requires phase { self.old.phase ≡ Phase.Authenticating }
         requires outstanding { is_outstanding (id_of message.now) self.old.transactions ≡ true }
@@ -127,15 +131,15 @@ impl TurnClientProtocol {
     }
 }
 
-/// IPv6 alone. It takes no memory, since two families are kept in place.
+/// IPv6 alone. Allocates no memory, since two families are kept in place.
 fn only_ipv6(alloc: Global) -> SmallVec<AddressFamily, 2>
     ensures { result.items ≡ AddressFamily.IPV6 ∷ [] }
 {
     SmallVec::from_slice(alloc, &[AddressFamily::IPV6]).unwrap()
 }
 
-/// What the caller is told of a reply: one to a REFRESH is always handled, and another one where its request
-/// was made for something of its method.
+/// The result of a reply: one to a REFRESH is always `Handled`, and another one if its request was made
+/// for something of its method.
 fn told_of(message: &Message<'_>, purposes: &Purposes) -> Told
     ensures outcome { outcome_in message.now result ≡ outcome_for message.now (purposes_in purposes.now) }
     ensures part { (was s : State) → IsPart message.now was s result }

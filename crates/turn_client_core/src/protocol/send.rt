@@ -1,7 +1,7 @@
 //! Data for a peer (RFC 8656, sections 11.1 and 12.5; RFC 6062, section 4.3).
 
-ghost use Rattle.std.specs.Prelude.{◌≡◌, ◌≤◌, ◌&&◌, Err, Ok, Some, filter_map, find, length, nat_le, nat_lt, slice_get, true, IfSome};
-ghost use Rattle.turn_client_api.specs.Answers.{IsSent};
+ghost use Rattle.std.specs.Prelude.{◌≡◌, ◌≤◌, ◌&&◌, Err, Ok, Some, filter_map, find, length, nat_le, nat_lt, slice_get, true, IfErr, IfSome};
+ghost use Rattle.turn_client_api.specs.Answers.{IsNoWay, IsSent};
 ghost use Rattle.turn_client_api.specs.Calls.{active_channel, as_indication, bound_to, on_channel, on_connection, send_to_step};
 ghost use Rattle.turn_client_api.specs.Delayed.{delayed_send_bytes};
 ghost use Rattle.turn_client_api.specs.Grants.{connection_in};
@@ -19,15 +19,15 @@ use turn_stun::transport::TransportType;
 use turn_types::transmit::{DelayedChannel, DelayedMessage};
 
 impl TurnClientProtocol {
-    /// Makes the packet that carries the data to this peer: over UDP a channel frame while a channel to the
-    /// peer is there, and else a Send indication (RFC 8656, sections 11.1 and 12.5); over TCP the data as it
-    /// is, on a connection that is bound to the peer (RFC 6062, section 4.3). The answer is always a packet,
-    /// which is built when it is sent. It takes no memory.
+    /// Makes the packet that carries the data to this peer: over UDP a ChannelData message if a channel
+    /// to the peer is active, and else a Send indication (RFC 8656, sections 11.1 and 12.5); over TCP
+    /// the data unchanged, on a data connection that is bound to the peer (RFC 6062, section 4.3). The
+    /// result is always a packet, which is built when it is sent. Allocates no memory.
     ///
     /// # Errors
     ///
-    /// In this order: `NoPermission` where the peer has none over this transport, or the allocation is
-    /// expired; `NoTcpSocket` where no connection is bound to the peer. Nothing changes then.
+    /// In this order: `NoPermission` if the peer has none over this transport, or the allocation is
+    /// expired; `NoTcpSocket` if no data connection is bound to the peer. Nothing changes then.
     pub fn send_to<T: AsSlice<u8> + Debug + Drop>(
         &mut self,
         transport: TransportType,
@@ -36,6 +36,7 @@ impl TurnClientProtocol {
         now: Instant,
     ) -> Result<Option<TransmitBuild<DelayedMessageOrChannelSend<T>>>, SendError>
         requires { self.old.config.allocation_transport ≡ Udp → length (T.items «data») ≤ 65504 }
+        ensures named { IfErr result IsNoWay }
         ensures answer { IsSent result (send_to_step transport to (T.items «data») now self.old).0 }
         ensures after { self.new ≡ (send_to_step transport to (T.items «data») now self.old).1 }
     {
@@ -48,7 +49,7 @@ impl TurnClientProtocol {
         }
     }
 
-    /// A channel frame while a channel to the peer is there, and else a Send indication.
+    /// A ChannelData message if a channel to the peer is active, and else a Send indication.
     fn send_over_udp<T: AsSlice<u8> + Debug + Drop>(
         &mut self,
         to: SocketAddr,
@@ -65,7 +66,7 @@ impl TurnClientProtocol {
         }
     }
 
-    /// The data in a frame of this channel.
+    /// The data in a ChannelData message of this channel.
     fn in_frame<T: AsSlice<u8> + Debug + Drop>(
         &self,
         number: u16,
@@ -110,13 +111,14 @@ impl TurnClientProtocol {
         )
     }
 
-    /// The data as it is, on the first connection that is bound to the peer.
+    /// The data unchanged, on the first data connection that is bound to the peer.
     fn send_over_tcp<T: AsSlice<u8> + Debug + Drop>(
         &self,
         to: SocketAddr,
         data: T,
     ) -> Result<Option<TransmitBuild<DelayedMessageOrChannelSend<T>>>, SendError>
-        ensures { IsSent result (on_connection (find (bound_to to) (filter_map connection_in self.now.grants)) (T.items «data») self.now).0 }
+        ensures named { IfErr result IsNoWay }
+        ensures answer { IsSent result (on_connection (find (bound_to to) (filter_map connection_in self.now.grants)) (T.items «data») self.now).0 }
     {
         match self.bound_connection(to) {
             Some(connection) => Ok(Some(TransmitBuild::new(
@@ -129,14 +131,14 @@ impl TurnClientProtocol {
         }
     }
 
-    /// The first data connection to the peer that is bound.
+    /// The first data connection that is bound to the peer.
     fn bound_connection(&self, peer: SocketAddr) -> Option<DataConnection>
         ensures { result ≡ find (bound_to peer) (filter_map connection_in self.now.grants) }
     {
         self.ledger.table().bound_connection(peer)
     }
 
-    /// The number of the first active channel to the peer, if it is not past its end.
+    /// The number of the first active channel to the peer, if its expiry has not passed.
     fn channel_to(&self, peer: SocketAddr, now: Instant) -> Option<u16>
         ensures found { result ≡ number_by (slice_get (filter_map (active_channel peer) self.now.grants) 0) now }
         ensures numbered { IfSome result (λ number. (nat_le 0x4000 number && nat_lt number 0x5000) ≡ true) }
@@ -158,7 +160,7 @@ impl TurnClientProtocol {
         self.ledger.table().active_channel(peer)
     }
 
-    /// The next ID of the seed was used.
+    /// Takes the next ID of the seed.
     fn draw(&mut self)
         ensures { self.new ≡ drawn self.old }
     {

@@ -22,17 +22,17 @@ use turn_stun::transaction::TransactionId;
 use turn_stun::transport::TransportType;
 
 impl TurnClientProtocol {
-    /// Takes the connection that `poll` told the caller to open, by the three values that it told, and by
-    /// its local end, or none where it could not be opened. The server is to bind it then: a
-    /// CONNECTION_BIND is queued, which is to be sent over the new connection (RFC 6062, section 4.3).
-    /// Where the server had asked for it by a request, that is answered.
+    /// Reports what became of a data connection that `poll` offered, named by the three values of the
+    /// offer: its local address, or `None` if the caller could not open it. If it was opened, a
+    /// CONNECTION_BIND is queued, to be sent over the new connection (RFC 6062, section 4.3). If the
+    /// server requested the connection, its request is answered.
     ///
     /// # Errors
     ///
-    /// In this order: `NoAllocation` where the allocation is not over TCP, the tuple is not that of the
-    /// control connection, the client was not to open such a connection, or has ended; `AlreadyExists`
-    /// where the local address is that of the control connection or of another data connection;
-    /// `OutOfMemory`. Nothing changes then.
+    /// In this order: `NoAllocation` if the allocation is not over TCP, the 5-tuple is not that of the
+    /// control connection, the client has no such offer, or it has ended; `AlreadyExists` if the local
+    /// address is that of the control connection or of another data connection; `OutOfMemory`. Nothing
+    /// changes then.
     pub fn allocated_tcp_socket(
         &mut self,
         id: u32,
@@ -55,7 +55,7 @@ impl TurnClientProtocol {
         }
     }
 
-    /// Whether the client takes data connections to the server of this control connection.
+    /// Whether the client accepts data connections to the server of this control connection.
     fn takes_sockets(&self, tuple: &Socket5Tuple) -> bool
         ensures value { result ≡ (same_transport self.now.config.allocation_transport Tcp && is_control tuple.now self.now && is_allocated self.now.phase) }
         ensures held { IsTrue result → IsSome self.now.held }
@@ -79,21 +79,21 @@ impl TurnClientProtocol {
             && tuple.to == self.remote_addr()
     }
 
-    /// Why the offer of this number and this peer was made.
+    /// The origin of the offer with this connection ID and this peer.
     fn offer_origin(&self, id: u32, peer: SocketAddr) -> Option<Origin>
         ensures { result ≡ offer_origin id peer self.now }
     {
         self.ledger.table().offer_origin(id, peer)
     }
 
-    /// Whether the local end is that of the control connection or of a data connection.
+    /// Whether the local address is that of the control connection or of a data connection.
     fn is_local_taken(&self, local: SocketAddr) -> bool
         ensures { result ≡ is_local_taken local self.now }
     {
         local == self.local_addr() || self.connection_at(local).is_some()
     }
 
-    /// The data connection from this local end.
+    /// The data connection from this local address.
     pub(super) fn connection_at(&self, local: SocketAddr) -> Option<DataConnection>
         ensures { result ≡ connection_at local self.now }
     {
@@ -137,11 +137,11 @@ impl TurnClientProtocol {
         }
     }
 
-    /// The same, where memory is all that can be wanted: the server is to bind the connection.
+    /// The same, where only memory allocation can fail: requests the binding of the connection.
     ///
     /// # Errors
     ///
-    /// `AllocError` where there is no memory. Nothing changes then.
+    /// `AllocError` if memory allocation fails. Nothing changes then.
     fn open_socket(
         &mut self,
         id: u32,
@@ -160,11 +160,11 @@ impl TurnClientProtocol {
         Ok(())
     }
 
-    /// The same, with the reply that the server gets, if it asked by a request.
+    /// The same, with the reply to the server, if it requested the connection.
     ///
     /// # Errors
     ///
-    /// `AllocError` where there is no memory. Nothing changes then.
+    /// `AllocError` if memory allocation fails. Nothing changes then.
     fn open_answered(
         &mut self,
         reply: Option<Data>,
@@ -180,18 +180,19 @@ impl TurnClientProtocol {
     {
         let request = self.fresh_id();
         let text = self.text_for(&Purpose::ForBind(local, peer, id), request)?;
-        self.ledger.reserve(1, 2, 0)?;
+        // Keeps the room for the failure events of families that are still requested.
+        self.ledger.reserve(1, 2, self.families.len())?;
         self.outbox
             .ask_over(&mut self.streams, reply, request, text, local, now)?;
         self.ledger.opened(id, peer, local, request, now);
         Ok(())
     }
 
-    /// The offer is gone, and the server is told so where it asked by a request.
+    /// Removes the offer, and answers the server if it requested the connection.
     ///
     /// # Errors
     ///
-    /// `AllocError` where there is no memory. Nothing changes then.
+    /// `AllocError` if memory allocation fails. Nothing changes then.
     fn drop_offer(&mut self, id: u32, peer: SocketAddr, origin: &Origin) -> Result<(), AllocError>
         requires { IsSome self.old.held }
         ensures ok { OnOk result (self.new ≡ socket_refused id peer origin.now self.old) }
@@ -207,7 +208,7 @@ impl TurnClientProtocol {
     ///
     /// # Errors
     ///
-    /// `AllocError` where there is no memory.
+    /// `AllocError` if memory allocation fails.
     fn acceptance(&self, origin: &Origin) -> Result<Option<Data>, AllocError>
         requires { IsSome self.now.held }
         ensures { IfOk result (λ reply. reply ≡ answer_to (accepted_reply self.now) origin.now) }
@@ -223,7 +224,7 @@ impl TurnClientProtocol {
     ///
     /// # Errors
     ///
-    /// `AllocError` where there is no memory.
+    /// `AllocError` if memory allocation fails.
     fn refusal(&self, origin: &Origin) -> Result<Option<Data>, AllocError>
         requires { IsSome self.now.held }
         ensures { IfOk result (λ reply. reply ≡ answer_to (refused_reply connection_timed_out (codes "Connection Timeout or Failure") self.now) origin.now) }
@@ -235,7 +236,7 @@ impl TurnClientProtocol {
         }
     }
 
-    /// The success response to the server's request of this ID.
+    /// The success response to the server's request with this ID.
     fn accepted(&self, request: TransactionId) -> Result<Data, AllocError>
         requires { IsSome self.now.held }
         ensures { IfOk result (λ text. text ≡ accepted_reply self.now request) }
@@ -243,7 +244,7 @@ impl TurnClientProtocol {
         accepted_reply(self.alloc, &self.auth, request)
     }
 
-    /// The error response to the server's request of this ID: the connection could not be opened.
+    /// The error response to the server's request with this ID: the connection could not be opened.
     fn refused(&self, request: TransactionId) -> Result<Data, AllocError>
         requires { IsSome self.now.held }
         ensures { IfOk result (λ text. text ≡ refused_reply connection_timed_out (codes "Connection Timeout or Failure") self.now request) }
@@ -254,8 +255,8 @@ impl TurnClientProtocol {
 }
 
 impl TurnClientProtocol {
-    /// Takes it that the data connection with these ends is closed. `poll` tells the caller to close its
-    /// end. What was received over it can still be polled. It takes no memory.
+    /// Reports that this data connection was closed. `poll` then reports that the caller is to close
+    /// its end. Data received over it can still be polled. Allocates no memory.
     pub fn tcp_closed(&mut self, local_addr: SocketAddr, remote_addr: SocketAddr)
         ensures { self.new ≡ tcp_closed_step local_addr remote_addr self.old }
     {
@@ -271,8 +272,8 @@ impl TurnClientProtocol {
         self.transport() == TransportType::Tcp && remote == self.remote_addr()
     }
 
-    /// The connection from this local end is gone, if there is one: the caller is to close its end before
-    /// all others that it is to close.
+    /// Removes the connection from this local address, if there is one: the caller is to close its end
+    /// before all others that it is to close.
     pub(super) fn connection_gone(&mut self, local: SocketAddr)
         ensures { self.new ≡ connection_gone local self.old }
     {

@@ -1,9 +1,10 @@
-//! The turns of a client's streams (RFC 8656, section 12.5; RFC 6062, section 4.3).
+//! The next frames of a client's streams (RFC 8656, section 12.5; RFC 6062, section 4.3).
 
-ghost use Rattle.std.specs.Prelude.{◌≡◌, [], find, length, option_map, IfOk, IsOk, None, OnErr, OnOk, Some};
+ghost use Rattle.std.specs.Prelude.{◌≡◌, All, [], find, length, option_map, true, IfOk, IsNone, IsOk, None, OnErr, OnOk, Some};
 ghost use Rattle.turn_client_api.specs.Answers.{EndsAfterTurns, given_payload};
 ghost use Rattle.turn_client_api.specs.LawsOrder.{IsUngranted};
-ghost use Rattle.turn_client_api.specs.Streams.{broken_at, frame_step, framed_turn, is_ready, poll_recv_step, turned, with_bytes};
+ghost use Rattle.turn_client_api.specs.Memory.{frame_takes_memory};
+ghost use Rattle.turn_client_api.specs.Streams.{HoldsLittle, broken_at, frame_step, framed_turn, is_ready, poll_recv_step, turned, with_bytes};
 ghost use Rattle.turn_client_core.specs.Told.{IsPart, outcome_in};
 ghost use Rattle.turn_client_core.specs.Turns.{data_of, given_by};
 ghost use Rattle.turn_client_streams.specs.Held.{taken_out};
@@ -20,17 +21,18 @@ use turn_stun::instant::Instant;
 use turn_stun::transport::TransportType;
 
 impl TurnClientProtocol {
-    /// The next payload of a peer that the streams hold, in the order of their opening, or none. What else
-    /// they hold in front of it is handled.
+    /// The next payload of a peer that the streams hold, in the order in which they were opened, or
+    /// none. All other frames before it are processed.
     ///
     /// # Errors
     ///
-    /// There is no memory for what a stream holds. The client has ended then, and the stream that was read
-    /// gives nothing more; whole frames that were handled before keep their effect. Where no stream holds a
-    /// whole frame or data of its peer, the call takes no memory.
+    /// If memory allocation for the bytes of a stream fails. The client has ended then, and the stream
+    /// that was read delivers nothing more; whole frames that were processed before keep their effect.
+    /// If no stream holds a whole frame or data of its peer, the call allocates no memory.
     pub fn poll_recv(&mut self, now: Instant) -> Result<Option<TurnPeerData<Vec<u8>>>, AllocError>
         requires before { IsUngranted self.old.phase → self.old.grants ≡ [] }
         ensures answer { IfOk result (λ given. option_map given_payload given ≡ (poll_recv_step now self.old).0) }
+        ensures little { IfOk result (λ given. IsNone given → All HoldsLittle self.new.streams) }
         ensures after { OnOk result (self.new ≡ (poll_recv_step now self.old).1) }
         ensures no_memory { OnErr result (EndsAfterTurns now self.old self.new) }
     {
@@ -40,14 +42,16 @@ impl TurnClientProtocol {
         }
     }
 
-    /// All streams have their turns, up to a payload.
+    /// Processes the streams that are ready, until one gives a payload.
     ///
     /// # Errors
     ///
-    /// There is no memory for what a stream holds. It is broken then, and the client has ended.
+    /// If memory allocation for the bytes of a stream fails. That stream is broken then, and the client
+    /// has ended.
     pub(super) fn turns(&mut self, now: Instant) -> Result<Option<Received>, AllocError>
         requires before { IsUngranted self.old.phase → self.old.grants ≡ [] }
         ensures answer { IfOk result (λ given. option_map data_of given ≡ (poll_recv_step now self.old).0) }
+        ensures little { IfOk result (λ given. IsNone given → All HoldsLittle self.new.streams) }
         ensures after { OnOk result (self.new ≡ (poll_recv_step now self.old).1) }
         ensures no_memory { OnErr result (EndsAfterTurns now self.old self.new) }
     {
@@ -66,33 +70,35 @@ impl TurnClientProtocol {
         Ok(None)
     }
 
-    /// Takes out the first stream that can have its turn.
+    /// Takes out the first stream that is ready.
     fn take_ready(&mut self) -> Option<BufferedStream>
         ensures stream { result ≡ find is_ready self.old.streams }
+        ensures little { IsNone result → All HoldsLittle self.new.streams }
         ensures after { self.new ≡ taken_out result self.old }
     {
         self.streams.take_ready()
     }
 
-    /// Nothing more comes of the stream at this local end.
+    /// Breaks the stream at this local address: it delivers nothing more.
     pub(super) fn break_at(&mut self, local: SocketAddr)
         ensures { self.new ≡ broken_at local self.old }
     {
         self.streams.break_at(local);
     }
 
-    /// The stream at the same local end holds the bytes of this one, which was taken out.
+    /// Puts the bytes of this stream, which was taken out, back into the stream at the same local
+    /// address.
     pub(super) fn put(&mut self, stream: BufferedStream)
         ensures { self.new ≡ with_bytes stream.local stream.bytes self.old }
     {
         self.streams.put(stream);
     }
 
-    /// The turn of a stream that is taken out.
+    /// Processes the next frame of a stream that is taken out, or the data of a bound one.
     ///
     /// # Errors
     ///
-    /// There is no memory. Nothing changes then.
+    /// If memory allocation fails. Nothing changes then.
     fn turned(
         &mut self,
         stream: BufferedStream,
@@ -115,11 +121,11 @@ impl TurnClientProtocol {
         }
     }
 
-    /// The turn of a stream of frames that is taken out.
+    /// Processes the next frame of a stream of frames, which is taken out.
     ///
     /// # Errors
     ///
-    /// There is no memory. Nothing changes then.
+    /// If memory allocation fails. Nothing changes then.
     fn framed_turn(
         &mut self,
         mut stream: BufferedStream,
@@ -145,11 +151,11 @@ impl TurnClientProtocol {
         Ok(given)
     }
 
-    /// What is made of a whole frame of a stream, or of bytes of a bound one.
+    /// Processes a whole frame of a stream, or bytes of a bound one.
     ///
     /// # Errors
     ///
-    /// There is no memory. Nothing changes then.
+    /// If memory allocation fails. Nothing changes then.
     pub(super) fn frame(
         &mut self,
         stream: &BufferedStream,
@@ -162,6 +168,7 @@ impl TurnClientProtocol {
         ensures part { IfOk result (IsPart frame.now self.old self.new) }
         ensures after { OnOk result (self.new ≡ (frame_step stream.now frame.now now self.old).1) }
         ensures err { OnErr result (self.new ≡ self.old) }
+        ensures wanted { OnErr result (frame_takes_memory stream.now frame.now self.old ≡ true) }
     {
         match stream.mode() {
             Mode::Control => self.control_frame(frame, now),
@@ -171,11 +178,11 @@ impl TurnClientProtocol {
         }
     }
 
-    /// A copy of what a peer sent, if that was told of this frame.
+    /// A copy of the data of a peer, if the frame has given any.
     ///
     /// # Errors
     ///
-    /// There is no memory for the copy.
+    /// If memory allocation for the copy fails.
     fn owned(&self, frame: &[u8], told: Told) -> Result<Option<Received>, AllocError>
         requires part { IsPart frame.now self.now self.now told }
         ensures answer { IfOk result (λ given. option_map data_of given ≡ given_by (outcome_in frame.now told)) }

@@ -19,17 +19,17 @@ use turn_stun::transaction::TransactionId;
 use turn_stun::transport::Transmit;
 
 impl TurnClientProtocol {
-    /// The next packet to be sent, or none. Ask until there is none.
+    /// The next packet to send, or none. Call it until it returns none.
     ///
     /// # Errors
     ///
-    /// There is no memory. The client has ended then, and nothing else has changed.
+    /// If memory allocation fails. The client has ended then, and nothing else has changed.
     pub fn poll_transmit(&mut self, now: Instant) -> Result<Option<Transmit<Data>>, AllocError>
         requires moment { now ≤ 2 ^ 62 }
         ensures answer { IfOk result (λ packet. packet ≡ (transmit_step now self.old).0) }
         ensures after { OnOk result (self.new ≡ (transmit_step now self.old).1) }
         ensures no_memory { OnErr result (self.new ≡ closed self.old) }
-        // Memory is wanted only for a packet that is to be sent.
+        // Memory is needed only for a packet that is due.
         ensures free { OnErr result (IsSome (next_transmit now self.old)) }
     {
         match self.next_packet(now) {
@@ -41,7 +41,7 @@ impl TurnClientProtocol {
         }
     }
 
-    /// What is due again, what waits, or what the client has to ask for.
+    /// A retransmission that is due, a queued packet, or the next request that the client has to make.
     fn next_packet(&mut self, now: Instant) -> Result<Option<Transmit<Data>>, AllocError>
         ensures step { IfOk result (λ packet. (packet, self.new) ≡ transmit_step now self.old) }
         ensures err { OnErr result (self.new ≡ self.old) }
@@ -53,7 +53,7 @@ impl TurnClientProtocol {
         }
     }
 
-    /// Where no request is due again: within the pause a reply alone, and else what comes next.
+    /// If no retransmission is due: within the pause a reply alone, and else the next packet.
     fn send_waiting(&mut self, now: Instant) -> Result<Option<Transmit<Data>>, AllocError>
         ensures step { IfOk result (λ packet. (packet, self.new) ≡ waiting_step now self.old) }
         ensures err { OnErr result (self.new ≡ self.old) }
@@ -65,14 +65,14 @@ impl TurnClientProtocol {
         self.send_next(now)
     }
 
-    /// The first reply that waits. It does not prolong the pause between two requests.
+    /// The first queued reply. It does not extend the pause between two requests.
     fn take_reply(&mut self) -> Option<Transmit<Data>>
         ensures { (result, self.new) ≡ reply_step self.old }
     {
         self.outbox.take_reply()
     }
 
-    /// What waits in front, or what the client has to ask for.
+    /// The first queued packet, or the next request that the client has to make.
     fn send_next(&mut self, now: Instant) -> Result<Option<Transmit<Data>>, AllocError>
         ensures step { IfOk result (λ packet. (packet, self.new) ≡ queue_step now self.old) }
         ensures err { OnErr result (self.new ≡ self.old) }
@@ -84,8 +84,8 @@ impl TurnClientProtocol {
         }
     }
 
-    /// What the client has to ask for: a new one sends the first ALLOCATE, and one with allocations
-    /// refreshes what it was granted.
+    /// The next request that the client has to make: a new client sends the first ALLOCATE, and one
+    /// with allocations refreshes its grants.
     fn send_asked(&mut self, now: Instant) -> Result<Option<Transmit<Data>>, AllocError>
         ensures step { IfOk result (λ packet. (packet, self.new) ≡ idle_step self.old.phase now self.old) }
         ensures err { OnErr result (self.new ≡ self.old) }
@@ -100,12 +100,12 @@ impl TurnClientProtocol {
         }
     }
 
-    /// The first ALLOCATE, which is not signed.
+    /// The first ALLOCATE, which is not signed. Reserves the room for its failure events too, so that
+    /// `poll` allocates no memory while this request awaits its response.
     fn send_first(&mut self, now: Instant) -> Result<Option<Transmit<Data>>, AllocError>
         ensures step { IfOk result (λ packet. (packet, self.new) ≡ idle_step Phase.New now self.old) }
         ensures err { OnErr result (self.new ≡ self.old) }
     {
-        self.reserve_failures()?;
         let id = self.fresh_id();
         let text = first_allocate(
             self.alloc,
@@ -113,27 +113,18 @@ impl TurnClientProtocol {
             self.families.as_slice(),
             id,
         )?;
-        let packet = self.send_at_once(id, text, &Purpose::ForAllocation, now)?;
-        self.begin_requesting();
+        let from = self.outbox.local_addr();
+        self.ledger.reserve(0, 2, self.families.len())?;
+        let packet = self.outbox.begin(id, text, from, now)?;
+        self.outbox.draw();
+        self.outbox.note_sent(now);
+        self.ledger
+            .ask(id, &[], &Purposes::one(Purpose::ForAllocation));
+        self.phase = Phase::Requesting;
         Ok(Some(packet))
     }
 
-    /// Makes room for the failures of the first ALLOCATE, so that `poll` takes none while it awaits its
-    /// response.
-    fn reserve_failures(&mut self) -> Result<(), AllocError>
-        ensures { self.new ≡ self.old }
-    {
-        self.ledger.reserve(0, 0, self.families.len())
-    }
-
-    /// The first ALLOCATE awaits its response from now on.
-    fn begin_requesting(&mut self)
-        ensures { self.new ≡ record self.old { phase = Phase.Requesting } }
-    {
-        self.phase = Phase::Requesting;
-    }
-
-    /// The request for the first grant that is to be refreshed.
+    /// The request for the first grant that is due for a refresh.
     fn refresh(&mut self, now: Instant) -> Result<Option<Transmit<Data>>, AllocError>
         requires { self.old.phase ≡ Phase.Allocated }
         ensures step { IfOk result (λ packet. (packet, self.new) ≡ refresh_step now self.old) }
@@ -149,11 +140,11 @@ impl TurnClientProtocol {
         Ok(Some(packet))
     }
 
-    /// A request of this ID, the next one, is made for this purpose and goes out at once.
+    /// Makes a request with this ID, the next one, for this purpose, which is sent at once.
     ///
     /// # Errors
     ///
-    /// `AllocError` where there is no memory. Nothing changes then.
+    /// `AllocError` if memory allocation fails. Nothing changes then.
     fn send_at_once(
         &mut self,
         id: TransactionId,

@@ -1,4 +1,4 @@
-//! When a client has to be polled again.
+//! When a client is to be polled again.
 
 ghost use Rattle.std.specs.Prelude.{◌≡◌, ◌∷◌, [], fold, if◌then◌else◌, min};
 ghost use Rattle.turn_client_api.specs.Due.{has_event, has_queued_request, has_reply, is_paused, least_due, longest_sleep, next_wakeup};
@@ -9,12 +9,12 @@ use std::time::Duration;
 use turn_client_api::Phase;
 use turn_stun::instant::Instant;
 
-/// How long a caller sleeps at most, in seconds (our choice).
+/// The longest wait of a caller, in seconds (our choice).
 const LONGEST_SLEEP_SECONDS: u64 = 9_999;
 
 impl TurnClientProtocol {
-    /// When the caller is to call again: now, where something waits or was just given up, and else when
-    /// something falls due, but not in the past where there are grants.
+    /// When the caller is to call `poll` again: now, if something is pending or a request has just
+    /// timed out, and else when something is due, but not in the past if there are grants.
     pub(super) fn next_wakeup(&self, has_given_up: bool, now: Instant) -> Instant
         ensures { result ≡ next_wakeup has_given_up now self.now }
     {
@@ -28,28 +28,28 @@ impl TurnClientProtocol {
         least
     }
 
-    /// Whether an event waits to be polled.
+    /// Whether an event is pending.
     pub(super) fn has_event(&self) -> bool
         ensures { result ≡ has_event self.now }
     {
         self.ledger.has_event()
     }
 
-    /// Whether a reply to the server waits to be sent.
+    /// Whether a reply to the server is queued.
     pub(super) fn has_reply(&self) -> bool
         ensures { result ≡ has_reply self.now }
     {
         self.outbox.has_reply()
     }
 
-    /// Whether no request is sent now that was not sent before: one was sent just now.
+    /// Whether the pause has not ended, so that no request is sent for the first time.
     pub(super) fn is_paused(&self, now: Instant) -> bool
         ensures { result ≡ is_paused now self.now }
     {
         now < self.outbox.pause_end()
     }
 
-    /// The least moment at which something falls due.
+    /// The earliest time at which something is due.
     fn least_due(&self, now: Instant) -> Instant
         ensures { result ≡ least_due now self.now }
     {
@@ -59,7 +59,7 @@ impl TurnClientProtocol {
         self.ledger.table().soonest(second, now, pause)
     }
 
-    /// The end of the longest sleep, or that of the pause where a request waits for it and it is sooner.
+    /// The end of the longest wait, or that of the pause if a request is queued and it is sooner.
     fn first_due(&self, now: Instant, pause: Instant) -> Instant
         ensures { result ≡ fold min greatest_moment (later_by longest_sleep now ∷ (if has_queued_request self.now then pause ∷ [] else [])) }
     {

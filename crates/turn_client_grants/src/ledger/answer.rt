@@ -1,12 +1,13 @@
-//! What the server's signed reply to a request changes (RFC 8656, sections 8.3, 10.3 and 12.3; RFC 6062,
-//! section 4.3).
+//! The changes by the server's signed reply to a request (RFC 8656, sections 8.3, 10.3 and 12.3; RFC
+//! 6062, section 4.3).
 
 ghost use Rattle.std.specs.List.{list_any};
-ghost use Rattle.std.specs.Prelude.{ℕ, ◌≡◌, ◌≤◌, false, fold, option_to_list, true};
+ghost use Rattle.std.specs.Prelude.{ℕ, ◌≡◌, ◌≤◌, ◌&&◌, false, fold, option_to_list, true};
 ghost use Rattle.turn_client_api.specs.Effect.{active_channel_answered, active_permission_answered, channel_answered, connect_answered, pending_channel_answered, pending_permission_answered, permission_answered, permission_answered_for, listed_permissions_answered};
 ghost use Rattle.turn_client_api.specs.Grants.{is_channel_of, is_permission_of};
 ghost use Rattle.turn_client_api.specs.State.{State};
 ghost use Rattle.turn_client_grants.specs.Answered.{permission_granted};
+ghost use Rattle.turn_client_grants.specs.Keys.{is_open_to};
 ghost use Rattle.turn_client_grants.specs.Ledger.{SameRoomBut, on};
 ghost use Rattle.turn_client_grants.specs.Table.{is_numbered};
 
@@ -18,19 +19,19 @@ use turn_client_api::{Grant, Progress, Purpose, TurnEvent};
 use turn_stun::instant::Instant;
 use turn_stun::transaction::TransactionId;
 
-/// How long a permission lasts, in seconds (RFC 8656, section 9).
+/// The lifetime of a permission, in seconds (RFC 8656, section 9).
 const PERMISSION_SECONDS: u64 = 300;
 
-/// How long a channel lasts, in seconds (RFC 8656, section 12).
+/// The lifetime of a channel, in seconds (RFC 8656, section 12).
 const CHANNEL_SECONDS: u64 = 600;
 
-/// How long neither the number nor the peer of a channel that is over is bound again, in seconds
-/// (RFC 8656, section 12).
+/// How long neither the number nor the peer of an expired channel is bound again, in seconds (RFC 8656,
+/// section 12).
 pub(crate) const RESERVED_SECONDS: u64 = 300;
 
 impl GrantLedger {
     /// The server answered for the permission for this IP address. `reserve` makes room for the event:
-    /// what is granted takes the place of what was asked for.
+    /// what is granted replaces what was pending.
     pub fn permission_answered(&mut self, ip: IpAddr, is_granted: bool, now: Instant)
         requires { 3 ≤ self.old.event_room }
         ensures state { (s : State) → on self.new s ≡ permission_answered ip is_granted now (on self.old s) }
@@ -46,7 +47,7 @@ impl GrantLedger {
         }
     }
 
-    /// The server answered for a permission that was asked for.
+    /// The server answered for a pending permission.
     fn pending_permission_answered(&mut self, ip: IpAddr, is_granted: bool, now: Instant)
         requires there { list_any (is_permission_of ip) self.old.grants ≡ true }
         requires event_room { 3 ≤ self.old.event_room }
@@ -61,7 +62,7 @@ impl GrantLedger {
         self.tell(TurnEvent::PermissionCreateFailed(transport, ip));
     }
 
-    /// A permission that was asked for stands from now on, after all other grants.
+    /// A pending permission is active from now on, after all other grants.
     fn permission_granted(&mut self, ip: IpAddr, expiry: Instant)
         requires there { list_any (is_permission_of ip) self.old.grants ≡ true }
         requires event_room { 3 ≤ self.old.event_room }
@@ -76,7 +77,7 @@ impl GrantLedger {
         self.tell(TurnEvent::PermissionCreated(transport, ip));
     }
 
-    /// The server answered for a permission that was to be refreshed.
+    /// The server answered for an active permission that is refreshed.
     fn active_permission_answered(&mut self, ip: IpAddr, is_granted: bool, now: Instant)
         requires { 3 ≤ self.old.event_room }
         ensures state { (s : State) → on self.new s ≡ active_permission_answered ip is_granted now (on self.old s) }
@@ -123,7 +124,7 @@ impl GrantLedger {
         }
     }
 
-    /// The server answered for the permissions that the request of this ID was made for.
+    /// The server answered for the permissions that the request with this ID was made for.
     fn permissions_answered(&mut self, id: TransactionId, is_granted: bool, now: Instant)
         requires { 6 ≤ self.old.event_room }
         ensures state { (s : State) → on self.new s ≡ listed_permissions_answered id is_granted now (on self.old s) }
@@ -134,8 +135,9 @@ impl GrantLedger {
         self.permission_answered_for_one(&purposes.second, is_granted, now);
     }
 
-    /// The server answered for the channel of this number, in a request of this ID. The binding brings
-    /// a permission, where one was asked for with it (RFC 8656, section 12.2), and a refusal takes it.
+    /// The server answered for the channel with this number, in reply to a request with this ID. The
+    /// binding grants a permission too, if one was requested with it (RFC 8656, section 12.2), and a
+    /// refusal removes it.
     pub fn channel_answered(
         &mut self,
         number: u16,
@@ -162,7 +164,7 @@ impl GrantLedger {
         }
     }
 
-    /// The server answered for a channel to the peer that was asked for.
+    /// The server answered for a pending channel to the peer.
     fn pending_channel_answered(
         &mut self,
         number: u16,
@@ -171,7 +173,7 @@ impl GrantLedger {
         is_granted: bool,
         now: Instant,
     )
-        requires there { list_any (is_channel_of number) self.old.grants ≡ true }
+        requires there { list_any (λ g. is_channel_of number g && is_open_to peer g) self.old.grants ≡ true }
         requires numbered { is_numbered (Grant.Channel number peer Progress.Pending) ≡ true }
         requires event_room { 9 ≤ self.old.event_room }
         ensures state { (s : State) → on self.new s ≡ pending_channel_answered number peer id is_granted now (on self.old s) }
@@ -183,9 +185,9 @@ impl GrantLedger {
         self.channel_refused(number, peer, id);
     }
 
-    /// A channel that was asked for stands from now on, after all other grants, and its permission too.
+    /// A pending channel is active from now on, after all other grants, and its permission too.
     fn channel_granted(&mut self, number: u16, peer: SocketAddr, id: TransactionId, now: Instant)
-        requires there { list_any (is_channel_of number) self.old.grants ≡ true }
+        requires there { list_any (λ g. is_channel_of number g && is_open_to peer g) self.old.grants ≡ true }
         requires numbered { is_numbered (Grant.Channel number peer Progress.Pending) ≡ true }
         requires event_room { 9 ≤ self.old.event_room }
         ensures state { (s : State) → on self.new s ≡ pending_channel_answered number peer id true now (on self.old s) }
@@ -200,7 +202,7 @@ impl GrantLedger {
         self.tell(TurnEvent::ChannelCreated(transport, peer));
     }
 
-    /// A channel that was asked for is refused, and so is the permission that was to come with it.
+    /// A pending channel is refused, and so is the permission that was requested with it.
     fn channel_refused(&mut self, number: u16, peer: SocketAddr, id: TransactionId)
         requires { 9 ≤ self.old.event_room }
         ensures state { (s : State) (now : ℕ) → on self.new s ≡ pending_channel_answered number peer id false now (on self.old s) }
@@ -213,7 +215,7 @@ impl GrantLedger {
         self.fail_back(&Which::PendingPermissionsOf(purposes));
     }
 
-    /// The server answered for a channel to the peer that was to be refreshed.
+    /// The server answered for an active channel to the peer that is refreshed.
     fn active_channel_answered(
         &mut self,
         number: u16,

@@ -1,6 +1,8 @@
-//! What ends as time passes (RFC 8656, sections 8 to 12; RFC 6062, section 4.3). None of it takes memory.
+//! What expires as time passes (RFC 8656, sections 8 to 12; RFC 6062, section 4.3). It allocates no
+//! memory.
 
-ghost use Rattle.std.specs.Prelude.{◌≡◌, ◌≤◌, ◌<◌, ◌+◌, filter, fold, length, not, option_to_list, true};
+ghost use Rattle.std.specs.List.{list_any};
+ghost use Rattle.std.specs.Prelude.{◌≡◌, ◌≤◌, ◌<◌, ◌+◌, None, filter, fold, length, not, option_to_list, true};
 ghost use Rattle.turn_client_api.specs.Grants.{is_channel_of};
 ghost use Rattle.turn_client_api.specs.Poll.{given_up_purposes, goes, lapsed, lapsed_allocation, lapsed_in, last_channel_lapsed, unbound};
 ghost use Rattle.turn_client_api.specs.State.{State};
@@ -23,9 +25,33 @@ use turn_stun::transaction::TransactionId;
 use turn_types::AddressFamily;
 
 impl GrantLedger {
-    /// All that ends at this moment or earlier, allocation by allocation in the order in which the
-    /// server granted them, and what was asked for by the request that was given up, if there is one.
+    /// Processes all that expires at this time or earlier, allocation by allocation in the order in which
+    /// the server granted them, and the time-out of this request, if there is one.
     pub fn lapse(&mut self, given: Option<TransactionId>, now: Instant)
+        ensures state { (s : State) → on self.new s ≡ lapsed given now (on self.old s) }
+        ensures room { SameRoomBut 0 0 self.old self.new }
+    {
+        match given {
+            Some(_) => self.lapse_each(given, now),
+            None => self.lapse_by_time(now),
+        }
+    }
+
+    /// Processes all that expires at this time or earlier, if no request timed out. Before the earliest
+    /// time at which a grant expires that is nothing.
+    fn lapse_by_time(&mut self, now: Instant)
+        ensures state { (s : State) → on self.new s ≡ lapsed None now (on self.old s) }
+        ensures room { SameRoomBut 0 0 self.old self.new }
+    {
+        let is_early = self.table.is_early(now);
+        if is_early {
+            return;
+        }
+        self.lapse_each(None, now);
+    }
+
+    /// The same, whether or not something is due.
+    fn lapse_each(&mut self, given: Option<TransactionId>, now: Instant)
         ensures state { (s : State) → on self.new s ≡ lapsed given now (on self.old s) }
         ensures room { SameRoomBut 0 0 self.old self.new }
     {
@@ -36,7 +62,7 @@ impl GrantLedger {
         self.lapse_one(&second, &given, &purposes, now);
     }
 
-    /// What the request that was given up was made for, if there is one.
+    /// The purposes of the request that timed out, if there is one.
     fn given_up_purposes(&self, given: &Option<TransactionId>) -> Purposes
         ensures { (s : State) → purposes_in result ≡ given_up_purposes given.now (on self.now s) }
     {
@@ -46,7 +72,7 @@ impl GrantLedger {
         }
     }
 
-    /// What ends in the allocation, if there is one.
+    /// Processes what expires in the allocation, if there is one.
     fn lapse_one(
         &mut self,
         relay: &Option<Relay>,
@@ -63,7 +89,7 @@ impl GrantLedger {
         }
     }
 
-    /// The allocation goes with all that is in it, or what ends in it does.
+    /// Removes the allocation with all grants in it, or processes what expires in it.
     fn lapse_allocation(
         &mut self,
         relay: &Relay,
@@ -81,8 +107,8 @@ impl GrantLedger {
         self.lapse_in(family_of(relay.relayed), given, purposes, now);
     }
 
-    /// Whether the allocation goes: at its end, unless it is expired and a request for it still awaits
-    /// its response.
+    /// Whether the allocation is removed: at its expiry, unless it is marked as expired and a request for
+    /// it still awaits its response.
     fn goes(&self, relay: &Relay, purposes: &Purposes, now: Instant) -> bool
         ensures { (s : State) → result ≡ goes (purposes_in purposes.now) now (on self.now s) relay.now }
     {
@@ -91,7 +117,7 @@ impl GrantLedger {
             && (purposes.are_for(&grant) || !self.table.has_request(&grant) || !relay.is_expired)
     }
 
-    /// What ends in the allocation of this family, which stays, from the inside out.
+    /// Processes what expires in the allocation of this family, which stays, from the inside out.
     fn lapse_in(
         &mut self,
         family: AddressFamily,
@@ -113,8 +139,8 @@ impl GrantLedger {
         self.remove(&Which::FreedChannels(family, now));
     }
 
-    /// The last channel of this family that ends at this moment or earlier, one a call: its failure
-    /// jumps, and its number and peer are reserved (RFC 8656, section 12).
+    /// Ends the last channel of this family that expires at this time or earlier, one in each call: its
+    /// failure is queued before all events, and its number and peer are reserved (RFC 8656, section 12).
     fn lapse_channel(&mut self, family: AddressFamily, now: Instant)
         ensures state { (s : State) → on self.new s ≡ last_channel_lapsed family now (on self.old s) }
         ensures room { SameRoomBut 0 0 self.old self.new }
@@ -136,9 +162,10 @@ impl GrantLedger {
         }
     }
 
-    /// A channel that is there and active ends, and takes no room but its own.
+    /// Ends an existing active channel, and uses only its own room.
     fn end_channel(&mut self, number: u16, peer: SocketAddr, expiry: Instant)
         requires numbered { is_numbered (Grant.Channel number peer Progress.Pending) ≡ true }
+        requires there { list_any (is_channel_of number) self.old.grants ≡ true }
         requires fewer { length (filter (λ g. not (is_channel_of number g)) self.old.grants) < length self.old.grants }
         requires aside { set_aside (filter (λ g. not (is_channel_of number g)) self.old.grants) + 2 ≤ set_aside self.old.grants }
         ensures state { (s : State) → on self.new s ≡ channel_ended number peer expiry (on self.old s) }
@@ -154,8 +181,8 @@ impl GrantLedger {
             .push_front_reserved(TurnEvent::ChannelCreateFailed(transport, peer));
     }
 
-    /// Data connections that are not bound: their failures jump, and the caller is to close them after
-    /// all others that it is to close.
+    /// Removes data connections that are not bound: their failures are queued before all events, and the
+    /// caller is to close them after all others that it is to close.
     fn unbind(&mut self, which: &Which)
         ensures state { (s : State) → on self.new s ≡ unbound (holds which.now) (on self.old s) }
         ensures room { SameRoomBut 0 0 self.old self.new }

@@ -1,27 +1,31 @@
-//! What is read off a table.
+//! What is read from a table.
 
-ghost use Rattle.std.specs.Prelude.{◌≡◌, ◌==◌, ◌&&◌, map, filter, filter_map, find, fold, length, min, nat_le, nat_lt, not, option_map, reverse, slice_get, false, true, IfSome};
+ghost use Rattle.std.specs.Prelude.{◌≡◌, ◌==◌, ◌<◌, ◌&&◌, All, map, filter, filter_map, find, fold, length, min, nat_le, nat_lt, not, option_map, option_to_list, reverse, slice_get, false, true, IfSome};
 ghost use Rattle.std.specs.List.{list_all, list_any};
 ghost use Rattle.turn_agent.specs.Agent.{same_address};
 ghost use Rattle.turn_client_api.specs.Addresses.{permitted_left, permitted_in_use, relayed_left, relayed_in_use};
 ghost use Rattle.turn_client_api.specs.Calls.{active_channel, bound_to, channels_to, free_number, is_in_progress, offer_origin, reserved_from};
 ghost use Rattle.turn_client_api.specs.Connections.{is_connected, is_indicated};
-ghost use Rattle.turn_client_api.specs.Grants.{allocation_of, allocations, channel_at, channel_peer, allocation_in, connection_in, first_in, is_channel_of, is_connect_to, is_for, is_of, is_listed, is_permitted, permission_progress, purposes_of};
+ghost use Rattle.turn_client_api.specs.Grants.{allocation_of, allocations, channel_at, channel_peer, allocation_in, connection_in, first_in, is_channel_of, is_connect_to, is_for, is_of, is_of_family, is_listed, is_permitted, permission_progress, purposes_of};
 ghost use Rattle.turn_client_api.specs.Judgement.{is_bind_of};
 ghost use Rattle.turn_client_api.specs.Poll.{is_lapsed_channel, next_offer};
 ghost use Rattle.turn_client_api.specs.State.{State};
 ghost use Rattle.turn_client_api.specs.declared.grant.Grant.TheVariants.{Channel};
 ghost use Rattle.turn_client_api.specs.declared.grant.Progress.TheVariants.{Pending};
 ghost use Rattle.turn_client_api.specs.declared.state.Phase.TheVariants.{Allocated};
-ghost use Rattle.turn_client_grants.specs.Due.{all_moments};
+ghost use Rattle.turn_client_grants.specs.Due.{all_moments, relay_ends};
+ghost use Rattle.turn_client_api.specs.LawsBodies.{lapse_moments};
 ghost use Rattle.turn_client_grants.specs.Lists.{both_of, first_among};
 ghost use Rattle.turn_client_grants.specs.Refresh.{first_refresh};
 ghost use Rattle.turn_client_grants.specs.Table.{is_numbered, with_table};
 ghost use Rattle.turn_client_grants.specs.Which.{purposes_in};
 
+use crate::due::{after_pause, least};
+use crate::key::Key;
+use crate::kind::is_of_family;
 use crate::purposes::Purposes;
 use crate::table::GrantTable;
-use crate::{connections, due, listed, numbers, offers, reads, refresh};
+use crate::{connections, listed, numbers, offers, reads, refresh};
 use std::net::{IpAddr, SocketAddr};
 use turn_client_api::{
     DataConnection, DataOffer, Grant, Origin, PermissionAddressesIter, Progress, Purpose, Relay,
@@ -32,12 +36,18 @@ use turn_stun::transaction::TransactionId;
 use turn_stun::transport::TransportType;
 use turn_types::AddressFamily;
 
+/// A table of so few grants is scanned: hashing an address takes as long as scanning ten of them.
+const FEW: usize = 8;
+
 impl GrantTable {
     /// The allocation of this family, whether or not it is expired.
     pub fn allocation_of(&self, family: AddressFamily) -> Option<Relay>
         ensures { (s : State) → result ≡ allocation_of family (with_table self.now s) }
     {
-        reads::allocation_of(self.grants.as_slice(), family)
+        match relay_of(&self.summary.first, family) {
+            Some(relay) => Some(relay),
+            None => relay_of(&self.summary.second, family),
+        }
     }
 
     /// The allocation at this place, 0 or 1, in the order in which the server granted them. There are at
@@ -46,7 +56,11 @@ impl GrantTable {
         ensures found { result ≡ slice_get (filter_map allocation_in self.now.grants) place }
         ensures both { filter_map allocation_in self.now.grants ≡ both_of (filter_map allocation_in self.now.grants) }
     {
-        reads::allocation_at(self.grants.as_slice(), place)
+        match place {
+            0 => self.summary.first,
+            1 => self.summary.second,
+            _ => reads::allocation_at(self.grants.as_slice(), place),
+        }
     }
 
     /// Whether an allocation that is not expired has this relayed address.
@@ -56,7 +70,7 @@ impl GrantTable {
         reads::has_relayed(self.grants.as_slice(), relayed)
     }
 
-    /// The last channel of this family that is active up to this moment or an earlier one.
+    /// The last channel of this family that is active and expires at this time or earlier.
     pub(crate) fn last_lapsed_channel(&self, family: AddressFamily, now: Instant) -> Option<Grant>
         ensures found { result ≡ find (λ g. is_of family g && is_lapsed_channel now g) (reverse self.now.grants) }
         ensures numbers { list_all is_numbered self.now.grants ≡ true }
@@ -72,7 +86,7 @@ impl GrantTable {
     }
 
     /// The relayed addresses of the allocations that are not expired, in the order in which the server
-    /// granted them. `transport` is what they relay over.
+    /// granted them. `transport` is the transport over which they relay.
     pub fn relayed_addresses(&self, transport: TransportType) -> RelayedAddressesIter<'_>
         ensures { relayed_left result ≡ relayed_in_use transport self.now.grants }
     {
@@ -94,15 +108,21 @@ impl GrantTable {
         self.grants.len()
     }
 
-    /// How far the permission for this IP address has come.
+    /// The progress of the permission for this IP address.
     pub fn permission_for(&self, ip: IpAddr) -> Option<Progress>
         ensures { result ≡ first_among (permission_progress ip) self.now.grants }
     {
-        reads::permission_for(self.grants.as_slice(), ip)
+        if self.grants.len() <= FEW {
+            return reads::permission_for(self.grants.as_slice(), ip);
+        }
+        let key = Key::Ip(ip);
+        match self.found.get(&key) {
+            Some(grant) => permission_in(ip, grant),
+            None => None,
+        }
     }
 
-    /// Whether the server lets this IP address through: the permission for it is active (RFC 8656,
-    /// section 9).
+    /// Whether this IP address is permitted: it has an active permission (RFC 8656, section 9).
     pub fn is_permitted(&self, ip: IpAddr) -> bool
         ensures { (s : State) → result ≡ is_permitted ip (with_table self.now s) }
     {
@@ -112,27 +132,42 @@ impl GrantTable {
         }
     }
 
-    /// The peer of the channel of this number, however far it has come. The number is one that a client
+    /// The peer of the channel with this number, whatever its progress. The number is one that a client
     /// may bind (RFC 8656, section 12).
     pub fn channel_owner(&self, number: u16) -> Option<SocketAddr>
         ensures found { result ≡ option_map (λ found. found.0) (first_among (channel_at number) self.now.grants) }
         ensures numbered { IfSome result (λ peer. is_numbered (Channel number peer Pending) ≡ true) }
     {
-        reads::channel_owner(self.grants.as_slice(), number)
+        let key = Key::Number(number);
+        match self.found.get(&key) {
+            Some(grant) => owner_in(number, grant),
+            None => None,
+        }
     }
 
-    /// How far the channel of this number has come.
+    /// The progress of the channel with this number.
     pub fn channel_progress(&self, number: u16) -> Option<Progress>
         ensures { result ≡ option_map (λ found. found.1) (first_among (channel_at number) self.now.grants) }
     {
-        reads::channel_progress(self.grants.as_slice(), number)
+        let key = Key::Number(number);
+        match self.found.get(&key) {
+            Some(grant) => progress_in(number, grant),
+            None => None,
+        }
     }
 
-    /// The peer of the active channel of this number.
+    /// The peer of the active channel with this number.
     pub fn channel_peer(&self, number: u16) -> Option<SocketAddr>
         ensures { (s : State) → result ≡ first_in (channel_peer number) (with_table self.now s) }
     {
-        reads::channel_peer(self.grants.as_slice(), number)
+        if self.grants.len() <= FEW {
+            return reads::channel_peer(self.grants.as_slice(), number);
+        }
+        let key = Key::Number(number);
+        match self.found.get(&key) {
+            Some(grant) => peer_in(number, grant),
+            None => None,
+        }
     }
 
     /// The number and the expiry of the first active channel to the peer. The number is one that a
@@ -141,25 +176,36 @@ impl GrantTable {
         ensures found { (s : State) → result ≡ first_in (active_channel peer) (with_table self.now s) }
         ensures numbered { IfSome result (λ found. (nat_le 0x4000 found.0 && nat_lt found.0 0x5000) ≡ true) }
     {
-        reads::active_channel(self.grants.as_slice(), peer)
+        if self.grants.len() <= FEW {
+            return reads::active_channel(self.grants.as_slice(), peer);
+        }
+        let key = Key::Peer(peer);
+        match self.found.get(&key) {
+            Some(grant) => active_in(peer, grant),
+            None => None,
+        }
     }
 
     /// Whether a channel to the peer is pending or active.
     pub fn has_channel(&self, peer: SocketAddr) -> bool
         ensures { (s : State) → result ≡ list_any is_in_progress (channels_to peer (with_table self.now s)) }
     {
-        reads::has_channel(self.grants.as_slice(), peer)
+        if self.grants.len() <= FEW {
+            return reads::has_channel(self.grants.as_slice(), peer);
+        }
+        let key = Key::Peer(peer);
+        self.found.contains_key(&key)
     }
 
-    /// Up to when a reserved channel keeps the peer from being bound, if that is now or later. Of
-    /// several it is the first in the table.
+    /// Until when a reserved channel keeps the peer from being bound, if that is now or later. Of several
+    /// it is the first in the table.
     pub fn reserved_until(&self, peer: SocketAddr, now: Instant) -> Option<Instant>
         ensures { (s : State) → result ≡ slice_get (filter_map (reserved_from now) (channels_to peer (with_table self.now s))) 0 }
     {
         reads::reserved_until(self.grants.as_slice(), peer, now)
     }
 
-    /// The least channel number that no channel has, also none that is pending or reserved, in any
+    /// The least channel number that no channel has, not even a pending or reserved one, in any
     /// allocation. It is one that a client may bind (RFC 8656, section 12).
     pub fn free_number(&self) -> Option<u16>
         ensures found { (s : State) → result ≡ free_number (with_table self.now s) }
@@ -169,7 +215,7 @@ impl GrantTable {
         numbers::free_number(self.grants.as_slice())
     }
 
-    /// The data connection from this local end.
+    /// The data connection from this local address.
     pub fn connection_at(&self, local: SocketAddr) -> Option<DataConnection>
         ensures { result ≡ find (λ c. same_address c.local local) (filter_map connection_in self.now.grants) }
     {
@@ -183,43 +229,47 @@ impl GrantTable {
         connections::bound_connection(self.grants.as_slice(), peer)
     }
 
-    /// Whether a data connection to the peer is there, or the caller is to open it.
+    /// Whether a data connection to the peer exists, or is offered to the caller.
     pub fn is_connected(&self, peer: SocketAddr) -> bool
         ensures { (s : State) → result ≡ is_connected peer (with_table self.now s) }
     {
         connections::is_connected(self.grants.as_slice(), peer)
     }
 
-    /// Whether a data connection to the peer is asked for.
+    /// Whether a data connection to the peer is requested.
     pub fn is_connecting(&self, peer: SocketAddr) -> bool
         ensures { result ≡ list_any (is_connect_to peer) self.now.grants }
     {
         connections::is_connecting(self.grants.as_slice(), peer)
     }
 
-    /// Why the offer of this number and this peer was made.
+    /// The origin of the offer with this connection ID and this peer.
     pub fn offer_origin(&self, id: u32, peer: SocketAddr) -> Option<Origin>
         ensures { (s : State) → result ≡ offer_origin id peer (with_table self.now s) }
     {
         connections::offer_origin(self.grants.as_slice(), id, peer)
     }
 
-    /// The offer that the caller is told of next, allocation by allocation in the order in which the
-    /// server granted them.
+    /// The offer that is reported next, allocation by allocation in the order in which the server granted
+    /// them.
     pub fn next_offer(&self) -> Option<DataOffer>
         ensures { (s : State) → result ≡ next_offer (with_table self.now (record s { phase = Allocated })) }
     {
-        offers::next_offer(self.grants.as_slice())
+        let has_untold = self.summary.has_untold;
+        if has_untold {
+            return offers::next_offer(self.grants.as_slice());
+        }
+        None
     }
 
-    /// How many offers there are that the server told of in indications.
+    /// How many offers the server made by indications.
     pub fn indicated_count(&self) -> usize
         ensures { result ≡ length (filter is_indicated self.now.grants) }
     {
         connections::indicated_count(self.grants.as_slice())
     }
 
-    /// For which purpose the request of this ID is to bind the data connection from this local end, if it
+    /// The purpose of the request with this ID to bind the data connection from this local address, if it
     /// was made for that.
     pub fn bind_purpose(&self, id: TransactionId, local: SocketAddr) -> Option<Purpose>
         ensures { (s : State) → result ≡ find (is_bind_of local) (purposes_of id (with_table self.now s)) }
@@ -227,7 +277,7 @@ impl GrantTable {
         self.purposes_of(id).bind_of(local)
     }
 
-    /// What the request of this ID was made for.
+    /// The purposes of the request with this ID.
     pub fn purposes_of(&self, id: TransactionId) -> Purposes
         ensures { purposes_in result ≡ map (λ l. l.purpose) (filter (λ l. l.id == id) self.now.listed) }
     {
@@ -242,39 +292,133 @@ impl GrantTable {
         self.listed.len()
     }
 
-    /// Whether a request of this ID is listed.
+    /// Whether a request with this ID is listed.
     pub fn is_asked(&self, id: TransactionId) -> bool
         ensures { result ≡ list_any (λ l. l.id == id) self.now.listed }
     {
         listed::has_id(self.listed.as_slice(), id)
     }
 
-    /// Whether a request of this ID is listed, or one of the server that is to be answered has it.
+    /// Whether a request with this ID is listed, or one of the server that is to be answered has this ID.
     pub fn is_listed(&self, id: TransactionId) -> bool
         ensures { (s : State) → result ≡ is_listed id (with_table self.now s) }
     {
-        listed::has_id(self.listed.as_slice(), id)
-            || connections::has_of_request(self.grants.as_slice(), id)
+        let is_own = listed::has_id(self.listed.as_slice(), id);
+        let has_requested = self.summary.has_requested;
+        if has_requested {
+            return is_own || connections::has_of_request(self.grants.as_slice(), id);
+        }
+        is_own
     }
 
-    /// The soonest of the moment and of those at which a grant ends or is to be refreshed, where no
-    /// request goes out before the pause ends.
+    /// The earliest of the time and those at which a grant expires or is to be refreshed, where no
+    /// request is sent before the pause ends.
     pub fn soonest(&self, moment: Instant, now: Instant, pause: Instant) -> Instant
         ensures { (s : State) → result ≡ fold min moment (all_moments now pause (with_table self.now s)) }
     {
-        due::least_of(
-            moment,
-            self.grants.as_slice(),
-            self.listed.as_slice(),
-            now,
-            pause,
-        )
+        let _moment = moment.as_nanos();
+        let _pause = pause.as_nanos();
+        let ends = least(moment, Some(self.summary.end));
+        let first_end = relay_end(&self.summary.first, now);
+        let first = least(ends, first_end);
+        let second_end = relay_end(&self.summary.second, now);
+        let second = least(first, second_end);
+        let later = after_pause(pause, Some(self.summary.refresh));
+        least(second, later)
     }
 
-    /// What is to be refreshed first.
+    /// The purpose of the first refresh.
     pub fn first_refresh(&self, now: Instant) -> Option<Purpose>
         ensures { (s : State) → result ≡ slice_get (filter_map (first_refresh now (with_table self.now s)) (allocations (with_table self.now s))) 0 }
     {
+        let is_early = now < self.summary.refresh;
+        if is_early {
+            return None;
+        }
         refresh::first_refresh(self.grants.as_slice(), self.listed.as_slice(), now)
+    }
+
+    /// Whether nothing expires at this time or earlier.
+    pub(crate) fn is_early(&self, now: Instant) -> bool
+        ensures { (s : State) → result ≡ true → All (λ moment. now < moment) (lapse_moments (with_table self.now s)) }
+    {
+        now.as_nanos() < self.summary.lapse
+    }
+}
+
+/// The progress of the permission, if the grant is the one for this IP address.
+fn permission_in(ip: IpAddr, grant: &Grant) -> Option<Progress>
+    ensures { result ≡ permission_progress ip grant.now }
+{
+    match grant {
+        Grant::Permission(other, progress) if *other == ip => Some(*progress),
+        _ => None,
+    }
+}
+
+/// The peer of the grant, if it is the channel with this number.
+fn owner_in(number: u16, grant: &Grant) -> Option<SocketAddr>
+    ensures { result ≡ option_map (λ found. found.0) (channel_at number grant.now) }
+{
+    match grant {
+        Grant::Channel(other, peer, _) if *other == number => Some(*peer),
+        _ => None,
+    }
+}
+
+/// The progress of the grant, if it is the channel with this number.
+fn progress_in(number: u16, grant: &Grant) -> Option<Progress>
+    ensures { result ≡ option_map (λ found. found.1) (channel_at number grant.now) }
+{
+    match grant {
+        Grant::Channel(other, _, progress) if *other == number => Some(*progress),
+        _ => None,
+    }
+}
+
+/// The peer of the grant, if it is the active channel with this number.
+fn peer_in(number: u16, grant: &Grant) -> Option<SocketAddr>
+    ensures { result ≡ channel_peer number grant.now }
+{
+    match grant {
+        Grant::Channel(other, peer, Progress::Active(_)) if *other == number => Some(*peer),
+        _ => None,
+    }
+}
+
+/// The number and the expiry of the grant, if it is an active channel to the peer.
+fn active_in(peer: SocketAddr, grant: &Grant) -> Option<(u16, Instant)>
+    ensures { result ≡ active_channel peer grant.now }
+{
+    match grant {
+        Grant::Channel(number, other, Progress::Active(expiry)) if *other == peer => {
+            Some((*number, *expiry))
+        }
+        _ => None,
+    }
+}
+
+/// The allocation, if it is of this family.
+fn relay_of(relay: &Option<Relay>, family: AddressFamily) -> Option<Relay>
+    ensures { result ≡ find (λ a. is_of_family family a.relayed) (option_to_list relay.now) }
+{
+    match relay {
+        Some(relay) => {
+            if is_of_family(family, relay.relayed) {
+                return Some(*relay);
+            }
+            None
+        }
+        None => None,
+    }
+}
+
+/// The expiry of the allocation, if it is to be waited for.
+fn relay_end(relay: &Option<Relay>, now: Instant) -> Option<Instant>
+    ensures { option_to_list result ≡ relay_ends now (option_to_list relay.now) }
+{
+    match relay {
+        Some(relay) if now < relay.expiry => Some(relay.expiry),
+        _ => None,
     }
 }

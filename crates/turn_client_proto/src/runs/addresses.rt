@@ -1,4 +1,4 @@
-//! The addresses that a call answers with, as values.
+//! The addresses that a call returns, as values.
 
 ghost use Rattle.std.specs.Prelude.{◌≡◌};
 
@@ -6,8 +6,8 @@ use std::marker::Model;
 use std::net::{IpAddr, SocketAddr};
 use turn_stun::transport::TransportType;
 
-/// The addresses that the server relays for a client, with their transports, in the order in which it
-/// granted them. Contracts see the list of them.
+/// The relayed addresses of a client with their transports, in the order in which the server granted
+/// them. Contracts describe it as the list of them.
 #[derive(Debug, Drop)]
 pub struct RelayedAddresses {
     addresses: Vec<(TransportType, SocketAddr)>,
@@ -40,8 +40,8 @@ impl From<Vec<(TransportType, SocketAddr)>> for RelayedAddresses {
     }
 }
 
-/// The peer addresses that have a permission in an allocation, in the order in which the server granted
-/// them. Contracts see the list of them.
+/// The peer IP addresses that have a permission in an allocation, in the order in which the server
+/// granted them. Contracts describe it as the list of them.
 #[derive(Debug, Drop)]
 pub struct PermittedAddresses {
     addresses: Vec<IpAddr>,

@@ -1,6 +1,6 @@
-//! The answers of the calls that ask the server for something.
+//! The replies of the calls that request something of the server.
 //!
-//! A client that finds no memory for the request says so, and has changed nothing.
+//! If memory allocation for a request fails, the call returns an error and the client is unchanged.
 
 ghost use Rattle.std.specs.Prelude.{◌≡◌, ◌≤◌, ◌^◌, IfOk, OnErr};
 ghost use Rattle.turn_client_api.specs.Steps.{Leaves};
@@ -16,7 +16,7 @@ use turn_client_api::{
 use turn_stun::instant::Instant;
 use turn_stun::transport::TransportType;
 
-/// Gives all allocations back.
+/// Deletes all allocations.
 pub(crate) fn delete<C: TurnClientApi>(client: &mut C, now: Instant) -> Result<Reply, AllocError>
     requires { now ≤ 2 ^ 62 }
     ensures ok { IfOk result (λ reply. (reply, C.state client.new) ≡ step (C.state client.old) (Call.Delete now)) }
@@ -28,7 +28,7 @@ pub(crate) fn delete<C: TurnClientApi>(client: &mut C, now: Instant) -> Result<R
     }
 }
 
-/// Asks for a permission.
+/// Requests a permission.
 pub(crate) fn create_permission<C: TurnClientApi>(
     client: &mut C,
     transport: TransportType,
@@ -45,7 +45,7 @@ pub(crate) fn create_permission<C: TurnClientApi>(
     }
 }
 
-/// Asks for a channel.
+/// Requests a channel.
 pub(crate) fn bind_channel<C: TurnClientApi>(
     client: &mut C,
     transport: TransportType,
@@ -62,7 +62,7 @@ pub(crate) fn bind_channel<C: TurnClientApi>(
     }
 }
 
-/// Asks for a data connection.
+/// Requests a data connection.
 pub(crate) fn tcp_connect<C: TurnClientApi>(
     client: &mut C,
     peer_addr: SocketAddr,
@@ -78,7 +78,7 @@ pub(crate) fn tcp_connect<C: TurnClientApi>(
     }
 }
 
-/// Hands in a data connection that the client wanted, or that it could not be opened.
+/// Reports that the caller opened an offered data connection, or could not open it.
 pub(crate) fn allocated_tcp_socket<C: TurnClientApi>(
     client: &mut C,
     id: u32,
@@ -97,7 +97,7 @@ pub(crate) fn allocated_tcp_socket<C: TurnClientApi>(
     }
 }
 
-/// Tells that a data connection is closed.
+/// Reports that a data connection was closed.
 pub(crate) fn tcp_closed<C: TurnClientApi>(
     client: &mut C,
     local_addr: SocketAddr,

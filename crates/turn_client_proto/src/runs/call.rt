@@ -1,4 +1,4 @@
-//! One call of a client, whichever it is.
+//! One call on a client, given as a value.
 
 ghost use Rattle.std.specs.Prelude.{◌≡◌, IfOk, OnErr};
 ghost use Rattle.turn_client_api.specs.Steps.{Leaves};
@@ -14,13 +14,13 @@ use crate::runs::{Call, Reply};
 use std::alloc::{AllocError, Global};
 use turn_client_api::TurnClientApi;
 
-/// Makes this call on the client, and answers what it answers. A packet for a peer is built at once, and
-/// what a peer sent is copied.
+/// Makes this call on the client and returns its reply. A packet for a peer is built at once, and data
+/// of a peer is copied.
 ///
 /// # Errors
 ///
-/// There is no memory for the call or for its answer. The client is then what the call leaves with or
-/// without memory.
+/// If memory allocation for the call or for its reply fails. The client is then in the state after the
+/// call, or in one that the call leaves when its own memory allocation fails.
 pub fn reply_to<C: TurnClientApi>(
     alloc: Global,
     client: &mut C,

@@ -1,4 +1,4 @@
-//! The answers of the calls that carry data to and from peers.
+//! The replies of the calls that carry data to and from peers.
 
 ghost use Rattle.std.specs.Prelude.{◌≡◌, ◌≤◌, ◌^◌, IfOk, OnErr};
 ghost use Rattle.turn_client_api.specs.Answers.{given_payload};
@@ -35,7 +35,7 @@ pub(crate) fn send_to<C: TurnClientApi>(
     }
 }
 
-/// Hands a packet in, whose bytes stay with the caller.
+/// Processes a received packet, of which the caller keeps the bytes.
 pub(crate) fn recv<C: TurnClientApi>(
     alloc: Global,
     client: &mut C,
@@ -68,7 +68,7 @@ pub(crate) fn recv<C: TurnClientApi>(
     }
 }
 
-/// Asks for what the streams hold of peers.
+/// Returns the next data of a peer that the streams hold.
 pub(crate) fn poll_recv<C: TurnClientApi>(
     alloc: Global,
     client: &mut C,
@@ -84,7 +84,7 @@ pub(crate) fn poll_recv<C: TurnClientApi>(
     }
 }
 
-/// What a peer sent, with bytes of its own.
+/// Data of a peer, with a copy of its bytes.
 fn owned<T: AsSlice<u8>>(alloc: Global, given: &TurnPeerData<T>) -> Result<PeerData, AllocError>
     ensures { IfOk result (λ owned. owned ≡ peer_data (given_payload given.now)) }
 {

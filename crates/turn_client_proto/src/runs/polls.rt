@@ -1,4 +1,4 @@
-//! The answers of the calls that tell what is to be done next, and of the one that ends a client.
+//! The replies of the calls that return what to do next, and of the one that ends a client.
 
 ghost use Rattle.std.specs.Prelude.{◌≡◌, ◌≤◌, ◌^◌, IfOk, OnErr};
 ghost use Rattle.turn_client_api.specs.Steps.{Leaves};
@@ -9,7 +9,7 @@ use std::alloc::AllocError;
 use turn_client_api::TurnClientApi;
 use turn_stun::instant::Instant;
 
-/// Asks what is to be done next.
+/// Handles expired timers and returns what to do next.
 pub(crate) fn poll<C: TurnClientApi>(client: &mut C, now: Instant) -> Result<Reply, AllocError>
     requires { now ≤ 2 ^ 62 }
     ensures ok { IfOk result (λ reply. (reply, C.state client.new) ≡ step (C.state client.old) (Call.Poll now)) }
@@ -18,7 +18,7 @@ pub(crate) fn poll<C: TurnClientApi>(client: &mut C, now: Instant) -> Result<Rep
     Ok(Reply::Poll(client.poll(now)?))
 }
 
-/// Asks for the next packet.
+/// Returns the next packet.
 pub(crate) fn poll_transmit<C: TurnClientApi>(
     client: &mut C,
     now: Instant,
@@ -30,7 +30,7 @@ pub(crate) fn poll_transmit<C: TurnClientApi>(
     Ok(Reply::Transmit(client.poll_transmit(now)?))
 }
 
-/// Tells that what carries the client's packets has failed.
+/// Reports that the control connection failed.
 pub(crate) fn protocol_error<C: TurnClientApi>(client: &mut C) -> Result<Reply, AllocError>
     ensures ok { IfOk result (λ reply. (reply, C.state client.new) ≡ step (C.state client.old) Call.ProtocolError) }
     ensures no_memory { OnErr result (Leaves Call.ProtocolError (C.state client.old) (C.state client.new)) }

@@ -1,4 +1,4 @@
-//! The answers of the calls that only read.
+//! The replies of the calls that only read.
 
 ghost use Rattle.std.specs.Prelude.{◌≡◌, IfOk};
 ghost use Rattle.turn_client_proto.specs.Run.{step};
@@ -20,7 +20,7 @@ pub(crate) fn relayed_addresses<C: TurnClientApi>(
     Ok(Reply::RelayedAddresses(RelayedAddresses::from(addresses)))
 }
 
-/// The addresses with a permission in the allocation with this relayed address.
+/// The peer IP addresses with a permission in the allocation with this relayed address.
 pub(crate) fn permissions<C: TurnClientApi>(
     alloc: Global,
     client: &C,
@@ -33,7 +33,7 @@ pub(crate) fn permissions<C: TurnClientApi>(
     Ok(Reply::Permissions(PermittedAddresses::from(addresses)))
 }
 
-/// Whether the peer address has a permission.
+/// Whether the peer IP address has a permission.
 pub(crate) fn have_permission<C: TurnClientApi>(
     client: &C,
     transport: TransportType,

@@ -1,4 +1,4 @@
-//! What a call answers as a value.
+//! The result of a call as a value.
 
 use crate::runs::{PermittedAddresses, RelayedAddresses};
 use std::net::SocketAddr;
@@ -9,10 +9,10 @@ use turn_client_api::{
 use turn_stun::data::Data;
 use turn_stun::transport::{Transmit, TransportType};
 
-/// What came from a peer.
+/// Data of a peer.
 #[derive(Debug, Drop)]
 pub struct PeerData {
-    /// What carried the data from the peer to the server.
+    /// The transport between the peer and the server.
     pub transport: TransportType,
     /// The peer that sent it.
     pub peer: SocketAddr,
@@ -20,54 +20,54 @@ pub struct PeerData {
     pub data: Data,
 }
 
-/// What a [`Call`](crate::runs::Call) answered.
+/// The result of a [`Call`](crate::runs::Call).
 #[derive(Debug, Drop)]
 pub enum Reply {
-    /// `poll` told the caller to do this.
+    /// `poll` returned this.
     Poll(TurnPollRet),
-    /// `poll_transmit` gave this packet, or none.
+    /// `poll_transmit` returned this packet, or none.
     Transmit(Option<Transmit<Data>>),
-    /// `poll_event` gave this event, or none.
+    /// `poll_event` returned this event, or none.
     Event(Option<TurnEvent>),
-    /// `recv` took the packet for the client.
+    /// `recv` processed the packet.
     Handled,
     /// `recv` found that the packet was not for the client.
     Ignored,
-    /// `recv` or `poll_recv` gave data of a peer.
+    /// `recv` or `poll_recv` returned data of a peer.
     PeerData(PeerData),
-    /// `recv` told of an ICMP packet that came for what was sent to a peer (RFC 8656, section 11.6).
+    /// `recv` reported an ICMP packet for data sent to a peer (RFC 8656, section 11.6).
     PeerIcmp {
-        /// What the server relays over between its address and the peer.
+        /// The transport between the server and the peer.
         transport: TransportType,
-        /// The peer to which it was sent.
+        /// The peer to which the data was sent.
         peer: SocketAddr,
         /// The type of the ICMP packet.
         icmp_type: u8,
         /// The code of the ICMP packet.
         icmp_code: u8,
-        /// What else the ICMP packet says (RFC 8656, section 18.13).
+        /// The error data of the ICMP packet (RFC 8656, section 18.13).
         icmp_data: u32,
     },
     /// `poll_recv` had no data of a peer.
     NoData,
-    /// `send_to` made this packet, built as it is sent, or refused.
+    /// `send_to` made this packet, built as it is sent, or returned an error.
     SendTo(Result<Transmit<Data>, SendError>),
-    /// `create_permission` asked for the permission, or refused.
+    /// `create_permission` requested the permission, or returned an error.
     CreatePermission(Result<(), CreatePermissionError>),
-    /// `bind_channel` asked for the channel, or refused.
+    /// `bind_channel` requested the channel, or returned an error.
     BindChannel(Result<(), BindChannelError>),
-    /// `tcp_connect` asked for the connection, or refused.
+    /// `tcp_connect` requested the connection, or returned an error.
     TcpConnect(Result<(), TcpConnectError>),
-    /// `allocated_tcp_socket` took the connection, or refused.
+    /// `allocated_tcp_socket` accepted the connection, or returned an error.
     AllocatedTcpSocket(Result<(), TcpAllocateError>),
-    /// `delete` gave the allocations back, or refused.
+    /// `delete` deleted the allocations, or returned an error.
     Delete(Result<(), DeleteError>),
-    /// `relayed_addresses` gave these addresses.
+    /// `relayed_addresses` returned these addresses.
     RelayedAddresses(RelayedAddresses),
-    /// `permissions` gave these addresses.
+    /// `permissions` returned these addresses.
     Permissions(PermittedAddresses),
     /// `have_permission` found that the peer has a permission, or has none.
     HavePermission(bool),
-    /// `tcp_closed` or `protocol_error` did what it does.
+    /// `tcp_closed` or `protocol_error` succeeded.
     Done,
 }

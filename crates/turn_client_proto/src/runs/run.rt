@@ -3,10 +3,10 @@
 ghost use Rattle.std.specs.Prelude.{◌≡◌, All, IfOk, OnOk};
 ghost use Rattle.turn_client_api.specs.State.{initial};
 ghost use Rattle.turn_client_proto.specs.Client.{state_of};
-ghost use Rattle.turn_client_runs.specs.Promises.{AfterEach, BoundHaveSuccess, CutsAgree, FewAreAnswered, GrantsHaveReplies, HearsLetIn, NumbersAreDistinct, RealmStays, RepliesCountOnce};
+ghost use Rattle.turn_client_runs.specs.Promises.{AfterEach, BoundHaveSuccess, CutsAgree, FewAreAnswered, GrantsHaveReplies, HearsLetIn, InEachPart, NumbersAreDistinct, RealmIsAnswered, RealmStays, RepliesCountOnce};
 ghost use Rattle.turn_client_runs.specs.Run.{state_behind};
+ghost use Rattle.turn_client_runs.specs.Short.{StreamsAreShort};
 ghost use Rattle.turn_client_runs.specs.Sleeps.{SleepsThroughNothing};
-ghost use Rattle.turn_client_runs.specs.Weight.{FewDrawFreeIds};
 ghost use Rattle.turn_client_proto.specs.Heard.{GivesLetIn};
 ghost use Rattle.turn_client_proto.specs.Run.{IsCallable, replies_of, run};
 
@@ -19,10 +19,10 @@ use std::net::SocketAddr;
 use turn_client_api::{TurnClientApi, TurnConfig};
 use turn_stun::transport::TransportType;
 
-/// What came of a run.
+/// The result of a run.
 #[derive(Debug, Drop)]
 pub struct Replayed {
-    /// What each call answered, in their order.
+    /// The reply to each call, in their order.
     pub replies: Vec<Reply>,
     /// The client after the last call.
     pub client: TurnClient,
@@ -31,23 +31,37 @@ pub struct Replayed {
 /// Makes a client over this transport, which sends from `local` to the server at `remote` and draws
 /// its transaction IDs from this seed, and makes these calls on it.
 ///
-/// The answers are those of `run` in `specs/`: each call by its own step, whatever came before. After each
-/// call every standing grant has its signed reply to an own request among the calls, no channel number names
-/// two peers, and each bound connection has the signed success that bound it (RFC 8656, sections 7.3, 9 and
-/// 12; RFC 6062, section 4.3). All data of peers among the answers came from peers with a permission, a channel
-/// or a bound connection when its turn came. A reply counts once, at most nine challenges are answered before a
-/// signed reply, and realm and algorithm, once held, stay (RFC 8489, sections 6.3 and 9.2.5). The pieces
-/// of a stream, each polled up to the first none, give what their joined bytes give. A caller that sleeps
-/// until the moment that each `poll` tells sleeps through nothing.
+/// The replies are those of `run` in `specs/`: each call by its own step, whatever came before. In the other
+/// clauses an input is one datagram or one frame of a stream:
 ///
-/// Moments are at most 2^62 nanoseconds, and may go back from call to call. Where the allocation relays over
-/// UDP, data for a peer is at most 65,504 bytes. A client over UDP asks for such an allocation, since one over
-/// TCP needs a client over TCP (RFC 6062, section 4.1). That an own request was made is said where each ID that
-/// is drawn is free, and it is where the calls and their bytes are fewer than 2^90.
+/// - `granted`: after each call, each allocation, active permission, active channel and bound data connection
+///   has a signed success among the inputs, to an outstanding request of the client's own. The grant expires as
+///   that success says, or an accepted `delete` ended the allocation (RFC 8656, sections 7.3, 9 and 12).
+/// - `bound`: each bound stream was bound by such a success, and has been bound since (RFC 6062, section 4.3).
+/// - `numbers`: after each call, no channel number names two peers.
+/// - `given`, `heard`: in any consecutive calls, so in each call, all data of peers among the replies is that
+///   of an input of these calls, whose peer had a permission, a channel or a bound data connection when it was
+///   processed. An ICMP report is for a peer with a permission. The bytes of each input were received by then.
+/// - `counted`: a reply is accepted only if its request is outstanding, and ends it; so a second reply with its
+///   ID is accepted only if a new request was made with that ID (RFC 8489, section 6.3).
+/// - `challenges`: each challenge that is answered over the control connection is counted, and in any
+///   consecutive calls at most nine are, unless a signed reply lowers the count (RFC 8489, section 9.2.5).
+/// - `realm`, `held`: realm and algorithm, once held, never change, and are those of the first challenge that was
+///   answered.
+/// - `short`: after a `poll_recv` that returns none, each stream holds fewer than 65,555 bytes, if the bytes
+///   received for it are numbers below 256, as in any memory.
+/// - `cuts`: over TCP, if `poll_recv` returns none and changes nothing, pieces of a stream at one time, none of
+///   them empty and each followed by `poll_recv` until it returns none, return the payloads of their joined
+///   bytes, and leave the same client.
+/// - `alarm`: a caller that sleeps until the time that each `poll` returns misses no deadline.
+///
+/// Times are at most 2^62 nanoseconds, and may go back from call to call. If the allocation relays over UDP,
+/// data for a peer is at most 65,504 bytes. A client over UDP requests such an allocation, since one over TCP
+/// needs a client over TCP (RFC 6062, section 4.1).
 ///
 /// # Errors
 ///
-/// There is no memory for the client, for a call or for its answer. The run ends there.
+/// If memory allocation for the client, for a call or for its reply fails. The run ends there.
 pub fn replay(
     alloc: Global,
     transport: TransportType,
@@ -64,19 +78,20 @@ pub fn replay(
     ensures granted { AfterEach GrantsHaveReplies (initial transport local remote config seed) calls.now }
     ensures numbers { AfterEach NumbersAreDistinct (initial transport local remote config seed) calls.now }
     ensures bound { AfterEach BoundHaveSuccess (initial transport local remote config seed) calls.now }
-    ensures given { GivesLetIn (initial transport local remote config seed) calls.now }
+    ensures given { InEachPart GivesLetIn (initial transport local remote config seed) calls.now }
     ensures heard { HearsLetIn (initial transport local remote config seed) calls.now }
     ensures counted { RepliesCountOnce (initial transport local remote config seed) calls.now }
     ensures challenges { FewAreAnswered (initial transport local remote config seed) calls.now }
     ensures realm { RealmStays (initial transport local remote config seed) calls.now }
+    ensures held { RealmIsAnswered (initial transport local remote config seed) calls.now }
+    ensures short { StreamsAreShort (initial transport local remote config seed) calls.now }
     ensures cuts { CutsAgree (initial transport local remote config seed) calls.now }
-    ensures ids { FewDrawFreeIds (initial transport local remote config seed) calls.now }
     ensures alarm { SleepsThroughNothing (initial transport local remote config seed) calls.now }
 {
     make_run(alloc, transport, local, remote, config, seed, calls)
 }
 
-/// The answers of a new client to these calls, and the client after them.
+/// The replies of a new client to these calls, and the client after them.
 fn make_run(
     alloc: Global,
     transport: TransportType,
@@ -120,7 +135,7 @@ fn new_client(
     }
 }
 
-/// The answers of these calls on the client, and the client after them.
+/// The replies of the client to these calls, and the client after them.
 fn asked<C: TurnClientApi>(
     alloc: Global,
     mut client: C,
@@ -134,7 +149,7 @@ fn asked<C: TurnClientApi>(
     Ok((replies, client))
 }
 
-/// Makes these calls, one after the other.
+/// Makes these calls in order.
 pub(crate) fn replies_to<C: TurnClientApi>(
     alloc: Global,
     client: &mut C,

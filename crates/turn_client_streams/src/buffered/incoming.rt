@@ -1,4 +1,4 @@
-//! A piece whose first frame is read where it came.
+//! A piece whose first frame is read in place.
 
 ghost use Rattle.std.specs.Prelude.{◌≡◌, ◌<◌, [], length, option_map, Some, IfOk, IfSome, IsOk, OnOk, OnErr};
 ghost use Rattle.turn_types.specs.Frames.{frame_len};
@@ -14,21 +14,21 @@ use turn_stun::transport::Transmit;
 use turn_types::tcp::{IncomingTcp, TurnTcpBuffer};
 
 impl BufferedStream {
-    /// Takes in a piece of the stream, behind what waits, and gives out the frame in front, if it is whole
-    /// by now. The bytes behind it wait. What no frame begins with breaks the stream.
+    /// Takes a piece of the stream, after the buffered bytes, and returns the first frame, if it is now
+    /// whole. The bytes after it are buffered. Bytes that no frame begins with break the stream.
     ///
-    /// Where nothing waited, the frame is a range of what the piece carries: it is not copied, and a piece
-    /// that is one whole frame takes no memory. Else it is owned. A piece with no frame to give out is let
-    /// go.
+    /// If the buffer was empty, the frame is a range of the piece: it is not copied, and a piece that is
+    /// one whole frame allocates no memory. Else it is owned. A piece without a frame to return is
+    /// dropped.
     ///
     /// # Errors
     ///
-    /// `AllocError` where there is no memory. The stream is then broken.
+    /// `AllocError` if memory allocation fails. The stream is then broken.
     pub fn incoming_tcp<T: AsSlice<u8> + Drop>(
         &mut self,
         transmit: Transmit<T>,
     ) -> Result<Option<IncomingTcp<T>>, AllocError>
-        // An empty piece is no part of a stream: it says that the server closed it.
+        // An empty piece is no part of a stream: it reports that the server closed it.
         requires { 0 < length (T.items transmit.payload) }
 
         ensures frame { IfOk result (λ given. option_map (incoming_bytes T.items) given ≡ front_of (fed self.old (T.items transmit.payload))) }
@@ -36,14 +36,14 @@ impl BufferedStream {
         ensures place { IfOk result (λ given. IfSome given (ComesWith T.items self.old.bytes transmit)) }
         ensures after { OnOk result (self.new ≡ without_front (fed self.old (T.items transmit.payload))) }
 
-        // One whole frame wants no memory where nothing waits.
+        // One whole frame needs no memory if the buffer is empty.
         ensures err { OnErr result (self.new ≡ broken self.old) }
         ensures whole { self.old.bytes ≡ [] → frame_len (T.items transmit.payload) ≡ Some (length (T.items transmit.payload)) → IsOk result }
     {
         match self.buffer.incoming_tcp(transmit) {
             Ok(Some(frame)) => Ok(Some(frame)),
             Ok(None) => {
-                // The piece waits, unless no frame begins with what is in front.
+                // The piece is buffered, unless no frame begins with its bytes.
                 if self.buffer.is_empty() {
                     self.mode = Mode::Broken;
                     self.buffer = TurnTcpBuffer::new(self.alloc);

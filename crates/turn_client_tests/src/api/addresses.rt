@@ -12,7 +12,7 @@ use turn_client_api::{Grant, PermissionAddressesIter, Progress, Relay, RelayedAd
 use turn_stun::instant::Instant;
 use turn_types::{AddressFamily, TransportType};
 
-/// What a caller that knows only of iterators has of the relayed addresses.
+/// All relayed addresses, through the iterator alone.
 fn all_relayed(
     alloc: Global,
     transport: TransportType,
@@ -23,7 +23,7 @@ fn all_relayed(
     RelayedAddressesIter::new(transport, grants).collect(alloc)
 }
 
-/// The same of the addresses that have a permission.
+/// The same for the addresses with a permission.
 fn all_permitted(
     alloc: Global,
     family: AddressFamily,
@@ -44,7 +44,7 @@ fn allocation(relayed: SocketAddr, is_expired: bool) -> Grant {
     })
 }
 
-/// A permission for this address that the server granted.
+/// An active permission for this address.
 fn permission(addr: SocketAddr) -> Grant {
     Grant::Permission(
         addr.ip(),
@@ -64,12 +64,12 @@ fn expired() -> Grant {
     allocation(peer(), true)
 }
 
-/// A permission that the server was only asked for.
+/// A pending permission.
 fn asked() -> Grant {
     Grant::Permission(peer().ip(), Progress::Pending)
 }
 
-/// The addresses of both allocations, and no others, are among these grants.
+/// The relayed addresses of these grants are those of both allocations, and no others.
 fn both_are_listed(rt: &impl Abort, alloc: Global, grants: &[Grant]) {
     let all = all_relayed(alloc, TransportType::Udp, grants).expect(rt, "memory");
     let both = [
@@ -110,7 +110,7 @@ fn an_iterator_stays_at_its_end(rt: HostRuntime) {
     same(&rt, none.next(), None);
 }
 
-/// The addresses with a permission of this family among the grants are these.
+/// The addresses of this family with an active permission among the grants are these.
 fn are_permitted(
     rt: &impl Abort,
     alloc: Global,

@@ -12,7 +12,7 @@ use turn_auth::integrity::IntegrityAlgorithm;
 use turn_client_api::TurnConfig;
 use turn_types::{AddressFamily, TransportType};
 
-/// Compares what is asked for.
+/// Compares the request settings.
 fn asks_for(
     rt: &impl Abort,
     config: &TurnConfig,
@@ -24,7 +24,7 @@ fn asks_for(
     same_bytes(rt, config.credentials().user(), b"user");
 }
 
-/// Compares how requests are signed.
+/// Compares the signing settings.
 fn signs_by(
     rt: &impl Abort,
     config: &TurnConfig,
@@ -43,7 +43,7 @@ fn a_new_configuration_asks_for_ipv4_over_udp(rt: HostRuntime) {
     same(&rt, config.request_timers(), RequestTimers::default());
 }
 
-/// Sets each setting to what it is not by default.
+/// Sets each setting to another value than its default.
 fn set_all(config: &mut TurnConfig) {
     config.set_allocation_transport(TransportType::Tcp);
     config.set_address_family(AddressFamily::IPV6);
@@ -102,7 +102,7 @@ fn copy(rt: &impl Abort, alloc: Global, first: &TurnConfig) -> Box<TurnConfig> {
     boxed(alloc, copy).expect(rt, "memory")
 }
 
-/// A family that is there already changes nothing, and another does.
+/// Adding a family that is already in the list changes nothing, and adding another does.
 fn differs_by_a_new_family(rt: &impl Abort, first: &TurnConfig, copy: &mut TurnConfig) {
     check(rt, *copy == *first);
     copy.add_address_family(AddressFamily::IPV4);
@@ -126,7 +126,7 @@ fn configurations_are_equal_by_their_settings(rt: HostRuntime) {
     check(&rt, *other != *first);
 }
 
-/// Sets the times that hold where none are set.
+/// Sets the times to the default ones.
 fn set_default_times(config: &mut TurnConfig) {
     config.set_request_retransmits(
         Duration::from_millis(500),
@@ -136,7 +136,7 @@ fn set_default_times(config: &mut TurnConfig) {
     );
 }
 
-/// Three configurations that are alike: times are set in two of them, first others and then the same.
+/// Three equal configurations: times are set in two of them, first to other values and then to the same.
 fn are_told_apart(
     rt: &impl Abort,
     first: &TurnConfig,

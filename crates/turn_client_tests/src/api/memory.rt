@@ -1,5 +1,5 @@
-//! Each refusal for memory is an answer here, and what stands after it is asserted. So these pass
-//! whichever request for memory is refused.
+//! Each failed memory allocation is an answer here, and the state after it is asserted. So these pass for any
+//! memory allocation that fails.
 
 use crate::api::{HELLO, boxed_config, is_hello};
 use crate::fixture::{check, peer, same, same_bytes};
@@ -14,7 +14,7 @@ use turn_client_api::{
 use turn_types::TransportType;
 use turn_types::transmit::DelayedTransmitBuild;
 
-/// Owns a payload, or has it back as it was.
+/// Owns a payload, or gets it back unchanged.
 fn own<'a>(
     rt: &impl Abort,
     alloc: Global,
@@ -46,7 +46,7 @@ fn is_owned_at_once(rt: &impl Abort, alloc: Global, bytes: Vec<u8>) {
     let payload: TurnPeerData<Vec<u8>> = TurnPeerData::new(TransportType::Udp, peer(), owned);
     match payload.into_owned(alloc) {
         Ok(owned) => same_bytes(rt, owned.data(), &HELLO),
-        // memory was asked for
+        // memory was allocated
         Err(_) => check(rt, false),
     }
 }
@@ -80,7 +80,7 @@ fn a_configuration_without_memory_stays(rt: HostRuntime) {
     }
 }
 
-/// Where a packet is built, it is these bytes.
+/// If a packet is built, it has these bytes.
 fn builds_if_at_all<T: DelayedTransmitBuild>(rt: &impl Abort, alloc: Global, send: T, want: &[u8]) {
     if let Ok(built) = send.build(alloc) {
         same_bytes(rt, built.as_slice(), want);
@@ -97,7 +97,7 @@ fn what_is_not_built_can_be_made_again(rt: HostRuntime) {
     }
 }
 
-/// A call that passes a refusal on by `?` gives its own error.
+/// A call that propagates an allocation failure by `?` returns its own error.
 #[test]
 fn a_refusal_is_each_error(rt: HostRuntime) {
     is_error(&rt, BindChannelError::OutOfMemory);

@@ -13,7 +13,7 @@ use turn_stun::transaction::TransactionId;
 use turn_types::TransportType;
 use turn_types::transmit::{DelayedChannel, DelayedMessage, DelayedTransmitBuild};
 
-/// Compares the part of `hello` from `start` on and before `end`.
+/// Compares the payload with `hello`, from `start` up to `end`.
 fn is_part(rt: &impl Abort, start: usize, end: usize, want: &[u8]) {
     let source = b"hello".as_slice();
     assert!(rt; start <= end && end <= source.len());
@@ -62,14 +62,14 @@ fn a_part_of_owned_bytes_is_a_payload(rt: HostRuntime) {
     is_owned(&rt, rt.alloc(), Data::from(bytes));
 }
 
-/// Compares the bytes that a packet builds.
+/// Compares the bytes of a packet that is built.
 fn builds<T: DelayedTransmitBuild>(rt: &impl Abort, alloc: Global, send: T, want: &[u8]) {
     same(rt, (send.len(), send.is_empty()), (want.len(), false));
     let built = send.build(alloc).expect(rt, "memory");
     same_bytes(rt, built.as_slice(), want);
 }
 
-/// Compares the bytes that a packet writes.
+/// Compares the bytes of a packet that is written.
 fn writes<T: DelayedTransmitBuild + Drop>(rt: &impl Abort, alloc: Global, send: T, want: &[u8]) {
     let mut place = vec![in alloc; 0xaa; want.len()].expect(rt, "memory");
     assert!(rt; send.len() == place.len());
@@ -88,7 +88,7 @@ fn a_part_is_sent_as_it_is(rt: HostRuntime) {
     check(&rt, nothing.is_empty());
 }
 
-// The four ways to a peer, each with the bytes that it sends.
+// The four ways to send to a peer, each with the bytes that it sends.
 
 #[test]
 fn data_goes_over_a_channel(rt: HostRuntime) {

@@ -1,4 +1,4 @@
-//! What is printed.
+//! Printed texts.
 
 use crate::api::boxed_config;
 use crate::fixture::{check, same};

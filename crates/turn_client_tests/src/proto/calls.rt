@@ -23,7 +23,7 @@ fn sends_its_request<C: TurnClientApi>(rt: &impl Abort, client: &mut C) -> Resul
     Ok(())
 }
 
-/// Whether the refusal came back with the way that it took.
+/// Whether the error response was returned with its transport and addresses.
 fn is_handed_back(
     answer: &TurnRecvRet<&[u8]>,
     transport: TransportType,
@@ -41,7 +41,7 @@ fn is_handed_back(
     }
 }
 
-/// Hands the refusal in by this way, which is a wrong one.
+/// Passes the error response in with this transport and these addresses, which are wrong.
 fn is_ignored<C: TurnClientApi>(
     rt: &impl Abort,
     client: &mut C,
@@ -69,7 +69,7 @@ fn ends_when_refused<C: TurnClientApi>(rt: &impl Abort, client: &mut C) -> Resul
     Ok(())
 }
 
-/// Hands the refusal in by four wrong ways.
+/// Passes the error response in with four wrong transports or addresses.
 fn are_ignored<C: TurnClientApi>(rt: &impl Abort, client: &mut C) -> Result<(), Fail> {
     let other_port = SocketAddr::new(server().ip(), 2_001);
     is_ignored(rt, client, TransportType::Tcp, server(), local())?;
@@ -78,7 +78,8 @@ fn are_ignored<C: TurnClientApi>(rt: &impl Abort, client: &mut C) -> Result<(), 
     is_ignored(rt, client, TransportType::Udp, server(), server())
 }
 
-/// Sends the first request, hands its refusal in by wrong ways, and then by the right one.
+/// Sends the first request, and passes its error response in with wrong transports and addresses, and then the
+/// right ones.
 fn is_refused<C: TurnClientApi>(rt: &impl Abort, mut client: C) -> Result<(), Fail> {
     sends_its_request(rt, &mut client)?;
     are_ignored(rt, &mut client)?;

@@ -21,7 +21,7 @@ use turn_types::AddressFamily;
 
 pub const MS: u64 = 1_000_000;
 
-/// The latest moment of a call, in nanoseconds: 2^62.
+/// The latest time of a call, in nanoseconds: 2^62.
 const LATEST_CALL: u64 = 0x4000_0000_0000_0000;
 
 /// The first ALLOCATE of the seed of zeros, for an IPv4 address (RFC 8656, section 7.1).
@@ -31,7 +31,7 @@ pub const FIRST_ALLOCATE: &[u8] = &[
     0x11, 0x00, 0x00, 0x00, 0x00, 0x1a, 0x00, 0x00,
 ];
 
-/// The error 400 `Bad Request` to it, unsigned.
+/// The unsigned 400 (Bad Request) response to it.
 pub const BAD_REQUEST: &[u8] = &[
     0x01, 0x13, 0x00, 0x14, 0x21, 0x12, 0xa4, 0x42, 0x76, 0xb8, 0xe0, 0xad, 0xa0, 0xf1, 0x3d, 0x90,
     0x40, 0x5d, 0x6a, 0xe5, 0x00, 0x09, 0x00, 0x0f, 0x00, 0x00, 0x04, 0x00, 0x42, 0x61, 0x64, 0x20,
@@ -50,23 +50,23 @@ pub fn at(nanos: u64) -> Instant {
     Instant::from_nanos(nanos)
 }
 
-/// The moment of a call, which is at most 2^62 ns.
+/// The time of a call, which is at most 2^62 ns.
 pub fn called_at(nanos: u64) -> Instant
     ensures { result ≤ 2 ^ 62 }
 {
     Instant::from_nanos(nanos.min(LATEST_CALL))
 }
 
-/// What a client asks for, and how long it waits.
+/// What a client requests, and its retransmission times.
 #[derive(Clone, Copy)]
 pub struct Setup {
-    /// It asks for addresses of these families, or of one of them where they are the same.
+    /// It requests relayed addresses of these families, or of one of them if both are the same.
     pub first: AddressFamily,
     pub second: AddressFamily,
     pub waits: Option<Waits>,
 }
 
-/// Waits that were set, in nanoseconds, and how often the first request is sent.
+/// Retransmission times, in nanoseconds, and how often the first request is sent.
 #[derive(Clone, Copy)]
 pub struct Waits {
     pub initial: u64,
@@ -75,14 +75,14 @@ pub struct Waits {
     pub last: u64,
 }
 
-/// For an IPv4 address, with the waits of the standard.
+/// An IPv4 allocation, with the default times.
 pub const IPV4: Setup = Setup {
     first: AddressFamily::IPV4,
     second: AddressFamily::IPV4,
     waits: None,
 };
 
-/// The configuration of `user` with the password `pass`, with that setup.
+/// The configuration of `user` with the password `pass`, with this setup.
 pub fn config_for(alloc: Global, setup: Setup) -> Result<TurnConfig, CredentialsError>
     ensures { IfOk result (λ config. config.allocation_transport ≡ TransportType.Udp) }
 {
@@ -106,15 +106,15 @@ pub fn client(alloc: Global) -> Result<TurnClientUdp, CredentialsError> {
     Ok(TurnClientUdp::allocate(alloc, local(), server(), config, [0; 32])?)
 }
 
-/// The same with that setup.
+/// The same with this setup.
 pub fn client_for(alloc: Global, setup: Setup) -> Result<TurnClientUdp, CredentialsError> {
     let config = config_for(alloc, setup)?;
     Ok(TurnClientUdp::allocate(alloc, local(), server(), config, [0; 32])?)
 }
 
-// A client comes as a type parameter: a proof then opens none of its parts, and ends far sooner.
+// Functions take a client as a type parameter: a proof then opens none of its parts, and ends far sooner.
 
-/// Whether a packet takes these bytes to the server.
+/// Whether a packet has these bytes and goes to the server.
 fn sends(packet: &Transmit<Data>, bytes: &[u8]) -> bool {
     packet.payload.as_bytes() == bytes
         && packet.transport == TransportType::Udp
@@ -130,7 +130,7 @@ pub fn is_first_request(rt: &impl Abort, packet: Option<Transmit<Data>>) {
     }
 }
 
-/// Hands in the refusal, which the client is to take.
+/// Passes in the error response, which the client must process.
 pub fn refuse<C: TurnClientApi>(rt: &impl Abort, client: &mut C, now: Instant)
     requires { now ≤ 2 ^ 62 }
 {
@@ -139,7 +139,7 @@ pub fn refuse<C: TurnClientApi>(rt: &impl Abort, client: &mut C, now: Instant)
     check(rt, matches!(answer, Ok(TurnRecvRet::Handled)));
 }
 
-/// The client is to have ended, with no event that waits.
+/// The client must have ended, with no pending event.
 pub fn is_closed<C: TurnClientApi>(
     rt: &impl Abort,
     client: &mut C,
@@ -163,7 +163,7 @@ pub enum Ask<'a> {
     Error,
 }
 
-/// What it is to answer.
+/// The expected answer.
 #[derive(Clone, Copy)]
 pub enum Want<'a> {
     Wait(u64),
@@ -178,7 +178,7 @@ pub enum Want<'a> {
     Done,
 }
 
-/// A row of a run: a call, and what it is to answer.
+/// A row of a run: a call, and its expected answer.
 pub type Row<'a> = (Ask<'a>, Want<'a>);
 
 /// These bytes from the server.
@@ -233,7 +233,7 @@ fn calls_of(alloc: Global, rows: &[Row<'_>]) -> Result<Vec<Call>, AllocError>
     Ok(calls)
 }
 
-/// What a new client of the seed of zeros answers to these calls.
+/// The answers of a new client of the seed of zeros to these calls.
 pub fn replies_of(
     alloc: Global,
     config: TurnConfig,
@@ -255,7 +255,7 @@ pub fn replies_of(
     Ok(replies)
 }
 
-/// The first row that was not answered as it is to be, counted from 0.
+/// The first row with an unexpected answer, counted from 0.
 fn first_unwanted(replies: &[Reply], rows: &[Row<'_>]) -> Option<usize> {
     for (row, (reply, (_, want))) in replies.iter().zip(rows).enumerate() {
         if !is_wanted(reply, *want) {
@@ -270,7 +270,7 @@ fn are_wanted(rt: &impl Abort, replies: &[Reply], rows: &[Row<'_>]) {
     same(rt, first_unwanted(replies, rows), None);
 }
 
-/// Makes the calls on a new client of the seed of zeros with that setup, and compares each answer.
+/// Makes the calls on a new client of the seed of zeros with this setup, and compares each answer.
 pub fn follow(rt: &impl Abort, alloc: Global, setup: Setup, rows: &[Row<'_>]) -> Result<(), Fail> {
     let calls = calls_of(alloc, rows)?;
     let replies = replies_of(alloc, config_for(alloc, setup)?, calls.as_slice())?;

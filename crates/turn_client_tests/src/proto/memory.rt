@@ -1,7 +1,6 @@
-//! Want of memory at each place: what it answers, and what stands after it.
+//! Memory allocation that fails at each place: the answer, and the state after it.
 //!
-//! Each test takes the refusal as an answer. `rt try --test --fail-alloc N` makes the Nth allocation
-//! fail.
+//! Each test accepts the failure as an answer. `rt try --test --fail-alloc N` makes the Nth allocation fail.
 
 use crate::fixture::{check, config};
 use crate::proto::fixture::{
@@ -53,7 +52,7 @@ fn sends_again_or_ends<C: TurnClientApi>(rt: &impl Abort, client: &mut C) -> Res
     Ok(())
 }
 
-/// Sends the first request, and then the same again when it is due.
+/// Sends the first request, and retransmits it when that is due.
 fn sends_twice<C: TurnClientApi>(rt: &impl Abort, mut client: C) -> Result<(), Fail> {
     match client.poll_transmit(called_at(0)) {
         Ok(_) => sends_again_or_ends(rt, &mut client),
@@ -74,7 +73,7 @@ fn tells_a_failure<C: TurnClientApi>(rt: &impl Abort, client: &mut C, family: Ad
     check(rt, client.poll_event() == Some(event));
 }
 
-/// Ends a client, by a refusal or by the caller. Whether there was memory for it.
+/// Ends a client, by an error response or by the caller. Returns whether memory allocation succeeded.
 fn is_ended<C: TurnClientApi>(rt: &impl Abort, client: &mut C, refused: bool) -> bool {
     if !refused {
         return client.protocol_error().is_ok();
@@ -89,7 +88,7 @@ fn is_ended<C: TurnClientApi>(rt: &impl Abort, client: &mut C, refused: bool) ->
     }
 }
 
-/// Fails both families of a client that has sent its request.
+/// The allocations of both families fail, after the client sent its request.
 fn ends<C: TurnClientApi>(rt: &impl Abort, client: &mut C, refused: bool) {
     if is_ended(rt, client, refused) {
         tells_a_failure(rt, client, AddressFamily::IPV6);

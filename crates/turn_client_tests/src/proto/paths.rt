@@ -1,4 +1,4 @@
-//! The paths by which users of the original crate name things.
+//! The paths by which callers of the original crate name items.
 
 use crate::fixture::{check, config, same};
 use crate::proto::fixture::{FIRST_ALLOCATE, local, server};
@@ -11,7 +11,7 @@ use turn_client_proto::types::stun::message::Message;
 use turn_client_proto::types::{TransportType, TurnCredentials};
 use turn_client_proto::{Call, Replayed, Reply, replay};
 
-/// What a new client answers to one poll.
+/// The answer of a new client to one poll.
 fn polled(alloc: Global) -> Result<Vec<Reply>, Fail> {
     let calls = [Call::Poll { now: Instant::ZERO }];
     let config = config(alloc)?;
@@ -28,7 +28,7 @@ fn polled(alloc: Global) -> Result<Vec<Reply>, Fail> {
     Ok(replies)
 }
 
-/// Whether the reply tells the caller to call again at once.
+/// Whether the reply is to call again at once.
 fn is_now(reply: &Reply) -> bool {
     match reply {
         Reply::Poll(told) => *told == TurnPollRet::WaitUntil(Instant::ZERO),

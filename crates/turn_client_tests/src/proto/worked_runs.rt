@@ -1,4 +1,4 @@
-//! Whole runs with outside values: the messages of the RFCs, and waits that were added up by hand.
+//! Whole runs with external values: the messages of the RFCs, and times that were added up by hand.
 
 use crate::proto::fixture::{
     Ask, BAD_REQUEST, FIRST_ALLOCATE, IPV4, MS, Row, Setup, Waits, Want, follow,
@@ -23,7 +23,7 @@ fn a_new_client_is_to_send_now(rt: HostRuntime) -> Result<(), Fail> {
     follow(&rt, rt.alloc(), IPV4, FIRST_CALLS)
 }
 
-/// The first ALLOCATE that asks for an IPv6 address beside the IPv4 one (RFC 8656, section 18.11).
+/// The first ALLOCATE that requests an IPv6 address in addition to the IPv4 address (RFC 8656, section 18.11).
 const ALLOCATE_BOTH: &[u8] = &[
     0x00, 0x03, 0x00, 0x1c, 0x21, 0x12, 0xa4, 0x42, 0x76, 0xb8, 0xe0, 0xad, 0xa0, 0xf1, 0x3d, 0x90,
     0x40, 0x5d, 0x6a, 0xe5, 0x00, 0x0d, 0x00, 0x04, 0x00, 0x00, 0x07, 0x08, 0x00, 0x19, 0x00, 0x04,
@@ -37,7 +37,7 @@ const ALLOCATE_IPV6: &[u8] = &[
     0x11, 0x00, 0x00, 0x00, 0x00, 0x1a, 0x00, 0x00, 0x00, 0x17, 0x00, 0x04, 0x02, 0x00, 0x00, 0x00,
 ];
 
-/// A client of these families, with the waits of the standard, sends this request.
+/// A client for these families, with the default times, sends this request.
 fn sends_first(
     rt: &impl Abort,
     alloc: Global,
@@ -62,7 +62,7 @@ fn the_first_request_names_the_families(rt: HostRuntime) -> Result<(), Fail> {
     sends_first(&rt, rt.alloc(), v6, v6, ALLOCATE_IPV6)
 }
 
-/// Three sends, after 0.6 and 1 seconds, and 3 seconds more.
+/// Three transmissions, after 0.6 and 1 seconds, and 3 seconds more.
 const SHORT_WAITS: Setup = Setup {
     waits: Some(Waits {
         initial: 600 * MS,
@@ -122,7 +122,7 @@ fn by_default_it_takes_39_seconds_and_a_half(rt: HostRuntime) -> Result<(), Fail
     follow(&rt, rt.alloc(), IPV4, DEFAULT_SILENCE)
 }
 
-/// Two sends, 2^64 - 1 ns apart.
+/// Two transmissions, 2^64 - 1 ns apart.
 const ENDLESS_WAITS: Setup = Setup {
     waits: Some(Waits {
         initial: u64::MAX,
@@ -142,13 +142,13 @@ const ENDLESS_SILENCE: &[Row<'static>] = &[
     ),
 ];
 
-// A wait of 2^64 - 1 ns ends past the greatest moment, and a caller is let sleep 9999 s at most.
+// A wait of 2^64 - 1 ns ends past the largest time; a caller is asked to wait at most 9999 s.
 #[test]
 fn no_caller_sleeps_longer_than_9999_seconds(rt: HostRuntime) -> Result<(), Fail> {
     follow(&rt, rt.alloc(), ENDLESS_WAITS, ENDLESS_SILENCE)
 }
 
-/// The challenge 401 with a realm and a nonce.
+/// The 401 challenge with a realm and a nonce.
 const CHALLENGE: &[u8] = &[
     0x01, 0x13, 0x00, 0x20, 0x21, 0x12, 0xa4, 0x42, 0x76, 0xb8, 0xe0, 0xad, 0xa0, 0xf1, 0x3d, 0x90,
     0x40, 0x5d, 0x6a, 0xe5, 0x00, 0x09, 0x00, 0x04, 0x00, 0x00, 0x04, 0x01, 0x00, 0x14, 0x00, 0x05,
@@ -162,7 +162,7 @@ const SUCCESS: &[u8] = &[
     0x40, 0x5d, 0x6a, 0xe5,
 ];
 
-/// The response ends the client, once its request was sent.
+/// The response ends the client, if its request was sent before.
 fn is_the_end(rt: &impl Abort, alloc: Global, response: &[u8]) -> Result<(), Fail> {
     let rows = [
         (Ask::Recv(0, response), Want::Ignored),
@@ -215,13 +215,13 @@ const INDICATION: &[u8] = &[
     0x40, 0x5d, 0x6a, 0xe5,
 ];
 
-/// A success with the ID that counts one more.
+/// A success whose ID is larger by one.
 const OTHER_SUCCESS: &[u8] = &[
     0x01, 0x03, 0x00, 0x00, 0x21, 0x12, 0xa4, 0x42, 0x76, 0xb8, 0xe0, 0xad, 0xa0, 0xf1, 0x3d, 0x90,
     0x40, 0x5d, 0x6a, 0xe6,
 ];
 
-// The first is no message, and the second a channel frame that is cut.
+// The first is no message, and the second a ChannelData message that is cut.
 const NO_RESPONSES: &[Row<'static>] = &[
     (Ask::Transmit(0), Want::Send(FIRST_ALLOCATE)),
     (Ask::Recv(0, &[]), Want::Ignored),
@@ -241,7 +241,7 @@ fn what_is_no_response_is_ignored(rt: HostRuntime) -> Result<(), Fail> {
     follow(&rt, rt.alloc(), IPV4, NO_RESPONSES)
 }
 
-/// For addresses of two families, with one send and a wait of 8 seconds.
+/// For addresses of two families, with one transmission and a wait of 8 seconds.
 const BOTH: Setup = Setup {
     first: AddressFamily::IPV6,
     second: AddressFamily::IPV4,
@@ -253,7 +253,7 @@ const BOTH: Setup = Setup {
     }),
 };
 
-/// After this end the failures of both families are told in this order.
+/// After this end the failures of both families are reported in this order.
 fn fails_in_order(
     rt: &impl Abort,
     alloc: Global,
@@ -274,8 +274,8 @@ fn fails_in_order(
     follow(rt, alloc, BOTH, &rows)
 }
 
-// Where the server refuses, the failures are told in the order of the families; where it stays
-// silent, each is told before those that wait.
+// If the server refuses, the failures are reported in the order of the families; if it stays silent, each is
+// reported before the pending ones.
 #[test]
 fn two_families_fail_in_their_order(rt: HostRuntime) -> Result<(), Fail> {
     let v4 = AddressFamily::IPV4;

@@ -1,4 +1,4 @@
-//! One call of a gatherer, whichever it is.
+//! One call of a gatherer, of any kind.
 
 ghost use Rattle.std.specs.Prelude.{◌≡◌, ◌≤◌, ◌^◌, IfOk};
 ghost use Rattle.turn_client_api.specs.Answers.{given_payload};
@@ -18,7 +18,7 @@ use turn_stun::data::Data;
 use turn_stun::instant::Instant;
 use turn_stun::transport::{Transmit, TransportType};
 
-/// Makes this call, and answers what it answers. Where there is no memory for the call or for its answer,
+/// Makes this call and returns its answer. If memory allocation fails, for the call or for its answer,
 /// the gatherer is not used any more.
 pub(crate) fn reply_to<C: TurnClientApi>(
     alloc: Global,
@@ -65,7 +65,7 @@ fn candidates<C: TurnClientApi>(
     Ok(GatherReply::Candidates(Candidates::from(gatherer.candidates(alloc)?)))
 }
 
-/// Takes it that the pair is checked.
+/// Marks the pair as checked.
 fn check<C: TurnClientApi>(
     gatherer: &mut Gatherer<C>,
     transport: TransportType,
@@ -79,7 +79,7 @@ fn check<C: TurnClientApi>(
     }
 }
 
-/// Hands a packet in, whose bytes stay with the caller.
+/// Passes a packet to the gatherer; the caller keeps the bytes.
 fn recv<C: TurnClientApi>(
     alloc: Global,
     gatherer: &mut Gatherer<C>,
@@ -95,7 +95,7 @@ fn recv<C: TurnClientApi>(
     told(alloc, &given)
 }
 
-/// Asks for what the streams hold of peers.
+/// Polls for the next payload of a peer in the streams.
 fn poll_recv<C: TurnClientApi>(
     alloc: Global,
     gatherer: &mut Gatherer<C>,
@@ -110,7 +110,7 @@ fn poll_recv<C: TurnClientApi>(
     }
 }
 
-/// What came in, with bytes of its own.
+/// The answer of `recv` and `poll_recv`, with its own copy of the bytes.
 fn told<T: AsSlice<u8> + Debug + Drop>(
     alloc: Global,
     given: &GatherRecv<T>,
@@ -125,7 +125,7 @@ fn told<T: AsSlice<u8> + Debug + Drop>(
     }
 }
 
-/// What a peer sent, with bytes of its own.
+/// The data of a peer, with its own copy of the bytes.
 fn owned<T: AsSlice<u8>>(alloc: Global, given: &TurnPeerData<T>) -> Result<PeerPayload, AllocError>
     ensures { IfOk result (λ owned. owned ≡ peer_payload (given_payload given.now)) }
 {
@@ -137,7 +137,7 @@ fn owned<T: AsSlice<u8>>(alloc: Global, given: &TurnPeerData<T>) -> Result<PeerP
     })
 }
 
-/// Asks for a permission.
+/// Requests a permission.
 fn create_permission<C: TurnClientApi>(
     gatherer: &mut Gatherer<C>,
     transport: TransportType,

@@ -1,4 +1,4 @@
-//! What a call of a gatherer answers as a value.
+//! The answer of a call of a gatherer, as a value.
 
 ghost use Rattle.std.specs.Prelude.{◌≡◌};
 
@@ -43,10 +43,10 @@ impl From<Vec<(TransportType, SocketAddr)>> for Candidates {
     }
 }
 
-/// What came from the peer of a checked pair.
+/// Data from the peer of a checked pair.
 #[derive(Debug, Drop)]
 pub struct PeerPayload {
-    /// What carried the data from the peer to the server.
+    /// The transport between the peer and the server.
     pub transport: TransportType,
     /// The peer that sent it.
     pub peer: SocketAddr,
@@ -54,34 +54,34 @@ pub struct PeerPayload {
     pub data: Data,
 }
 
-/// What a [`GatherCall`](crate::GatherCall) answered.
+/// The answer of a [`GatherCall`](crate::GatherCall).
 #[derive(Debug, Drop)]
 pub enum GatherReply {
-    /// `candidates` gave these addresses.
+    /// `candidates` returned these addresses.
     Candidates(Candidates),
-    /// `is_checked` found that the pair is checked, or is not.
+    /// `is_checked` returned whether the pair is checked.
     IsChecked(bool),
-    /// `check` took the pair, or refused.
+    /// `check` accepted the pair, or returned an error.
     Check(Result<(), GatherError>),
-    /// `recv` took the packet for the client.
+    /// `recv`: the packet was for the client.
     Handled,
-    /// `recv` found that the packet was not for the client.
+    /// `recv`: the packet was not for the client.
     Ignored,
-    /// `recv` or `poll_recv` passed up what the peer of a checked pair sent.
+    /// `recv` or `poll_recv` passed up data from the peer of a checked pair.
     Payload(PeerPayload),
-    /// `recv` or `poll_recv` dropped what came from a peer whose pair is not checked, or `recv` an ICMP
-    /// packet.
+    /// `recv` or `poll_recv` dropped data from a peer whose pair is not checked, or `recv` dropped an
+    /// ICMP report.
     Dropped,
     /// `poll_recv` had no data of a peer.
     NoPayload,
-    /// `create_permission` asked for the permission, or refused.
+    /// `create_permission` requested the permission, or returned an error.
     CreatePermission(Result<(), CreatePermissionError>),
-    /// `send_to` made this packet, built as it is sent, or refused.
+    /// `send_to` returned this packet, already built, or an error.
     SendTo(Result<Transmit<Data>, SendError>),
-    /// `poll` told the caller to do this.
+    /// `poll` returned this.
     Poll(TurnPollRet),
-    /// `poll_transmit` gave this packet, or none.
+    /// `poll_transmit` returned this packet, or none.
     Transmit(Option<Transmit<Data>>),
-    /// `poll_event` gave this event, or none.
+    /// `poll_event` returned this event, or none.
     Event(Option<TurnEvent>),
 }

@@ -1,4 +1,4 @@
-//! What is behind the name of a call.
+//! The fields after the name of a call.
 
 ghost use Rattle.std.specs.Prelude.{◌≡◌, Some, None, MatchOption};
 ghost use Rattle.turn_lines.specs.Arguments.{address_if_any, data_ends_of, one_address_of, packet_of, sending_of};
@@ -15,7 +15,7 @@ use turn_client_api::Socket5Tuple;
 use turn_stun::data::Data;
 use turn_stun::transport::{Transmit, TransportType};
 
-/// A packet: its transport, where it comes from, where it goes, and its bytes.
+/// A packet: its transport, source, destination and bytes.
 #[tactic(auto, unfolding(crate::specs::Arguments::packet_of))]
 pub fn take_packet(alloc: Global, fields: &mut Parts<'_>) -> Result<Transmit<Data>, FieldError>
     ensures { Gives (λ packet. packet) result (packet_of fields.old) }
@@ -26,7 +26,7 @@ pub fn take_packet(alloc: Global, fields: &mut Parts<'_>) -> Result<Transmit<Dat
     Ok(Transmit::new(Data::from(payload), transport, from, to))
 }
 
-/// What is sent to a peer: over what the allocation relays it, to whom, and its bytes.
+/// Data for a peer: the transport between server and peer, the peer, and the bytes.
 #[tactic(auto, unfolding(crate::specs::Arguments::sending_of))]
 pub fn take_sending(
     alloc: Global,
@@ -86,7 +86,7 @@ pub fn take_two_addresses(fields: &mut Parts<'_>) -> Option<(SocketAddr, SocketA
     Some((local, remote))
 }
 
-/// The server's number of a connection, and the control connection.
+/// The server's number of a connection (CONNECTION-ID), and the control connection.
 #[tactic(auto, unfolding(crate::specs::Arguments::tuple_of))]
 pub fn take_tuple(fields: &mut Parts<'_>) -> Option<(u32, Socket5Tuple)>
     ensures { MatchOption result (tuple_of fields.old ≡ None) (λ tuple. tuple_of fields.old ≡ Some (tuple, fields.new)) }
@@ -122,7 +122,7 @@ fn parse_address_if_any(text: &[u8]) -> Option<Option<SocketAddr>>
     Some(Some(parse_address(text)?))
 }
 
-/// The transport of a packet, where it comes from and where it goes.
+/// The transport, source and destination of a packet.
 #[tactic(auto, unfolding(crate::specs::Arguments::way_of))]
 fn take_way(fields: &mut Parts<'_>) -> Option<(TransportType, SocketAddr, SocketAddr)>
     ensures { MatchOption result (way_of fields.old ≡ None) (λ way. way_of fields.old ≡ Some (way, fields.new)) }

@@ -24,7 +24,7 @@ pub enum CallName {
     Bind,
     /// `connect`, which is `tcp_connect`, with the peer.
     Connect,
-    /// `socket`, which is `allocated_tcp_socket`, with what `poll` told and the local end.
+    /// `socket`, which is `allocated_tcp_socket`, with the values that `poll` returned and the local end.
     Socket,
     /// `delete`.
     Delete,
@@ -50,7 +50,7 @@ pub fn parse_name(text: &[u8]) -> Option<CallName>
     }
 }
 
-/// A call that brings the client time, packets or sockets, or takes what it has.
+/// A call that brings the client time, packets or sockets, or takes its output.
 fn parse_driving_name(text: &[u8]) -> Option<CallName>
     ensures { result ≡ named driving_calls text.now }
 {
@@ -81,7 +81,7 @@ fn parse_driving_name(text: &[u8]) -> Option<CallName>
     None
 }
 
-/// A call that asks something of the client.
+/// A call that requests something of the client, or reads its state.
 fn parse_asking_name(text: &[u8]) -> Option<CallName>
     ensures { result ≡ named asking_calls text.now }
 {

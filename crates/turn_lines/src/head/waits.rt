@@ -1,4 +1,4 @@
-//! When requests are sent again, as the head's last field says.
+//! The retransmission times, from the head's last field.
 
 ghost use Rattle.std.specs.Prelude.{◌≡◌};
 ghost use Rattle.turn_lines.specs.Head.{waits_of, last_of};
@@ -6,21 +6,21 @@ ghost use Rattle.turn_lines.specs.Head.{waits_of, last_of};
 use crate::number::parse_decimal;
 use crate::parts::Parts;
 
-/// When requests are sent again and given up. Times are in nanoseconds.
+/// When requests are retransmitted and time out (RFC 8489, section 6.2.1). All times are in nanoseconds.
 #[derive(Clone, Copy, Debug, PartialEq, Eq)]
 pub struct Waits {
-    /// The wait behind the first send.
+    /// The time after the first transmission.
     pub initial: u64,
-    /// The longest wait between two sends.
+    /// The longest time between two transmissions.
     pub max: u64,
-    /// How often a request is sent in all.
+    /// The number of transmissions, with the first.
     pub count: u32,
-    /// The wait behind the last send.
+    /// The time after the last transmission.
     pub last: u64,
 }
 
-/// The waits of the one field that is left, `Some(None)` where none is left, or `None` where the
-/// field is malformed or another is behind it.
+/// The retransmission times from the last field, `Some(None)` if no field is left, or `None` if the field
+/// is malformed or not the last.
 pub fn take_waits(fields: &mut Parts<'_>) -> Option<Option<Waits>>
     ensures { result ≡ last_of fields.old }
 {

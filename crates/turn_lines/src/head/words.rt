@@ -1,4 +1,4 @@
-//! Fields of the head that say one of a few things.
+//! Fields of the head with a few possible values.
 
 ghost use Rattle.std.specs.Prelude.{◌≡◌};
 ghost use Rattle.turn_lines.specs.Head.{families_of, algorithms_of, feature_of, relayed_for};
@@ -7,7 +7,7 @@ use turn_auth::feature::Feature;
 use turn_auth::integrity::IntegrityAlgorithm;
 use turn_types::{AddressFamily, TransportType};
 
-/// `4`, `6`, or both in one order or the other.
+/// `4`, `6`, or both in either order.
 pub fn parse_families(text: &[u8]) -> Option<(AddressFamily, Option<AddressFamily>)>
     ensures { result ≡ families_of text.now }
 {
@@ -20,7 +20,7 @@ pub fn parse_families(text: &[u8]) -> Option<(AddressFamily, Option<AddressFamil
     }
 }
 
-/// `sha1`, `sha256`, or both in one order or the other.
+/// `sha1`, `sha256`, or both in either order.
 pub fn parse_algorithms(text: &[u8]) -> Option<(IntegrityAlgorithm, Option<IntegrityAlgorithm>)>
     ensures { result ≡ algorithms_of text.now }
 {
@@ -55,8 +55,8 @@ pub fn parse_feature(text: &[u8]) -> Option<Feature>
     None
 }
 
-/// Whether a client over this transport may ask for this allocation: one over TCP needs a client over
-/// TCP (RFC 6062, section 4.1).
+/// Whether a client over this transport may request this allocation: an allocation over TCP needs a client
+/// over TCP (RFC 6062, section 4.1).
 pub fn relayed_for(transport: TransportType, allocation: TransportType) -> Option<()>
     ensures { result ≡ relayed_for transport allocation }
 {

@@ -9,7 +9,7 @@ use std::net::{IpAddr, SocketAddr};
 use turn_client_api::TurnEvent;
 use turn_types::TransportType;
 
-/// What happened, and to whom.
+/// The event, and its address.
 pub fn event_text(alloc: Global, event: &TurnEvent) -> Result<String, AllocError>
     ensures { IfOk result (λ text. string_bytes text ≡ fields_text (event_fields event.now)) }
 {

@@ -8,7 +8,7 @@ use std::alloc::{AllocError, Global};
 use std::net::{IpAddr, SocketAddr};
 use turn_types::TransportType;
 
-/// How many relayed addresses there are, and each with its transport.
+/// The number of relayed addresses, and each with its transport.
 pub fn relayed_text(
     alloc: Global,
     relayed: &[(TransportType, SocketAddr)],
@@ -26,7 +26,7 @@ pub fn relayed_text(
     Ok(text)
 }
 
-/// How many IP addresses there are, and each of them.
+/// The number of IP addresses, and each of them.
 pub fn ips_text(alloc: Global, ips: &[IpAddr]) -> Result<String, AllocError>
     ensures { IfOk result (λ text. string_bytes text ≡ fields_text (list_fields (λ ip. ip_text ip ∷ []) ips.now)) }
 {

@@ -1,4 +1,4 @@
-//! What `poll` told as text.
+//! The result of `poll` as text.
 
 ghost use Rattle.std.specs.Prelude.{◌≡◌, IfOk, string_bytes};
 ghost use Rattle.std.specs.declared.net.socket_addr.SocketAddr.{SocketAddr};
@@ -10,7 +10,7 @@ use std::alloc::{AllocError, Global};
 use std::net::SocketAddr;
 use turn_client_api::{Socket5Tuple, TurnPollRet};
 
-/// The moment to wait for, the socket to open or to close, or that the client has ended.
+/// The wake-up time, the data connection to open or to close, or that the client has ended.
 pub fn poll_text(alloc: Global, told: &TurnPollRet) -> Result<String, AllocError>
     ensures { IfOk result (λ text. string_bytes text ≡ fields_text (poll_fields told.now)) }
 {
@@ -36,7 +36,7 @@ pub fn poll_text(alloc: Global, told: &TurnPollRet) -> Result<String, AllocError
     }
 }
 
-/// The socket that is to be opened.
+/// A data connection that the caller is to open.
 fn socket_text(
     alloc: Global,
     id: u32,

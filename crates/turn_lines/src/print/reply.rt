@@ -1,4 +1,4 @@
-//! What a call answered as text.
+//! The answer of a call as text.
 
 ghost use Rattle.std.specs.Prelude.{◌≡◌, IfOk, string_bytes};
 ghost use Rattle.turn_client_proto.specs.declared.runs.reply.PeerData.{PeerData};
@@ -16,7 +16,7 @@ use turn_client_proto::runs::{PeerData, Reply};
 use turn_stun::data::Data;
 use turn_stun::transport::{Transmit, TransportType};
 
-/// What a call answered.
+/// The answer of a call.
 pub fn reply_text(alloc: Global, reply: &Reply) -> Result<String, AllocError>
     ensures { IfOk result (λ text. string_bytes text ≡ fields_text (reply_fields reply.now)) }
 {

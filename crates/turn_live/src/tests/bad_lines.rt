@@ -1,4 +1,4 @@
-//! Lines that are not as they are to be: the calls before them are answered, and those behind them are not.
+//! Bad lines: the calls before them are answered, and the lines after them are not.
 
 use crate::tests::fixture::{HEAD, follow};
 use std::alloc::Global;
@@ -6,7 +6,7 @@ use std::process::Abort;
 use std::test::Fail;
 use turn_lines::status::Status;
 
-/// A session whose second call is this is to end by this line.
+/// A session whose second call is this must end at this line.
 fn is_bad(rt: &impl Abort, alloc: Global, call: &str, told: &str) -> Result<(), Fail> {
     let want = ["wait 0\n", told].concat(alloc)?;
     let input = [HEAD, "0 poll\n", call, "0 poll\n"];

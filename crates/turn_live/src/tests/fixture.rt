@@ -10,8 +10,7 @@ use turn_lines::status::Status;
 pub const HEAD: &str =
     "udp 192.168.0.1:1000 10.0.0.2:2000 udp 4 sha1 auto 75736572 70617373 0000000000000000000000000000000000000000000000000000000000000000\n";
 
-/// The first ALLOCATE of this client (RFC 8656, section 7.1) under the first ID of the seed, as a
-/// packet that is to be sent.
+/// The first ALLOCATE of this client (RFC 8656, section 7.1) under the first ID of the seed, as a packet to send.
 pub const SEND_ALLOCATE: &str =
     "send udp 192.168.0.1:1000 10.0.0.2:2000 000300142112a44276b8e0ada0f13d90405d6ae5000d0004000007080019000411000000001a0000\n";
 
@@ -20,7 +19,7 @@ pub fn short_input(alloc: Global) -> Result<String, AllocError> {
     [HEAD, "0 poll\n0 transmit\n"].concat(alloc)
 }
 
-/// What answers the calls of these lines, of which so many were read whole.
+/// The answers to the calls of these lines, of which this many were read whole.
 pub fn short_answer(alloc: Global, lines: usize) -> Result<String, AllocError> {
     match lines {
         0 | 1 => Ok(String::new(alloc)),
@@ -29,7 +28,7 @@ pub fn short_answer(alloc: Global, lines: usize) -> Result<String, AllocError> {
     }
 }
 
-/// How the session of this input ended, and what it wrote.
+/// How the session of this input ended, and its output.
 pub fn run_bytes(alloc: Global, input: &[u8]) -> (Status, Vec<u8>) {
     let mut reader = input;
     let mut written = Vec::new(alloc);
@@ -37,12 +36,12 @@ pub fn run_bytes(alloc: Global, input: &[u8]) -> (Status, Vec<u8>) {
     (status, written)
 }
 
-/// Asserts that the case of this number is as it is to be.
+/// Asserts that this case holds.
 pub fn check(rt: &impl Abort, is_so: bool, case: usize) {
     assert!(rt; is_so, "case {case}");
 }
 
-/// Asserts that a session ended so.
+/// Asserts that a session ended with this status.
 pub fn assert_status(rt: &impl Abort, found: Status, want: Status) {
     assert_eq!(rt; found, want);
 }
@@ -57,7 +56,7 @@ fn assert_answer(rt: &impl Abort, input: &str, found: &str, want: &str) {
     assert_eq!(rt; found, want, "{input}");
 }
 
-/// Runs a session on the parts of an input, which is to end so and to write this.
+/// Runs a session on the parts of an input, which must end with this status and write this text.
 pub fn follow(
     rt: &impl Abort,
     alloc: Global,

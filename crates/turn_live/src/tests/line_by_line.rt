@@ -1,6 +1,6 @@
-//! A reader that gives a line only once the line before it was answered.
+//! A reader that returns a line only after the line before it was answered.
 //!
-//! The messages were spelled and signed apart from this client, under the MD5 digest of `user:realm:pass`
+//! The messages were encoded and signed by other means than this client, under the MD5 digest of `user:realm:pass`
 //! (RFC 8489, section 9.2.2).
 
 use crate::program::run;
@@ -13,12 +13,12 @@ use std::process::Abort;
 use std::test::Fail;
 use turn_lines::status::Status;
 
-/// A reader of lines, each with its answer. It fails where a line is read before all those before it were answered.
+/// A reader of lines, each with its answer. It fails if a line is read before all lines before it were answered.
 #[derive(Drop)]
 struct Waiting<'a> {
     line: &'a [u8],
     script: &'a [(&'a str, &'a str)],
-    /// How many bytes are to be written and flushed before the next line is read.
+    /// The number of bytes that must be written and flushed before the next line is read.
     due: usize,
     flushed: &'a Cell<usize>,
 }
@@ -42,7 +42,7 @@ impl Read for Waiting<'_> {
     }
 }
 
-/// A writer that tells how many bytes were flushed.
+/// A writer that reports how many bytes were flushed.
 #[derive(Drop)]
 struct Telling<'a> {
     held: Vec<u8>,
@@ -61,7 +61,7 @@ impl Write for Telling<'_> {
     }
 }
 
-/// Runs a session on these lines, and gives how it ended and what it wrote.
+/// Runs a session on these lines, and returns how it ended and its output.
 fn run_script(alloc: Global, script: &[(&str, &str)]) -> (Status, Vec<u8>) {
     let flushed = Cell::new(0);
     let mut reader = Waiting {
@@ -79,7 +79,7 @@ fn run_script(alloc: Global, script: &[(&str, &str)]) -> (Status, Vec<u8>) {
     (status, held)
 }
 
-/// Runs a session on these lines, which are to be answered so.
+/// Runs a session on these lines, whose answers must be these.
 fn is_answered(rt: &impl Abort, alloc: Global, script: &[(&str, &str)]) -> Result<(), Fail> {
     let (status, written) = run_script(alloc, script);
     let mut want = String::new(alloc);

@@ -1,7 +1,7 @@
-//! Want of memory at each place: what was answered stays, one line tells it, and nothing else is written.
+//! Memory allocation that fails at each place: earlier answers stay, one line reports it, and nothing else is
+//! written.
 //!
-//! The test takes the refusal as an answer. `rt try --test --fail-alloc N` makes the Nth allocation
-//! fail.
+//! The test accepts the failure as an answer. `rt try --test --fail-alloc N` makes the Nth allocation fail.
 
 use crate::program::run;
 use crate::tests::fixture::{HEAD, assert_status, check};
@@ -11,7 +11,7 @@ use turn_lines::status::Status;
 
 const CALLS: &str = "0 poll\n0 event\n0 recv udp 10.0.0.2:2000 192.168.0.1:1000 0001\n";
 
-/// Runs the session into this room, and gives how it ended and how many bytes are left.
+/// Runs the session with this buffer as its output. Returns how it ended and how many bytes are left.
 fn run_into(alloc: Global, input: &[u8], room: &mut [u8]) -> (Status, usize) {
     let mut reader = input;
     let mut writer = room;
@@ -19,7 +19,7 @@ fn run_into(alloc: Global, input: &[u8], room: &mut [u8]) -> (Status, usize) {
     (status, writer.len())
 }
 
-/// Whether this is what is written where so many calls were answered, and then memory was refused.
+/// Whether this is the output if this many calls were answered and then memory allocation failed.
 fn is_cut_short(written: &[u8], status: Status) -> bool {
     status == Status::OutOfMemory
         && (written == b"no memory\n".as_slice()

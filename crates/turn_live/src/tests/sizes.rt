@@ -6,7 +6,7 @@ use std::process::Abort;
 use std::test::Fail;
 use turn_lines::status::Status;
 
-/// A call of so many bytes, which brings zeros from the server.
+/// A call of this many bytes, with zeros from the server.
 fn call_of_size(alloc: Global, size: usize) -> Result<String, Fail> {
     let front = "0 recv udp 10.0.0.2:2000 192.168.0.1:1000 ";
     let room = size.checked_sub(front.len()).ok_or("too short")?;
@@ -21,7 +21,7 @@ fn a_line_of_a_mebibyte_is_read(rt: HostRuntime) -> Result<(), Fail> {
     follow(&rt, rt.alloc(), &input, Status::Answered, "ignored\nnone\n")
 }
 
-/// A session with this call behind another is to end by its size.
+/// A session with this call after another must end by its size.
 fn is_too_long(rt: &impl Abort, alloc: Global, call: &str) -> Result<(), Fail> {
     let want = "none\nline 3: bad size\n";
     follow(

@@ -1,4 +1,4 @@
-//! Readers and writers that fail at each place, and such as do little at a time.
+//! Readers and writers that fail at each place, and those that process few bytes at a time.
 
 use crate::program::{exit_code, run};
 use crate::tests::fixture::{assert_written, check, short_answer, short_input};
@@ -9,7 +9,7 @@ use std::process::ExitCode;
 use std::test::Fail;
 use turn_lines::status::Status;
 
-/// A reader that gives its first bytes, is interrupted, and then gives the others or fails.
+/// A reader that returns its first bytes, is interrupted, and then returns the others or fails.
 #[derive(Drop)]
 struct Cut<'a> {
     front: &'a [u8],
@@ -34,7 +34,7 @@ impl Read for Cut<'_> {
     }
 }
 
-/// How the session of an input ended that is cut at this place, and what it wrote.
+/// How the session of an input that is cut at this place ended, and its output.
 fn run_cut(alloc: Global, input: &[u8], at: usize, fails: bool) -> Result<(Status, Vec<u8>), Fail> {
     let front = input.get(..at).ok_or("behind the end")?;
     let rest = input.get(at..).ok_or("behind the end")?;
@@ -50,7 +50,7 @@ fn run_cut(alloc: Global, input: &[u8], at: usize, fails: bool) -> Result<(Statu
     Ok((status, written))
 }
 
-/// Whether the lines are answered that are cut at this place.
+/// Whether the lines are answered if they are cut at this place.
 fn is_answered(alloc: Global, input: &[u8], want: &[u8], at: usize) -> Result<bool, Fail> {
     let (status, written) = run_cut(alloc, input, at, false)?;
     Ok(status == Status::Answered && written.as_slice() == want)
@@ -67,12 +67,12 @@ fn lines_may_be_cut_anywhere(rt: HostRuntime) -> Result<(), Fail> {
     Ok(())
 }
 
-/// How many of these bytes are LF.
+/// The number of LF in these bytes.
 fn count_feeds(bytes: &[u8]) -> usize {
     bytes.iter().filter(|byte| **byte == b'\n').count()
 }
 
-/// Whether the whole lines are answered where the reader fails at this place, and then it is told.
+/// Whether the whole lines are answered if the reader fails at this place, and then that is reported.
 fn is_told_as_failed(alloc: Global, input: &[u8], at: usize) -> Result<bool, Fail> {
     let front = input.get(..at).ok_or("behind the end")?;
     let answers = short_answer(alloc, count_feeds(front))?;
@@ -91,7 +91,7 @@ fn a_failing_reader_is_told(rt: HostRuntime) -> Result<(), Fail> {
     Ok(())
 }
 
-/// A writer that takes a few bytes at a time, each time after an interruption, and fails once it has taken some, or at a
+/// A writer that takes a few bytes at a time, each time after an interruption, and fails after some bytes, or at a
 /// flush.
 #[derive(Drop)]
 struct Narrow {
@@ -125,7 +125,7 @@ impl Write for Narrow {
     }
 }
 
-/// How the session of an input ended whose writer fails after some bytes, and what it wrote until then.
+/// How the session of an input ended whose writer fails after some bytes, and its output until then.
 fn run_until_full(alloc: Global, input: &[u8], left: usize, flushes: bool) -> (Status, Vec<u8>) {
     let mut reader = input;
     let mut writer = Narrow {
@@ -139,7 +139,7 @@ fn run_until_full(alloc: Global, input: &[u8], left: usize, flushes: bool) -> (S
     (status, held)
 }
 
-/// Whether what is written until the writer fails is the beginning of what is wanted.
+/// Whether the output until the writer fails is the beginning of the expected output.
 fn is_cut_off(alloc: Global, input: &[u8], want: &[u8], left: usize) -> bool {
     let (status, written) = run_until_full(alloc, input, left, true);
     status == Status::WriteFailed

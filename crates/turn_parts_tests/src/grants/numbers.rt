@@ -10,7 +10,8 @@ use turn_stun::instant::Instant;
 use turn_stun::transaction::TransactionId;
 use turn_stun::transport::TransportType;
 
-/// The least number is taken, by a channel to this port. None is where none is left.
+/// Adds a channel with the least free number, to a peer with this port. Returns none if no number
+/// is free.
 fn take_number(ledger: &mut GrantLedger, port: u16) -> Result<Option<u16>, AllocError> {
     let request = TransactionId::from_bytes([7; 12]);
     ledger.reserve(1, 2, 0)?;
@@ -30,7 +31,8 @@ fn take_number(ledger: &mut GrantLedger, port: u16) -> Result<Option<u16>, Alloc
     Ok(Some(number))
 }
 
-/// The number that is not the next one from 4000 on, if one is, and how many were taken.
+/// The first number that is not the next one from 4000 on, if there is one, and how many were
+/// taken.
 fn take_all(ledger: &mut GrantLedger) -> Result<(Option<u16>, u16), AllocError> {
     for count in 0..0x2000 {
         let number = take_number(ledger, count)?;

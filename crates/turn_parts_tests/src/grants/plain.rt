@@ -14,10 +14,10 @@ use turn_stun::transaction::TransactionId;
 use turn_stun::transport::TransportType;
 use turn_types::AddressFamily;
 
-/// What the ledger of the test relays over.
+/// The transport over which the ledger of the test relays.
 pub(crate) const TRANSPORT: TransportType = TransportType::Tcp;
 
-/// How many nanoseconds a second has.
+/// The number of nanoseconds in a second.
 pub(crate) const SECOND: u64 = 1_000_000_000;
 
 /// One of eight addresses, the first four of IPv4.
@@ -44,12 +44,12 @@ pub(crate) fn family(n: u8) -> AddressFamily {
     }
 }
 
-/// The number of an address by which a row is known.
+/// The number of the address that identifies a row.
 pub(crate) fn byte_of(key: u32) -> u8 {
     (key % 256) as u8
 }
 
-/// The number of a channel by which a row is known.
+/// The channel number that identifies a row.
 pub(crate) fn number_of(key: u32) -> u16 {
     (key % 0x1_0000) as u16
 }
@@ -59,12 +59,12 @@ pub(crate) fn id(n: u8) -> TransactionId {
     TransactionId::from_bytes([n % 16; 12])
 }
 
-/// So many nanoseconds after the first moment.
+/// So many nanoseconds after time zero.
 pub(crate) fn at(nanos: u64) -> Instant {
     Instant::from_nanos(nanos)
 }
 
-/// What a row stands for, or what a request is for.
+/// What a row is, or what a request is for.
 #[derive(Clone, Copy, PartialEq, Eq)]
 pub(crate) enum Kind {
     Allocate,
@@ -76,7 +76,7 @@ pub(crate) enum Kind {
     Connection,
 }
 
-/// How far a row has come. A connection that waits to be bound is pending.
+/// The progress of a row. A connection that waits to be bound is pending.
 #[derive(Clone, Copy, PartialEq, Eq)]
 pub(crate) enum Stage {
     Pending,
@@ -84,7 +84,7 @@ pub(crate) enum Stage {
     Reserved,
 }
 
-/// Why there is an offer.
+/// The origin of an offer.
 #[derive(Clone, Copy, PartialEq, Eq)]
 pub(crate) enum Reason {
     Own,
@@ -92,11 +92,12 @@ pub(crate) enum Reason {
     Indication,
 }
 
-/// One grant. Addresses are numbers, moments nanoseconds; what a kind has no use for stays as it is made.
+/// One grant. Addresses are numbers, times nanoseconds; a field that a kind does not use keeps its first
+/// value.
 #[derive(Clone, Copy)]
 pub(crate) struct Row {
     pub(crate) kind: Kind,
-    /// What the row is known by among those of its kind.
+    /// What identifies the row among those of its kind.
     pub(crate) key: u32,
     /// The peer, or the relayed address.
     pub(crate) peer: u8,
@@ -104,15 +105,15 @@ pub(crate) struct Row {
     pub(crate) until: u64,
     /// The first lifetime of an allocation.
     pub(crate) lifetime: u64,
-    /// An allocation is expired, an offer was told.
+    /// An allocation is marked as expired, an offer as reported.
     pub(crate) is_marked: bool,
     pub(crate) reason: Reason,
-    /// It is on its way out.
+    /// It is to be removed.
     pub(crate) goes: bool,
 }
 
 impl Row {
-    /// A row that was just asked for.
+    /// A row that was just requested.
     pub(crate) fn new(kind: Kind, key: u32, peer: u8) -> Row {
         Row {
             kind,
@@ -127,18 +128,18 @@ impl Row {
         }
     }
 
-    /// Whether it is the one of this kind and key.
+    /// Whether the row has this kind and key.
     pub(crate) fn is(&self, kind: Kind, key: u32) -> bool {
         self.kind == kind && self.key == key
     }
 
-    /// Whether it is of this kind, and has come so far.
+    /// Whether the row has this kind and stage.
     pub(crate) fn is_at(&self, kind: Kind, stage: Stage) -> bool {
         self.kind == kind && self.stage == stage
     }
 }
 
-/// What one request is for, beside the kind and key of the row.
+/// What one request is for, with the kind and key of the row.
 #[derive(Clone, Copy)]
 pub(crate) struct Asked {
     pub(crate) id: u8,
@@ -147,7 +148,7 @@ pub(crate) struct Asked {
     pub(crate) purpose: Purpose,
 }
 
-/// Where a failure is told, if it is.
+/// Where the event of a failure is queued, if it is.
 #[derive(Clone, Copy, PartialEq, Eq)]
 pub(crate) enum Told {
     First,
@@ -184,7 +185,7 @@ impl Plain {
         None
     }
 
-    /// A request of this ID is for the row.
+    /// Lists a request with this ID for the row.
     pub(crate) fn list(&mut self, id: u8, row: &Row, purpose: Purpose) -> Result<(), AllocError> {
         self.asked.push(Asked {
             id: id % 16,
@@ -195,12 +196,12 @@ impl Plain {
         Ok(())
     }
 
-    /// No request is for the row any more.
+    /// Removes the listings for the row.
     pub(crate) fn unlist(&mut self, kind: Kind, key: u32) {
         drop_listed(&mut self.asked, &Row::new(kind, key, 0));
     }
 
-    /// A grant was asked for by a request of this draw.
+    /// Adds a pending grant, and lists the request of this draw for it.
     pub(crate) fn asks(
         &mut self,
         kind: Kind,
@@ -213,7 +214,7 @@ impl Plain {
         self.list(draw.m, &row, purpose)
     }
 
-    /// The row of this kind and key is as this one from now on, where it stands.
+    /// Replaces the row of this kind and key by this one, in its place.
     pub(crate) fn put(&mut self, changed: &Row) {
         for row in self.rows.iter_mut() {
             if row.is(changed.kind, changed.key) {
@@ -222,25 +223,25 @@ impl Plain {
         }
     }
 
-    /// An event waits after all others.
+    /// Queues an event after all others.
     pub(crate) fn wait(&mut self, event: TurnEvent) -> Result<(), AllocError> {
         self.events.push_back(event)?;
         Ok(())
     }
 
-    /// An event jumps before all others.
+    /// Queues an event before all others.
     pub(crate) fn jump(&mut self, event: TurnEvent) -> Result<(), AllocError> {
         self.events.push_front(event)?;
         Ok(())
     }
 
-    /// A row comes after all others.
+    /// Adds a row after all others.
     pub(crate) fn add(&mut self, row: &Row) -> Result<(), AllocError> {
         self.rows.push(*row)?;
         Ok(())
     }
 
-    /// The rows that are on their way out go, and what is listed for them.
+    /// Removes the rows that are marked for it, and what is listed for them.
     pub(crate) fn sweep(&mut self, told: Told) -> Result<(), AllocError> {
         for row in &self.rows {
             if row.goes {
@@ -252,7 +253,7 @@ impl Plain {
         Ok(())
     }
 
-    /// All rows go, and nobody is told.
+    /// Removes all rows, without an event.
     pub(crate) fn clear(&mut self) -> Result<(), AllocError> {
         for row in self.rows.iter_mut() {
             row.goes = true;
@@ -260,7 +261,7 @@ impl Plain {
         self.sweep(Told::Never)
     }
 
-    /// The row of this kind and key goes.
+    /// Removes the row of this kind and key.
     pub(crate) fn drop_row(&mut self, kind: Kind, key: u32, told: Told) -> Result<(), AllocError> {
         for row in self.rows.iter_mut() {
             row.goes = row.is(kind, key);
@@ -269,12 +270,12 @@ impl Plain {
     }
 }
 
-/// No request is for the row any more.
+/// Removes the listings for the row.
 pub(crate) fn drop_listed(asked: &mut Vec<Asked>, row: &Row) {
     asked.retain(|one| !row.is(one.kind, one.key));
 }
 
-/// The failure of the row is told, if it is.
+/// Queues the failure of the row, if there is one.
 fn tell_failure(events: &mut VecDeque<TurnEvent>, row: &Row, told: Told) -> Result<(), AllocError> {
     let Some(event) = failure(row) else {
         return Ok(());
@@ -287,7 +288,7 @@ fn tell_failure(events: &mut VecDeque<TurnEvent>, row: &Row, told: Told) -> Resu
     Ok(())
 }
 
-/// What is told of a row that failed.
+/// The event of a row that failed.
 fn failure(row: &Row) -> Option<TurnEvent> {
     let peer = address(row.peer);
     match row.kind {

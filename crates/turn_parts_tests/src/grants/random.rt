@@ -1,4 +1,4 @@
-//! 10,000 random changes of a ledger, against plain lists that are kept by hand.
+//! 10,000 random changes of a ledger, compared with plain lists that are kept by hand.
 
 mod answers;
 mod asks;
@@ -35,16 +35,16 @@ impl Random {
     }
 }
 
-/// What one change is drawn with.
+/// The values with which one change is drawn.
 #[derive(Clone, Copy)]
 pub(crate) struct Draw {
-    /// For which peer, and by which request.
+    /// The numbers of the peer and of the request.
     pub(crate) n: u8,
     pub(crate) m: u8,
     pub(crate) now: u64,
 }
 
-/// Room for far too much is refused, whichever list it is for.
+/// Room for far too many is refused, whichever list it is for.
 fn is_refused(rt: &impl Abort, ledger: &mut GrantLedger) {
     let far_too_many = usize::MAX / 64;
     same(rt, ledger.reserve(far_too_many, 0, 0).is_err(), true);
@@ -52,7 +52,7 @@ fn is_refused(rt: &impl Abort, ledger: &mut GrantLedger) {
     same(rt, ledger.reserve(1, 1, far_too_many).is_err(), true);
 }
 
-/// What the caller polls is what waits, in the same order.
+/// The caller polls what is queued, in the same order.
 fn polls(rt: &impl Abort, ledger: &mut GrantLedger, plain: &mut Plain) {
     same(rt, ledger.has_event(), !plain.events.is_empty());
     same(rt, ledger.next_event(), plain.events.pop_front());
@@ -60,7 +60,7 @@ fn polls(rt: &impl Abort, ledger: &mut GrantLedger, plain: &mut Plain) {
     same(rt, ledger.next_close(), plain.closes.pop_front());
 }
 
-/// The families that are asked for fail, before or after all that waits.
+/// The requested families fail, before or after all queued events.
 fn fails_families(
     ledger: &mut GrantLedger,
     plain: &mut Plain,
@@ -76,7 +76,7 @@ fn fails_families(
     plain.jump(failure)
 }
 
-/// A change of what was asked for, or of what time does.
+/// A change of what is requested, or by time.
 fn first_changes(
     ledger: &mut GrantLedger,
     plain: &mut Plain,
@@ -152,7 +152,7 @@ fn changes(
     third_changes(ledger, plain, kind - 19, draw)
 }
 
-/// One change after the other, and after each of them both are the same.
+/// Makes changes one after the other, and compares both after each of them.
 fn turns(rt: &impl Abort, ledger: &mut GrantLedger, plain: &mut Plain) -> Result<(), AllocError> {
     let mut random = Random { state: 1 };
     let mut now = 0u64;

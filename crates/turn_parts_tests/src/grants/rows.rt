@@ -1,4 +1,4 @@
-//! Worked rows that are the table's alone.
+//! Worked rows of the table alone.
 
 ghost use Rattle.std.specs.Prelude.{◌≡◌, ℕ, [], true};
 ghost use Rattle.std.specs.List.{list_all};
@@ -33,7 +33,7 @@ fn seconds(count: u64) -> Instant {
     Instant::from_nanos(count.saturating_mul(1_000_000_000))
 }
 
-/// An allocation of 1800 s at first.
+/// An allocation with a first lifetime of 1800 s.
 fn relay(expiry: u64) -> Relay {
     Relay {
         relayed: peer(),
@@ -55,7 +55,7 @@ fn reserved_channel() -> Grant
     Grant::Channel(0x4001, peer_ipv6(), Progress::Reserved(seconds(900)))
 }
 
-/// A data connection that is to be bound up to 40 s.
+/// A data connection that is to be bound by 40 s.
 fn waiting() -> DataConnection {
     DataConnection {
         local: peer(),
@@ -64,12 +64,12 @@ fn waiting() -> DataConnection {
     }
 }
 
-/// The REFRESH that asks for 1800 s.
+/// The REFRESH that requests 1800 s.
 fn refresh() -> Purpose {
     Purpose::ForRefresh(AddressFamily::IPV4, 1_800)
 }
 
-/// A ledger with these grants, which were asked for by a request for these purposes.
+/// A ledger with these grants, for which a request with these purposes was made.
 fn holding(alloc: Global, grants: &[Grant], purposes: &Purposes) -> Result<GrantLedger, AllocError>
     requires numbered { list_all is_numbered grants.now ≡ true }
     requires new { are_new [] grants.now ≡ true }
@@ -80,7 +80,7 @@ fn holding(alloc: Global, grants: &[Grant], purposes: &Purposes) -> Result<Grant
     Ok(ledger)
 }
 
-/// The least number that is left beside these grants.
+/// The least number that is free beside these grants.
 fn number_left(alloc: Global, grants: &[Grant]) -> Result<Option<u16>, AllocError>
     requires numbered { list_all is_numbered grants.now ≡ true }
     requires new { are_new [] grants.now ≡ true }
@@ -89,7 +89,8 @@ fn number_left(alloc: Global, grants: &[Grant]) -> Result<Option<u16>, AllocErro
     Ok(ledger.table().free_number())
 }
 
-/// Channels of both families share their numbers (RFC 8656, section 12): what is left is the least.
+/// Channels of both families share their numbers (RFC 8656, section 12): the free number is the
+/// least one.
 fn numbers_left(rt: &impl Abort, alloc: Global) -> Result<(), AllocError> {
     same(rt, number_left(alloc, &[])?, Some(0x4000));
     let pending = [pending_channel()];
@@ -101,7 +102,7 @@ fn numbers_left(rt: &impl Abort, alloc: Global) -> Result<(), AllocError> {
     Ok(())
 }
 
-/// Up to when the peer is reserved for a channel of these two.
+/// Until when the peer is reserved for a channel of these two.
 fn reserved_until(
     alloc: Global,
     peer: SocketAddr,
@@ -112,7 +113,7 @@ fn reserved_until(
     Ok(ledger.table().reserved_until(peer, now))
 }
 
-/// A reserved channel keeps its peer up to its moment, which is the last.
+/// A reserved channel keeps its peer until the end of its reservation, inclusive.
 fn moments_reserved(rt: &impl Abort, alloc: Global) -> Result<(), AllocError> {
     same(rt, reserved_until(alloc, peer(), seconds(0))?, None);
     let last = reserved_until(alloc, peer_ipv6(), seconds(900))?;
@@ -122,7 +123,8 @@ fn moments_reserved(rt: &impl Abort, alloc: Global) -> Result<(), AllocError> {
     Ok(())
 }
 
-/// What is to be refreshed first of an allocation, a permission and a channel, all up to 300 s.
+/// The purpose of the first refresh of an allocation, a permission and a channel, which all expire
+/// at 300 s.
 fn first_refresh(
     alloc: Global,
     asked: &Purposes,
@@ -138,7 +140,7 @@ fn first_refresh(
     Ok(ledger.table().first_refresh(now))
 }
 
-/// An allocation is refreshed 60 s before its end, and before what stands in it (our choice).
+/// An allocation is refreshed 60 s before its expiry, and before the grants in it (our choice).
 fn refreshes(rt: &impl Abort, alloc: Global) -> Result<(), AllocError> {
     let none = Purposes::none();
     let early = first_refresh(alloc, &none, seconds(239))?;
@@ -150,7 +152,7 @@ fn refreshes(rt: &impl Abort, alloc: Global) -> Result<(), AllocError> {
     Ok(())
 }
 
-/// When an allocation up to 1800 s and a permission up to 300 s ask for something.
+/// When an allocation that expires at 1800 s or a permission that expires at 300 s is due.
 fn soonest(alloc: Global, now: u64, pause: u64) -> Result<Instant, AllocError> {
     let permission = Grant::Permission(peer().ip(), Progress::Active(seconds(300)));
     let grants = [Grant::Allocation(relay(1_800)), permission];
@@ -159,14 +161,14 @@ fn soonest(alloc: Global, now: u64, pause: u64) -> Result<Instant, AllocError> {
     Ok(ledger.table().soonest(far, seconds(now), seconds(pause)))
 }
 
-/// A lapse within the pause is told before the refresh, which has to wait for the pause.
+/// An expiry within the pause comes before the refresh, which has to wait for the pause.
 fn wakeups(rt: &impl Abort, alloc: Global) -> Result<(), AllocError> {
     same(rt, soonest(alloc, 200, 0)?, seconds(240));
     same(rt, soonest(alloc, 299, 301)?, seconds(300));
     Ok(())
 }
 
-/// How many of an allocation and a connection that waits in it are left at this moment.
+/// How many of an allocation and a connection in it that waits to be bound are left at this time.
 fn left_at(alloc: Global, now: u64) -> Result<usize, AllocError> {
     let grants = [
         Grant::Allocation(relay(1_800)),

@@ -1,4 +1,4 @@
-//! What a call leaves where it finds no memory.
+//! What a call leaves if its memory allocation fails.
 
 use crate::fixture::{check, same};
 use crate::streams::{MESSAGE, end};

@@ -30,17 +30,17 @@ impl<'a> Model for ErrorCode<'a> {
 impl<'a> ErrorCode<'a> {
     /// 400 Bad Request (section 14.8): the request is malformed.
     pub const BAD_REQUEST: u16 = 400;
-    /// 401 Unauthenticated (section 14.8): the request lacks integrity that holds.
+    /// 401 Unauthenticated (section 14.8): the request lacks valid integrity.
     pub const UNAUTHORIZED: u16 = 401;
-    /// 403 Forbidden (RFC 8656, section 19): the server's policy forbids what is asked for.
+    /// 403 Forbidden (RFC 8656, section 19): the server's policy forbids what is requested.
     pub const FORBIDDEN: u16 = 403;
     /// 420 Unknown Attribute (section 14.8): the request has a required attribute that the server
     /// does not know.
     pub const UNKNOWN_ATTRIBUTE: u16 = 420;
-    /// 437 Allocation Mismatch (RFC 8656, section 19): an allocation is asked for where one stands,
-    /// or needed where none does.
+    /// 437 Allocation Mismatch (RFC 8656, section 19): an allocation is requested that exists already, or
+    /// needed but does not exist.
     pub const ALLOCATION_MISMATCH: u16 = 437;
-    /// 438 Stale Nonce (section 14.8): the nonce is no longer good.
+    /// 438 Stale Nonce (section 14.8): the nonce is no longer valid.
     pub const STALE_NONCE: u16 = 438;
     /// 440 Address Family not Supported (RFC 8656, section 19): the server has no relayed addresses
     /// of the family.
@@ -99,7 +99,7 @@ impl<'a> AttributeFromRaw<'a> for ErrorCode<'a> {
         if value.len() < 4 {
             return None;
         }
-        // The 21 bits in front are reserved, and ignored (section 14.8).
+        // The first 21 bits are reserved, and ignored (section 14.8).
         let class = value[2] % 8;
         let number = value[3];
         if class < 3 || class > 6 || number > 99 {

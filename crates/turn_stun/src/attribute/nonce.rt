@@ -9,8 +9,8 @@ use crate::transaction::TransactionId;
 use std::alloc::AllocError;
 use std::marker::Model;
 
-/// What the server wants to see again in the next request (RFC 8489, section 14.10): 1 to 763 bytes,
-/// which are not looked into. Contracts see it as these bytes.
+/// The bytes that the server expects in the next request (RFC 8489, section 14.10): 1 to 763 bytes, which
+/// are not interpreted. Contracts see it as these bytes.
 #[derive(Debug, Drop)]
 pub struct Nonce<'a> {
     bytes: &'a [u8],
@@ -27,7 +27,7 @@ impl<'a> Model for Nonce<'a> {
 }
 
 impl<'a> Nonce<'a> {
-    /// The nonce that is spelled by these bytes.
+    /// The nonce with these bytes.
     pub fn new(bytes: &'a [u8]) -> Nonce<'a>
         requires some { 1 ≤ length bytes.now }
         requires short { length bytes.now ≤ 763 }

@@ -37,8 +37,8 @@ impl PasswordAlgorithm {
 /// The algorithms that a server allows (RFC 8489, section 14.11): entries of a number and
 /// parameters, each padded to a multiple of four bytes. Contracts see it as the bytes of the value.
 ///
-/// Algorithms that nobody knows are passed over, and so are entries with parameters, which neither of
-/// the known ones has.
+/// Unknown algorithms are skipped, and so are entries with parameters, which neither of the known ones
+/// has.
 #[derive(Debug, Drop)]
 pub struct PasswordAlgorithms<'a> {
     bytes: &'a [u8],
@@ -56,8 +56,7 @@ impl<'a> Model for PasswordAlgorithms<'a> {
 }
 
 impl<'a> PasswordAlgorithms<'a> {
-    /// The value that these bytes are, or `None` where they are no list of whole entries. The empty
-    /// list is one.
+    /// The value with these bytes, or `None` if they are no list of whole entries. The empty list is one.
     pub fn from_bytes(bytes: &'a [u8]) -> Option<PasswordAlgorithms<'a>>
         ensures { result ≡ password_algorithms_of bytes.now }
     {

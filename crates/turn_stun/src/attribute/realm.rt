@@ -9,8 +9,8 @@ use crate::transaction::TransactionId;
 use std::alloc::AllocError;
 use std::marker::Model;
 
-/// The protection space in which a user and a password count (RFC 8489, section 14.9): 1 to 763
-/// bytes, which are not looked into. Contracts see it as these bytes.
+/// The protection space in which a user and a password are valid (RFC 8489, section 14.9): 1 to 763
+/// bytes, which are not interpreted. Contracts see it as these bytes.
 #[derive(Debug, Drop)]
 pub struct Realm<'a> {
     bytes: &'a [u8],
@@ -27,7 +27,7 @@ impl<'a> Model for Realm<'a> {
 }
 
 impl<'a> Realm<'a> {
-    /// The realm that is spelled by these bytes.
+    /// The realm with these bytes.
     pub fn new(bytes: &'a [u8]) -> Realm<'a>
         requires some { 1 ≤ length bytes.now }
         requires short { length bytes.now ≤ 763 }

@@ -11,15 +11,15 @@ pub trait AttributeFromRaw<'a>: Sized {
     // The number of the attribute's type.
     ghost kind: { ℕ };
 
-    // What a value gives under a transaction ID, with `None` for one that is malformed.
+    // The attribute that a value decodes to under a transaction ID, with `None` for a malformed one.
     ghost decodes: { List ℕ → ℕ → Option Self → Type 0 };
 
     /// The type of the attribute.
     fn attribute_type() -> AttributeType
         ensures { result.value ≡ kind };
 
-    /// The attribute with this value, or `None` where the value is malformed. Some values are
-    /// obscured by the transaction ID of their message (RFC 8489, section 14.2).
+    /// The attribute with this value, or `None` if the value is malformed. Some values are XORed with the
+    /// transaction ID of their message (RFC 8489, section 14.2).
     fn from_value(value: &'a [u8], id: TransactionId) -> Option<Self>
         ensures { decodes value.now id result };
 }

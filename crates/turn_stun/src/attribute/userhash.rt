@@ -9,8 +9,8 @@ use crate::transaction::TransactionId;
 use std::alloc::AllocError;
 use std::marker::Model;
 
-/// Who asks, as the SHA-256 of user and realm (RFC 8489, section 14.4): 32 bytes. Contracts see it
-/// as these bytes.
+/// The user who makes a request, as the SHA-256 of user and realm (RFC 8489, section 14.4): 32 bytes.
+/// Contracts see it as these bytes.
 #[derive(Clone, Copy, Debug, PartialEq, Eq)]
 pub struct Userhash {
     hash: [u8; 32],

@@ -9,8 +9,8 @@ use crate::transaction::TransactionId;
 use std::alloc::AllocError;
 use std::marker::Model;
 
-/// Who asks (RFC 8489, section 14.3): 1 to 508 bytes, which are not looked into. Contracts see it as
-/// these bytes.
+/// The user who makes a request (RFC 8489, section 14.3): 1 to 508 bytes, which are not interpreted.
+/// Contracts see it as these bytes.
 #[derive(Debug, Drop)]
 pub struct Username<'a> {
     bytes: &'a [u8],
@@ -27,7 +27,7 @@ impl<'a> Model for Username<'a> {
 }
 
 impl<'a> Username<'a> {
-    /// The user name that is spelled by these bytes.
+    /// The user name with these bytes.
     pub fn new(bytes: &'a [u8]) -> Username<'a>
         requires some { 1 ≤ length bytes.now }
         requires short { length bytes.now ≤ 508 }

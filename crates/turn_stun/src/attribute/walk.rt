@@ -17,7 +17,7 @@ pub(crate) struct AttributeWalk<'a> {
 impl<'a> AttributeWalk<'a> {
     ghost use Rattle.turn_stun.specs.Iterator.{attributes_ahead, found_from};
 
-    /// The attributes that these bytes are, the first of which has that offset.
+    /// The attributes in these bytes, the first of which has that offset.
     pub(crate) fn new(bytes: &'a [u8], offset: usize) -> AttributeWalk<'a>
         requires fits { offset + length bytes.now < 2 ^ 64 }
         requires whole { is_some (attributes_from 0 offset bytes.now) ≡ true }

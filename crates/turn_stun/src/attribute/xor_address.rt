@@ -1,4 +1,4 @@
-//! Addresses that are XORed, so that no device on the way rewrites them (RFC 8489, section 14.2).
+//! Addresses that are XORed, so that no device on the path rewrites them (RFC 8489, section 14.2).
 
 ghost use Rattle.std.specs.Prelude.{◌≡◌, ℕ, ◌^◌, ◌<◌, ◌∷◌, ◌++◌, length, drop, Some, IfSome, OnOk, OnErr};
 ghost use Rattle.std.specs.Net.Addr.{IsIpv6Addr, ipv4_octets};
@@ -16,8 +16,8 @@ const IPV4: u8 = 1;
 
 const IPV6: u8 = 2;
 
-/// A transport address as XOR-MAPPED-ADDRESS and TURN's address attributes spell it. Contracts see
-/// it as the address.
+/// A transport address as XOR-MAPPED-ADDRESS and TURN's address attributes encode it. Contracts see it as
+/// the address.
 #[derive(Clone, Copy, Debug, PartialEq, Eq)]
 pub struct XorSocketAddr {
     addr: SocketAddr,
@@ -48,12 +48,12 @@ impl XorSocketAddr {
         self.addr
     }
 
-    /// The address that a value spells under a transaction ID, or `None` where the value is
-    /// malformed: its length is not that of its family, or the family is neither 1 nor 2. Flow
-    /// information and scope of an IPv6 address are 0, since they are not sent.
+    /// The address that a value encodes under a transaction ID, or `None` if the value is malformed: its
+    /// length is not that of its family, or the family is neither 1 nor 2. Flow information and scope of
+    /// an IPv6 address are 0, since they are not sent.
     pub fn decode(value: &[u8], id: TransactionId) -> Option<XorSocketAddr>
         ensures addr { result ≡ xor_addr value.now id }
-        // It is written again as it was, the unread byte aside.
+        // It is written again unchanged, except the unread byte.
         ensures again { IfSome result (λ addr. xor_value addr id ≡ 0 ∷ drop 1 value.now) }
     {
         if value.len() == 8 && value[1] == IPV4 {
@@ -76,11 +76,11 @@ impl XorSocketAddr {
         }
     }
 
-    /// Writes the value into a place of its length, `value_len`.
+    /// Writes the value into a slice of its length, `value_len`.
     pub fn encode(&self, id: TransactionId, place: &mut [u8])
         requires { length place.old ≡ xor_value_len self.now }
         ensures value { place.new ≡ xor_value self.now id }
-        // It is read again as it was, but for flow information and scope.
+        // It is read again unchanged, except flow information and scope.
         ensures again { xor_addr place.new id ≡ Some (plain self.now) }
     {
         match self.addr {
@@ -101,14 +101,14 @@ impl XorSocketAddr {
     }
 }
 
-/// A port as it is sent, or as it was before.
+/// A port as it is sent, or the original of one that was sent.
 fn xored_port(port: u16) -> u16
     ensures { result ≡ xored_port port }
 {
     port ^ 0x2112
 }
 
-/// The IPv4 address of a value of eight bytes.
+/// The IPv4 address in a value of eight bytes.
 fn ipv4_of(value: &[u8]) -> SocketAddrV4
     requires { length value.now ≡ 8 }
     ensures { result ≡ xor_ipv4 value.now }
@@ -123,7 +123,7 @@ fn ipv4_of(value: &[u8]) -> SocketAddrV4
     SocketAddrV4::new(ip, port)
 }
 
-/// The IPv6 address of a value of twenty bytes.
+/// The IPv6 address in a value of twenty bytes.
 fn ipv6_of(value: &[u8], id: TransactionId) -> SocketAddrV6
     requires { length value.now ≡ 20 }
     ensures { result ≡ xor_ipv6 value.now id }

@@ -12,7 +12,8 @@ use crate::message::seen::IntegrityBefore;
 
 /// The attributes of a message that are seen, each with its offset, in the order of the message.
 ///
-/// What follows an integrity attribute is passed over (RFC 8489, sections 14.5 and 14.6).
+/// Attributes that follow an integrity attribute and are to be ignored are skipped (RFC 8489, sections
+/// 14.5 and 14.6).
 #[derive(Debug, Drop)]
 pub struct MessageAttributesIter<'a> {
     walk: AttributeWalk<'a>,
@@ -20,7 +21,7 @@ pub struct MessageAttributesIter<'a> {
 }
 
 impl<'a> MessageAttributesIter<'a> {
-    /// The seen ones of the attributes that these bytes are, the first of which has that offset.
+    /// The seen ones of the attributes in these bytes, the first of which has that offset.
     pub(crate) fn new(bytes: &'a [u8], offset: usize) -> MessageAttributesIter<'a>
         requires fits { offset + length bytes.now < 2 ^ 64 }
         requires whole { is_some (attributes_from 0 offset bytes.now) ≡ true }

@@ -12,28 +12,28 @@ use crate::transaction::TransactionId;
 /// What a message is for.
 #[derive(Clone, Copy, Debug, PartialEq, Eq)]
 pub enum MessageClass {
-    /// It asks, and a response is awaited.
+    /// A request, which awaits a response.
     Request,
-    /// It tells, and nothing is awaited.
+    /// An indication, which awaits none.
     Indication,
-    /// It grants a request.
+    /// A success response, which grants a request.
     Success,
-    /// It refuses a request.
+    /// An error response, which refuses a request.
     Error,
 }
 
 /// The method and class of a message: the first two bytes of its header.
 #[derive(Clone, Copy, Debug, PartialEq, Eq)]
 pub struct MessageType {
-    /// What is asked, granted, refused or told.
+    /// The method of the request, indication or response.
     pub method: Method,
     /// Which of these it is.
     pub class: MessageClass,
 }
 
 impl MessageType {
-    /// The type with this 14-bit number, in which the two bits of the class stand between those of
-    /// the method.
+    /// The type with this 14-bit number, in which the two bits of the class are between those of the
+    /// method.
     pub fn from_number(number: u16) -> MessageType
         requires { number < 2 ^ 14 }
         ensures method { result.method.value ≡ method_of number }
@@ -80,7 +80,7 @@ impl MessageClass {
     }
 }
 
-/// The header of a message (RFC 8489, section 5), whatever stands behind it.
+/// The header of a message (RFC 8489, section 5), whatever follows it.
 #[derive(Clone, Copy, Debug, PartialEq, Eq)]
 pub struct MessageHeader {
     /// The method and the class.
@@ -95,12 +95,12 @@ impl MessageHeader {
     /// The bytes of a header.
     pub const LENGTH: usize = 20;
 
-    /// The header at the front of the bytes. Bytes behind it are unread.
+    /// The header at the start of the bytes. Bytes after it are unread.
     ///
     /// # Errors
     ///
-    /// `Short` where there are fewer than 20 bytes, else `NotStun` where the first two bits are not
-    /// zero, the cookie is another, or the length is no multiple of four.
+    /// `Short` if there are fewer than 20 bytes, else `NotStun` if the first two bits are not zero, the
+    /// cookie is another, or the length is no multiple of four.
     pub fn from_bytes(bytes: &[u8]) -> Result<MessageHeader, ParseError>
         ensures found { IsOk result ↔ (header_fault_of bytes.now ≡ None) }
         ensures method { IfOk result (λ header. header.message_type.method.value ≡ method_of (type_of bytes.now)) }

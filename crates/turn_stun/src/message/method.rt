@@ -2,7 +2,7 @@
 
 ghost use Rattle.std.specs.Prelude.{◌≡◌, ◌<◌};
 
-/// What a request asks for, as Binding or TURN's Allocate: a number of twelve bits.
+/// The operation of a message, such as Binding or TURN's Allocate: a number of twelve bits.
 ///
 /// The crates above name theirs by literals, as `Method { value: 3 }`.
 #[derive(Clone, Copy, Debug, PartialEq, Eq)]

@@ -8,7 +8,7 @@ use crate::attribute::RawAttribute;
 use crate::error::ParseError;
 use crate::transaction::TransactionId;
 
-/// The first thing that keeps the bytes from being a message.
+/// The first fault that keeps the bytes from being a message.
 #[tactic(auto, unfolding(crate::specs::Message::fault_of))]
 pub(crate) fn fault_in(bytes: &[u8]) -> Option<ParseError>
     ensures { result ≡ fault_of bytes.now }

@@ -1,21 +1,21 @@
-//! Which attributes count behind an integrity attribute.
+//! Which attributes are seen after an integrity attribute.
 
 ghost use Rattle.std.specs.Prelude.{◌≡◌, ◌||◌};
 ghost use Rattle.turn_stun.specs.Attributes.{is_seen, is_sha1, is_sha256};
 
 use crate::attribute::AttributeType;
 
-/// The integrity attributes that stand before a place of a message.
+/// The integrity attributes that precede a place in a message.
 #[derive(Clone, Copy, Debug)]
 pub(crate) struct IntegrityBefore {
-    /// One of the two stands there.
+    /// One of the two precedes it.
     pub(crate) any: bool,
-    /// MESSAGE-INTEGRITY-SHA256 stands there.
+    /// MESSAGE-INTEGRITY-SHA256 precedes it.
     pub(crate) sha256: bool,
 }
 
 impl IntegrityBefore {
-    /// At the front of a message nothing stands before.
+    /// At the start of a message none precedes.
     pub(crate) const NONE: IntegrityBefore = IntegrityBefore {
         any: false,
         sha256: false,
@@ -30,7 +30,7 @@ impl IntegrityBefore {
             || (kind == AttributeType::MESSAGE_INTEGRITY_SHA256 && !self.sha256)
     }
 
-    /// What stands before the next place, where an attribute of the type is between.
+    /// What precedes the next place, with an attribute of the type in between.
     pub(crate) fn behind(self, kind: AttributeType) -> IntegrityBefore
         ensures any { result.any ≡ (self.any || is_sha1 kind.value || is_sha256 kind.value) }
         ensures sha256 { result.sha256 ≡ (self.sha256 || is_sha256 kind.value) }

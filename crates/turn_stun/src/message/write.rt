@@ -1,4 +1,4 @@
-//! Messages that this side makes (RFC 8489, sections 5 and 14).
+//! Messages that are written (RFC 8489, sections 5 and 14).
 
 ghost use Rattle.std.specs.Prelude.{◌≡◌, ℕ, ◌+◌, ◌-◌, ◌^◌, ◌<◌, ◌≤◌, ◌↔◌, [], ◌++◌, length, take, replicate, if◌then◌else◌, is_ok, OnOk, OnErr, IfOk, IsErrOf};
 ghost use Rattle.std.specs.Int.{w16, to_be_bytes};
@@ -24,7 +24,7 @@ const HEADER_LEN: usize = 20;
 /// The most bytes that attributes take: the greatest multiple of four that the length field holds.
 const MAX_ATTRIBUTES_LEN: usize = 65_532;
 
-/// Room for a signed request of TURN, so that most messages are written without growing again where the
+/// Room for a signed request of TURN, so that most messages are written without another allocation if the
 /// caller names no length.
 const USUAL_LEN: usize = 256;
 
@@ -104,8 +104,7 @@ fn append_attribute<A: AttributeWrite>(
     append_padding(out, padded_len(len) - len)
 }
 
-/// Appends the attribute to a message, and sets the length to match. On an error the message is as
-/// before.
+/// Appends the attribute to a message, and adjusts the length. On an error the message is as before.
 fn extend<A: AttributeWrite>(
     message: &mut Vec<u8>,
     attribute: &A,
@@ -146,12 +145,12 @@ impl MessageWriteVec {
         MessageWriteVec::builder_with_capacity(alloc, message_type, id, USUAL_LEN)
     }
 
-    /// The same with room for `capacity` bytes in all, the 20 of the header among them. Where the message
-    /// comes to no more, memory is asked for this once.
+    /// The same with room for `capacity` bytes in all, the 20 of the header among them. If the message
+    /// grows no longer, memory is allocated only once.
     ///
     /// # Errors
     ///
-    /// `AllocError` where there is no memory.
+    /// `AllocError` if memory allocation fails.
     pub fn builder_with_capacity(
         alloc: Global,
         message_type: MessageType,
@@ -230,20 +229,20 @@ impl MessageWriteVec {
         MessageType::from_number(u16_at(self.bytes.as_slice(), 0))
     }
 
-    /// Makes room for `additional` bytes behind those that are there. While the message grows by no more,
-    /// no memory is asked for.
+    /// Makes room for `additional` bytes after the present ones. While the message grows by no more, no
+    /// memory is allocated.
     ///
     /// # Errors
     ///
-    /// `AllocError` where there is no memory.
+    /// `AllocError` if memory allocation fails.
     pub fn reserve(&mut self, additional: usize) -> Result<(), AllocError>
         ensures { self.new ≡ self.old }
     {
         self.bytes.reserve_exact(additional)
     }
 
-    /// Takes the attributes off that stand behind the first `len` bytes. What is left has to be a message:
-    /// so it is where the message was of that length before, whatever was added since. It wants no memory.
+    /// Removes the attributes after the first `len` bytes. The rest has to be a message: it is one if the
+    /// message had that length before, whatever was added since. Allocates no memory.
     pub fn truncate(&mut self, len: usize)
         requires within { len ≤ length self.old }
         requires whole { IsWritten (cut_to len self.old) }
@@ -257,8 +256,8 @@ impl MessageWriteVec {
     ///
     /// # Errors
     ///
-    /// `TooLong` where the attributes would take more than 65,532 bytes; else `OutOfMemory` where
-    /// there is no memory. The message is then as before.
+    /// `TooLong` if the attributes would take more than 65,532 bytes; else `OutOfMemory` if memory
+    /// allocation fails. The message is then as before.
     pub fn add_attribute<A: AttributeWrite>(&mut self, attribute: &A) -> Result<(), WriteError>
         ensures text { OnOk result (self.new ≡ with_attribute (A.written_kind attribute.now) (A.encoded attribute.now (id_of self.old)) self.old) }
         ensures added { OnOk result (AddsAttribute self.old self.new (A.written_kind attribute.now) (A.encoded attribute.now (id_of self.old))) }

@@ -16,13 +16,13 @@ static ZERO_SEED_IDS: [&str; 6] = [
     "b2ee65869f07e7be5551387a",
 ];
 
-/// The ID is printed so.
+/// The ID is printed as this text.
 fn is_printed(rt: &impl Abort, alloc: Global, id: TransactionId, want: &str) {
     let text = format!(in alloc; "{id:?}").expect(rt, "memory");
     same(rt, text.as_str(), want);
 }
 
-/// The source gives this ID, which is looked at first.
+/// The source returns this ID, first as its candidate.
 fn gives(rt: &impl Abort, alloc: Global, source: &mut NumberSource, want: &str) {
     let candidate = source.candidate();
     let drawn = source.draw();

@@ -1,7 +1,6 @@
-//! Want of memory at each place: what it answers, and what stands after it.
+//! Memory allocation that fails at each place: the answer, and the state after it.
 //!
-//! Each test takes the refusal as an answer. `rt try --test --fail-alloc N` makes the Nth allocation
-//! fail.
+//! Each test accepts the failure as an answer. `rt try --test --fail-alloc N` makes the Nth allocation fail.
 
 use crate::agent::fixture::{agent_with, at, id};
 use crate::agent::steps::{due, is_sent, sends, waits};
@@ -11,7 +10,7 @@ use std::process::Abort;
 use turn_agent::agent::{StunAgent, StunAgentPollRet};
 use turn_stun::transport::TransportType;
 
-/// An agent that sends three times.
+/// An agent that sends each request three times.
 fn agent(alloc: Global) -> StunAgent {
     agent_with(alloc, TransportType::Udp, 2_000_000, u64::MAX, 3, 5)
 }
@@ -22,7 +21,8 @@ fn state_of(agent: &mut StunAgent) -> (bool, bool) {
     (agent.is_outstanding(id(1)), agent.poll(at(0)) == idle)
 }
 
-/// Sends a request, which is outstanding just where there was memory for it, and else sends it again.
+/// Sends a request, which is outstanding exactly if memory allocation succeeded. If it failed, sends it
+/// again.
 fn sends_again(rt: &impl Abort, agent: &mut StunAgent) {
     let sent = is_sent(rt, agent, 1, 0);
     same(rt, state_of(agent), (sent, !sent));
@@ -37,7 +37,7 @@ fn refused_request_is_not_outstanding(rt: HostRuntime) {
     sends_again(&rt, &mut agent);
 }
 
-/// Sends what is due again, a second time where there is no memory the first time.
+/// Sends the due retransmission; if memory allocation fails, a second time.
 fn resends_twice(rt: &impl Abort, agent: &mut StunAgent) {
     let mut sent = due(rt, agent, 2_000_000);
     if !sent.1 {

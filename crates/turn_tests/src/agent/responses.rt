@@ -9,7 +9,7 @@ use turn_agent::agent::StunAgent;
 use turn_stun::message::Message;
 use turn_stun::transport::TransportType;
 
-/// Where a message comes from.
+/// The source of a message.
 #[derive(Clone, Copy)]
 enum Origin {
     Server,
@@ -26,8 +26,8 @@ fn address_of(origin: Origin) -> SocketAddr {
     }
 }
 
-/// A message: its type, the number of its ID, where it comes from, whether request 1 is outstanding
-/// before it, and whether it is accepted.
+/// A message: its type, the number of its ID, its source, whether request 1 is outstanding before it, and
+/// whether it is accepted.
 type Row = ([u8; 2], u32, Origin, bool, bool);
 
 static ROWS: [Row; 7] = [

@@ -1,4 +1,4 @@
-//! Worked schedules: when a request is sent, and when it is given up.
+//! Worked schedules: when a request is sent, and when it times out.
 
 use crate::agent::fixture::{agent_with, local, server};
 use crate::agent::steps::{due, sends};
@@ -14,8 +14,8 @@ const MS: u64 = 1_000_000;
 
 const SECOND: u64 = 1_000_000_000;
 
-/// The timers (the first wait, the greatest, how many sends, the last wait), the transport, when the
-/// request is sent, and when it is given up.
+/// The timers (the first wait, the maximum, the number of transmissions, the last wait), the transport, the
+/// times at which the request is sent, and the time at which it times out.
 type Schedule = (u64, u64, u32, u64, TransportType, &'static [u64], u64);
 
 static SCHEDULES: [Schedule; 6] = [
@@ -75,7 +75,7 @@ static SCHEDULES: [Schedule; 6] = [
     ),
 ];
 
-/// The moment of the next step after this one, or `None` where the request is given up at this one.
+/// The time of the next step after this one, or `None` if the request times out at this one.
 fn step_after(agent: &mut StunAgent, now: Instant) -> Option<Instant> {
     match agent.poll(now) {
         StunAgentPollRet::WaitUntil(moment) => Some(now.max(moment)),
@@ -83,8 +83,8 @@ fn step_after(agent: &mut StunAgent, now: Instant) -> Option<Instant> {
     }
 }
 
-/// Does what the agent tells at the moments that it tells, where a request is due at these: when it
-/// was given up, in at most 40 steps.
+/// Polls the agent at the times that it returns; a request must be due at these times. Returns when it timed
+/// out, in at most 40 steps.
 fn end_of(rt: &impl Abort, agent: &mut StunAgent, moments: &mut Iter<u64>) -> Option<u64> {
     let mut now = Instant::ZERO;
     for _ in 0..40 {
@@ -99,7 +99,7 @@ fn end_of(rt: &impl Abort, agent: &mut StunAgent, moments: &mut Iter<u64>) -> Op
     None
 }
 
-/// The agent sends a request at these moments, the first of which is 0, and gives it up at that one.
+/// The agent sends a request at these times, the first of which is 0, and the request times out at `end`.
 fn follows(rt: &impl Abort, mut agent: StunAgent, moments: &[u64], end: u64) {
     let mut wanted = moments.iter();
     sends(rt, &mut agent, 1, 0);
@@ -120,7 +120,7 @@ fn requests_follow_their_schedule(rt: HostRuntime) {
     }
 }
 
-/// When a request of the default timers is sent.
+/// The times at which a request with the default timers is sent.
 static DEFAULT_MOMENTS: [u64; 7] = [
     0,
     500_000_000,

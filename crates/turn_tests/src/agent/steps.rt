@@ -1,32 +1,32 @@
-//! Calls of an agent as rows of data. Moments are in nanoseconds, and each request carries its number.
+//! Calls of an agent as rows of data. Times are in nanoseconds, and each request has a number.
 
 use crate::agent::fixture::{at, id, server};
 use crate::fixture::same;
 use std::process::Abort;
 use turn_agent::agent::{StunAgent, StunAgentPollRet};
 
-/// A call of an agent, and what it answers.
+/// A call of an agent, and its answer.
 #[derive(Clone, Copy)]
 pub enum Step {
-    /// A request of this number is sent at that moment.
+    /// The request with this number is sent at this time.
     Sends(u32, u64),
-    /// At this moment the agent tells that one.
+    /// At the first time the agent returns the second as its deadline.
     Waits(u64, u64),
-    /// At this moment the request of that number is sent again.
+    /// At this time the request with this number is retransmitted.
     Resends(u64, u32),
-    /// At this moment no request is due.
+    /// At this time no request is due.
     SendsNothing(u64),
-    /// At this moment the request of that number is given up.
+    /// At this time the request with this number times out.
     GivesUp(u64, u32),
-    /// The request of this number is ended, and whether it was outstanding.
+    /// The request with this number is ended, and whether it was outstanding.
     Ends(u32, bool),
-    /// So many requests are outstanding.
+    /// The number of outstanding requests.
     Outstanding(usize),
-    /// For a caller with this moment the least one is that.
+    /// For a caller with the first time the earliest time is the second.
     Earliest(u64, u64),
 }
 
-/// Sends a request, and whether there was memory for it.
+/// Sends a request, and returns whether memory allocation succeeded.
 pub fn is_sent(rt: &impl Abort, agent: &mut StunAgent, n: u32, now: u64) -> bool {
     let id = id(n);
     assert!(rt; !agent.is_outstanding(id));
@@ -39,7 +39,7 @@ pub fn sends(rt: &impl Abort, agent: &mut StunAgent, n: u32, now: u64) {
     same(rt, is_sent(rt, agent, n, now), true);
 }
 
-/// The number of the request that is due, and whether there was memory for it.
+/// The number of the due request, and whether memory allocation succeeded.
 pub fn due(rt: &impl Abort, agent: &mut StunAgent, now: u64) -> (Option<u32>, bool) {
     match agent.poll_transmit(at(now)) {
         Ok(Some(packet)) => {
@@ -70,7 +70,7 @@ pub fn gives_up(rt: &impl Abort, agent: &mut StunAgent, now: u64, n: u32) {
     tells(rt, agent, now, StunAgentPollRet::TransactionTimedOut(id(n)));
 }
 
-/// The step goes as it says.
+/// The step has the expected answer.
 pub fn follow(rt: &impl Abort, agent: &mut StunAgent, step: Step) {
     match step {
         Step::Sends(n, now) => sends(rt, agent, n, now),
@@ -84,7 +84,7 @@ pub fn follow(rt: &impl Abort, agent: &mut StunAgent, step: Step) {
     }
 }
 
-/// Each step goes as it says.
+/// Each step has the expected answer.
 pub fn follow_all(rt: &impl Abort, agent: &mut StunAgent, steps: &[Step]) {
     for step in steps {
         follow(rt, agent, *step);

@@ -1,4 +1,4 @@
-//! Credentials, what is printed of them, and defaults.
+//! Credentials, their printed text, and defaults.
 
 use crate::auth::fixture::challenged;
 use crate::fixture::{check, same, same_bytes};
@@ -61,7 +61,7 @@ fn a_copy_has_the_same_content(rt: HostRuntime) -> Result<(), Fail> {
     Ok(())
 }
 
-/// Credentials with a password to look for.
+/// Credentials with a recognisable password.
 fn secret(alloc: Global) -> Result<TurnCredentials, CredentialsError> {
     TurnCredentials::new(alloc, b"AB", b"secret")
 }
@@ -74,7 +74,7 @@ fn no_password_is_printed(rt: HostRuntime) -> Result<(), Fail> {
     Ok(())
 }
 
-/// A client that was challenged, and got other credentials then.
+/// A client that was challenged, and then got other credentials.
 fn secret_client(rt: &impl Abort, alloc: Global) -> Box<LongTermClientAuth> {
     let mut auth = challenged(rt, alloc, IntegrityAlgorithm::Sha1);
     auth.set_credentials(secret(alloc).expect(rt, "memory"));

@@ -1,4 +1,4 @@
-//! Clients, the challenges that they take, and what they sign.
+//! Clients, the challenges that they take, and the messages that they sign.
 
 ghost use Rattle.std.specs.Prelude.{◌≡◌, true, IfOk};
 ghost use Rattle.turn_stun.specs.Message.{attributes_of};
@@ -23,8 +23,8 @@ use turn_stun::transaction::TransactionId;
 /// Both password algorithms, SHA-256 first.
 pub(crate) const BOTH_ALGORITHMS: &[u8] = b"\x00\x02\x00\x00\x00\x01\x00\x00";
 
-// Clients stand in a box. A function that holds one by itself is far more to prove, since a proof opens
-// all that is dropped at its end.
+// Clients are boxed: a function that owns one directly costs far more to prove, since a proof opens all
+// values that are dropped at its end.
 
 /// A client without credentials.
 pub(crate) fn nobody(alloc: Global) -> Result<Box<LongTermClientAuth>, AllocError> {
@@ -38,7 +38,7 @@ pub(crate) fn client(alloc: Global) -> Result<Box<LongTermClientAuth>, Credentia
     Ok(auth)
 }
 
-/// Adds an attribute of that type and value.
+/// Adds an attribute with this type and value.
 pub(crate) fn add(
     message: &mut MessageWriteVec,
     kind: u16,
@@ -47,7 +47,7 @@ pub(crate) fn add(
     message.add_attribute(&raw(kind, value))
 }
 
-/// The bytes of an error response with that code, realm, nonce and value of PASSWORD-ALGORITHMS.
+/// The bytes of an error response with this code, realm, nonce and value of PASSWORD-ALGORITHMS.
 pub(crate) fn denial(
     rt: &impl Abort,
     alloc: Global,
@@ -68,13 +68,13 @@ pub(crate) fn denial(
     Ok(message.finish())
 }
 
-/// How the client judges the bytes, which are a message.
+/// The client's verdict on these bytes, which are a message.
 pub(crate) fn judge(rt: &impl Abort, auth: &LongTermClientAuth, bytes: &[u8]) -> Validation {
     let message = Message::from_bytes(bytes).expect(rt, "a message");
     auth.validate_incoming_message(&message)
 }
 
-/// Asserts how the client judges the bytes, which are a message.
+/// Asserts the client's verdict on these bytes, which are a message.
 pub(crate) fn assert_judged(
     rt: &impl Abort,
     auth: &LongTermClientAuth,
@@ -84,7 +84,7 @@ pub(crate) fn assert_judged(
     same(rt, judge(rt, auth, bytes), expected);
 }
 
-/// Takes the challenge that the bytes are.
+/// Takes the challenge in these bytes.
 pub(crate) fn take(
     rt: &impl Abort,
     auth: &mut LongTermClientAuth,
@@ -98,7 +98,7 @@ pub(crate) fn take(
     Ok(())
 }
 
-/// Takes the challenge of that code, realm, nonce and value of PASSWORD-ALGORITHMS.
+/// Takes the challenge with this code, realm, nonce and value of PASSWORD-ALGORITHMS.
 pub(crate) fn challenge(
     rt: &impl Abort,
     alloc: Global,
@@ -113,7 +113,7 @@ pub(crate) fn challenge(
     Ok(())
 }
 
-/// Takes another challenge of `realm` with that nonce and value of PASSWORD-ALGORITHMS.
+/// Takes another challenge of `realm` with this nonce and value of PASSWORD-ALGORITHMS.
 pub(crate) fn accept(
     rt: &impl Abort,
     alloc: Global,
@@ -138,7 +138,7 @@ pub(crate) fn challenged(
     auth
 }
 
-/// An ALLOCATE of that class, which carries nothing yet.
+/// An ALLOCATE of this class, without attributes.
 pub(crate) fn bare(alloc: Global, class: MessageClass) -> Result<MessageWriteVec, AllocError>
     ensures { IfOk result (λ message. is_unsigned (attributes_of message) ≡ true) }
 {
@@ -151,7 +151,7 @@ pub(crate) fn bare(alloc: Global, class: MessageClass) -> Result<MessageWriteVec
     Ok(message)
 }
 
-/// A request to allocate, which carries REQUESTED-TRANSPORT and LIFETIME, and has no room for more.
+/// An ALLOCATE request with REQUESTED-TRANSPORT and LIFETIME, whose buffer has no room for more.
 pub(crate) fn allocate(alloc: Global) -> Result<MessageWriteVec, WriteError>
     ensures { IfOk result (λ message. is_unsigned (attributes_of message) ≡ true) }
 {
@@ -166,7 +166,7 @@ pub(crate) fn allocate(alloc: Global) -> Result<MessageWriteVec, WriteError>
     Ok(message)
 }
 
-/// Signs a message for which there is room.
+/// Signs a message whose buffer has room for that.
 pub(crate) fn sign(
     rt: &impl Abort,
     auth: &LongTermClientAuth,

@@ -46,7 +46,7 @@ const RFC_2202: [(&[u8], &[u8], &[u8]); 7] = [
     ),
 ];
 
-/// Key, text and HMAC-SHA256 of RFC 4231, section 4. The fifth is told by its first half alone.
+/// Key, text and HMAC-SHA256 of RFC 4231, section 4. The fifth has only its first half.
 const RFC_4231: [(&[u8], &[u8], &[u8]); 7] = [
     (
         &[0x0b; 20],

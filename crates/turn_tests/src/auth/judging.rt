@@ -1,4 +1,4 @@
-//! How a client judges what a server sends.
+//! The client's verdict on messages of a server.
 
 use crate::auth::fixture::{
     BOTH_ALGORITHMS, accept, add, assert_judged, challenge, challenged, client, denial, judge,
@@ -28,7 +28,7 @@ const SIGNED_SHA256: &[u8] =
     \x0c\xea\x5c\x3a\xdc\xdc\x09\xc3\x3e\x35\x6c\x63\xbc\x0d\x3c\x52\x14\xfa\x72\xb3\
     \x9e\x2d\x71\x34";
 
-/// The same with FINGERPRINT in front of the integrity, and with nothing there.
+/// The same with FINGERPRINT before the integrity, and with nothing there.
 const BEHIND_FINGERPRINT: &[u8] =
     b"\x01\x03\x00\x28\x21\x12\xa4\x42\x53\x86\xbd\x28\xbd\xd2\x19\xb8\xa0\x8d\xed\x1a\
     \x00\x0d\x00\x04\x00\x00\x03\xe8\x80\x28\x00\x04\x01\x02\x03\x04\x00\x08\x00\x14\
@@ -77,7 +77,7 @@ const SHA1_ALONE: Supported = (IntegrityAlgorithm::Sha1, IntegrityAlgorithm::Sha
 
 const SHA256_ALONE: Supported = (IntegrityAlgorithm::Sha256, IntegrityAlgorithm::Sha256);
 
-/// How the client judges the denial with that code, realm, nonce and value of PASSWORD-ALGORITHMS.
+/// The client's verdict on an error response with this code, realm, nonce and value of PASSWORD-ALGORITHMS.
 fn judge_denial(
     rt: &impl Abort,
     alloc: Global,
@@ -91,7 +91,7 @@ fn judge_denial(
     judge(rt, auth, bytes.as_slice())
 }
 
-/// Asserts how the client judges each of these messages.
+/// Asserts the client's verdict on each of these messages.
 fn assert_all_judged(rt: &impl Abort, auth: &LongTermClientAuth, rows: &[(&[u8], Validation)]) {
     for (bytes, expected) in rows {
         assert_judged(rt, auth, bytes, *expected);
@@ -118,7 +118,7 @@ fn responses_signed_with_sha256_are_valid(rt: HostRuntime) {
     assert_all_judged(&rt, &auth, &[(SIGNED_SHA256, SHA256), (SIGNED, UNSIGNED)]);
 }
 
-/// The client of the sample request, after a challenge of its realm.
+/// The client of the sample request, after a challenge with its realm.
 fn sample_client(rt: &impl Abort, alloc: Global) -> Box<LongTermClientAuth> {
     let mut auth = nobody(alloc).expect(rt, "memory");
     let user = SAMPLE_USER.as_bytes();
@@ -135,13 +135,13 @@ fn a_sample_of_the_standard_is_valid(rt: HostRuntime) {
     assert_judged(&rt, &auth, SAMPLE_REQUEST, SHA1);
 }
 
-/// Makes the byte at that place another.
+/// Replaces the byte at this place.
 fn put(rt: &impl Abort, bytes: &mut [u8], at: usize, byte: u8) {
     assert!(rt; at < bytes.len());
     bytes[at] = byte;
 }
 
-/// The signed response with that bit turned.
+/// The signed response with this bit inverted.
 fn turned(rt: &impl Abort, alloc: Global, at: usize, bit: u32) -> Vec<u8> {
     let mut turned = SIGNED.to_vec(alloc).expect(rt, "memory");
     assert!(rt; at < SIGNED.len() && bit < 8);
@@ -149,7 +149,7 @@ fn turned(rt: &impl Abort, alloc: Global, at: usize, bit: u32) -> Vec<u8> {
     turned
 }
 
-/// Whether the bytes are a message, which then is refused.
+/// Whether the bytes are a message; it must then be refused.
 fn refuses(rt: &impl Abort, auth: &LongTermClientAuth, bytes: &[u8]) -> bool {
     let Ok(message) = Message::from_bytes(bytes) else {
         return false;
@@ -170,7 +170,7 @@ fn no_turned_bit_is_valid(rt: HostRuntime) {
             }
         }
     }
-    // The others of the 416 bits leave no message.
+    // The others of the 416 bits leave no valid message.
     same(&rt, judged, 334);
 }
 
@@ -193,7 +193,7 @@ fn a_second_integrity_is_not_seen(rt: HostRuntime) {
     assert_judged(&rt, &auth, twice.as_slice(), SHA1);
 }
 
-/// Adds an attribute of that type and that many zeros.
+/// Adds an attribute of this type and this many zeros.
 fn add_zeros(
     alloc: Global,
     message: &mut MessageWriteVec,
@@ -204,7 +204,7 @@ fn add_zeros(
     add(message, kind, value.as_slice())
 }
 
-/// A response with an attribute and an integrity of that many zeros.
+/// A response with an attribute and an integrity of this many zeros.
 fn zeros(alloc: Global, front: usize, len: usize) -> Result<MessageWriteVec, WriteError> {
     let id = TransactionId::from_bytes(SECOND_ID);
     let mut message = MessageWriteVec::builder_success(alloc, ALLOCATE, id)?;
@@ -216,7 +216,7 @@ fn zeros(alloc: Global, front: usize, len: usize) -> Result<MessageWriteVec, Wri
 #[test]
 fn integrity_of_another_length_is_wrong(rt: HostRuntime) {
     let auth = challenged(&rt, rt.alloc(), IntegrityAlgorithm::Sha1);
-    // The last of them is at the very end of the longest message.
+    // The last of them ends at the end of the longest message.
     for (front, len) in [(0usize, 0usize), (0, 19), (0, 21), (0, 24), (65_524, 0)] {
         let message = zeros(rt.alloc(), front, len).expect(&rt, "memory");
         assert_judged(&rt, &auth, message.as_bytes(), WRONG);
@@ -240,7 +240,8 @@ fn without_credentials_all_is_refused(rt: HostRuntime) {
     assert_holds_nothing(&rt, &auth);
 }
 
-/// Asserts how a client of these algorithms judges a challenge with that value of PASSWORD-ALGORITHMS.
+/// Asserts the verdict of a client with these algorithms on a challenge with this value of
+/// PASSWORD-ALGORITHMS.
 fn assert_offer(
     rt: &impl Abort,
     alloc: Global,
@@ -296,7 +297,7 @@ fn an_offer_counts_where_it_is_well_formed(rt: HostRuntime) {
     assert_offers(&rt, rt.alloc(), ILL_FORMED_OFFERS);
 }
 
-/// The value of PASSWORD-ALGORITHMS that names SHA-256 and then what is unknown, of that many bytes.
+/// The value of PASSWORD-ALGORITHMS with SHA-256 and then unknown algorithms, of this many bytes.
 fn long_offer(rt: &impl Abort, alloc: Global, len: usize) -> Vec<u8> {
     let mut offered = vec![in alloc; 0u8; len].expect(rt, "memory");
     put(rt, offered.as_mut_slice(), 1, 2);
@@ -317,7 +318,7 @@ fn an_offer_counts_up_to_64_bytes(rt: HostRuntime) {
     assert_offer(&rt, rt.alloc(), EITHER, Some(offered.as_slice()), AGAIN);
 }
 
-/// Asserts how the client judges each denial with that code, realm and nonce.
+/// Asserts the client's verdict on each error response with this code, realm and nonce.
 fn assert_denials(rt: &impl Abort, alloc: Global, rows: &[(u16, &[u8], &[u8], Validation)]) {
     let auth = client(alloc).expect(rt, "memory");
     for (code, realm, nonce, expected) in rows {
@@ -350,7 +351,7 @@ fn a_realm_and_a_nonce_have_up_to_763_bytes(rt: HostRuntime) {
     assert_denials(&rt, rt.alloc(), LONG_CHALLENGES);
 }
 
-/// The first challenge with another byte at that place.
+/// The first challenge with another byte at this place.
 fn altered(rt: &impl Abort, alloc: Global, at: usize, byte: u8) -> Vec<u8> {
     let bytes = denial(rt, alloc, 401, b"realm", b"nonce", None);
     let mut bytes = bytes.expect(rt, "memory");
@@ -361,14 +362,14 @@ fn altered(rt: &impl Abort, alloc: Global, at: usize, byte: u8) -> Vec<u8> {
 #[test]
 fn a_challenge_lacks_nothing(rt: HostRuntime) {
     let auth = client(rt.alloc()).expect(&rt, "memory");
-    // Each of the three attributes gets a type that is unknown, and the class that of a success.
+    // Each of the three attributes gets an unknown type, and the class becomes that of a success.
     for (at, byte) in [(21usize, 0x7fu8), (29, 0x7f), (41, 0x7f), (1, 0x03)] {
         let bytes = altered(&rt, rt.alloc(), at, byte);
         assert_judged(&rt, &auth, bytes.as_slice(), UNSIGNED);
     }
 }
 
-/// Asserts how the client judges a denial of the second nonce, which offers both algorithms.
+/// Asserts the client's verdict on an error response with the second nonce, which offers both algorithms.
 fn assert_second(
     rt: &impl Abort,
     alloc: Global,
@@ -382,7 +383,7 @@ fn assert_second(
     same(rt, found, expected);
 }
 
-/// A client that took a challenge with SHA-1, and was told of SHA-256 then.
+/// A client that took a challenge with SHA-1, and then got SHA-256 as a supported algorithm.
 fn later_client(rt: &impl Abort, alloc: Global) -> Box<LongTermClientAuth> {
     let mut auth = challenged(rt, alloc, IntegrityAlgorithm::Sha1);
     auth.add_supported_integrity(IntegrityAlgorithm::Sha256);
@@ -415,7 +416,7 @@ fn signed_by_sevens(rt: &impl Abort, alloc: Global) -> Vec<u8> {
 #[test]
 fn a_signed_challenge_is_a_challenge(rt: HostRuntime) {
     let auth = challenged(&rt, rt.alloc(), IntegrityAlgorithm::Sha1);
-    // Its integrity is not looked at, be it right or wrong.
+    // Its integrity is not checked, whether right or wrong.
     let bytes = signed_by_sevens(&rt, rt.alloc());
     assert_judged(&rt, &auth, bytes.as_slice(), AGAIN);
 }

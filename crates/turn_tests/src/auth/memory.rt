@@ -1,5 +1,5 @@
-//! Each `OutOfMemory` is an answer here, and what stands after it is asserted. So these pass
-//! whichever request for memory is refused.
+//! Each `OutOfMemory` is an answer here, and the state after it is asserted. So these pass for any memory
+//! allocation that fails.
 
 ghost use Rattle.std.specs.Prelude.{IsSome};
 
@@ -26,11 +26,11 @@ fn credentials_without_memory_are_refused(rt: HostRuntime) {
     }
 }
 
-/// Nonces of which each takes another number of bytes in a message, so that one which is half taken
-/// would be told, and how many bytes signing adds to a request with each.
+/// Nonces that each take another number of bytes in a message, so that a half stored one would be noticed,
+/// and the number of bytes that signing adds to a request with each.
 const NONCES: &[(&[u8], usize)] = &[(b"1", 52), (b"second", 56), (b"the third", 60)];
 
-/// Takes a challenge of that nonce, or else leaves the client as it was.
+/// Takes a challenge with this nonce, or leaves the client as it was.
 fn takes_or_leaves(
     rt: &impl Abort,
     alloc: Global,
@@ -59,7 +59,8 @@ fn a_challenge_without_memory_changes_nothing(rt: HostRuntime) {
     }
 }
 
-/// Whether memory was left to sign a request under the challenge, which the client then accepts.
+/// Whether memory allocation succeeded for signing a request under the challenge, which the client then
+/// accepts.
 fn is_retried(rt: &impl Abort, alloc: Global, auth: &mut LongTermClientAuth, bytes: &[u8]) -> bool {
     let message = Message::from_bytes(bytes).expect(rt, "a message");
     let Ok(found) = auth.challenge_in(&message) else {
@@ -73,7 +74,7 @@ fn is_retried(rt: &impl Abort, alloc: Global, auth: &mut LongTermClientAuth, byt
     false
 }
 
-/// Signs a request under the challenge, or else leaves it as it was.
+/// Signs a request under the challenge, or leaves it as it was.
 fn signs_under(
     rt: &impl Abort,
     alloc: Global,
@@ -94,7 +95,7 @@ fn signs_under(
     signed
 }
 
-/// Makes a request again under a challenge of that nonce, or else leaves what is held as it was.
+/// Makes a request again under a challenge with this nonce, or leaves the client as it was.
 fn retries_or_leaves(
     rt: &impl Abort,
     alloc: Global,
@@ -121,19 +122,19 @@ fn a_retry_without_memory_leaves_what_is_held(rt: HostRuntime) {
     }
 }
 
-/// The client after a challenge that offers nothing.
+/// The client after a challenge that offers no algorithms.
 fn plainly_challenged(rt: &impl Abort, alloc: Global) -> Option<Box<LongTermClientAuth>> {
     let mut auth = client(alloc).ok()?;
     challenge(rt, alloc, &mut auth, 401, b"realm", b"nonce", None).ok()?;
     Some(auth)
 }
 
-/// The request to allocate before it is signed.
+/// The ALLOCATE request before it is signed.
 const UNSIGNED_ALLOCATE: &[u8] =
     b"\x00\x03\x00\x10\x21\x12\xa4\x42\x53\x86\xbd\x28\xbd\xd2\x19\xb8\xa0\x8d\xed\x1a\
     \x00\x19\x00\x04\x11\x00\x00\x00\x00\x0d\x00\x04\x00\x00\x07\x08";
 
-/// Signs a request, or else leaves it as it was.
+/// Signs a request, or leaves it as it was.
 fn signs_or_leaves(rt: &impl Abort, alloc: Global, auth: &LongTermClientAuth) {
     let Ok(mut request) = allocate(alloc) else {
         return;

@@ -1,4 +1,4 @@
-//! What a client signs.
+//! The messages that a client signs.
 
 ghost use Rattle.std.specs.Prelude.{IsSome};
 ghost use Rattle.turn_auth.specs.Challenge.{MayTake};
@@ -19,7 +19,7 @@ use turn_stun::message::Message;
 use turn_stun::message::header::MessageClass;
 use turn_stun::message::write::MessageWriteVec;
 
-/// The ALLOCATE of TURN that follows a challenge of `realm` and `nonce`, for `user` and `pass`.
+/// The ALLOCATE after a challenge of `realm` and `nonce`, for `user` and `pass`.
 const SIGNED_ALLOCATE: &[u8] =
     b"\x00\x03\x00\x48\x21\x12\xa4\x42\x53\x86\xbd\x28\xbd\xd2\x19\xb8\xa0\x8d\xed\x1a\
     \x00\x19\x00\x04\x11\x00\x00\x00\x00\x0d\x00\x04\x00\x00\x07\x08\x00\x06\x00\x04\
@@ -27,7 +27,7 @@ const SIGNED_ALLOCATE: &[u8] =
     \x6e\x6f\x6e\x63\x65\x00\x00\x00\x00\x08\x00\x14\xb8\x14\xc0\xa6\xfa\x0b\x93\x45\
     \x15\x9d\x74\x7e\x20\xf8\xb9\xda\x8e\x79\x50\x41";
 
-/// The same with SHA-256 and the user hidden, where both password algorithms were offered.
+/// The same with SHA-256 and the user name hidden, for a challenge that offers both password algorithms.
 const ANONYMOUS_ALLOCATE: &[u8] =
     b"\x00\x03\x00\x84\x21\x12\xa4\x42\x53\x86\xbd\x28\xbd\xd2\x19\xb8\xa0\x8d\xed\x1a\
     \x00\x19\x00\x04\x11\x00\x00\x00\x00\x0d\x00\x04\x00\x00\x07\x08\x00\x1e\x00\x20\
@@ -38,7 +38,7 @@ const ANONYMOUS_ALLOCATE: &[u8] =
     \x40\xb3\x2a\xf6\x72\x24\xf1\x5e\x30\xe4\xfe\xa5\x7d\xf1\x14\xb4\xef\xb1\xb9\x52\
     \xb9\x64\x63\x6d\xc3\x02\x0b\xd8\x1c\xb2\x78\xa8";
 
-/// The request to allocate as this client signs it.
+/// The ALLOCATE request as this client signs it.
 fn signed_allocate(rt: &impl Abort, alloc: Global, auth: &LongTermClientAuth) -> MessageWriteVec {
     let mut message = allocate(alloc).expect(rt, "memory");
     sign(rt, auth, &mut message).expect(rt, "memory");
@@ -62,7 +62,7 @@ fn a_request_is_signed_and_hides_the_user(rt: HostRuntime) {
     same_bytes(&rt, message.as_bytes(), ANONYMOUS_ALLOCATE);
 }
 
-/// Asserts how long this message is, and that the client takes it for signed.
+/// Asserts the length of this message, and that the client accepts its signature.
 fn assert_signed(
     rt: &impl Abort,
     auth: &LongTermClientAuth,
@@ -74,8 +74,8 @@ fn assert_signed(
     assert_judged(rt, auth, bytes, Validation::Validated(algorithm));
 }
 
-/// Asserts how many bytes this client tells and adds to a request of 36 bytes, which is valid then and has
-/// grown once, by no more than these.
+/// Asserts how many bytes this client reports and adds to a request of 36 bytes, which is then valid and
+/// whose buffer has grown once, by at most these.
 fn adds(
     rt: &impl Abort,
     alloc: Global,
@@ -112,7 +112,7 @@ fn nothing_is_told_without_a_realm(rt: HostRuntime) {
     same(&rt, auth.message_signature_bytes(), 0);
 }
 
-/// Asserts how long a message of the class is once it is signed, and that it is valid then.
+/// Asserts the length of a signed message of this class, and that it is then valid.
 fn signs_bare(
     rt: &impl Abort,
     alloc: Global,
@@ -139,7 +139,7 @@ fn other_messages_get_the_integrity_alone(rt: HostRuntime) {
     }
 }
 
-/// What the challenge that the bytes are gives to the client.
+/// The client's view of the challenge in these bytes.
 fn challenge_of(rt: &impl Abort, auth: &LongTermClientAuth, bytes: &[u8]) -> ServerChallenge
     ensures { MayTake auth.now result }
 {
@@ -148,7 +148,7 @@ fn challenge_of(rt: &impl Abort, auth: &LongTermClientAuth, bytes: &[u8]) -> Ser
     found.expect(rt, "a challenge")
 }
 
-/// The same of the challenge of `realm` and `nonce`.
+/// The same for the challenge of `realm` and `nonce`.
 fn first_challenge(rt: &impl Abort, alloc: Global, auth: &LongTermClientAuth) -> ServerChallenge
     ensures { MayTake auth.now result }
 {
@@ -156,7 +156,7 @@ fn first_challenge(rt: &impl Abort, alloc: Global, auth: &LongTermClientAuth) ->
     challenge_of(rt, auth, bytes.expect(rt, "memory").as_slice())
 }
 
-/// The request to allocate as the client signs it under the challenge, and what that was told to add.
+/// The ALLOCATE request as the client signs it under the challenge, which adds as many bytes as reported.
 fn signed_under(
     rt: &impl Abort,
     alloc: Global,
@@ -194,7 +194,7 @@ fn what_is_no_challenge_gives_none(rt: HostRuntime) {
     assert!(rt; matches!(auth.challenge_in(&message), Ok(None)));
 }
 
-/// Asserts which nonce the message carries.
+/// Asserts the nonce in the message.
 fn assert_nonce(rt: &impl Abort, bytes: &[u8], expected: &[u8]) {
     let sent = Message::from_bytes(bytes).expect(rt, "a message");
     let nonce = sent.attribute::<Nonce<'_>>().expect(rt, "a nonce");

@@ -8,18 +8,18 @@ use turn_stun::message::Message;
 use turn_stun::message::write::MessageWriteVec;
 use turn_stun::transaction::TransactionId;
 
-/// The message that the bytes are.
+/// The message in these bytes.
 pub(crate) fn parsed<'a>(rt: &impl Abort, bytes: &'a [u8]) -> Message<'a> {
     Message::from_bytes(bytes).expect(rt, "a message")
 }
 
-/// An ALLOCATE with the first ID, which carries nothing yet.
+/// An ALLOCATE with the first ID, without attributes.
 pub(crate) fn request(rt: &impl Abort, alloc: Global) -> MessageWriteVec {
     let id = TransactionId::from_bytes(FIRST_ID);
     MessageWriteVec::builder_request(alloc, ALLOCATE, id).expect(rt, "memory")
 }
 
-/// Adds an attribute for which there is room.
+/// Adds an attribute to a message that has room for it.
 pub(crate) fn add<A: AttributeWrite>(
     rt: &impl Abort,
     message: &mut MessageWriteVec,

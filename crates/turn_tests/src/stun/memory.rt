@@ -1,5 +1,5 @@
-//! Each `OutOfMemory` is an answer here, and what stands after it is asserted. So these pass
-//! whichever request for memory is refused.
+//! Each `OutOfMemory` is an answer here, and the state after it is asserted. So these pass for any memory
+//! allocation that fails.
 
 use crate::fixture::{ALLOCATE, FIRST_ID, check, raw, same};
 use std::process::Abort;
@@ -8,7 +8,7 @@ use turn_stun::message::Message;
 use turn_stun::message::write::MessageWriteVec;
 use turn_stun::transaction::TransactionId;
 
-/// Adds an attribute of 304 bytes, or else leaves the message as it was.
+/// Adds an attribute of 304 bytes, or leaves the message as it was.
 fn adds_or_leaves(rt: &impl Abort, message: &mut MessageWriteVec) {
     let before = message.as_bytes().len();
     let refusal = message.add_attribute(&raw(0x0013, &[1; 300])).err();

@@ -1,4 +1,4 @@
-//! Messages that are read, and bytes that are none.
+//! Messages that are parsed, and bytes that are no message.
 
 use crate::fixture::{ALLOCATE, FIRST_ID, check, same, same_bytes};
 use crate::stun::fixture::parsed;
@@ -30,7 +30,7 @@ const BEHIND_INTEGRITY: &[u8] = b"\x00\x01\x00\x40\x21\x12\xa4\x42\
     \x00\x1c\x00\x01e\x00\x00\x00\x00\x1c\x00\x01f\x00\x00\x00\
     \x80\x28\x00\x01g\x00\x00\x00\x80\x28\x00\x01h\x00\x00\x00";
 
-/// Bytes that are no message, and why. More than one reason holds for most: the first is told.
+/// Bytes that are no message, and why. Most have more than one error: the first is reported.
 const REFUSED: &[(&[u8], ParseError)] = &[
     (
         b"\x00\x03\x00\x14\x21\x12\xa4\x42\x76\xb8\xe0\xad\xa0\xf1\x3d\x90\x40\x5d\x6a",
@@ -58,7 +58,7 @@ const REFUSED: &[(&[u8], ParseError)] = &[
     (&[0x40; 20], ParseError::NotStun),
 ];
 
-/// Asserts why the bytes are no message, or with `None` that they are one.
+/// Asserts why the bytes are no message, or with `None` that they are a message.
 fn assert_fault(rt: &impl Abort, bytes: &[u8], expected: Option<ParseError>) {
     same(rt, Message::from_bytes(bytes).err(), expected);
 }
@@ -83,8 +83,8 @@ fn a_message_cut_anywhere_is_refused(rt: HostRuntime) {
     assert_fault(&rt, UNAUTHORIZED, None);
 }
 
-/// A place in the response, another byte there, and why the bytes are then no message: its length is
-/// off by up to four, or the value of NONCE runs past the end by one byte and by three.
+/// A place in the response, another byte there, and why the bytes are then no message: its length is wrong by
+/// up to four, or the value of NONCE exceeds the message by one byte and by three.
 const ALTERED: &[(usize, u8, ParseError)] = &[
     (3, 0x21, ParseError::NotStun),
     (3, 0x1f, ParseError::NotStun),
@@ -98,7 +98,7 @@ const ALTERED: &[(usize, u8, ParseError)] = &[
     (43, 11, ParseError::Attribute),
 ];
 
-/// The response with another byte at that place.
+/// The response with another byte at this place.
 fn altered(rt: &impl Abort, alloc: Global, at: usize, byte: u8) -> Vec<u8> {
     let mut bytes = UNAUTHORIZED.to_vec(alloc).expect(rt, "memory");
     assert!(rt; at < bytes.len());
@@ -133,7 +133,7 @@ fn a_request_has_its_header(rt: HostRuntime) {
 /// An attribute: its offset, its type and its value.
 type Seen = (usize, u16, &'static [u8]);
 
-/// Asserts which attributes are seen.
+/// Asserts which attributes are visible.
 fn assert_seen(rt: &impl Abort, message: &Message<'_>, expected: &[Seen]) {
     let mut found = message.iter_attributes();
     for attribute in expected {
@@ -161,13 +161,13 @@ fn a_request_has_its_attributes(rt: HostRuntime) {
     check(&rt, !message.has_attribute(AttributeType::REALM));
 }
 
-/// Asserts that the realm is there, and what it is.
+/// Asserts that there is a realm, and its value.
 fn assert_realm(rt: &impl Abort, found: Result<Realm<'_>, AttributeError>, expected: &[u8]) {
     let realm = found.expect(rt, "a realm");
     same_bytes(rt, realm.as_bytes(), expected);
 }
 
-/// Asserts that no realm is there.
+/// Asserts that there is no realm.
 fn assert_no_realm(rt: &impl Abort, found: Result<Realm<'_>, AttributeError>) {
     same(rt, found.err(), Some(AttributeError::Absent));
 }

@@ -1,4 +1,4 @@
-//! Moments, transaction IDs and packets.
+//! Times, transaction IDs and packets.
 
 use crate::fixture::{FIRST_ID, same, same_bytes};
 use std::alloc::Global;

@@ -14,7 +14,7 @@ use turn_stun::attribute::username::Username;
 use turn_stun::attribute::xor_address::XorSocketAddr;
 use turn_stun::transaction::TransactionId;
 
-/// As many bytes as the longest value below needs.
+/// Enough bytes for the longest value below.
 static LONG: [u8; 800] = [b'x'; 800];
 
 fn is_read<'a, A: AttributeFromRaw<'a> + Drop>(value: &'a [u8]) -> bool {
@@ -55,7 +55,7 @@ const ERROR_CODES: &[(&[u8], Option<u16>)] = &[
     (b"", None),
 ];
 
-/// The code that the value of an ERROR-CODE tells.
+/// The code in the value of an ERROR-CODE.
 fn code_of(value: &[u8]) -> Option<u16> {
     match ErrorCode::from_value(value, TransactionId::from_bytes(SECOND_ID)) {
         Some(error) => Some(error.code()),
@@ -77,7 +77,7 @@ fn an_error_code_has_a_reason(rt: HostRuntime) {
     same(&rt, error.value_len(), 15);
 }
 
-/// Values of PASSWORD-ALGORITHMS, whether they are lists, and whether SHA-256 is in these.
+/// Values of PASSWORD-ALGORITHMS, whether they are well-formed, and whether they name SHA-256.
 const LISTS: &[(&[u8], bool, bool)] = &[
     (b"", true, false),
     (b"\x00\x02\x00\x00", true, true),
@@ -92,7 +92,7 @@ const LISTS: &[(&[u8], bool, bool)] = &[
 /// MD5 and SHA-256.
 const BOTH: &[u8] = b"\x00\x01\x00\x00\x00\x02\x00\x00";
 
-/// Whether the value is a list, and whether SHA-256 is in it.
+/// Whether the value is well-formed, and whether it names SHA-256.
 fn listed(value: &[u8]) -> (bool, bool) {
     match PasswordAlgorithms::from_bytes(value) {
         Some(list) => (true, list.contains(PasswordAlgorithm::Sha256)),
@@ -144,7 +144,7 @@ const ADDRESSES: &[(&str, [u8; 12], &[u8])] = &[
     ),
 ];
 
-/// Asserts that the value is that of the address, both ways.
+/// Asserts that the value and the address are decoded and encoded to each other.
 fn assert_xored(rt: &impl Abort, alloc: Global, addr: SocketAddr, id: TransactionId, value: &[u8]) {
     let found = XorSocketAddr::decode(value, id).expect(rt, "an address");
     same(rt, (found.addr(), found.value_len()), (addr, value.len()));
@@ -162,7 +162,7 @@ fn addresses_are_xored_as_in_the_standard(rt: HostRuntime) {
     }
 }
 
-/// Values that no address has: of family 3, with its bytes swapped, a byte too short, a byte too
+/// Values that are no address: of family 3, with the family's bytes swapped, a byte too short, a byte too
 /// long, of IPv4 with the family of IPv6, and empty.
 const MALFORMED: &[&[u8]] = &[
     b"\x00\x03\xbd\x52\x2b\x12\xa4\x46",

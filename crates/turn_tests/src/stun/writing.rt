@@ -25,7 +25,7 @@ static ADDED: [(u16, &[u8]); 3] = [
     (0x001a, b""),
 ];
 
-/// Asserts that it is that ALLOCATE.
+/// Asserts that this is that ALLOCATE.
 fn assert_request(rt: &impl Abort, message: &MessageWriteVec) {
     same_bytes(rt, message.as_bytes(), ALLOCATE_REQUEST);
     let found = (message.transaction_id(), message.message_type().class);
@@ -60,7 +60,7 @@ fn a_request_that_is_begun_with_its_length_never_grows(rt: HostRuntime) {
     same(&rt, message.finish().capacity(), len);
 }
 
-/// Adds an attribute, for which it makes room, and takes it off again.
+/// Adds an attribute, after it makes room for it, and removes it.
 fn adds_and_takes_off(rt: &impl Abort, message: &mut MessageWriteVec) {
     let before = message.as_bytes().len();
     message.reserve(300).expect(rt, "memory");
@@ -142,7 +142,7 @@ fn a_success_begins_with_one(rt: HostRuntime) {
     same(&rt, message.as_bytes().first().copied(), Some(1));
 }
 
-/// Asserts that the attribute is refused for its length, and that the message stays as it was.
+/// Asserts that the attribute is refused for its length, and that the message is unchanged.
 fn assert_too_long(rt: &impl Abort, message: &mut MessageWriteVec, value: &[u8]) {
     let before = message.as_bytes().len();
     let refusal = message.add_attribute(&raw(0x001a, value)).err();
@@ -154,8 +154,8 @@ fn zeros(rt: &impl Abort, alloc: Global, len: usize) -> Vec<u8> {
     vec![in alloc; 0; len].expect(rt, "memory")
 }
 
-/// Asserts that the value is a byte too long, and that no other attribute has room behind it once
-/// that byte is left out.
+/// Asserts that the value is a byte too long, and that there is no room for another attribute after the value
+/// without that byte.
 fn assert_longest(rt: &impl Abort, message: &mut MessageWriteVec, value: &[u8]) {
     assert_too_long(rt, message, value);
     same(rt, message.as_bytes().len(), 20);

@@ -1,4 +1,4 @@
-//! Attributes: each value that is well formed, one byte short, one long, or of a foreign kind.
+//! Attributes: each value that is well-formed, one byte short, one byte long, or of a wrong kind.
 
 mod addresses;
 mod numbers;
@@ -21,7 +21,7 @@ use turn_types::message::{
     REFRESH, SEND,
 };
 
-/// The value under this ID is that attribute.
+/// The value is decoded under this ID to this attribute.
 fn reads<'a, A: AttributeFromRaw<'a> + PartialEq + Debug + Drop>(
     rt: &impl Abort,
     value: &'a [u8],
@@ -38,7 +38,7 @@ fn refuses<'a, A: AttributeFromRaw<'a> + Drop>(rt: &impl Abort, values: &[&'a [u
     }
 }
 
-/// The attribute has this type, and is written as this value.
+/// The attribute has this type, and is encoded as this value.
 fn writes<A: AttributeWrite>(
     rt: &impl Abort,
     alloc: Global,

@@ -1,4 +1,4 @@
-//! Channel frames, Send indications, and packets that are built late.
+//! ChannelData messages, Send indications, and packets that are built late.
 
 use crate::fixture::same;
 use crate::types::first_id;
@@ -76,27 +76,27 @@ fn frames_are_parsed(rt: HostRuntime) {
     }
 }
 
-/// A channel's number, what goes over it, and the frame.
+/// The number of a channel, its data, and the ChannelData message.
 static FRAMES: [(u16, &[u8], &[u8]); 3] = [
     (0x4567, &[5; 5], &[0x45, 0x67, 0, 5, 5, 5, 5, 5, 5, 0, 0, 0]),
     (0x4000, b"abcd", &[0x40, 0, 0, 4, 0x61, 0x62, 0x63, 0x64]),
     (0x4000, b"", &[0x40, 0, 0, 0]),
 ];
 
-/// A frame of this channel.
+/// A ChannelData message of this channel.
 fn frame<'a>(rt: &impl Abort, id: u16, payload: &'a [u8]) -> DelayedChannel<&'a [u8]> {
     assert!(rt; (0x4000..0x8000).contains(&id) && payload.len() < 0x1_0000);
     DelayedChannel::new(id, payload)
 }
 
-/// It is built as these bytes.
+/// The packet is built as these bytes.
 fn is_built(rt: &impl Abort, alloc: Global, packet: impl DelayedTransmitBuild, want: &[u8]) {
     same(rt, (packet.len(), packet.is_empty()), (want.len(), false));
     let built = packet.build(alloc).expect(rt, "memory");
     same(rt, built.as_slice(), want);
 }
 
-/// It is written as these bytes.
+/// The packet is written as these bytes.
 fn is_written(rt: &impl Abort, alloc: Global, packet: impl DelayedTransmitBuild, want: &[u8]) {
     let mut place = vec![in alloc; 0xaa; want.len()].expect(rt, "memory");
     assert!(rt; packet.len() == place.len());
@@ -134,7 +134,7 @@ fn messages_are_read_again(rt: HostRuntime) {
     same(&rt, data.data(), [5; 5].as_slice());
 }
 
-/// The message that carries so much, which is the most.
+/// The message with the largest payload.
 fn largest(rt: &impl Abort, alloc: Global) -> Vec<u8> {
     let payload = vec![in alloc; 5; 65504].expect(rt, "memory");
     assert!(rt; payload.len() <= 65504);

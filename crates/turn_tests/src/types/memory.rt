@@ -1,5 +1,5 @@
-//! Refused memory is an answer, and not the end: each call that grows is made once, and what stands
-//! after a refusal is looked at. Run with `rt try --test --fail-alloc N` each of them is refused.
+//! A failed memory allocation is an answer, and not the end: each call that allocates is made once, and the
+//! state after a failure is checked. `rt try --test --fail-alloc N` makes each of them fail.
 
 use crate::fixture::same;
 use crate::types::first_id;
@@ -16,7 +16,7 @@ fn peer() -> SocketAddr {
     SocketAddr::V4(SocketAddrV4::new(Ipv4Addr::new(127, 0, 0, 1), 1))
 }
 
-/// Whether there is memory for the value.
+/// Whether memory allocation for the value succeeded.
 fn is_written<A: AttributeWrite>(attribute: &A, out: &mut Vec<u8>) -> bool {
     attribute.write_value(first_id(), out).is_ok()
 }
@@ -39,7 +39,7 @@ fn a_value_keeps_what_stands_before_it(rt: HostRuntime) {
     }
 }
 
-/// Where there is memory, so many bytes are built.
+/// If memory allocation succeeds, this many bytes are built.
 fn is_built(rt: &impl Abort, alloc: Global, packet: impl DelayedTransmitBuild, len: usize) {
     if let Ok(built) = packet.build(alloc) {
         same(rt, built.len(), len);
@@ -54,7 +54,7 @@ fn is_sent(rt: &impl Abort, alloc: Global, payload: &[u8; 5]) {
     }
 }
 
-/// Each packet is built, or there is no memory for it.
+/// Each packet is built, or memory allocation for it failed.
 fn makes_each(rt: &impl Abort, alloc: Global, payload: &[u8; 5]) {
     let frame = DelayedChannel::new(0x4567, payload.as_slice());
     is_built(rt, alloc, frame, 12);

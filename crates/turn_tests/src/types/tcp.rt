@@ -1,4 +1,4 @@
-//! What no clause says: streams of worked frames, and that each call succeeds while there is memory.
+//! What no clause says: streams of worked frames, and that each call succeeds while memory allocation does.
 
 ghost use Rattle.std.specs.Prelude.{◌≤◌};
 
@@ -15,7 +15,7 @@ use turn_stun::transport::Transmit;
 use turn_types::TransportType;
 use turn_types::tcp::{IncomingTcp, StoredTcp, TurnTcpBuffer};
 
-/// Three bytes over the channel of number 0x4000.
+/// Three bytes over the channel with number 0x4000.
 const CHANNEL_FRAME: [u8; 8] = [0x40, 0x00, 0x00, 0x03, 0x61, 0x62, 0x63, 0x00];
 
 /// A Data indication of five bytes from 10.0.0.3:9000.
@@ -25,26 +25,26 @@ const DATA_INDICATION: [u8; 44] = [
     0x00, 0x13, 0x00, 0x05, 0x68, 0x65, 0x6c, 0x6c, 0x6f, 0x00, 0x00, 0x00,
 ];
 
-/// A piece of a stream, as it comes from the server.
+/// A piece of a stream from the server.
 fn piece(bytes: &[u8]) -> Transmit<&[u8]> {
     let server = SocketAddr::V4(SocketAddrV4::new(Ipv4Addr::new(10, 0, 0, 2), 2000));
     let client = SocketAddr::V4(SocketAddrV4::new(Ipv4Addr::new(192, 168, 0, 1), 1000));
     Transmit::new(bytes, TransportType::Tcp, server, client)
 }
 
-/// These bytes wait.
+/// These bytes are buffered.
 fn holds(rt: &impl Abort, buffer: TurnTcpBuffer, want: &[u8]) {
     same(rt, buffer.into_inner().as_slice(), want);
 }
 
-/// The steps go as they say, and then these bytes wait.
+/// The steps have the expected answers, and then these bytes are buffered.
 fn leaves(rt: &impl Abort, alloc: Global, steps: &[Step], want: &[u8]) {
     let mut buffer = TurnTcpBuffer::new(alloc);
     follow_all(rt, &mut buffer, steps);
     holds(rt, buffer, want);
 }
 
-/// The frame of a channel that began before the piece, and how many bytes the piece had.
+/// The ChannelData message that began before the piece, and the length of the piece in bytes.
 fn stored_channel<'a>(given: &'a Option<IncomingTcp<&[u8]>>) -> Option<(&'a [u8], usize)> {
     match given {
         Some(IncomingTcp::StoredChannel(frame, transmit)) => {
@@ -73,7 +73,7 @@ fn a_channel_frame_in_two_pieces_is_stored(rt: HostRuntime) {
     holds(&rt, buffer, &[0x40]);
 }
 
-/// A frame in two pieces, and the front of one.
+/// A frame in two pieces, and the beginning of another.
 static REST_MOVED: [Step; 7] = [
     Step::Counts(0, 0),
     Step::Piece(&[0x40, 0x00, 0x00], false),
@@ -89,7 +89,7 @@ fn a_rest_is_moved_once(rt: HostRuntime) {
     leaves(&rt, rt.alloc(), &REST_MOVED, &[0x40, 0x00, 0x00, 0x03]);
 }
 
-/// Behind the rest of a channel frame there is all but the last byte of a message.
+/// After the second part of a ChannelData message, all but the last byte of a message.
 static LONG_REST: [Step; 8] = [
     Step::Piece(&[0x40], false),
     Step::Piece(&[0x00, 0x00, 0x03, 0x61, 0x62, 0x63, 0x00], true),
@@ -123,7 +123,7 @@ fn range_of(given: &Option<IncomingTcp<&[u8]>>) -> Option<(usize, usize, bool)> 
     }
 }
 
-/// The piece is a frame, and nothing waits behind it.
+/// The piece is a frame, and nothing is buffered after it.
 fn gives_range(rt: &impl Abort, buffer: &mut TurnTcpBuffer, bytes: &[u8], is_message: bool) {
     let given = buffer.incoming_tcp(piece(bytes)).expect(rt, "memory");
     same(rt, range_of(&given), Some((0, bytes.len(), is_message)));
@@ -152,13 +152,13 @@ fn bytes_behind_a_frame_are_kept_whatever_they_are(rt: HostRuntime) {
     holds(&rt, buffer, &[0xff, 0x00]);
 }
 
-/// A channel frame and a byte with which no frame begins.
+/// A ChannelData message and a byte with which no frame begins.
 static BREAKING: [[u8; 9]; 2] = [
     [0x40, 0x00, 0x00, 0x03, 0x61, 0x62, 0x63, 0x00, 0x80],
     [0x40, 0x00, 0x00, 0x03, 0x61, 0x62, 0x63, 0x00, 0xff],
 ];
 
-/// The turn of a rest comes with which no frame begins.
+/// After the ChannelData message, the next frame is invalid.
 fn breaks_by(rt: &impl Abort, alloc: Global, bytes: &[u8]) {
     let mut buffer = TurnTcpBuffer::new(alloc);
     takes(rt, &mut buffer, bytes, true);
@@ -177,7 +177,7 @@ fn a_lent_stream_breaks_when_its_rest_is_passed(rt: HostRuntime) {
     leaves(&rt, rt.alloc(), &PASSES, &[]);
 }
 
-/// So many bytes of a frame of this first byte and of the greatest length.
+/// This many bytes of a frame of the maximum length with this first byte.
 fn long_frame(rt: &impl Abort, alloc: Global, number: u8, len: usize) -> Vec<u8>
     requires { 4 ≤ len }
 {
@@ -186,7 +186,7 @@ fn long_frame(rt: &impl Abort, alloc: Global, number: u8, len: usize) -> Vec<u8>
     bytes
 }
 
-/// A frame of the greatest length is whole with the byte after these.
+/// A frame of the maximum length is complete with the byte after these.
 fn is_longest(rt: &impl Abort, alloc: Global, number: u8, len: usize)
     requires { 4 ≤ len }
 {
@@ -204,7 +204,7 @@ fn the_longest_frames_are_whole_with_their_last_byte(rt: HostRuntime) {
     is_longest(&rt, rt.alloc(), 0x40, 65_539);
 }
 
-/// The bytes of a frame that waited.
+/// The bytes of a buffered frame.
 fn stored(frame: &StoredTcp) -> &[u8] {
     match frame {
         StoredTcp::Message(frame) | StoredTcp::Channel(frame) => frame.as_slice(),

@@ -11,11 +11,11 @@ use turn_stun::attribute::AttributeType;
 use turn_stun::attribute::typed::{AttributeFromRaw, AttributeWrite};
 use turn_stun::transaction::TransactionId;
 
-/// The family of which a client asks for an address beside the IPv4 one (RFC 8656, section 18.11).
-/// Contracts see it as the family.
+/// The family of which a client requests an address in addition to the IPv4 one (RFC 8656, section
+/// 18.11). Contracts see it as the family.
 ///
-/// Both families are read and written: that a client asks for no second IPv4 address is for the
-/// client to know.
+/// Both families are read and written: the client has to know that it may not request a second IPv4
+/// address.
 #[derive(Clone, Copy, Debug, PartialEq, Eq)]
 pub struct AdditionalAddressFamily {
     family: AddressFamily,
@@ -35,7 +35,7 @@ impl AdditionalAddressFamily {
     /// The type of the attribute.
     pub const TYPE: AttributeType = AttributeType { value: 0x8000 };
 
-    /// The attribute that asks for this family.
+    /// The attribute that requests this family.
     pub fn new(family: AddressFamily) -> AdditionalAddressFamily
         ensures family { result ≡ family }
         ensures again { family_of (family_value result) ≡ Some family }
@@ -43,7 +43,7 @@ impl AdditionalAddressFamily {
         AdditionalAddressFamily { family }
     }
 
-    /// The family that is asked for.
+    /// The requested family.
     pub fn family(&self) -> AddressFamily
         ensures { result ≡ self.now }
     {
@@ -64,7 +64,7 @@ impl<'a> AttributeFromRaw<'a> for AdditionalAddressFamily {
 
     fn from_value(value: &'a [u8], _id: TransactionId) -> Option<AdditionalAddressFamily>
         ensures found { result ≡ family_of value.now }
-        // It is written again as it was.
+        // It is written again unchanged.
         ensures again { IfSome result (λ family. family_value family ≡ value.now) }
     {
         let family = AddressFamily::from_number(leading_byte(value)?)?;

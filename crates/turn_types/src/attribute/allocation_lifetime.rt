@@ -10,8 +10,8 @@ use turn_stun::attribute::AttributeType;
 use turn_stun::attribute::typed::{AttributeFromRaw, AttributeWrite};
 use turn_stun::transaction::TransactionId;
 
-/// How long a server keeps an allocation, in seconds, unless it is refreshed (RFC 8656, section
-/// 18.2). A client asks for the end of an allocation by 0. Contracts see it as the seconds.
+/// How long a server keeps an allocation, in seconds, unless it is refreshed (RFC 8656, section 18.2). A
+/// client deletes an allocation with 0. Contracts see it as the seconds.
 #[derive(Clone, Copy, Debug, PartialEq, Eq)]
 pub struct Lifetime {
     seconds: u32,
@@ -31,7 +31,7 @@ impl Lifetime {
     /// The type of the attribute.
     pub const TYPE: AttributeType = AttributeType { value: 0x000d };
 
-    /// The lifetime of so many seconds.
+    /// The attribute with this lifetime in seconds.
     pub fn new(seconds: u32) -> Lifetime
         ensures seconds { result ≡ seconds }
         ensures again { number_of (number_value result) ≡ Some seconds }
@@ -39,7 +39,7 @@ impl Lifetime {
         Lifetime { seconds }
     }
 
-    /// How long, in seconds.
+    /// The lifetime, in seconds.
     pub fn seconds(&self) -> u32
         ensures { result ≡ self.now }
     {
@@ -60,7 +60,7 @@ impl<'a> AttributeFromRaw<'a> for Lifetime {
 
     fn from_value(value: &'a [u8], _id: TransactionId) -> Option<Lifetime>
         ensures found { result ≡ number_of value.now }
-        // It is written again as it was.
+        // It is written again unchanged.
         ensures again { IfSome result (λ seconds. number_value seconds ≡ value.now) }
     {
         let seconds = u32_of(value)?;

@@ -9,11 +9,10 @@ use turn_stun::attribute::AttributeType;
 use turn_stun::attribute::typed::{AttributeFromRaw, AttributeWrite};
 use turn_stun::transaction::TransactionId;
 
-/// The number of the channel that a client asks for (RFC 8656, section 18.1). Contracts see it as
-/// this number.
+/// The number of the channel that a client requests (RFC 8656, section 18.1). Contracts see it as this
+/// number.
 ///
-/// Any number of sixteen bits is read and written: which ones may be asked for is for a client to
-/// know.
+/// Any number of sixteen bits is read and written: the client has to know which ones it may request.
 #[derive(Clone, Copy, Debug, PartialEq, Eq)]
 pub struct ChannelNumber {
     number: u16,
@@ -62,11 +61,11 @@ impl<'a> AttributeFromRaw<'a> for ChannelNumber {
 
     fn from_value(value: &'a [u8], _id: TransactionId) -> Option<ChannelNumber>
         ensures found { result ≡ channel_number_of value.now }
-        // It is written again as it was, the unread bytes aside.
+        // It is written again unchanged, except the unread bytes.
         ensures again { IfSome result (λ number. channel_number_value number ≡ take 2 value.now ++ 0 ∷ 0 ∷ []) }
     {
         match *value {
-            // RFC 8656, section 18.1: what follows the number is ignored.
+            // RFC 8656, section 18.1: the bytes after the number are ignored.
             [high, low, _, _] => Some(ChannelNumber::new(u16::from_be_bytes([high, low]))),
             _ => None,
         }

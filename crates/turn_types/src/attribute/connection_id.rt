@@ -10,8 +10,8 @@ use turn_stun::attribute::AttributeType;
 use turn_stun::attribute::typed::{AttributeFromRaw, AttributeWrite};
 use turn_stun::transaction::TransactionId;
 
-/// By what number a server and a client speak of a connection between the server and a peer (RFC
-/// 6062, section 6.2.1). Contracts see it as this number.
+/// The number that identifies a connection between the server and a peer (RFC 6062, section 6.2.1).
+/// Contracts see it as this number.
 #[derive(Clone, Copy, Debug, PartialEq, Eq)]
 pub struct ConnectionId {
     id: u32,
@@ -60,7 +60,7 @@ impl<'a> AttributeFromRaw<'a> for ConnectionId {
 
     fn from_value(value: &'a [u8], _id: TransactionId) -> Option<ConnectionId>
         ensures found { result ≡ number_of value.now }
-        // It is written again as it was.
+        // It is written again unchanged.
         ensures again { IfSome result (λ connection. number_value connection ≡ value.now) }
     {
         let id = u32_of(value)?;

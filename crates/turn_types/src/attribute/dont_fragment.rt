@@ -7,7 +7,7 @@ use turn_stun::attribute::AttributeType;
 use turn_stun::attribute::typed::{AttributeFromRaw, AttributeWrite};
 use turn_stun::transaction::TransactionId;
 
-/// Asks that the server forbids routers to fragment what it sends to peers (RFC 8656, section 18.9).
+/// Requests that the server forbids routers to fragment what it sends to peers (RFC 8656, section 18.9).
 #[derive(Clone, Copy, Debug, PartialEq, Eq)]
 pub struct DontFragment;
 

@@ -7,7 +7,7 @@ use turn_stun::attribute::AttributeType;
 use turn_stun::attribute::typed::{AttributeFromRaw, AttributeWrite};
 use turn_stun::transaction::TransactionId;
 
-/// An ICMP error that a server took for data that it had sent to a peer (RFC 8656, section 18.13).
+/// An ICMP error that a server received for data that it had sent to a peer (RFC 8656, section 18.13).
 ///
 /// The type and the code take a byte each (our choice).
 #[derive(Clone, Copy, Debug, PartialEq, Eq)]
@@ -16,8 +16,8 @@ pub struct Icmp {
     pub icmp_type: u8,
     /// The code of the ICMP message.
     pub code: u8,
-    /// The four bytes behind the ICMP header, the first the most significant: for "packet too big",
-    /// the greatest size that passes.
+    /// The four bytes after the ICMP header, the first the most significant: for "packet too big", the
+    /// greatest size that passes.
     pub data: u32,
 }
 
@@ -57,7 +57,7 @@ impl<'a> AttributeFromRaw<'a> for Icmp {
 
     fn from_value(value: &'a [u8], _id: TransactionId) -> Option<Icmp>
         ensures found { result ≡ icmp_of value.now }
-        // It is written again as it was, the unread bytes aside.
+        // It is written again unchanged, except the unread bytes.
         ensures again { IfSome result (λ icmp. icmp_value icmp ≡ 0 ∷ 0 ∷ drop 2 value.now) }
     {
         match *value {

@@ -8,8 +8,7 @@ use turn_stun::attribute::AttributeType;
 use turn_stun::attribute::typed::{AttributeFromRaw, AttributeWrite};
 use turn_stun::transaction::TransactionId;
 
-/// What is sent to a peer, or has come from one (RFC 8656, section 18.4): any bytes. Contracts see
-/// it as these bytes.
+/// Data to or from a peer (RFC 8656, section 18.4): any bytes. Contracts see it as these bytes.
 #[derive(Debug, Drop)]
 pub struct Data<'a> {
     bytes: &'a [u8],

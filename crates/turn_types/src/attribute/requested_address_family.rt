@@ -11,8 +11,8 @@ use turn_stun::attribute::AttributeType;
 use turn_stun::attribute::typed::{AttributeFromRaw, AttributeWrite};
 use turn_stun::transaction::TransactionId;
 
-/// The one family of which a client asks for an address (RFC 8656, section 18.6). Contracts see it as
-/// the family.
+/// The one family of which a client requests an address (RFC 8656, section 18.6). Contracts see it as the
+/// family.
 #[derive(Clone, Copy, Debug, PartialEq, Eq)]
 pub struct RequestedAddressFamily {
     family: AddressFamily,
@@ -32,7 +32,7 @@ impl RequestedAddressFamily {
     /// The type of the attribute.
     pub const TYPE: AttributeType = AttributeType { value: 0x0017 };
 
-    /// The attribute that asks for this family.
+    /// The attribute that requests this family.
     pub fn new(family: AddressFamily) -> RequestedAddressFamily
         ensures family { result ≡ family }
         ensures again { family_of (family_value result) ≡ Some family }
@@ -40,7 +40,7 @@ impl RequestedAddressFamily {
         RequestedAddressFamily { family }
     }
 
-    /// The family that is asked for.
+    /// The requested family.
     pub fn family(&self) -> AddressFamily
         ensures { result ≡ self.now }
     {
@@ -61,7 +61,7 @@ impl<'a> AttributeFromRaw<'a> for RequestedAddressFamily {
 
     fn from_value(value: &'a [u8], _id: TransactionId) -> Option<RequestedAddressFamily>
         ensures found { result ≡ family_of value.now }
-        // It is written again as it was.
+        // It is written again unchanged.
         ensures again { IfSome result (λ family. family_value family ≡ value.now) }
     {
         let family = AddressFamily::from_number(leading_byte(value)?)?;

@@ -11,8 +11,8 @@ use turn_stun::attribute::typed::{AttributeFromRaw, AttributeWrite};
 use turn_stun::transaction::TransactionId;
 use turn_stun::transport::TransportType;
 
-/// What carries the data between a server and the peers of an allocation (RFC 8656, section 18.8).
-/// Contracts see it as this transport.
+/// The transport between a server and the peers of an allocation (RFC 8656, section 18.8). Contracts see
+/// it as this transport.
 #[derive(Clone, Copy, Debug, PartialEq, Eq)]
 pub struct RequestedTransport {
     transport: TransportType,
@@ -32,7 +32,7 @@ impl RequestedTransport {
     /// The type of the attribute.
     pub const TYPE: AttributeType = AttributeType { value: 0x0019 };
 
-    /// The attribute that asks for this transport.
+    /// The attribute that requests this transport.
     pub fn new(transport: TransportType) -> RequestedTransport
         ensures transport { result ≡ transport }
         ensures again { transport_of (transport_value result) ≡ Some transport }
@@ -40,7 +40,7 @@ impl RequestedTransport {
         RequestedTransport { transport }
     }
 
-    /// The transport that is asked for.
+    /// The requested transport.
     pub fn transport(&self) -> TransportType
         ensures { result ≡ self.now }
     {
@@ -61,7 +61,7 @@ impl<'a> AttributeFromRaw<'a> for RequestedTransport {
 
     fn from_value(value: &'a [u8], _id: TransactionId) -> Option<RequestedTransport>
         ensures found { result ≡ transport_of value.now }
-        // It is written again as it was.
+        // It is written again unchanged.
         ensures again { IfSome result (λ transport. transport_value transport ≡ value.now) }
     {
         let transport = transport_with_number(leading_byte(value)?)?;
@@ -87,7 +87,7 @@ impl AttributeWrite for RequestedTransport {
     }
 }
 
-/// The number of the protocol, as IANA has it.
+/// The IANA number of the protocol.
 fn protocol_number(transport: TransportType) -> u8
     ensures { result ≡ protocol_number transport }
 {

@@ -33,8 +33,8 @@ impl XorPeerAddress {
     /// The type of the attribute.
     pub const TYPE: AttributeType = AttributeType { value: 0x0012 };
 
-    /// The attribute with this address, but for the flow information and the scope of an IPv6
-    /// address, which are not sent.
+    /// The attribute with this address, except the flow information and the scope of an IPv6 address,
+    /// which are not sent.
     pub fn new(addr: SocketAddr) -> XorPeerAddress
         ensures addr { result ≡ plain addr }
         ensures value { (id : ℕ) → xor_value result id ≡ xor_value addr id }
@@ -66,7 +66,7 @@ impl<'a> AttributeFromRaw<'a> for XorPeerAddress {
 
     fn from_value(value: &'a [u8], id: TransactionId) -> Option<XorPeerAddress>
         ensures found { result ≡ xor_addr value.now id }
-        // It is written again as it was, the unread byte aside.
+        // It is written again unchanged, except the unread byte.
         ensures again { IfSome result (λ addr. xor_value addr id ≡ 0 ∷ drop 1 value.now) }
     {
         let addr = XorSocketAddr::decode(value, id)?;

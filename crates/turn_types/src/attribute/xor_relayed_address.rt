@@ -12,8 +12,8 @@ use turn_stun::attribute::typed::{AttributeFromRaw, AttributeWrite};
 use turn_stun::attribute::xor_address::XorSocketAddr;
 use turn_stun::transaction::TransactionId;
 
-/// The address that a server has given to a client, to which peers send (RFC 8656, section 18.5).
-/// Contracts see it as the address.
+/// The relayed address that a server has allocated to a client, to which peers send (RFC 8656, section
+/// 18.5). Contracts see it as the address.
 #[derive(Clone, Copy, Debug, PartialEq, Eq)]
 pub struct XorRelayedAddress {
     addr: XorSocketAddr,
@@ -33,8 +33,8 @@ impl XorRelayedAddress {
     /// The type of the attribute.
     pub const TYPE: AttributeType = AttributeType { value: 0x0016 };
 
-    /// The attribute with this address, but for the flow information and the scope of an IPv6
-    /// address, which are not sent.
+    /// The attribute with this address, except the flow information and the scope of an IPv6 address,
+    /// which are not sent.
     pub fn new(addr: SocketAddr) -> XorRelayedAddress
         ensures addr { result ≡ plain addr }
         ensures value { (id : ℕ) → xor_value result id ≡ xor_value addr id }
@@ -66,7 +66,7 @@ impl<'a> AttributeFromRaw<'a> for XorRelayedAddress {
 
     fn from_value(value: &'a [u8], id: TransactionId) -> Option<XorRelayedAddress>
         ensures found { result ≡ xor_addr value.now id }
-        // It is written again as it was, the unread byte aside.
+        // It is written again unchanged, except the unread byte.
         ensures again { IfSome result (λ addr. xor_value addr id ≡ 0 ∷ drop 1 value.now) }
     {
         let addr = XorSocketAddr::decode(value, id)?;

@@ -19,24 +19,24 @@ use std::convert::AsSlice;
 use std::marker::Model;
 use turn_stun::transport::Transmit;
 
-/// The bytes of a stream that wait for the rest of their frame (RFC 8656, section 12.5).
+/// The buffered bytes of a stream that lack the rest of their frame (RFC 8656, section 12.5).
 ///
-/// A piece of the stream goes in by `incoming_tcp`, which gives out its first frame. Then `poll_recv`
-/// gives out the others, until it has none: what is left is fewer than 65,556 bytes, the front of the
-/// next frame. A stream whose next frame begins with the bits 10 or 11 is broken, since no frame does;
-/// and so is one whose bytes found no memory. It drops what it holds, and gives nothing from then on.
+/// `incoming_tcp` takes a piece of the stream, and returns its first frame. Then `poll_recv` returns the
+/// others, until there is none: fewer than 65,556 bytes remain, the start of the next frame. A stream
+/// whose next frame begins with the bits 10 or 11 is broken, since no frame does; and so is one for whose
+/// bytes a memory allocation failed. It drops its buffered bytes, and returns nothing from then on.
 ///
-/// Or a piece goes in by `feed`, and each frame is read where it is held: `front` lends it, and `pass`
-/// lets it go. So no frame is copied.
+/// Or `feed` takes a piece, and each frame is read where it is buffered: `front` borrows it, and `pass`
+/// drops it. So no frame is copied.
 ///
-/// Taking a frame moves no byte. At the end of a call the rest moves to the front where it is shorter
-/// than what was taken before it: so at most twice the bytes that wait are held, and over any calls no
-/// more bytes are moved than were taken.
+/// Taking a frame moves no byte. At the end of a call the rest moves to the front if it is shorter than
+/// the bytes taken before it: so at most twice the buffered bytes are held, and over any calls no more
+/// bytes are moved than were taken.
 #[derive(Debug, Drop)]
 pub struct TurnTcpBuffer {
-    /// What was taken and is not yet written over, and behind it what waits.
+    /// The bytes that were taken and not yet written over, and after them the buffered bytes.
     bytes: Vec<u8>,
-    /// How many bytes in front were taken.
+    /// How many bytes at the start were taken.
     start: usize,
     is_broken: bool,
     counts: TcpCounts,
@@ -54,7 +54,7 @@ impl Model for TurnTcpBuffer {
 }
 
 impl TurnTcpBuffer {
-    /// The buffer of a stream that has not begun. It takes no memory.
+    /// The buffer of a stream that has not begun. Allocates no memory.
     pub fn new(alloc: Global) -> TurnTcpBuffer
         ensures stream { result.stream ≡ framed [] }
         ensures start { result.start ≡ 0 }
@@ -68,31 +68,31 @@ impl TurnTcpBuffer {
         }
     }
 
-    /// Takes in a piece of the stream, and gives out the first frame, if it is whole by now.
+    /// Takes a piece of the stream, and returns the first frame, if it is now whole.
     ///
-    /// Where nothing waited, the frame is a range of what the piece carries: it is not copied, and a
-    /// piece that is one whole frame takes no memory. Else it is owned. The bytes behind it are kept
-    /// for `poll_recv`. A piece with no frame to give out is let go.
+    /// If the buffer was empty, the frame is a range of the piece: it is not copied, and a piece that is
+    /// one whole frame allocates no memory. Else it is owned. The bytes after it are kept for
+    /// `poll_recv`. A piece without a frame to return is dropped.
     ///
     /// # Errors
     ///
-    /// `AllocError` where there is no memory. The stream is then broken.
+    /// `AllocError` if memory allocation fails. The stream is then broken.
     pub fn incoming_tcp<T: AsSlice<u8> + Drop>(
         &mut self,
         transmit: Transmit<T>,
     ) -> Result<Option<IncomingTcp<T>>, AllocError>
-        // The piece goes behind what waits, and then it is the turn of what is in front.
+        // The piece is appended to the buffered bytes, and then the next frame is taken.
         ensures frame { IfOk result (λ given. (turn_at self.old.stream (Piece (T.items transmit.payload))).frame ≡ option_map (incoming_bytes T.items) given) }
         ensures named { IfOk result (λ given. IfSome given (IsNamedIncoming T.items)) }
         ensures place { IfOk result (λ given. IfSome given (ComesWith T.items self.old.stream.bytes transmit)) }
         ensures after { OnOk result (self.new.stream ≡ (turn_at self.old.stream (Piece (T.items transmit.payload))).after) }
 
-        // Without memory the stream breaks. One whole frame wants none where nothing waits.
+        // An allocation failure breaks the stream. One whole frame allocates none if the buffer is empty.
         ensures err { OnErr result (self.new.stream ≡ broken_stream) }
         ensures whole { self.old.stream.bytes ≡ [] → frame_len (T.items transmit.payload) ≡ Some (length (T.items transmit.payload)) → IsOk result }
         ensures broken { self.old.stream.is_broken ≡ true → (result ≡ Ok None) × (self.new ≡ self.old) }
 
-        // What is held, and what was moved.
+        // The bytes that are held, and those that were moved.
         ensures drained { IfOk result (λ given. IsNone given → length self.new.stream.bytes < 65556) }
         ensures kept { IsKept self.new }
         ensures counted { let left = left_of (with_piece self.old.stream (T.items transmit.payload)).bytes self.new in IsCounted self.old self.new left (front_of self.old left) }
@@ -107,7 +107,7 @@ impl TurnTcpBuffer {
         }
     }
 
-    /// `incoming_tcp` where nothing waits: a frame at the front of the piece is a range of it.
+    /// `incoming_tcp` with an empty buffer: a frame at the start of the piece is a range of it.
     fn first_of<T: AsSlice<u8> + Drop>(
         &mut self,
         transmit: Transmit<T>,
@@ -145,7 +145,7 @@ impl TurnTcpBuffer {
         }
     }
 
-    /// `incoming_tcp` behind bytes that wait: the piece is kept, and a frame at the front is copied out.
+    /// `incoming_tcp` after buffered bytes: the piece is kept, and the first frame is copied out.
     fn next_of<T: AsSlice<u8> + Drop>(
         &mut self,
         transmit: Transmit<T>,
@@ -179,22 +179,22 @@ impl TurnTcpBuffer {
         }
     }
 
-    /// Gives out the next frame that waits, if it is whole.
+    /// Returns the next buffered frame, if it is whole.
     ///
     /// # Errors
     ///
-    /// `AllocError` where there is no memory for the frame. The stream is then broken.
+    /// `AllocError` if memory allocation for the frame fails. The stream is then broken.
     pub fn poll_recv(&mut self) -> Result<Option<StoredTcp>, AllocError>
-        // It is the turn of what is in front.
+        // The next frame is taken.
         ensures frame { IfOk result (λ given. (turn_at self.old.stream Poll).frame ≡ option_map stored_bytes given) }
         ensures named { IfOk result (λ given. IfSome given IsNamedStored) }
         ensures after { OnOk result (self.new.stream ≡ (turn_at self.old.stream Poll).after) }
 
-        // Without memory the stream breaks. Only a frame wants memory.
+        // An allocation failure breaks the stream. Only a frame needs an allocation.
         ensures err { OnErr result (self.new.stream ≡ broken_stream) }
         ensures memory { IsErr result → IsSome (turn_at self.old.stream Poll).frame }
 
-        // What is held, and what was moved.
+        // The bytes that are held, and those that were moved.
         ensures drained { IfOk result (λ given. IsNone given → length self.new.stream.bytes < 65556) }
         ensures kept { IsKept self.new }
         ensures counted { let left = left_of self.old.stream.bytes self.new in IsCounted self.old self.new left (self.old.start + left) }
@@ -216,8 +216,8 @@ impl TurnTcpBuffer {
         }
     }
 
-    /// The bytes that wait, none of a broken stream. They are moved at most once, and no memory is
-    /// taken.
+    /// The buffered bytes, none of a broken stream. They are moved at most once, and no memory is
+    /// allocated.
     pub fn into_inner(self) -> Vec<u8>
         ensures { result.items ≡ self.stream.bytes }
     {
@@ -232,7 +232,7 @@ impl TurnTcpBuffer {
         bytes
     }
 
-    /// Whether nothing waits.
+    /// Whether no bytes are buffered.
     pub fn is_empty(&self) -> bool
         ensures { IsTrue result ↔ (self.now.stream.bytes ≡ []) }
     {

@@ -3,10 +3,10 @@
 ghost use Rattle.std.specs.Prelude.{◌≡◌};
 ghost use Rattle.turn_types.specs.Buffers.{with_taken, with_moved};
 
-/// How many bytes went through a buffer, and how many of them it had to move. Both stop at 2^64 - 1.
+/// How many bytes passed through a buffer, and how many of them it had to move. Both stop at 2^64 - 1.
 #[derive(Clone, Copy, Debug, PartialEq, Eq)]
 pub struct TcpCounts {
-    /// Bytes of the frames that were given out, and bytes that were dropped when the stream broke.
+    /// Bytes of the frames that were returned, and bytes that were dropped when the stream broke.
     pub taken: u64,
     /// Bytes that were moved to the front of the buffer.
     pub moved: u64,
@@ -16,7 +16,7 @@ impl TcpCounts {
     /// Nothing yet.
     pub(super) const NONE: TcpCounts = TcpCounts { taken: 0, moved: 0 };
 
-    /// Counts bytes that were given out or dropped.
+    /// Counts bytes that were returned or dropped.
     pub(super) fn add_taken(&mut self, len: usize)
         ensures { self.new ≡ with_taken len self.old }
     {

@@ -1,4 +1,4 @@
-//! What stands at the front of a stream.
+//! What a stream begins with.
 
 ghost use Rattle.std.specs.Prelude.{◌≡◌, ◌^◌, ◌<◌, ◌≤◌, length};
 ghost use Rattle.turn_types.specs.Frames.{begins_no_frame};
@@ -7,23 +7,23 @@ ghost use Rattle.turn_types.specs.Heads.{IsHead};
 /// The bytes of a message's header (RFC 8489, section 5).
 const MESSAGE_HEADER_LEN: usize = 20;
 
-/// The bytes of a channel frame's header (RFC 8656, section 12.4).
+/// The bytes of a ChannelData message's header (RFC 8656, section 12.4).
 const CHANNEL_HEADER_LEN: usize = 4;
 
-/// What stands at the front of a stream: `Message` and `Channel` are a whole frame of so many bytes.
+/// What a stream begins with: `Message` and `Channel` are a whole frame of so many bytes.
 pub(super) enum Head {
     /// Less than a frame.
     Partial,
-    /// What no frame begins with.
+    /// Bytes that no frame begins with.
     NoFrame,
     /// A message.
     Message(usize),
-    /// A channel frame with its padding.
+    /// A ChannelData message with its padding.
     Channel(usize),
 }
 
-/// What stands at the front of these bytes, by their header alone: a message's cookie is not looked
-/// at (our choice: a message that does not parse is whole all the same).
+/// What these bytes begin with, by their header alone: a message's cookie is not checked (our choice: a
+/// message that does not parse is whole all the same).
 pub(super) fn head_of(bytes: &[u8]) -> Head
     ensures { IsHead bytes.now result }
 {
@@ -49,7 +49,7 @@ pub(super) fn head_of(bytes: &[u8]) -> Head
     }
 }
 
-/// Whether the first two bits are 10 or 11, with which no frame begins. The first byte tells.
+/// Whether the first two bits are 10 or 11, with which no frame begins. The first byte is enough.
 pub(super) fn begins_no_frame(bytes: &[u8]) -> bool
     ensures { result ≡ begins_no_frame bytes.now }
 {

@@ -1,28 +1,28 @@
-//! The frames that a buffer gives out.
+//! The frames that a buffer returns.
 
 use std::ops::Range;
 use turn_stun::transport::Transmit;
 
-/// A frame that came with a piece of a stream: the whole of it, a message or a channel frame with its
-/// padding. It is `Complete` where nothing waited, and then a range of what the piece carries; else it
-/// is `Stored` and owned. The piece is handed back with it.
+/// A frame that is whole with a piece of a stream: a STUN message or a ChannelData message with its
+/// padding. It is `Complete` if the buffer was empty, and then a range of the piece; else it is `Stored`
+/// and owned. The piece is returned with it.
 #[derive(Debug, Drop)]
 pub enum IncomingTcp<T> {
     /// A message in the piece.
     CompleteMessage(Transmit<T>, Range<usize>),
-    /// A channel frame in the piece.
+    /// A ChannelData message in the piece.
     CompleteChannel(Transmit<T>, Range<usize>),
     /// A message that began before the piece.
     StoredMessage(Vec<u8>, Transmit<T>),
-    /// A channel frame that began before the piece.
+    /// A ChannelData message that began before the piece.
     StoredChannel(Vec<u8>, Transmit<T>),
 }
 
-/// A frame that waited: the whole of it, a message or a channel frame with its padding.
+/// A buffered frame: a whole STUN message, or a whole ChannelData message with its padding.
 #[derive(Debug, Drop)]
 pub enum StoredTcp {
     /// A message.
     Message(Vec<u8>),
-    /// A channel frame.
+    /// A ChannelData message.
     Channel(Vec<u8>),
 }

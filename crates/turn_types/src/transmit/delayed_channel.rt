@@ -1,4 +1,4 @@
-//! A channel frame that is built late (RFC 8656, section 12.5).
+//! A ChannelData message that is built late (RFC 8656, section 12.5).
 
 ghost use Rattle.std.specs.Prelude.{◌≡◌, ◌-◌, ◌^◌, ◌<◌, ◌≤◌, length, replicate};
 
@@ -6,10 +6,11 @@ use crate::transmit::{DelayedTransmitBuild, framing};
 use std::alloc::{AllocError, Global};
 use std::convert::AsSlice;
 
-/// A channel frame that is built when it is sent: a number, and a payload that is lent or owned.
+/// A ChannelData message that is built when it is sent: a number, and a payload that is borrowed or
+/// owned.
 ///
-/// The frame is padded with zeros to a multiple of four bytes, over a datagram too, where it may but
-/// need not be (RFC 8656, section 12.5).
+/// It is padded with zeros to a multiple of four bytes, over a datagram too, where padding is optional
+/// (RFC 8656, section 12.5).
 #[derive(Debug, Drop)]
 pub struct DelayedChannel<T: AsSlice<u8>> {
     id: u16,
@@ -24,7 +25,7 @@ impl<T: AsSlice<u8>> DelayedChannel<T> {
     ghost use Rattle.turn_types.specs.Channel.{IsChannel, channel_frame};
     ghost use Rattle.turn_types.specs.Delayed.{delayed_channel_bytes};
 
-    /// The frame that carries this payload, of at most 65,535 bytes, over the channel of this number,
+    /// The message that carries this payload, of at most 65,535 bytes, over the channel with this number,
     /// from 0x4000 to 0x7fff.
     pub fn new(id: u16, payload: T) -> DelayedChannel<T>
         requires least { 0x4000 ≤ id }

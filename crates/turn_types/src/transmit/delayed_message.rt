@@ -19,7 +19,7 @@ use turn_stun::attribute::xor_address::XorSocketAddr;
 use turn_stun::message::header::{MessageClass, MessageType};
 use turn_stun::transaction::TransactionId;
 
-/// A Send indication that is built when it is sent: a peer, and a payload that is lent or owned.
+/// A Send indication that is built when it is sent: a peer, and a payload that is borrowed or owned.
 #[derive(Debug, Drop)]
 pub struct DelayedMessage<T: AsSlice<u8>> {
     peer: XorSocketAddr,
@@ -31,8 +31,8 @@ pub struct DelayedMessage<T: AsSlice<u8>> {
 impl<T: AsSlice<u8>> DelayedMessage<T> {
     ghost use Rattle.turn_types.specs.Delayed.{delayed_message_bytes};
 
-    /// The message by which a server is asked to send the payload to the peer. The payload has at
-    /// most 65,504 bytes, so that the message has room for it beside an IPv6 address.
+    /// The message that makes a server send the payload to the peer. The payload has at most 65,504
+    /// bytes, so that the message has room for it beside an IPv6 address.
     pub fn for_server(peer: SocketAddr, payload: T, id: TransactionId) -> DelayedMessage<T>
         requires { length (T.items payload) ≤ 65504 }
         ensures bytes { delayed_message_bytes result ≡ send_indication peer (T.items payload) id }

@@ -1,4 +1,4 @@
-//! Attributes and channel frames, written where they go.
+//! Attributes and ChannelData messages, written in place.
 
 ghost use Rattle.std.specs.Prelude.{◌≡◌, ◌+◌, ◌^◌, ◌<◌, ◌≤◌, ◌++◌, length, replicate, OnOk};
 ghost use Rattle.std.specs.Int.{w16, to_be_bytes};
@@ -15,8 +15,8 @@ pub(super) fn padded_len(len: usize) -> usize
     (len + 3) / 4 * 4
 }
 
-/// A number and a length, which stand before the value of an attribute and before the payload of a
-/// channel frame.
+/// A number and a length, which precede the value of an attribute and the payload of a ChannelData
+/// message.
 pub(super) fn header(number: u16, len: usize) -> [u8; 4]
     requires { len < 2 ^ 16 }
     ensures { result ≡ to_be_bytes w16 number ++ to_be_bytes w16 len }

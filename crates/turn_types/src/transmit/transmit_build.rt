@@ -1,4 +1,4 @@
-//! A packet that is built late, and its way.
+//! A packet that is built late, with its source and destination.
 
 ghost use Rattle.std.specs.Prelude.{◌≡◌, length, IfOk};
 
@@ -8,21 +8,21 @@ use std::net::SocketAddr;
 use turn_stun::data::Data;
 use turn_stun::transport::{Transmit, TransportType};
 
-/// A packet that is built when it is sent, and its way.
+/// A packet that is built when it is sent, with its source and destination.
 #[derive(Debug, Drop)]
 pub struct TransmitBuild<T> {
     /// What makes the bytes of the packet.
     pub payload: T,
-    /// What carries the packet.
+    /// The transport of the packet.
     pub transport: TransportType,
-    /// Where it comes from.
+    /// Its source.
     pub from: SocketAddr,
-    /// Where it goes.
+    /// Its destination.
     pub to: SocketAddr,
 }
 
 impl<T: DelayedTransmitBuild> TransmitBuild<T> {
-    /// The packet with these bytes and this way.
+    /// The packet with these bytes, source and destination.
     pub fn new(
         payload: T,
         transport: TransportType,
@@ -54,8 +54,8 @@ impl<T: DelayedTransmitBuild> TransmitBuild<T> {
         Ok(Transmit::new(bytes, self.transport, self.from, self.to))
     }
 
-    /// Writes the bytes of the packet into a place of just their length, and answers this length.
-    /// The caller reads the way off the fields before.
+    /// Writes the bytes of the packet into a slice of exactly their length, and returns this length. The
+    /// caller reads source and destination from the fields before.
     pub fn write_into(self, place: &mut [u8]) -> usize
         requires { length place.old ≡ length (T.bytes self.payload) }
         ensures written { place.new ≡ T.bytes self.payload }

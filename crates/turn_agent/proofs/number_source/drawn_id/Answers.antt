@@ -5,7 +5,7 @@ use Rattle.turn_agent.proofs.number_source.drawn_id.Goals as goal
 below : (p : ℕ) → p < 2 ^ 68 → p % 2 ^ 68 ≡ p
 below p h = omega arith
 
--- the word behind the next one
+-- the word after the next one
 twice : (p : ℕ) → ((p + 1) % 2 ^ 68 + 1) % 2 ^ 68 ≡ (p + 2) % 2 ^ 68
 twice p = omega arith
 

@@ -9,7 +9,7 @@ pub returns-then-raw-ne20 : goal.returns-then-raw-ne20
 returns-then-raw-ne20 c = λ key holds.
     rw (← c.in-Some.ensures.first) (ap Some (sym (unequal _ _ _ (λ e. c.if-raw-ne20.true (e ∙ length-hmac_sha1 key _)))))
 
--- the attribute ends within the message, which its length field can tell
+-- the attribute ends within the message, at an offset that its length field can express
 pub sha1_value-requires-clause-short : goal.sha1_value-requires-clause-short
 sha1_value-requires-clause-short c =
     let short = IsMessage-short c.args.message.now _ _ _ c.as_bytes-bytes.ensures.message

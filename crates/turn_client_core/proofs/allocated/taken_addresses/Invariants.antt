@@ -5,7 +5,7 @@ use Rattle.turn_client_api.specs.Effect.{relayed_among, relayed_in, taken_addres
 use Rattle.turn_client_core.specs.Allocated.{missing}
 use Rattle.turn_client_core.proofs.allocated.taken_addresses.Given as goal
 
--- those that are taken, and what is taken of the addresses that are left
+-- the addresses taken so far, and those taken of the rest
 abbrev pub invariant-loop-raw : goal.invariant-loop-raw
 invariant-loop-raw l =
     l.taken.items ++ taken_addresses (missing l.taken.items l.families) (relayed_among (id_of l.message) (attributes_left l.raw-iterator))

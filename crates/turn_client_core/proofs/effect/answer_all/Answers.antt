@@ -8,8 +8,8 @@ use Rattle.turn_client_grants.specs.Ledger.{on}
 use Rattle.turn_stun.specs.Message.{id_of}
 use Rattle.turn_client_core.proofs.effect.answer_all.Goals as goal
 
-pub returns : goal.returns
-returns c = λ s.
+pub returns-clause-state : goal.returns-clause-state
+returns-clause-state c = λ s.
     let f = effect (id_of c.args.message.now) c.args.is_granted c.args.message.now c.args.now in
     let first = c.answer_one-first.result in
     let purposes = c.args.purposes.now in

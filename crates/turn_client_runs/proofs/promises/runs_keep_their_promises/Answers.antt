@@ -1,5 +1,4 @@
-use Rattle.turn_client_runs.proofs.PromiseLemmas.{run-bound, run-cuts, run-few, run-granted, run-hears, run-numbers, run-realm, run-replies}
-use Rattle.turn_client_runs.proofs.WeightLemmas.{run-ids}
+use Rattle.turn_client_runs.proofs.PromiseLemmas.{run-bound, run-cuts, run-few, run-granted, run-hears, run-held, run-numbers, run-realm, run-replies, run-short}
 use Rattle.turn_client_runs.proofs.promises.runs_keep_their_promises.Goals as goal
 
 pub returns-clause-granted : goal.returns-clause-granted
@@ -23,8 +22,11 @@ returns-clause-challenges c = run-few
 pub returns-clause-realm : goal.returns-clause-realm
 returns-clause-realm c = run-realm
 
+pub returns-clause-held : goal.returns-clause-held
+returns-clause-held c = run-held
+
+pub returns-clause-short : goal.returns-clause-short
+returns-clause-short c = run-short
+
 pub returns-clause-cuts : goal.returns-clause-cuts
 returns-clause-cuts c = run-cuts
-
-pub returns-clause-ids : goal.returns-clause-ids
-returns-clause-ids c = run-ids

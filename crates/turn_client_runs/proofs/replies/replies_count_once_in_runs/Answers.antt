@@ -1,11 +1,8 @@
-use Rattle.turn_client_runs.proofs.ReplyLemmas.{made-between, made-in, made-until, reply-again, reply-ends, reply-gone}
+use Rattle.turn_client_runs.proofs.ReplyLemmas.{made-between, made-in, made-until, reply-again, reply-ends}
 use Rattle.turn_client_runs.proofs.replies.replies_count_once_in_runs.Goals as goal
 
 pub returns-clause-ended : goal.returns-clause-ended
 returns-clause-ended c = λ s calls one there is. reply-ends one is
-
-pub returns-clause-gone : goal.returns-clause-gone
-returns-clause-gone c = λ s calls one there is. reply-gone one is
 
 pub returns-clause-again : goal.returns-clause-again
 returns-clause-again c = reply-again

@@ -12,7 +12,7 @@ use Rattle.turn_live.proofs.StepLemmas.{head_unread}
 use Rattle.turn_live.proofs.TalkLemmas.{head_alone, head_heard, head_lost, head_unheard}
 use Rattle.turn_live.proofs.session.hold_session.Goals as goal
 
--- a line that ended otherwise than by its LF
+-- a line that did not end with its LF
 no_feed : (end : LineEnd) → (end ≡ Input) ⊎ (end ≡ Size) → end ≡ Feed → ⊥
 no_feed end (inl input) feed = cc
 no_feed end (inr size) feed = cc

@@ -1,4 +1,4 @@
-//! What the server says, and what the caller does, of plain lists.
+//! What the server answers, and what the caller does, on plain lists.
 
 use crate::grants::plain::{
     Asked, Kind, Plain, Reason, Row, SECOND, Stage, TRANSPORT, Told, address, byte_of, family,
@@ -8,7 +8,7 @@ use std::alloc::AllocError;
 use turn_client_api::{Purpose, TurnEvent};
 
 impl Plain {
-    /// The server allocated this address, of two families that were asked for.
+    /// The server allocated this address, of two requested families.
     pub(crate) fn allocated(&mut self, n: u8, secs: u32, now: u64) -> Result<(), AllocError> {
         let mut row = Row::new(Kind::Allocation, u32::from(is_ipv6(n)), n);
         row.until = later(now, u64::from(secs));
@@ -40,7 +40,7 @@ impl Plain {
         }
     }
 
-    /// The row that was asked for goes to the end, and is active.
+    /// The pending row is moved to the end, and is active.
     fn stands(&mut self, row: &Row, until: u64) -> Result<(), AllocError> {
         let mut granted = *row;
         granted.stage = Stage::Active;
@@ -49,7 +49,7 @@ impl Plain {
         self.add(&granted)
     }
 
-    /// The row lasts longer, and is asked for no more.
+    /// The row has a later expiry, and no request is listed for it any more.
     fn lasts(&mut self, row: &Row, until: u64) {
         let mut longer = *row;
         longer.until = until;
@@ -57,7 +57,7 @@ impl Plain {
         self.put(&longer);
     }
 
-    /// The server answered for the channel of this number, by a request of this ID.
+    /// The server answered for the channel with this number, in reply to a request with this ID.
     pub(crate) fn channel_answered(
         &mut self,
         number: u16,
@@ -80,7 +80,7 @@ impl Plain {
         }
     }
 
-    /// The permissions of the same request come with the channel.
+    /// The permissions of the same request are granted with the channel.
     fn channel_granted(&mut self, row: &Row, id: u8, now: u64) -> Result<(), AllocError> {
         let given = self.asked_by(id);
         if given.first.kind == Kind::Permission {
@@ -93,7 +93,7 @@ impl Plain {
         self.wait(TurnEvent::ChannelCreated(TRANSPORT, address(row.peer)))
     }
 
-    /// The pending permissions of the same request go with the channel.
+    /// The pending permissions of the same request are removed with the channel.
     fn channel_refused(&mut self, row: &Row, id: u8) -> Result<(), AllocError> {
         let given = self.asked_by(id);
         self.drop_row(row.kind, row.key, Told::Last)?;
@@ -103,7 +103,7 @@ impl Plain {
         self.sweep(Told::Last)
     }
 
-    /// Neither the number nor the peer of a channel that is over is bound for a while.
+    /// Neither the number nor the peer of an expired channel is bound for a while.
     pub(crate) fn reserves(&mut self, row: &Row) -> Result<(), AllocError> {
         let mut kept = *row;
         kept.stage = Stage::Reserved;
@@ -112,7 +112,7 @@ impl Plain {
         self.add(&kept)
     }
 
-    /// The server answered the CONNECT to this peer, with its number of the connection or an error.
+    /// The server answered the CONNECT to this peer, with a connection ID or an error.
     pub(crate) fn connect_answered(
         &mut self,
         peer: u8,
@@ -125,7 +125,7 @@ impl Plain {
         }
     }
 
-    /// The caller is to open a data connection.
+    /// Offers a data connection to the caller.
     pub(crate) fn offered(
         &mut self,
         number: u32,
@@ -137,7 +137,7 @@ impl Plain {
         self.add(&row)
     }
 
-    /// The first offer of this number and peer is there no more.
+    /// Removes the first offer with this connection ID and peer.
     pub(crate) fn offer_taken(&mut self, number: u32, peer: u8) -> Result<(), AllocError> {
         let key = offer_key(number, peer);
         let mut is_taken = false;
@@ -148,7 +148,7 @@ impl Plain {
         self.sweep(Told::Never)
     }
 
-    /// The caller opened a connection, which a request of this ID is to bind.
+    /// The caller opened a connection, which a request with this ID is to bind.
     pub(crate) fn opened(
         &mut self,
         number: u32,
@@ -165,7 +165,7 @@ impl Plain {
         self.list(id, &row, purpose)
     }
 
-    /// The server bound the connection from this local end.
+    /// The server bound the connection from this local address.
     pub(crate) fn bound(&mut self, local: u8) -> Result<(), AllocError> {
         let Some(row) = self.find(Kind::Connection, u32::from(local)) else {
             return Ok(());
@@ -177,13 +177,13 @@ impl Plain {
         self.wait(TurnEvent::TcpConnected(address(row.peer)))
     }
 
-    /// It did not, and the caller is to close its end.
+    /// The server did not bind the connection, and the caller is to close its end.
     pub(crate) fn not_bound(&mut self, local: u8) -> Result<(), AllocError> {
         self.closes.push_back(address(local))?;
         self.drop_row(Kind::Connection, u32::from(local), Told::Last)
     }
 
-    /// It is to bind the connection by a request of another ID.
+    /// The server is to bind the connection by a request with another ID.
     pub(crate) fn bound_again(
         &mut self,
         local: u8,
@@ -202,7 +202,7 @@ impl Plain {
         self.list(id, &row, purpose)
     }
 
-    /// The connection from this local end is gone, if there is one.
+    /// Removes the connection from this local address, if there is one.
     pub(crate) fn gone(&mut self, local: u8) -> Result<(), AllocError> {
         if self.find(Kind::Connection, u32::from(local)).is_none() {
             return Ok(());
@@ -211,7 +211,7 @@ impl Plain {
         self.drop_row(Kind::Connection, u32::from(local), Told::Never)
     }
 
-    /// The allocation of this family lasts so many seconds more.
+    /// The allocation of this family expires so many seconds from now.
     pub(crate) fn prolonged(&mut self, n: u8, secs: u32, now: u64) {
         if let Some(row) = self.find(Kind::Allocation, u32::from(is_ipv6(n))) {
             self.lasts(&row, later(now, u64::from(secs)));
@@ -227,7 +227,7 @@ impl Plain {
         }
     }
 
-    /// A request of this ID gives all allocations back.
+    /// A request with this ID deletes all allocations.
     pub(crate) fn given_back(&mut self, id: u8, now: u64) -> Result<(), AllocError> {
         for row in self.rows.iter_mut() {
             row.goes = row.is_at(Kind::Permission, Stage::Active)
@@ -249,7 +249,7 @@ impl Plain {
         Ok(())
     }
 
-    /// All that is listed for the one ID is listed for the other too.
+    /// All that is listed for the first ID is listed for the second too.
     pub(crate) fn asked_again(&mut self, id: u8, fresh: u8) -> Result<(), AllocError> {
         let count = self.asked.len();
         for place in 0..count {
@@ -266,12 +266,12 @@ impl Plain {
     }
 }
 
-/// The moment so many seconds later.
+/// The time so many seconds later.
 pub(crate) fn later(now: u64, secs: u64) -> u64 {
     now.saturating_add(secs.saturating_mul(SECOND))
 }
 
-/// What an offer is known by.
+/// What identifies an offer.
 pub(crate) fn offer_key(number: u32, peer: u8) -> u32 {
     number.wrapping_mul(8).wrapping_add(u32::from(peer))
 }

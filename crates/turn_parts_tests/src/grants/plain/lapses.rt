@@ -1,4 +1,4 @@
-//! What ends as time passes, of plain lists.
+//! What expires as time passes, on plain lists.
 
 use crate::grants::plain::{
     Kind, Plain, Reason, Row, Stage, TRANSPORT, Told, address, byte_of, drop_listed, is_ipv6,
@@ -6,7 +6,7 @@ use crate::grants::plain::{
 use std::alloc::AllocError;
 use turn_client_api::TurnEvent;
 
-/// What one request was made for.
+/// The purposes of one request.
 #[derive(Clone, Copy)]
 pub(crate) struct Given {
     pub(crate) id: Option<u8>,
@@ -24,12 +24,12 @@ impl Given {
         }
     }
 
-    /// Whether it was made for the row.
+    /// Whether the request was made for the row.
     pub(crate) fn names(&self, row: &Row) -> bool {
         row.is(self.first.kind, self.first.key) || row.is(self.second.kind, self.second.key)
     }
 
-    /// Whether the row is an offer for which the server asked by it.
+    /// Whether the row is an offer that the server made by this request.
     fn offers(&self, row: &Row) -> bool {
         match (self.id, row.reason) {
             (Some(id), Reason::Request(request)) => row.kind == Kind::Offer && id == request,
@@ -38,7 +38,7 @@ impl Given {
     }
 }
 
-/// One of the steps by which rows of one family end.
+/// One of the steps by which rows of one family expire.
 #[derive(Clone, Copy, PartialEq, Eq)]
 enum Step {
     All,
@@ -50,7 +50,7 @@ enum Step {
 }
 
 impl Plain {
-    /// What the request of this ID was made for.
+    /// The purposes of the request with this ID.
     pub(crate) fn asked_by(&self, id: u8) -> Given {
         let mut given = Given::none(Some(id % 16));
         let mut is_first = true;
@@ -67,7 +67,7 @@ impl Plain {
         given
     }
 
-    /// All that ends up to this moment, and what the request that was given up was made for.
+    /// All that expires by this time, and what the request that timed out was made for.
     pub(crate) fn lapse(&mut self, id: Option<u8>, now: u64) -> Result<(), AllocError> {
         let given = match id {
             Some(id) => self.asked_by(id),
@@ -100,7 +100,7 @@ impl Plain {
         self.asked.iter().any(|asked| row.is(asked.kind, asked.key))
     }
 
-    /// The allocation goes with all that is in it, or what ends in it does.
+    /// Removes the allocation with all that is in it, or what expires in it.
     fn lapse_one(&mut self, relay: &Row, given: &Given, now: u64) -> Result<(), AllocError> {
         let is_kept = relay.is_marked && self.has_request(relay) && !given.names(relay);
         if relay.until <= now && !is_kept {
@@ -124,7 +124,7 @@ impl Plain {
         self.step(relay, Step::Free, given, now, Told::Never)
     }
 
-    /// The rows of the allocation that end so go.
+    /// Removes the rows of the allocation that expire in this step.
     fn step(
         &mut self,
         relay: &Row,
@@ -139,7 +139,7 @@ impl Plain {
         self.sweep(told)
     }
 
-    /// The last channel of the allocation that is past its end is reserved.
+    /// The last channel of the allocation whose expiry has passed is reserved.
     fn lapse_channel(&mut self, relay: &Row, now: u64) -> Result<(), AllocError> {
         let mut last = None;
         for row in &self.rows {
@@ -165,7 +165,8 @@ impl Plain {
         Ok(())
     }
 
-    /// What is in the allocation and was asked for by the request may be asked for again.
+    /// Removes the listings for what is in the allocation and was requested by the request, so that
+    /// it may be requested again.
     fn unlist_given(&mut self, relay: &Row, given: &Given) {
         for row in &self.rows {
             if is_in(relay, row) && given.names(row) {
@@ -180,7 +181,7 @@ fn is_in(relay: &Row, row: &Row) -> bool {
     is_ipv6(row.peer) == is_ipv6(relay.peer)
 }
 
-/// Whether the row ends so.
+/// Whether the row expires in this step.
 fn ends(row: &Row, step: Step, given: &Given, now: u64) -> bool {
     match step {
         Step::All => true,

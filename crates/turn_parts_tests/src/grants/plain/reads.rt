@@ -1,4 +1,4 @@
-//! What is read off plain lists.
+//! What is read from plain lists.
 
 use crate::grants::plain::answers::offer_key;
 use crate::grants::plain::{
@@ -8,7 +8,7 @@ use turn_client_api::{DataConnection, DataOffer, Origin, Progress, Purpose, Rela
 use turn_stun::instant::Instant;
 
 impl Row {
-    /// How far it has come.
+    /// The progress of the row.
     fn progress(&self) -> Progress {
         match self.stage {
             Stage::Pending => Progress::Pending,
@@ -17,7 +17,7 @@ impl Row {
         }
     }
 
-    /// The allocation for which it stands.
+    /// The allocation that the row is.
     pub(crate) fn relay(&self) -> Relay {
         Relay {
             relayed: address(self.peer),
@@ -27,7 +27,7 @@ impl Row {
         }
     }
 
-    /// The data connection for which it stands.
+    /// The data connection that the row is.
     fn connection(&self) -> DataConnection {
         let deadline = match self.stage {
             Stage::Pending => Some(at(self.until)),
@@ -40,7 +40,7 @@ impl Row {
         }
     }
 
-    /// Why it is offered.
+    /// The origin of the offer that the row is.
     fn origin(&self) -> Origin {
         match self.reason {
             Reason::Own => Origin::OwnConnect,
@@ -49,14 +49,14 @@ impl Row {
         }
     }
 
-    /// Whether it is of this kind, and this peer's.
+    /// Whether the row has this kind and this peer.
     fn is_to(&self, kind: Kind, peer: u8) -> bool {
         self.kind == kind && self.peer == peer
     }
 }
 
 impl Plain {
-    /// The row at this place, counted around.
+    /// The row at this place, modulo the number of rows.
     pub(crate) fn row_of(&self, n: u8) -> Option<Row> {
         let count = self.rows.len();
         if count == 0 {
@@ -65,7 +65,7 @@ impl Plain {
         self.rows.get(usize::from(n) % count).map(|row| *row)
     }
 
-    /// Whether few offers stand, so that the test takes no longer than it has to.
+    /// Whether there are few offers, so that the test takes no longer than it has to.
     pub(crate) fn has_few_offers(&self) -> bool {
         let mut count = 0usize;
         for row in &self.rows {
@@ -103,7 +103,7 @@ impl Plain {
         self.rows.iter().any(|row| row.is_to(Kind::Channel, peer) && row.stage != Stage::Reserved)
     }
 
-    /// The number of the first active channel to the peer, and how long it lasts.
+    /// The number of the first active channel to the peer, and its expiry.
     pub(crate) fn active_channel(&self, peer: u8) -> Option<(u16, Instant)> {
         for row in &self.rows {
             if row.is_to(Kind::Channel, peer) && row.stage == Stage::Active {
@@ -113,7 +113,7 @@ impl Plain {
         None
     }
 
-    /// Up to when a reserved channel keeps the peer from being bound.
+    /// Until when a reserved channel keeps the peer from being bound.
     pub(crate) fn reserved_until(&self, peer: u8, now: u64) -> Option<Instant> {
         for row in &self.rows {
             if row.is_to(Kind::Channel, peer) && row.stage == Stage::Reserved && now <= row.until {
@@ -162,7 +162,7 @@ impl Plain {
             .map(|row| row.origin())
     }
 
-    /// The offer that the caller is told of next.
+    /// The offer that is reported next.
     pub(crate) fn next_offer(&self) -> Option<Row> {
         let Some(first) = self.first_allocation() else {
             return None;
@@ -176,7 +176,7 @@ impl Plain {
         self.untold(!is_ipv6(first.peer))
     }
 
-    /// The first offer over IPv6, or over IPv4, that the caller was not told of.
+    /// The first offer over IPv6, or over IPv4, that was not reported.
     fn untold(&self, over_ipv6: bool) -> Option<Row> {
         for row in &self.rows {
             if row.kind == Kind::Offer && !row.is_marked && is_ipv6(row.peer) == over_ipv6 {
@@ -186,7 +186,7 @@ impl Plain {
         None
     }
 
-    /// The caller is told of the offer that is next.
+    /// Marks the next offer as reported.
     pub(crate) fn told(&mut self) {
         let Some(next) = self.next_offer() else {
             return;
@@ -210,12 +210,12 @@ impl Plain {
         count
     }
 
-    /// Whether a request of this ID is listed.
+    /// Whether a request with this ID is listed.
     pub(crate) fn is_asked(&self, id: u8) -> bool {
         self.asked.iter().any(|asked| asked.id == id % 16)
     }
 
-    /// The ID of the first request that is to bind the connection from this local end.
+    /// The ID of the first request that is to bind the connection from this local address.
     pub(crate) fn binds_by(&self, local: u8) -> Option<u8> {
         for asked in &self.asked {
             if asked.kind == Kind::Connection && asked.key == u32::from(local) {
@@ -225,14 +225,14 @@ impl Plain {
         None
     }
 
-    /// Whether one is, or the server made one of this ID.
+    /// Whether a request with this ID is listed, or the server made an offer by one with this ID.
     pub(crate) fn is_listed(&self, id: u8) -> bool {
         self.is_asked(id)
             || self.rows.iter().any(|row| row.kind == Kind::Offer
                 && row.reason == Reason::Request(id % 16))
     }
 
-    /// The purpose at this place of those that the request of this ID was made for.
+    /// The purpose at this place of those that the request with this ID was made for.
     pub(crate) fn purpose(&self, id: u8, place: usize) -> Option<Purpose> {
         let mut left = place;
         for asked in &self.asked {
@@ -247,7 +247,7 @@ impl Plain {
     }
 }
 
-/// The offer for which the row stands.
+/// The offer that the row is.
 pub(crate) fn offer_of(row: &Row) -> DataOffer {
     DataOffer {
         connection_id: row.key / 8,

@@ -1,4 +1,4 @@
-//! What the server answers, and what ends as time passes.
+//! What the server answers, and what expires as time passes.
 
 use crate::grants::plain::{Kind, Plain, address, at, family, id};
 use crate::grants::random::Draw;
@@ -6,7 +6,7 @@ use std::alloc::AllocError;
 use turn_client_grants::{GrantLedger, family_of};
 use turn_types::AddressFamily;
 
-/// So many of ten answers are successes.
+/// Whether the server's answer is a success: about seven of ten are.
 fn is_granted(draw: &Draw) -> bool {
     draw.m % 10 < 7
 }
@@ -28,7 +28,7 @@ pub(crate) fn allocation(
     plain.allocated(draw.n % 8, lifetime, draw.now)
 }
 
-/// No allocation is asked for any more.
+/// No allocation is requested any more.
 pub(crate) fn no_allocation(ledger: &mut GrantLedger, plain: &mut Plain) -> Result<(), AllocError> {
     ledger.unlist_allocates();
     Ok(plain.unlist(Kind::Allocate, 0))
@@ -81,7 +81,7 @@ pub(crate) fn refresh(
     Ok(plain.prolonged(draw.n % 8, 600, draw.now))
 }
 
-/// A call found an allocation past its end.
+/// A call found that the expiry of an allocation has passed.
 pub(crate) fn expired(
     ledger: &mut GrantLedger,
     plain: &mut Plain,
@@ -94,7 +94,7 @@ pub(crate) fn expired(
     Ok(())
 }
 
-/// The server took all allocations back.
+/// The server deleted all allocations.
 pub(crate) fn given_back(
     ledger: &mut GrantLedger,
     plain: &mut Plain,
@@ -107,7 +107,7 @@ pub(crate) fn given_back(
     plain.clear()
 }
 
-/// What ends up to now, without a request that was given up.
+/// What expires by now, without a request that timed out.
 pub(crate) fn lapse(
     ledger: &mut GrantLedger,
     plain: &mut Plain,
@@ -117,7 +117,7 @@ pub(crate) fn lapse(
     plain.lapse(None, draw.now)
 }
 
-/// What ends up to now, and what the request that is given up was made for.
+/// What expires by now, and what a request that timed out was made for.
 pub(crate) fn lapse_given_up(
     ledger: &mut GrantLedger,
     plain: &mut Plain,

@@ -1,4 +1,4 @@
-//! What a client asks for, and what it gives back.
+//! What a client requests, and what it deletes.
 
 use crate::grants::plain::{Kind, Plain, Row, Stage, address, at, family, id, number_of};
 use crate::grants::random::Draw;
@@ -6,7 +6,7 @@ use std::alloc::AllocError;
 use turn_client_api::{Grant, Progress, Purpose};
 use turn_client_grants::{GrantLedger, Purposes};
 
-/// A permission, where there is none.
+/// A permission, if there is none.
 pub(crate) fn permission(
     ledger: &mut GrantLedger,
     plain: &mut Plain,
@@ -30,7 +30,7 @@ pub(crate) fn permission(
     plain.asks(Kind::Permission, u32::from(draw.n % 8), draw, purpose)
 }
 
-/// A channel, where none is.
+/// A channel, if there is none.
 pub(crate) fn channel(
     ledger: &mut GrantLedger,
     plain: &mut Plain,
@@ -57,7 +57,7 @@ pub(crate) fn channel(
     plain.asks(Kind::Channel, u32::from(number), draw, purpose)
 }
 
-/// A channel with its permission, where neither is.
+/// A channel with its permission, if there is neither.
 pub(crate) fn channel_with_permission(
     ledger: &mut GrantLedger,
     plain: &mut Plain,
@@ -93,7 +93,7 @@ pub(crate) fn channel_with_permission(
     plain.asks(Kind::Permission, u32::from(draw.n % 8), draw, other)
 }
 
-/// A data connection, where none is asked for.
+/// A data connection, if none is requested.
 pub(crate) fn connect(
     ledger: &mut GrantLedger,
     plain: &mut Plain,
@@ -128,7 +128,7 @@ pub(crate) fn allocation(
     )
 }
 
-/// A request of this purpose, which brings no grant.
+/// A request for this purpose, which adds no grant.
 fn asks_only(
     ledger: &mut GrantLedger,
     plain: &mut Plain,
@@ -145,7 +145,7 @@ fn asks_only(
     plain.list(draw.m, row, purpose)
 }
 
-/// What is active already, for longer.
+/// A refresh of what is active already.
 pub(crate) fn refresh(
     ledger: &mut GrantLedger,
     plain: &mut Plain,
@@ -167,7 +167,7 @@ pub(crate) fn refresh(
     asks_only(ledger, plain, draw, &row, purpose)
 }
 
-/// The same request again, under another ID.
+/// The same request again, with another ID.
 pub(crate) fn again(
     ledger: &mut GrantLedger,
     plain: &mut Plain,
@@ -182,7 +182,7 @@ pub(crate) fn again(
     plain.asked_again(draw.m, draw.n)
 }
 
-/// All allocations are given back.
+/// All allocations are deleted.
 pub(crate) fn gives_back(
     ledger: &mut GrantLedger,
     plain: &mut Plain,

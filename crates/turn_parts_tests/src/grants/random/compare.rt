@@ -1,4 +1,4 @@
-//! Every look-up of the ledger answers what the plain lists have.
+//! Every look-up of the ledger returns what the plain lists hold.
 
 use crate::fixture::same;
 use crate::grants::plain::reads::offer_of;
@@ -7,7 +7,7 @@ use crate::grants::random::Draw;
 use std::process::Abort;
 use turn_client_grants::{GrantLedger, GrantTable};
 
-/// Both hold as much, and one kind of look-up answers the same.
+/// Both have equally many rows and listings, and one group of look-ups returns the same.
 pub(crate) fn is_same(
     rt: &impl Abort,
     ledger: &GrantLedger,

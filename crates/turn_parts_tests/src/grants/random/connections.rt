@@ -6,7 +6,7 @@ use std::alloc::AllocError;
 use turn_client_api::Origin;
 use turn_client_grants::GrantLedger;
 
-/// The server tells of a peer that connected.
+/// The server offers a data connection to a peer that connected.
 pub(crate) fn offered(
     ledger: &mut GrantLedger,
     plain: &mut Plain,
@@ -26,7 +26,7 @@ pub(crate) fn offered(
     plain.offered(number, peer, Reason::Request(draw.m % 16))
 }
 
-/// The caller is told of the next offer.
+/// Reports the next offer to the caller.
 pub(crate) fn told(ledger: &mut GrantLedger, plain: &mut Plain) -> Result<(), AllocError> {
     let next = ledger.table().next_offer();
     if let Some(offer) = next {
@@ -46,7 +46,7 @@ pub(crate) fn taken(
     plain.offer_taken(number, draw.n % 8)
 }
 
-/// It did.
+/// The caller opened the connection of an offer.
 pub(crate) fn opened(
     ledger: &mut GrantLedger,
     plain: &mut Plain,
@@ -81,7 +81,7 @@ pub(crate) fn bound(
     plain.bound(draw.n % 8)
 }
 
-/// It did not.
+/// The server did not bind a connection.
 pub(crate) fn not_bound(
     ledger: &mut GrantLedger,
     plain: &mut Plain,
@@ -94,7 +94,7 @@ pub(crate) fn not_bound(
     plain.not_bound(draw.n % 8)
 }
 
-/// It asked for another signature.
+/// The server challenged the request to bind a connection.
 pub(crate) fn bound_again(
     ledger: &mut GrantLedger,
     plain: &mut Plain,
@@ -116,7 +116,7 @@ pub(crate) fn bound_again(
     plain.bound_again(draw.n % 8, draw.m, purpose, draw.now)
 }
 
-/// A connection is gone, if it was there.
+/// A connection is removed, if it exists.
 pub(crate) fn gone(
     ledger: &mut GrantLedger,
     plain: &mut Plain,

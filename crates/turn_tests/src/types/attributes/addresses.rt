@@ -42,7 +42,7 @@ fn relayed_addresses(rt: HostRuntime) {
     writes(&rt, rt.alloc(), &scoped, 0x0016, &RELAYED);
 }
 
-/// PEER one byte short, RELAYED one byte short, two of a foreign family, and one byte long.
+/// PEER one byte short, RELAYED one byte short, two of an unknown family, and one byte long.
 static MALFORMED: [&[u8]; 5] = [
     &[0, 1, 0x02, 0x3a, 0x2b, 0x12, 0xa4],
     &[

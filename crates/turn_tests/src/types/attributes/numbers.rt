@@ -1,4 +1,4 @@
-//! LIFETIME, CONNECTION-ID, CHANNEL-NUMBER, and what is one of a few numbers.
+//! LIFETIME, CONNECTION-ID, CHANNEL-NUMBER, and the enumerations.
 
 use crate::fixture::same;
 use crate::types::attributes::{reads, refuses, writes};
@@ -9,7 +9,7 @@ use turn_types::attribute::{
 };
 use turn_types::{AddressFamily, TransportType};
 
-/// What is no LIFETIME: nothing, a byte short, a byte long.
+/// Malformed values of LIFETIME: nothing, a byte short, a byte long.
 static NO_LIFETIMES: [&[u8]; 3] = [&[], &[0, 7, 8], &[0, 0, 7, 8, 0]];
 
 #[test]
@@ -27,7 +27,7 @@ fn lifetimes(rt: HostRuntime) {
     );
 }
 
-/// What is no CONNECTION-ID: nothing, a byte short, a byte long.
+/// Malformed values of CONNECTION-ID: nothing, a byte short, a byte long.
 static NO_CONNECTION_IDS: [&[u8]; 3] = [&[], &[0, 0, 1], &[0, 0, 0, 0, 1]];
 
 #[test]
@@ -45,7 +45,7 @@ fn connection_ids(rt: HostRuntime) {
     reads(&rt, &[0x12, 0x34, 0x56, 0x78], first_id(), connection);
 }
 
-/// What is no CHANNEL-NUMBER: nothing, a byte short, a byte long.
+/// Malformed values of CHANNEL-NUMBER: nothing, a byte short, a byte long.
 static NO_CHANNEL_NUMBERS: [&[u8]; 3] = [&[], &[0x40, 0x01, 0], &[0x40, 0x01, 0, 0, 0]];
 
 #[test]
@@ -57,7 +57,7 @@ fn channel_numbers(rt: HostRuntime) {
     reads(&rt, &[0x40, 0x01, 0xff, 0xff], first_id(), number);
 }
 
-/// What is no family: a byte short or long, a foreign number, something behind it, nothing.
+/// Malformed families: a byte short or long, an unknown number, a reserved byte that is not zero, nothing.
 static NO_FAMILIES: [&[u8]; 6] = [
     &[2, 0, 0],
     &[2, 0, 0, 0, 0],
@@ -87,7 +87,7 @@ fn additional_families(rt: HostRuntime) {
     writes(&rt, rt.alloc(), &ipv6, 0x8000, &[2, 0, 0, 0]);
 }
 
-/// What is no transport: a byte short or long, a foreign number, something behind it.
+/// Malformed transports: a byte short or long, an unknown number, a reserved byte that is not zero.
 static NO_TRANSPORTS: [&[u8]; 4] = [
     &[17, 0, 0],
     &[17, 0, 0, 0, 0],

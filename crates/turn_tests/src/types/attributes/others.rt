@@ -6,7 +6,7 @@ use crate::types::first_id;
 use turn_stun::attribute::typed::AttributeFromRaw;
 use turn_types::attribute::{Data, DontFragment, Icmp};
 
-/// What is no ICMP: nothing, a byte short, a byte long.
+/// Malformed values of ICMP: nothing, a byte short, a byte long.
 static NO_ICMP: [&[u8]; 3] = [&[], &[0, 0, 3, 4, 0, 0, 5], &[0, 0, 3, 4, 0, 0, 5, 0x78, 0]];
 
 #[test]

@@ -1,4 +1,4 @@
-//! Streams that are cut at every place.
+//! Streams that are cut at each place.
 
 use crate::fixture::same;
 use crate::types::tcp::{CHANNEL_FRAME, DATA_INDICATION, holds, piece, stored};
@@ -7,10 +7,10 @@ use std::process::Abort;
 use std::slice::Iter;
 use turn_types::tcp::{IncomingTcp, TurnTcpBuffer};
 
-/// The frames of the stream. The last one is a channel's, and carries nothing.
+/// The frames of the stream. The last one is a ChannelData message without data.
 static FRAMES: [&[u8]; 3] = [&CHANNEL_FRAME, &DATA_INDICATION, &[0x40, 0x01, 0x00, 0x00]];
 
-/// Half of the header of a channel frame, which is behind them.
+/// Half of the header of a ChannelData message, after the frames.
 const HALF_HEADER: [u8; 2] = [0x40, 0x00];
 
 static STREAM: [u8; 58] = [
@@ -29,12 +29,12 @@ enum Taking {
     Lent,
 }
 
-/// This frame is the next one of those that are wanted.
+/// This frame is the next expected one.
 fn comes(rt: &impl Abort, wanted: &mut Iter<&[u8]>, frame: &[u8]) {
     same(rt, frame, *wanted.next().expect(rt, "no frame"));
 }
 
-/// The frame that came out with a piece.
+/// The frame that was returned for a piece.
 fn frame_of<'a>(given: &'a IncomingTcp<&[u8]>) -> Option<&'a [u8]> {
     match given {
         IncomingTcp::CompleteMessage(transmit, range)
@@ -47,14 +47,14 @@ fn frame_of<'a>(given: &'a IncomingTcp<&[u8]>) -> Option<&'a [u8]> {
     }
 }
 
-/// Takes the next frame that waits, if there is one.
+/// Takes the next buffered frame, if there is one.
 fn take_waiting(rt: &impl Abort, buffer: &mut TurnTcpBuffer, wanted: &mut Iter<&[u8]>) {
     if let Some(frame) = buffer.poll_recv().expect(rt, "memory") {
         comes(rt, wanted, stored(&frame));
     }
 }
 
-/// Gives a piece to the buffer, and takes each frame that comes out.
+/// Adds a piece to the buffer, and takes each frame that it returns.
 fn take_given(rt: &impl Abort, buffer: &mut TurnTcpBuffer, bytes: &[u8], wanted: &mut Iter<&[u8]>) {
     if let Some(given) = buffer.incoming_tcp(piece(bytes)).expect(rt, "memory") {
         comes(
@@ -68,7 +68,7 @@ fn take_given(rt: &impl Abort, buffer: &mut TurnTcpBuffer, bytes: &[u8], wanted:
     }
 }
 
-/// Gives a piece to the buffer, and takes each frame that it lends.
+/// Adds a piece to the buffer, and takes each frame that it lends.
 fn take_lent(rt: &impl Abort, buffer: &mut TurnTcpBuffer, bytes: &[u8], wanted: &mut Iter<&[u8]>) {
     buffer.feed(bytes).expect(rt, "memory");
     for _ in 0..4 {
@@ -95,7 +95,7 @@ fn take_all(
     }
 }
 
-/// The stream in these pieces gives its three frames, and half a header waits.
+/// The stream in these pieces has its three frames, and half a header is buffered.
 fn gives_its_frames(rt: &impl Abort, taking: Taking, alloc: Global, pieces: &[&[u8]]) {
     let mut buffer = TurnTcpBuffer::new(alloc);
     let mut wanted = FRAMES.iter();
@@ -113,7 +113,7 @@ fn by_bytes(rt: &impl Abort, taking: Taking, alloc: Global) {
     gives_its_frames(rt, taking, alloc, pieces.as_slice());
 }
 
-/// The stream is cut at any two places.
+/// The stream is cut at each two places.
 fn in_three(rt: &impl Abort, taking: Taking, alloc: Global) {
     for first in 0..=STREAM.len() {
         let (front, behind) = STREAM.split_at(first);

@@ -1,12 +1,12 @@
-//! Each want of memory is an answer here, and what stands after it is asserted. So these pass
-//! whichever request for memory is refused.
+//! Each failed memory allocation is an answer here, and the state after it is asserted. So these pass for any
+//! memory allocation that fails.
 
 use crate::fixture::same;
 use crate::types::tcp::{CHANNEL_FRAME, DATA_INDICATION, piece};
 use std::process::Abort;
 use turn_types::tcp::TurnTcpBuffer;
 
-/// Whether the piece gives a frame, where there is memory.
+/// Whether the piece completes a frame, if memory allocation succeeds.
 fn gives(buffer: &mut TurnTcpBuffer, bytes: &[u8]) -> Option<bool> {
     match buffer.incoming_tcp(piece(bytes)) {
         Ok(given) => Some(given.is_some()),
@@ -14,7 +14,7 @@ fn gives(buffer: &mut TurnTcpBuffer, bytes: &[u8]) -> Option<bool> {
     }
 }
 
-/// Whether a frame waits, where there is memory for it.
+/// Whether a frame is buffered, if memory allocation for it succeeds.
 fn polls(buffer: &mut TurnTcpBuffer) -> Option<bool> {
     match buffer.poll_recv() {
         Ok(given) => Some(given.is_some()),
@@ -22,7 +22,7 @@ fn polls(buffer: &mut TurnTcpBuffer) -> Option<bool> {
     }
 }
 
-/// The stream is broken after so many bytes: it has dropped them, and gives nothing.
+/// The stream is broken after this many bytes: it has dropped them, and returns nothing.
 fn is_broken(rt: &impl Abort, buffer: &mut TurnTcpBuffer, taken: u64) {
     same(rt, gives(buffer, &CHANNEL_FRAME), Some(false));
     same(rt, polls(buffer), Some(false));
@@ -33,7 +33,7 @@ fn is_broken(rt: &impl Abort, buffer: &mut TurnTcpBuffer, taken: u64) {
     );
 }
 
-/// A frame came, or after so many bytes the stream is broken.
+/// A frame was returned, or the stream is broken after this many bytes.
 fn came(rt: &impl Abort, buffer: &mut TurnTcpBuffer, given: Option<bool>, taken: u64) {
     match given {
         Some(given) => same(rt, given, true),
@@ -69,7 +69,7 @@ fn a_piece_without_memory_breaks_the_stream(rt: HostRuntime) {
     lends_a_message(&rt, &mut buffer);
 }
 
-/// A message, and a channel frame behind it.
+/// A message, and then a ChannelData message.
 static TWO_FRAMES: [u8; 52] = [
     0x00, 0x17, 0x00, 0x18, 0x21, 0x12, 0xa4, 0x42, 0x00, 0x00, 0x00, 0x00, 0x00, 0x00, 0x00, 0x00,
     0x00, 0x00, 0x00, 0x01, 0x00, 0x12, 0x00, 0x08, 0x00, 0x01, 0x02, 0x3a, 0x2b, 0x12, 0xa4, 0x41,

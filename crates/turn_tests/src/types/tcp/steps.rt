@@ -5,26 +5,26 @@ use crate::types::tcp::piece;
 use std::process::Abort;
 use turn_types::tcp::{TcpCounts, TurnTcpBuffer};
 
-/// A call of a buffer or a look at it, and what it answers.
+/// A call of a buffer, and its answer.
 #[derive(Clone, Copy)]
 pub enum Step {
-    /// These bytes come, and whether they give a frame.
+    /// These bytes are received, and whether they complete a frame.
     Piece(&'static [u8], bool),
-    /// No frame waits.
+    /// No frame is buffered.
     PollsNothing,
-    /// These bytes come, to be lent.
+    /// These bytes are received, to be lent.
     Feed(&'static [u8]),
-    /// Whether the buffer is stuck, and lends a frame.
+    /// Whether the buffer is stuck, and whether it lends a frame.
     Front(bool, bool),
-    /// The frame that is lent is let go.
+    /// The lent frame is dropped.
     Pass,
-    /// Whether nothing waits.
+    /// Whether nothing is buffered.
     IsEmpty(bool),
     /// How many bytes were taken and moved.
     Counts(u64, u64),
 }
 
-/// The rest of a stream comes with which no frame begins.
+/// No frame begins with the buffered bytes.
 pub static STAYS_BROKEN: [Step; 9] = [
     Step::IsEmpty(false),
     Step::PollsNothing,
@@ -37,7 +37,7 @@ pub static STAYS_BROKEN: [Step; 9] = [
     Step::Counts(9, 0),
 ];
 
-/// A channel frame is lent, and then a byte with which no frame begins.
+/// A ChannelData message is lent, and then follows a byte with which no frame begins.
 pub static PASSES: [Step; 9] = [
     Step::Feed(&[0x40, 0x00, 0x00, 0x03, 0x61, 0x62, 0x63, 0x00, 0x80]),
     Step::Front(false, true),
@@ -50,13 +50,13 @@ pub static PASSES: [Step; 9] = [
     Step::IsEmpty(true),
 ];
 
-/// The piece comes, and whether it gives a frame.
+/// The piece is received, and whether it completes a frame.
 pub fn takes(rt: &impl Abort, buffer: &mut TurnTcpBuffer, bytes: &[u8], gives: bool) {
     let given = buffer.incoming_tcp(piece(bytes)).expect(rt, "memory");
     same(rt, given.is_some(), gives);
 }
 
-/// No frame waits.
+/// No frame is buffered.
 fn polls_nothing(rt: &impl Abort, buffer: &mut TurnTcpBuffer) {
     let given = buffer.poll_recv().expect(rt, "memory");
     same(rt, given.is_none(), true);
@@ -66,7 +66,7 @@ fn front(buffer: &TurnTcpBuffer) -> (bool, bool) {
     (buffer.is_stuck(), buffer.front().is_some())
 }
 
-/// The step goes as it says.
+/// The step has the expected answer.
 pub fn follow(rt: &impl Abort, buffer: &mut TurnTcpBuffer, step: Step) {
     match step {
         Step::Piece(bytes, gives) => takes(rt, buffer, bytes, gives),
@@ -79,7 +79,7 @@ pub fn follow(rt: &impl Abort, buffer: &mut TurnTcpBuffer, step: Step) {
     }
 }
 
-/// Each step goes as it says.
+/// Each step has the expected answer.
 pub fn follow_all(rt: &impl Abort, buffer: &mut TurnTcpBuffer, steps: &[Step]) {
     for step in steps {
         follow(rt, buffer, *step);

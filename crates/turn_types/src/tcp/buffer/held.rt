@@ -7,8 +7,8 @@ ghost use Rattle.turn_types.specs.Streams.{broken_stream, framed};
 use crate::tcp::buffer::TurnTcpBuffer;
 use std::alloc::AllocError;
 
-/// Moves the bytes behind `start` to the front, where they are no more than those before it. They are
-/// copied once, and no memory is taken.
+/// Moves the bytes from `start` on to the front, if they are no more than those before it. They are
+/// copied once, and no memory is allocated.
 fn move_to_front(bytes: &mut Vec<u8>, start: usize)
     requires start { start ≤ length bytes.old.items }
     requires few { length bytes.old.items - start ≤ start }
@@ -21,7 +21,7 @@ fn move_to_front(bytes: &mut Vec<u8>, start: usize)
 }
 
 impl TurnTcpBuffer {
-    /// The bytes that wait.
+    /// The buffered bytes.
     pub(super) fn rest(&self) -> &[u8]
         ensures bytes { result.now ≡ self.now.stream.bytes }
         ensures kept { IsKept self.now }
@@ -29,7 +29,7 @@ impl TurnTcpBuffer {
         &self.bytes[self.start..]
     }
 
-    /// Breaks the stream: what waits is dropped, with `more` bytes that came.
+    /// Breaks the stream: the buffered bytes are dropped, with `more` received bytes.
     pub(super) fn break_off(&mut self, more: usize)
         ensures after { self.new ≡ broken_off more self.old }
         ensures kept { IsKept self.new }
@@ -42,7 +42,7 @@ impl TurnTcpBuffer {
         self.is_broken = true;
     }
 
-    /// Keeps a piece behind what waits. Without memory all is as before.
+    /// Appends a piece to the buffered bytes. If memory allocation fails, all is as before.
     pub(super) fn store(&mut self, piece: &[u8]) -> Result<(), AllocError>
         requires { self.old.stream.is_broken ≡ false }
         ensures ok { OnOk result (self.new ≡ stored piece.now self.old) }
@@ -52,8 +52,8 @@ impl TurnTcpBuffer {
         self.bytes.extend_from_slice(piece)
     }
 
-    /// Goes on behind a frame of so many bytes. What is behind it moves to the front where it is
-    /// shorter than all that was taken before it, so that moving is paid for by taking (our choice).
+    /// Advances past a frame of so many bytes. The rest moves to the front if it is shorter than all that
+    /// was taken before it, so that no more is moved than taken (our choice).
     pub(super) fn advance(&mut self, len: usize)
         requires { len ≤ length self.old.stream.bytes }
         ensures after { self.new ≡ cut_off len self.old }
@@ -69,7 +69,7 @@ impl TurnTcpBuffer {
         }
     }
 
-    /// Counts a frame that is given out without having been kept.
+    /// Counts a frame that is returned without having been buffered.
     fn pass_by(&mut self, len: usize)
         ensures after { self.new ≡ record { stream = self.old.stream; start = self.old.start; counts = with_taken len self.old.counts } }
         ensures kept { IsKept self.new }
@@ -77,7 +77,7 @@ impl TurnTcpBuffer {
         self.counts.add_taken(len);
     }
 
-    /// Gives out a copy of the frame at the front, of so many bytes. Without memory the stream breaks.
+    /// Returns a copy of the first frame, of so many bytes. An allocation failure breaks the stream.
     pub(super) fn take_front(&mut self, len: usize) -> Result<Vec<u8>, AllocError>
         requires { len ≤ length self.old.stream.bytes }
         ensures frame { IfOk result (λ frame. frame.items ≡ take len self.old.stream.bytes) }
@@ -99,8 +99,8 @@ impl TurnTcpBuffer {
         }
     }
 
-    /// Keeps what is behind a frame of so many bytes at the front of a piece, where nothing waits.
-    /// Without memory the stream breaks.
+    /// Keeps the bytes after a frame of so many bytes at the start of a piece, if the buffer is empty. An
+    /// allocation failure breaks the stream.
     pub(super) fn keep_behind(&mut self, piece: &[u8], len: usize) -> Result<(), AllocError>
         requires nothing { self.old.stream ≡ framed [] }
         requires start { self.old.start ≡ 0 }

@@ -1,4 +1,4 @@
-//! Frames that are read where they are held.
+//! Frames that are read where they are buffered.
 
 ghost use Rattle.std.specs.Prelude.{◌≡◌, ◌+◌, ◌<◌, true, length, None, OnOk, OnErr, IsOk, IsNone, IfSome};
 ghost use Rattle.std.specs.Option.{option_copied};
@@ -12,18 +12,18 @@ use crate::tcp::head::{Head, begins_no_frame, head_of};
 use std::alloc::AllocError;
 
 impl TurnTcpBuffer {
-    /// Takes in a piece of the stream, and gives nothing out: `front` and `pass` do, or `poll_recv`.
+    /// Takes a piece of the stream, and returns nothing: `front` and `pass` do, or `poll_recv`.
     ///
     /// # Errors
     ///
-    /// `AllocError` where there is no memory for the piece. The stream is then broken.
+    /// `AllocError` if memory allocation for the piece fails. The stream is then broken.
     pub fn feed(&mut self, piece: &[u8]) -> Result<(), AllocError>
-        // The piece goes behind what waits.
+        // The piece is appended to the buffered bytes.
         ensures ok { OnOk result (self.new.stream ≡ (turn_at self.old.stream (Feed piece.now)).after) }
         ensures err { OnErr result (self.new.stream ≡ broken_stream) }
         ensures broken { self.old.stream.is_broken ≡ true → IsOk result × (self.new ≡ self.old) }
 
-        // What is held, and what was moved.
+        // The bytes that are held, and those that were moved.
         ensures kept { IsKept self.new }
         ensures counted { let left = left_of (with_piece self.old.stream piece.now).bytes self.new in IsCounted self.old self.new left (self.old.start + left) }
     {
@@ -37,13 +37,13 @@ impl TurnTcpBuffer {
         Ok(())
     }
 
-    /// The next frame that waits, if it is whole, where it is held. It stays the next one until `pass`.
+    /// The next frame, if it is whole, borrowed from the buffer. It stays the next one until `pass`.
     pub fn front(&self) -> Option<&[u8]>
-        // It is what `poll_recv` would give.
+        // It is what `poll_recv` would return.
         ensures frame { option_copied result ≡ (turn_at self.now.stream Poll).frame }
         ensures named { IfSome result (λ frame. IsFrame frame.now) }
 
-        // With no frame in front, little is left by `pass`.
+        // Without a whole first frame, `pass` leaves little.
         ensures drained { IsNone result → length (turn_at self.now.stream Poll).after.bytes < 65556 }
     {
         let rest = self.rest();
@@ -53,14 +53,14 @@ impl TurnTcpBuffer {
         }
     }
 
-    /// Lets the next frame go, if it is whole. It takes no memory.
+    /// Drops the next frame, if it is whole. Allocates no memory.
     ///
-    /// It is the turn of what is in front, as in `poll_recv`: less than a frame waits on, and what no
-    /// frame begins with breaks the stream.
+    /// It does the same to the stream as `poll_recv`: less than a frame stays buffered, and bytes that no
+    /// frame begins with break the stream.
     pub fn pass(&mut self)
         ensures after { self.new.stream ≡ (turn_at self.old.stream Poll).after }
 
-        // What is held, and what was moved.
+        // The bytes that are held, and those that were moved.
         ensures drained { (turn_at self.old.stream Poll).frame ≡ None → length self.new.stream.bytes < 65556 }
         ensures kept { IsKept self.new }
         ensures counted { let left = left_of self.old.stream.bytes self.new in IsCounted self.old self.new left (self.old.start + left) }
@@ -72,8 +72,8 @@ impl TurnTcpBuffer {
         }
     }
 
-    /// Whether what waits begins with the bits 10 or 11, as no frame does (RFC 8656, section 12). The
-    /// next `pass` or `poll_recv` then breaks the stream.
+    /// Whether the buffered bytes begin with the bits 10 or 11, as no frame does (RFC 8656, section 12).
+    /// The next `pass` or `poll_recv` then breaks the stream.
     pub fn is_stuck(&self) -> bool
         ensures { result ≡ begins_no_frame self.now.stream.bytes }
     {

@@ -11,7 +11,7 @@ use Rattle.turn_uses.proofs.turns.turn.Given.{Over}
 use Rattle.turn_uses.proofs.turns.turn.Goals as goal
 use Rattle.turn_uses.proofs.turns.turn.Goals.{in-Some+in_ok-hand_in, in_default}
 
--- the turn begins with what came
+-- the loop begins with the input
 begins : (came : Option (Transmit (Vec ℕ Global))) (now : ℕ) (was is : Turned) (packet : Option (Transmit (List ℕ))) → packet_in came ≡ packet → is ≡ begun packet now was → is ≡ begun (packet_in came) now was
 begins came now was is packet e told = told ∙ sym (ap (λ packet. begun packet now was) e)
 

@@ -5,7 +5,7 @@ use Rattle.turn_auth.specs.Challenge.{value_in}
 use Rattle.turn_auth.specs.Denial.{first_value}
 use Rattle.turn_auth.proofs.denial.DenialValues.in_message.Given as goal
 
--- what is found, with what is left to be read
+-- what was found, with the attributes that are left to read
 abbrev pub invariant-loop-offset : goal.invariant-loop-offset
 invariant-loop-offset l = record {
   realm : fold (first_value 0x0014) (option_copied l.found.realm) (attributes_left l.offset-iterator) ≡ value_in 0x0014 l.message;

@@ -7,7 +7,7 @@ use Rattle.turn_client_api.specs.Judgement.{has_unknown, is_unknown, last_in, la
 use Rattle.turn_client_api.specs.Requests.{icmp_kind}
 use Rattle.turn_client_core.proofs.indication.Indication.of.Given as goal
 
--- what is found, with what is left to be read
+-- what is found, with what is still to be read
 abbrev pub invariant-loop-offset : goal.invariant-loop-offset
 invariant-loop-offset l = record {
   peer : fold (later_of peer_kind) (option_map placed l.found.peer) (attributes_left l.offset-iterator) ≡ last_in peer_kind l.message;

@@ -1,7 +1,11 @@
-use Rattle.std.proofs.Common.{◌∙◌, ap, sym}
+use Rattle.std.proofs.Common.{◌∙◌, ap, refl, sym}
+use Rattle.std.specs.Prelude.{IsSome}
+use Rattle.turn_stun.specs.Message.{id_of}
+use Rattle.turn_client_api.specs.Grants.{purposes_of}
 use Rattle.turn_client_api.specs.Retry.{retried}
 use Rattle.turn_client_grants.specs.Which.{purposes_in}
 use Rattle.turn_client_core.specs.contracts.protocol.TurnClientProtocol.{the_view}
+use Rattle.turn_client_core.proofs.ResultLemmas.{on-err}
 use Rattle.turn_client_core.proofs.RetryLemmas.{answered-is, purposes-are, unknown-is}
 use Rattle.turn_client_core.proofs.protocol.TurnClientProtocol.answer_challenge.Goals as goal
 
@@ -30,3 +34,9 @@ returns-clause-after c = λ challenge is.
     let found = c.retried.ensures ∙ ap retried (purposes-are (the_view c.self.inside) c.args.self.now c.args.message.now c.transaction_id.result c.table.result.now.listed (purposes_in c.purposes_of-purposes.result) c.purposes_of-purposes.ensures c.table.ensures.listed c.transaction_id.ensures c.self.view_is) in
     c.in_ok-ask_again.ensures.ok challenge is
     ∙ sym (ap (λ p. p.1) (answered-is c.args.self.now c.args.message.now challenge c.args.now c.in-Some.purpose c.requires.few (sym found ∙ c.in-Some.is)))
+
+pub returns-in_err-ask_again-clause-wanted : goal.returns-in_err-ask_again-clause-wanted
+returns-in_err-ask_again-clause-wanted c =
+    let found = c.retried.ensures ∙ ap retried (purposes-are (the_view c.self.inside) c.args.self.now c.args.message.now c.transaction_id.result c.table.result.now.listed (purposes_in c.purposes_of-purposes.result) c.purposes_of-purposes.ensures c.table.ensures.listed c.transaction_id.ensures c.self.view_is) in
+    let some : IsSome (retried (purposes_of (id_of c.args.message.now) c.args.self.now)) = rw (sym found ∙ c.in-Some.is) refl in
+    on-err _ some

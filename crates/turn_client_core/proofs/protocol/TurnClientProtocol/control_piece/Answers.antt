@@ -1,4 +1,8 @@
 use Rattle.turn_client_api.specs.Handled.{fed}
+use Rattle.turn_client_api.specs.Answers.{outcome_of}
+use Rattle.turn_client_core.proofs.ArrivalLemmas.{err-then}
+use Rattle.turn_client_core.proofs.FreePieceLemmas.{free-rests, rests-behind}
+use Rattle.turn_client_core.proofs.ResultLemmas.{no-err}
 use Rattle.turn_client_core.proofs.UngrantedLemmas.{framed-none-before}
 use Rattle.turn_client_core.proofs.protocol.TurnClientProtocol.control_piece.Goals as goal
 
@@ -11,3 +15,11 @@ then_all-requires g c = record {
 
 pub returns-clause-hands_back : goal.returns-clause-hands_back
 returns-clause-hands_back g c = c.then_all.ensures.hands_back c.args.transmit c.in_ok-first.ensures.hands_back
+
+pub returns-clause-free : goal.returns-clause-free
+returns-clause-free g c = λ free.
+    let rest = free-rests c.args.stream (g.T.AsSlice.items c.args.transmit.payload) c.args.now c.args.self.now c.requires.control free in
+    no-err c.then_all.result
+    (err-then c.then_all.result
+    (rests-behind c.args.now (outcome_of c.in_ok-first.first) c.framed_piece.new.self c.then_all.new.self (rw c.in_ok-first.ensures.after rest))
+    c.then_all.ensures.no_memory)

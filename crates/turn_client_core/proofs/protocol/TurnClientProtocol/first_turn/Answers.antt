@@ -1,14 +1,18 @@
-use Rattle.std.proofs.Common.{◌≡◌, ◌∙◌, ℕ, List, Some, ap, subst, sym}
-use Rattle.std.specs.Prelude.{IfOk}
+use Rattle.std.proofs.Common.{◌≡◌, ◌∙◌, ℕ, List, Some, ap, false, subst, sym, true}
+use Rattle.std.specs.Prelude.{IfOk, OnErr}
 use Rattle.turn_types.specs.Incoming.{ComesWith, incoming_bytes}
 use Rattle.turn_client_api.specs.Answers.{outcome_of}
 use Rattle.turn_client_api.specs.Handled.{fed}
+use Rattle.turn_client_api.specs.Memory.{frame_takes_memory}
 use Rattle.turn_client_api.specs.Payloads.{Outcome}
 use Rattle.turn_client_api.specs.Receive.{place_kept}
 use Rattle.turn_client_api.specs.Streams.{frame_step}
 use Rattle.turn_client_api.specs.declared.state.Stream.{Stream}
 use Rattle.turn_client_streams.specs.Buffered.{front_of, without_front}
+use Rattle.turn_client_core.proofs.ArrivalLemmas.{err-then}
+use Rattle.turn_client_core.proofs.FreePieceLemmas.{free-front, free-whole}
 use Rattle.turn_client_core.proofs.PieceLemmas.{comes-given, fed-some}
+use Rattle.turn_client_core.proofs.ResultLemmas.{no-err}
 use Rattle.turn_client_core.proofs.TurnLemmas.{front-whole}
 use Rattle.turn_client_core.proofs.protocol.TurnClientProtocol.first_turn.Goals as goal
 
@@ -30,3 +34,20 @@ returns-clause-answer g c =
     let same = comes-given items waited c.args.transmit c.in-Some.front (frame_step c.incoming_tcp.new.self frame now t).0 comes
     ∙ ap (place_kept waited) (ap (λ (u : Stream). (frame_step u frame now t).0) left ∙ sym (ap (λ p. p.0) (fed-some all frame now t front))) in
     subst (λ (o : Outcome). IfOk c.first_frame.result (λ given. outcome_of given ≡ o)) same c.first_frame.ensures.answer
+
+pub returns-in_err-front-clause-free : goal.returns-in_err-front-clause-free
+returns-in_err-front-clause-free g c = λ free.
+    let (waits, whole) = free-whole (g.T.AsSlice.items c.args.transmit.payload) c.args.self.now c.args.stream free in
+    let no : false ≡ true = rw c.in_err-front.was at (c.incoming_tcp.ensures.whole waits whole) in
+    cc
+
+pub returns-clause-free : goal.returns-clause-free
+returns-clause-free g c = λ free.
+    let items = g.T.AsSlice.items in
+    let all : Stream = fed c.args.stream (items c.args.transmit.payload) in
+    let frame : List ℕ = incoming_bytes items c.in-Some.front in
+    let t = c.args.self.now in
+    let front : Some frame ≡ front_of all = rw c.in-Some.is at c.in_ok-front.ensures.frame in
+    let left : c.incoming_tcp.new.self ≡ without_front all = c.in_ok-front.ensures.after in
+    let asks = subst (λ (u : Stream). OnErr c.first_frame.result (frame_takes_memory u frame t ≡ true)) left c.first_frame.ensures.wanted in
+    no-err c.first_frame.result (err-then c.first_frame.result (free-front c.args.stream (items c.args.transmit.payload) frame t free front) asks)

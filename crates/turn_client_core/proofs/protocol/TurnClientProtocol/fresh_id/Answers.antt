@@ -1,6 +1,9 @@
-use Rattle.std.proofs.Common.{◌≡◌, ◌<◌, ◌^◌, arith, length, rules}
-use Rattle.turn_client_api.specs.Requests.{fresh_id, most_taken}
-use Rattle.turn_client_core.proofs.IdLemmas.{fresh-unlisted, fresh-unsent}
+use Rattle.std.proofs.Common.{◌≡◌, ◌∙◌, ◌+◌, ◌%◌, ◌<◌, ◌^◌, arith, length, map, not, rules}
+use Rattle.std.specs.List.{range_with_len}
+use Rattle.std.specs.Prelude.{find, unwrap_or}
+use Rattle.turn_agent.specs.TransactionIds.{next_id}
+use Rattle.turn_client_api.specs.Requests.{fresh_id, is_taken, most_taken}
+use Rattle.turn_client_core.proofs.IdLemmas.{fresh-is, fresh-unlisted, fresh-unsent}
 use Rattle.turn_client_core.proofs.protocol.TurnClientProtocol.fresh_id.Goals as goal
 
 -- each of the three counts is a usize
@@ -11,12 +14,17 @@ few c =
     rw (← c.self.view_is)
     (omega (arith, c.outstanding.ensures, listed, granted, c.outstanding.type_inv, c.listing_count.type_inv, c.count.type_inv))
 
+is : (c : goal.After-unwrap_or) → c.unwrap_or.result ≡ fresh_id c.args.self.now
+is c = found ∙ fresh-is c.args.self.now (few c)
+  where
+    found : c.unwrap_or.result ≡ unwrap_or (find (λ id. not (is_taken id c.args.self.now)) (map (λ n. (next_id c.args.self.now.ids + n) % 2 ^ 96) (range_with_len 0 (most_taken c.args.self.now + 1)))) (next_id c.args.self.now.ids)
+    found = search rules
+
+pub returns-clause-id : goal.returns-clause-id
+returns-clause-id c = is c
+
 pub returns-clause-unsent : goal.returns-clause-unsent
-returns-clause-unsent c =
-    let is : c.unwrap_or.result ≡ fresh_id c.args.self.now = search rules in
-    rw is (fresh-unsent c.args.self.now (few c))
+returns-clause-unsent c = rw (is c) (fresh-unsent c.args.self.now)
 
 pub returns-clause-unlisted : goal.returns-clause-unlisted
-returns-clause-unlisted c =
-    let is : c.unwrap_or.result ≡ fresh_id c.args.self.now = search rules in
-    rw is (fresh-unlisted c.args.self.now (few c))
+returns-clause-unlisted c = rw (is c) (fresh-unlisted c.args.self.now)

@@ -1,8 +1,10 @@
-use Rattle.std.proofs.Common.{◌∙◌, refl, sym}
+use Rattle.std.proofs.Common.{◌≡◌, ◌∙◌, refl, sym, true}
 use Rattle.turn_client_api.proofs.ChallengeJudgement.{Challenged-is}
 use Rattle.turn_client_api.specs.Judgement.{judgement_of}
+use Rattle.turn_client_api.specs.Memory.{message_takes_memory}
 use Rattle.turn_client_core.specs.declared.protocol.judge.Judged.TheVariants.{Unrelated, Challenged, Fatal, LateResponse, DataIndication, ConnectionAttempt, SignedRequest, SignedSuccess, SignedError}
 use Rattle.turn_client_core.proofs.JudgedLemmas.{challenged-is, data-judged, error-answers, judged-is, request-signs}
+use Rattle.turn_client_core.proofs.ResultLemmas.{on-err}
 use Rattle.turn_client_core.proofs.protocol.TurnClientProtocol.message.Goals as goal
 
 pub returns-in-Unrelated-clause-answer : goal.returns-in-Unrelated-clause-answer
@@ -91,3 +93,29 @@ returns-in-SignedSuccess-clause-free c = λ h. absurd (data-judged c.args.self.n
 
 pub returns-in-SignedError-clause-free : goal.returns-in-SignedError-clause-free
 returns-in-SignedError-clause-free c = λ h. absurd (data-judged c.args.self.now c.args.message.now h SignedError (sym c.judge-judged.ensures ∙ c.in-SignedError.is))
+
+pub returns-in-Challenged-clause-wanted : goal.returns-in-Challenged-clause-wanted
+returns-in-Challenged-clause-wanted c =
+    let (challenge, is) = challenged-is (judgement_of c.args.self.now c.args.message.now) (sym c.judge-judged.ensures ∙ c.in-Challenged.is) in
+    rw is c.challenged.ensures.wanted
+
+pub returns-in-ConnectionAttempt-clause-wanted : goal.returns-in-ConnectionAttempt-clause-wanted
+returns-in-ConnectionAttempt-clause-wanted c = rw (judged-is (judgement_of c.args.self.now c.args.message.now) ConnectionAttempt (sym c.judge-judged.ensures ∙ c.in-ConnectionAttempt.is) tt) c.attempt_indicated.ensures.wanted
+
+pub returns-in-SignedRequest-clause-wanted : goal.returns-in-SignedRequest-clause-wanted
+returns-in-SignedRequest-clause-wanted c = rw (judged-is (judgement_of c.args.self.now c.args.message.now) SignedRequest (sym c.judge-judged.ensures ∙ c.in-SignedRequest.is) tt) c.requested.ensures.wanted
+
+pub returns-in-Fatal-clause-wanted : goal.returns-in-Fatal-clause-wanted
+returns-in-Fatal-clause-wanted c =
+    let takes : message_takes_memory c.args.message.now c.args.self.now ≡ true = rw (judged-is (judgement_of c.args.self.now c.args.message.now) Fatal (sym c.judge-judged.ensures ∙ c.in-Fatal.is) tt) refl in
+    on-err _ takes
+
+pub returns-in-SignedSuccess-clause-wanted : goal.returns-in-SignedSuccess-clause-wanted
+returns-in-SignedSuccess-clause-wanted c =
+    let takes : message_takes_memory c.args.message.now c.args.self.now ≡ true = rw (judged-is (judgement_of c.args.self.now c.args.message.now) SignedSuccess (sym c.judge-judged.ensures ∙ c.in-SignedSuccess.is) tt) refl in
+    on-err _ takes
+
+pub returns-in-SignedError-clause-wanted : goal.returns-in-SignedError-clause-wanted
+returns-in-SignedError-clause-wanted c =
+    let takes : message_takes_memory c.args.message.now c.args.self.now ≡ true = rw (judged-is (judgement_of c.args.self.now c.args.message.now) SignedError (sym c.judge-judged.ensures ∙ c.in-SignedError.is) tt) refl in
+    on-err _ takes

@@ -5,7 +5,8 @@ use Rattle.turn_client_api.specs.Payloads.{Outcome}
 use Rattle.turn_client_api.specs.State.{State}
 use Rattle.turn_client_core.specs.Turns.{broken_turned, piece_at}
 use Rattle.turn_client_core.proofs.ArrivalLemmas.{broken-ends, err-then, piece-broken}
-use Rattle.turn_client_core.proofs.FreePieceLemmas.{free-unbroken}
+use Rattle.turn_client_core.proofs.FreePieceLemmas.{free-broken, rests-end}
+use Rattle.turn_client_core.proofs.ResultLemmas.{no-err}
 use Rattle.turn_client_core.proofs.protocol.TurnClientProtocol.next_piece.Goals as goal
 
 pub returns-then-is_broken_at-clause-answer : goal.returns-then-is_broken_at-clause-answer
@@ -34,4 +35,5 @@ returns-then-is_broken_at-clause-no_memory g c = λ over.
 
 pub returns-then-is_broken_at-clause-free : goal.returns-then-is_broken_at-clause-free
 returns-then-is_broken_at-clause-free g c = λ free.
-    absurd (free-unbroken c.args.transmit.to (g.T.AsSlice.items c.args.transmit.payload) c.args.self.now (sym c.is_broken_at.ensures ∙ c.if-is_broken_at.true) free)
+    let rest = free-broken c.args.transmit.to (g.T.AsSlice.items c.args.transmit.payload) c.args.self.now (sym c.is_broken_at.ensures ∙ c.if-is_broken_at.true) free in
+    no-err c.broken_piece.result (err-then c.broken_piece.result (λ ends. rests-end c.args.now c.args.self.now c.broken_piece.new.self rest ends.1) c.broken_piece.ensures.no_memory)

@@ -6,8 +6,8 @@ use Rattle.turn_client_api.proofs.SendOrderLemmas.{steady-IsOrderly}
 use Rattle.turn_client_api.proofs.TimelyLemmas.{poll-timely}
 use Rattle.turn_client_core.proofs.protocol.TurnClientProtocol.poll.Goals as goal
 
-pub returns-in-Ok-clause-alarm : goal.returns-in-Ok-clause-alarm
-returns-in-Ok-clause-alarm c = λ steady housed.
+pub returns-clause-alarm : goal.returns-clause-alarm
+returns-clause-alarm c = λ steady housed.
     let s = c.args.self.now in
-    subst (λ (r : TurnPollRet × State). IsTimely r.0 c.args.now s r.1) (sym c.in-Ok.ensures.step)
+    subst (λ (r : TurnPollRet × State). IsTimely r.0 c.args.now s r.1) (sym c.poll_next.ensures)
     (poll-timely c.args.now s (steady-IsOrderly s steady) housed.0 c.requires.moment)

@@ -35,7 +35,7 @@ returns-clause-after c =
     let given = c.answer_all-effect.result in
     c.heed.ensures
     ∙ (ap (λ o. after given (on c.answer_all-effect.new.ledger (with_outbox o s))) c.end.ensures
-    ∙ (c.answer_all-effect.ensures (ended id s)
+    ∙ (c.answer_all-effect.ensures.state (ended id s)
     ∙ (ap (λ u. fold f u ps) (c.reserve.ensures.same (ended id s))
     ∙ (ap (λ qs. fold f (ended id s) qs) read
     ∙ (ap (λ i. fold f (ended i s) (answered_purposes m c.args.self.now)) c.transaction_id-id.ensures

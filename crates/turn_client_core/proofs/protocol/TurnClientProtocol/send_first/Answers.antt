@@ -1,19 +1,33 @@
-use Rattle.std.proofs.Common.{◌∙◌, ap, List, ℕ}
+use Rattle.std.proofs.Common.{◌∙◌, ap, sym, List, ℕ}
+use Rattle.turn_client_api.specs.Requests.{fresh_id}
 use Rattle.turn_client_api.specs.State.{State}
 use Rattle.turn_client_api.specs.Transmit.{sent_at_once}
 use Rattle.turn_client_api.specs.declared.grant.Purpose.TheVariants.{ForAllocation}
 use Rattle.turn_client_api.specs.declared.state.Phase.TheVariants.{Requesting}
-use Rattle.turn_client_core.proofs.TransmitLemmas.{Packet, first-text-is}
+use Rattle.turn_client_core.specs.contracts.protocol.TurnClientProtocol.{the_view}
+use Rattle.turn_client_core.proofs.ResultLemmas.{on-err}
+use Rattle.turn_client_core.proofs.TransmitLemmas.{Packet, first-text-is, sends-is}
 use Rattle.turn_client_core.proofs.protocol.TurnClientProtocol.send_first.Goals as goal
+
+pub returns-in_err-reserve-clause-err : goal.returns-in_err-reserve-clause-err
+returns-in_err-reserve-clause-err c = on-err _ (c.reserve.ensures.same (the_view c.self.inside) ∙ c.self.view_is)
+
+pub returns-in_err-packet-clause-err : goal.returns-in_err-packet-clause-err
+returns-in_err-packet-clause-err c =
+    rw c.in_err-packet.ensures.err (on-err _ (c.reserve.ensures.same (the_view c.self.inside) ∙ c.self.view_is))
+
+pub ask-requires-clause-new_id : goal.ask-requires-clause-new_id
+ask-requires-clause-new_id c =
+    let same = ap (λ s. s.listed) (c.reserve.ensures.same (the_view c.self.inside) ∙ c.self.view_is) in
+    rw same c.fresh_id-id.ensures.unlisted
 
 pub returns-clause-step : goal.returns-clause-step
 returns-clause-step c =
-    let s = c.reserve_failures.new.self in
-    let text = first-text-is s c.transport.result c.as_slice.result.now c.fresh_id-id.result c.in_ok-text.text
-    (c.transport.ensures ∙ ap (λ (t : State). t.config.allocation_transport) c.self.view_is)
-    (c.as_slice.ensures ∙ ap (λ (t : State). t.families) c.self.view_is)
-    c.fresh_id-id.ensures.id
-    (c.in_ok-text.ensures s) in
-    rw (c.begin_requesting.ensures, ← c.reserve_failures.ensures)
-    (ap (λ (r : Packet × State). (r.0, record r.1 { phase = Requesting })) c.in_ok-packet.ensures.step
+    let s = the_view c.self.inside in
+    let id = c.fresh_id-id.result in
+    let fresh = c.fresh_id-id.ensures.id ∙ ap fresh_id (sym c.self.view_is) in
+    let text = first-text-is s c.transport.result c.as_slice.result.now id c.in_ok-text.text c.transport.ensures c.as_slice.ensures fresh (c.in_ok-text.ensures s) in
+    rw (c.note_sent.ensures, c.draw.ensures, c.in_ok-packet.ensures.ok, c.in_ok-packet.ensures.packet, c.local_addr-from.ensures, ← c.self.view_is)
+    (ap (λ (r : Packet × State). (r.0, record r.1 { phase = Requesting }))
+    (sends-is s c.reserve.new.self c.ask.new.self id c.in_ok-text.text ForAllocation c.args.now (c.reserve.ensures.same s) (rw c.one.ensures at c.ask.ensures.state s c.in_ok-text.text c.args.now) fresh)
     ∙ ap (λ (t : List ℕ). sent_at_once t ForAllocation c.args.now (record s { phase = Requesting })) text)

@@ -1,15 +1,16 @@
-use Rattle.std.proofs.Common.{◌≡◌, ◌∙◌, [], false, Option, Some, ap, subst, sym}
-use Rattle.std.specs.Prelude.{IfOk, OnErr, OnOk}
+use Rattle.std.proofs.Common.{◌≡◌, ◌⊎◌, ◌∙◌, ℕ, List, [], false, true, Option, Some, ap, inl, inr, subst, sym}
+use Rattle.std.specs.Prelude.{IfOk, IsOk, OnErr, OnOk}
 use Rattle.std.specs.Option.{option_map_or}
 use Rattle.turn_client_api.specs.Payloads.{Outcome}
-use Rattle.turn_client_api.specs.Answers.{outcome_of}
+use Rattle.turn_client_api.specs.Answers.{is_free_piece, outcome_of}
+use Rattle.turn_client_api.specs.Memory.{is_free_frame}
 use Rattle.turn_client_api.specs.State.{State}
 use Rattle.turn_client_api.specs.Streams.{stream_at, with_bytes}
 use Rattle.turn_client_api.specs.declared.state.Stream.{Stream}
 use Rattle.turn_client_streams.specs.Held.{taken_out}
 use Rattle.turn_client_core.specs.Turns.{PieceEnds, is_broken, piece_at, piece_turned}
 use Rattle.turn_client_core.proofs.ArrivalLemmas.{err-then, piece-ends, piece-ignored, piece-turned}
-use Rattle.turn_client_core.proofs.FreePieceLemmas.{free-bound, free-waits}
+use Rattle.turn_client_core.proofs.FreePieceLemmas.{free-bound, free-either, free-out, free-waits}
 use Rattle.turn_client_core.proofs.protocol.TurnClientProtocol.whole_piece.Goals as goal
 
 pub returns-in_default-clause-answer : goal.returns-in_default-clause-answer
@@ -56,9 +57,13 @@ returns-clause-no_memory g c = λ over.
     (subst (λ (t : State). OnErr c.turned_piece.result (PieceEnds stream piece c.args.now t c.turned_piece.new.self)) out c.turned_piece.ensures.no_memory)
 
 pub returns-clause-free : goal.returns-clause-free
-returns-clause-free g c = λ free.
-    let piece = g.T.AsSlice.items c.args.transmit.payload in
-    let stream = c.in-Some.stream in
-    let was = c.args.self.now in
-    let e : stream_at c.args.transmit.to was ≡ Some stream = sym c.take_at.ensures.stream ∙ c.in-Some.is in
-    c.turned_piece.ensures.free (free-bound c.args.transmit.to piece was stream e free) (free-waits c.args.transmit.to piece was stream e free)
+returns-clause-free g c = λ free. by (free-either c.args.transmit.to (g.T.AsSlice.items c.args.transmit.payload) c.args.self.now c.in-Some.stream (sym c.take_at.ensures.stream ∙ c.in-Some.is) free)
+  where
+    piece : List ℕ
+    piece = g.T.AsSlice.items c.args.transmit.payload
+
+    by : (is_free_piece piece c.in-Some.stream ≡ true) ⊎ (is_free_frame piece c.args.self.now c.in-Some.stream ≡ true) → IsOk c.turned_piece.result
+    by (inl bound) = c.turned_piece.ensures.free (free-bound piece c.in-Some.stream bound) (free-waits piece c.in-Some.stream bound)
+    by (inr frame) =
+        let out : c.take_at.new.self ≡ with_bytes c.in-Some.stream.local [] c.args.self.now = c.take_at.ensures.after ∙ ap (λ o. taken_out o c.args.self.now) c.in-Some.is in
+        c.turned_piece.ensures.free_frame (subst (λ (t : State). is_free_frame piece t c.in-Some.stream ≡ true) (sym out) (free-out piece c.args.self.now c.in-Some.stream c.in-Some.stream.local frame))

@@ -1,5 +1,29 @@
+use Rattle.std.proofs.Common.{◌≡◌, ◌∙◌, ap, sym, refl}
+use Rattle.std.specs.Prelude.{Option, Some, None, option_and_then, option_map}
+use Rattle.std.specs.HashMap as hash
+use Rattle.std.specs.declared.net.socket_addr.SocketAddr.{SocketAddr}
+use Rattle.turn_client_api.specs.declared.grant.Progress.{Progress}
+use Rattle.turn_client_api.specs.Calls.{active_channel}
 use Rattle.turn_client_grants.proofs.NumberLemmas.{active-numbered}
+use Rattle.turn_client_grants.specs.Lists.{first_among}
+use Rattle.turn_client_grants.specs.Table.{Table}
+use Rattle.turn_client_grants.specs.declared.key.Key.TheVariants as By
+use Rattle.turn_client_grants.proofs.KeyLemmas.{first-found, other-active}
+use Rattle.turn_client_grants.proofs.SameKeys.{key_eq}
 use Rattle.turn_client_grants.proofs.table.GrantTable.active_channel.Goals as goal
 
-pub returns-clause-numbered : goal.returns-clause-numbered
-returns-clause-numbered c = rw (c.active_channel.ensures, c.as_slice.ensures.value) (active-numbered c.args.peer c.self.inside.grants.items c.self.invariant.numbers)
+pub returns-in-Some-clause-found : goal.returns-in-Some-clause-found
+returns-in-Some-clause-found c = λ s.
+    c.active_in.ensures ∙ (sym (first-found (active_channel c.args.peer) (hash.get key_eq c.self.inside.found) c.self.inside.grants.items (By.Peer c.args.peer) c.self.invariant.found (other-active c.args.peer) ∙ ap (option_and_then (active_channel c.args.peer)) (sym c.in-Some.ensures.value)) ∙ ap (λ (t : Table). first_among (active_channel c.args.peer) t.grants) c.self.view_is)
+
+pub returns-in-None-clause-found : goal.returns-in-None-clause-found
+returns-in-None-clause-found c = λ s.
+    sym (first-found (active_channel c.args.peer) (hash.get key_eq c.self.inside.found) c.self.inside.grants.items (By.Peer c.args.peer) c.self.invariant.found (other-active c.args.peer) ∙ ap (option_and_then (active_channel c.args.peer)) (sym c.in-None.ensures.value)) ∙ ap (λ (t : Table). first_among (active_channel c.args.peer) t.grants) c.self.view_is
+
+pub returns-in-Some-clause-numbered : goal.returns-in-Some-clause-numbered
+returns-in-Some-clause-numbered c =
+    rw (c.active_in.ensures ∙ sym (first-found (active_channel c.args.peer) (hash.get key_eq c.self.inside.found) c.self.inside.grants.items (By.Peer c.args.peer) c.self.invariant.found (other-active c.args.peer) ∙ ap (option_and_then (active_channel c.args.peer)) (sym c.in-Some.ensures.value))) (active-numbered c.args.peer c.self.inside.grants.items c.self.invariant.table.numbers)
+
+pub returns-then-len-le-FEW-clause-numbered : goal.returns-then-len-le-FEW-clause-numbered
+returns-then-len-le-FEW-clause-numbered c =
+    rw (c.active_channel.ensures, c.as_slice.ensures.value) (active-numbered c.args.peer c.self.inside.grants.items c.self.invariant.table.numbers)

@@ -1,6 +1,6 @@
-use Rattle.turn_client_runs.proofs.PromiseLemmas.{run-bound, run-cuts, run-few, run-granted, run-hears, run-numbers, run-realm, run-replies}
-use Rattle.turn_client_runs.proofs.WeightLemmas.{run-ids}
+use Rattle.turn_client_runs.proofs.PromiseLemmas.{run-bound, run-cuts, run-few, run-granted, run-hears, run-held, run-numbers, run-realm, run-replies, run-short}
 use Rattle.turn_client_api.specs.State.{initial}
+use Rattle.turn_client_runs.specs.Run.{state_behind}
 use Rattle.turn_client_proto.proofs.HeardLemmas.{gives-let-in}
 use Rattle.turn_client_proto.proofs.RunLemmas.{timely}
 use Rattle.turn_client_proto.proofs.runs.run.replay.Goals as goal
@@ -15,7 +15,8 @@ pub returns-clause-bound : goal.returns-clause-bound
 returns-clause-bound c = run-bound c.args.transport c.args.local c.args.remote c.args.config c.args.seed c.args.calls.now
 
 pub returns-clause-given : goal.returns-clause-given
-returns-clause-given c = gives-let-in (initial c.args.transport c.args.local c.args.remote c.args.config c.args.seed) c.args.calls.now
+returns-clause-given c = λ earlier middle later e.
+    gives-let-in (state_behind (initial c.args.transport c.args.local c.args.remote c.args.config c.args.seed) earlier) middle
 
 pub returns-clause-heard : goal.returns-clause-heard
 returns-clause-heard c = run-hears c.args.transport c.args.local c.args.remote c.args.config c.args.seed c.args.calls.now
@@ -29,11 +30,14 @@ returns-clause-challenges c = run-few c.args.transport c.args.local c.args.remot
 pub returns-clause-realm : goal.returns-clause-realm
 returns-clause-realm c = run-realm c.args.transport c.args.local c.args.remote c.args.config c.args.seed c.args.calls.now
 
+pub returns-clause-held : goal.returns-clause-held
+returns-clause-held c = run-held c.args.transport c.args.local c.args.remote c.args.config c.args.seed c.args.calls.now
+
+pub returns-clause-short : goal.returns-clause-short
+returns-clause-short c = run-short c.args.transport c.args.local c.args.remote c.args.config c.args.seed c.args.calls.now
+
 pub returns-clause-cuts : goal.returns-clause-cuts
 returns-clause-cuts c = run-cuts c.args.transport c.args.local c.args.remote c.args.config c.args.seed c.args.calls.now
-
-pub returns-clause-ids : goal.returns-clause-ids
-returns-clause-ids c = run-ids c.args.transport c.args.local c.args.remote c.args.config c.args.seed c.args.calls.now
 
 pub returns-clause-alarm : goal.returns-clause-alarm
 returns-clause-alarm c = timely c.args.transport c.args.local c.args.remote c.args.config c.args.seed c.args.calls.now c.requires.callable

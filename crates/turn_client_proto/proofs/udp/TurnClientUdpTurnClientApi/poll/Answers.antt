@@ -3,7 +3,7 @@ use Rattle.turn_client_proto.proofs.UdpClientLemmas.{leaves-IsUdpClient}
 use Rattle.turn_client_proto.proofs.udp.TurnClientUdpTurnClientApi.poll.Goals as goal
 
 pub invariant_of-self : goal.invariant_of-self
-invariant_of-self c = poll-keeps leaves-IsUdpClient _ _ c.poll.result c.args.now c.poll.ensures.after c.poll.ensures.no_memory c.self.invariant
+invariant_of-self c = poll-keeps leaves-IsUdpClient _ _ c.args.now c.poll.ensures.after c.self.invariant
 
 pub returns-clause-alarm : goal.returns-clause-alarm
 returns-clause-alarm c = rw (← c.self.view_is) (c.poll.ensures.alarm c.self.invariant.steady c.self.invariant.housed)

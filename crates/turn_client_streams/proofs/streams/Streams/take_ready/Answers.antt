@@ -12,21 +12,21 @@ invariant_of-self c =
       c.take_out.ensures.after,
       c.index_mut.ensures.value,
       set-first is_ready (holding []) c.self.inside.list.items c.in-Some.place _ c.self.invariant
-          (rw c.as_slice.ensures.value at (sym c.ready_place.ensures ∙ c.in-Some.is)),
+          (rw c.as_slice.ensures.value at (sym c.ready_place.ensures.exact ∙ c.in-Some.is)),
     )
     (at_end-HasOwnEnds _ (holding []) (λ x. refl) c.self.inside.list.items c.self.invariant)
 
 pub returns-clause-stream : goal.returns-clause-stream
 returns-clause-stream c =
     rw (c.take_out.ensures.stream, c.index_mut.ensures.value, ← c.self.view_is)
-    (sym ((position-IsFirst is_ready c.self.inside.list.items c.in-Some.place (rw c.as_slice.ensures.value at (sym c.ready_place.ensures ∙ c.in-Some.is))).found _))
+    (sym ((position-IsFirst is_ready c.self.inside.list.items c.in-Some.place (rw c.as_slice.ensures.value at (sym c.ready_place.ensures.exact ∙ c.in-Some.is))).found _))
 
 pub returns-in_default-clause-stream : goal.returns-in_default-clause-stream
 returns-in_default-clause-stream c =
-    rw (← c.self.view_is) (sym (position-none is_ready c.self.inside.list.items (rw c.as_slice.ensures.value at (sym c.ready_place.ensures ∙ c.in_default.is))))
+    rw (← c.self.view_is) (sym (position-none is_ready c.self.inside.list.items (rw c.as_slice.ensures.value at (sym c.ready_place.ensures.exact ∙ c.in_default.is))))
 
 pub returns-clause-after : goal.returns-clause-after
 returns-clause-after c = λ s.
     rw (c.take_out.ensures.after, c.take_out.ensures.stream, c.index_mut.ensures.value, ← c.self.view_is)
     (ap (λ xs. with_streams xs s) (set-first is_ready (holding []) c.self.inside.list.items c.in-Some.place _ c.self.invariant
-    (rw c.as_slice.ensures.value at (sym c.ready_place.ensures ∙ c.in-Some.is))))
+    (rw c.as_slice.ensures.value at (sym c.ready_place.ensures.exact ∙ c.in-Some.is))))

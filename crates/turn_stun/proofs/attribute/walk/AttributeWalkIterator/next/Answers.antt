@@ -5,7 +5,7 @@ use Rattle.turn_stun.specs.Message.{attributes_from, attribute_size, padded_len}
 use Rattle.turn_stun.proofs.WalkLemmas.{WalksOn, walks_on, found_from-none}
 use Rattle.turn_stun.proofs.attribute.walk.AttributeWalkIterator.next.Goals as goal
 
--- bytes are left, so the walk goes on
+-- bytes are left, so the walk continues
 ahead : (at : ℕ) (bytes : List ℕ) → false ≡ eqb (length bytes) 0 → is_some (attributes_from 0 at bytes) ≡ true → WalksOn at bytes
 ahead at bytes some whole =
     let left : length bytes ≡ 0 → ⊥ = eqb-false _ _ (sym some) in

@@ -1,0 +1,164 @@
+-- A map that leads to the rows of a list, as rows are added and removed.
+use Rattle.std.specs.Prelude.{◌≡◌, Bool, true, false, cond, not, ◌||◌, is_some, List, [], ◌∷◌, ◌++◌, map, filter, filter_map, slice_get, Option, Some, None, option_map, option_to_list, option_and_then, refl}
+use Rattle.std.specs.List.{list_any}
+use Rattle.std.proofs.lemmas.Map.Entries.{option_filter}
+use Rattle.std.proofs.Common.{sym, ◌∙◌, ap, append-nil, subst}
+use Rattle.std.proofs.lemmas.List.Elements.{filter-append}
+use Rattle.turn_client_grants.specs.Index.{IsIndex}
+
+module _ {G : Type 0} where
+  -- ---- tests and lists
+
+  -- a test that fails if `f` gives nothing may be made before `f`
+  filter_map-through : {X : Type 0} (f : G → Option X) (test : G → Bool) → ((g : G) → test g ≡ false → f g ≡ None) → (gs : List G) → filter_map f gs ≡ filter_map f (filter test gs)
+  filter_map-through f test h [] = refl
+  filter_map-through f test h (g ∷ gs) = by (filter_map-through f test h gs) (test g) refl
+    where
+      by : filter_map f gs ≡ filter_map f (filter test gs) → (b : Bool) → test g ≡ b → filter_map f (g ∷ gs) ≡ filter_map f (cond b (g ∷ filter test gs) (filter test gs))
+      by rest true e = rw rest refl
+      by rest false e = rw (h g e) rest
+
+  list_any-filter : (test : G → Bool) (gs : List G) → list_any test gs ≡ is_some (slice_get (filter test gs) 0)
+  list_any-filter test [] = refl
+  list_any-filter test (g ∷ gs) = by (list_any-filter test gs) (test g)
+    where
+      by : list_any test gs ≡ is_some (slice_get (filter test gs) 0) → (b : Bool) → (b || list_any test gs) ≡ is_some (slice_get (cond b (g ∷ filter test gs) (filter test gs)) 0)
+      by rest true = refl
+      by rest false = rest
+
+  filter-filter_out : (test which : G → Bool) (b : Bool) → ((g : G) → test g ≡ true → which g ≡ b) → (gs : List G) → filter test (filter (λ g. not (which g)) gs) ≡ cond b [] (filter test gs)
+  filter-filter_out test which true h [] = refl
+  filter-filter_out test which false h [] = refl
+  filter-filter_out test which b h (g ∷ gs) = by (filter-filter_out test which b h gs) (test g) (which g) refl refl
+    where
+      by : filter test (filter (λ g. not (which g)) gs) ≡ cond b [] (filter test gs) → (t w : Bool) → test g ≡ t → which g ≡ w → filter test (cond (not w) (g ∷ filter (λ g. not (which g)) gs) (filter (λ g. not (which g)) gs)) ≡ cond b [] (cond t (g ∷ filter test gs) (filter test gs))
+      by rest true true e d = let b-is : b ≡ true = sym (h g e) ∙ d in rw b-is (rw b-is at rest)
+      by rest true false e d = let b-is : b ≡ false = sym (h g e) ∙ d in rw (e, b-is) (ap (λ (gs : List G). g ∷ gs) (rw b-is at rest))
+      by rest false true e d = rest
+      by rest false false e d = rw e rest
+
+  filter-map_same : (test : G → Bool) (h : G → G) → ((g : G) → test (h g) ≡ test g) → (gs : List G) → filter test (map h gs) ≡ map h (filter test gs)
+  filter-map_same test h same [] = refl
+  filter-map_same test h same (g ∷ gs) = rw (same g) (by (filter-map_same test h same gs) (test g))
+    where
+      by : filter test (map h gs) ≡ map h (filter test gs) → (b : Bool) → cond b (h g ∷ filter test (map h gs)) (filter test (map h gs)) ≡ map h (cond b (g ∷ filter test gs) (filter test gs))
+      by rest true = ap (λ (gs : List G). h g ∷ gs) rest
+      by rest false = rest
+
+  filter-filter : (test passes : G → Bool) (gs : List G) → filter test (filter passes gs) ≡ filter passes (filter test gs)
+  filter-filter test passes [] = refl
+  filter-filter test passes (g ∷ gs) = by (filter-filter test passes gs) (test g) (passes g) refl refl
+    where
+      by : filter test (filter passes gs) ≡ filter passes (filter test gs) → (t p : Bool) → test g ≡ t → passes g ≡ p → filter test (cond p (g ∷ filter passes gs) (filter passes gs)) ≡ filter passes (cond t (g ∷ filter test gs) (filter test gs))
+      by rest true true e d = rw (e, d) (ap (λ (gs : List G). g ∷ gs) rest)
+      by rest true false e d = rw d rest
+      by rest false true e d = rw e rest
+      by rest false false e d = rest
+
+  -- ---- reading
+
+  module _ {K : Type 0} (test : K → G → Bool) where
+    pub first-by_index : {X : Type 0} (f : G → Option X) (find : K → Option G) (rows : List G) (k : K) → IsIndex test find rows → ((g : G) → test k g ≡ false → f g ≡ None) → slice_get (filter_map f rows) 0 ≡ option_and_then f (find k)
+    unfolding IsIndex
+    first-by_index {X} f find rows k is h = rw (filter_map-through f (test k) h rows, is k) (by (find k))
+      where
+        one : (x : Option X) → slice_get (filter_map (λ (y : Option X). y) (x ∷ [])) 0 ≡ x
+        one None = refl
+        one (Some x) = refl
+
+        by : (found : Option G) → slice_get (filter_map f (option_to_list found)) 0 ≡ option_and_then f found
+        by None = refl
+        by (Some g) = one (f g)
+
+    pub any-by_index : (find : K → Option G) (rows : List G) (k : K) → IsIndex test find rows → list_any (test k) rows ≡ is_some (find k)
+    unfolding IsIndex
+    any-by_index find rows k is = rw (list_any-filter (test k) rows, is k) (by (find k))
+      where
+        by : (found : Option G) → is_some (slice_get (option_to_list found) 0) ≡ is_some found
+        by None = refl
+        by (Some g) = refl
+
+    -- ---- rows are added and removed
+
+    pub index-pushed : (find then : K → Option G) (rows : List G) (g : G) (is_at : K → Bool) → IsIndex test find rows
+        → ((k : K) → then k ≡ cond (is_at k) (Some g) (find k)) → ((k : K) → test k g ≡ is_at k) → ((k : K) → is_at k ≡ true → find k ≡ None)
+        → IsIndex test then (rows ++ g ∷ [])
+    unfolding IsIndex
+    index-pushed find then rows g is_at is now at free k = rw (filter-append (test k) rows (g ∷ []), is k, at k, now k) (by (is_at k) refl)
+      where
+        by : (b : Bool) → is_at k ≡ b → option_to_list (find k) ++ cond b (g ∷ []) [] ≡ option_to_list (cond b (Some g) (find k))
+        by true e = rw (free k e) refl
+        by false e = append-nil (option_to_list (find k))
+
+    pub index-pushed_other : (find : K → Option G) (rows : List G) (g : G) → IsIndex test find rows → ((k : K) → test k g ≡ false) → IsIndex test find (rows ++ g ∷ [])
+    unfolding IsIndex
+    index-pushed_other find rows g is other k = rw (filter-append (test k) rows (g ∷ []), other k) (append-nil (filter (test k) rows) ∙ is k)
+
+    pub index-removed : (find then : K → Option G) (rows : List G) (which : G → Bool) (is_at : K → Bool) → IsIndex test find rows
+        → ((k : K) → then k ≡ cond (is_at k) None (find k)) → ((k : K) (g : G) → test k g ≡ true → which g ≡ is_at k)
+        → IsIndex test then (filter (λ g. not (which g)) rows)
+    unfolding IsIndex
+    index-removed find then rows which is_at is now at k = rw (filter-filter_out (test k) which (is_at k) (at k) rows, is k, now k) (by (is_at k))
+      where
+        by : (b : Bool) → cond b [] (option_to_list (find k)) ≡ option_to_list (cond b None (find k))
+        by true = refl
+        by false = refl
+
+    -- rows change in their places, and keep their keys
+    pub index-changed : (find then : K → Option G) (rows : List G) (h : G → G) → IsIndex test find rows
+        → ((k : K) → then k ≡ option_map h (find k)) → ((k : K) (g : G) → test k (h g) ≡ test k g)
+        → IsIndex test then (map h rows)
+    unfolding IsIndex
+    index-changed find then rows h is now same k = rw (filter-map_same (test k) h (same k) rows, is k, now k) (by (find k))
+      where
+        by : (found : Option G) → map h (option_to_list found) ≡ option_to_list (option_map h found)
+        by None = refl
+        by (Some g) = refl
+
+    -- the rows that pass stay
+    pub index-filtered : (find then : K → Option G) (rows : List G) (passes : G → Bool) → IsIndex test find rows
+        → ((k : K) → then k ≡ option_filter passes (find k)) → IsIndex test then (filter passes rows)
+    unfolding IsIndex
+    index-filtered find then rows passes is now k = rw (filter-filter (test k) passes rows, is k, now k) (by (find k))
+      where
+        kept : (b : Bool) (g : G) → cond b (g ∷ []) [] ≡ option_to_list (cond b (Some g) None)
+        kept true g = refl
+        kept false g = refl
+
+        by : (found : Option G) → filter passes (option_to_list found) ≡ option_to_list (option_filter passes found)
+        by None = refl
+        by (Some g) = kept (passes g) g
+
+    pub index-same : (find then : K → Option G) (rows : List G) → IsIndex test find rows → ((k : K) → then k ≡ find k) → IsIndex test then rows
+    unfolding IsIndex
+    index-same find then rows is same k = rw (same k) (is k)
+
+    pub index-found : (find : K → Option G) (rows : List G) (k : K) (g : G) → IsIndex test find rows → find k ≡ Some g → filter (test k) rows ≡ g ∷ []
+    unfolding IsIndex
+    index-found find rows k g is found = is k ∙ rw found refl
+
+    -- the only row that passes a test is the one that another map leads to
+    pub index-agrees : (other : G → Bool) (find : K → Option G) (rows : List G) (k : K) (g : G) → IsIndex test find rows → filter other rows ≡ g ∷ [] → test k g ≡ true → find k ≡ Some g
+    unfolding IsIndex
+    index-agrees other find rows k g is alone passes = by (find k) both
+      where
+        both : filter other (option_to_list (find k)) ≡ g ∷ []
+        both = rw (← is k) (filter-filter other (test k) rows ∙ (rw (alone, passes) refl))
+
+        by : (found : Option G) → filter other (option_to_list found) ≡ g ∷ [] → found ≡ Some g
+        by None e = cc
+        by (Some h) e = one (other h) e
+          where
+            one : (b : Bool) → cond b (h ∷ []) [] ≡ g ∷ [] → Some h ≡ Some g
+            one true d = cc
+            one false d = cc
+
+    -- no row has the key, so the map leads nowhere from it
+    pub index-free : (eq : K → K → Bool) → ((a b : K) → eq a b ≡ true → a ≡ b) → (find : K → Option G) (rows : List G) (key : K)
+        → IsIndex test find rows → list_any (test key) rows ≡ false → (k : K) → eq key k ≡ true → find k ≡ None
+    index-free eq exact find rows key is free k at =
+        subst (λ (k : K). find k ≡ None) (exact key k at) (none (find key) (sym (any-by_index find rows key is) ∙ free))
+      where
+        none : (found : Option G) → is_some found ≡ false → found ≡ None
+        none None h = refl
+        none (Some g) h = cc

@@ -1,0 +1,331 @@
+-- The map of the grants, as it is filtered, and as grants are added and removed.
+use Rattle.std.specs.Prelude.{◌≡◌, ℕ, ◌==◌, Bool, true, false, cond, not, ◌||◌, ◌&&◌, List, [], ◌∷◌, ◌++◌, filter, filter_map, fold, map, Option, Some, None, is_none, is_some, option_and_then, option_map, option_to_list, refl}
+use Rattle.std.specs.List.{list_all, list_any, IsDistinct}
+use Rattle.std.specs.Map.{keys_of, lookup}
+use Rattle.std.specs.declared.net.ip_addr.IpAddr.{IpAddr}
+use Rattle.std.specs.declared.net.socket_addr.SocketAddr.{SocketAddr}
+use Rattle.std.proofs.Common.{sym, ◌∙◌, ap, append-nil, append_assoc, subst}
+use Rattle.std.proofs.lemmas.Bool.{and_parts, eqb-true}
+use Rattle.std.proofs.lemmas.List.Folds.{list_any-append}
+use Rattle.std.proofs.lemmas.Map.Entries.{lookup-filter-values, option_filter}
+use Rattle.turn_agent.specs.Agent.{same_address}
+use Rattle.turn_client_api.proofs.AddressLemmas.{same_address-true, same_ip-true}
+use Rattle.turn_client_api.specs.Calls.{active_channel, is_in_progress, is_offer_of, progress_to, without_first}
+use Rattle.turn_client_api.specs.Effect.{new_allocation}
+use Rattle.turn_client_api.specs.Grants.{channel_at, channel_peer, is_channel_of, is_permission_of, permission_progress, same_ip}
+use Rattle.turn_client_api.specs.Poll.{told, told_first, untold_in}
+use Rattle.turn_client_api.specs.declared.grant.Grant.{Grant}
+use Rattle.turn_client_api.specs.declared.grant.Grant.TheVariants.{Allocation, Permission, Channel, Connect, Offer, Connection}
+use Rattle.turn_client_api.specs.declared.grant.DataOffer.{DataOffer}
+use Rattle.turn_client_api.specs.declared.grant.Progress.{Progress}
+use Rattle.turn_client_api.specs.declared.grant.Progress.TheVariants.{Pending, Active, Reserved}
+use Rattle.turn_client_api.specs.declared.grant.Relay.{Relay}
+use Rattle.turn_types.specs.declared.family.AddressFamily.{AddressFamily}
+use Rattle.turn_client_grants.specs.Index.{IsIndex}
+use Rattle.turn_client_grants.specs.Keys.{found_after, is_found_by, is_open_to}
+use Rattle.turn_client_grants.specs.Lists.{first_among}
+use Rattle.turn_client_grants.specs.Table.{are_apart, changed, is_new}
+use Rattle.turn_client_grants.specs.Which.{holds}
+use Rattle.turn_client_grants.specs.declared.changes.Change.{Change}
+use Rattle.turn_client_grants.specs.declared.key.Key.{Key}
+use Rattle.turn_client_grants.specs.declared.key.Key.TheVariants as By
+use Rattle.turn_client_grants.specs.declared.which.Which.{Which}
+use Rattle.turn_client_grants.proofs.IndexLemmas.{any-by_index, first-by_index, index-changed, index-filtered, index-pushed, index-pushed_other, index-same}
+use Rattle.turn_client_grants.proofs.SameKeys.{key-laws, key-true, key_eq}
+use Rattle.turn_client_grants.proofs.TableLemmas.{changed-same}
+
+-- ---- a filter of the map that tests the keys, too
+
+pub lookup-filter-pairs : {X : Type 0} (p : Key → X → Bool) (q : Key) (es : List (Key × X)) → IsDistinct key_eq (keys_of es)
+    → lookup (key_eq q) (filter (λ e. p e.0 e.1) es) ≡ option_filter (p q) (lookup (key_eq q) es)
+lookup-filter-pairs {X} p q es distinct = alike es ∙ lookup-filter-values key-laws (p q) q es distinct
+  where
+    alike : (es : List (Key × X)) → lookup (key_eq q) (filter (λ e. p e.0 e.1) es) ≡ lookup (key_eq q) (filter (λ e. p q e.1) es)
+    alike [] = refl
+    alike (e ∷ es) = by (key_eq q e.0) (p e.0 e.1) (p q e.1) refl refl refl (alike es)
+      where
+        by : (t a b : Bool) → key_eq q e.0 ≡ t → p e.0 e.1 ≡ a → p q e.1 ≡ b → lookup (key_eq q) (filter (λ e. p e.0 e.1) es) ≡ lookup (key_eq q) (filter (λ e. p q e.1) es)
+            → lookup (key_eq q) (filter (λ e. p e.0 e.1) (e ∷ es)) ≡ lookup (key_eq q) (filter (λ e. p q e.1) (e ∷ es))
+        by true true true s f g rest = rw (f, g, s) refl
+        by true true false s f g rest = let no : true ≡ false = sym f ∙ (ap (λ (k : Key). p k e.1) (sym (key-true q e.0 s)) ∙ g) in cc
+        by true false true s f g rest = let no : false ≡ true = sym f ∙ (ap (λ (k : Key). p k e.1) (sym (key-true q e.0 s)) ∙ g) in cc
+        by true false false s f g rest = rw (f, g) rest
+        by false true true s f g rest = rw (f, g, s) rest
+        by false true false s f g rest = rw (f, g, s) rest
+        by false false true s f g rest = rw (f, g, s) rest
+        by false false false s f g rest = rw (f, g) rest
+
+-- ---- a new grant has keys of its own
+
+-- no existing grant is found by one of its keys
+abbrev pub IsFree : List Grant → Grant → Type 0
+IsFree rows g = (k : Key) → is_found_by k g ≡ true → list_any (is_found_by k) rows ≡ false
+
+is-not : (b : Bool) → not b ≡ true → b ≡ false
+is-not true h = cc
+is-not false h = refl
+
+pub open-any : (peer : SocketAddr) (rows : List Grant) → list_any is_in_progress (filter_map (progress_to peer) rows) ≡ list_any (is_open_to peer) rows
+open-any peer [] = refl
+open-any peer (Channel number other progress ∷ rows) = by (same_address other peer) refl (is_in_progress progress) (open-any peer rows)
+  where
+    by : (b : Bool) → same_address other peer ≡ b → (c : Bool) → list_any is_in_progress (filter_map (progress_to peer) rows) ≡ list_any (is_open_to peer) rows
+        → list_any is_in_progress (filter_map (progress_to peer) (Channel number other progress ∷ rows)) ≡ list_any (is_open_to peer) (Channel number other progress ∷ rows)
+    by true e c rest = rw (e, rest) (one (is_in_progress progress) (list_any (is_open_to peer) rows))
+      where
+        one : (c d : Bool) → (c || d) ≡ (c && true || d)
+        one true d = refl
+        one false d = refl
+    by false e c rest = rw (e, rest) (none (is_in_progress progress) (list_any (is_open_to peer) rows))
+      where
+        none : (c d : Bool) → d ≡ (c && false || d)
+        none true d = refl
+        none false d = refl
+open-any peer (Allocation a ∷ rows) = open-any peer rows
+open-any peer (Permission ip progress ∷ rows) = open-any peer rows
+open-any peer (Connect other ∷ rows) = open-any peer rows
+open-any peer (Offer offer ∷ rows) = open-any peer rows
+open-any peer (Connection c ∷ rows) = open-any peer rows
+
+no-permission : (ip : IpAddr) (rows : List Grant) → is_none (first_among (permission_progress ip) rows) ≡ true → list_any (is_permission_of ip) rows ≡ false
+no-permission ip [] none = refl
+no-permission ip (Permission other progress ∷ rows) none = by (same_ip other ip) refl none (no-permission ip rows)
+  where
+    by : (b : Bool) → same_ip other ip ≡ b → is_none (first_among (permission_progress ip) (Permission other progress ∷ rows)) ≡ true
+        → (is_none (first_among (permission_progress ip) rows) ≡ true → list_any (is_permission_of ip) rows ≡ false) → list_any (is_permission_of ip) (Permission other progress ∷ rows) ≡ false
+    by true e none rest = let no : false ≡ true = rw e at none in cc
+    by false e none rest = rw e (rest (rw e at none))
+no-permission ip (Allocation a ∷ rows) none = no-permission ip rows none
+no-permission ip (Channel number peer progress ∷ rows) none = no-permission ip rows none
+no-permission ip (Connect other ∷ rows) none = no-permission ip rows none
+no-permission ip (Offer offer ∷ rows) none = no-permission ip rows none
+no-permission ip (Connection c ∷ rows) none = no-permission ip rows none
+
+free-number : (rows : List Grant) (number other : ℕ) → list_any (is_channel_of number) rows ≡ false → (number == other) ≡ true → list_any (is_channel_of other) rows ≡ false
+free-number rows number other none same = subst (λ (n : ℕ). list_any (is_channel_of n) rows ≡ false) (eqb-true number other same) none
+
+free-peer : (rows : List Grant) (peer other : SocketAddr) → list_any is_in_progress (filter_map (progress_to peer) rows) ≡ false → same_address peer other ≡ true → list_any (is_open_to other) rows ≡ false
+free-peer rows peer other none same = subst (λ (a : SocketAddr). list_any (is_open_to a) rows ≡ false) (same_address-true peer other same) (sym (open-any peer rows) ∙ none)
+
+pub free-keys : (rows : List Grant) (g : Grant) → is_new rows g ≡ true → IsFree rows g
+free-keys rows (Permission ip progress) new (By.Ip other) at = subst (λ (a : IpAddr). list_any (is_permission_of a) rows ≡ false) (same_ip-true ip other at) (no-permission ip rows new)
+free-keys rows (Permission ip progress) new (By.Number k) at = cc
+free-keys rows (Permission ip progress) new (By.Peer k) at = cc
+free-keys rows (Channel number peer Pending) new (By.Number k) at =
+    free-number rows number k (is-not _ (and_parts (not (list_any (is_channel_of number) rows)) (not (list_any is_in_progress (filter_map (progress_to peer) rows))) new).0) at
+free-keys rows (Channel number peer Pending) new (By.Peer k) at =
+    free-peer rows peer k (is-not _ (and_parts (not (list_any (is_channel_of number) rows)) (not (list_any is_in_progress (filter_map (progress_to peer) rows))) new).1) at
+free-keys rows (Channel number peer Pending) new (By.Ip k) at = cc
+free-keys rows (Channel number peer (Active expiry)) new (By.Number k) at =
+    free-number rows number k (is-not _ (and_parts (not (list_any (is_channel_of number) rows)) (not (list_any is_in_progress (filter_map (progress_to peer) rows))) new).0) at
+free-keys rows (Channel number peer (Active expiry)) new (By.Peer k) at =
+    free-peer rows peer k (is-not _ (and_parts (not (list_any (is_channel_of number) rows)) (not (list_any is_in_progress (filter_map (progress_to peer) rows))) new).1) at
+free-keys rows (Channel number peer (Active expiry)) new (By.Ip k) at = cc
+free-keys rows (Channel number peer (Reserved until)) new (By.Number k) at = free-number rows number k (is-not _ new) at
+free-keys rows (Channel number peer (Reserved until)) new (By.Peer k) at = cc
+free-keys rows (Channel number peer (Reserved until)) new (By.Ip k) at = cc
+free-keys rows (Allocation a) new (By.Number k) at = cc
+free-keys rows (Allocation a) new (By.Peer k) at = cc
+free-keys rows (Allocation a) new (By.Ip k) at = cc
+free-keys rows (Connect peer) new (By.Number k) at = cc
+free-keys rows (Connect peer) new (By.Peer k) at = cc
+free-keys rows (Connect peer) new (By.Ip k) at = cc
+free-keys rows (Offer offer) new (By.Number k) at = cc
+free-keys rows (Offer offer) new (By.Peer k) at = cc
+free-keys rows (Offer offer) new (By.Ip k) at = cc
+free-keys rows (Connection c) new (By.Number k) at = cc
+free-keys rows (Connection c) new (By.Peer k) at = cc
+free-keys rows (Connection c) new (By.Ip k) at = cc
+
+-- ---- grants are added
+
+none-found : (found : Option Grant) → is_some found ≡ false → found ≡ None
+none-found None h = refl
+none-found (Some g) h = cc
+
+index-free : (rows : List Grant) (find : Key → Option Grant) (g : Grant) → IsIndex is_found_by find rows → IsFree rows g → (k : Key) → is_found_by k g ≡ true → find k ≡ None
+index-free rows find g is free k at = none-found (find k) (sym (any-by_index is_found_by find rows k is) ∙ free k at)
+
+pub index-added : (rows : List Grant) (find then : Key → Option Grant) (g : Grant) → IsIndex is_found_by find rows → IsFree rows g
+    → ((k : Key) → then k ≡ found_after k (find k) g) → IsIndex is_found_by then (rows ++ g ∷ [])
+index-added rows find then g is free now = index-pushed is_found_by find then rows g (λ k. is_found_by k g) is now (λ k. refl) (index-free rows find g is free)
+
+-- each is free of these, and so are those after it of it
+abbrev AllFree : List Grant → List Grant → Type 0
+AllFree rows [] = Unit {0}
+AllFree rows (g ∷ others) = IsFree rows g × AllFree rows others
+
+all-free : (rows more : List Grant) → list_all (is_new rows) more ≡ true → AllFree rows more
+all-free rows [] new = tt
+all-free rows (g ∷ others) new = let parts = and_parts (is_new rows g) (list_all (is_new rows) others) new in (free-keys rows g parts.0, all-free rows others parts.1)
+
+both-free : (rows : List Grant) (g : Grant) (others : List Grant) → AllFree rows others → AllFree (g ∷ []) others → AllFree (rows ++ g ∷ []) others
+both-free rows g [] a b = tt
+both-free rows g (h ∷ others) a b = (λ k at. rw (list_any-append (is_found_by k) rows (g ∷ []), a.0 k at) (b.0 k at), both-free rows g others a.1 b.1)
+
+index-more : (more rows : List Grant) (find then : Key → Option Grant) → IsIndex is_found_by find rows → AllFree rows more → are_apart more ≡ true
+    → ((k : Key) → then k ≡ fold (found_after k) (find k) more) → IsIndex is_found_by then (rows ++ more)
+index-more [] rows find then is free apart now = subst (λ (gs : List Grant). IsIndex is_found_by then gs) (sym (append-nil rows)) (index-same is_found_by find then rows is now)
+index-more (g ∷ others) rows find then is free apart now =
+    let parts = and_parts (list_all (is_new (g ∷ [])) others) (are_apart others) apart in
+    let mid : Key → Option Grant = λ k. found_after k (find k) g in
+    subst (λ (gs : List Grant). IsIndex is_found_by then gs) (append_assoc rows (g ∷ []) others)
+    (index-more others (rows ++ g ∷ []) mid then (index-added rows find mid g is free.0 (λ k. refl)) (both-free rows g others free.1 (all-free (g ∷ []) others parts.0)) parts.1 now)
+
+pub index-added_all : (rows more : List Grant) (find then : Key → Option Grant) → IsIndex is_found_by find rows → list_all (is_new rows) more ≡ true → are_apart more ≡ true
+    → ((k : Key) → then k ≡ fold (found_after k) (find k) more) → IsIndex is_found_by then (rows ++ more)
+index-added_all rows more find then is new apart now = index-more more rows find then is (all-free rows more new) apart now
+
+-- ---- grants that no key finds
+
+relay-keys : (k : Key) (a : Relay) → is_found_by k (Allocation a) ≡ false
+relay-keys (By.Number n) a = refl
+relay-keys (By.Peer p) a = refl
+relay-keys (By.Ip p) a = refl
+
+offer-keys : (k : Key) (offer : DataOffer) → is_found_by k (Offer offer) ≡ false
+offer-keys (By.Number n) offer = refl
+offer-keys (By.Peer p) offer = refl
+offer-keys (By.Ip p) offer = refl
+
+pub index-relays : (addresses : List SocketAddr) (lifetime now : ℕ) (rows : List Grant) (find : Key → Option Grant) → IsIndex is_found_by find rows → IsIndex is_found_by find (rows ++ map (new_allocation lifetime now) addresses)
+index-relays [] lifetime now rows find is = subst (λ (gs : List Grant). IsIndex is_found_by find gs) (sym (append-nil rows)) is
+index-relays (a ∷ others) lifetime now rows find is =
+    subst (λ (gs : List Grant). IsIndex is_found_by find gs) (append_assoc rows (new_allocation lifetime now a ∷ []) (map (new_allocation lifetime now) others))
+    (index-relays others lifetime now (rows ++ new_allocation lifetime now a ∷ []) find (index-pushed_other is_found_by find rows (new_allocation lifetime now a) is (λ k. relay-keys k _)))
+
+found-told : (k : Key) (family : AddressFamily) (rows : List Grant) → filter (is_found_by k) (told_first family rows) ≡ filter (is_found_by k) rows
+found-told k family [] = refl
+found-told k family (Offer offer ∷ rows) = by (is_some (untold_in family (Offer offer))) refl (found-told k family rows)
+  where
+    by : (b : Bool) → is_some (untold_in family (Offer offer)) ≡ b → filter (is_found_by k) (told_first family rows) ≡ filter (is_found_by k) rows
+        → filter (is_found_by k) (told_first family (Offer offer ∷ rows)) ≡ filter (is_found_by k) (Offer offer ∷ rows)
+    by true e rest = rw (e, offer-keys k offer, offer-keys k (record offer { is_told = true })) refl
+    by false e rest = rw (e, offer-keys k offer) rest
+found-told k family (Allocation a ∷ rows) = ap (λ (gs : List Grant). cond (is_found_by k (Allocation a)) (Allocation a ∷ gs) gs) (found-told k family rows)
+found-told k family (Permission ip progress ∷ rows) = ap (λ (gs : List Grant). cond (is_found_by k (Permission ip progress)) (Permission ip progress ∷ gs) gs) (found-told k family rows)
+found-told k family (Channel number peer progress ∷ rows) = ap (λ (gs : List Grant). cond (is_found_by k (Channel number peer progress)) (Channel number peer progress ∷ gs) gs) (found-told k family rows)
+found-told k family (Connect peer ∷ rows) = ap (λ (gs : List Grant). cond (is_found_by k (Connect peer)) (Connect peer ∷ gs) gs) (found-told k family rows)
+found-told k family (Connection c ∷ rows) = ap (λ (gs : List Grant). cond (is_found_by k (Connection c)) (Connection c ∷ gs) gs) (found-told k family rows)
+
+pub index-told : (family : AddressFamily) (rows : List Grant) (find : Key → Option Grant) → IsIndex is_found_by find rows → IsIndex is_found_by find (told_first family rows)
+unfolding IsIndex
+index-told family rows find is k = found-told k family rows ∙ is k
+
+found-taken : (k : Key) (id : ℕ) (peer : SocketAddr) (rows : List Grant) → filter (is_found_by k) (without_first (is_offer_of id peer) rows) ≡ filter (is_found_by k) rows
+found-taken k id peer [] = refl
+found-taken k id peer (Offer offer ∷ rows) = by (is_offer_of id peer (Offer offer)) refl (found-taken k id peer rows)
+  where
+    by : (b : Bool) → is_offer_of id peer (Offer offer) ≡ b → filter (is_found_by k) (without_first (is_offer_of id peer) rows) ≡ filter (is_found_by k) rows
+        → filter (is_found_by k) (without_first (is_offer_of id peer) (Offer offer ∷ rows)) ≡ filter (is_found_by k) (Offer offer ∷ rows)
+    by true e rest = rw (e, offer-keys k offer) refl
+    by false e rest = rw (e, offer-keys k offer) rest
+found-taken k id peer (Allocation a ∷ rows) = ap (λ (gs : List Grant). cond (is_found_by k (Allocation a)) (Allocation a ∷ gs) gs) (found-taken k id peer rows)
+found-taken k id peer (Permission ip progress ∷ rows) = ap (λ (gs : List Grant). cond (is_found_by k (Permission ip progress)) (Permission ip progress ∷ gs) gs) (found-taken k id peer rows)
+found-taken k id peer (Channel number other progress ∷ rows) = ap (λ (gs : List Grant). cond (is_found_by k (Channel number other progress)) (Channel number other progress ∷ gs) gs) (found-taken k id peer rows)
+found-taken k id peer (Connect other ∷ rows) = ap (λ (gs : List Grant). cond (is_found_by k (Connect other)) (Connect other ∷ gs) gs) (found-taken k id peer rows)
+found-taken k id peer (Connection c ∷ rows) = ap (λ (gs : List Grant). cond (is_found_by k (Connection c)) (Connection c ∷ gs) gs) (found-taken k id peer rows)
+
+pub index-taken : (id : ℕ) (peer : SocketAddr) (rows : List Grant) (find : Key → Option Grant) → IsIndex is_found_by find rows → IsIndex is_found_by find (without_first (is_offer_of id peer) rows)
+unfolding IsIndex
+index-taken id peer rows find is k = found-taken k id peer rows ∙ is k
+
+-- ---- grants are changed and removed
+
+found-changed : (change : Change) (k : Key) (g : Grant) → is_found_by k (changed change g) ≡ is_found_by k g
+found-changed change (By.Number n) g = changed-same (is_channel_of n) (λ a e x. refl) (λ ip e u. refl) (λ n p e u. refl) (λ c d. refl) change g
+found-changed change (By.Peer p) g = changed-same (is_open_to p) (λ a e x. refl) (λ ip e u. refl) (λ n p e u. refl) (λ c d. refl) change g
+found-changed change (By.Ip ip) g = changed-same (is_permission_of ip) (λ a e x. refl) (λ ip e u. refl) (λ n p e u. refl) (λ c d. refl) change g
+
+pub index-changed_by : (change : Change) (rows : List Grant) (find then : Key → Option Grant) → IsIndex is_found_by find rows
+    → ((k : Key) → then k ≡ option_map (changed change) (find k)) → IsIndex is_found_by then (map (changed change) rows)
+index-changed_by change rows find then is now = index-changed is_found_by find then rows (changed change) is now (found-changed change)
+
+pub index-without : (which : Which) (rows : List Grant) (find then : Key → Option Grant) → IsIndex is_found_by find rows
+    → ((k : Key) → then k ≡ option_filter (λ g. not (holds which g)) (find k)) → IsIndex is_found_by then (filter (λ g. not (holds which g)) rows)
+index-without which rows find then is now = index-filtered is_found_by find then rows (λ g. not (holds which g)) is now
+
+-- ---- one replaces others
+
+any-both : (p q : Grant → Bool) (rows : List Grant) → list_any (λ g. p g && q g) rows ≡ list_any p (filter q rows)
+any-both p q [] = refl
+any-both p q (g ∷ rows) = by (p g) (q g) refl refl (any-both p q rows)
+  where
+    by : (a b : Bool) → p g ≡ a → q g ≡ b → list_any (λ g. p g && q g) rows ≡ list_any p (filter q rows) → list_any (λ g. p g && q g) (g ∷ rows) ≡ list_any p (filter q (g ∷ rows))
+    by true true e f rest = rw (e, f, e) refl
+    by true false e f rest = rw (e, f) rest
+    by false true e f rest = rw (e, f, e) rest
+    by false false e f rest = rw (e, f) rest
+
+-- the keys of the new grant are keys of those that are removed
+abbrev pub IsKeyed : (Grant → Bool) → Grant → List Grant → Type 0
+IsKeyed which grant rows = (k : Key) → is_found_by k grant ≡ true → list_any (λ g. which g && is_found_by k g) rows ≡ true
+
+one-goes : (which : Grant → Bool) (rows : List Grant) (find : Key → Option Grant) (k : Key) → IsIndex is_found_by find rows → list_any (λ g. which g && is_found_by k g) rows ≡ true → list_any which (option_to_list (find k)) ≡ true
+unfolding IsIndex
+one-goes which rows find k is there = ap (λ (gs : List Grant). list_any which gs) (sym (is k)) ∙ (sym (any-both which (is_found_by k) rows) ∙ there)
+
+pub keyed-found : (which : Grant → Bool) (rows : List Grant) (find : Key → Option Grant) (grant : Grant) → IsIndex is_found_by find rows → IsKeyed which grant rows → (k : Key) → is_found_by k grant ≡ true → is_some (find k) ≡ true
+keyed-found which rows find grant is keyed k at = by (find k) (one-goes which rows find k is (keyed k at))
+  where
+    by : (found : Option Grant) → list_any which (option_to_list found) ≡ true → is_some found ≡ true
+    by None h = cc
+    by (Some g) h = refl
+
+pub index-replaced : (which : Which) (rows : List Grant) (find then : Key → Option Grant) (grant : Grant) → IsIndex is_found_by find rows → IsKeyed (holds which) grant rows
+    → ((k : Key) → then k ≡ cond (is_found_by k grant) (Some grant) (option_filter (λ g. not (holds which g)) (find k)))
+    → IsIndex is_found_by then (filter (λ g. not (holds which g)) rows ++ grant ∷ [])
+index-replaced which rows find then grant is keyed now =
+    let mid : Key → Option Grant = λ k. option_filter (λ g. not (holds which g)) (find k) in
+    index-pushed is_found_by mid then (filter (λ g. not (holds which g)) rows) grant (λ k. is_found_by k grant) (index-without which rows find mid is (λ k. refl)) now (λ k. refl)
+    (λ k at. by (find k) (one-goes (holds which) rows find k is (keyed k at)))
+  where
+    gone : (b : Bool) (g : Grant) → (b || false) ≡ true → cond (not b) (Some g) None ≡ None
+    gone true g h = refl
+    gone false g h = cc
+
+    by : (found : Option Grant) → list_any (holds which) (option_to_list found) ≡ true → option_filter (λ g. not (holds which g)) found ≡ None
+    by None h = refl
+    by (Some g) h = gone (holds which g) g h
+
+-- ---- reading
+
+pub first-found : {X : Type 0} (f : Grant → Option X) (find : Key → Option Grant) (rows : List Grant) (k : Key) → IsIndex is_found_by find rows
+    → ((g : Grant) → is_found_by k g ≡ false → f g ≡ None) → first_among f rows ≡ option_and_then f (find k)
+first-found f find rows k is other = first-by_index is_found_by f find rows k is other
+
+pub other-owner : (n : ℕ) (g : Grant) → is_channel_of n g ≡ false → channel_at n g ≡ None
+other-owner n (Channel number peer progress) h = rw h refl
+other-owner n (Allocation a) h = refl
+other-owner n (Permission ip progress) h = refl
+other-owner n (Connect peer) h = refl
+other-owner n (Offer offer) h = refl
+other-owner n (Connection c) h = refl
+
+pub other-peer : (n : ℕ) (g : Grant) → is_channel_of n g ≡ false → channel_peer n g ≡ None
+other-peer n (Channel number peer Pending) h = refl
+other-peer n (Channel number peer (Active expiry)) h = rw h refl
+other-peer n (Channel number peer (Reserved until)) h = refl
+other-peer n (Allocation a) h = refl
+other-peer n (Permission ip progress) h = refl
+other-peer n (Connect peer) h = refl
+other-peer n (Offer offer) h = refl
+other-peer n (Connection c) h = refl
+
+pub other-active : (a : SocketAddr) (g : Grant) → is_open_to a g ≡ false → active_channel a g ≡ None
+other-active a (Channel number peer Pending) h = refl
+other-active a (Channel number peer (Active expiry)) h = rw h refl
+other-active a (Channel number peer (Reserved until)) h = refl
+other-active a (Allocation r) h = refl
+other-active a (Permission ip progress) h = refl
+other-active a (Connect peer) h = refl
+other-active a (Offer offer) h = refl
+other-active a (Connection c) h = refl
+
+pub other-permission : (a : IpAddr) (g : Grant) → is_permission_of a g ≡ false → permission_progress a g ≡ None
+other-permission a (Permission ip progress) h = rw h refl
+other-permission a (Channel number peer progress) h = refl
+other-permission a (Allocation r) h = refl
+other-permission a (Connect peer) h = refl
+other-permission a (Offer offer) h = refl
+other-permission a (Connection c) h = refl

@@ -1,0 +1,60 @@
+-- What is read from all grants at once.
+use Rattle.std.specs.Prelude.{ℕ, ◌≡◌, ◌+◌, ◌^◌, ◌&&◌, if◌then◌else◌, min, not, Bool, true, false, List, filter_map, fold, slice_get, Option, Some, None}
+use Rattle.std.specs.List.{list_any}
+use Rattle.turn_client_api.specs.Due.{refresh_time}
+use Rattle.turn_client_api.specs.Grants.{allocation_in, is_for}
+use Rattle.turn_client_api.specs.State.{State, greatest_moment}
+use Rattle.turn_client_api.specs.declared.grant.Grant.{Grant}
+use Rattle.turn_client_api.specs.declared.grant.Grant.TheVariants.{Allocation, Permission, Channel, Offer, Connection}
+use Rattle.turn_client_api.specs.declared.grant.Listing.{Listing}
+use Rattle.turn_client_api.specs.declared.grant.Origin.{Origin}
+use Rattle.turn_client_api.specs.declared.grant.Origin.TheVariants.{ServerRequest}
+use Rattle.turn_client_api.specs.declared.grant.Progress.TheVariants.{Active, Reserved}
+use Rattle.turn_client_grants.specs.Lists.{with_lists}
+use Rattle.turn_client_grants.specs.declared.summary.Summary.{Summary}
+
+-- the expiry or the deadline of a grant other than an allocation
+abbrev pub end_in : Grant → Option ℕ
+end_in (Permission ip (Active expiry)) = Some expiry
+end_in (Channel number peer (Active expiry)) = Some expiry
+end_in (Connection c) = c.deadline
+end_in _ = None
+
+-- the time at which the grant expires, its reservation is over or its deadline passes: an expired allocation
+-- stays while a request for it awaits its response
+abbrev pub lapse_in : List Listing → Grant → Option ℕ
+lapse_in listed (Allocation a) =
+    if a.is_expired && list_any (λ l. is_for l.purpose (Allocation a)) listed then None else Some a.expiry
+lapse_in listed (Permission ip (Active expiry)) = Some expiry
+lapse_in listed (Channel number peer (Active expiry)) = Some expiry
+lapse_in listed (Channel number peer (Reserved until)) = Some (until + 1)
+lapse_in listed (Connection c) = c.deadline
+lapse_in listed _ = None
+
+-- later than every time
+abbrev pub never : ℕ
+never = 2 ^ 63
+
+-- an offer that was not reported
+abbrev pub is_untold : Grant → Bool
+is_untold (Offer offer) = not offer.is_told
+is_untold _ = false
+
+abbrev pub is_by_request : Origin → Bool
+is_by_request (ServerRequest id) = true
+is_by_request _ = false
+
+-- an offer that the server made by a request
+abbrev pub is_requested : Grant → Bool
+is_requested (Offer offer) = is_by_request offer.origin
+is_requested _ = false
+
+-- it is the summary of these grants and these requests
+pub record IsSummary (summary : Summary) (grants : List Grant) (listed : List Listing) : Type 0 where
+  pub first : summary.first ≡ slice_get (filter_map allocation_in grants) 0
+  pub second : summary.second ≡ slice_get (filter_map allocation_in grants) 1
+  pub end : summary.end ≡ fold min greatest_moment (filter_map end_in grants)
+  pub lapse : summary.lapse ≡ fold min never (filter_map (lapse_in listed) grants)
+  pub refresh : (s : State) → summary.refresh ≡ fold min greatest_moment (filter_map (refresh_time (with_lists grants listed s)) grants)
+  pub untold : summary.has_untold ≡ list_any is_untold grants
+  pub requested : summary.has_requested ≡ list_any is_requested grants

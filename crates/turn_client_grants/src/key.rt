@@ -1,0 +1,165 @@
+//! The keys by which a grant is found.
+
+ghost use Rattle.std.specs.Prelude.{◌≡◌, ◌&&◌, ◌||◌, ◌<◌, ◌≤◌, ◌+◌, Some, cond, fold, length, not, true, IsSome, OnOk, option_map};
+ghost use Rattle.std.specs.HashMap as hash;
+ghost use Rattle.std.specs.HashMap.{spare};
+ghost use Rattle.std.proofs.lemmas.Map.Entries.{option_filter};
+ghost use Rattle.turn_agent.specs.Agent.{same_address};
+ghost use Rattle.turn_client_grants.specs.Keys.{found_after, is_found_by, is_open_to};
+ghost use Rattle.turn_client_grants.specs.Table.{changed};
+ghost use Rattle.turn_client_grants.specs.Which.{holds};
+
+use crate::changes::Change;
+use crate::kind::{is_channel_of, is_permission_of};
+use crate::which::Which;
+use std::alloc::AllocError;
+use std::collections::HashMap;
+use std::hash::Hash;
+use std::net::{IpAddr, SocketAddr};
+use turn_client_api::{Grant, Progress};
+
+/// A key by which a grant is found.
+#[derive(Clone, Copy, Debug, PartialEq, Eq, Hash)]
+pub enum Key {
+    /// The number of a channel.
+    Number(u16),
+    /// The peer of a channel that is pending or active.
+    Peer(SocketAddr),
+    /// The IP address of a permission.
+    Ip(IpAddr),
+}
+
+impl Key {
+    /// Whether the grant is found by this key.
+    fn finds(&self, grant: &Grant) -> bool
+        ensures { result ≡ is_found_by self.now grant.now }
+    {
+        match self {
+            Key::Number(number) => is_channel_of(*number, grant),
+            Key::Peer(peer) => is_open_to(*peer, grant),
+            Key::Ip(ip) => is_permission_of(*ip, grant),
+        }
+    }
+}
+
+/// Whether the grant is a channel to the peer that is pending or active.
+pub(crate) fn is_open_to(peer: SocketAddr, grant: &Grant) -> bool
+    ensures { result ≡ is_open_to peer grant.now }
+{
+    match grant {
+        Grant::Channel(_, other, Progress::Pending | Progress::Active(_)) => *other == peer,
+        _ => false,
+    }
+}
+
+/// Makes room for so many more keys.
+pub(crate) fn reserve(found: &mut HashMap<Key, Grant>, additional: usize) -> Result<(), AllocError>
+    ensures same { (k : Key) → hash.get ⟦<Key as PartialEq>⟧.eq found.new k ≡ hash.get ⟦<Key as PartialEq>⟧.eq found.old k }
+    ensures ok { OnOk result (additional ≤ spare found.new) }
+    ensures left { spare found.old ≤ spare found.new }
+{
+    found.reserve(additional)
+}
+
+/// The key leads to this value from now on.
+fn put<K: Eq + Hash + Drop, V: Copy + Drop>(map: &mut HashMap<K, V>, key: K, value: &V)
+    requires { 0 < spare map.old }
+    ensures leads { (k : K) → hash.get K.eq map.new k ≡ cond (K.eq key k) (Some value.now) (hash.get K.eq map.old k) }
+    ensures room { spare map.old ≤ spare map.new + 1 }
+{
+    let _ = map.insert(key, *value);
+}
+
+/// The grant is found by its keys from now on.
+pub(crate) fn add(found: &mut HashMap<Key, Grant>, grant: &Grant)
+    requires { 2 ≤ spare found.old }
+    ensures leads { (k : Key) → hash.get ⟦<Key as PartialEq>⟧.eq found.new k ≡ cond (is_found_by k grant.now) (Some grant.now) (hash.get ⟦<Key as PartialEq>⟧.eq found.old k) }
+    ensures room { spare found.old ≤ spare found.new + 2 }
+{
+    match grant {
+        Grant::Permission(ip, _) => put(found, Key::Ip(*ip), grant),
+        Grant::Channel(number, _, Progress::Reserved(_)) => {
+            put(found, Key::Number(*number), grant);
+        }
+        Grant::Channel(number, peer, Progress::Pending | Progress::Active(_)) => {
+            put(found, Key::Number(*number), grant);
+            put(found, Key::Peer(*peer), grant);
+        }
+        Grant::Allocation(_) => {}
+        Grant::Connect(_) => {}
+        Grant::Offer(_) => {}
+        Grant::Connection(_) => {}
+    }
+}
+
+/// The grants are found by their keys from now on.
+pub(crate) fn add_all(found: &mut HashMap<Key, Grant>, more: &[Grant])
+    requires { length more.now + length more.now ≤ spare found.old }
+    ensures leads { (k : Key) → hash.get ⟦<Key as PartialEq>⟧.eq found.new k ≡ fold (found_after k) (hash.get ⟦<Key as PartialEq>⟧.eq found.old k) more.now }
+    ensures room { spare found.old ≤ spare found.new + (length more.now + length more.now) }
+{
+    for grant in more {
+        add(found, grant);
+    }
+}
+
+/// The key, which leads to a grant, leads to this one from now on.
+fn set(found: &mut HashMap<Key, Grant>, key: Key, grant: &Grant)
+    requires { IsSome (hash.get ⟦<Key as PartialEq>⟧.eq found.old key) }
+    ensures leads { (k : Key) → hash.get ⟦<Key as PartialEq>⟧.eq found.new k ≡ cond (⟦<Key as PartialEq>⟧.eq key k) (Some grant.now) (hash.get ⟦<Key as PartialEq>⟧.eq found.old k) }
+    ensures room { spare found.new ≡ spare found.old }
+{
+    if let Some(held) = found.get_mut(&key) {
+        *held = *grant;
+    }
+}
+
+/// Removes these grants from the map, except under the keys of the grant that replaces them.
+fn remove_others(found: &mut HashMap<Key, Grant>, which: &Which, grant: &Grant)
+    ensures left { (k : Key) → hash.get ⟦<Key as PartialEq>⟧.eq found.new k ≡ option_filter (λ g. is_found_by k grant.now || not (holds which.now g)) (hash.get ⟦<Key as PartialEq>⟧.eq found.old k) }
+    ensures room { spare found.old ≤ spare found.new }
+{
+    found.retain(|key, held| key.finds(grant) || !which.holds(held));
+}
+
+/// The grant replaces these. Each of its keys leads to a grant already.
+pub(crate) fn replace(found: &mut HashMap<Key, Grant>, which: &Which, grant: &Grant)
+    requires { (k : Key) → is_found_by k grant.now ≡ true → IsSome (hash.get ⟦<Key as PartialEq>⟧.eq found.old k) }
+    ensures leads { (k : Key) → hash.get ⟦<Key as PartialEq>⟧.eq found.new k ≡ cond (is_found_by k grant.now) (Some grant.now) (option_filter (λ g. not (holds which.now g)) (hash.get ⟦<Key as PartialEq>⟧.eq found.old k)) }
+    ensures room { spare found.old ≤ spare found.new }
+{
+    remove_others(found, which, grant);
+    match grant {
+        Grant::Permission(ip, _) => set(found, Key::Ip(*ip), grant),
+        Grant::Channel(number, _, Progress::Reserved(_)) => {
+            set(found, Key::Number(*number), grant);
+        }
+        Grant::Channel(number, peer, Progress::Pending | Progress::Active(_)) => {
+            set(found, Key::Number(*number), grant);
+            set(found, Key::Peer(*peer), grant);
+        }
+        Grant::Allocation(_) => {}
+        Grant::Connect(_) => {}
+        Grant::Offer(_) => {}
+        Grant::Connection(_) => {}
+    }
+}
+
+/// Removes these grants from the map.
+pub(crate) fn remove(found: &mut HashMap<Key, Grant>, which: &Which)
+    ensures left { (k : Key) → hash.get ⟦<Key as PartialEq>⟧.eq found.new k ≡ option_filter (λ g. not (holds which.now g)) (hash.get ⟦<Key as PartialEq>⟧.eq found.old k) }
+    ensures room { spare found.old ≤ spare found.new }
+{
+    found.retain(|_, grant| !which.holds(grant));
+}
+
+/// Changes the grants in the map.
+pub(crate) fn change(found: &mut HashMap<Key, Grant>, change: &Change)
+    ensures changed { (k : Key) → hash.get ⟦<Key as PartialEq>⟧.eq found.new k ≡ option_map (changed change.now) (hash.get ⟦<Key as PartialEq>⟧.eq found.old k) }
+    ensures room { spare found.old ≤ spare found.new }
+{
+    found.retain(|_, grant| {
+        *grant = change.applied(grant);
+        true
+    });
+}

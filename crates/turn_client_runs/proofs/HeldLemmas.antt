@@ -1,0 +1,255 @@
+-- What is held after a run was set by the first challenge that was answered.
+use Rattle.std.proofs.Common.{◌≡◌, ◌⊎◌, ◌∙◌, ltb, ℕ, Bool, true, false, cond, List, ◌∷◌, Option, Some, None, refl, sym, subst, ap, inl, inr}
+use Rattle.std.specs.Prelude.{IsSome, is_some, ⊤}
+use Rattle.std.specs.List.{Contains}
+use Rattle.std.specs.declared.net.socket_addr.SocketAddr.{SocketAddr}
+use Rattle.std.proofs.lemmas.Option.{same_Some}
+use Rattle.turn_stun.specs.Message.{id_of}
+use Rattle.turn_stun.specs.declared.transport.TransportType.{TransportType}
+use Rattle.turn_auth.specs.LongTerm.{Challenge}
+use Rattle.turn_client_api.specs.Config.{Config}
+use Rattle.turn_client_api.specs.State.{State, initial}
+use Rattle.turn_client_api.specs.Grants.{is_connection_from, purposes_of, without}
+use Rattle.turn_client_api.specs.Judgement.{Judgement, Unrelated, Challenged, Fatal, LateResponse, DataIndication, ConnectionAttempt, SignedRequest, SignedSuccess, SignedError, answers_one, challenge_in, challenged_or, judgement_of}
+use Rattle.turn_client_api.specs.Effect.{closed, ended, fail_all}
+use Rattle.turn_client_api.specs.Retry.{most_challenges, retried, state_after_retry}
+use Rattle.turn_client_api.specs.Connections.{bind_step, connection_at}
+use Rattle.turn_client_api.specs.Payloads.{Outcome, Handled, Ignored, is_message, message_step}
+use Rattle.turn_client_api.specs.Receive.{connection_gone}
+use Rattle.turn_client_api.specs.Handled.{Turn, handled, made_of}
+use Rattle.turn_client_api.specs.Steps.{state_after}
+use Rattle.turn_client_api.specs.Transmit.{sent}
+use Rattle.turn_client_api.specs.LawsHandled.{DiffersInStreams, IsDoneBy, IsOverControl, TakesTurns}
+use Rattle.turn_client_api.specs.declared.call.Call.{Call}
+use Rattle.turn_client_api.specs.declared.call.Call.TheVariants.{Delete, CreatePermission, BindChannel, TcpConnect, AllocatedTcpSocket, TcpClosed, SendTo, Recv, PollRecv, Poll, PollTransmit, PollEvent, ProtocolError, RelayedAddresses, Permissions, HavePermission}
+use Rattle.turn_client_api.specs.declared.grant.Purpose.{Purpose}
+use Rattle.turn_client_api.specs.declared.state.Phase.{Phase}
+use Rattle.turn_client_api.specs.declared.state.Phase.TheVariants.{New, Requesting, Authenticating, Allocated, Closed}
+use Rattle.turn_client_api.specs.declared.state.Stream.{Stream}
+use Rattle.turn_client_api.proofs.Edits.{IgnoresAll, KeepsEdits}
+use Rattle.turn_client_api.proofs.EditsOfCalls.{delete-walk, quiet-walk, tcp_socket-walk}
+use Rattle.turn_client_api.proofs.TurnBringLemmas.{IsBrought, leaves-bring}
+use Rattle.turn_client_runs.specs.Held.{HeldFromChallenge, IsFirstAnswer, IsOfChallenge}
+use Rattle.turn_client_runs.specs.Run.{state_behind}
+use Rattle.turn_client_runs.specs.Turns.{IsAmong, handled_in}
+use Rattle.turn_client_runs.proofs.MadeLemmas.{control-made}
+use Rattle.turn_client_runs.proofs.RealmLemmas.{turns-after}
+use Rattle.turn_client_runs.proofs.TurnsOfRuns.{run-brings}
+
+-- ---- if something is held, or the client is past its first request
+
+abbrev IsLate : State → Type 0
+IsLate s = IsSome s.held ⊎ (s.phase ≡ Authenticating) ⊎ (s.phase ≡ Allocated)
+
+-- this does not hold for a client that has ended with nothing held
+ended-early : (u : State) → u.held ≡ None → IsLate (closed (fail_all u)) → ⊥
+ended-early u none (inl some) = let no : is_some u.held ≡ true = some in let never : false ≡ true = rw none at no in cc
+ended-early u none (inr (inl e)) = cc
+ended-early u none (inr (inr e)) = cc
+
+-- ---- a message
+
+-- of the judgements, those of a client that waits for its first challenge
+IsAwaiting : Judgement → Type 0
+IsAwaiting Unrelated = ⊤
+IsAwaiting (Challenged d) = ⊤
+IsAwaiting Fatal = ⊤
+IsAwaiting _ = ⊥
+
+requesting-is : (b : Bool) (o : Option Challenge) (j : Judgement) → cond b (challenged_or Fatal o) Unrelated ≡ j → IsAwaiting j
+unfolding IsAwaiting
+requesting-is true (Some d) j e = subst IsAwaiting e tt
+requesting-is true None j e = subst IsAwaiting e tt
+requesting-is false o j e = subst IsAwaiting e tt
+
+-- the message is the first challenge that is answered
+abbrev Answers : List ℕ → ℕ → State → Type 0
+Answers message now s =
+    (d : Challenge) × (s.held ≡ None) × (judgement_of s message ≡ Challenged d) × ((message_step message now s).1.held ≡ Some d)
+
+module _ (message : List ℕ) (now : ℕ) (s : State) where
+  abbrev Came : Type 0
+  Came = IsLate s ⊎ Answers message now s
+
+  -- the message does nothing
+  nothing : (o : Outcome) → message_step message now s ≡ (o, s) → IsLate (message_step message now s).1 → Came
+  nothing o e h = inl (subst (λ (p : Outcome × State). IsLate p.1) e h)
+
+  -- it ends the client
+  ends : (u : State) → u.held ≡ None → message_step message now s ≡ (Handled, closed (fail_all u)) → IsLate (message_step message now s).1 → Came
+  ends u none e h = absurd (ended-early u none (subst (λ (p : Outcome × State). IsLate p.1) e h))
+
+  challenge-late : (d : Challenge) → s.held ≡ None → judgement_of s message ≡ Challenged d → IsLate (message_step message now s).1 → Came
+  challenge-late d none judged = by (ltb s.challenges most_challenges) refl (retried (purposes_of (id_of message) s)) refl
+    where
+      by : (b : Bool) → ltb s.challenges most_challenges ≡ b → (o : Option Purpose) → retried (purposes_of (id_of message) s) ≡ o → IsLate (message_step message now s).1 → Came
+      by false f o g = ends s none (rw (judged, f) refl)
+      by true f None g = nothing Ignored (rw (judged, f, g) refl)
+      by true f (Some purpose) g = λ h.
+          let e : message_step message now s ≡ (Handled, state_after_retry s (id_of message) purpose d now) = rw (judged, f, g) refl in
+          inr (d, none, judged, ap (λ (p : Outcome × State). p.1.held) e)
+
+  requesting-late : s.phase ≡ Requesting → s.held ≡ None → IsLate (message_step message now s).1 → Came
+  unfolding IsAwaiting
+  requesting-late phase none = by (judgement_of s message) refl (requesting-is (answers_one s message) (challenge_in s message) (judgement_of s message) (rw phase refl))
+    where
+      by : (j : Judgement) → judgement_of s message ≡ j → IsAwaiting (judgement_of s message) → IsLate (message_step message now s).1 → Came
+      by Unrelated e is = nothing Ignored (rw e refl)
+      by (Challenged d) e is = challenge-late d none e
+      by Fatal e is = ends (ended (id_of message) s) none (rw (e, phase) refl)
+      by LateResponse e is = absurd (subst IsAwaiting e is)
+      by DataIndication e is = absurd (subst IsAwaiting e is)
+      by ConnectionAttempt e is = absurd (subst IsAwaiting e is)
+      by SignedRequest e is = absurd (subst IsAwaiting e is)
+      by SignedSuccess e is = absurd (subst IsAwaiting e is)
+      by SignedError e is = absurd (subst IsAwaiting e is)
+
+  message-late : IsLate (message_step message now s).1 → Came
+  message-late = by s.held refl s.phase refl
+    where
+      unheard : judgement_of s message ≡ Unrelated → IsLate (message_step message now s).1 → Came
+      unheard e = nothing Ignored (rw e refl)
+
+      by : (o : Option Challenge) → s.held ≡ o → (p : Phase) → s.phase ≡ p → IsLate (message_step message now s).1 → Came
+      by (Some d) held p phase h = inl (inl (rw held refl))
+      by None held New phase h = unheard (rw phase refl) h
+      by None held Requesting phase h = requesting-late phase held h
+      by None held Authenticating phase h = inl (inr (inl phase))
+      by None held Allocated phase h = inl (inr (inr phase))
+      by None held Closed phase h = unheard (rw phase refl) h
+
+-- ---- an input
+
+bind-late : (local : SocketAddr) (message : List ℕ) (now : ℕ) (s : State) → IsLate (bind_step local message now s) → IsLate s
+bind-late local message now s = by s.phase refl
+  where
+    same : bind_step local message now s ≡ s → IsLate (bind_step local message now s) → IsLate s
+    same e h = subst IsLate e h
+
+    by : (p : Phase) → s.phase ≡ p → IsLate (bind_step local message now s) → IsLate s
+    by New phase h = same (rw phase refl) h
+    by Requesting phase h = same (rw phase refl) h
+    by Authenticating phase h = inr (inl phase)
+    by Allocated phase h = inr (inr phase)
+    by Closed phase h = same (rw phase refl) h
+
+gone-late : (local : SocketAddr) (s : State) → IsLate (connection_gone local s) → IsLate s
+gone-late local s = by (is_some (connection_at local s))
+  where
+    by : (b : Bool) → IsLate (cond b (record (without (is_connection_from local) s) { closes = local ∷ s.closes }) s) → IsLate s
+    by true h = h
+    by false h = h
+
+closed-late : (s : State) → IsLate (closed s) → IsLate s
+closed-late s (inl some) = inl some
+closed-late s (inr (inl e)) = cc
+closed-late s (inr (inr e)) = cc
+
+abbrev IsFirst : Turn → Type 0
+IsFirst one = (d : Challenge) × IsFirstAnswer d one
+
+bringing : IsBrought IsLate IsFirst
+bringing = record {
+  differs = λ s t differs h. subst IsLate differs.others h;
+  message = control;
+  binds = λ one stream of waits whole h. inl (bind-late stream.local one.bytes one.moment one.before h);
+  gone = gone-late;
+  ended = closed-late;
+}
+  where
+    control : (one : Turn) → IsOverControl one → is_message one.bytes ≡ true → IsLate (message_step one.bytes one.moment one.before).1 → IsLate one.before ⊎ IsFirst one
+    control one over whole h = by (message-late one.bytes one.moment one.before h)
+      where
+        by : IsLate one.before ⊎ Answers one.bytes one.moment one.before → IsLate one.before ⊎ IsFirst one
+        by (inl late) = inl late
+        by (inr (d, none, judged, held)) = inr (
+          d,
+          record {
+            over = over;
+            whole = whole;
+            none = none;
+            judged = judged;
+            held = ap (λ (p : Outcome × State). p.1.held) (control-made one over whole) ∙ held;
+          },
+        )
+
+-- ---- a call
+
+Back : State → State → Type 0
+Back s t = IsLate t → IsLate s
+
+begins-late : (t : State) (s : State) → t.held ≡ s.held → t.phase ≡ Requesting → IsLate t → IsLate s
+begins-late t s same phase (inl some) = inl (subst (λ (o : Option Challenge). IsSome o) same some)
+begins-late t s same phase (inr (inl e)) = let no : Requesting ≡ Authenticating = sym phase ∙ e in cc
+begins-late t s same phase (inr (inr e)) = let no : Requesting ≡ Allocated = sym phase ∙ e in cc
+
+ends-late : (s : State) → IsLate (record s { phase = Closed }) → IsLate s
+ends-late s (inl some) = inl some
+ends-late s (inr (inl e)) = cc
+ends-late s (inr (inr e)) = cc
+
+Back-KeepsEdits : KeepsEdits Back
+unfolding Back
+Back-KeepsEdits = record {
+  same = λ s h. h;
+  trans = λ s t u first second h. first (second h);
+  aside = λ s t h. h;
+  queues = λ queue s begun h. h;
+  dequeues = λ queue s fewer h. h;
+  families = λ families s may h. h;
+  sends = λ now s waits h. h;
+  begins = λ now s new h. begins-late (sent now (record s { phase = Requesting })) s refl refl h;
+  ends = λ s none h. ends-late s h;
+  asks = λ id text purposes now s begun askable spelled h. h;
+  finishes = λ id s h. h;
+  resends = λ id now s h. h;
+  unlists = λ which s h. h;
+  removes = λ which s spares h. h;
+  removes_family = λ family s h. h;
+  takes_offer = λ id peer s h. h;
+  ages = λ grants s e h. h;
+  permission = λ ip s phase room none h. h;
+  channel = λ number peer s phase room none within h. h;
+  connect = λ peer s phase room none h. h;
+  connection = λ id c origin s phase offer none waits h. h;
+  reserves = λ number peer was until s there h. h;
+}
+
+others : (call : Call) (s : State) → (TakesTurns call → ⊥) → IsLate (state_after call s) → IsLate s ⊎ ⊥
+unfolding Back
+others call s other h = inl (by call other h)
+  where
+    by : (call : Call) → (TakesTurns call → ⊥) → Back s (state_after call s)
+    by (Recv packet now) other = absurd (other tt)
+    by (PollRecv now) other = absurd (other tt)
+    by (Delete now) other = delete-walk Back Back-KeepsEdits (λ now s h. h) now s
+    by (AllocatedTcpSocket id tuple peer local now) other = tcp_socket-walk Back Back-KeepsEdits (λ s streams h. h) id tuple peer local now s
+    by call other = quiet-walk Back Back-KeepsEdits call s tt
+
+each : (call : Call) (s : State) → IsLate (state_after call s) → IsLate s ⊎ IsDoneBy IsFirst call s
+each call s h = by (leaves-bring IsLate IsFirst bringing (λ call s. ⊥) others call s (state_after call s) (inl refl) h)
+  where
+    by : IsLate s ⊎ ⊥ ⊎ IsDoneBy IsFirst call s → IsLate s ⊎ IsDoneBy IsFirst call s
+    by (inl late) = inl late
+    by (inr (inl none)) = absurd none
+    by (inr (inr did)) = inr did
+
+-- ---- a run
+
+initial-early : (transport : TransportType) (local remote : SocketAddr) (config : Config) (seed : List ℕ) → IsLate (initial transport local remote config seed) → ⊥
+initial-early transport local remote config seed (inl some) = let no : false ≡ true = some in cc
+initial-early transport local remote config seed (inr (inl e)) = cc
+initial-early transport local remote config seed (inr (inr e)) = cc
+
+pub held-from : (transport : TransportType) (local remote : SocketAddr) (config : Config) (seed : List ℕ) (calls : List Call) → HeldFromChallenge (initial transport local remote config seed) calls
+held-from transport local remote config seed calls c e = by (run-brings IsLate IsFirst each first calls (inl (rw e refl)))
+  where
+    first : State
+    first = initial transport local remote config seed
+
+    same : (one : Turn) (d : Challenge) → (made_of one).1.held ≡ Some d → (x : Challenge) × ((state_behind first calls).held ≡ Some x) × (x.realm ≡ d.realm) × (x.algorithm ≡ d.algorithm) → (c.realm ≡ d.realm) × (c.algorithm ≡ d.algorithm)
+    same one d held (x, f, realm, algorithm) = let is : c ≡ x = same_Some c x (sym e ∙ f) in rw is (realm, algorithm)
+
+    by : IsLate first ⊎ IsAmong IsFirst (handled_in first calls) → IsAmong (IsOfChallenge c) (handled_in first calls)
+    by (inl late) = absurd (initial-early transport local remote config seed late)
+    by (inr (one, among, (d, is))) = let alike = same one d is.held (turns-after first calls one among d is.held) in (one, among, (d, is, alike.0, alike.1))

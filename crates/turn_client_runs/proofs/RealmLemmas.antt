@@ -1,0 +1,121 @@
+-- Realm and algorithm stay, from input to input too.
+use Rattle.std.proofs.Common.{◌≡◌, ◌⊎◌, Bool, true, false, not, cond, List, [], ◌∷◌, ◌++◌, Option, Some, None, refl, sym, ap, ◌∙◌, inl, inr}
+use Rattle.std.specs.List.{Contains}
+use Rattle.turn_types.specs.Frames.{begins_message}
+use Rattle.turn_auth.specs.LongTerm.{Challenge}
+use Rattle.turn_client_api.specs.State.{State}
+use Rattle.turn_client_api.specs.declared.state.Mode.{Mode}
+use Rattle.turn_client_api.specs.declared.state.Mode.TheVariants.{Control, Waiting, Bound, Broken}
+use Rattle.turn_client_api.specs.declared.state.Stream.{Stream}
+use Rattle.turn_client_api.specs.declared.call.Call.{Call}
+use Rattle.turn_client_api.specs.Connections.{bind_step}
+use Rattle.turn_client_api.specs.Payloads.{Outcome, Handled, Ignored, channel_sent, is_channel_frame, is_message, message_step}
+use Rattle.turn_client_api.specs.Handled.{Turn, handled, made_of}
+use Rattle.turn_client_api.specs.LawsHandled.{DiffersInStreams, DoesTurns, TakesTurns, TurnsLead}
+use Rattle.turn_client_api.specs.LawsSteps.{KeepsRealm}
+use Rattle.turn_client_api.specs.Steps.{state_after}
+use Rattle.turn_client_api.proofs.HasLemmas.{Has, has-append}
+use Rattle.turn_client_api.proofs.PhasesGoOn.{bind-keeps, call-keeps, keeps-same, message-keeps}
+use Rattle.turn_client_api.proofs.StandLemmas.{contains-has}
+use Rattle.turn_client_api.proofs.TurnChainLemmas.{calls-do}
+use Rattle.turn_client_runs.specs.Run.{state_behind}
+use Rattle.turn_client_runs.specs.Turns.{handled_in}
+use Rattle.turn_client_runs.proofs.TurnsOfRuns.{takes-or}
+
+same-realm : (s : State) → KeepsRealm s s
+same-realm s = (keeps-same s).2
+
+then-realm : (s t u : State) → KeepsRealm s t → KeepsRealm t u → KeepsRealm s u
+then-realm s t u first second c e = by (first c e)
+  where
+    by : (d : Challenge) × (t.held ≡ Some d) × (d.realm ≡ c.realm) × (d.algorithm ≡ c.algorithm) → (d : Challenge) × (u.held ≡ Some d) × (d.realm ≡ c.realm) × (d.algorithm ≡ c.algorithm)
+    by (d, f, r, a) = let (d', f', r', a') = second d f in (d', f', r' ∙ r, a' ∙ a)
+
+differs-realm : (s t : State) → DiffersInStreams s t → KeepsRealm s t
+differs-realm s t differs c e = (c, ap (λ (x : State). x.held) differs.others ∙ e, refl, refl)
+
+-- ---- one input
+
+turn_in_mode : (m : Mode) (one : Turn) (stream : Stream) → KeepsRealm one.before (made_of (record one { stream = Some (record stream { mode = m }) })).1
+turn_in_mode Control one stream = by (not (begins_message one.bytes)) (is_message one.bytes)
+  where
+    by : (b c : Bool) → KeepsRealm one.before (cond {A = Outcome × State} b (channel_sent one.before one.bytes, one.before) (cond {A = Outcome × State} c (message_step one.bytes one.moment one.before) (Handled, one.before))).1
+    by true c = same-realm one.before
+    by false true = (message-keeps one.bytes one.moment one.before).2
+    by false false = same-realm one.before
+turn_in_mode Waiting one stream = by (not (begins_message one.bytes)) (is_message one.bytes)
+  where
+    by : (b c : Bool) → KeepsRealm one.before (cond {A = Outcome × State} b (Ignored, one.before) (cond {A = Outcome × State} c (Handled, bind_step stream.local one.bytes one.moment one.before) (Handled, one.before))).1
+    by true c = same-realm one.before
+    by false true = (bind-keeps stream.local one.bytes one.moment one.before).2
+    by false false = same-realm one.before
+turn_in_mode (Bound peer) one stream = same-realm one.before
+turn_in_mode Broken one stream = same-realm one.before
+
+turn-realm : (one : Turn) → KeepsRealm one.before (made_of one).1
+turn-realm one = by one.stream
+  where
+    datagram : (b c : Bool) → KeepsRealm one.before (cond {A = Outcome × State} b (message_step one.bytes one.moment one.before) (cond {A = Outcome × State} c (channel_sent one.before one.bytes, one.before) (Ignored, one.before))).1
+    datagram true c = (message-keeps one.bytes one.moment one.before).2
+    datagram false true = same-realm one.before
+    datagram false false = same-realm one.before
+
+    by : (o : Option Stream) → KeepsRealm one.before (made_of (record one { stream = o })).1
+    by None = datagram (is_message one.bytes) (is_channel_frame one.bytes)
+    by (Some stream) = turn_in_mode stream.mode one stream
+
+-- ---- inputs in sequence
+
+lead-realm : (turns : List Turn) (s t : State) → TurnsLead turns s t → KeepsRealm s t
+lead-realm [] s t lead = differs-realm s t lead
+lead-realm (one ∷ later) s t (first, lead) =
+    then-realm s one.before t (differs-realm s one.before first)
+    (then-realm one.before (made_of one).1 t (turn-realm one) (lead-realm later (made_of one).1 t lead))
+
+-- realm and algorithm stay up to the input, and after it
+abbrev Stays : State → State → Turn → Type 0
+Stays s t one = KeepsRealm s one.before × KeepsRealm (made_of one).1 t
+
+lead-turn : (turns : List Turn) (s t : State) → TurnsLead turns s t → (one : Turn) → Has one turns → Stays s t one
+lead-turn [] s t lead one there = absurd there
+lead-turn (other ∷ later) s t (first, lead) one (inl e) =
+    rw e (differs-realm s other.before first, lead-realm later (made_of other).1 t lead)
+lead-turn (other ∷ later) s t (first, lead) one (inr there) =
+    let rest = lead-turn later (made_of other).1 t lead one there in
+    (then-realm s other.before one.before (differs-realm s other.before first) (then-realm other.before (made_of other).1 one.before (turn-realm other) rest.0), rest.1)
+
+-- ---- a run
+
+call-turn : (call : Call) (s : State) (one : Turn) → Has one (handled call s) → Stays s (state_after call s) one
+call-turn call s one there = by (takes-or call)
+  where
+    does : DoesTurns call s → Stays s (state_after call s) one
+    does (inl lead) = lead-turn (handled call s) s (state_after call s) lead one there
+    does (inr end) = absurd (rw end.nothing at there)
+
+    by : TakesTurns call ⊎ ((u : State) → handled call u ≡ []) → Stays s (state_after call s) one
+    by (inl takes) = does (calls-do call s takes)
+    by (inr none) = absurd (rw (none s) at there)
+
+behind-realm : (s : State) (calls : List Call) → KeepsRealm s (state_behind s calls)
+behind-realm s [] = same-realm s
+behind-realm s (call ∷ calls) = then-realm s (state_after call s) (state_behind (state_after call s) calls) (call-keeps call s).2 (behind-realm (state_after call s) calls)
+
+run-turn : (s : State) (calls : List Call) (one : Turn) → Has one (handled_in s calls) → Stays s (state_behind s calls) one
+run-turn s [] one there = absurd there
+run-turn s (call ∷ calls) one there = by (λ later. run-turn (state_after call s) calls one later) (has-append one (handled call s) (handled_in (state_after call s) calls) there)
+  where
+    t : State
+    t = state_after call s
+
+    by : (Has one (handled_in t calls) → Stays t (state_behind t calls) one) → Has one (handled call s) ⊎ Has one (handled_in t calls) → Stays s (state_behind t calls) one
+    by more (inl here) = let now = call-turn call s one here in (now.0, then-realm (made_of one).1 t (state_behind t calls) now.1 (behind-realm t calls))
+    by more (inr later) = let rest = more later in (then-realm s t one.before (call-keeps call s).2 rest.0, rest.1)
+
+pub turns-realm : (s : State) (calls : List Call) (one : Turn) → Contains (handled_in s calls) one → KeepsRealm s one.before × KeepsRealm one.before (state_behind s calls)
+turns-realm s calls one there =
+    let stays = run-turn s calls one (contains-has one (handled_in s calls) there) in
+    (stays.0, then-realm one.before (made_of one).1 (state_behind s calls) (turn-realm one) stays.1)
+
+pub turns-after : (s : State) (calls : List Call) (one : Turn) → Contains (handled_in s calls) one → KeepsRealm (made_of one).1 (state_behind s calls)
+turns-after s calls one there = (run-turn s calls one (contains-has one (handled_in s calls) there)).1

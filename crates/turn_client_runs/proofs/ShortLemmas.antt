@@ -1,0 +1,60 @@
+-- A stream of a client that was polled to the end holds less than the longest frame.
+use Rattle.std.proofs.Common.{◌≡◌, ◌∙◌, ◌<◌, ℕ, List, [], ◌∷◌, ◌++◌, None, length, sym, subst, refl, arith}
+use Rattle.std.specs.Prelude.{All}
+use Rattle.std.specs.List.{Contains}
+use Rattle.std.specs.declared.net.socket_addr.SocketAddr.{SocketAddr}
+use Rattle.std.proofs.lemmas.List.Elements.{All-contains, All-tail}
+use Rattle.turn_stun.specs.declared.transport.TransportType.{TransportType}
+use Rattle.turn_client_api.specs.Config.{Config}
+use Rattle.turn_client_api.specs.LawsStreams.{AreApart, IsDrained, IsEmptyIfBroken}
+use Rattle.turn_client_api.specs.State.{State, initial}
+use Rattle.turn_client_api.specs.Streams.{poll_recv_step}
+use Rattle.turn_client_api.specs.declared.call.Call.{Call}
+use Rattle.turn_client_api.specs.declared.call.Call.TheVariants.{PollRecv}
+use Rattle.turn_client_api.specs.declared.state.Mode.{Mode}
+use Rattle.turn_client_api.specs.declared.state.Mode.TheVariants.{Control, Waiting, Bound, Broken}
+use Rattle.turn_client_api.specs.declared.state.Stream.{Stream}
+use Rattle.turn_client_api.proofs.StandLemmas.{contains-has}
+use Rattle.turn_client_api.proofs.StreamCallLemmas.{call-apart, initial-apart}
+use Rattle.turn_client_api.proofs.StreamDrainLemmas.{poll_recv-drained}
+use Rattle.turn_client_api.proofs.StreamShortLemmas.{drained-short}
+use Rattle.turn_client_runs.specs.Received.{pieces_for}
+use Rattle.turn_client_runs.specs.Run.{state_behind}
+use Rattle.turn_client_runs.specs.Short.{StreamsAreShort}
+use Rattle.turn_client_runs.proofs.QuietLemmas.{calls-keep}
+use Rattle.turn_client_runs.proofs.ReceivedRuns.{streams-received}
+use Rattle.turn_client_runs.proofs.RunGrants.{first-hold}
+
+-- what ends a list of bytes are bytes
+ends-bytes : (before bytes : List ℕ) → All (λ b. b < 256) (before ++ bytes) → All (λ b. b < 256) bytes
+ends-bytes [] bytes h = h
+ends-bytes (b ∷ before) bytes h = ends-bytes before bytes (All-tail (λ (c : ℕ). c < 256) b (before ++ bytes) h)
+
+pub streams-short : (transport : TransportType) (local remote : SocketAddr) (config : Config) (seed : List ℕ) (calls : List Call) → StreamsAreShort (initial transport local remote config seed) calls
+streams-short transport local remote config seed calls earlier now later e none stream there bytes = by stream.mode refl
+  where
+    first : State
+    first = initial transport local remote config seed
+
+    s : State
+    s = state_behind first earlier
+
+    t : State
+    t = (poll_recv_step now s).1
+
+    apart : AreApart t
+    apart = call-apart (PollRecv now) s (calls-keep AreApart call-apart earlier first (initial-apart transport local remote config seed))
+
+    drained : IsDrained stream
+    drained = All-contains IsDrained t.streams stream (poll_recv-drained now s none) there
+
+    held : All (λ b. b < 256) stream.bytes
+    held =
+        let (before, is) = streams-received earlier now first (first-hold transport local remote config seed) stream (contains-has stream t.streams there) in
+        ends-bytes before stream.bytes (subst (All (λ (b : ℕ). b < 256)) is bytes)
+
+    by : (m : Mode) → stream.mode ≡ m → length stream.bytes < 65555
+    by Broken m = let nothing : stream.bytes ≡ [] = All-contains IsEmptyIfBroken t.streams stream apart.1 there m in rw nothing (omega arith)
+    by Control m = drained-short stream drained (λ is. let no : Control ≡ Broken = sym m ∙ is in cc) held
+    by Waiting m = drained-short stream drained (λ is. let no : Waiting ≡ Broken = sym m ∙ is in cc) held
+    by (Bound peer) m = drained-short stream drained (λ is. let no : Bound peer ≡ Broken = sym m ∙ is in cc) held
