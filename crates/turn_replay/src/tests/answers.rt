@@ -1,4 +1,4 @@
-//! Runs with answers: the messages of the RFCs, and waits that were added up by hand.
+//! Runs with answers: the messages of the RFCs, and times that were added up by hand.
 
 use crate::status::Status;
 use crate::tests::fixture::{
@@ -34,7 +34,7 @@ fn heads_of_all_kinds_are_read(rt: HostRuntime) -> Result<(), Fail> {
     Ok(())
 }
 
-// RFC 8656, sections 18.11 and 18.6: an IPv6 address beside the IPv4 one.
+// RFC 8656, sections 18.11 and 18.6: an IPv6 address in addition to the IPv4 address.
 #[test]
 fn the_first_request_names_the_families(rt: HostRuntime) -> Result<(), Fail> {
     let head =
@@ -45,8 +45,8 @@ fn the_first_request_names_the_families(rt: HostRuntime) -> Result<(), Fail> {
     follow(&rt, rt.alloc(), &trace, Status::Answered, &[want])
 }
 
-// RFC 8489, section 5: an ID has twelve bytes, whatever they are. These are the first of ChaCha20's key
-// stream under the seed, with a counter and a nonce of zeros (RFC 8439, section 2.4).
+// RFC 8489, section 5: an ID has twelve bytes of any value. These are the first bytes of ChaCha20's key stream
+// under the seed, with a counter and a nonce of zeros (RFC 8439, section 2.4).
 #[test]
 fn an_id_is_printed_with_its_leading_zeros(rt: HostRuntime) -> Result<(), Fail> {
     let seed = "000000000000000000000000000000000000000000000000000000000000abab";
@@ -56,7 +56,7 @@ fn an_id_is_printed_with_its_leading_zeros(rt: HostRuntime) -> Result<(), Fail> 
     follow(&rt, rt.alloc(), &trace, Status::Answered, &[want])
 }
 
-// RFC 8489, section 6.2.1, with waits of 0.6, 1 and 3 seconds.
+// RFC 8489, section 6.2.1, with times of 0.6, 1 and 3 seconds.
 #[test]
 fn a_silent_server_is_given_up(rt: HostRuntime) -> Result<(), Fail> {
     let rest = " 600000000,1000000000,3,3000000000
@@ -86,13 +86,13 @@ fn a_silent_server_is_given_up(rt: HostRuntime) -> Result<(), Fail> {
     follow_client(&rt, rt.alloc(), rest, &want)
 }
 
-/// The lines of seven sends.
+/// The lines of seven transmissions.
 fn seven_sends(alloc: Global) -> Result<String, AllocError> {
     let line = format!(in alloc; "{SEND_ALLOCATE}\n")?;
     line.as_str().repeat(alloc, 7)
 }
 
-// RFC 8489, section 6.2.1, with its own waits: each send, and the end.
+// RFC 8489, section 6.2.1, with its own times: each transmission, and the timeout.
 #[test]
 fn seven_sends_by_default(rt: HostRuntime) -> Result<(), Fail> {
     let rest = "
@@ -115,7 +115,7 @@ fn seven_sends_by_default(rt: HostRuntime) -> Result<(), Fail> {
     follow_client(&rt, rt.alloc(), rest, &want)
 }
 
-// A wait that no moment ends: the caller is to come again in 9999 s.
+// No deadline is set: the caller is to call again in 9999 s.
 #[test]
 fn no_sleep_is_longer_than_9999_seconds(rt: HostRuntime) -> Result<(), Fail> {
     let rest = " 18446744073709551615,18446744073709551615,2,0\n0 transmit\n0 poll\n";
@@ -123,7 +123,8 @@ fn no_sleep_is_longer_than_9999_seconds(rt: HostRuntime) -> Result<(), Fail> {
     follow_client(&rt, rt.alloc(), rest, &want)
 }
 
-/// The calls of a client that is sent no response, then two from elsewhere, and then a refusal, twice.
+/// The calls of a client that receives two packets that are no response, two responses from elsewhere, and then an
+/// error, twice.
 fn calls_refused(alloc: Global) -> Result<String, AllocError> {
     format!(in alloc;
         "

@@ -1,4 +1,4 @@
-//! Traces with a bad line, each with the one line that they are answered.
+//! Traces with a bad line, each with the one line that answers it.
 
 use crate::status::Status;
 use crate::tests::fixture::{
@@ -8,7 +8,7 @@ use std::alloc::{AllocError, Global};
 use std::process::Abort;
 use std::test::Fail;
 
-// Each up to a `;`, and S is the seed: each field missing, doubled, empty, or not as it is to be.
+// Each up to a `;`, and S is the seed: each field missing, doubled, empty, or malformed.
 const BAD_HEADS: &str = ";udp;tcp L R TCP 4 sha1 auto 75 70 S;udp L R tcp 4 sha1 auto 75 70 S;\
 UDP L R udp 4 sha1 auto 75 70 S;L R udp 4 sha1 auto 75 70 S;udp udp L R udp 4 sha1 auto 75 70 S;\
 udp L udp 4 sha1 auto 75 70 S;udp 1.2.3.4 R udp 4 sha1 auto 75 70 S;\
@@ -34,7 +34,7 @@ udp L R udp 4 sha1 auto 75 70 S 01,2,3,4;udp L R udp 4 sha1 auto 75 70 S 1,2,429
 udp L R udp 4 sha1 auto 75 70 S 1,2,3,18446744073709551616;\
 udp L R udp 4 sha1 auto 75 70 S 1,2,3,;udp L R udp 4 sha1 auto 75 70 S 1, 2,3,4";
 
-// Each up to a `;`, and A is the way from the server to the client.
+// Each up to a `;`, and A is the transport and the addresses from the server to the client.
 const BAD_MOMENTS: &str = "; ; 0 poll;poll;00 poll;+0 poll;-1 poll;0x1 poll;0\u{a0}poll;\
 4611686018427387905 poll;99999999999999999999 poll";
 
@@ -57,7 +57,7 @@ const BAD_ARGUMENTS: &str = "0 poll ;0 event 0;0 recv;0 recv A;0 recv A  ;0 recv
 0 socket 4294967296 A 1.2.3.4:5 -;0 socket 07 A 1.2.3.4:5 -;0 socket A 1.2.3.4:5 -;\
 0 socket 7 A 1.2.3.4:5;0 socket 7 A 1.2.3.4:5 --;0 socket 7 A - 1.2.3.4:5;0 socket 7 A 1.2.3.4:5 - -";
 
-/// The seed, and two addresses, in the place of a head's letters.
+/// The seed, and two addresses, in place of the letters of a head.
 fn spelled_out(alloc: Global, head: &str) -> Result<String, AllocError> {
     let head = head.replace(alloc, "L", "1.2.3.4:5")?;
     let head = head.as_str().replace(alloc, "R", "6.7.8.9:10")?;
@@ -122,7 +122,7 @@ fn sending(alloc: Global, count: usize) -> Result<String, AllocError> {
 /// A client with an allocation over TCP, up to the seed.
 const OVER_TCP: &str = "tcp 1.2.3.4:5 6.7.8.9:10 tcp 4 sha1 auto 75 70";
 
-/// After a `send` of so many bytes the trace of this client is bad in this line.
+/// After a `send` of this many bytes the trace of this client is bad in this line.
 fn is_bad_after_sending(
     rt: &impl Abort,
     alloc: Global,
@@ -135,8 +135,8 @@ fn is_bad_after_sending(
     follow(rt, alloc, &trace, Status::Malformed, &[want])
 }
 
-// RFC 8656, sections 11.1 and 12.4: a UDP datagram has room for 65,507 bytes, of which the least that
-// carries data to a peer takes some. A data connection has no such bound (RFC 6062, section 4.3).
+// RFC 8656, sections 11.1 and 12.4: a UDP datagram has room for 65,507 bytes, less the smallest header that carries
+// data to a peer. A data connection has no such limit (RFC 6062, section 4.3).
 #[test]
 fn a_packet_has_room_for_65504_bytes(rt: HostRuntime) -> Result<(), Fail> {
     is_bad_after_sending(&rt, rt.alloc(), CLIENT, 65_504, "line 3: bad call\n")?;
@@ -144,14 +144,14 @@ fn a_packet_has_room_for_65504_bytes(rt: HostRuntime) -> Result<(), Fail> {
     is_bad_after_sending(&rt, rt.alloc(), OVER_TCP, 65_505, "line 3: bad call\n")
 }
 
-/// Runs bytes that are no text, and compares what is written.
+/// Runs bytes that are not text, and compares the output.
 fn are_bad_bytes(rt: &impl Abort, alloc: Global, trace: &[u8], want: &[u8]) {
     let (status, written) = run_bytes(alloc, trace);
     assert_status(rt, status, Status::Malformed);
     assert_written(rt, written.as_slice(), want);
 }
 
-/// A head, and a call whose name is no ASCII.
+/// A head, and a call whose name is not ASCII.
 fn trace_of_other_letters(alloc: Global) -> Result<Vec<u8>, AllocError> {
     let mut trace = format!(in alloc; "{CLIENT} {SEED}\n0 ")?.into_bytes();
     trace.extend_from_slice(b"\xc3\xa4")?;

@@ -1,4 +1,4 @@
-//! Streams that come in two pieces, cut at each place, and byte by byte (RFC 8656, section 12.5; RFC 6062, section 4.3).
+//! Streams in two pieces, cut at each place, and byte by byte (RFC 8656, section 12.5; RFC 6062, section 4.3).
 
 use crate::tests::tcp_states::{BIND_ASKED, CHANNEL_BOUND, LET_IN};
 use crate::tests::transcript::follow_transcript;
@@ -6,32 +6,32 @@ use std::alloc::{AllocError, Global};
 use std::process::Abort;
 use std::test::Fail;
 
-/// A permission for 10.0.0.5 is asked for.
+/// A permission for 10.0.0.5 is requested.
 const PERMISSION_ASKED: &str = "100000000 permit udp 10.0.0.5
 ok
 150000000 transmit
 send tcp 192.168.0.1:1000 10.0.0.2:2000 000800442112a4425157488d7724e03fb8d84a3700120008000121122b12a4470006000475736572001400057265616c6d000000001500056e6f6e636500000000080014b9b36a7596b24344d727ac326fdf5d5cfb5142c1
 ";
 
-/// `abc` of 10.0.0.3:9000 over its channel, `hello` of it in an indication, the permission, `you` of 10.0.0.5:9000 in an
-/// indication, and the first half of a header.
+/// `abc` of 10.0.0.3:9000 over its channel, `hello` of it in an indication, the permission, `you` of 10.0.0.5:9000
+/// in an indication, and the first half of a header.
 const FRAMES: &str =
     "4000000361626300001700182112a442000000000000000000000001001200080001023a2b12a4410013000568656c6c6f000000010800182112a4425157488d7724e03fb8d84a3700080014b0f31f3b85731d11e499be7f159078dab468bf5d001700142112a442000000000000000000000002001200080001023a2b12a44700130003796f7500001700142112a4420000";
 
-/// Where the frames that bring data end.
+/// The ends of the frames that carry data.
 const ENDS: [usize; 3] = [8, 52, 136];
 
-/// How many bytes come.
+/// The number of bytes.
 const LEN: usize = 146;
 
-/// What they bring.
+/// The data in them.
 const DATA: [&str; 3] = [
     "data udp 10.0.0.3:9000 616263\n",
     "data udp 10.0.0.3:9000 68656c6c6f\n",
     "data udp 10.0.0.5:9000 796f75\n",
 ];
 
-/// What follows: all of the message whose header began.
+/// The rest of the message whose header began.
 const WHOLE: &str =
     "150000000 recv tcp 10.0.0.2:2000 192.168.0.1:1000 00000000000000000003001200080001023a2b12a4410013000361626300
 data udp 10.0.0.3:9000 616263
@@ -46,7 +46,7 @@ none
 /// A piece of the control stream.
 const CONTROL_PIECE: &str = "150000000 recv tcp 10.0.0.2:2000 192.168.0.1:1000 ";
 
-/// What the streams hold is asked for three times.
+/// Three calls of `poll_recv`.
 const POLLED: &str = "\n150000000 poll_recv\n150000000 poll_recv\n150000000 poll_recv\n";
 
 /// The hexadecimal digits of the bytes from one place up to another.
@@ -55,12 +55,12 @@ fn digits(hexadecimal: &str, from: usize, to: usize) -> Result<&str, Fail> {
     Ok(hexadecimal.get(places).ok_or("there are fewer bytes")?)
 }
 
-/// How many payloads have come with so many bytes.
+/// How many payloads are complete after this many bytes.
 fn count_up_to(cut: usize) -> usize {
     ENDS.iter().filter(|end| **end <= cut).count()
 }
 
-/// What a piece and three calls of `poll_recv` answer, which bring these payloads.
+/// The answers of a piece and of three calls of `poll_recv`, with these payloads.
 fn answers_to_piece(alloc: Global, payloads: &[&str]) -> Result<String, AllocError> {
     let mut answers = String::new(alloc);
     for place in 0..4usize {
@@ -102,7 +102,7 @@ fn frames_may_be_cut_anywhere(rt: HostRuntime) -> Result<(), Fail> {
     Ok(())
 }
 
-/// What the last of so many bytes is answered.
+/// The answer to the last of this many bytes.
 fn answer_to_byte(count: usize) -> &'static str {
     match ENDS.iter().position(|end| *end == count) {
         Some(place) => DATA.get(place).copied().unwrap_or("handled\n"),
@@ -132,16 +132,16 @@ fn frames_may_come_byte_by_byte(rt: HostRuntime) -> Result<(), Fail> {
 const BINDING: &str =
     "010b00182112a4425157488d7724e03fb8d84a3700080014758e1e2b4b226218bdca568d2cfbd907eeac79d0";
 
-/// How many bytes it has.
+/// Its length in bytes.
 const BINDING_LEN: usize = 44;
 
 /// A piece of the data connection.
 const DATA_PIECE: &str = "150000000 recv tcp 10.0.0.2:2000 192.168.0.1:1001 ";
 
-/// How data of the peer is answered.
+/// The answer with data of the peer.
 const PEER_DATA: &str = "data tcp 10.0.0.3:9000 ";
 
-/// The response and this data in two pieces, with these calls in between.
+/// The response and this data in two pieces, with these calls between them.
 fn cut_connection(alloc: Global, data: &str, cut: usize, between: &str) -> Result<String, Fail> {
     let bytes = [BINDING, data].concat(alloc)?;
     let front = digits(bytes.as_str(), 0, cut)?;
@@ -161,7 +161,7 @@ fn follow_connection(
     follow_transcript(rt, alloc, &[LET_IN, BIND_ASKED, calls, answers, event])
 }
 
-/// What the pieces and a call of `poll_recv` after them answer: data comes after the response.
+/// The answers of the pieces and of a call of `poll_recv` after them: data comes after the response.
 fn joined_answers(alloc: Global, data: &str, cut: usize) -> Result<String, AllocError> {
     let (before, after) = if cut < BINDING_LEN {
         ("handled\nhandled\n", "\n")
@@ -171,7 +171,7 @@ fn joined_answers(alloc: Global, data: &str, cut: usize) -> Result<String, Alloc
     [before, PEER_DATA, data, after].concat(alloc)
 }
 
-// Data that came with the response waits for the next piece.
+// Data that came with the response is buffered until the next input.
 #[test]
 fn a_data_connection_may_be_cut_anywhere(rt: HostRuntime) -> Result<(), Fail> {
     for data in ["68656c6c6f", "ff00"] {

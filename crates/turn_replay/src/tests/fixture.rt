@@ -12,15 +12,14 @@ pub const CLIENT: &str = "udp 192.168.0.1:1000 10.0.0.2:2000 udp 4 sha1 auto 757
 /// A seed of zeros.
 pub const SEED: &str = "0000000000000000000000000000000000000000000000000000000000000000";
 
-/// What comes from the server: its transport, its address and the client's.
+/// The transport of the server's packets, its address and the client's.
 pub const FROM_SERVER: &str = "udp 10.0.0.2:2000 192.168.0.1:1000";
 
-/// The first ALLOCATE of this client (RFC 8656, section 7.1) under the first ID of the seed, as a
-/// packet that is to be sent.
+/// The first ALLOCATE of this client (RFC 8656, section 7.1) under the first ID of the seed, as a packet to send.
 pub const SEND_ALLOCATE: &str =
     "send udp 192.168.0.1:1000 10.0.0.2:2000 000300142112a44276b8e0ada0f13d90405d6ae5000d0004000007080019000411000000001a0000";
 
-/// A 400 (Bad Request) to it, without integrity (RFC 8489, section 14.8).
+/// A 400 (Bad Request) response to it, without integrity (RFC 8489, section 14.8).
 pub const BAD_REQUEST: &str =
     "011300142112a44276b8e0ada0f13d90405d6ae50009000f00000400426164205265717565737400";
 
@@ -32,15 +31,15 @@ pub fn run_bytes(alloc: Global, trace: &[u8]) -> (Status, Vec<u8>) {
     (status, written)
 }
 
-// Whole traces, and few locals: the proof of a test grows with the square of what it holds. An assertion
-// with a message is as much to prove as ten without, so each stands in a function of its own.
+// Whole traces, and few locals: the cost of the proof of a test grows with the square of its locals. An assertion
+// with a message costs as much as ten without, so each is in its own function.
 
-/// Asserts that the case of this number is as it is to be.
+/// Asserts that this case holds.
 pub fn check(rt: &impl Abort, is_so: bool, case: usize) {
     assert!(rt; is_so, "case {case}");
 }
 
-/// Asserts that a run ended so.
+/// Asserts that a run ended with this status.
 pub fn assert_status(rt: &impl Abort, found: Status, want: Status) {
     assert_eq!(rt; found, want);
 }
@@ -55,7 +54,7 @@ fn assert_answer(rt: &impl Abort, trace: &str, found: &str, want: &str) {
     assert_eq!(rt; found, want, "{trace}");
 }
 
-/// Runs a trace, which is to end so and to write this.
+/// Runs a trace, which must end with this status and write this text.
 pub fn is_answered(
     rt: &impl Abort,
     alloc: Global,
@@ -70,7 +69,7 @@ pub fn is_answered(
     Ok(())
 }
 
-/// The same of a trace and an answer in parts.
+/// The same for a trace and an answer in parts.
 pub fn follow(
     rt: &impl Abort,
     alloc: Global,
@@ -83,7 +82,7 @@ pub fn follow(
     is_answered(rt, alloc, trace.as_str(), status, want.as_str())
 }
 
-/// The same of the client, under the seed of zeros, with this after the seed.
+/// The same for the client, under the seed of zeros, with this text after the seed.
 pub fn follow_client(
     rt: &impl Abort,
     alloc: Global,

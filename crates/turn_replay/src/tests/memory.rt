@@ -1,7 +1,6 @@
-//! Want of memory at each place: one line tells it, and nothing else is written.
+//! Memory allocation that fails at each place: one line reports it, and nothing else is written.
 //!
-//! The test takes the refusal as an answer. `rt try --test --fail-alloc N` makes the Nth allocation
-//! fail.
+//! The test accepts the failure as an answer. `rt try --test --fail-alloc N` makes the Nth allocation fail.
 
 use crate::program::run;
 use crate::status::Status;
@@ -17,7 +16,7 @@ const TRACE: &[u8] =
 500000000 transmit
 ";
 
-/// Runs the trace into this room, and gives how it ended and how many bytes are left.
+/// Runs the trace with this buffer as its output. Returns how it ended and how many bytes are left.
 fn run_into(alloc: Global, room: &mut [u8]) -> (Status, usize) {
     let mut reader = TRACE;
     let mut writer = room;
@@ -31,7 +30,7 @@ fn is_answered(rt: &impl Abort, alloc: Global, written: &[u8]) -> Result<(), Fai
     Ok(())
 }
 
-/// What the run into this room of 512 bytes wrote, and how it ended.
+/// The output of the run into this buffer of 512 bytes, and how it ended.
 fn written_to(alloc: Global, room: &mut [u8]) -> Result<(Status, &[u8]), Fail> {
     let (status, left) = run_into(alloc, room);
     let count = 512usize

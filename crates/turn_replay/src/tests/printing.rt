@@ -15,7 +15,7 @@ use turn_stun::data::Data;
 use turn_stun::instant::Instant;
 use turn_types::TransportType;
 
-/// Asserts that these answers are printed so.
+/// Asserts that these answers are printed as this text.
 fn are_printed(rt: &impl Abort, alloc: Global, replies: &[Reply], want: &str) -> Result<(), Fail> {
     let text = answers_text(alloc, replies)?;
     assert_written(rt, text.as_bytes(), want.as_bytes());
@@ -34,7 +34,7 @@ fn peer() -> SocketAddr {
     SocketAddr::V4(SocketAddrV4::new(ipv4(), 5))
 }
 
-/// An address with what no line has.
+/// An address with a flow information and a scope, which no line has.
 fn peer_with_scope() -> SocketAddr {
     SocketAddr::V6(SocketAddrV6::new(ipv6(), 5, 6, 7))
 }

@@ -6,7 +6,7 @@ use std::alloc::Global;
 use std::process::Abort;
 use std::test::Fail;
 
-/// The line 10002 is the ten thousand and first call.
+/// Line 10002 is call ten thousand and one.
 fn is_one_call_too_many(rt: &impl Abort, alloc: Global, calls: &str) -> Result<(), Fail> {
     let trace = [CLIENT, " ", SEED, calls, "\nnothing"];
     follow(
@@ -26,7 +26,7 @@ fn the_ten_thousand_and_first_call_is_bad(rt: HostRuntime) -> Result<(), Fail> {
     follow_client(&rt, rt.alloc(), calls.as_str(), &[answers.as_str()])
 }
 
-/// A mebibyte, which brings zeros from the server.
+/// A mebibyte, with zeros from the server.
 fn mebibyte(alloc: Global) -> Result<String, Fail> {
     let front = [CLIENT, " ", SEED, "\n0 recv ", FROM_SERVER, " "].concat(alloc)?;
     let room = 1_048_576usize.checked_sub(front.len()).ok_or("too long")?;
@@ -42,7 +42,7 @@ fn is_a_mebibyte(rt: &impl Abort, trace: &str) {
     assert_eq!(rt; trace.len(), 1_048_576);
 }
 
-/// The same with a line feed behind it.
+/// The same followed by a line feed.
 fn is_one_byte_too_many(rt: &impl Abort, alloc: Global, trace: &str) -> Result<(), Fail> {
     let want = "line 0: bad size\n";
     follow(rt, alloc, &[trace, "\n"], Status::Malformed, &[want])

@@ -1,4 +1,4 @@
-//! Readers and writers that fail at each place, and such as do little at a time.
+//! Readers and writers that fail at each place, and those that process few bytes at a time.
 
 use crate::program::{exit_code, run};
 use crate::status::Status;
@@ -9,8 +9,7 @@ use std::io::{ErrorKind, Read, Write};
 use std::process::ExitCode;
 use std::test::Fail;
 
-/// A reader that gives a few bytes at a time, each time after an interruption, and fails once it has
-/// given some.
+/// A reader that returns a few bytes at a time, each time after an interruption, and fails after some bytes.
 #[derive(Drop)]
 struct Halting<'a> {
     rest: &'a [u8],
@@ -35,7 +34,7 @@ impl Read for Halting<'_> {
     }
 }
 
-/// A writer that takes a few bytes at a time, and fails once it has taken some, or at a flush.
+/// A writer that takes a few bytes at a time, and fails after some bytes, or at a flush.
 #[derive(Drop)]
 struct Narrow {
     held: Vec<u8>,
@@ -69,12 +68,12 @@ fn short_trace(alloc: Global) -> Result<String, AllocError> {
     [CLIENT, " ", SEED, "\n0 poll\n0 transmit\n"].concat(alloc)
 }
 
-/// What it is answered.
+/// The answer to it.
 fn short_answer(alloc: Global) -> Result<String, AllocError> {
     ["wait 0\n", SEND_ALLOCATE, "\n"].concat(alloc)
 }
 
-/// Whether a run over a reader that fails after some bytes tells so.
+/// Whether a run over a reader that fails after some bytes reports that.
 fn is_told_as_failed(alloc: Global, trace: &[u8], left: usize) -> bool {
     let mut reader = Halting {
         rest: trace,
@@ -97,7 +96,7 @@ fn a_failing_reader_is_told(rt: HostRuntime) -> Result<(), Fail> {
     Ok(())
 }
 
-/// How a run ended whose reader and writer take a few bytes at a time, and what it wrote.
+/// How a run ended whose reader and writer take a few bytes at a time, and its output.
 fn run_by_steps(alloc: Global, trace: &[u8], step: usize) -> (Status, Vec<u8>) {
     let mut reader = Halting {
         rest: trace,
@@ -116,7 +115,7 @@ fn run_by_steps(alloc: Global, trace: &[u8], step: usize) -> (Status, Vec<u8>) {
     (status, held)
 }
 
-/// Whether this is written where it runs by steps of some bytes.
+/// Whether this is the output for steps of this many bytes.
 fn is_the_same(alloc: Global, trace: &[u8], want: &[u8], step: usize) -> bool {
     let (status, written) = run_by_steps(alloc, trace, step);
     status == Status::Answered && written.as_slice() == want
@@ -133,7 +132,7 @@ fn a_slow_reader_and_a_narrow_writer_change_nothing(rt: HostRuntime) -> Result<(
     Ok(())
 }
 
-/// How a run ended whose writer fails after some bytes, and what it wrote until then.
+/// How a run ended whose writer fails after some bytes, and its output until then.
 fn run_until_full(alloc: Global, trace: &[u8], left: usize) -> (Status, Vec<u8>) {
     let mut reader = trace;
     let mut writer = Narrow {
@@ -147,7 +146,7 @@ fn run_until_full(alloc: Global, trace: &[u8], left: usize) -> (Status, Vec<u8>)
     (status, held)
 }
 
-/// Whether what is written until the writer fails is the beginning of what is wanted.
+/// Whether the output until the writer fails is the beginning of the expected output.
 fn is_cut_off(alloc: Global, trace: &[u8], want: &[u8], left: usize) -> bool {
     let (status, written) = run_until_full(alloc, trace, left);
     status == Status::WriteFailed

@@ -1,7 +1,7 @@
-//! How transcripts over TCP begin: what a client has come to, with all that went before.
+//! How transcripts over TCP begin: the state that a client has reached, with all input before it.
 
-/// The client has a UDP address, 10.0.0.4:40000, since 50 ms, and for 1000 s, and a channel to 10.0.0.3:9000, of
-/// the number 4000, since 100 ms.
+/// The client has a UDP relayed address, 10.0.0.4:40000, since 50 ms, and for 1000 s, and a channel to
+/// 10.0.0.3:9000, with the number 4000, since 100 ms.
 pub const CHANNEL_BOUND: &str =
     "tcp 192.168.0.1:1000 10.0.0.2:2000 udp 4 sha1 auto 75736572 70617373 0000000000000000000000000000000000000000000000000000000000000000
 0 transmit
@@ -26,8 +26,8 @@ permitted udp 10.0.0.3
 bound udp 10.0.0.3:9000
 ";
 
-/// The client has a TCP address, 10.0.0.4:40000, since 50 ms, and for 1000 s, and a permission for 10.0.0.3 since
-/// 100 ms (RFC 6062, section 4.1).
+/// The client has a TCP relayed address, 10.0.0.4:40000, since 50 ms, and for 1000 s, and a permission for 10.0.0.3
+/// since 100 ms (RFC 6062, section 4.1).
 pub const LET_IN: &str =
     "tcp 192.168.0.1:1000 10.0.0.2:2000 tcp 4 sha1 auto 75736572 70617373 0000000000000000000000000000000000000000000000000000000000000000
 0 transmit
@@ -50,8 +50,8 @@ handled
 permitted tcp 10.0.0.3
 ";
 
-/// And it is told that 10.0.0.3:9000 connected, has opened a connection from the port 1001 and asks to bind it since
-/// 100 ms (RFC 6062, sections 4.3 and 4.4).
+/// In addition the server reported that 10.0.0.3:9000 connected, and the client has a data connection from port
+/// 1001, whose CONNECTION_BIND is pending since 100 ms (RFC 6062, sections 4.3 and 4.4).
 pub const BIND_ASKED: &str =
     "100000000 recv tcp 10.0.0.2:2000 192.168.0.1:1000 001c00142112a442000000000000000000000002002a000400000009001200080001023a2b12a441
 handled
@@ -61,12 +61,4 @@ socket 9 tcp 192.168.0.1:1000 10.0.0.2:2000 10.0.0.3:9000
 ok
 150000000 transmit
 send tcp 192.168.0.1:1001 10.0.0.2:2000 000b00402112a4425157488d7724e03fb8d84a37002a0004000000090006000475736572001400057265616c6d000000001500056e6f6e636500000000080014e7f905f0c6a2cabe8a6aedf58a943780629651a8
-";
-
-/// And it is bound since 150 ms.
-pub const CONNECTED: &str =
-    "150000000 recv tcp 10.0.0.2:2000 192.168.0.1:1001 010b00182112a4425157488d7724e03fb8d84a3700080014758e1e2b4b226218bdca568d2cfbd907eeac79d0
-handled
-150000000 event
-connected 10.0.0.3:9000
 ";

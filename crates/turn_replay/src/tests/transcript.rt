@@ -1,8 +1,8 @@
-//! Transcripts: a trace, with what each of its calls is to be answered on the line after it.
+//! Transcripts: a trace, with the expected answer of each call on the line after it.
 //!
-//! The bytes in them were spelled and signed apart from this client, by RFC 8489, under the MD5 digest of
-//! `user:realm:pass` or its SHA-256 digest (section 18.5.1). IDs are those of ChaCha20 under the seed of zeros (RFC 8439,
-//! section 2.4).
+//! The bytes in them were encoded and signed by other means than this client, by RFC 8489, under the MD5 digest of
+//! `user:realm:pass` or its SHA-256 digest (section 18.5.1). IDs are those of ChaCha20 under the seed of zeros (RFC
+//! 8439, section 2.4).
 
 use crate::status::Status;
 use crate::tests::fixture::is_answered;
@@ -10,7 +10,7 @@ use std::alloc::{AllocError, Global};
 use std::process::Abort;
 use std::test::Fail;
 
-/// Runs the trace of a transcript in parts, which is to be answered as the transcript says.
+/// Runs the trace of a transcript in parts, whose answers must be those in the transcript.
 pub fn follow_transcript(rt: &impl Abort, alloc: Global, parts: &[&str]) -> Result<(), Fail> {
     let transcript = parts.concat(alloc)?;
     let (trace, answers) = divide(alloc, transcript.as_str())?;
@@ -37,7 +37,8 @@ fn divide(alloc: Global, transcript: &str) -> Result<(String, String), AllocErro
     Ok((trace, answers))
 }
 
-/// Whether it is the head, which begins with a transport, or a call, which begins with its moment. No answer begins so.
+/// Whether the line is the head, which begins with a transport, or a call, which begins with its time. No answer
+/// does.
 fn is_of_the_trace(line: &str) -> bool {
     match line.as_bytes() {
         [first, ..] => first.is_ascii_digit() || *first == b'u' || *first == b't',
