@@ -1,7 +1,7 @@
 #!/usr/bin/env python3
 """Sends a text to a peer through a TURN server, and prints what comes back, until Ctrl-C.
 
-The client is the program turn_live: a line to it is a call, and a line from it is the answer (docs/PROTOCOL.md,
+The client is the program turn_live: a line to it is a call, and a line from it is the answer (docs/LINES.md,
 section Traces). What is left to do here is what a client without IO leaves to its caller: sockets and the clock.
 """
 import argparse
