@@ -3,7 +3,7 @@ use Rattle.std.proofs.Common.{◌≡◌, ℕ, suc, add-one, drop-cons, ◌+◌, 
 use Rattle.std.specs.Prelude.{slice_get, IsSome}
 use Rattle.std.specs.List.{list_any, position, position_or_len}
 use Rattle.std.proofs.Math.Nat.{min-le_left, min-le_right, min-eq_left, le-min}
-use Rattle.std.proofs.lemmas.Bool.{ltb-true, ltb-false, eqb-true, ne_eqb, and_parts, and_right, lt-leb, leb-false}
+use Rattle.std.proofs.lemmas.Bool.{or_parts, ltb-true, ltb-false, eqb-true, ne_eqb, and_parts, and_right, lt-leb, leb-false}
 use Rattle.std.proofs.lemmas.List.Folds.{find_at}
 use Rattle.std.proofs.lemmas.Option.{cond_some, slice_get-get_or, slice_get_past, none-some, same_Some}
 use Rattle.std.specs.declared.net.socket_addr.SocketAddr.{SocketAddr}
@@ -77,7 +77,26 @@ list_any-none p (y ∷ xs) none = by (list_any-none p xs) (p y) refl
     by later true passes = absurd (none-some y (sym (rw passes at none)))
     by later false fails = rw fails (later (rw fails at none))
 
+-- if none passes, there is no first one
+pub position-unpassed : {X : Type 0} (p : X → Bool) (xs : List X) → list_any p xs ≡ false → position p xs ≡ None
+position-unpassed p [] none = refl
+position-unpassed p (x ∷ xs) none = by (position p (x ∷ xs)) refl
+  where
+    by : (found : Option ℕ) → position p (x ∷ xs) ≡ found → position p (x ∷ xs) ≡ None
+    by None at = at
+    by (Some i) at =
+        let passes = list_any-some p (x ∷ xs) _ ((position-IsFirst p (x ∷ xs) i at).found x) in
+        let both : false ≡ true = sym none ∙ passes in
+        absurd (cc both)
+
 -- ---- messages
+
+-- a response with an ID that is not outstanding answers no transaction
+pub unanswered : (id : ℕ) (from : SocketAddr) (ts : List Transaction) → is_outstanding id ts ≡ false → list_any (answers id from) ts ≡ false
+unanswered id from [] none = refl
+unanswered id from (t ∷ ts) none =
+    let parts = or_parts (eqb t.id id) (is_outstanding id ts) none in
+    rw (parts.0, unanswered id from ts parts.1) refl
 
 -- a class answers a request
 IsResponse-true : (class : MessageClass) → IsResponse class → is_response class ≡ true

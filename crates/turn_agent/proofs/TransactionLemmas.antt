@@ -1,8 +1,8 @@
 -- Transactions by their IDs.
-use Rattle.std.proofs.Common.{◌≡◌, ℕ, zero, suc, ◌<◌, Bool, true, false, eqb, List, [], ◌∷◌, ◌++◌, length, take, drop, get_or, set, refl, sym, arith}
-use Rattle.std.proofs.lemmas.Bool.{or_parts, eq-eqb, ne_eqb, eqb-false}
+use Rattle.std.proofs.Common.{◌≡◌, ℕ, zero, suc, ◌<◌, Bool, true, false, cond, eqb, List, [], ◌∷◌, ◌++◌, ◌||◌, length, take, drop, get_or, set, refl, sym, ◌∙◌, arith}
+use Rattle.std.proofs.lemmas.Bool.{or_parts, eq-eqb, eqb-true, ne_eqb, eqb-false}
 use Rattle.std.proofs.lemmas.List.Folds.{list_any-append}
-use Rattle.turn_agent.specs.Agent.{is_outstanding, AreDistinct, without, resent, sent_again}
+use Rattle.turn_agent.specs.Agent.{is_outstanding, AreDistinct, AreIdsOf, without, resent, sent_again}
 use Rattle.turn_agent.specs.declared.transaction.Transaction.{Transaction}
 
 -- two numbers differ in either order
@@ -101,3 +101,37 @@ AreDistinct-resent id now (t ∷ ts) distinct = by (AreDistinct-resent id now ts
     by : AreDistinct (resent id now ts) → (b : Bool) → eqb t.id id ≡ b → AreDistinct (resent id now (t ∷ ts))
     by others true same = rw same (rw (is_outstanding-resent id t.id now ts) distinct.0, others)
     by others false differ = rw differ (rw (is_outstanding-resent id t.id now ts) distinct.0, others)
+
+-- ---- the set of the IDs
+
+-- the ID of one more transaction was inserted
+pub AreIdsOf-push : (ts : List Transaction) (t : Transaction) (had has : ℕ → Bool) → AreIdsOf ts had → ((q : ℕ) → has q ≡ cond (eqb t.id q) true (had q)) → AreIdsOf (ts ++ t ∷ []) has
+AreIdsOf-push ts t had has were inserted = λ q.
+    rw (inserted q, were q, list_any-append (λ x. eqb x.id q) ts (t ∷ [])) (by (eqb t.id q) (is_outstanding q ts))
+  where
+    by : (b c : Bool) → cond b true c ≡ (c || (b || false))
+    by true true = refl
+    by true false = refl
+    by false true = refl
+    by false false = refl
+
+-- another ID is outstanding as before
+is_outstanding-others : (id q : ℕ) (ts : List Transaction) → eqb id q ≡ false → is_outstanding q (without id ts) ≡ is_outstanding q ts
+is_outstanding-others id q [] differ = refl
+is_outstanding-others id q (t ∷ ts) differ = by (is_outstanding-others id q ts differ) (eqb t.id id) refl
+  where
+    by : is_outstanding q (without id ts) ≡ is_outstanding q ts → (b : Bool) → eqb t.id id ≡ b → is_outstanding q (without id (t ∷ ts)) ≡ is_outstanding q (t ∷ ts)
+    by others true same = rw (same, eqb-true t.id id same, differ) others
+    by others false other = rw (other, others) refl
+
+-- the ID that was left out was removed
+pub AreIdsOf-without : (id : ℕ) (ts : List Transaction) (had has : ℕ → Bool) → AreIdsOf ts had → ((q : ℕ) → has q ≡ cond (eqb id q) false (had q)) → AreIdsOf (without id ts) has
+AreIdsOf-without id ts had has were removed = λ q. removed q ∙ by q (eqb id q) refl
+  where
+    by : (q : ℕ) → (b : Bool) → eqb id q ≡ b → cond (eqb id q) false (had q) ≡ is_outstanding q (without id ts)
+    by q true same = rw (same, ← eqb-true id q same) (sym (is_outstanding-without id ts))
+    by q false differ = rw differ (were q ∙ sym (is_outstanding-others id q ts differ))
+
+-- a request that is retransmitted keeps its ID
+pub AreIdsOf-resent : (id now : ℕ) (ts : List Transaction) (has : ℕ → Bool) → AreIdsOf ts has → AreIdsOf (resent id now ts) has
+AreIdsOf-resent id now ts has were = λ q. were q ∙ sym (is_outstanding-resent id q now ts)

@@ -196,3 +196,15 @@ IsSoonest timers transport ts (Some moment) =
 -- it is that time, and in the future
 abbrev pub IsQuietUntil : Agent → ℕ → ℕ → Type 0
 IsQuietUntil a now moment = (now < moment) × IsSoonest a.timers a.transport a.transactions (Some moment)
+
+-- ---- what is kept beside the transactions
+
+-- the set has the IDs of the transactions, and no other
+abbrev pub AreIdsOf : List Transaction → (ℕ → Bool) → Type 0
+AreIdsOf ts has = (id : ℕ) → has id ≡ is_outstanding id ts
+
+-- the IDs differ and are those of the set, and the time is the earliest one
+pub record AreKept (timers : Timers) (transport : TransportType) (ts : List Transaction) (has : ℕ → Bool) (soonest : Option ℕ) : Type 0 where
+  pub distinct : AreDistinct ts
+  pub ids : AreIdsOf ts has
+  pub earliest : IsSoonest timers transport ts soonest

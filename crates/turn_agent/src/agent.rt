@@ -10,6 +10,7 @@ ghost use Rattle.std.specs.List.{position};
 use crate::schedule::{RequestTimers, Schedule};
 use crate::transaction::Transaction;
 use std::alloc::{AllocError, Global};
+use std::collections::HashSet;
 use std::convert::AsSlice;
 use std::marker::Model;
 use std::net::SocketAddr;
@@ -23,6 +24,9 @@ use turn_stun::transport::TransportType;
 
 /// How long the caller of an agent with nothing outstanding waits, in seconds (our choice).
 const IDLE_SECONDS: u64 = 9_999;
+
+/// So few requests are scanned: hashing an ID takes as long.
+const FEW: usize = 8;
 
 /// What the caller of an agent is to do next.
 #[derive(Clone, Copy, Debug, PartialEq, Eq)]
@@ -108,6 +112,7 @@ impl StunAgentBuilder {
             remote_addr: self.remote_addr,
             schedule: Schedule::new(self.transport, self.timers),
             transactions: Vec::new(self.alloc),
+            ids: HashSet::new(self.alloc),
             soonest: None,
         }
     }
@@ -123,13 +128,16 @@ pub struct StunAgent {
     remote_addr: Option<SocketAddr>,
     schedule: Schedule,
     transactions: Vec<Transaction>,
+    // The IDs of the transactions: an ID that is none of them is recognized without a scan.
+    ids: HashSet<TransactionId>,
     // The earliest time at which a wait is over, if it is known: kept, since computing it goes over
     // all transactions. Each change of a transaction clears it.
     soonest: Option<Instant>,
 }
 
 impl Model for StunAgent {
-    ghost use Rattle.turn_agent.specs.Agent.{Agent, AreDistinct, IsSoonest};
+    ghost use Rattle.std.specs.HashSet.{contains};
+    ghost use Rattle.turn_agent.specs.Agent.{Agent, AreKept};
 
     ghost Value = { Agent };
 
@@ -141,7 +149,7 @@ impl Model for StunAgent {
       transactions = a.transactions.items;
     } };
 
-    ghost invariant = { λ a. AreDistinct a.transactions.items × IsSoonest a.schedule.timers a.schedule.transport a.transactions.items a.soonest };
+    ghost invariant = { λ a. AreKept a.schedule.timers a.schedule.transport a.transactions.items (contains ⟦<TransactionId as PartialEq>⟧.eq a.ids) a.soonest };
 }
 
 impl StunAgent {
@@ -194,9 +202,10 @@ impl StunAgent {
     pub fn is_outstanding(&self, id: TransactionId) -> bool
         ensures { result ≡ is_outstanding id self.now.transactions }
     {
-        self.transactions
-            .iter()
-            .any(|transaction| transaction.id == id)
+        if self.transactions.len() <= FEW {
+            return has_id(&self.transactions, id);
+        }
+        self.ids.contains(&id)
     }
 
     /// How many requests await their responses.
@@ -244,6 +253,7 @@ impl StunAgent {
     {
         let kept = bytes.as_slice().to_vec(self.alloc)?;
         self.transactions.reserve(1)?;
+        self.ids.insert(id)?;
         self.transactions.push_reserved(Transaction {
             id,
             to,
@@ -269,7 +279,7 @@ impl StunAgent {
             return true;
         }
         let id = message.transaction_id();
-        match answered(&self.transactions, id, from) {
+        match self.answered(id, from) {
             Some(place) => {
                 let _answered = self.take_out(place);
                 true
@@ -284,7 +294,7 @@ impl StunAgent {
         ensures was { result ≡ is_outstanding id self.old.transactions }
         ensures after { self.new ≡ ended id self.old }
     {
-        match place_of(&self.transactions, id) {
+        match self.place_of(id) {
             Some(place) => {
                 let _ended = self.take_out(place);
                 true
@@ -376,7 +386,36 @@ impl StunAgent {
         ensures after { self.new ≡ ended result.id self.old }
     {
         self.soonest = None;
-        self.transactions.remove(place)
+        let taken = self.transactions.remove(place);
+        let _was_there = self.ids.remove(&taken.id);
+        taken
+    }
+
+    /// The place of the transaction with this ID.
+    fn place_of(&self, id: TransactionId) -> Option<usize>
+        ensures { result ≡ position (λ t. t.id == id) self.now.transactions }
+    {
+        if self.is_stray(id) {
+            return None;
+        }
+        place_of(&self.transactions, id)
+    }
+
+    /// The place of the transaction that a response with this ID from this address answers.
+    fn answered(&self, id: TransactionId, from: SocketAddr) -> Option<usize>
+        ensures { result ≡ position (answers id from) self.now.transactions }
+    {
+        if self.is_stray(id) {
+            return None;
+        }
+        answered(&self.transactions, id, from)
+    }
+
+    /// Whether the set of IDs shows that this is none of them. It is not asked about few transactions.
+    fn is_stray(&self, id: TransactionId) -> bool
+        ensures { IsTrue result → is_outstanding id self.now.transactions ≡ false }
+    {
+        self.transactions.len() > FEW && !self.ids.contains(&id)
     }
 }
 
@@ -388,6 +427,13 @@ enum Progress {
     Waiting(Instant),
     /// Nothing is outstanding.
     Idle,
+}
+
+/// Whether one of the transactions has this ID.
+fn has_id(transactions: &[Transaction], id: TransactionId) -> bool
+    ensures { result ≡ is_outstanding id transactions.now }
+{
+    transactions.iter().any(|transaction| transaction.id == id)
 }
 
 /// The place of the transaction with this ID.

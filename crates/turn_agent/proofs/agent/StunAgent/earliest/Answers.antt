@@ -7,7 +7,7 @@ use Rattle.turn_agent.proofs.agent.StunAgent.earliest.Goals as goal
 pub returns-in-Some : goal.returns-in-Some
 returns-in-Some c =
     let a = the_view c.self.inside in
-    let known : IsSoonest a.timers a.transport a.transactions (Some c.in-Some.soonest) = rw c.in-Some.is at c.self.invariant.1 in
+    let known : IsSoonest a.timers a.transport a.transactions (Some c.in-Some.soonest) = rw c.in-Some.is at c.self.invariant.earliest in
     let range : c.args.moment < 2 ^ 63 = search rules in
     let least : c.min.result ≡ min c.args.moment c.in-Some.soonest = search rules in
     rw (least, ← c.self.view_is) (earliest-known a c.args.moment c.in-Some.soonest known range)

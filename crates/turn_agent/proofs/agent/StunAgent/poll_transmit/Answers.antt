@@ -4,7 +4,7 @@ use Rattle.std.proofs.lemmas.Option.{none-some}
 use Rattle.turn_agent.specs.Agent.{is_due}
 use Rattle.turn_agent.specs.contracts.agent.StunAgent.{the_view}
 use Rattle.turn_agent.proofs.AgentLemmas.{transmit_step-none, transmit_step-sent, same_transmit, is_due-counted, position-IsFirst}
-use Rattle.turn_agent.proofs.TransactionLemmas.{AreDistinct-resent, set-resent}
+use Rattle.turn_agent.proofs.TransactionLemmas.{AreDistinct-resent, AreIdsOf-resent, set-resent}
 use Rattle.turn_agent.proofs.agent.StunAgent.poll_transmit.Goals as goal
 
 pub returns-in_default-clause-step : goal.returns-in_default-clause-step
@@ -36,16 +36,20 @@ invariant_of-self-2 c =
     let t = c.index_mut-transaction.result.now in
     let place : position (is_due a.timers a.transport c.args.now) a.transactions ≡ Some c.in-Some.place = sym (rw c.deref.ensures.value at c.in-Some.ensures.place) in
     let first = position-IsFirst (is_due a.timers a.transport c.args.now) a.transactions c.in-Some.place place in
-    let changed = set-resent c.args.now a.transactions c.in-Some.place t c.self.invariant.0 first.within in
+    let changed = set-resent c.args.now a.transactions c.in-Some.place t c.self.invariant.distinct first.within in
     rw (c.in_ok-payload.ensures.ok.1, c.index_mut-transaction.ensures.value, changed)
-    (AreDistinct-resent _ c.args.now a.transactions c.self.invariant.0, tt)
+    (record {
+      distinct = AreDistinct-resent _ c.args.now a.transactions c.self.invariant.distinct;
+      ids = AreIdsOf-resent _ c.args.now a.transactions _ c.self.invariant.ids;
+      earliest = tt;
+    })
 
 pub returns-clause-step : goal.returns-clause-step
 returns-clause-step c =
     let a = the_view c.self.inside in
     let t = c.index_mut-transaction.result.now in
     let place : position (is_due a.timers a.transport c.args.now) a.transactions ≡ Some c.in-Some.place = sym (rw c.deref.ensures.value at c.in-Some.ensures.place) in
-    let sent = transmit_step-sent a c.args.now c.in-Some.place t c.self.invariant.0 place in
+    let sent = transmit_step-sent a c.args.now c.in-Some.place t c.self.invariant.distinct place in
     let kept = c.in_ok-payload.ensures.ok in
     let packet = same_transmit c.new.result t.request a.transport a.local t.to (c.new.ensures.payload ∙ kept.0) c.new.ensures.transport c.new.ensures.from (c.new.ensures.to ∙ ap (λ u. u.to) kept.1) in
     rw (packet, kept.1, c.index_mut-transaction.ensures.value, ← c.self.view_is) sent

@@ -1,24 +1,28 @@
 use Rattle.std.proofs.Common.{◌<◌, Some, length, sym, ap, refl, ◌∙◌}
 use Rattle.std.proofs.lemmas.Option.{slice_get-get_or}
-use Rattle.turn_agent.proofs.TransactionLemmas.{AreDistinct-without, remove-without}
+use Rattle.turn_agent.proofs.TransactionLemmas.{AreDistinct-without, AreIdsOf-without, remove-without}
 use Rattle.turn_agent.proofs.agent.StunAgent.take_out.Goals as goal
 
 pub invariant_of-self : goal.invariant_of-self
 invariant_of-self c =
     let ts = c.self.inside.transactions.items in
     let within : c.args.place < length ts = rw (← c.self.view_is) at c.requires in
-    rw (c.remove.ensures.items, remove-without ts c.args.place c.remove.result c.self.invariant.0 within)
-    (AreDistinct-without _ ts c.self.invariant.0, tt)
+    let left = remove-without ts c.args.place c.remove-taken.result c.self.invariant.distinct within in
+    rw (c.remove-taken.ensures.items, left, ← c.remove-taken.ensures.value) (record {
+      distinct = AreDistinct-without _ ts c.self.invariant.distinct;
+      ids = AreIdsOf-without _ ts _ _ c.self.invariant.ids c.remove-was_there.ensures.updates.0;
+      earliest = tt;
+    })
 
 pub returns-clause-taken : goal.returns-clause-taken
 returns-clause-taken c =
     let ts = c.self.inside.transactions.items in
     let within : c.args.place < length ts = rw (← c.self.view_is) at c.requires in
-    rw (← c.self.view_is) (slice_get-get_or ts c.args.place c.remove.result within ∙ ap Some (sym c.remove.ensures.value))
+    rw (← c.self.view_is) (slice_get-get_or ts c.args.place c.remove-taken.result within ∙ ap Some (sym c.remove-taken.ensures.value))
 
 pub returns-clause-after : goal.returns-clause-after
 returns-clause-after c =
     let ts = c.self.inside.transactions.items in
     let within : c.args.place < length ts = rw (← c.self.view_is) at c.requires in
-    let left = remove-without ts c.args.place c.remove.result c.self.invariant.0 within in
-    rw (c.remove.ensures.items, left, ← c.remove.ensures.value, ← c.self.view_is) refl
+    let left = remove-without ts c.args.place c.remove-taken.result c.self.invariant.distinct within in
+    rw (c.remove-taken.ensures.items, left, ← c.remove-taken.ensures.value, ← c.self.view_is) refl
