@@ -1,3 +1,4 @@
 pub mod AgentLemmas
+pub mod FrontLemmas
 pub mod ScheduleLemmas
 pub mod TransactionLemmas

@@ -15,8 +15,8 @@ use Rattle.turn_stun.specs.MessageType.{class_of}
 use Rattle.turn_agent.specs.Schedule.{Timers, resends_of, wait_at}
 use Rattle.turn_agent.specs.declared.agent.StunAgentPollRet.{StunAgentPollRet}
 use Rattle.turn_agent.specs.declared.agent.StunAgentPollRet.TheVariants.{WaitUntil, TransactionTimedOut}
-use Rattle.turn_agent.specs.declared.agent.Progress.{Progress}
-use Rattle.turn_agent.specs.declared.agent.Progress.TheVariants.{Over, Waiting, Idle}
+use Rattle.turn_agent.specs.declared.search.Progress.{Progress}
+use Rattle.turn_agent.specs.declared.search.Progress.TheVariants.{Over, Waiting, Idle}
 use Rattle.turn_agent.specs.declared.transaction.Transaction.{Transaction}
 
 -- an agent as contracts describe it; its transactions are in the order of their first sends
@@ -202,9 +202,3 @@ IsQuietUntil a now moment = (now < moment) × IsSoonest a.timers a.transport a.t
 -- the set has the IDs of the transactions, and no other
 abbrev pub AreIdsOf : List Transaction → (ℕ → Bool) → Type 0
 AreIdsOf ts has = (id : ℕ) → has id ≡ is_outstanding id ts
-
--- the IDs differ and are those of the set, and the time is the earliest one
-pub record AreKept (timers : Timers) (transport : TransportType) (ts : List Transaction) (has : ℕ → Bool) (soonest : Option ℕ) : Type 0 where
-  pub distinct : AreDistinct ts
-  pub ids : AreIdsOf ts has
-  pub earliest : IsSoonest timers transport ts soonest

@@ -1,13 +1,15 @@
 //! Requests from first send to response.
 
-ghost use Rattle.std.specs.Prelude.{◌≡◌, ◌<◌, ◌^◌, ◌==◌, false, ℕ, [], None, Some, IsTrue, OnOk, IfOk, IfSome, OnErr, IsOk, length, map, fold, min, slice_get, option_copied};
+ghost use Rattle.std.specs.Prelude.{◌≡◌, ◌<◌, ◌==◌, false, [], None, Some, IsTrue, OnOk, IfOk, IfSome, OnErr, IsOk, length, slice_get};
 ghost use Rattle.turn_stun.specs.Message.{type_of, id_of};
 ghost use Rattle.turn_stun.specs.MessageType.{class_of, IsResponse};
-ghost use Rattle.turn_agent.specs.Schedule.{wait_of, default_timers, resends_of};
-ghost use Rattle.turn_agent.specs.Agent.{Agent, is_outstanding, asked, due, is_due, answers, poll_step, transmit_step, handle_step, IsEnded, IsSilentUntil, IsBusy, IsProgress, IsSoonest, IsQuietUntil, earliest, ended, next_moment};
+ghost use Rattle.turn_agent.specs.Schedule.{wait_of, default_timers};
+ghost use Rattle.turn_agent.specs.Agent.{Agent, is_outstanding, asked, due, answers, poll_step, transmit_step, handle_step, IsEnded, IsSilentUntil, IsBusy, IsQuietUntil, earliest, ended};
 ghost use Rattle.std.specs.List.{position};
 
+use crate::front::{Front, first_due};
 use crate::schedule::{RequestTimers, Schedule};
+use crate::search::{Progress, answered, has_id, least_with, place_of, progress_of, soonest_of};
 use crate::transaction::Transaction;
 use std::alloc::{AllocError, Global};
 use std::collections::HashSet;
@@ -113,6 +115,7 @@ impl StunAgentBuilder {
             schedule: Schedule::new(self.transport, self.timers),
             transactions: Vec::new(self.alloc),
             ids: HashSet::new(self.alloc),
+            front: Front::none(),
             soonest: None,
         }
     }
@@ -130,6 +133,8 @@ pub struct StunAgent {
     transactions: Vec<Transaction>,
     // The IDs of the transactions: an ID that is none of them is recognized without a scan.
     ids: HashSet<TransactionId>,
+    // The oldest transactions that the search for the next retransmission may leave out.
+    front: Front,
     // The earliest time at which a wait is over, if it is known: kept, since computing it goes over
     // all transactions. Each change of a transaction clears it.
     soonest: Option<Instant>,
@@ -137,7 +142,9 @@ pub struct StunAgent {
 
 impl Model for StunAgent {
     ghost use Rattle.std.specs.HashSet.{contains};
-    ghost use Rattle.turn_agent.specs.Agent.{Agent, AreKept};
+    ghost use Rattle.std.specs.Prelude.{nat_eq};
+    ghost use Rattle.turn_agent.specs.Agent.{Agent};
+    ghost use Rattle.turn_agent.specs.Kept.{AreKept};
 
     ghost Value = { Agent };
 
@@ -149,7 +156,7 @@ impl Model for StunAgent {
       transactions = a.transactions.items;
     } };
 
-    ghost invariant = { λ a. AreKept a.schedule.timers a.schedule.transport a.transactions.items (contains ⟦<TransactionId as PartialEq>⟧.eq a.ids) a.soonest };
+    ghost invariant = { λ a. AreKept a.schedule.timers a.schedule.transport a.transactions.items (contains nat_eq a.ids) a.front a.soonest };
 }
 
 impl StunAgent {
@@ -348,7 +355,9 @@ impl StunAgent {
         if self.is_quiet(now) {
             return Ok(None);
         }
-        let Some(place) = first_due(&self.transactions, &self.schedule, now) else {
+        let (found, front) = first_due(&self.transactions, &self.schedule, self.front, now);
+        self.front = front;
+        let Some(place) = found else {
             self.soonest = soonest_of(&self.transactions, &self.schedule);
             return Ok(None);
         };
@@ -386,6 +395,7 @@ impl StunAgent {
         ensures after { self.new ≡ ended result.id self.old }
     {
         self.soonest = None;
+        self.front = self.front.without_one();
         let taken = self.transactions.remove(place);
         let _was_there = self.ids.remove(&taken.id);
         taken
@@ -417,88 +427,4 @@ impl StunAgent {
     {
         self.transactions.len() > FEW && !self.ids.contains(&id)
     }
-}
-
-/// The progress of the requests of an agent.
-enum Progress {
-    /// The last wait of the transaction at this place is over.
-    Over(usize),
-    /// The earliest time at which a wait is over.
-    Waiting(Instant),
-    /// Nothing is outstanding.
-    Idle,
-}
-
-/// Whether one of the transactions has this ID.
-fn has_id(transactions: &[Transaction], id: TransactionId) -> bool
-    ensures { result ≡ is_outstanding id transactions.now }
-{
-    transactions.iter().any(|transaction| transaction.id == id)
-}
-
-/// The place of the transaction with this ID.
-fn place_of(transactions: &[Transaction], id: TransactionId) -> Option<usize>
-    ensures { result ≡ position (λ t. t.id == id) transactions.now }
-{
-    transactions
-        .iter()
-        .position(|transaction| transaction.id == id)
-}
-
-/// The place of the transaction that a response with this ID from this address answers.
-fn answered(transactions: &[Transaction], id: TransactionId, from: SocketAddr) -> Option<usize>
-    ensures { result ≡ position (answers id from) transactions.now }
-{
-    transactions.iter().position(|transaction| transaction.id == id && transaction.to == from)
-}
-
-/// The place of the oldest transaction whose request is to be retransmitted now.
-fn first_due(transactions: &[Transaction], schedule: &Schedule, now: Instant) -> Option<usize>
-    ensures place { result ≡ position (is_due schedule.now.timers schedule.now.transport now) transactions.now }
-    ensures range { resends_of schedule.now.timers schedule.now.transport < 2 ^ 32 }
-{
-    let resends = schedule.resends();
-    transactions.iter().position(|transaction| {
-        transaction.resends < resends && transaction.next_moment(schedule) <= now
-    })
-}
-
-/// The oldest transaction whose last wait is over, or else the earliest time at which a wait is over.
-fn progress_of(transactions: &[Transaction], schedule: &Schedule, now: Instant) -> Progress
-    ensures { IsProgress schedule.now.timers schedule.now.transport now transactions.now result }
-{
-    if transactions.is_empty() {
-        return Progress::Idle;
-    }
-    let resends = schedule.resends();
-    let mut least = Instant::from_nanos(u64::MAX);
-    for (place, transaction) in transactions.iter().enumerate() {
-        let next = transaction.next_moment(schedule);
-        if next <= now && resends <= transaction.resends {
-            return Progress::Over(place);
-        }
-        least = least.min(next);
-    }
-    Progress::Waiting(least)
-}
-
-/// The earlier of this time and the earliest time at which a wait is over.
-fn least_with(moment: Instant, transactions: &[Transaction], schedule: &Schedule) -> Instant
-    ensures { result ≡ fold min moment (map (next_moment schedule.now.timers schedule.now.transport) transactions.now) }
-{
-    let mut least = moment;
-    for transaction in transactions {
-        least = least.min(transaction.next_moment(schedule));
-    }
-    least
-}
-
-/// The earliest time at which a wait is over.
-fn soonest_of(transactions: &[Transaction], schedule: &Schedule) -> Option<Instant>
-    ensures { IsSoonest schedule.now.timers schedule.now.transport transactions.now result }
-{
-    if transactions.is_empty() {
-        return None;
-    }
-    Some(least_with(Instant::from_nanos(u64::MAX), transactions, schedule))
 }

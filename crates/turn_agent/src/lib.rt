@@ -26,8 +26,10 @@
 #![tactic(auto)]
 
 pub mod agent;
+mod front;
 pub mod number_source;
 pub mod schedule;
+mod search;
 pub mod transaction;
 
 pub use agent::{StunAgent, StunAgentBuilder, StunAgentPollRet, Transmit};

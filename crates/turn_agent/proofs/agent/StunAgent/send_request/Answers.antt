@@ -1,3 +1,4 @@
+use Rattle.turn_agent.proofs.FrontLemmas.{IsFront-push}
 use Rattle.turn_agent.proofs.TransactionLemmas.{AreDistinct-push, AreIdsOf-push}
 use Rattle.turn_agent.proofs.agent.StunAgent.send_request.Goals as goal
 
@@ -7,5 +8,6 @@ invariant_of-self-2 g c =
     rw (c.push_reserved.ensures.items, c.in_ok-reserve.ensures.items) (record {
       distinct = AreDistinct-push c.self.inside.transactions.items _ c.self.invariant.distinct fresh;
       ids = AreIdsOf-push c.self.inside.transactions.items _ _ _ c.self.invariant.ids c.in_ok-insert.ensures.updates.0;
+      passed = IsFront-push _ _ c.self.inside.transactions.items _ _ c.self.invariant.passed;
       earliest = tt;
     })

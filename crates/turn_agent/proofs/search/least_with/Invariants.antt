@@ -1,6 +1,6 @@
 use Rattle.std.proofs.Common.{◌≡◌, drop, fold, map, min}
 use Rattle.turn_agent.specs.Agent.{next_moment}
-use Rattle.turn_agent.proofs.agent.least_with.Given as goal
+use Rattle.turn_agent.proofs.search.least_with.Given as goal
 
 abbrev pub invariant-loop-transaction : goal.invariant-loop-transaction
 invariant-loop-transaction l =

@@ -3,7 +3,7 @@ use Rattle.std.proofs.lemmas.Bool.{and_from}
 use Rattle.turn_agent.specs.Schedule.{resends_of}
 use Rattle.turn_agent.specs.Agent.{is_given_up, next_moment}
 use Rattle.turn_agent.proofs.AgentLemmas.{IsScanned-found}
-use Rattle.turn_agent.proofs.agent.progress_of.Goals as goal
+use Rattle.turn_agent.proofs.search.progress_of.Goals as goal
 
 pub returns-then-resends-transaction : goal.returns-then-resends-transaction
 returns-then-resends-transaction c =
