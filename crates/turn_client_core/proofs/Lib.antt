@@ -16,6 +16,7 @@ pub mod ListLemmas
 pub mod OutboxLemmas
 pub mod PieceLemmas
 pub mod PollLemmas
+pub mod QueueLemmas
 pub mod ReplyLemmas
 pub mod ResultLemmas
 pub mod RetryLemmas

@@ -10,6 +10,7 @@ pub mod Kinds
 pub mod Opened
 pub mod Outgoing
 pub mod Polled
+pub mod Queue
 pub mod Replies
 pub mod Sending
 pub mod Sent

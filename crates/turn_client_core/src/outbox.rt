@@ -9,15 +9,16 @@ ghost use Rattle.turn_client_api.specs.State.{State};
 ghost use Rattle.turn_client_streams.specs.Held.{with_streams};
 
 mod due;
+mod queue;
 mod send;
 
+use crate::outbox::queue::Queue;
 use std::alloc::{AllocError, Global};
-use std::collections::VecDeque;
 use std::marker::Model;
 use std::net::SocketAddr;
 use turn_agent::agent::StunAgent;
 use turn_agent::number_source::NumberSource;
-use turn_client_api::{Queued, RequestTimers};
+use turn_client_api::RequestTimers;
 use turn_client_streams::Streams;
 use turn_stun::data::Data;
 use turn_stun::instant::Instant;
@@ -31,14 +32,12 @@ pub(crate) struct Outbox {
     remote: SocketAddr,
     agent: StunAgent,
     ids: NumberSource,
-    queue: VecDeque<Queued>,
+    queue: Queue,
     /// When a request was last sent or retransmitted: the pause between two requests starts then.
     last_send: Option<Instant>,
 }
 
 impl Model for Outbox {
-    ghost use Rattle.std.specs.Prelude.{◌-◌};
-    ghost use Rattle.std.specs.VecDeque.{deque_capacity, deque_len};
     ghost use Rattle.turn_client_core.specs.Outgoing.{Outgoing};
 
     ghost Value = { Outgoing };
@@ -51,7 +50,7 @@ impl Model for Outbox {
       ids = o.ids;
       transactions = o.agent.transactions;
       queue = o.queue.items;
-      room = deque_capacity o.queue - deque_len o.queue;
+      room = o.queue.room;
       last_send = o.last_send;
     } };
 }
@@ -85,7 +84,7 @@ impl Outbox {
                 .request_timers(timers)
                 .build(),
             ids: NumberSource::from_seed(seed),
-            queue: VecDeque::new(alloc),
+            queue: Queue::new(alloc),
             last_send: None,
         }
     }
@@ -186,7 +185,7 @@ impl Outbox {
         requires { 0 < self.old.room }
         ensures { self.new ≡ with_room self.new.room (waiting packet is_request self.old) }
     {
-        self.queue.push_back_reserved(Queued { packet, is_request });
+        self.queue.push(packet, is_request);
     }
 }
 
@@ -285,8 +284,7 @@ impl Outbox {
         match reply {
             Some(text) => {
                 let packet = self.packet(text);
-                let is_request = false;
-                self.queue.push_back_reserved(Queued { packet, is_request });
+                self.queue.push(packet, false);
                 self.wait(request, true);
             }
             None => self.wait(request, true),

@@ -33,14 +33,14 @@ impl Outbox {
     pub(crate) fn has_reply(&self) -> bool
         ensures { result ≡ list_any (λ q. not q.is_request) self.now.queue }
     {
-        self.queue.iter().any(|queued| !queued.is_request)
+        self.queue.has_reply()
     }
 
     /// Whether a request is queued.
     pub(crate) fn has_request(&self) -> bool
         ensures { result ≡ list_any (λ q. q.is_request) self.now.queue }
     {
-        self.queue.iter().any(|queued| queued.is_request)
+        self.queue.has_request()
     }
 
     /// The earliest of this time and of those at which a request is to be retransmitted or timed out.

@@ -1,15 +1,11 @@
 //! What is sent next (RFC 8489, section 6.2).
 
-ghost use Rattle.std.specs.List.{position};
-ghost use Rattle.std.specs.Prelude.{◌≡◌, ◌<◌, not, IfOk, IfSome, IsSome, OnErr, Some};
-ghost use Rattle.std.specs.VecDeque.{deque_len};
+ghost use Rattle.std.specs.Prelude.{◌≡◌, IfOk, IsSome, OnErr};
 ghost use Rattle.turn_client_core.specs.Outgoing.{with_room};
 ghost use Rattle.turn_client_core.specs.Sending.{first_reply_step, front_step, resend_step};
 
 use crate::outbox::Outbox;
 use std::alloc::AllocError;
-use std::collections::VecDeque;
-use turn_client_api::Queued;
 use turn_stun::data::Data;
 use turn_stun::instant::Instant;
 use turn_stun::transport::Transmit;
@@ -40,9 +36,7 @@ impl Outbox {
     pub(crate) fn take_reply(&mut self) -> Option<Transmit<Data>>
         ensures { (result, with_room self.old.room self.new) ≡ first_reply_step self.old }
     {
-        let place = reply_place(&self.queue)?;
-        let reply = self.queue.remove(place).unwrap();
-        Some(reply.packet)
+        self.queue.take_reply()
     }
 
     /// Removes and returns the first queued packet.
@@ -60,12 +54,4 @@ impl Outbox {
     {
         self.last_send = Some(now);
     }
-}
-
-/// The index of the first queued reply.
-fn reply_place(queue: &VecDeque<Queued>) -> Option<usize>
-    ensures first { result ≡ position (λ q. not q.is_request) queue.now.items }
-    ensures within { IfSome result (λ place. place < deque_len queue.now) }
-{
-    queue.iter().position(|queued| !queued.is_request)
 }
