@@ -210,7 +210,7 @@ pub(crate) fn unlist(listed: &mut Vec<Listing>, grants: &[Grant], which: &Which)
     ensures capacity { vec_capacity listed.new ≡ vec_capacity listed.old }
     ensures len { vec_len listed.new ≤ vec_len listed.old }
 {
-    listed.retain(|listing| !is_for_one(listing, grants, which));
+    listed.retain(|listing| !is_for_one(&listing.purpose, grants, which));
 }
 
 /// Removes the listings for an ALLOCATE.

@@ -29,6 +29,7 @@ mod kind;
 mod lapsed;
 mod ledger;
 mod listed;
+mod listings;
 mod moment;
 mod numbers;
 mod offers;

@@ -23,6 +23,7 @@ ghost use Rattle.turn_client_grants.specs.Which.{holds, purposes_in};
 use crate::changes::{self, Change};
 use crate::failures::{push_closes_back, push_failures_back, push_failures_front};
 use crate::key::{self, Key};
+use crate::listings::Listings;
 use crate::offers;
 use crate::purposes::Purposes;
 use crate::summary::{Summary, summary_of};
@@ -31,7 +32,7 @@ use std::alloc::{AllocError, Global};
 use std::collections::{HashMap, VecDeque};
 use std::marker::Model;
 use std::net::SocketAddr;
-use turn_client_api::{Grant, Listing, TurnEvent};
+use turn_client_api::{Grant, TurnEvent};
 use turn_stun::instant::Instant;
 use turn_stun::transaction::TransactionId;
 use turn_stun::transport::TransportType;
@@ -48,7 +49,7 @@ mod read;
 #[derive(Debug, Drop)]
 pub struct GrantTable {
     grants: Vec<Grant>,
-    listed: Vec<Listing>,
+    listed: Listings,
     // Copies of the grants, by their keys.
     found: HashMap<Key, Grant>,
     summary: Summary,
@@ -67,7 +68,7 @@ impl Model for GrantTable {
       grants = t.grants.items;
       listed = t.listed.items;
       grant_room = min (vec_capacity t.grants - vec_len t.grants) (half (spare t.found));
-      listing_room = vec_capacity t.listed - vec_len t.listed;
+      listing_room = t.listed.room;
     } };
 
     ghost invariant = { λ t. IsKept t.grants.items t.listed.items (hash.get ⟦<Key as PartialEq>⟧.eq t.found) t.summary };
@@ -81,7 +82,7 @@ impl GrantTable {
     {
         GrantTable {
             grants: Vec::new(alloc),
-            listed: Vec::new(alloc),
+            listed: Listings::new(alloc),
             found: HashMap::new(alloc),
             summary: summary_of(&[], &[]),
         }
@@ -161,7 +162,7 @@ impl GrantTable {
         ensures grant_room { self.new.grant_room ≡ self.old.grant_room }
         ensures listing_room { self.old.listing_room ≤ self.new.listing_room + 2 }
     {
-        changes::list(&mut self.listed, id, purposes);
+        self.listed.list(id, purposes);
         self.summary = summary_of(self.grants.as_slice(), self.listed.as_slice());
     }
 
@@ -213,7 +214,7 @@ impl GrantTable {
         ensures grant_room { self.new.grant_room ≡ self.old.grant_room }
         ensures listing_room { self.old.listing_room ≤ self.new.listing_room }
     {
-        changes::unlist(&mut self.listed, self.grants.as_slice(), which);
+        self.listed.unlist(self.grants.as_slice(), which);
         self.summary = summary_of(self.grants.as_slice(), self.listed.as_slice());
     }
 
@@ -224,7 +225,7 @@ impl GrantTable {
         ensures grant_room { self.new.grant_room ≡ self.old.grant_room }
         ensures listing_room { self.old.listing_room ≤ self.new.listing_room }
     {
-        changes::unlist_allocates(&mut self.listed);
+        self.listed.unlist_allocates();
         self.summary = summary_of(self.grants.as_slice(), self.listed.as_slice());
     }
 
@@ -235,7 +236,7 @@ impl GrantTable {
         ensures grant_room { self.old.grant_room ≤ self.new.grant_room }
         ensures listing_room { self.old.listing_room ≤ self.new.listing_room }
     {
-        changes::unlist(&mut self.listed, self.grants.as_slice(), which);
+        self.listed.unlist(self.grants.as_slice(), which);
         changes::remove(&mut self.grants, which);
         key::remove(&mut self.found, which);
         self.summary = summary_of(self.grants.as_slice(), self.listed.as_slice());
@@ -276,7 +277,7 @@ impl GrantTable {
         ensures fewer { length self.new.grants ≤ length self.old.grants }
         ensures listing_room { self.old.listing_room ≤ self.new.listing_room }
     {
-        changes::unlist(&mut self.listed, self.grants.as_slice(), which);
+        self.listed.unlist(self.grants.as_slice(), which);
         changes::remove(&mut self.grants, which);
         changes::add(&mut self.grants, grant);
         key::replace(&mut self.found, which, grant);

@@ -281,7 +281,7 @@ impl GrantTable {
     pub fn purposes_of(&self, id: TransactionId) -> Purposes
         ensures { purposes_in result ≡ map (λ l. l.purpose) (filter (λ l. l.id == id) self.now.listed) }
     {
-        listed::purposes_of(self.listed.as_slice(), id)
+        self.listed.purposes_of(id)
     }
 
     /// How many purposes are listed. With the outstanding requests and the grants they bound how many
@@ -296,14 +296,14 @@ impl GrantTable {
     pub fn is_asked(&self, id: TransactionId) -> bool
         ensures { result ≡ list_any (λ l. l.id == id) self.now.listed }
     {
-        listed::has_id(self.listed.as_slice(), id)
+        self.listed.has_id(id)
     }
 
     /// Whether a request with this ID is listed, or one of the server that is to be answered has this ID.
     pub fn is_listed(&self, id: TransactionId) -> bool
         ensures { (s : State) → result ≡ is_listed id (with_table self.now s) }
     {
-        let is_own = listed::has_id(self.listed.as_slice(), id);
+        let is_own = self.listed.has_id(id);
         let has_requested = self.summary.has_requested;
         if has_requested {
             return is_own || connections::has_of_request(self.grants.as_slice(), id);
