@@ -421,7 +421,7 @@ impl StunAgent {
         answered(&self.transactions, id, from)
     }
 
-    /// Whether the set of IDs shows that this is none of them. It is not asked about few transactions.
+    /// Whether the set of IDs shows that this is none of them. It is not read for few transactions.
     fn is_stray(&self, id: TransactionId) -> bool
         ensures { IsTrue result → is_outstanding id self.now.transactions ≡ false }
     {

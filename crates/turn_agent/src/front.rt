@@ -43,7 +43,7 @@ impl Front {
         }
     }
 
-    /// What of it is not due at this time: all or nothing.
+    /// The front, or no transaction if some of it may be due at this time.
     fn at(self, now: Instant) -> Front
         ensures { result ≡ front_at self now }
     {
