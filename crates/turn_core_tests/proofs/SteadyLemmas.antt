@@ -41,10 +41,6 @@ module _ (s t : State) where
   datagram-is bytes now udp = rw (udp, same_address-self s.remote, same_address-self s.local) refl
 
   module _ {A E : Type 0} where
-    pub poll-steady : (result : Result A E) (now : ℕ) → OnOk result (t ≡ (poll_step now s).1) → OnErr result (t ≡ closed s) → IsSteady s → IsSteady t
-    poll-steady (Ok x) now e f = leaves-steadies (Call.Poll now) s t (inl e)
-    poll-steady (Err x) now e f = closed-steady f
-
     pub transmit-steady : (result : Result A E) (now : ℕ) → OnOk result (t ≡ (transmit_step now s).1) → OnErr result (t ≡ closed s) → IsSteady s → IsSteady t
     transmit-steady (Ok x) now e f = leaves-steadies (Call.PollTransmit now) s t (inl e)
     transmit-steady (Err x) now e f = closed-steady f
@@ -53,6 +49,9 @@ module _ (s t : State) where
     datagram-steady (Ok x) bytes now udp e f =
         leaves-steadies (Call.Recv (record { payload = bytes; transport = Udp; from = s.remote; to = s.local }) now) s t (inl (e ∙ ap (λ (r : Outcome × State). r.1) (datagram-is bytes now udp)))
     datagram-steady (Err x) bytes now udp e f = closed-steady f
+
+  pub poll-steady : (now : ℕ) → t ≡ (poll_step now s).1 → IsSteady s → IsSteady t
+  poll-steady now e = leaves-steadies (Call.Poll now) s t (inl e)
 
   pub event-steady : t ≡ (event_step s).1 → IsSteady s → IsSteady t
   event-steady e = leaves-steadies Call.PollEvent s t (inl e)
