@@ -97,7 +97,7 @@ impl Listings {
         ensures { purposes_in result ≡ map (λ l. l.purpose) (filter (λ l. l.id == id) self.now.items) }
     {
         match self.by_id.get(&id) {
-            Some(purposes) => *purposes,
+            Some(purposes) => purposes.from_the_first(),
             None => Purposes::none(),
         }
     }

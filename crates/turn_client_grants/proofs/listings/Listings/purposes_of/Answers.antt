@@ -8,7 +8,7 @@ use Rattle.turn_client_grants.proofs.listings.Listings.purposes_of.Goals as goal
 pub returns-in-Some : goal.returns-in-Some
 returns-in-Some c =
     rw (← c.self.view_is)
-    (ap (λ (found : Option Purposes). option_map_or purposes_in found []) c.in-Some.ensures.value ∙ c.self.invariant c.args.id)
+    (c.from_the_first.ensures ∙ (ap (λ (found : Option Purposes). option_map_or purposes_in found []) c.in-Some.ensures.value ∙ c.self.invariant c.args.id))
 
 pub returns-in-None : goal.returns-in-None
 returns-in-None c =
