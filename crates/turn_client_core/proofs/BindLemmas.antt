@@ -15,7 +15,7 @@ use Rattle.turn_client_api.specs.declared.grant.DataConnection.{DataConnection}
 use Rattle.turn_client_api.specs.declared.grant.Purpose.{Purpose}
 use Rattle.turn_client_grants.specs.Asked.{bind_retried}
 use Rattle.turn_client_core.specs.Judged.{kind_of}
-use Rattle.turn_client_core.specs.declared.protocol.judge.Judged.TheVariants.{Challenged, SignedSuccess, SignedError}
+use Rattle.turn_client_core.specs.declared.protocol.incoming.judge.Judged.TheVariants.{Challenged, SignedSuccess, SignedError}
 
 -- an item is found if one passes the test
 pub found_any : {X : Type 0} (p : X → Bool) (xs : List X) → is_some (find p xs) ≡ list_any p xs

@@ -20,8 +20,8 @@ use Rattle.turn_client_api.specs.Requests.{data_method, fresh_id}
 use Rattle.turn_client_core.specs.Attempts.{CanSign}
 use Rattle.turn_client_core.specs.Judged.{kind_of}
 use Rattle.turn_client_core.specs.Replies.{is_authenticating}
-use Rattle.turn_client_core.specs.declared.protocol.judge.Judged.{Judged}
-use Rattle.turn_client_core.specs.declared.protocol.judge.Judged.TheVariants.{Unrelated, Challenged, Fatal, LateResponse, DataIndication, ConnectionAttempt, SignedRequest, SignedSuccess, SignedError}
+use Rattle.turn_client_core.specs.declared.protocol.incoming.judge.Judged.{Judged}
+use Rattle.turn_client_core.specs.declared.protocol.incoming.judge.Judged.TheVariants.{Unrelated, Challenged, Fatal, LateResponse, DataIndication, ConnectionAttempt, SignedRequest, SignedSuccess, SignedError}
 
 -- ---- the judgement, by its kind
 

@@ -1,34 +1,15 @@
 //! A client, independent of its transport.
+//!
+//! Its methods stand in four rooms. A datagram, or a frame that `streams` takes out of a stream, goes to
+//! `incoming`: `message` parses it, `judge` decides what it is and whether its signature counts, and then
+//! `response`, `challenge`, `peer_data` or `connection_attempt` changes the client. `calls` has what the
+//! caller requests, and `time` what is due: `poll`, the next wake-up time and the next packet.
 
-mod allocation;
-mod arrival;
-mod attempt;
-mod bind;
-mod challenge;
-mod channel;
-mod connect;
-mod data;
-mod datagram;
-mod delete;
-mod event;
-mod fatal;
-mod frame;
-mod granted;
-mod judge;
-mod judge_bind;
-mod message;
+mod calls;
+mod incoming;
 mod new;
-mod permission;
-mod piece;
-mod poll;
-mod read;
-mod request;
-mod respond;
-mod send;
-mod socket;
-mod stream;
-mod transmit;
-mod wakeup;
+mod streams;
+mod time;
 
 use crate::outbox::Outbox;
 use smallvec::SmallVec;

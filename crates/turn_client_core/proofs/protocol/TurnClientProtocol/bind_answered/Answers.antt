@@ -2,7 +2,7 @@ use Rattle.std.proofs.Common.{◌≡◌, ◌∙◌, refl, sym, true}
 use Rattle.turn_client_api.proofs.ChallengeJudgement.{bind-is}
 use Rattle.turn_client_api.specs.Judgement.{bind_judgement}
 use Rattle.turn_client_api.specs.Memory.{keeps_connection}
-use Rattle.turn_client_core.specs.declared.protocol.judge.Judged.TheVariants.{SignedSuccess, SignedError}
+use Rattle.turn_client_core.specs.declared.protocol.incoming.judge.Judged.TheVariants.{SignedSuccess, SignedError}
 use Rattle.turn_client_core.proofs.BindLemmas.{not_bound-otherwise}
 use Rattle.turn_client_core.proofs.JudgedLemmas.{challenged-is, judged-is}
 use Rattle.turn_client_core.proofs.ResultLemmas.{on-err}

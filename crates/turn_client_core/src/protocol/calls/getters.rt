@@ -67,14 +67,14 @@ impl TurnClientProtocol {
 
 impl TurnClientProtocol {
     /// The progress of the permission for this IP address, or none if there is no such permission.
-    pub(super) fn permission_for(&self, ip: IpAddr) -> Option<Progress>
+    pub(crate) fn permission_for(&self, ip: IpAddr) -> Option<Progress>
         ensures { result ≡ permission_for ip self.now }
     {
         self.ledger.table().permission_for(ip)
     }
 
     /// Whether this IP address has an active permission.
-    pub(super) fn is_permitted(&self, ip: IpAddr) -> bool
+    pub(crate) fn is_permitted(&self, ip: IpAddr) -> bool
         ensures { result ≡ is_permitted ip self.now }
     {
         match self.permission_for(ip) {
@@ -84,7 +84,7 @@ impl TurnClientProtocol {
     }
 
     /// Whether a channel to the peer is pending or active.
-    pub(super) fn has_channel(&self, peer: SocketAddr) -> bool
+    pub(crate) fn has_channel(&self, peer: SocketAddr) -> bool
         ensures { result ≡ list_any is_in_progress (channels_to peer self.now) }
     {
         self.ledger.table().has_channel(peer)
@@ -92,7 +92,7 @@ impl TurnClientProtocol {
 
     /// The time until which a reserved channel keeps the peer from being bound, if that is now or
     /// later. Of several it is the first.
-    pub(super) fn reserved_until(&self, peer: SocketAddr, now: Instant) -> Option<Instant>
+    pub(crate) fn reserved_until(&self, peer: SocketAddr, now: Instant) -> Option<Instant>
         ensures { result ≡ slice_get (filter_map (reserved_from now) (channels_to peer self.now)) 0 }
     {
         self.ledger.table().reserved_until(peer, now)
@@ -100,7 +100,7 @@ impl TurnClientProtocol {
 
     /// The least channel number that no channel has. It is one that a client may bind (RFC 8656, section
     /// 12).
-    pub(super) fn free_number(&self) -> Option<u16>
+    pub(crate) fn free_number(&self) -> Option<u16>
         ensures found { result ≡ free_number self.now }
         ensures numbered { IfSome result (λ number. (nat_le 0x4000 number && nat_lt number 0x5000) ≡ true) }
         ensures free { IfSome result (λ number. is_number_taken number self.now ≡ false) }
@@ -109,21 +109,21 @@ impl TurnClientProtocol {
     }
 
     /// Whether a data connection to the peer exists, is offered to the caller, or is pending.
-    pub(super) fn has_connection(&self, peer: SocketAddr) -> bool
+    pub(crate) fn has_connection(&self, peer: SocketAddr) -> bool
         ensures { result ≡ (is_connected peer self.now || is_connecting peer self.now) }
     {
         self.is_connected(peer) || self.is_connecting(peer)
     }
 
     /// Whether a data connection to the peer exists, or is offered to the caller.
-    pub(super) fn is_connected(&self, peer: SocketAddr) -> bool
+    pub(crate) fn is_connected(&self, peer: SocketAddr) -> bool
         ensures { result ≡ is_connected peer self.now }
     {
         self.ledger.table().is_connected(peer)
     }
 
     /// Whether a data connection to the peer is pending.
-    pub(super) fn is_connecting(&self, peer: SocketAddr) -> bool
+    pub(crate) fn is_connecting(&self, peer: SocketAddr) -> bool
         ensures { result ≡ is_connecting peer self.now }
     {
         self.ledger.table().is_connecting(peer)

@@ -19,7 +19,7 @@ impl TurnClientProtocol {
     /// # Errors
     ///
     /// If memory allocation fails. Nothing changes then.
-    pub(super) fn fatal(&mut self, message: &Message<'_>) -> Result<Told, AllocError>
+    pub(crate) fn fatal(&mut self, message: &Message<'_>) -> Result<Told, AllocError>
         ensures answer { IfOk result (λ told. outcome_in message.now told ≡ (wrong_step message.now self.old).0) }
         ensures part { IfOk result (IsPart message.now self.old self.new) }
         ensures after { OnOk result (self.new ≡ (wrong_step message.now self.old).1) }
@@ -39,7 +39,7 @@ impl TurnClientProtocol {
     /// # Errors
     ///
     /// If memory allocation fails. Nothing changes then.
-    pub(super) fn fail_with(&mut self, message: &Message<'_>) -> Result<(), AllocError>
+    pub(crate) fn fail_with(&mut self, message: &Message<'_>) -> Result<(), AllocError>
         ensures ok { OnOk result (self.new ≡ closed (fail_all (ended (id_of message.now) self.old))) }
         ensures err { OnErr result (self.new ≡ self.old) }
     {
@@ -53,7 +53,7 @@ impl TurnClientProtocol {
     /// # Errors
     ///
     /// If memory allocation fails. Nothing changes then.
-    pub(super) fn fail(&mut self) -> Result<(), AllocError>
+    pub(crate) fn fail(&mut self) -> Result<(), AllocError>
         ensures ok { OnOk result (self.new ≡ closed (fail_all self.old)) }
         ensures err { OnErr result (self.new ≡ self.old) }
     {

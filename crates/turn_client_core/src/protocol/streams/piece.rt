@@ -36,7 +36,7 @@ impl TurnClientProtocol {
     /// If memory allocation fails, for the piece or for the bytes of other streams, which are processed
     /// after a piece of the control stream. The stream being processed is broken then, and the client
     /// has ended. Bytes of a bound stream with no buffered bytes allocate none.
-    pub(super) fn turned_piece<T: AsSlice<u8> + Debug + Drop>(
+    pub(crate) fn turned_piece<T: AsSlice<u8> + Debug + Drop>(
         &mut self,
         stream: BufferedStream,
         transmit: Transmit<T>,
@@ -128,7 +128,7 @@ impl TurnClientProtocol {
     ///
     /// If memory allocation for the bytes of a stream fails. That stream is broken then, and the client
     /// has ended.
-    pub(super) fn others<T: AsSlice<u8> + Debug + Drop>(
+    pub(crate) fn others<T: AsSlice<u8> + Debug + Drop>(
         &mut self,
         otherwise: TurnRecvRet<T>,
         now: Instant,

@@ -10,7 +10,7 @@ ghost use Rattle.turn_client_core.specs.Challenges.{BindsAgain};
 ghost use Rattle.turn_stun.specs.Message.{id_of};
 
 use crate::protocol::TurnClientProtocol;
-use crate::protocol::judge::Judged;
+use crate::protocol::incoming::judge::Judged;
 use std::alloc::AllocError;
 use std::net::SocketAddr;
 use turn_client_api::{DataConnection, Mode, Purpose};
@@ -27,7 +27,7 @@ impl TurnClientProtocol {
     ///
     /// If memory allocation fails, to bind the connection or to request that again. Nothing changes
     /// then.
-    pub(super) fn bind_step(
+    pub(crate) fn bind_step(
         &mut self,
         local: SocketAddr,
         message: &Message<'_>,

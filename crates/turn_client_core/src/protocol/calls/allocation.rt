@@ -11,7 +11,7 @@ use turn_stun::transport::TransportType;
 
 impl TurnClientProtocol {
     /// The allocation that relays over this transport to this IP address, expired or not.
-    pub(super) fn allocation_for(&self, transport: TransportType, ip: IpAddr) -> Option<Relay>
+    pub(crate) fn allocation_for(&self, transport: TransportType, ip: IpAddr) -> Option<Relay>
         ensures { result ≡ allocation_for transport ip self.now }
     {
         self.ledger.allocation_for(transport, ip)
@@ -19,7 +19,7 @@ impl TurnClientProtocol {
 
     /// Marks the allocation that relays to this IP address as expired, so that it is no longer used for
     /// sending: a call found that its expiry has passed.
-    pub(super) fn expire(&mut self, ip: IpAddr)
+    pub(crate) fn expire(&mut self, ip: IpAddr)
         ensures { self.new ≡ with_expired (family_of_ip ip) self.old }
     {
         self.ledger.expire(family_of_ip(ip));

@@ -15,7 +15,7 @@ const LONGEST_SLEEP_SECONDS: u64 = 9_999;
 impl TurnClientProtocol {
     /// When the caller is to call `poll` again: now, if something is pending or a request has just
     /// timed out, and else when something is due, but not in the past if there are grants.
-    pub(super) fn next_wakeup(&self, has_given_up: bool, now: Instant) -> Instant
+    pub(crate) fn next_wakeup(&self, has_given_up: bool, now: Instant) -> Instant
         ensures { result ≡ next_wakeup has_given_up now self.now }
     {
         if self.phase == Phase::New || self.has_event() || self.has_reply() || has_given_up {
@@ -29,21 +29,21 @@ impl TurnClientProtocol {
     }
 
     /// Whether an event is pending.
-    pub(super) fn has_event(&self) -> bool
+    pub(crate) fn has_event(&self) -> bool
         ensures { result ≡ has_event self.now }
     {
         self.ledger.has_event()
     }
 
     /// Whether a reply to the server is queued.
-    pub(super) fn has_reply(&self) -> bool
+    pub(crate) fn has_reply(&self) -> bool
         ensures { result ≡ has_reply self.now }
     {
         self.outbox.has_reply()
     }
 
     /// Whether the pause has not ended, so that no request is sent for the first time.
-    pub(super) fn is_paused(&self, now: Instant) -> bool
+    pub(crate) fn is_paused(&self, now: Instant) -> bool
         ensures { result ≡ is_paused now self.now }
     {
         now < self.outbox.pause_end()

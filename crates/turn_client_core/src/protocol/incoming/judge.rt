@@ -17,7 +17,7 @@ use turn_types::message::{CONNECTION_ATTEMPT, DATA};
 
 /// What a message is to a client. The contents of a challenge are read when it is answered.
 #[derive(Clone, Copy, Debug, PartialEq, Eq)]
-pub(super) enum Judged {
+pub(crate) enum Judged {
     /// It is not for the client, or contains nothing that the client can trust.
     Unrelated,
     /// A challenge: the server requires another signature.
@@ -42,7 +42,7 @@ impl TurnClientProtocol {
     /// What the message is in the phase of the client. Allocates no memory, and computes no digest for
     /// a response that concerns no request. The attributes are walked at most twice: for the contents
     /// of a challenge, and for the integrity or the algorithms that a first challenge offers.
-    pub(super) fn judge(&self, message: &Message<'_>) -> Judged
+    pub(crate) fn judge(&self, message: &Message<'_>) -> Judged
         ensures { result ≡ kind_of (judgement_of self.now message.now) }
     {
         match self.phase {
@@ -137,7 +137,7 @@ impl TurnClientProtocol {
     }
 
     /// What a signed message is by its class, if its request is outstanding, or else `otherwise`.
-    pub(super) fn signed_or(&self, message: &Message<'_>, otherwise: Judged) -> Judged
+    pub(crate) fn signed_or(&self, message: &Message<'_>, otherwise: Judged) -> Judged
         ensures { result ≡ signed_kind message.now self.now otherwise }
     {
         if !self.outbox.is_outstanding(message.transaction_id()) {
@@ -171,7 +171,7 @@ impl TurnClientProtocol {
     }
 
     /// Whether the message is signed, is a challenge, or is refused.
-    pub(super) fn validate(&self, message: &Message<'_>) -> Validation
+    pub(crate) fn validate(&self, message: &Message<'_>) -> Validation
         ensures exact { result ≡ validation_of (auth_of self.now) message.now }
         ensures resend { IsResendRequest result ↔ IsSome (challenge_in self.now message.now) }
     {

@@ -22,7 +22,7 @@ use turn_stun::transaction::TransactionId;
 
 impl TurnClientProtocol {
     /// Whether the server has granted an allocation. Requests can be signed then.
-    pub(super) fn is_allocated(&self) -> bool
+    pub(crate) fn is_allocated(&self) -> bool
         ensures value { result ≡ is_allocated self.now.phase }
         ensures phase { IsTrue result ↔ (self.now.phase ≡ Phase.Allocated) }
         ensures held { IsTrue result → IsSome self.now.held }
@@ -39,7 +39,7 @@ impl TurnClientProtocol {
     }
 
     /// Whether a listed request, or one of the server that is to be answered, has this ID.
-    pub(super) fn is_listed(&self, id: TransactionId) -> bool
+    pub(crate) fn is_listed(&self, id: TransactionId) -> bool
         ensures { result ≡ is_listed id self.now }
     {
         self.ledger.table().is_listed(id)
@@ -63,7 +63,7 @@ impl TurnClientProtocol {
 
     /// The ID of the next request: the next one of the seed, or if that is taken, the first after it
     /// that is not. One more ID is tried than are taken, so that one is free.
-    pub(super) fn fresh_id(&self) -> TransactionId
+    pub(crate) fn fresh_id(&self) -> TransactionId
         ensures id { result ≡ fresh_id self.now }
         ensures unsent { is_outstanding result self.now.transactions ≡ false }
         ensures unlisted { list_any (λ l. l.id == result) self.now.listed ≡ false }
@@ -78,7 +78,7 @@ impl TurnClientProtocol {
 
     /// The local address from which a request for this purpose is sent: a CONNECTION_BIND goes over the
     /// connection that it binds (RFC 6062, section 4.3).
-    pub(super) fn sent_from(&self, purpose: &Purpose) -> SocketAddr
+    pub(crate) fn sent_from(&self, purpose: &Purpose) -> SocketAddr
         ensures { result ≡ sent_from self.now purpose.now }
     {
         match purpose {
@@ -92,7 +92,7 @@ impl TurnClientProtocol {
     /// # Errors
     ///
     /// `AllocError` if memory allocation fails.
-    pub(super) fn text_for(&self, purpose: &Purpose, id: TransactionId) -> Result<Data, AllocError>
+    pub(crate) fn text_for(&self, purpose: &Purpose, id: TransactionId) -> Result<Data, AllocError>
         requires { IsSome self.now.held }
         ensures { IfOk result (λ text. text ≡ request_for self.now purpose.now id) }
     {
@@ -113,7 +113,7 @@ impl TurnClientProtocol {
     /// # Errors
     ///
     /// `AllocError` if memory allocation fails. Nothing changes then.
-    pub(super) fn ask(
+    pub(crate) fn ask(
         &mut self,
         purpose: &Purpose,
         purposes: &Purposes,

@@ -9,7 +9,7 @@ ghost use Rattle.turn_client_core.specs.Judged.{kind_of};
 ghost use Rattle.turn_stun.specs.Message.{id_of};
 
 use crate::protocol::TurnClientProtocol;
-use crate::protocol::judge::Judged;
+use crate::protocol::incoming::judge::Judged;
 use std::net::SocketAddr;
 use turn_auth::Validation;
 use turn_client_api::Purpose;
@@ -20,7 +20,7 @@ impl TurnClientProtocol {
     /// What the message is to the data connection from this local address, which waits to be bound:
     /// only a signed success response to its CONNECTION_BIND binds it. Allocates no memory, and
     /// computes no digest for a message that answers no such request.
-    pub(super) fn judge_bind(&self, local: SocketAddr, message: &Message<'_>) -> Judged
+    pub(crate) fn judge_bind(&self, local: SocketAddr, message: &Message<'_>) -> Judged
         ensures { result ≡ kind_of (bind_judgement self.now local message.now) }
     {
         if !self.answers_bind(local, message) {
@@ -43,7 +43,7 @@ impl TurnClientProtocol {
 
     /// The purpose of the request with this ID to bind the data connection from this local address, if
     /// it was made for that.
-    pub(super) fn bind_purpose(&self, local: SocketAddr, id: TransactionId) -> Option<Purpose>
+    pub(crate) fn bind_purpose(&self, local: SocketAddr, id: TransactionId) -> Option<Purpose>
         ensures { result ≡ find (is_bind_of local) (purposes_of id self.now) }
     {
         self.ledger.table().bind_purpose(id, local)

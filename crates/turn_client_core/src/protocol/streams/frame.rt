@@ -26,7 +26,7 @@ impl TurnClientProtocol {
     /// If memory allocation fails for an action that a message requires. Nothing changes then. A
     /// ChannelData message and a Data indication allocate no memory, nor does a message that requires
     /// no action.
-    pub(super) fn control_frame(&mut self, frame: &[u8], now: Instant) -> Result<Told, AllocError>
+    pub(crate) fn control_frame(&mut self, frame: &[u8], now: Instant) -> Result<Told, AllocError>
         requires whole { frame_len frame.now ≡ Some (length frame.now) }
         requires before { self.old.phase ≡ Phase.Authenticating → self.old.grants ≡ [] }
         ensures answer { IfOk result (λ told. outcome_in frame.now told ≡ (control_frame_step frame.now now self.old).0) }
@@ -70,7 +70,7 @@ impl TurnClientProtocol {
     ///
     /// If memory allocation fails for an action that a message requires. Nothing changes then. Only a
     /// message that keeps the connection allocates memory.
-    pub(super) fn waiting_frame(
+    pub(crate) fn waiting_frame(
         &mut self,
         local: SocketAddr,
         frame: &[u8],

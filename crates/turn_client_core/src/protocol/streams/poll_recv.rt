@@ -48,7 +48,7 @@ impl TurnClientProtocol {
     ///
     /// If memory allocation for the bytes of a stream fails. That stream is broken then, and the client
     /// has ended.
-    pub(super) fn turns(&mut self, now: Instant) -> Result<Option<Received>, AllocError>
+    pub(crate) fn turns(&mut self, now: Instant) -> Result<Option<Received>, AllocError>
         requires before { IsUngranted self.old.phase → self.old.grants ≡ [] }
         ensures answer { IfOk result (λ given. option_map data_of given ≡ (poll_recv_step now self.old).0) }
         ensures little { IfOk result (λ given. IsNone given → All HoldsLittle self.new.streams) }
@@ -80,7 +80,7 @@ impl TurnClientProtocol {
     }
 
     /// Breaks the stream at this local address: it delivers nothing more.
-    pub(super) fn break_at(&mut self, local: SocketAddr)
+    pub(crate) fn break_at(&mut self, local: SocketAddr)
         ensures { self.new ≡ broken_at local self.old }
     {
         self.streams.break_at(local);
@@ -88,7 +88,7 @@ impl TurnClientProtocol {
 
     /// Puts the bytes of this stream, which was taken out, back into the stream at the same local
     /// address.
-    pub(super) fn put(&mut self, stream: BufferedStream)
+    pub(crate) fn put(&mut self, stream: BufferedStream)
         ensures { self.new ≡ with_bytes stream.local stream.bytes self.old }
     {
         self.streams.put(stream);
@@ -156,7 +156,7 @@ impl TurnClientProtocol {
     /// # Errors
     ///
     /// If memory allocation fails. Nothing changes then.
-    pub(super) fn frame(
+    pub(crate) fn frame(
         &mut self,
         stream: &BufferedStream,
         frame: &[u8],

@@ -13,7 +13,7 @@ ghost use Rattle.turn_client_core.specs.Told.{IsPart, outcome_in};
 ghost use Rattle.turn_stun.specs.Message.{id_of};
 
 use crate::protocol::TurnClientProtocol;
-use crate::protocol::judge::Judged;
+use crate::protocol::incoming::judge::Judged;
 use crate::told::Told;
 use std::alloc::AllocError;
 use turn_client_api::Phase;
@@ -28,7 +28,7 @@ impl TurnClientProtocol {
     ///
     /// If memory allocation fails. Nothing changes then. A Data indication allocates none, nor does any
     /// other message that requires no action.
-    pub(super) fn message(
+    pub(crate) fn message(
         &mut self,
         message: &Message<'_>,
         now: Instant,

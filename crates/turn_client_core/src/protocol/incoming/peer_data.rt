@@ -20,7 +20,7 @@ impl TurnClientProtocol {
     /// The result of a Data indication: data of a peer whose IP address has an active permission,
     /// whether or not its allocation is expired, or an ICMP error if there is no data. Allocates no
     /// memory.
-    pub(super) fn data_indicated(&self, message: &Message<'_>) -> Told
+    pub(crate) fn data_indicated(&self, message: &Message<'_>) -> Told
         ensures outcome { outcome_in message.now result ≡ data_indicated self.now message.now }
         ensures part { IsPart message.now self.now self.now result }
     {
@@ -53,7 +53,7 @@ impl TurnClientProtocol {
 
     /// The result of the ChannelData message at the start of these bytes: data of the peer whose active
     /// channel has the number, in any phase. Allocates no memory.
-    pub(super) fn channel_sent(&self, bytes: &[u8], frame: &ChannelData<'_>) -> Told
+    pub(crate) fn channel_sent(&self, bytes: &[u8], frame: &ChannelData<'_>) -> Told
         requires frame { frame.now ≡ channel_at bytes.now }
         requires whole { 4 + length frame.now.payload ≤ length bytes.now }
         ensures outcome { outcome_in bytes.now result ≡ channel_sent self.now bytes.now }

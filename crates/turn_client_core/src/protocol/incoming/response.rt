@@ -35,7 +35,7 @@ impl TurnClientProtocol {
     /// # Errors
     ///
     /// If memory allocation fails. Nothing changes then.
-    pub(super) fn respond(
+    pub(crate) fn respond(
         &mut self,
         message: &Message<'_>,
         is_granted: bool,
@@ -79,7 +79,7 @@ impl TurnClientProtocol {
     /// # Errors
     ///
     /// If memory allocation fails. Nothing changes then.
-    pub(super) fn allocate_denied(
+    pub(crate) fn allocate_denied(
         &mut self,
         message: &Message<'_>,
         now: Instant,

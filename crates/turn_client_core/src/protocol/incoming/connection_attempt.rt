@@ -30,7 +30,7 @@ impl TurnClientProtocol {
     /// # Errors
     ///
     /// If memory allocation fails. Nothing changes then.
-    pub(super) fn attempt_requested(&mut self, message: &Message<'_>) -> Result<(), AllocError>
+    pub(crate) fn attempt_requested(&mut self, message: &Message<'_>) -> Result<(), AllocError>
         requires { CanSign self.old.phase }
         ensures ok { OnOk result (self.new ≡ attempt_requested message.now self.old) }
         ensures err { OnErr result (self.new ≡ self.old) }
@@ -58,7 +58,7 @@ impl TurnClientProtocol {
     /// # Errors
     ///
     /// If memory allocation fails. Nothing changes then.
-    pub(super) fn attempt_indicated(&mut self, message: &Message<'_>) -> Result<Told, AllocError>
+    pub(crate) fn attempt_indicated(&mut self, message: &Message<'_>) -> Result<Told, AllocError>
         ensures answer { IfOk result (λ told. outcome_in message.now told ≡ (attempt_step message.now self.old).0) }
         ensures part { IfOk result (IsPart message.now self.old self.new) }
         ensures after { OnOk result (self.new ≡ (attempt_step message.now self.old).1) }

@@ -22,7 +22,7 @@ impl TurnClientProtocol {
     /// # Errors
     ///
     /// `AllocError` if memory allocation fails. Nothing changes then.
-    pub(super) fn allocate_granted(
+    pub(crate) fn allocate_granted(
         &mut self,
         message: &Message<'_>,
         now: Instant,

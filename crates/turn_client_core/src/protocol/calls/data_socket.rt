@@ -94,7 +94,7 @@ impl TurnClientProtocol {
     }
 
     /// The data connection from this local address.
-    pub(super) fn connection_at(&self, local: SocketAddr) -> Option<DataConnection>
+    pub(crate) fn connection_at(&self, local: SocketAddr) -> Option<DataConnection>
         ensures { result ≡ connection_at local self.now }
     {
         self.ledger.table().connection_at(local)
@@ -274,7 +274,7 @@ impl TurnClientProtocol {
 
     /// Removes the connection from this local address, if there is one: the caller is to close its end
     /// before all others that it is to close.
-    pub(super) fn connection_gone(&mut self, local: SocketAddr)
+    pub(crate) fn connection_gone(&mut self, local: SocketAddr)
         ensures { self.new ≡ connection_gone local self.old }
     {
         self.ledger.connection_gone(local);

@@ -31,7 +31,7 @@ impl TurnClientProtocol {
     ///
     /// If memory allocation fails. Nothing changes then, and the values of earlier challenges are kept.
     /// A challenge that is ignored allocates none.
-    pub(super) fn challenged(
+    pub(crate) fn challenged(
         &mut self,
         message: &Message<'_>,
         now: Instant,

@@ -38,7 +38,7 @@ impl TurnClientProtocol {
     /// # Errors
     ///
     /// If memory allocation for the events fails. The client has ended all the same.
-    pub(super) fn close_failing(&mut self) -> Result<(), AllocError>
+    pub(crate) fn close_failing(&mut self) -> Result<(), AllocError>
         ensures ok { OnOk result (self.new ≡ closed (fail_all self.old)) }
         ensures err { OnErr result (self.new ≡ closed self.old) }
     {
@@ -59,7 +59,7 @@ impl TurnClientProtocol {
     /// # Errors
     ///
     /// If memory allocation for the events fails. Nothing changes then.
-    pub(super) fn fail_all(&mut self) -> Result<(), AllocError>
+    pub(crate) fn fail_all(&mut self) -> Result<(), AllocError>
         ensures ok { OnOk result (self.new ≡ fail_all self.old) }
         ensures err { OnErr result (self.new ≡ self.old) }
     {
@@ -70,7 +70,7 @@ impl TurnClientProtocol {
     }
 
     /// Ends the client: no response to an ALLOCATE is awaited any more.
-    pub(super) fn close(&mut self)
+    pub(crate) fn close(&mut self)
         ensures { self.new ≡ closed self.old }
     {
         self.phase = Phase::Closed;

@@ -1,0 +1,11 @@
+//! Messages of the server, from a datagram to what it changes: datagram or frame, message, judgement, then a response, data of a peer, or a connection attempt.
+
+mod allocate_success;
+mod challenge;
+mod connection_attempt;
+mod datagram;
+mod fatal;
+pub(crate) mod judge;
+mod message;
+mod peer_data;
+mod response;

@@ -1,0 +1,5 @@
+//! What is due: timeouts and expiries, the next wake-up time, the next packet.
+
+mod poll;
+mod poll_transmit;
+mod wakeup;
