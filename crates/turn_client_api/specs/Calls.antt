@@ -293,3 +293,7 @@ send_over Udp peer bytes now s = on_channel (filter_map (active_channel peer) s.
 abbrev pub send_to_step : TransportType → SocketAddr → List ℕ → ℕ → State → Result (Transmit (List ℕ)) SendError × State
 send_to_step transport peer bytes now s =
     if has_permission transport (socket_ip peer) s then send_over transport peer bytes now s else (Err Send.NoPermission, s)
+
+-- a packet can carry this data to a peer if the server relays over UDP
+abbrev pub FitsDatagram : TransportType → List ℕ → Type 0
+FitsDatagram transport bytes = transport ≡ Udp → length bytes ≤ 65504

@@ -36,6 +36,11 @@ state_after RelayedAddresses s = s
 state_after (Permissions transport relayed) s = s
 state_after (HavePermission transport to) s = s
 
+-- the client after these calls, without an allocation failure
+abbrev pub state_after_all : State → List Call → State
+state_after_all s [] = s
+state_after_all s (call ∷ calls) = state_after_all (state_after call s) calls
+
 -- the states that the call may leave if memory allocation fails; most calls change nothing then, and those
 -- that allocate none never fail so
 abbrev pub EndsWithoutMemory : Call → State → State → Type 0

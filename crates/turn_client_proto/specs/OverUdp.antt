@@ -16,7 +16,3 @@ pub record IsUdpClient (s : State) : Type 0 where
   pub steady : IsSteady s
   pub housed : IsHoused s
 
--- data of a peer is a range of these bytes
-abbrev pub IsWithin : List ℕ → Told → Type 0
-IsWithin bytes (T.PeerData transport peer range) = (range.start ≤ range.end) × (range.end ≤ length bytes)
-IsWithin bytes _ = ⊤

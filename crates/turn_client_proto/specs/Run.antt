@@ -8,14 +8,13 @@ use Rattle.turn_client_api.specs.State.{State, initial}
 use Rattle.turn_client_api.specs.Payloads.{Outcome, Payload}
 use Rattle.turn_client_api.specs.Payloads as O
 use Rattle.turn_client_api.specs.Streams.{poll_recv_step}
-use Rattle.turn_client_api.specs.Calls.{allocated_tcp_socket_step, bind_channel_step, create_permission_step, delete_step, has_permission, permissions_of, relayed_addresses_of, send_to_step, tcp_connect_step}
+use Rattle.turn_client_api.specs.Calls.{allocated_tcp_socket_step, bind_channel_step, create_permission_step, delete_step, has_permission, permissions_of, relayed_addresses_of, send_to_step, tcp_connect_step, FitsDatagram}
 use Rattle.turn_client_api.specs.Poll.{poll_step}
 use Rattle.turn_client_api.specs.Transmit.{transmit_step}
 use Rattle.turn_client_api.specs.Answers.{event_step}
-use Rattle.turn_client_api.specs.Steps.{packet_step, state_after}
+use Rattle.turn_client_api.specs.Steps.{packet_step, state_after, state_after_all}
 use Rattle.turn_client_api.specs.declared.call.Call.{Call}
 use Rattle.turn_client_api.specs.declared.call.Call.TheVariants.{Delete, CreatePermission, BindChannel, TcpConnect, AllocatedTcpSocket, TcpClosed, SendTo, Recv, PollRecv, Poll, PollTransmit, PollEvent, ProtocolError, RelayedAddresses, Permissions, HavePermission}
-use Rattle.turn_client_runs.specs.Run.{state_behind}
 use Rattle.turn_client_proto.specs.declared.runs.reply.PeerData.{PeerData}
 use Rattle.turn_client_proto.specs.declared.runs.reply.Reply.{Reply}
 use Rattle.turn_client_proto.specs.declared.runs.reply.Reply.TheVariants as Replies
@@ -64,10 +63,6 @@ step s call = (reply_of call s, state_after call s)
 
 -- ---- calls that can be made
 
--- if the server relays over UDP, a packet can carry the data to a peer
-abbrev pub IsShort : TransportType → List ℕ → Type 0
-IsShort transport bytes = transport ≡ Udp → length bytes ≤ 65504
-
 -- the call can be made on a client whose allocations relay over this transport
 abbrev pub IsCallable : TransportType → Call → Type 0
 IsCallable relays (Delete now) = now ≤ 2 ^ 62
@@ -76,7 +71,7 @@ IsCallable relays (BindChannel transport peer now) = now ≤ 2 ^ 62
 IsCallable relays (TcpConnect peer now) = now ≤ 2 ^ 62
 IsCallable relays (AllocatedTcpSocket id tuple peer local now) = now ≤ 2 ^ 62
 IsCallable relays (TcpClosed local remote now) = now ≤ 2 ^ 62
-IsCallable relays (SendTo transport peer bytes now) = (now ≤ 2 ^ 62) × IsShort relays bytes
+IsCallable relays (SendTo transport peer bytes now) = (now ≤ 2 ^ 62) × FitsDatagram relays bytes
 IsCallable relays (Recv packet now) = now ≤ 2 ^ 62
 IsCallable relays (PollRecv now) = now ≤ 2 ^ 62
 IsCallable relays (Poll now) = now ≤ 2 ^ 62
@@ -98,5 +93,5 @@ replies_of s (call ∷ calls) = reply_of call s ∷ replies_of (state_after call
 abbrev pub run : TransportType → SocketAddr → SocketAddr → Config → List ℕ → List Call → List Reply × State
 run transport local remote config seed calls = (
   replies_of (initial transport local remote config seed) calls,
-  state_behind (initial transport local remote config seed) calls,
+  state_after_all (initial transport local remote config seed) calls,
 )

@@ -10,8 +10,7 @@ ghost use Rattle.turn_client_api.specs.Payloads.{datagram_step};
 ghost use Rattle.turn_client_api.specs.Poll.{poll_step};
 ghost use Rattle.turn_client_api.specs.Receive.{is_from_server, tcp_closed_step};
 ghost use Rattle.turn_client_api.specs.State.{initial};
-ghost use Rattle.turn_client_core.specs.Told.{outcome_in};
-ghost use Rattle.turn_client_proto.specs.OverUdp.{IsWithin};
+ghost use Rattle.turn_client_core.specs.Told.{outcome_in, IsWithin};
 
 use std::alloc::{AllocError, Global};
 use std::convert::AsSlice;

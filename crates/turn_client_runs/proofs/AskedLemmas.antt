@@ -16,7 +16,7 @@ use Rattle.turn_client_api.specs.LawsGone.{GivesBack}
 use Rattle.turn_client_api.specs.LawsHandled.{DiffersInStreams, DoesTurns, TakesTurns, TurnsLead}
 use Rattle.turn_client_api.specs.LawsRequests.{IsListedFor, IsListingOf}
 use Rattle.turn_client_api.specs.Retry.{first_or, is_allocate_or_connect, is_channel_bind, is_create_permission, is_refresh, retried}
-use Rattle.turn_client_api.specs.Steps.{state_after}
+use Rattle.turn_client_api.specs.Steps.{state_after, state_after_all}
 use Rattle.turn_client_api.proofs.Edits.{listing}
 use Rattle.turn_client_api.proofs.EditsOfMessages.{retried-has}
 use Rattle.turn_client_api.proofs.HasLemmas.{Has, has-found}
@@ -26,7 +26,6 @@ use Rattle.turn_client_api.proofs.StandLemmas.{contains-has, has-contains}
 use Rattle.turn_client_api.proofs.TurnChainLemmas.{calls-do}
 use Rattle.turn_client_api.proofs.TwoPurposes.{purpose-with}
 use Rattle.turn_client_runs.specs.Granted.{IsAskedInCall, IsAskedInTurn, WasAsked, WasAskedBefore}
-use Rattle.turn_client_runs.specs.Run.{state_behind}
 use Rattle.turn_client_runs.proofs.CallGrants.{quiet, taking}
 use Rattle.turn_client_runs.proofs.RelistLemmas.{IsRelisted, IsRetriedFor, turn-relists}
 use Rattle.turn_client_runs.proofs.TogetherLemmas.{AreTogether, IsListingHere, Together, call-together, differs-together, first-together, listing-here}
@@ -181,7 +180,7 @@ module _ (l : Listing) (wanted : GivesBack l.purpose → ⊥) where
 
   -- ---- a run
 
-  run-asks : (calls : List Call) (first : State) → AreTogether first → Contains (state_behind first calls).listed l → Contains first.listed l ⊎ WasAsked l.id l.purpose calls first
+  run-asks : (calls : List Call) (first : State) → AreTogether first → Contains (state_after_all first calls).listed l → Contains first.listed l ⊎ WasAsked l.id l.purpose calls first
   run-asks [] first together there = inl there
   run-asks (call ∷ calls) first together there = by (run-asks calls (state_after call first) (call-together call first together) there)
     where
@@ -199,7 +198,7 @@ module _ (l : Listing) (wanted : GivesBack l.purpose → ⊥) where
         asked = was.asked;
       })
 
-run-together : (calls : List Call) (s : State) → AreTogether s → AreTogether (state_behind s calls)
+run-together : (calls : List Call) (s : State) → AreTogether s → AreTogether (state_after_all s calls)
 run-together [] s h = h
 run-together (call ∷ calls) s h = run-together calls (state_after call s) (call-together call s h)
 
@@ -216,13 +215,13 @@ takes-turns call s front one back cut = by (taking call)
 
 -- the request that an input answers was made before it
 pub was-asked : (earlier : List Call) (call : Call) (later : List Call) (first : State) → first.listed ≡ []
-    → (front : List Turn) (one : Turn) (back : List Turn) → handled call (state_behind first earlier) ≡ front ++ one ∷ back
+    → (front : List Turn) (one : Turn) (back : List Turn) → handled call (state_after_all first earlier) ≡ front ++ one ∷ back
     → (p : Purpose) → (GivesBack p → ⊥) → Contains (purposes_of (id_of one.bytes) one.before) p
     → WasAskedBefore (id_of one.bytes) p earlier first front
 was-asked earlier call later first empty front one back cut p wanted listed = by (turn-was-asked l wanted call s together front one back cut there (takes-turns call s front one back cut))
   where
     s : State
-    s = state_behind first earlier
+    s = state_after_all first earlier
 
     l : Listing
     l = listing (id_of one.bytes) p

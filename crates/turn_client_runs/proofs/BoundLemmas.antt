@@ -16,7 +16,7 @@ use Rattle.turn_client_api.specs.LawsBound.{IsBindTurn, IsBoundConnection, IsCon
 use Rattle.turn_client_api.specs.LawsGranted.{Stood}
 use Rattle.turn_client_api.specs.LawsHandled.{IsBoundAt, IsDoneBy, IsOverControl, IsOverWaiting, TakesTurns}
 use Rattle.turn_client_api.specs.LawsReplies.{IsAccepted, IsNotAwaited}
-use Rattle.turn_client_api.specs.Steps.{state_after}
+use Rattle.turn_client_api.specs.Steps.{state_after, state_after_all}
 use Rattle.turn_client_api.specs.declared.call.Call.{Call}
 use Rattle.turn_client_api.specs.declared.grant.DataConnection.{DataConnection}
 use Rattle.turn_client_api.specs.declared.grant.Grant.TheVariants.{Allocation, Permission, Channel, Connect, Offer, Connection}
@@ -33,7 +33,6 @@ use Rattle.turn_client_api.proofs.StandLemmas as Stand
 use Rattle.turn_client_api.proofs.StandLemmas.{Covers, contains-has, covers-has, covers-left, covers-stood}
 use Rattle.turn_client_api.proofs.TurnBringLemmas.{IsBrought, leaves-bring}
 use Rattle.turn_client_runs.specs.Bound.{BoundConnectionsHaveSuccess, BoundStreamsHaveSuccess, HasConnectionSuccess, HasSuccess, IsAnswered, IsBoundSince, StreamsAreBoundBefore}
-use Rattle.turn_client_runs.specs.Run.{state_behind}
 use Rattle.turn_client_runs.specs.Turns.{IsAmong, handled_in}
 use Rattle.turn_client_runs.proofs.MadeLemmas.{waiting-made}
 use Rattle.turn_client_runs.proofs.RunLemmas.{run-did}
@@ -176,18 +175,18 @@ module _ (local peer : SocketAddr) where
   stream-ends : (call : Call) (s : State) → IsBoundTo (state_after call s) → IsBoundTo s ⊎ IsDoneBy (λ one. BindsIt one × IsAnswered one) call s
   stream-ends = call-ends IsBoundTo BindsIt (Streams.bringing local peer) waits spares others
 
-  streams-since : (s : State) (calls : List Call) → (IsBoundTo s → ⊥) → IsBoundTo (state_behind s calls) → IsBoundSince local peer calls s
+  streams-since : (s : State) (calls : List Call) → (IsBoundTo s → ⊥) → IsBoundTo (state_after_all s calls) → IsBoundSince local peer calls s
   streams-since s calls none h =
       let is = run-did IsBoundTo (λ call u. IsDoneBy (λ one. BindsIt one × IsAnswered one) call u) (λ u. ⊤) (λ call u inv. tt) (λ call u inv. stream-ends call u) calls s tt none h in
       record { earlier = is.earlier; call = is.call; later = is.later; split = is.split; success = is.did; since = is.holds }
 
   streams-before : (s : State) (calls : List Call) (earlier : List Call) (call : Call) (later : List Call) (front back : List Turn) (one : Turn) → (IsBoundTo s → ⊥)
-      → calls ≡ earlier ++ call ∷ later → handled call (state_behind s earlier) ≡ front ++ one ∷ back → IsBoundTo one.before
+      → calls ≡ earlier ++ call ∷ later → handled call (state_after_all s earlier) ≡ front ++ one ∷ back → IsBoundTo one.before
       → IsBoundSince local peer earlier s ⊎ HasSuccess local peer front
   streams-before s calls earlier call later front back one none split e h =
-      by (in_call IsBoundTo (λ one. BindsIt one × IsAnswered one) (bringing-ends IsBoundTo BindsIt (Streams.bringing local peer) waits spares) stream-ends call (state_behind s earlier) front back one e h)
+      by (in_call IsBoundTo (λ one. BindsIt one × IsAnswered one) (bringing-ends IsBoundTo BindsIt (Streams.bringing local peer) waits spares) stream-ends call (state_after_all s earlier) front back one e h)
     where
-      by : IsBoundTo (state_behind s earlier) ⊎ HasSuccess local peer front → IsBoundSince local peer earlier s ⊎ HasSuccess local peer front
+      by : IsBoundTo (state_after_all s earlier) ⊎ HasSuccess local peer front → IsBoundSince local peer earlier s ⊎ HasSuccess local peer front
       by (inl there) = inl (streams-since s earlier none there)
       by (inr did) = inr did
 
@@ -245,8 +244,8 @@ module _ (c : DataConnection) where
   connection-ends : (call : Call) (s : State) → IsOpen (state_after call s) → IsOpen s ⊎ IsDoneBy (λ one. IsConnecting c one × IsAnswered one) call s
   connection-ends = call-ends IsOpen (IsConnecting c) (Grants.bringing (Connection c)) (λ one did. (c.local, did.1.over)) (λ s t leaves same. covers-left s.grants t.grants (Connection c) leaves) connection-others
 
-  connection-after : (s : State) (calls : List Call) → s.grants ≡ [] → IsBoundConnection c (state_behind s calls) → HasConnectionSuccess c (handled_in s calls)
-  connection-after s calls none h = by (run-brings IsOpen (λ one. IsConnecting c one × IsAnswered one) connection-ends s calls (bound-open (state_behind s calls) h))
+  connection-after : (s : State) (calls : List Call) → s.grants ≡ [] → IsBoundConnection c (state_after_all s calls) → HasConnectionSuccess c (handled_in s calls)
+  connection-after s calls none h = by (run-brings IsOpen (λ one. IsConnecting c one × IsAnswered one) connection-ends s calls (bound-open (state_after_all s calls) h))
     where
       by : IsOpen s ⊎ HasConnectionSuccess c (handled_in s calls) → HasConnectionSuccess c (handled_in s calls)
       by (inl (is, there, kept)) = absurd (rw none at there)

@@ -10,7 +10,7 @@ use Rattle.turn_client_api.specs.LawsReplies.{IsHeeded}
 use Rattle.turn_client_api.specs.LawsStates.{HoldsAtFirst, StaysInCalls}
 use Rattle.turn_client_api.specs.LawsSteps.{IsCounted, KeepsRealm}
 use Rattle.turn_client_api.specs.Retry.{most_challenges}
-use Rattle.turn_client_api.specs.Steps.{state_after}
+use Rattle.turn_client_api.specs.Steps.{state_after, state_after_all}
 use Rattle.turn_client_api.specs.declared.call.Call.{Call}
 use Rattle.turn_client_api.proofs.CountLemmas.{bringing, leaves-heeded}
 use Rattle.turn_client_api.proofs.PhasesGoOn.{challenge-IsCounted, leaves-keeps}
@@ -19,7 +19,6 @@ use Rattle.turn_client_api.proofs.TurnChainLemmas.{calls-do}
 use Rattle.turn_client_api.proofs.TurnLemmas.{brought}
 use Rattle.turn_client_runs.specs.Challenges.{CountsIt, IsChallengeTurn, IsHeededAmong, IsPatient, answers_in, is_answer}
 use Rattle.turn_client_runs.specs.Holds.{Reaches}
-use Rattle.turn_client_runs.specs.Run.{state_behind}
 use Rattle.turn_client_runs.specs.Turns.{IsAmong, handled_in}
 use Rattle.turn_client_runs.proofs.HoldLemmas.{kept-behind}
 use Rattle.turn_client_runs.proofs.MadeLemmas.{control-made}
@@ -126,7 +125,7 @@ answers-append (one ∷ turns) more = by (is_answer one) refl (answers-append tu
     by true e more_of = rw e (omega (arith, more_of))
     by false e more_of = rw e more_of
 
-run-counts : (s : State) (calls : List Call) → Counts s (state_behind s calls) (handled_in s calls)
+run-counts : (s : State) (calls : List Call) → Counts s (state_after_all s calls) (handled_in s calls)
 run-counts s [] = inl (omega arith)
 run-counts s (call ∷ calls) = by (call-counts call s) (run-counts (state_after call s) calls)
   where
@@ -136,7 +135,7 @@ run-counts s (call ∷ calls) = by (call-counts call s) (run-counts (state_after
     more : List Turn
     more = handled_in (state_after call s) calls
 
-    by : Counts s (state_after call s) turns → Counts (state_after call s) (state_behind (state_after call s) calls) more → Counts s (state_behind s (call ∷ calls)) (turns ++ more)
+    by : Counts s (state_after call s) turns → Counts (state_after call s) (state_after_all (state_after call s) calls) more → Counts s (state_after_all s (call ∷ calls)) (turns ++ more)
     by (inl first) (inl rest) = inl (let sum = answers-append turns more in omega (arith, first, rest, sum))
     by (inr among) rest = inr (among-left IsHeededIn turns more among)
     by (inl first) (inr among) = inr (among-right IsHeededIn turns more among)
@@ -144,9 +143,9 @@ run-counts s (call ∷ calls) = by (call-counts call s) (run-counts (state_after
 pub few-answered : (s : State) (calls : List Call) → IsPatient s → (answers_in (handled_in s calls) ≤ most_challenges) ⊎ IsHeededAmong (handled_in s calls)
 few-answered s calls patient = by (run-counts s calls)
   where
-    last : IsPatient (state_behind s calls)
+    last : IsPatient (state_after_all s calls)
     last = kept-behind IsPatient leaves-patient s calls patient
 
-    by : Counts s (state_behind s calls) (handled_in s calls) → (answers_in (handled_in s calls) ≤ most_challenges) ⊎ IsHeededAmong (handled_in s calls)
+    by : Counts s (state_after_all s calls) (handled_in s calls) → (answers_in (handled_in s calls) ≤ most_challenges) ⊎ IsHeededAmong (handled_in s calls)
     by (inl counts) = inl (omega (arith, counts, last))
     by (inr among) = inr among

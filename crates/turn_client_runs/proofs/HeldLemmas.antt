@@ -17,7 +17,7 @@ use Rattle.turn_client_api.specs.Connections.{bind_step, connection_at}
 use Rattle.turn_client_api.specs.Payloads.{Outcome, Handled, Ignored, is_message, message_step}
 use Rattle.turn_client_api.specs.Receive.{connection_gone}
 use Rattle.turn_client_api.specs.Handled.{Turn, handled, made_of}
-use Rattle.turn_client_api.specs.Steps.{state_after}
+use Rattle.turn_client_api.specs.Steps.{state_after, state_after_all}
 use Rattle.turn_client_api.specs.Transmit.{sent}
 use Rattle.turn_client_api.specs.LawsHandled.{DiffersInStreams, IsDoneBy, IsOverControl, TakesTurns}
 use Rattle.turn_client_api.specs.declared.call.Call.{Call}
@@ -30,7 +30,6 @@ use Rattle.turn_client_api.proofs.Edits.{IgnoresAll, KeepsEdits}
 use Rattle.turn_client_api.proofs.EditsOfCalls.{delete-walk, quiet-walk, tcp_socket-walk}
 use Rattle.turn_client_api.proofs.TurnBringLemmas.{IsBrought, leaves-bring}
 use Rattle.turn_client_runs.specs.Held.{HeldFromChallenge, IsFirstAnswer, IsOfChallenge}
-use Rattle.turn_client_runs.specs.Run.{state_behind}
 use Rattle.turn_client_runs.specs.Turns.{IsAmong, handled_in}
 use Rattle.turn_client_runs.proofs.MadeLemmas.{control-made}
 use Rattle.turn_client_runs.proofs.RealmLemmas.{turns-after}
@@ -247,7 +246,7 @@ held-from transport local remote config seed calls c e = by (run-brings IsLate I
     first : State
     first = initial transport local remote config seed
 
-    same : (one : Turn) (d : Challenge) → (made_of one).1.held ≡ Some d → (x : Challenge) × ((state_behind first calls).held ≡ Some x) × (x.realm ≡ d.realm) × (x.algorithm ≡ d.algorithm) → (c.realm ≡ d.realm) × (c.algorithm ≡ d.algorithm)
+    same : (one : Turn) (d : Challenge) → (made_of one).1.held ≡ Some d → (x : Challenge) × ((state_after_all first calls).held ≡ Some x) × (x.realm ≡ d.realm) × (x.algorithm ≡ d.algorithm) → (c.realm ≡ d.realm) × (c.algorithm ≡ d.algorithm)
     same one d held (x, f, realm, algorithm) = let is : c ≡ x = same_Some c x (sym e ∙ f) in rw is (realm, algorithm)
 
     by : IsLate first ⊎ IsAmong IsFirst (handled_in first calls) → IsAmong (IsOfChallenge c) (handled_in first calls)

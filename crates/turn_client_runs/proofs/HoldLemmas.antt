@@ -1,14 +1,13 @@
 -- What each call keeps, whole runs keep.
 use Rattle.std.proofs.Common.{List, [], ◌∷◌, inl, refl}
 use Rattle.turn_client_api.specs.State.{State, initial}
-use Rattle.turn_client_api.specs.Steps.{state_after}
+use Rattle.turn_client_api.specs.Steps.{state_after, state_after_all}
 use Rattle.turn_client_api.specs.declared.call.Call.{Call}
 use Rattle.turn_client_api.specs.LawsStates.{HoldsAtFirst, StaysInCalls}
-use Rattle.turn_client_runs.specs.Run.{state_behind}
 use Rattle.turn_client_runs.specs.Holds.{HoldsInAnyRun, HoldsInRuns, Reaches}
 
 -- calls without an allocation failure lead to the state after them
-pub reaches-behind : (s : State) (calls : List Call) → Reaches s calls (state_behind s calls)
+pub reaches-behind : (s : State) (calls : List Call) → Reaches s calls (state_after_all s calls)
 reaches-behind s [] = refl
 reaches-behind s (call ∷ calls) = (state_after call s, inl refl, reaches-behind (state_after call s) calls)
 
@@ -17,8 +16,8 @@ module _ (P : State → Type 0) (stays : StaysInCalls P) where
   kept-reached s [] t same p = rw same p
   kept-reached s (call ∷ calls) t (u, leaves, more) p = kept-reached u calls t more (stays call s u leaves p)
 
-  pub kept-behind : (s : State) (calls : List Call) → P s → P (state_behind s calls)
-  kept-behind s calls p = kept-reached s calls (state_behind s calls) (reaches-behind s calls) p
+  pub kept-behind : (s : State) (calls : List Call) → P s → P (state_after_all s calls)
+  kept-behind s calls p = kept-reached s calls (state_after_all s calls) (reaches-behind s calls) p
 
   -- what holds of each new client and stays in each call holds after all runs
   pub holds-any : HoldsAtFirst P → HoldsInAnyRun P

@@ -10,7 +10,6 @@ use Rattle.turn_client_api.proofs.DistinctNumbers.{initial-numbers, leaves-apart
 use Rattle.turn_client_runs.specs.Challenges.{IsPatient}
 use Rattle.turn_client_runs.specs.Promises.{AfterEach, BoundHaveSuccess, CutsAgree, FewAreAnswered, GrantsHaveReplies, HearsLetIn, NumbersAreDistinct, RealmIsAnswered, RealmStays, RepliesCountOnce}
 use Rattle.turn_client_runs.specs.Replies.{CountsOnce}
-use Rattle.turn_client_runs.specs.Run.{state_behind}
 use Rattle.turn_client_runs.specs.Cut.{IsQuiet}
 use Rattle.turn_client_api.specs.Streams.{poll_recv_step}
 use Rattle.turn_client_api.specs.Payloads.{Payload}
@@ -33,6 +32,7 @@ use Rattle.turn_client_runs.proofs.ComingLemmas.{turns-come}
 use Rattle.turn_client_runs.proofs.ReceivedRuns.{turns-received}
 use Rattle.turn_client_api.proofs.StandLemmas.{contains-has}
 use Rattle.turn_client_api.specs.Handled.{handled}
+use Rattle.turn_client_api.specs.Steps.{state_after_all}
 
 once : (s : State) (calls : List Call) → CountsOnce s calls
 once s calls = (
@@ -61,25 +61,25 @@ module _ (transport : TransportType) (local remote : SocketAddr) (config : Confi
 
   pub run-hears : HearsLetIn first calls
   run-hears = (
-    λ earlier middle later e. (λ payload. received payload (state_behind first earlier) middle, λ one there. tells-permitted one),
+    λ earlier middle later e. (λ payload. received payload (state_after_all first earlier) middle, λ one there. tells-permitted one),
     λ earlier call later one e there.
-        let has = contains-has one (handled call (state_behind first earlier)) there in
-        (turns-come call (state_behind first earlier) one has, turns-received earlier call first (first-hold transport local remote config seed) one has),
+        let has = contains-has one (handled call (state_after_all first earlier)) there in
+        (turns-come call (state_after_all first earlier) one has, turns-received earlier call first (first-hold transport local remote config seed) one has),
   )
 
   pub run-replies : RepliesCountOnce first calls
-  run-replies = (λ one there is. reply-ends one is, λ earlier middle later e. once (state_behind first earlier) middle)
+  run-replies = (λ one there is. reply-ends one is, λ earlier middle later e. once (state_after_all first earlier) middle)
 
   pub run-few : FewAreAnswered first calls
-  run-few earlier middle later e = (patient, few-answered (state_behind first earlier) middle patient, λ one there. challenge-counts one)
+  run-few earlier middle later e = (patient, few-answered (state_after_all first earlier) middle patient, λ one there. challenge-counts one)
     where
-      patient : IsPatient (state_behind first earlier)
+      patient : IsPatient (state_after_all first earlier)
       patient = holds-found IsPatient leaves-patient initial-patient transport local remote config seed earlier
 
   pub run-realm : RealmStays first calls
   run-realm earlier middle later e = (
-    realm-stays (state_behind first earlier) middle (state_behind (state_behind first earlier) middle) (reaches-behind (state_behind first earlier) middle),
-    turns-realm (state_behind first earlier) middle,
+    realm-stays (state_after_all first earlier) middle (state_after_all (state_after_all first earlier) middle) (reaches-behind (state_after_all first earlier) middle),
+    turns-realm (state_after_all first earlier) middle,
   )
 
   pub run-held : RealmIsAnswered first calls
@@ -89,11 +89,11 @@ module _ (transport : TransportType) (local remote : SocketAddr) (config : Confi
   run-short = streams-short transport local remote config seed calls
 
   pub run-cuts : CutsAgree first calls
-  run-cuts earlier middle later e = λ at pieces now tcp drained are. run-cut at pieces now (state_behind first earlier) (quiet now tcp drained) middle are
+  run-cuts earlier middle later e = λ at pieces now tcp drained are. run-cut at pieces now (state_after_all first earlier) (quiet now tcp drained) middle are
     where
-      apart : AreApart (state_behind first earlier)
+      apart : AreApart (state_after_all first earlier)
       apart = calls-keep AreApart call-apart earlier first (initial-apart transport local remote config seed)
 
-      quiet : (now : ℕ) → (state_behind first earlier).transport ≡ Tcp → poll_recv_step now (state_behind first earlier) ≡ (None, state_behind first earlier) → IsQuiet (state_behind first earlier)
+      quiet : (now : ℕ) → (state_after_all first earlier).transport ≡ Tcp → poll_recv_step now (state_after_all first earlier) ≡ (None, state_after_all first earlier) → IsQuiet (state_after_all first earlier)
       quiet now tcp drained =
-          subst (λ (p : Option Payload × State). IsQuiet p.1) drained (poll-quiet (state_behind first earlier) tcp apart now (ap (λ (p : Option Payload × State). p.0) drained))
+          subst (λ (p : Option Payload × State). IsQuiet p.1) drained (poll-quiet (state_after_all first earlier) tcp apart now (ap (λ (p : Option Payload × State). p.0) drained))

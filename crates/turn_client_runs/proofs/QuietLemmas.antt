@@ -7,7 +7,7 @@ use Rattle.turn_client_api.specs.State.{State, initial}
 use Rattle.turn_client_api.specs.Payloads.{Payload, Outcome}
 use Rattle.turn_client_api.specs.Streams.{is_ready, most_turns, poll_recv_step}
 use Rattle.turn_client_api.specs.Receive.{recv_step}
-use Rattle.turn_client_api.specs.Steps.{state_after}
+use Rattle.turn_client_api.specs.Steps.{state_after, state_after_all}
 use Rattle.turn_client_api.specs.declared.call.Call.{Call}
 use Rattle.turn_client_api.specs.LawsStreams.{AreApart}
 use Rattle.turn_client_api.proofs.Edits.{IgnoresAll, KeepsAllEdits, KeepsEdits}
@@ -18,7 +18,6 @@ use Rattle.turn_client_api.proofs.StreamCallLemmas.{call-apart, initial-apart}
 use Rattle.turn_client_api.proofs.StreamDrainLemmas.{turns-done}
 use Rattle.turn_client_api.proofs.StreamStepLemmas.{poll_recv-apart, recv-apart}
 use Rattle.turn_client_api.proofs.StreamWeightLemmas.{weight, weight-le}
-use Rattle.turn_client_runs.specs.Run.{state_behind}
 use Rattle.turn_client_runs.specs.Cut.{GetsQuiet, IsQuiet, and_then, fed_piece, polled}
 use Rattle.turn_client_runs.proofs.AllTurnsLemmas.{all-done, polled_out, polled_out-all}
 
@@ -113,13 +112,13 @@ pub initial-quiet : (local remote : SocketAddr) (config : Config) (seed : List �
 initial-quiet local remote config seed = record { transport = refl; apart = initial-apart Tcp local remote config seed; none_ready = refl }
 
 -- what each call keeps, all calls keep
-pub calls-keep : (P : State → Type 0) → ((call : Call) (s : State) → P s → P (state_after call s)) → (calls : List Call) (s : State) → P s → P (state_behind s calls)
+pub calls-keep : (P : State → Type 0) → ((call : Call) (s : State) → P s → P (state_after call s)) → (calls : List Call) (s : State) → P s → P (state_after_all s calls)
 calls-keep P step [] s h = h
 calls-keep P step (call ∷ calls) s h = calls-keep P step calls (state_after call s) (step call s h)
 
-pub run-quiet : (local remote : SocketAddr) (config : Config) (seed : List ℕ) (calls : List Call) → GetsQuiet (state_behind (initial Tcp local remote config seed) calls)
+pub run-quiet : (local remote : SocketAddr) (config : Config) (seed : List ℕ) (calls : List Call) → GetsQuiet (state_after_all (initial Tcp local remote config seed) calls)
 run-quiet local remote config seed calls =
     let first = initial Tcp local remote config seed in
-    poll-quiet (state_behind first calls)
+    poll-quiet (state_after_all first calls)
     (calls-keep (λ (t : State). t.transport ≡ Tcp) (λ call t h. calls-walk SameTransport all-edits any-streams call t ∙ h) calls first refl)
     (calls-keep AreApart call-apart calls first (initial-apart Tcp local remote config seed))

@@ -13,12 +13,11 @@ use Rattle.turn_client_api.specs.Payloads.{Outcome, Handled, Ignored, channel_se
 use Rattle.turn_client_api.specs.Handled.{Turn, handled, made_of}
 use Rattle.turn_client_api.specs.LawsHandled.{DiffersInStreams, DoesTurns, TakesTurns, TurnsLead}
 use Rattle.turn_client_api.specs.LawsSteps.{KeepsRealm}
-use Rattle.turn_client_api.specs.Steps.{state_after}
+use Rattle.turn_client_api.specs.Steps.{state_after, state_after_all}
 use Rattle.turn_client_api.proofs.HasLemmas.{Has, has-append}
 use Rattle.turn_client_api.proofs.PhasesGoOn.{bind-keeps, call-keeps, keeps-same, message-keeps}
 use Rattle.turn_client_api.proofs.StandLemmas.{contains-has}
 use Rattle.turn_client_api.proofs.TurnChainLemmas.{calls-do}
-use Rattle.turn_client_runs.specs.Run.{state_behind}
 use Rattle.turn_client_runs.specs.Turns.{handled_in}
 use Rattle.turn_client_runs.proofs.TurnsOfRuns.{takes-or}
 
@@ -97,25 +96,25 @@ call-turn call s one there = by (takes-or call)
     by (inl takes) = does (calls-do call s takes)
     by (inr none) = absurd (rw (none s) at there)
 
-behind-realm : (s : State) (calls : List Call) → KeepsRealm s (state_behind s calls)
+behind-realm : (s : State) (calls : List Call) → KeepsRealm s (state_after_all s calls)
 behind-realm s [] = same-realm s
-behind-realm s (call ∷ calls) = then-realm s (state_after call s) (state_behind (state_after call s) calls) (call-keeps call s).2 (behind-realm (state_after call s) calls)
+behind-realm s (call ∷ calls) = then-realm s (state_after call s) (state_after_all (state_after call s) calls) (call-keeps call s).2 (behind-realm (state_after call s) calls)
 
-run-turn : (s : State) (calls : List Call) (one : Turn) → Has one (handled_in s calls) → Stays s (state_behind s calls) one
+run-turn : (s : State) (calls : List Call) (one : Turn) → Has one (handled_in s calls) → Stays s (state_after_all s calls) one
 run-turn s [] one there = absurd there
 run-turn s (call ∷ calls) one there = by (λ later. run-turn (state_after call s) calls one later) (has-append one (handled call s) (handled_in (state_after call s) calls) there)
   where
     t : State
     t = state_after call s
 
-    by : (Has one (handled_in t calls) → Stays t (state_behind t calls) one) → Has one (handled call s) ⊎ Has one (handled_in t calls) → Stays s (state_behind t calls) one
-    by more (inl here) = let now = call-turn call s one here in (now.0, then-realm (made_of one).1 t (state_behind t calls) now.1 (behind-realm t calls))
+    by : (Has one (handled_in t calls) → Stays t (state_after_all t calls) one) → Has one (handled call s) ⊎ Has one (handled_in t calls) → Stays s (state_after_all t calls) one
+    by more (inl here) = let now = call-turn call s one here in (now.0, then-realm (made_of one).1 t (state_after_all t calls) now.1 (behind-realm t calls))
     by more (inr later) = let rest = more later in (then-realm s t one.before (call-keeps call s).2 rest.0, rest.1)
 
-pub turns-realm : (s : State) (calls : List Call) (one : Turn) → Contains (handled_in s calls) one → KeepsRealm s one.before × KeepsRealm one.before (state_behind s calls)
+pub turns-realm : (s : State) (calls : List Call) (one : Turn) → Contains (handled_in s calls) one → KeepsRealm s one.before × KeepsRealm one.before (state_after_all s calls)
 turns-realm s calls one there =
     let stays = run-turn s calls one (contains-has one (handled_in s calls) there) in
-    (stays.0, then-realm one.before (made_of one).1 (state_behind s calls) (turn-realm one) stays.1)
+    (stays.0, then-realm one.before (made_of one).1 (state_after_all s calls) (turn-realm one) stays.1)
 
-pub turns-after : (s : State) (calls : List Call) (one : Turn) → Contains (handled_in s calls) one → KeepsRealm (made_of one).1 (state_behind s calls)
+pub turns-after : (s : State) (calls : List Call) (one : Turn) → Contains (handled_in s calls) one → KeepsRealm (made_of one).1 (state_after_all s calls)
 turns-after s calls one there = (run-turn s calls one (contains-has one (handled_in s calls) there)).1

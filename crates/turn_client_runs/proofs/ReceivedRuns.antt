@@ -18,14 +18,13 @@ use Rattle.turn_client_api.specs.Handled.{Turn, handled, recv_turns, stream_turn
 use Rattle.turn_client_api.specs.LawsHandled.{TakesTurns}
 use Rattle.turn_client_api.specs.Payloads.{Outcome, Ignored, channel_sent, datagram_step, is_channel_frame, is_message, message_step}
 use Rattle.turn_client_api.specs.Receive.{is_from_server, recv_step, stream_step}
-use Rattle.turn_client_api.specs.Steps.{state_after}
+use Rattle.turn_client_api.specs.Steps.{state_after, state_after_all}
 use Rattle.turn_client_api.specs.Streams.{stream_at}
 use Rattle.turn_client_api.proofs.AddressLemmas.{same_address-self, same_address-true}
 use Rattle.turn_client_api.proofs.HasLemmas.{Has, has-found}
 use Rattle.turn_client_api.proofs.StreamCallLemmas.{IsOpened, others-opened}
 use Rattle.turn_client_api.proofs.StreamMessageLemmas.{message-same}
 use Rattle.turn_client_runs.specs.Received.{IsReceived, piece_for, pieces_for, unless_broken}
-use Rattle.turn_client_runs.specs.Run.{state_behind}
 use Rattle.turn_client_runs.proofs.CallGrants.{quiet}
 use Rattle.turn_client_runs.proofs.ReceivedLemmas.{AllKnown, Goes, opened-known, poll-known, stream-known}
 
@@ -209,30 +208,30 @@ module _ (all more : SocketAddr → List ℕ) where
 same-held : (all more : SocketAddr → List ℕ) (xs : List Stream) → ((a : SocketAddr) → all a ≡ more a) → Held all xs → Held more xs
 same-held all more xs e held = still-held all more xs (λ a. []) (λ a. sym (e a) ∙ sym (append-nil (all a))) (λ a. refl) held
 
-run-held : (calls : List Call) (all : SocketAddr → List ℕ) (s : State) → Held all s.streams → Held (λ a. all a ++ pieces_for a calls s) (state_behind s calls).streams
+run-held : (calls : List Call) (all : SocketAddr → List ℕ) (s : State) → Held all s.streams → Held (λ a. all a ++ pieces_for a calls s) (state_after_all s calls).streams
 run-held [] all s held = same-held all (λ a. all a ++ []) s.streams (λ a. sym (append-nil (all a))) held
 run-held (call ∷ calls) all s held =
     let more : SocketAddr → List ℕ = λ a. all a ++ piece_for a call s in
     let t = state_after call s in
-    same-held (λ a. more a ++ pieces_for a calls t) (λ a. all a ++ pieces_for a (call ∷ calls) s) (state_behind t calls).streams
+    same-held (λ a. more a ++ pieces_for a calls t) (λ a. all a ++ pieces_for a (call ∷ calls) s) (state_after_all t calls).streams
     (λ a. append_assoc (all a) (piece_for a call s) (pieces_for a calls t))
     (run-held calls more t (call-steps all more call s (λ a. refl) held).1)
 
-pieces-then : (a : SocketAddr) (calls : List Call) (call : Call) (s : State) → pieces_for a (calls ++ call ∷ []) s ≡ pieces_for a calls s ++ piece_for a call (state_behind s calls)
+pieces-then : (a : SocketAddr) (calls : List Call) (call : Call) (s : State) → pieces_for a (calls ++ call ∷ []) s ≡ pieces_for a calls s ++ piece_for a call (state_after_all s calls)
 pieces-then a [] call s = append-nil (piece_for a call s)
 pieces-then a (x ∷ calls) call s =
     ap (λ (l : List ℕ). piece_for a x s ++ l) (pieces-then a calls call (state_after x s))
-    ∙ sym (append_assoc (piece_for a x s) (pieces_for a calls (state_after x s)) (piece_for a call (state_behind (state_after x s) calls)))
+    ∙ sym (append_assoc (piece_for a x s) (pieces_for a calls (state_after x s)) (piece_for a call (state_after_all (state_after x s) calls)))
 
 -- no stream holds anything at first
 abbrev pub HoldNothing : State → Type 0
 HoldNothing s = (x : Stream) → Has x s.streams → x.bytes ≡ []
 
-pub turns-received : (earlier : List Call) (call : Call) (first : State) → HoldNothing first → (one : Turn) → Has one (handled call (state_behind first earlier)) → IsReceived (earlier ++ call ∷ []) first one
+pub turns-received : (earlier : List Call) (call : Call) (first : State) → HoldNothing first → (one : Turn) → Has one (handled call (state_after_all first earlier)) → IsReceived (earlier ++ call ∷ []) first one
 turns-received earlier call first empty one there = by one.stream refl
   where
     s : State
-    s = state_behind first earlier
+    s = state_after_all first earlier
 
     before : Held (λ a. pieces_for a earlier first) s.streams
     before = run-held earlier (λ a. []) first (λ x h. ([], sym (empty x h)))
@@ -248,14 +247,14 @@ turns-received earlier call first empty one there = by one.stream refl
     by (Some stream) e = let (front, is) = known stream e in (front, pieces-then stream.local earlier call first ∙ is)
 
 -- what a stream holds after a poll ends what was received for it
-pub streams-received : (earlier : List Call) (now : ℕ) (first : State) → HoldNothing first → (x : Stream) → Has x (state_after (PollRecv now) (state_behind first earlier)).streams
+pub streams-received : (earlier : List Call) (now : ℕ) (first : State) → HoldNothing first → (x : Stream) → Has x (state_after (PollRecv now) (state_after_all first earlier)).streams
     → (before : List ℕ) × (pieces_for x.local earlier first ≡ before ++ x.bytes)
 streams-received earlier now first empty x there =
     let (before, is) = known x there in
     (before, sym (append-nil (pieces_for x.local earlier first)) ∙ is)
   where
     s : State
-    s = state_behind first earlier
+    s = state_after_all first earlier
 
     after : SocketAddr → List ℕ
     after a = pieces_for a earlier first ++ piece_for a (PollRecv now) s

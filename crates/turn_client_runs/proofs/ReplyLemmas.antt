@@ -11,7 +11,7 @@ use Rattle.turn_client_api.specs.Payloads.{Outcome, is_message, message_step}
 use Rattle.turn_client_api.specs.Handled.{Turn, made_of}
 use Rattle.turn_client_api.specs.LawsHandled.{TurnsLead}
 use Rattle.turn_client_api.specs.LawsReplies.{IsAccepted, IsAwaited, IsDrawn, IsNotAwaited}
-use Rattle.turn_client_api.specs.Steps.{state_after}
+use Rattle.turn_client_api.specs.Steps.{state_after, state_after_all}
 use Rattle.turn_client_api.specs.declared.call.Call.{Call}
 use Rattle.turn_client_api.proofs.AcceptedReplyLemmas.{accepted-gone, accepted-outstanding, bind-ended, bind-outstanding}
 use Rattle.turn_client_api.proofs.BoundLemmas.{found-local}
@@ -20,7 +20,6 @@ use Rattle.turn_client_api.proofs.NewIdCallLemmas.{draws-IsBringing, leaves-draw
 use Rattle.turn_client_api.proofs.TurnBringLemmas.{IsBrought, lead-brings}
 use Rattle.turn_client_api.proofs.TurnLemmas.{brought}
 use Rattle.turn_client_runs.specs.Replies.{AreReplies, EndsItsRequest, IsBindReply, IsMadeAmong, IsMadeBetween, IsMadeIn, IsMadeSince, IsMadeUntil, IsReplyTurn, MakesInTurn}
-use Rattle.turn_client_runs.specs.Run.{state_behind}
 use Rattle.turn_client_runs.proofs.MadeLemmas.{control-made, waiting-made}
 use Rattle.turn_client_runs.proofs.TurnsOfRuns.{handled-leads, has-among, leads-from, leads-to}
 
@@ -84,7 +83,7 @@ module _ (id : ℕ) where
   is_out t = is_outstanding id t.transactions
 
   -- an ID that is outstanding was so before, or a call makes a request under it
-  pub made-in : (s : State) (calls : List Call) → is_outstanding id (state_behind s calls).transactions ≡ true → (is_outstanding id s.transactions ≡ true) ⊎ IsMadeIn id s calls
+  pub made-in : (s : State) (calls : List Call) → is_outstanding id (state_after_all s calls).transactions ≡ true → (is_outstanding id s.transactions ≡ true) ⊎ IsMadeIn id s calls
   made-in s [] h = inl h
   made-in s (call ∷ calls) h = by (made-in (state_after call s) calls h)
     where
@@ -165,7 +164,7 @@ made-until s call calls last one other front later before rest replies e f = by 
     id = id_of one.bytes
 
     u : State
-    u = state_behind (state_after call s) calls
+    u = state_after_all (state_after call s) calls
 
     lead : TurnsLead before u other.before
     lead = leads-to before rest other u (state_after last u) (handled-leads last u before rest other f)

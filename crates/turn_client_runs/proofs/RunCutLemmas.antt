@@ -9,16 +9,15 @@ use Rattle.turn_client_api.specs.declared.call.Call.{Call}
 use Rattle.turn_client_api.specs.Payloads.{Payload}
 use Rattle.turn_client_api.specs.Streams.{most_turns, poll_recv_step}
 use Rattle.turn_client_api.specs.Receive.{recv_step}
-use Rattle.turn_client_api.specs.Steps.{state_after}
+use Rattle.turn_client_api.specs.Steps.{state_after, state_after_all}
 use Rattle.turn_client_api.proofs.StreamFewerLemmas.{IsLessThan, turns-less}
 use Rattle.turn_client_api.proofs.StreamWeightLemmas.{weight, weight-le}
-use Rattle.turn_client_runs.specs.Run.{state_behind}
 use Rattle.turn_client_runs.specs.Cut.{AreNonempty, ArePieces, ArePolls, IsQuiet, IsSameInRuns, and_then, fed_pieces, given_by, given_in, given_in_run, joined, polled}
 use Rattle.turn_client_runs.proofs.PiecesLemmas.{any-cut}
 
 -- what calls return, and the state after them
 abbrev run_from : State → List Call → List Payload × State
-run_from s calls = (given_in_run s calls, state_behind s calls)
+run_from s calls = (given_in_run s calls, state_after_all s calls)
 
 -- ---- polls
 
@@ -34,7 +33,7 @@ polls-same (call ∷ calls) (suc n) now s (e, ends) some =
     Later = (t : State) → ArePolls now calls t → weight t.streams < n → run_from t calls ≡ polled n now t
 
     by : (r : Option Payload × State) → MatchOption r.0 (calls ≡ []) (λ payload. ArePolls now calls r.1) → IsLessThan (weight s.streams) r → Later
-        → (option_to_list r.0 ++ given_in_run r.1 calls, state_behind r.1 calls) ≡ and_then (polled n now) r
+        → (option_to_list r.0 ++ given_in_run r.1 calls, state_after_all r.1 calls) ≡ and_then (polled n now) r
     by (None, t) over less later = rw over refl
     by (Some payload, t) is less later =
         let lighter : weight t.streams < weight s.streams = less refl in
@@ -42,12 +41,12 @@ polls-same (call ∷ calls) (suc n) now s (e, ends) some =
 
 -- ---- calls in sequence
 
-run-append : (first more : List Call) (s : State) → run_from s (first ++ more) ≡ (given_in_run s first ++ given_in_run (state_behind s first) more, state_behind (state_behind s first) more)
+run-append : (first more : List Call) (s : State) → run_from s (first ++ more) ≡ (given_in_run s first ++ given_in_run (state_after_all s first) more, state_after_all (state_after_all s first) more)
 run-append [] more s = refl
 run-append (call ∷ calls) more s =
     let t = state_after call s in
     ap (λ (p : List Payload × State). (given_in call s ++ p.0, p.1)) (run-append calls more t)
-    ∙ ap (λ (l : List Payload). (l, state_behind (state_behind t calls) more)) (sym (append_assoc (given_in call s) (given_in_run t calls) (given_in_run (state_behind t calls) more)))
+    ∙ ap (λ (l : List Payload). (l, state_after_all (state_after_all t calls) more)) (sym (append_assoc (given_in call s) (given_in_run t calls) (given_in_run (state_after_all t calls) more)))
 
 pieces-run : (a : SocketAddr) (pieces : List (List ℕ)) (now : ℕ) (calls : List Call) (s : State) → ArePieces a pieces now calls s → run_from s calls ≡ fed_pieces a pieces now s
 unfolding fed_pieces
@@ -57,7 +56,7 @@ pieces-run a (piece ∷ pieces) now calls s (polls, later, e, some, are, more) =
     let given = given_by came.0 in
     let most = weight-le came.1.streams in
     let polls-are = polls-same polls (most_turns came.1 + 1) now came.1 are (omega (arith, most)) in
-    let u = state_behind came.1 polls in
+    let u = state_after_all came.1 polls in
     let rest = pieces-run a pieces now later u more in
     subst (λ (l : List Call). run_from s l ≡ fed_pieces a (piece ∷ pieces) now s) (sym e)
     (ap (λ (p : List Payload × State). (given ++ p.0, p.1)) (run-append polls later came.1)
@@ -71,7 +70,7 @@ pieces-run a (piece ∷ pieces) now calls s (polls, later, e, some, are, more) =
 pieces-some : (a : SocketAddr) (pieces : List (List ℕ)) (now : ℕ) (calls : List Call) (s : State) → ArePieces a pieces now calls s → AreNonempty pieces
 pieces-some a [] now calls s over = All-nil (λ (l : List ℕ). l ≢ [])
 pieces-some a (piece ∷ pieces) now calls s (polls, later, e, some, are, more) =
-    All-cons (λ (l : List ℕ). l ≢ []) piece pieces some (pieces-some a pieces now later (state_behind (recv_step Tcp s.remote a piece now s).1 polls) more)
+    All-cons (λ (l : List ℕ). l ≢ []) piece pieces some (pieces-some a pieces now later (state_after_all (recv_step Tcp s.remote a piece now s).1 polls) more)
 
 pub run-cut : (a : SocketAddr) (pieces : List (List ℕ)) (now : ℕ) (s : State) → IsQuiet s → IsSameInRuns a pieces now s
 run-cut a pieces now s quiet calls are =

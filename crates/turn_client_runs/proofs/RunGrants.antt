@@ -25,7 +25,7 @@ use Rattle.turn_client_api.specs.LawsGone.{GivesBack}
 use Rattle.turn_client_api.specs.LawsNumbers.{HasDistinctNumbers}
 use Rattle.turn_client_api.specs.LawsOrder.{IsSteady}
 use Rattle.turn_client_api.specs.LawsStates.{HasGrantsAsked}
-use Rattle.turn_client_api.specs.Steps.{state_after}
+use Rattle.turn_client_api.specs.Steps.{state_after, state_after_all}
 use Rattle.turn_client_api.proofs.AllocateFamilies.{initial-AllocatesInOrder, leaves-AllocatesInOrder}
 use Rattle.turn_client_api.proofs.DistinctNumbers.{initial-numbers, leaves-apart}
 use Rattle.turn_client_api.proofs.HasLemmas.{Has, has-right}
@@ -33,7 +33,6 @@ use Rattle.turn_client_api.proofs.ListedGrants.{initial-HasGrantsAsked, leaves-H
 use Rattle.turn_client_api.proofs.SendOrderLemmas.{initial-steady, leaves-steadies}
 use Rattle.turn_client_api.proofs.StandLemmas.{contains-has, covers-has, covers-stood}
 use Rattle.turn_client_runs.specs.Granted.{GrantsAddress, HasReply, IsAllocated, IsAnsweredIn, IsGivenBack, IsGivenIn, IsGranted, IsGranting, IsRelayed, HoldsThrough}
-use Rattle.turn_client_runs.specs.Run.{state_behind}
 use Rattle.turn_client_runs.proofs.AskedFamilies.{asks-family, turns-signed}
 use Rattle.turn_client_runs.proofs.AskedLemmas.{was-asked}
 use Rattle.turn_client_runs.proofs.AskedPeers.{HasAskedPeers, turns-ask-peers}
@@ -208,7 +207,7 @@ module _ (first : State) (unlisted : first.listed ≡ []) (hold : HoldNothing fi
   answered-in Did answers P is = by is.did
     where
       s : State
-      s = state_behind first is.earlier
+      s = state_after_all first is.earlier
 
       among : (one : Turn) (front back : List Turn) → handled is.call s ≡ front ++ one ∷ back → Has one (handled is.call s)
       among one front back e = subst (Has one) (sym e) (has-right one front (one ∷ back) (inl refl))
@@ -238,21 +237,21 @@ module _ (first : State) (empty : first.grants ≡ []) (unlisted : first.listed 
   nothing : (g : Grant) → Contains first.grants g → ⊥
   nothing g there = contains-has g [] (subst (λ (grants : List Grant). Contains grants g) empty there)
 
-  run-allocates : (relayed : SocketAddr) (calls : List Call) → IsRelayed relayed (state_behind first calls) → IsAllocated relayed calls first
+  run-allocates : (relayed : SocketAddr) (calls : List Call) → IsRelayed relayed (state_after_all first calls) → IsAllocated relayed calls first
   run-allocates relayed calls h =
       answered-in first unlisted hold calls (GrantsAddress relayed) (address-answers relayed) (IsRelayed relayed)
       (run-did (IsRelayed relayed) (IsDoneFor (GrantsAddress relayed)) Keeps call-keeps (call-allocates relayed) calls first keeps (λ is. nothing (Allocation is.0) is.1) h)
 
-  run-caused : (g : Grant) → IsStanding g → (calls : List Call) → Stood (state_behind first calls) g → IsDoneLast (Causes g) (λ s. Stood s g) calls first
+  run-caused : (g : Grant) → IsStanding g → (calls : List Call) → Stood (state_after_all first calls) g → IsDoneLast (Causes g) (λ s. Stood s g) calls first
   run-caused g stands calls h = run-did (λ s. Stood s g) (Causes g) Keeps call-keeps (call-grants g stands) calls first keeps (λ was. nothing was.0 was.1) h
 
   -- the last cause was an input, or a `delete`
-  run-turned : (g : Grant) (calls : List Call) (is : IsDoneLast (Causes g) (λ s. Stood s g) calls first) → IsDoneFor (IsGranting g) is.call (state_behind first is.earlier) → IsGranted g calls first
+  run-turned : (g : Grant) (calls : List Call) (is : IsDoneLast (Causes g) (λ s. Stood s g) calls first) → IsDoneFor (IsGranting g) is.call (state_after_all first is.earlier) → IsGranted g calls first
   run-turned g calls is done =
       answered-in first unlisted hold calls (IsGranting g) (granting-answers g) (λ s. Stood s g)
       (record { earlier = is.earlier; call = is.call; later = is.later; split = is.split; did = done; holds = is.holds })
 
-  run-gave : (a : Relay) (calls : List Call) (is : IsDoneLast (Causes (Allocation a)) (λ s. Stood s (Allocation a)) calls first) → IsAcceptedEnd (Allocation a) is.call (state_behind first is.earlier) → IsGivenBack a calls first
+  run-gave : (a : Relay) (calls : List Call) (is : IsDoneLast (Causes (Allocation a)) (λ s. Stood s (Allocation a)) calls first) → IsAcceptedEnd (Allocation a) is.call (state_after_all first is.earlier) → IsGivenBack a calls first
   run-gave a calls is ((b, now, what, how, ends, was), accepted) = record {
     earlier = is.earlier;
     now = now;
@@ -260,8 +259,8 @@ module _ (first : State) (empty : first.grants ≡ []) (unlisted : first.listed 
     split = is.split ∙ ap (λ (c : Call). is.earlier ++ c ∷ is.later) how;
     accepted = accepted now how;
     ends = ap (λ (x : Relay). x.expiry) same ∙ ends;
-    allocated = run-allocates a.relayed is.earlier (subst (λ (x : Relay). IsRelayed x.relayed (state_behind first is.earlier)) (sym same) was);
-    stands = subst (λ (c : Call). HoldsThrough (λ s. Stood s (Allocation a)) is.later (state_after c (state_behind first is.earlier))) how is.holds;
+    allocated = run-allocates a.relayed is.earlier (subst (λ (x : Relay). IsRelayed x.relayed (state_after_all first is.earlier)) (sym same) was);
+    stands = subst (λ (c : Call). HoldsThrough (λ s. Stood s (Allocation a)) is.later (state_after c (state_after_all first is.earlier))) how is.holds;
   }
     where
       same : a ≡ b
@@ -270,20 +269,20 @@ module _ (first : State) (empty : first.grants ≡ []) (unlisted : first.listed 
   no-end : (g : Grant) (call : Call) (s : State) → ((a : Relay) → g ≡ Allocation a → ⊥) → IsAcceptedEnd g call s → ⊥
   no-end g call s other ((a, now, what, how, ends, was), accepted) = other a what
 
-  run-grants : (calls : List Call) (g : Grant) → IsStanding g → Contains (state_behind first calls).grants g → HasReply g calls first
-  run-grants calls g stands there = by g (run-caused g stands calls (covers-stood (state_behind first calls) g (covers-has (state_behind first calls).grants g (contains-has g (state_behind first calls).grants there) stands)))
+  run-grants : (calls : List Call) (g : Grant) → IsStanding g → Contains (state_after_all first calls).grants g → HasReply g calls first
+  run-grants calls g stands there = by g (run-caused g stands calls (covers-stood (state_after_all first calls) g (covers-has (state_after_all first calls).grants g (contains-has g (state_after_all first calls).grants there) stands)))
     where
       turned : (h : Grant) (is : IsDoneLast (Causes h) (λ s. Stood s h) calls first) → ((a : Relay) → h ≡ Allocation a → ⊥) → IsGranted h calls first
       turned h is other = at is.did
         where
-          at : Causes h is.call (state_behind first is.earlier) → IsGranted h calls first
-          at (inl end) = absurd (no-end h is.call (state_behind first is.earlier) other end)
+          at : Causes h is.call (state_after_all first is.earlier) → IsGranted h calls first
+          at (inl end) = absurd (no-end h is.call (state_after_all first is.earlier) other end)
           at (inr done) = run-turned h calls is done
 
       by : (h : Grant) → IsDoneLast (Causes h) (λ s. Stood s h) calls first → HasReply h calls first
       by (Allocation a) is = at is.did
         where
-          at : Causes (Allocation a) is.call (state_behind first is.earlier) → HasReply (Allocation a) calls first
+          at : Causes (Allocation a) is.call (state_after_all first is.earlier) → HasReply (Allocation a) calls first
           at (inl end) = inr (run-gave a calls is end)
           at (inr done) = inl (run-turned (Allocation a) calls is done)
       by (Permission ip progress) is = turned (Permission ip progress) is (λ a e. cc)
@@ -297,6 +296,6 @@ first-hold Udp local remote config seed x absent = absurd absent
 first-hold Tcp local remote config seed x (inl e) = rw e refl
 first-hold Tcp local remote config seed x (inr absent) = absurd absent
 
-pub grants-have-replies : (transport : TransportType) (local remote : SocketAddr) (config : Config) (seed : List ℕ) (calls : List Call) (g : Grant) → IsStanding g → Contains (state_behind (initial transport local remote config seed) calls).grants g → HasReply g calls (initial transport local remote config seed)
+pub grants-have-replies : (transport : TransportType) (local remote : SocketAddr) (config : Config) (seed : List ℕ) (calls : List Call) (g : Grant) → IsStanding g → Contains (state_after_all (initial transport local remote config seed) calls).grants g → HasReply g calls (initial transport local remote config seed)
 grants-have-replies transport local remote config seed =
     run-grants (initial transport local remote config seed) refl refl (first-hold transport local remote config seed) (initial-HasGrantsAsked transport local remote config seed, initial-numbers transport local remote config seed, initial-AllocatesInOrder transport local remote config seed, initial-steady transport local remote config seed, refl)

@@ -1,9 +1,8 @@
 -- What holds after a run held from the first on, or one of its calls caused it, and it holds since.
 use Rattle.std.proofs.Common.{◌≡◌, ◌⊎◌, List, [], ◌∷◌, ◌++◌, refl, ap, inl, inr}
 use Rattle.turn_client_api.specs.State.{State}
-use Rattle.turn_client_api.specs.Steps.{state_after}
+use Rattle.turn_client_api.specs.Steps.{state_after, state_after_all}
 use Rattle.turn_client_api.specs.declared.call.Call.{Call}
-use Rattle.turn_client_runs.specs.Run.{state_behind}
 use Rattle.turn_client_runs.specs.Granted.{HoldsThrough}
 
 -- one of these calls did it, and the claim holds after it and after each later one
@@ -12,19 +11,19 @@ pub record IsDoneLast (Did : Call → State → Type 0) (P : State → Type 0) (
   pub call : Call
   pub later : List Call
   pub split : calls ≡ earlier ++ call ∷ later
-  pub did : Did call (state_behind first earlier)
-  pub holds : HoldsThrough P later (state_after call (state_behind first earlier))
+  pub did : Did call (state_after_all first earlier)
+  pub holds : HoldsThrough P later (state_after call (state_after_all first earlier))
 
 module _ (P : State → Type 0) (Did : Call → State → Type 0) (Inv : State → Type 0) (kept : (call : Call) (s : State) → Inv s → Inv (state_after call s)) (each : (call : Call) (s : State) → Inv s → P (state_after call s) → P s ⊎ Did call s) where
   pub holds-first : (calls : List Call) (s : State) → HoldsThrough P calls s → P s
   holds-first [] s h = h
   holds-first (call ∷ calls) s h = h.0
 
-  pub inv-behind : (calls : List Call) (s : State) → Inv s → Inv (state_behind s calls)
+  pub inv-behind : (calls : List Call) (s : State) → Inv s → Inv (state_after_all s calls)
   inv-behind [] s h = h
   inv-behind (call ∷ calls) s h = inv-behind calls (state_after call s) (kept call s h)
 
-  pub run-does : (calls : List Call) (first : State) → Inv first → P (state_behind first calls) → HoldsThrough P calls first ⊎ IsDoneLast Did P calls first
+  pub run-does : (calls : List Call) (first : State) → Inv first → P (state_after_all first calls) → HoldsThrough P calls first ⊎ IsDoneLast Did P calls first
   run-does [] first inv h = inl h
   run-does (call ∷ calls) first inv h = by (run-does calls (state_after call first) (kept call first inv) h)
     where
@@ -44,7 +43,7 @@ module _ (P : State → Type 0) (Did : Call → State → Type 0) (Inv : State �
       })
 
   -- if it does not hold at first
-  pub run-did : (calls : List Call) (first : State) → Inv first → (P first → ⊥) → P (state_behind first calls) → IsDoneLast Did P calls first
+  pub run-did : (calls : List Call) (first : State) → Inv first → (P first → ⊥) → P (state_after_all first calls) → IsDoneLast Did P calls first
   run-did calls first inv none h = by (run-does calls first inv h)
     where
       by : HoldsThrough P calls first ⊎ IsDoneLast Did P calls first → IsDoneLast Did P calls first

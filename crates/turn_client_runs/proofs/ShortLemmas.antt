@@ -19,11 +19,11 @@ use Rattle.turn_client_api.proofs.StreamCallLemmas.{call-apart, initial-apart}
 use Rattle.turn_client_api.proofs.StreamDrainLemmas.{poll_recv-drained}
 use Rattle.turn_client_api.proofs.StreamShortLemmas.{drained-short}
 use Rattle.turn_client_runs.specs.Received.{pieces_for}
-use Rattle.turn_client_runs.specs.Run.{state_behind}
 use Rattle.turn_client_runs.specs.Short.{StreamsAreShort}
 use Rattle.turn_client_runs.proofs.QuietLemmas.{calls-keep}
 use Rattle.turn_client_runs.proofs.ReceivedRuns.{streams-received}
 use Rattle.turn_client_runs.proofs.RunGrants.{first-hold}
+use Rattle.turn_client_api.specs.Steps.{state_after_all}
 
 -- what ends a list of bytes are bytes
 ends-bytes : (before bytes : List ℕ) → All (λ b. b < 256) (before ++ bytes) → All (λ b. b < 256) bytes
@@ -37,7 +37,7 @@ streams-short transport local remote config seed calls earlier now later e none 
     first = initial transport local remote config seed
 
     s : State
-    s = state_behind first earlier
+    s = state_after_all first earlier
 
     t : State
     t = (poll_recv_step now s).1

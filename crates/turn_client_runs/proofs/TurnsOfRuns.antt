@@ -4,14 +4,13 @@ use Rattle.std.proofs.lemmas.List.Elements.{Contains-append_left, Contains-appen
 use Rattle.turn_client_api.specs.State.{State}
 use Rattle.turn_client_api.specs.Handled.{Turn, handled, made_of}
 use Rattle.turn_client_api.specs.LawsHandled.{DoesTurns, IsDoneBy, TakesTurns, TurnsLead}
-use Rattle.turn_client_api.specs.Steps.{state_after}
+use Rattle.turn_client_api.specs.Steps.{state_after, state_after_all}
 use Rattle.turn_client_api.specs.declared.call.Call.{Call}
 use Rattle.turn_client_api.specs.declared.call.Call.TheVariants.{Recv, PollRecv}
 use Rattle.turn_client_api.proofs.HasLemmas.{Has}
 use Rattle.turn_client_api.proofs.StandLemmas.{contains-has, has-contains}
 use Rattle.turn_client_api.proofs.TurnBringLemmas.{IsBrought, lead-brings}
 use Rattle.turn_client_api.proofs.TurnChainLemmas.{calls-do}
-use Rattle.turn_client_runs.specs.Run.{state_behind}
 use Rattle.turn_client_runs.specs.Turns.{IsAmong, handled_in}
 
 -- ---- one of some inputs did it
@@ -71,7 +70,7 @@ leads-from (other ∷ front) later one s t (first, lead) = leads-from front late
 
 -- what holds after a run did so before it, or an input of it caused it
 module _ (P : State → Type 0) (Did : Turn → Type 0) (each : (call : Call) (s : State) → P (state_after call s) → P s ⊎ IsDoneBy Did call s) where
-  pub run-brings : (s : State) (calls : List Call) → P (state_behind s calls) → P s ⊎ IsAmong Did (handled_in s calls)
+  pub run-brings : (s : State) (calls : List Call) → P (state_after_all s calls) → P s ⊎ IsAmong Did (handled_in s calls)
   run-brings s [] h = inl h
   run-brings s (call ∷ calls) h = by (run-brings (state_after call s) calls h)
     where

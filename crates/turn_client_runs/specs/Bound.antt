@@ -8,9 +8,8 @@ use Rattle.turn_client_api.specs.LawsHandled.{IsBoundAt}
 use Rattle.turn_client_api.specs.LawsReplies.{IsNotAwaited}
 use Rattle.turn_client_api.specs.declared.call.Call.{Call}
 use Rattle.turn_client_api.specs.declared.grant.DataConnection.{DataConnection}
-use Rattle.turn_client_api.specs.Steps.{state_after}
+use Rattle.turn_client_api.specs.Steps.{state_after, state_after_all}
 use Rattle.turn_client_runs.specs.Granted.{HoldsThrough}
-use Rattle.turn_client_runs.specs.Run.{state_behind}
 use Rattle.turn_client_runs.specs.Turns.{IsAmong, handled_in}
 
 -- its request is no longer outstanding
@@ -34,23 +33,23 @@ pub record IsBoundSince (local peer : SocketAddr) (calls : List Call) (first : S
   pub call : Call
   pub later : List Call
   pub split : calls ≡ earlier ++ call ∷ later
-  pub success : HasSuccess local peer (handled call (state_behind first earlier))
-  pub since : HoldsThrough (IsBoundAt local peer) later (state_after call (state_behind first earlier))
+  pub success : HasSuccess local peer (handled call (state_after_all first earlier))
+  pub since : HoldsThrough (IsBoundAt local peer) later (state_after call (state_after_all first earlier))
 
 -- each stream that is bound after the calls was bound by one of them, and is bound since
 abbrev pub BoundStreamsHaveSuccess : State → List Call → Type 0
 BoundStreamsHaveSuccess s calls =
-    (local peer : SocketAddr) → IsBoundAt local peer (state_behind s calls) → IsBoundSince local peer calls s
+    (local peer : SocketAddr) → IsBoundAt local peer (state_after_all s calls) → IsBoundSince local peer calls s
 
 -- each stream that is bound when an input is processed is so since an earlier call, or an earlier input of
 -- the same call bound it
 abbrev pub StreamsAreBoundBefore : State → List Call → Type 0
 StreamsAreBoundBefore s calls =
     (earlier : List Call) (call : Call) (later : List Call) (front back : List Turn) (one : Turn) (local peer : SocketAddr)
-    → calls ≡ earlier ++ call ∷ later → handled call (state_behind s earlier) ≡ front ++ one ∷ back → IsBoundAt local peer one.before
+    → calls ≡ earlier ++ call ∷ later → handled call (state_after_all s earlier) ≡ front ++ one ∷ back → IsBoundAt local peer one.before
     → IsBoundSince local peer earlier s ⊎ HasSuccess local peer front
 
 -- each data connection that is bound after the calls has its success among the inputs that they processed
 abbrev pub BoundConnectionsHaveSuccess : State → List Call → Type 0
 BoundConnectionsHaveSuccess s calls =
-    (c : DataConnection) → IsBoundConnection c (state_behind s calls) → HasConnectionSuccess c (handled_in s calls)
+    (c : DataConnection) → IsBoundConnection c (state_after_all s calls) → HasConnectionSuccess c (handled_in s calls)

@@ -18,9 +18,8 @@ use Rattle.turn_client_api.specs.declared.call.Call.TheVariants.{Recv, PollRecv}
 use Rattle.turn_client_api.specs.Payloads.{Payload, Outcome, PeerData}
 use Rattle.turn_client_api.specs.Streams.{broken_at, frame_step, is_ready, most_turns, poll_recv_step, sent_by, stream_at, with_bytes}
 use Rattle.turn_client_api.specs.Receive.{recv_step}
-use Rattle.turn_client_api.specs.Steps.{packet_step, state_after}
+use Rattle.turn_client_api.specs.Steps.{packet_step, state_after, state_after_all}
 use Rattle.turn_client_api.specs.LawsStreams.{AreApart}
-use Rattle.turn_client_runs.specs.Run.{state_behind}
 
 -- ---- the whole of what is received
 
@@ -199,11 +198,11 @@ ArePieces local [] now calls s = calls ≡ []
 ArePieces local (piece ∷ pieces) now calls s =
     (polls : List Call) × (later : List Call) × (calls ≡ Recv (piece_for local piece s) now ∷ (polls ++ later)) × (piece ≢ [])
     × ArePolls now polls (recv_step Tcp s.remote local piece now s).1
-    × ArePieces local pieces now later (state_behind (recv_step Tcp s.remote local piece now s).1 polls)
+    × ArePieces local pieces now later (state_after_all (recv_step Tcp s.remote local piece now s).1 polls)
 
 -- Such calls return what all their bytes return, and leave the state that these leave.
 abbrev pub IsSameInRuns : SocketAddr → List (List ℕ) → ℕ → State → Type 0
 IsSameInRuns local pieces now s =
     (calls : List Call) → ArePieces local pieces now calls s →
     (joined local s (given_in_run s calls) ≡ (whole_of local now s (concat pieces)).0)
-    × (state_behind s calls ≡ (whole_of local now s (concat pieces)).1)
+    × (state_after_all s calls ≡ (whole_of local now s (concat pieces)).1)

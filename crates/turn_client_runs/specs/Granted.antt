@@ -26,7 +26,7 @@ use Rattle.turn_client_api.specs.Judgement.{class_in, lifetime_in}
 use Rattle.turn_client_api.specs.Effect.{channel_lifetime, least_lifetime, permission_lifetime, relayed_in}
 use Rattle.turn_client_api.specs.Payloads.{is_message}
 use Rattle.turn_client_api.specs.Handled.{Turn, handled, made_of}
-use Rattle.turn_client_api.specs.Steps.{state_after}
+use Rattle.turn_client_api.specs.Steps.{state_after, state_after_all}
 use Rattle.turn_client_api.specs.LawsAllocates.{IsAskedForFamilies}
 use Rattle.turn_client_api.specs.LawsGranted.{Stood}
 use Rattle.turn_client_api.specs.LawsHandled.{IsDoneBy, IsOverControl, IsOverWaiting}
@@ -34,7 +34,6 @@ use Rattle.turn_client_api.specs.LawsReplies.{IsAwaited, IsNotAwaited}
 use Rattle.turn_client_api.specs.LawsRequests.{AsksFor, IsListedFor, IsMade}
 use Rattle.turn_client_api.specs.Requests.{fresh_id, request_for}
 use Rattle.turn_client_runs.specs.Received.{IsReceived}
-use Rattle.turn_client_runs.specs.Run.{state_behind}
 
 -- ---- what a reply grants
 
@@ -153,7 +152,7 @@ pub record WasAsked (id : ℕ) (p : Purpose) (calls : List Call) (first : State)
   pub call : Call
   pub later : List Call
   pub split : calls ≡ earlier ++ call ∷ later
-  pub asked : IsAskedInCall id p call (state_behind first earlier)
+  pub asked : IsAskedInCall id p call (state_after_all first earlier)
 
 -- an earlier call made it, or an earlier input of the same call
 abbrev pub WasAskedBefore : ℕ → Purpose → List Call → State → List Turn → Type 0
@@ -176,13 +175,13 @@ pub record IsAnsweredIn (Did : Purpose → Turn → Type 0) (P : State → Type 
   pub front : List Turn
   pub turn : Turn
   pub back : List Turn
-  pub cut : handled call (state_behind first earlier) ≡ front ++ turn ∷ back
+  pub cut : handled call (state_after_all first earlier) ≡ front ++ turn ∷ back
   pub comes : ComesIn call turn
   pub received : IsReceived (earlier ++ call ∷ []) first turn
   pub purpose : Purpose
   pub did : Did purpose turn
   pub asked : WasAskedBefore (id_of turn.bytes) purpose earlier first front
-  pub holds : HoldsThrough P later (state_after call (state_behind first earlier))
+  pub holds : HoldsThrough P later (state_after call (state_after_all first earlier))
 
 -- An input of one of these calls granted it with the expiry that it has, and no later call removed it or
 -- gave it another expiry.
@@ -209,10 +208,10 @@ pub record IsGivenBack (a : Relay) (calls : List Call) (first : State) : Type 0 
   pub now : ℕ
   pub later : List Call
   pub split : calls ≡ earlier ++ Delete now ∷ later
-  pub accepted : (delete_step now (state_behind first earlier)).0 ≡ Ok tt
+  pub accepted : (delete_step now (state_after_all first earlier)).0 ≡ Ok tt
   pub ends : a.expiry ≡ now
   pub allocated : IsAllocated a.relayed earlier first
-  pub stands : HoldsThrough (λ s. Stood s (Allocation a)) later (state_after (Delete now) (state_behind first earlier))
+  pub stands : HoldsThrough (λ s. Stood s (Allocation a)) later (state_after (Delete now) (state_after_all first earlier))
 
 -- ---- all grants
 
@@ -225,5 +224,5 @@ HasReply g calls first = IsGranted g calls first
 abbrev pub HaveReplies : (Grant → Type 0) → Type 0
 HaveReplies Kind =
     (transport : TransportType) (local remote : SocketAddr) (config : Config) (seed : List ℕ) (calls : List Call) (g : Grant)
-    → Kind g → Contains (state_behind (initial transport local remote config seed) calls).grants g
+    → Kind g → Contains (state_after_all (initial transport local remote config seed) calls).grants g
     → HasReply g calls (initial transport local remote config seed)

@@ -7,8 +7,8 @@ use Rattle.turn_client_api.specs.Payloads.{is_message}
 use Rattle.turn_client_api.specs.Handled.{Turn, made_of}
 use Rattle.turn_client_api.specs.LawsHandled.{IsOverControl}
 use Rattle.turn_client_api.specs.declared.call.Call.{Call}
-use Rattle.turn_client_runs.specs.Run.{state_behind}
 use Rattle.turn_client_runs.specs.Turns.{IsAmong, handled_in}
+use Rattle.turn_client_api.specs.Steps.{state_after_all}
 
 -- the input is this challenge, the first that is answered: nothing was held before it, and it is held after
 -- it
@@ -25,4 +25,4 @@ IsOfChallenge c one = (d : Challenge) × IsFirstAnswer d one × (c.realm ≡ d.r
 
 -- what is held after the calls is of the realm and the algorithm of the first challenge that was answered in them
 abbrev pub HeldFromChallenge : State → List Call → Type 0
-HeldFromChallenge s calls = (c : Challenge) → (state_behind s calls).held ≡ Some c → IsAmong (IsOfChallenge c) (handled_in s calls)
+HeldFromChallenge s calls = (c : Challenge) → (state_after_all s calls).held ≡ Some c → IsAmong (IsOfChallenge c) (handled_in s calls)

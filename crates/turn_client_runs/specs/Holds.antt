@@ -4,9 +4,8 @@ use Rattle.std.specs.declared.net.socket_addr.SocketAddr.{SocketAddr}
 use Rattle.turn_stun.specs.declared.transport.TransportType.{TransportType}
 use Rattle.turn_client_api.specs.Config.{Config}
 use Rattle.turn_client_api.specs.State.{State, initial}
-use Rattle.turn_client_api.specs.Steps.{Leaves}
+use Rattle.turn_client_api.specs.Steps.{Leaves, state_after_all}
 use Rattle.turn_client_api.specs.declared.call.Call.{Call}
-use Rattle.turn_client_runs.specs.Run.{state_behind}
 
 -- the client may be in the second state after these calls, even if some memory allocations failed
 abbrev pub Reaches : State → List Call → State → Type 0
@@ -17,7 +16,7 @@ Reaches s (call ∷ calls) t = (u : State) × Leaves call s u × Reaches u calls
 abbrev pub HoldsInRuns : (State → Type 0) → Type 0
 HoldsInRuns P =
     (transport : TransportType) (local remote : SocketAddr) (config : Config) (seed : List ℕ) (calls : List Call)
-    → P (state_behind (initial transport local remote config seed) calls)
+    → P (state_after_all (initial transport local remote config seed) calls)
 
 -- after any calls, even if some memory allocations failed
 abbrev pub HoldsInAnyRun : (State → Type 0) → Type 0

@@ -9,7 +9,6 @@ pub mod Peers
 pub mod Promises
 pub mod Received
 pub mod Replies
-pub mod Run
 pub mod Short
 pub mod Sleeps
 pub mod Turns

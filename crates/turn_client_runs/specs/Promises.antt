@@ -19,8 +19,8 @@ use Rattle.turn_client_runs.specs.Held.{HeldFromChallenge}
 use Rattle.turn_client_runs.specs.Peers.{IcmpIsOfPermitted, ReceivesLetIn}
 use Rattle.turn_client_runs.specs.Received.{IsReceived}
 use Rattle.turn_client_runs.specs.Replies.{CountsOnce, EachReply, EndsItsRequest}
-use Rattle.turn_client_runs.specs.Run.{state_behind}
 use Rattle.turn_client_runs.specs.Turns.{handled_in}
+use Rattle.turn_client_api.specs.Steps.{state_after_all}
 
 -- it holds for the calls before the first one, and for all up to each of them
 abbrev pub AfterEach : (State → List Call → Type 0) → State → List Call → Type 0
@@ -29,16 +29,16 @@ AfterEach Q first calls = (earlier later : List Call) → calls ≡ earlier ++ l
 -- it holds for any calls of the run that follow each other, from the state in which they find the client
 abbrev pub InEachPart : (State → List Call → Type 0) → State → List Call → Type 0
 InEachPart Q first calls =
-    (earlier middle later : List Call) → calls ≡ earlier ++ (middle ++ later) → Q (state_behind first earlier) middle
+    (earlier middle later : List Call) → calls ≡ earlier ++ (middle ++ later) → Q (state_after_all first earlier) middle
 
 -- each active grant has its signed reply to an own request
 abbrev pub GrantsHaveReplies : State → List Call → Type 0
 GrantsHaveReplies first calls =
-    (g : Grant) → IsStanding g → Contains (state_behind first calls).grants g → HasReply g calls first
+    (g : Grant) → IsStanding g → Contains (state_after_all first calls).grants g → HasReply g calls first
 
 -- no channel number names two peers
 abbrev pub NumbersAreDistinct : State → List Call → Type 0
-NumbersAreDistinct first calls = HasDistinctNumbers (state_behind first calls)
+NumbersAreDistinct first calls = HasDistinctNumbers (state_after_all first calls)
 
 -- Each bound stream and each bound data connection has the signed success that bound it. So has each stream
 -- that is bound when an input is processed.
@@ -51,7 +51,7 @@ BoundHaveSuccess first calls =
 abbrev pub TurnsCameIn : State → List Call → Type 0
 TurnsCameIn first calls =
     (earlier : List Call) (call : Call) (later : List Call) (one : Turn) → calls ≡ earlier ++ call ∷ later
-    → Contains (handled call (state_behind first earlier)) one → ComesIn call one × IsReceived (earlier ++ call ∷ []) first one
+    → Contains (handled call (state_after_all first earlier)) one → ComesIn call one × IsReceived (earlier ++ call ∷ []) first one
 
 -- each payload is of a permitted peer, and an ICMP report is about a permitted one
 abbrev pub HearsLetIn : State → List Call → Type 0
@@ -70,8 +70,8 @@ FewAreAnswered = InEachPart (λ s middle. IsPatient s × AnswersFew s middle × 
 -- realm and algorithm, once held, never change
 abbrev pub RealmStays : State → List Call → Type 0
 RealmStays = InEachPart (λ s middle.
-    KeepsRealm s (state_behind s middle)
-    × ((one : Turn) → Contains (handled_in s middle) one → KeepsRealm s one.before × KeepsRealm one.before (state_behind s middle)))
+    KeepsRealm s (state_after_all s middle)
+    × ((one : Turn) → Contains (handled_in s middle) one → KeepsRealm s one.before × KeepsRealm one.before (state_after_all s middle)))
 
 -- what is held is of the realm and the algorithm of the first challenge that was answered
 abbrev pub RealmIsAnswered : State → List Call → Type 0
@@ -80,7 +80,7 @@ RealmIsAnswered = AfterEach HeldFromChallenge
 -- what these calls return and leave is what these bytes return as a whole, and leave
 abbrev pub GivesTheWhole : SocketAddr → ℕ → List ℕ → State → List Call → Type 0
 GivesTheWhole local now bytes s calls =
-    (joined local s (given_in_run s calls) ≡ (whole_of local now s bytes).0) × (state_behind s calls ≡ (whole_of local now s bytes).1)
+    (joined local s (given_in_run s calls) ≡ (whole_of local now s bytes).0) × (state_after_all s calls ≡ (whole_of local now s bytes).1)
 
 -- the pieces of a stream, each polled up to the first none, return what their joined bytes return
 abbrev pub CutsAgree : State → List Call → Type 0

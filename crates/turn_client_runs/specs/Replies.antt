@@ -12,11 +12,10 @@ use Rattle.turn_client_api.specs.Payloads.{is_message}
 use Rattle.turn_client_api.specs.Handled.{Turn, handled, made_of}
 use Rattle.turn_client_api.specs.LawsHandled.{IsOverControl, IsOverWaiting}
 use Rattle.turn_client_api.specs.LawsReplies.{IsAccepted, IsAwaited, IsDrawn, IsNotAwaited}
-use Rattle.turn_client_api.specs.Steps.{state_after}
+use Rattle.turn_client_api.specs.Steps.{state_after, state_after_all}
 use Rattle.turn_client_api.specs.declared.call.Call.{Call}
 use Rattle.turn_client_api.specs.declared.grant.DataConnection.{DataConnection}
 use Rattle.turn_client_api.specs.declared.state.Phase.TheVariants.{Allocated}
-use Rattle.turn_client_runs.specs.Run.{state_behind}
 use Rattle.turn_client_runs.specs.Turns.{IsAmong, handled_in}
 
 -- The input is a whole message over the control connection, or a datagram, which is a signed reply to an
@@ -75,7 +74,7 @@ IsMadeIn id s (call ∷ calls) = MakesInCall id call s ⊎ IsMadeIn id (state_af
 -- was made under it since: by a later input of the call, or by a further call.
 abbrev pub IsMadeSince : State → Call → List Call → Turn → Type 0
 IsMadeSince s call calls one =
-    (front later : List Turn) → handled call s ≡ front ++ one ∷ later → IsAwaited one.bytes (state_behind (state_after call s) calls)
+    (front later : List Turn) → handled call s ≡ front ++ one ∷ later → IsAwaited one.bytes (state_after_all (state_after call s) calls)
     → IsMadeAmong (id_of one.bytes) later ⊎ IsMadeIn (id_of one.bytes) (state_after call s) calls
 
 -- both are replies that are accepted, and they have one ID
@@ -93,14 +92,14 @@ IsMadeBetween s call =
 abbrev pub IsMadeUntil : State → Call → List Call → Call → Type 0
 IsMadeUntil s call calls last =
     (one other : Turn) (front later before rest : List Turn) → AreReplies one other → handled call s ≡ front ++ one ∷ later
-    → handled last (state_behind (state_after call s) calls) ≡ before ++ other ∷ rest
+    → handled last (state_after_all (state_after call s) calls) ≡ before ++ other ∷ rest
     → IsMadeAmong (id_of one.bytes) later
     ⊎ IsMadeIn (id_of one.bytes) (state_after call s) calls ⊎ IsMadeAmong (id_of one.bytes) before
 
 -- each ID that is outstanding after the calls was so before them, or one of them makes a request under it
 abbrev pub MakesNewOnesIn : State → List Call → Type 0
 MakesNewOnesIn s calls =
-    (id : ℕ) → is_outstanding id (state_behind s calls).transactions ≡ true → (is_outstanding id s.transactions ≡ true) ⊎ IsMadeIn id s calls
+    (id : ℕ) → is_outstanding id (state_after_all s calls).transactions ≡ true → (is_outstanding id s.transactions ≡ true) ⊎ IsMadeIn id s calls
 
 -- what holds for each input of the calls in which a reply is accepted
 abbrev pub EachReply : (Turn → Type 0) → State → List Call → Type 0

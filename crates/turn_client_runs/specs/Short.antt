@@ -7,7 +7,7 @@ use Rattle.turn_client_api.specs.declared.call.Call.{Call}
 use Rattle.turn_client_api.specs.declared.call.Call.TheVariants.{PollRecv}
 use Rattle.turn_client_api.specs.declared.state.Stream.{Stream}
 use Rattle.turn_client_runs.specs.Received.{pieces_for}
-use Rattle.turn_client_runs.specs.Run.{state_behind}
+use Rattle.turn_client_api.specs.Steps.{state_after_all}
 
 -- each stream holds less than the longest frame, a message of 65,555 bytes, if all that was received for it
 -- by these calls are bytes
@@ -19,4 +19,4 @@ AreShort first calls s =
 abbrev pub StreamsAreShort : State → List Call → Type 0
 StreamsAreShort first calls =
     (earlier : List Call) (now : ℕ) (later : List Call) → calls ≡ earlier ++ PollRecv now ∷ later
-    → (poll_recv_step now (state_behind first earlier)).0 ≡ None → AreShort first earlier (poll_recv_step now (state_behind first earlier)).1
+    → (poll_recv_step now (state_after_all first earlier)).0 ≡ None → AreShort first earlier (poll_recv_step now (state_after_all first earlier)).1

@@ -12,8 +12,8 @@ ghost use Rattle.turn_client_api.specs.declared.call.Call.{Call};
 ghost use Rattle.turn_client_api.specs.LawsStreams.{AreApart};
 ghost use Rattle.turn_client_api.specs.LawsPieces.{abc, abc_frame, behind_half, client, data_end, from_peer, half_header, hello, hello_message, relayed, with_bound, with_channel};
 ghost use Rattle.turn_client_runs.specs.Cut.{AreNonempty, GetsQuiet, IsQuiet, IsSameForAnyCut, IsSameInRuns, bytes_at, fed_pieces, mode_at, read_from_front, whole, whole_of};
-ghost use Rattle.turn_client_runs.specs.Run.{state_behind};
 ghost use Rattle.turn_client_runs.specs.CutRows.{WhenCut, abc_and_hello, byte_and_hello, pieces_at, two_bytes, whole_at};
+ghost use Rattle.turn_client_api.specs.Steps.{state_after_all};
 
 /// The whole of what is received over a stream is read from its start (RFC 8656, section 12.5; RFC 6062,
 /// section 4.3). For a control connection, or a data connection that waits to be bound: the first frame is
@@ -30,7 +30,7 @@ pub fn wholes_are_frames()
 /// distinct local addresses, as those of every client have, once it is polled and returns nothing.
 pub fn polled_clients_are_quiet()
     ensures initial { (local remote : SocketAddr) (config : Config) (seed : List ℕ) → IsQuiet (initial Tcp local remote config seed) }
-    ensures run { (local remote : SocketAddr) (config : Config) (seed : List ℕ) (calls : List Call) → GetsQuiet (state_behind (initial Tcp local remote config seed) calls) }
+    ensures run { (local remote : SocketAddr) (config : Config) (seed : List ℕ) (calls : List Call) → GetsQuiet (state_after_all (initial Tcp local remote config seed) calls) }
     ensures polled { (s : State) → s.transport ≡ Tcp → AreApart s → GetsQuiet s }
     ensures fed { (local : SocketAddr) (pieces : List (List ℕ)) (now : ℕ) (s : State) → IsQuiet s → IsQuiet (fed_pieces local pieces now s).1 }
 {}

@@ -6,7 +6,7 @@ use Rattle.turn_stun.specs.declared.transport.TransportType.TheVariants.{Udp}
 use Rattle.turn_client_api.specs.State.{State}
 use Rattle.turn_client_api.specs.Payloads.{Payload}
 use Rattle.turn_client_api.specs.Streams.{payload_in, poll_recv_step}
-use Rattle.turn_client_api.specs.Calls.{create_permission_step, relayed_addresses_of, send_to_step}
+use Rattle.turn_client_api.specs.Calls.{create_permission_step, relayed_addresses_of, send_to_step, FitsDatagram}
 use Rattle.turn_client_api.specs.Poll.{poll_step}
 use Rattle.turn_client_api.specs.Transmit.{transmit_step}
 use Rattle.turn_client_api.specs.Answers.{event_step}
@@ -86,10 +86,6 @@ step s call = (reply_of call s, after call s)
 
 -- ---- calls that can be made
 
--- a packet has room for the data of a peer where the server relays over UDP
-abbrev pub IsShort : TransportType → List ℕ → Type 0
-IsShort transport bytes = transport ≡ Udp → length bytes ≤ 65504
-
 -- the call is allowed on a gatherer whose client's allocations relay over this transport
 abbrev pub IsCallable : TransportType → GatherCall → Type 0
 IsCallable relays Candidates = ⊤
@@ -98,7 +94,7 @@ IsCallable relays (Check transport peer) = ⊤
 IsCallable relays (Recv packet now) = now ≤ 2 ^ 62
 IsCallable relays (PollRecv now) = now ≤ 2 ^ 62
 IsCallable relays (CreatePermission transport peer now) = now ≤ 2 ^ 62
-IsCallable relays (SendTo transport peer bytes now) = (now ≤ 2 ^ 62) × IsShort relays bytes
+IsCallable relays (SendTo transport peer bytes now) = (now ≤ 2 ^ 62) × FitsDatagram relays bytes
 IsCallable relays (Poll now) = now ≤ 2 ^ 62
 IsCallable relays (PollTransmit now) = now ≤ 2 ^ 62
 IsCallable relays PollEvent = ⊤

@@ -18,7 +18,6 @@ use Rattle.turn_client_api.specs.declared.call.Call.TheVariants as Calls
 use Rattle.turn_client_api.specs.declared.poll.Socket5Tuple.{Socket5Tuple}
 use Rattle.turn_lines.specs.Address.{address_of}
 use Rattle.turn_lines.specs.Arguments.{address_if_any, data_ends_of, one_address_of, packet_of, sending_of, transport_and_address_of, transport_and_ip_of, tuple_of, two_addresses_of, way_of}
-use Rattle.turn_client_proto.specs.Run.{IsShort}
 use Rattle.turn_lines.specs.Call.{call_of, call_with, if_short, is_short, moment_of, name_of}
 use Rattle.turn_lines.specs.Fault.{needed}
 use Rattle.turn_lines.specs.Field.{bytes_of, is_lower_hex, transport_of}
@@ -29,6 +28,7 @@ use Rattle.turn_lines.specs.declared.fault.BadKind.{BadKind}
 use Rattle.turn_lines.specs.declared.fault.BadKind.TheVariants as Bad
 use Rattle.turn_lines.proofs.LawLemmas.{Free, AllFree, false_and, Free-from_test, parts_of-join, decimal_free, decimal_up_to-decimal}
 use Rattle.turn_lines.proofs.AddressLemmas.{address_of-address_text, address_free, address_long, ip_of-ip_text, ip_free, is_lower_hex-encode_lower, hex_free}
+use Rattle.turn_client_api.specs.Calls.{FitsDatagram}
 
 -- ---- fields
 
@@ -149,7 +149,7 @@ abbrev as_read : TransportType → Option Call → Result Call BadKind
 as_read relays o = needed o Bad.Argument (if_short relays)
 
 -- bytes that fit an allocation over this transport
-short_is : (relays : TransportType) (payload : List ℕ) → IsShort relays payload → is_short relays payload ≡ true
+short_is : (relays : TransportType) (payload : List ℕ) → FitsDatagram relays payload → is_short relays payload ≡ true
 short_is Udp payload h = le-leb (length payload) 65504 (h refl)
 short_is Tcp payload h = refl
 

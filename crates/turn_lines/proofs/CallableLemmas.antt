@@ -8,7 +8,7 @@ use Rattle.turn_stun.specs.declared.transport.TransportType.{TransportType}
 use Rattle.turn_stun.specs.declared.transport.TransportType.TheVariants.{Udp, Tcp}
 use Rattle.turn_client_api.specs.declared.call.Call.{Call}
 use Rattle.turn_client_api.specs.declared.call.Call.TheVariants as Calls
-use Rattle.turn_client_proto.specs.Run.{IsCallable, IsShort}
+use Rattle.turn_client_proto.specs.Run.{IsCallable}
 use Rattle.turn_lines.specs.Arguments.{data_ends_of, one_address_of, packet_of, sending_of, transport_and_address_of, transport_and_ip_of, tuple_of, two_addresses_of}
 use Rattle.turn_lines.specs.Call.{call_of, call_with, has_short_payload, if_short, is_short, moment_of, name_of}
 use Rattle.turn_lines.specs.Fault.{needed}
@@ -19,6 +19,7 @@ use Rattle.turn_lines.specs.declared.call.name.CallName.TheVariants as Name
 use Rattle.turn_lines.specs.declared.fault.BadKind.TheVariants as Bad
 use Rattle.turn_lines.proofs.NumberLemmas.{both}
 use Rattle.turn_lines.proofs.StepLemmas.{of_map, of_and_then, of_needed, of_then, of_guard, some_is}
+use Rattle.turn_client_api.specs.Calls.{FitsDatagram}
 
 -- ---- one call
 
@@ -38,7 +39,7 @@ low_moment (field ∷ fields) now h =
 abbrev IsCallableIfShort : TransportType → Call → Type 0
 IsCallableIfShort relays call = has_short_payload relays call ≡ true → IsCallable relays call
 
-short_of : (relays : TransportType) (payload : List ℕ) → is_short relays payload ≡ true → IsShort relays payload
+short_of : (relays : TransportType) (payload : List ℕ) → is_short relays payload ≡ true → FitsDatagram relays payload
 short_of Udp payload h = λ over. leb-true (length payload) 65504 h
 short_of Tcp payload h = λ over. cc
 

@@ -10,8 +10,8 @@ use Rattle.turn_stun.specs.declared.transport.TransportType.{TransportType}
 use Rattle.turn_client_api.specs.declared.call.Call.{Call}
 use Rattle.turn_client_api.specs.declared.call.Call.TheVariants as Calls
 use Rattle.turn_client_api.specs.declared.poll.Socket5Tuple.{Socket5Tuple}
-use Rattle.turn_client_proto.specs.Run.{IsShort}
 use Rattle.turn_lines.specs.Text.{address_text, bytes_text, fields_text, ip_text, transport_text}
+use Rattle.turn_client_api.specs.Calls.{FitsDatagram}
 
 -- `-` for no address
 abbrev pub text_if_any : Option SocketAddr → List ℕ
@@ -70,7 +70,7 @@ IsSpelledIfAny (Some address) = IsSpelled address
 
 -- bytes for a peer that an allocation over this transport takes
 abbrev pub IsPayload : TransportType → List ℕ → Type 0
-IsPayload relays bytes = IsBytes bytes × IsShort relays bytes
+IsPayload relays bytes = IsBytes bytes × FitsDatagram relays bytes
 
 -- the two ends of the control connection
 abbrev pub IsTuple : Socket5Tuple → Type 0

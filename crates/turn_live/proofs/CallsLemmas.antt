@@ -6,10 +6,9 @@ use Rattle.std.proofs.lemmas.Grind.{flat_map-append}
 use Rattle.turn_stun.specs.declared.transport.TransportType.{TransportType}
 use Rattle.turn_client_api.specs.declared.call.Call.{Call}
 use Rattle.turn_client_api.specs.State.{State}
-use Rattle.turn_client_api.specs.Steps.{state_after}
+use Rattle.turn_client_api.specs.Steps.{state_after, state_after_all}
 use Rattle.turn_client_proto.specs.Run.{IsCallable, replies_of, reply_of}
 use Rattle.turn_client_proto.specs.declared.runs.reply.Reply.{Reply}
-use Rattle.turn_client_runs.specs.Run.{state_behind}
 use Rattle.turn_lines.specs.Call.{call_of}
 use Rattle.turn_lines.specs.Fault.{at_line, bad_line, needed}
 use Rattle.turn_lines.specs.Head.{head_of}
@@ -95,15 +94,15 @@ calls_until-bad relays number at lines calls line bad place good says =
 
 -- ---- answers
 
-pub replies_of-more : (s : State) (calls : List Call) (call : Call) → replies_of s (calls ++ call ∷ []) ≡ replies_of s calls ++ replies_of (state_behind s calls) (call ∷ [])
+pub replies_of-more : (s : State) (calls : List Call) (call : Call) → replies_of s (calls ++ call ∷ []) ≡ replies_of s calls ++ replies_of (state_after_all s calls) (call ∷ [])
 replies_of-more s [] call = refl
 replies_of-more s (first ∷ calls) call = ap (λ (rest : List Reply). reply_of first s ∷ rest) (replies_of-more (state_after first s) calls call)
 
-pub state_behind-more : (s : State) (calls : List Call) (call : Call) → state_behind s (calls ++ call ∷ []) ≡ state_after call (state_behind s calls)
-state_behind-more s [] call = refl
-state_behind-more s (first ∷ calls) call = state_behind-more (state_after first s) calls call
+pub state_after_all-more : (s : State) (calls : List Call) (call : Call) → state_after_all s (calls ++ call ∷ []) ≡ state_after call (state_after_all s calls)
+state_after_all-more s [] call = refl
+state_after_all-more s (first ∷ calls) call = state_after_all-more (state_after first s) calls call
 
-pub answered-more : (s : State) (calls : List Call) (call : Call) → answered s (calls ++ call ∷ []) ≡ answered s calls ++ answered (state_behind s calls) (call ∷ [])
+pub answered-more : (s : State) (calls : List Call) (call : Call) → answered s (calls ++ call ∷ []) ≡ answered s calls ++ answered (state_after_all s calls) (call ∷ [])
 answered-more s calls call =
     ap answers_text (replies_of-more s calls call)
-    ∙ flat_map-append (λ reply. line_text (reply_fields reply)) (replies_of s calls) (replies_of (state_behind s calls) (call ∷ []))
+    ∙ flat_map-append (λ reply. line_text (reply_fields reply)) (replies_of s calls) (replies_of (state_after_all s calls) (call ∷ []))

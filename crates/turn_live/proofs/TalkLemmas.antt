@@ -5,8 +5,7 @@ use Rattle.std.specs.Io.KnownBytes.{Appends}
 use Rattle.turn_stun.specs.declared.transport.TransportType.{TransportType}
 use Rattle.turn_client_api.specs.declared.call.Call.{Call}
 use Rattle.turn_client_api.specs.State.{State}
-use Rattle.turn_client_api.specs.Steps.{state_after}
-use Rattle.turn_client_runs.specs.Run.{state_behind}
+use Rattle.turn_client_api.specs.Steps.{state_after, state_after_all}
 use Rattle.turn_client_proto.proofs.RunLemmas.{relays_stay}
 use Rattle.turn_lines.specs.declared.fault.BadLine.{BadLine}
 use Rattle.turn_lines.specs.declared.head.Head.{Head}
@@ -17,7 +16,7 @@ use Rattle.turn_live.specs.declared.line.LineEnd.{LineEnd}
 use Rattle.turn_live.specs.declared.line.LineEnd.TheVariants.{Feed, Input, Size}
 use Rattle.turn_live.specs.declared.stop.Stop.{Stop}
 use Rattle.turn_live.specs.declared.stop.Stop.TheVariants as Stops
-use Rattle.turn_live.proofs.CallsLemmas.{answered-more, calls_until-bad, calls_until-call, long_is_no_head, state_behind-more}
+use Rattle.turn_live.proofs.CallsLemmas.{answered-more, calls_until-bad, calls_until-call, long_is_no_head, state_after_all-more}
 use Rattle.turn_live.proofs.KnownLemmas.{Appends-cut, Appends-none, Appends-then}
 use Rattle.turn_live.proofs.ReadLemmas.{end_read, more_read, none_read, read_behind, rest_read}
 
@@ -29,7 +28,7 @@ pub record GoesOn (relays : TransportType) (s now : State) (number : ℕ) (input
   pub good : calls_until relays 2 lines ≡ (calls, None)
   pub place : number ≡ 2 + length lines
   pub told : Appends old new (answered s calls)
-  pub state : now ≡ state_behind s calls
+  pub state : now ≡ state_after_all s calls
   pub relaying : now.config.allocation_transport ≡ relays
 
 pub begins : (relays : TransportType) (s : State) (a w : Option (List ℕ)) → s.config.allocation_transport ≡ relays → GoesOn relays s s 2 a a w w
@@ -50,16 +49,16 @@ kept : (a b c : Option (List ℕ)) (xs : List ℕ) → Appends a b xs → Append
 kept a b c xs h k = subst (Appends a c) (append-nil xs) (Appends-then a b c xs [] h k)
 
 -- one more answer
-told_more : (s now : State) (calls : List Call) (call : Call) (w x y : Option (List ℕ)) → now ≡ state_behind s calls → Appends w x (answered s calls) → Appends x y (answered now (call ∷ [])) → Appends w y (answered s (calls ++ call ∷ []))
+told_more : (s now : State) (calls : List Call) (call : Call) (w x y : Option (List ℕ)) → now ≡ state_after_all s calls → Appends w x (answered s calls) → Appends x y (answered now (call ∷ [])) → Appends w y (answered s (calls ++ call ∷ []))
 told_more s now calls call w x y state told more =
-    let one = answered (state_behind s calls) (call ∷ []) in
+    let one = answered (state_after_all s calls) (call ∷ []) in
     let here : Appends x y one = subst (λ (at : State). Appends x y (answered at (call ∷ []))) state more in
     subst (Appends w y) (sym (answered-more s calls call)) (Appends-then w x y (answered s calls) one told here)
 
 -- a prefix of one more answer
-cut_more : (s now : State) (calls : List Call) (call : Call) (count : ℕ) (w x y : Option (List ℕ)) → now ≡ state_behind s calls → Appends w x (answered s calls) → Appends x y (take count (answered now (call ∷ []))) → Appends w y (take (length (answered s calls) + count) (answered s (calls ++ call ∷ [])))
+cut_more : (s now : State) (calls : List Call) (call : Call) (count : ℕ) (w x y : Option (List ℕ)) → now ≡ state_after_all s calls → Appends w x (answered s calls) → Appends x y (take count (answered now (call ∷ []))) → Appends w y (take (length (answered s calls) + count) (answered s (calls ++ call ∷ [])))
 cut_more s now calls call count w x y state told more =
-    let one = answered (state_behind s calls) (call ∷ []) in
+    let one = answered (state_after_all s calls) (call ∷ []) in
     let here : Appends x y (take count one) = subst (λ (at : State). Appends x y (take count (answered at (call ∷ [])))) state more in
     subst (λ (text : List ℕ). Appends w y (take (length (answered s calls) + count) text)) (sym (answered-more s calls call))
     (Appends-cut w x y (answered s calls) one count told here)
@@ -86,7 +85,7 @@ goes_on relays s now after number a b c w x y k (line, taken, answer) =
       good = calls_until-call relays 2 number k.lines k.calls line call k.place k.good answer.says;
       place = omega (arith, k.place, length-append k.lines (line ∷ []));
       told = told_more s now k.calls call w x y k.state k.told answer.told;
-      state = answer.state ∙ ap (state_after call) k.state ∙ sym (state_behind-more s k.calls call);
+      state = answer.state ∙ ap (state_after call) k.state ∙ sym (state_after_all-more s k.calls call);
       relaying = ap (λ (at : State). at.config.allocation_transport) answer.state ∙ relays_stay call now ∙ k.relaying;
     }
 

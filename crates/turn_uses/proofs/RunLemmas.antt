@@ -9,7 +9,7 @@ use Rattle.turn_client_api.specs.State.{State}
 use Rattle.turn_client_api.specs.Answers.{event_step}
 use Rattle.turn_client_api.specs.Payloads.{Payload}
 use Rattle.turn_client_api.specs.Poll.{poll_step}
-use Rattle.turn_client_api.specs.Steps.{state_after}
+use Rattle.turn_client_api.specs.Steps.{state_after, state_after_all}
 use Rattle.turn_client_api.specs.Streams.{poll_recv_step}
 use Rattle.turn_client_api.specs.Transmit.{transmit_step}
 use Rattle.turn_client_api.specs.declared.call.Call.{Call}
@@ -19,7 +19,7 @@ use Rattle.turn_client_api.specs.declared.poll.TurnPollRet.{TurnPollRet}
 use Rattle.turn_client_api.specs.declared.poll.TurnPollRet.TheVariants as Poll
 use Rattle.turn_uses.specs.Given.{Given, FromPeer, Happened, ToSend}
 use Rattle.turn_uses.specs.Next.{Answer, Does, Rests, by_streams, by_time, next_step, to_send, to_tell, waiting}
-use Rattle.turn_uses.specs.Run.{IsAsk, IsRun, IsWhole, all_given, asked_for, given_by, state_behind}
+use Rattle.turn_uses.specs.Run.{IsAsk, IsRun, IsWhole, all_given, asked_for, given_by}
 use Rattle.turn_uses.specs.Turned.{Turned, begun, going, once_more, stands, turned, with_answer}
 use Rattle.turn_uses.specs.declared.task.Rest.{Rest}
 use Rattle.turn_uses.specs.declared.task.Rest.TheVariants.{Until, Now, Ended}
@@ -33,7 +33,7 @@ in_answer (Rests rest) = []
 -- after a call that returned this, some calls return the remaining part of an answer
 abbrev GoesOn : ℕ → List Given → State → Answer × State → Type 0
 GoesOn now front s p =
-    (calls : List Call) × AllByRecursion (IsAsk now) calls × ((in_answer p.0 ≡ front ++ all_given s calls) × (p.1 ≡ state_behind s calls))
+    (calls : List Call) × AllByRecursion (IsAsk now) calls × ((in_answer p.0 ≡ front ++ all_given s calls) × (p.1 ≡ state_after_all s calls))
 
 first : (now : ℕ) (call : Call) (s : State) (p : Answer × State) → IsAsk now call → GoesOn now (given_by call s) (state_after call s) p → GoesOn now [] s p
 first now call s p asks (calls, all, run) = (call ∷ calls, (asks, all), run)
@@ -68,13 +68,13 @@ next-run now s = first now (PollRecv now) s (next_step now s) (inl refl) (stream
 
 -- ---- sequences of calls joined
 
-given-append : (s : State) (calls more : List Call) → all_given s (calls ++ more) ≡ all_given s calls ++ all_given (state_behind s calls) more
+given-append : (s : State) (calls more : List Call) → all_given s (calls ++ more) ≡ all_given s calls ++ all_given (state_after_all s calls) more
 given-append s [] more = refl
 given-append s (call ∷ calls) more =
     ap (λ given. given_by call s ++ given) (given-append (state_after call s) calls more)
-    ∙ sym (append_assoc (given_by call s) (all_given (state_after call s) calls) (all_given (state_behind (state_after call s) calls) more))
+    ∙ sym (append_assoc (given_by call s) (all_given (state_after call s) calls) (all_given (state_after_all (state_after call s) calls) more))
 
-behind-append : (s : State) (calls more : List Call) → state_behind s (calls ++ more) ≡ state_behind (state_behind s calls) more
+behind-append : (s : State) (calls more : List Call) → state_after_all s (calls ++ more) ≡ state_after_all (state_after_all s calls) more
 behind-append s [] more = refl
 behind-append s (call ∷ calls) more = behind-append (state_after call s) calls more
 
@@ -87,9 +87,9 @@ IsRun-append calls more t u v one other = (
   other.0
       ∙ (ap (λ given. given ++ all_given u.client more) one.0
       ∙ (ap (λ (s : State). (t.given ++ all_given t.client calls) ++ all_given s more) one.1
-      ∙ (append_assoc t.given (all_given t.client calls) (all_given (state_behind t.client calls) more)
+      ∙ (append_assoc t.given (all_given t.client calls) (all_given (state_after_all t.client calls) more)
       ∙ sym (ap (λ given. t.given ++ given) (given-append t.client calls more))))),
-  other.1 ∙ (ap (λ (s : State). state_behind s more) one.1 ∙ sym (behind-append t.client calls more)),
+  other.1 ∙ (ap (λ (s : State). state_after_all s more) one.1 ∙ sym (behind-append t.client calls more)),
 )
 
 -- ---- one iteration of the loop

@@ -5,7 +5,7 @@ use Rattle.turn_stun.specs.declared.transport.Transmit.{Transmit}
 use Rattle.turn_client_api.specs.State.{State}
 use Rattle.turn_client_api.specs.Answers.{event_step}
 use Rattle.turn_client_api.specs.Poll.{poll_step}
-use Rattle.turn_client_api.specs.Steps.{packet_step, state_after}
+use Rattle.turn_client_api.specs.Steps.{packet_step, state_after, state_after_all}
 use Rattle.turn_client_api.specs.Streams.{poll_recv_step}
 use Rattle.turn_client_api.specs.Transmit.{transmit_step}
 use Rattle.turn_client_api.specs.declared.call.Call.{Call}
@@ -37,11 +37,6 @@ abbrev pub all_given : State → List Call → List Given
 all_given s [] = []
 all_given s (call ∷ calls) = given_by call s ++ all_given (state_after call s) calls
 
--- the client after these calls
-abbrev pub state_behind : State → List Call → State
-state_behind s [] = s
-state_behind s (call ∷ calls) = state_behind (state_after call s) calls
-
 -- ---- the calls of the loop
 
 -- the call polls the client at this time
@@ -55,7 +50,7 @@ hand_in_calls (Some packet) now = Recv packet now ∷ []
 
 -- the calls return this, and leave the client so
 abbrev pub IsRun : List Call → Turned → Turned → Type 0
-IsRun calls was is = (is.given ≡ was.given ++ all_given was.client calls) × (is.client ≡ state_behind was.client calls)
+IsRun calls was is = (is.given ≡ was.given ++ all_given was.client calls) × (is.client ≡ state_after_all was.client calls)
 
 -- The calls made are one that passes in the input, if any, and then polls. The list has everything that they
 -- return, in order, and nothing else; the client is as they leave it.

@@ -3,7 +3,8 @@
 ghost use Rattle.std.specs.Prelude.{◌≡◌, ◌≤◌, ◌^◌, IfOk, OnErr};
 ghost use Rattle.turn_client_api.specs.Answers.{given_payload};
 ghost use Rattle.turn_client_api.specs.Steps.{Leaves};
-ghost use Rattle.turn_client_proto.specs.Run.{IsShort, peer_data, step};
+ghost use Rattle.turn_client_proto.specs.Run.{peer_data, step};
+ghost use Rattle.turn_client_api.specs.Calls.{FitsDatagram};
 
 use crate::runs::{Call, PeerData, Reply};
 use std::alloc::{AllocError, Global};
@@ -24,7 +25,7 @@ pub(crate) fn send_to<C: TurnClientApi>(
     now: Instant,
 ) -> Result<Reply, AllocError>
     requires moment { now ≤ 2 ^ 62 }
-    requires short { IsShort (C.state client.old).config.allocation_transport payload.now }
+    requires short { FitsDatagram (C.state client.old).config.allocation_transport payload.now }
     ensures ok { IfOk result (λ reply. (reply, C.state client.new) ≡ step (C.state client.old) (Call.SendTo transport to payload.now now)) }
     ensures no_memory { OnErr result (Leaves (Call.SendTo transport to payload.now now) (C.state client.old) (C.state client.new)) }
 {

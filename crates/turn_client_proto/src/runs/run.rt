@@ -4,11 +4,11 @@ ghost use Rattle.std.specs.Prelude.{◌≡◌, All, IfOk, OnOk};
 ghost use Rattle.turn_client_api.specs.State.{initial};
 ghost use Rattle.turn_client_proto.specs.Client.{state_of};
 ghost use Rattle.turn_client_runs.specs.Promises.{AfterEach, BoundHaveSuccess, CutsAgree, FewAreAnswered, GrantsHaveReplies, HearsLetIn, InEachPart, NumbersAreDistinct, RealmIsAnswered, RealmStays, RepliesCountOnce};
-ghost use Rattle.turn_client_runs.specs.Run.{state_behind};
 ghost use Rattle.turn_client_runs.specs.Short.{StreamsAreShort};
 ghost use Rattle.turn_client_runs.specs.Sleeps.{SleepsThroughNothing};
 ghost use Rattle.turn_client_proto.specs.Heard.{GivesLetIn};
 ghost use Rattle.turn_client_proto.specs.Run.{IsCallable, replies_of, run};
+ghost use Rattle.turn_client_api.specs.Steps.{state_after_all};
 
 use crate::client::TurnClient;
 use crate::runs::{Call, Reply, reply_to};
@@ -143,7 +143,7 @@ fn asked<C: TurnClientApi>(
 ) -> Result<(Vec<Reply>, C), AllocError>
     requires { All (IsCallable (C.state client).config.allocation_transport) calls.now }
     ensures replies { IfOk result (λ r. r.0.items ≡ replies_of (C.state client) calls.now) }
-    ensures client { IfOk result (λ r. C.state r.1 ≡ state_behind (C.state client) calls.now) }
+    ensures client { IfOk result (λ r. C.state r.1 ≡ state_after_all (C.state client) calls.now) }
 {
     let replies = replies_to(alloc, &mut client, calls)?;
     Ok((replies, client))
@@ -157,7 +157,7 @@ pub(crate) fn replies_to<C: TurnClientApi>(
 ) -> Result<Vec<Reply>, AllocError>
     requires { All (IsCallable (C.state client.old).config.allocation_transport) calls.now }
     ensures replies { IfOk result (λ replies. replies.items ≡ replies_of (C.state client.old) calls.now) }
-    ensures client { OnOk result (C.state client.new ≡ state_behind (C.state client.old) calls.now) }
+    ensures client { OnOk result (C.state client.new ≡ state_after_all (C.state client.old) calls.now) }
 {
     let mut replies = Vec::with_capacity(alloc, calls.len())?;
     for call in calls {

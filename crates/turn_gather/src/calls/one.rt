@@ -2,8 +2,9 @@
 
 ghost use Rattle.std.specs.Prelude.{◌≡◌, ◌≤◌, ◌^◌, IfOk};
 ghost use Rattle.turn_client_api.specs.Answers.{given_payload};
-ghost use Rattle.turn_gather.specs.Drive.{IsCallable, IsShort, gathered_reply, peer_payload, step};
+ghost use Rattle.turn_gather.specs.Drive.{IsCallable, gathered_reply, peer_payload, step};
 ghost use Rattle.turn_gather.specs.Received.{gathered_of};
+ghost use Rattle.turn_client_api.specs.Calls.{FitsDatagram};
 
 use crate::calls::{Candidates, GatherCall, GatherReply, PeerPayload};
 use crate::error::GatherError;
@@ -163,7 +164,7 @@ fn send_to<C: TurnClientApi>(
     now: Instant,
 ) -> Result<GatherReply, AllocError>
     requires moment { now ≤ 2 ^ 62 }
-    requires short { IsShort gatherer.old.client.config.allocation_transport payload.now }
+    requires short { FitsDatagram gatherer.old.client.config.allocation_transport payload.now }
     ensures { IfOk result (λ reply. (reply, gatherer.new) ≡ step gatherer.old (GatherCall.SendTo transport to payload.now now)) }
 {
     match gatherer.send_to(transport, to, payload.as_bytes(), now) {

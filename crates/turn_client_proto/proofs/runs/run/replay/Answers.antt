@@ -1,9 +1,9 @@
 use Rattle.turn_client_runs.proofs.PromiseLemmas.{run-bound, run-cuts, run-few, run-granted, run-hears, run-held, run-numbers, run-realm, run-replies, run-short}
 use Rattle.turn_client_api.specs.State.{initial}
-use Rattle.turn_client_runs.specs.Run.{state_behind}
 use Rattle.turn_client_proto.proofs.HeardLemmas.{gives-let-in}
 use Rattle.turn_client_proto.proofs.RunLemmas.{timely}
 use Rattle.turn_client_proto.proofs.runs.run.replay.Goals as goal
+use Rattle.turn_client_api.specs.Steps.{state_after_all}
 
 pub returns-clause-granted : goal.returns-clause-granted
 returns-clause-granted c = run-granted c.args.transport c.args.local c.args.remote c.args.config c.args.seed c.args.calls.now
@@ -16,7 +16,7 @@ returns-clause-bound c = run-bound c.args.transport c.args.local c.args.remote c
 
 pub returns-clause-given : goal.returns-clause-given
 returns-clause-given c = λ earlier middle later e.
-    gives-let-in (state_behind (initial c.args.transport c.args.local c.args.remote c.args.config c.args.seed) earlier) middle
+    gives-let-in (state_after_all (initial c.args.transport c.args.local c.args.remote c.args.config c.args.seed) earlier) middle
 
 pub returns-clause-heard : goal.returns-clause-heard
 returns-clause-heard c = run-hears c.args.transport c.args.local c.args.remote c.args.config c.args.seed c.args.calls.now
