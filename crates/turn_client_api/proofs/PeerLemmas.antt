@@ -9,7 +9,7 @@ use Rattle.std.specs.declared.net.socket_addr.SocketAddr.{SocketAddr}
 use Rattle.turn_stun.specs.Message.{Attribute}
 use Rattle.turn_stun.specs.declared.message.header.MessageClass.{MessageClass}
 use Rattle.turn_stun.specs.declared.message.header.MessageClass.TheVariants.{Request, Indication, Success, Error}
-use Rattle.turn_types.specs.Channel.{channel_at}
+use Rattle.turn_types.specs.Channel.{channel_data_at}
 use Rattle.turn_types.specs.Frames.{begins_message}
 use Rattle.turn_types.specs.Send.{data_kind}
 use Rattle.turn_types.specs.declared.attribute.icmp_report.Icmp.{Icmp}
@@ -226,11 +226,11 @@ message-IsLetThrough message now s = by (judgement_of s message) refl
     by SignedError e = rw e (nobodys message s _ (signed_step-nobodys false message now s))
 
 channel_sent-IsLetThrough : (frame : List ℕ) (s : State) → IsLetThrough frame s (channel_sent s frame)
-channel_sent-IsLetThrough frame s = by (first_in (channel_peer (channel_at frame).id) s) refl
+channel_sent-IsLetThrough frame s = by (first_in (channel_peer (channel_data_at frame).id) s) refl
   where
-    by : (o : Option SocketAddr) → first_in (channel_peer (channel_at frame).id) s ≡ o → IsLetThrough frame s (channel_sent s frame)
+    by : (o : Option SocketAddr) → first_in (channel_peer (channel_data_at frame).id) s ≡ o → IsLetThrough frame s (channel_sent s frame)
     by None e = rw e tt
-    by (Some peer) e = rw e (inr (channel-in (channel_at frame).id peer s.grants e, refl))
+    by (Some peer) e = rw e (inr (channel-in (channel_data_at frame).id peer s.grants e, refl))
 
 pub datagram-IsLetThrough : (bytes : List ℕ) (now : ℕ) (s : State) → IsLetThrough bytes s (datagram_step bytes now s).0
 datagram-IsLetThrough bytes now s = by (is_message bytes) (is_channel_frame bytes)

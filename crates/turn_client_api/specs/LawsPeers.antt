@@ -6,7 +6,7 @@ use Rattle.std.specs.declared.net.ip_addr.IpAddr.{IpAddr}
 use Rattle.std.specs.declared.net.socket_addr.SocketAddr.{SocketAddr}
 use Rattle.turn_stun.specs.Message.{Attribute}
 use Rattle.turn_stun.specs.declared.transport.TransportType.{TransportType}
-use Rattle.turn_types.specs.Channel.{channel_at}
+use Rattle.turn_types.specs.Channel.{channel_data_at}
 use Rattle.turn_types.specs.Send.{data_kind}
 use Rattle.turn_types.specs.declared.attribute.icmp_report.Icmp.{Icmp}
 use Rattle.turn_client_api.specs.State.{State, Allocated, Permission, Channel, Active, Mode, Control, Waiting, Bound, Broken, Stream}
@@ -42,7 +42,7 @@ IsDataAttribute bytes s payload =
 
 -- it is the whole payload of the ChannelData message, over the allocation's transport, and lies there
 abbrev pub IsChannelPayload : List ℕ → State → Payload → Type 0
-IsChannelPayload bytes s payload = PeerData payload ≡ data_of s payload.peer 0 (channel_at bytes).payload
+IsChannelPayload bytes s payload = PeerData payload ≡ data_of s payload.peer 0 (channel_data_at bytes).payload
 
 -- There is no DATA, and it is in the last ICMP attribute, over the allocation's transport.
 abbrev pub IsIcmpAttribute : List ℕ → State → TransportType → Icmp → Type 0
@@ -54,7 +54,7 @@ IsIcmpAttribute bytes s transport icmp =
 abbrev pub IsLetThrough : List ℕ → State → Outcome → Type 0
 IsLetThrough bytes s (PeerData payload) =
     (IsIndicated bytes payload.peer s × IsDataAttribute bytes s payload)
-    ⊎ (HasChannel (channel_at bytes).id payload.peer s × IsChannelPayload bytes s payload)
+    ⊎ (HasChannel (channel_data_at bytes).id payload.peer s × IsChannelPayload bytes s payload)
 IsLetThrough bytes s (PeerIcmp transport peer icmp) = IsIndicated bytes peer s × IsIcmpAttribute bytes s transport icmp
 IsLetThrough bytes s Handled = ⊤
 IsLetThrough bytes s Ignored = ⊤

@@ -6,7 +6,7 @@ use Rattle.std.specs.declared.ops.Range.{Range}
 use Rattle.std.specs.declared.net.socket_addr.SocketAddr.{SocketAddr}
 use Rattle.turn_stun.specs.Message.{Attribute, fault_of, id_of}
 use Rattle.turn_stun.specs.declared.transport.TransportType.{TransportType}
-use Rattle.turn_types.specs.Channel.{channel_at, channel_fault_of}
+use Rattle.turn_types.specs.Channel.{channel_data_at, channel_fault_of}
 use Rattle.turn_types.specs.Send.{data_kind}
 use Rattle.turn_types.specs.declared.attribute.icmp_report.Icmp.{Icmp}
 use Rattle.turn_auth.specs.LongTerm.{Challenge}
@@ -57,7 +57,7 @@ data_indicated s message = if has_unknown message then Ignored else by (last_pee
 -- a ChannelData message of an active channel, in any phase (RFC 8656, section 12.6)
 abbrev pub channel_sent : State → List ℕ → Outcome
 channel_sent s frame =
-    let channel = channel_at frame in
+    let channel = channel_data_at frame in
     option_map_or (λ peer. data_of s peer 0 channel.payload) (first_in (channel_peer channel.id) s) Ignored
 
 -- ---- a signed reply to an outstanding request

@@ -8,7 +8,7 @@ use Rattle.std.specs.declared.net.socket_addr.SocketAddr.{SocketAddr}
 use Rattle.std.specs.declared.ops.Range.{Range}
 use Rattle.turn_stun.specs.Message.{Attribute, HoldsValue}
 use Rattle.turn_stun.specs.Number.{u16_at}
-use Rattle.turn_types.specs.Channel.{Channel, channel_at as channel_frame_at}
+use Rattle.turn_types.specs.Channel.{Channel, channel_data_at as channel_frame_at}
 use Rattle.turn_types.specs.Send.{data_kind}
 use Rattle.turn_types.specs.declared.attribute.icmp_report.Icmp.{Icmp}
 use Rattle.turn_client_api.specs.Grants.{channel_peer, first_in, is_permitted}

@@ -7,7 +7,7 @@ use Rattle.turn_stun.specs.Message.{padded_len}
 use Rattle.turn_stun.specs.Number.{u16_at}
 use Rattle.turn_stun.proofs.GrammarLemmas.{u16_at-append, u16_at-take}
 use Rattle.turn_stun.proofs.FaultLemmas.{guard_none}
-use Rattle.turn_types.specs.Channel.{IsChannel, channel_at, channel_fault_of, channel_frame, is_channel_number}
+use Rattle.turn_types.specs.Channel.{IsChannel, channel_data_at, channel_fault_of, channel_frame, is_channel_number}
 
 -- what the tests of a ChannelData message find
 pub record PassesTests (bytes : List ℕ) : Type 0 where
@@ -35,11 +35,11 @@ three_parts n bytes =
     rw (← drop-drop n 4 bytes) (take-append-drop n (drop 4 bytes)) in
     rw (behind, take-append-drop 4 bytes) refl
 
-pub length-payload : (bytes : List ℕ) → PassesTests bytes → length (channel_at bytes).payload ≡ u16_at bytes 2
+pub length-payload : (bytes : List ℕ) → PassesTests bytes → length (channel_data_at bytes).payload ≡ u16_at bytes 2
 length-payload bytes tests = rw (length-take, length-drop) (omega (arith, tests.whole))
 
 -- bytes that pass the tests begin with the message that is read
-pub PassesTests-IsChannel : (bytes : List ℕ) → PassesTests bytes → IsChannel bytes (channel_at bytes).id (channel_at bytes).payload (drop (4 + length (channel_at bytes).payload) bytes)
+pub PassesTests-IsChannel : (bytes : List ℕ) → PassesTests bytes → IsChannel bytes (channel_data_at bytes).id (channel_data_at bytes).payload (drop (4 + length (channel_data_at bytes).payload) bytes)
 PassesTests-IsChannel bytes tests =
     record {
       header = take 4 bytes;

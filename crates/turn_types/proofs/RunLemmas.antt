@@ -2,7 +2,7 @@
 use Rattle.std.proofs.Common.{◌≡◌, ℕ, ◌≤◌, Bool, true, false, if◌then◌else◌, List, [], ◌∷◌, ◌++◌, length, take, drop, Option, Some, None, refl, sym, ap, subst, ◌∙◌, append_assoc}
 use Rattle.std.proofs.lemmas.List.{append-nil, take-append-le, drop-append-le}
 use Rattle.turn_types.specs.Frames.{Frames, begins_no_frame, frame_len, frames_of}
-use Rattle.turn_types.specs.Streams.{Stream, Turn, Call, Run, GivesFrames, broken_stream, framed, turn, turn_by, given_first, run_of, bytes_in}
+use Rattle.turn_types.specs.Streams.{Stream, NextFrame, Call, Run, GivesFrames, broken_stream, framed, next_frame, next_frame_of, given_first, run_of, bytes_in}
 use Rattle.turn_types.specs.Streams.Call.{Piece, Feed, Poll}
 use Rattle.turn_types.proofs.FrameLemmas.{begins_no_frame-append, begins_no_frame-frame_len, frame_len-IsWhole, frame_len-append}
 use Rattle.turn_types.proofs.SplitLemmas.{frames_of-none, frames_of-some}
@@ -15,15 +15,15 @@ run_of-broken_stream (Feed piece ∷ calls) = ap (given_first None) (run_of-brok
 run_of-broken_stream (Poll ∷ calls) = ap (given_first None) (run_of-broken_stream calls)
 
 -- what the first two bits and the length decide
-pub turn-no_frame : (s : Stream) → begins_no_frame s.bytes ≡ true → turn s ≡ record { frame = None; after = broken_stream }
-turn-no_frame s begins = ap (λ b. if b then record { frame = None; after = broken_stream } else turn_by s (frame_len s.bytes)) begins
+pub turn-no_frame : (s : Stream) → begins_no_frame s.bytes ≡ true → next_frame s ≡ record { frame = None; after = broken_stream }
+turn-no_frame s begins = ap (λ b. if b then record { frame = None; after = broken_stream } else next_frame_of s (frame_len s.bytes)) begins
 
-pub turn-frame_len : (s : Stream) (found : Option ℕ) → begins_no_frame s.bytes ≡ false → frame_len s.bytes ≡ found → turn s ≡ turn_by s found
+pub turn-frame_len : (s : Stream) (found : Option ℕ) → begins_no_frame s.bytes ≡ false → frame_len s.bytes ≡ found → next_frame s ≡ next_frame_of s found
 turn-frame_len s found begins e =
-    ap (λ b. if b then record { frame = None; after = broken_stream } else turn_by s (frame_len s.bytes)) begins ∙ ap (turn_by s) e
+    ap (λ b. if b then record { frame = None; after = broken_stream } else next_frame_of s (frame_len s.bytes)) begins ∙ ap (next_frame_of s) e
 
 -- a run that begins with this step returns the frames of all the bytes, if the rest of the run does
-abbrev GivesAfter : List ℕ → List Call → Turn → Type 0
+abbrev GivesAfter : List ℕ → List Call → NextFrame → Type 0
 GivesAfter bytes calls t = GivesFrames (bytes ++ bytes_in calls) (given_first t.frame (run_of t.after calls))
 
 breaks : (bytes : List ℕ) (calls : List Call) → begins_no_frame bytes ≡ true → GivesAfter bytes calls (record { frame = None; after = broken_stream })
@@ -39,7 +39,7 @@ breaks bytes calls begins =
       broken = λ broken. subst (λ (cut : Frames). begins_no_frame cut.rest ≡ true) (sym none) more;
     })
 
-goes_on : (bytes : List ℕ) (calls : List Call) → ((later : List ℕ) → GivesFrames (later ++ bytes_in calls) (run_of (framed later) calls)) → (found : Option ℕ) → frame_len bytes ≡ found → GivesAfter bytes calls (turn_by (framed bytes) found)
+goes_on : (bytes : List ℕ) (calls : List Call) → ((later : List ℕ) → GivesFrames (later ++ bytes_in calls) (run_of (framed later) calls)) → (found : Option ℕ) → frame_len bytes ≡ found → GivesAfter bytes calls (next_frame_of (framed bytes) found)
 goes_on bytes calls later None e = later bytes
 goes_on bytes calls later (Some k) e =
     let all = bytes ++ bytes_in calls in
@@ -55,13 +55,13 @@ goes_on bytes calls later (Some k) e =
       broken = λ broken. subst (λ (cut : Frames). begins_no_frame cut.rest ≡ true) (sym some) (rest.broken broken);
     }
 
-first_turn_by : (bytes : List ℕ) (calls : List Call) → ((later : List ℕ) → GivesFrames (later ++ bytes_in calls) (run_of (framed later) calls)) → (begins : Bool) → begins_no_frame bytes ≡ begins → GivesAfter bytes calls (turn (framed bytes))
+first_turn_by : (bytes : List ℕ) (calls : List Call) → ((later : List ℕ) → GivesFrames (later ++ bytes_in calls) (run_of (framed later) calls)) → (begins : Bool) → begins_no_frame bytes ≡ begins → GivesAfter bytes calls (next_frame (framed bytes))
 first_turn_by bytes calls later true e = subst (GivesAfter bytes calls) (sym (turn-no_frame (framed bytes) e)) (breaks bytes calls e)
 first_turn_by bytes calls later false e =
     subst (GivesAfter bytes calls) (sym (turn-frame_len (framed bytes) (frame_len bytes) e refl))
     (goes_on bytes calls later (frame_len bytes) refl)
 
-first_turn : (bytes : List ℕ) (calls : List Call) → ((later : List ℕ) → GivesFrames (later ++ bytes_in calls) (run_of (framed later) calls)) → GivesAfter bytes calls (turn (framed bytes))
+first_turn : (bytes : List ℕ) (calls : List Call) → ((later : List ℕ) → GivesFrames (later ++ bytes_in calls) (run_of (framed later) calls)) → GivesAfter bytes calls (next_frame (framed bytes))
 first_turn bytes calls later = first_turn_by bytes calls later (begins_no_frame bytes) refl
 
 pub run_of-GivesFrames : (calls : List Call) (bytes : List ℕ) → GivesFrames (bytes ++ bytes_in calls) (run_of (framed bytes) calls)

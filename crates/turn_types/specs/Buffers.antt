@@ -11,7 +11,7 @@ pub record Buffered : Type 0 where
 
 -- what a buffer keeps of its fields: no more returned bytes than buffered ones, and the bytes to move do
 -- not exceed those taken
-pub record IsHeld (held : List ℕ) (start : ℕ) (is_broken : Bool) (counts : TcpCounts) : Type 0 where
+pub record IsBufferValid (held : List ℕ) (start : ℕ) (is_broken : Bool) (counts : TcpCounts) : Type 0 where
   pub half : 2 * start ≤ length held
   pub nothing : is_broken ≡ true → held ≡ []
   pub paid : min (counts.moved + start) (2 ^ 64 - 1) ≤ counts.taken
@@ -69,7 +69,7 @@ cut_off n b = settled (record {
 
 -- What a call does to the counts and to the start place, if `left` bytes have left the stream and `front`
 -- bytes of the buffer preceded the rest: the rest moves if it is shorter than they are.
-pub record IsCounted (old new : Buffered) (left front : ℕ) : Type 0 where
+pub record UpdatesCounts (old new : Buffered) (left front : ℕ) : Type 0 where
   pub taken : new.counts.taken ≡ capped (old.counts.taken + left)
   pub moved : new.counts.moved ≡ capped (old.counts.moved + (if nat_lt (length new.stream.bytes) front then length new.stream.bytes else 0))
   pub start : new.start ≡ (if nat_lt (length new.stream.bytes) front then 0 else front)
@@ -84,5 +84,5 @@ abbrev pub front_by : List ℕ → ℕ → ℕ → ℕ
 front_by [] start left = 0
 front_by (b ∷ waited) start left = start + left
 
-abbrev pub front_of : Buffered → ℕ → ℕ
-front_of b left = front_by b.stream.bytes b.start left
+abbrev pub front_offset : Buffered → ℕ → ℕ
+front_offset b left = front_by b.stream.bytes b.start left

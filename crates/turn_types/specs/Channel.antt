@@ -35,8 +35,8 @@ channel_fault_of bytes =
 
 -- The contents of the ChannelData message at the start. By `IsChannel` there is no other: `parse` ensures
 -- both directions.
-abbrev pub channel_at : List ℕ → Channel
-channel_at bytes = record { id = u16_at bytes 0; payload = take (u16_at bytes 2) (drop 4 bytes) }
+abbrev pub channel_data_at : List ℕ → Channel
+channel_data_at bytes = record { id = u16_at bytes 0; payload = take (u16_at bytes 2) (drop 4 bytes) }
 
 -- what a `ChannelData` keeps of its message
 pub record IsHeldChannel (id : ℕ) (payload : List ℕ) : Type 0 where

@@ -41,21 +41,21 @@ abbrev pub with_piece : Stream → List ℕ → Stream
 with_piece s piece = if s.is_broken then s else record { bytes = s.bytes ++ piece; is_broken = false }
 
 -- what one call returns, and the stream after it
-pub record Turn : Type 0 where
+pub record NextFrame : Type 0 where
   pub frame : Option (List ℕ)
   pub after : Stream
 
-abbrev pub turn_by : Stream → Option ℕ → Turn
-turn_by s None = record { frame = None; after = s }
-turn_by s (Some k) =
+abbrev pub next_frame_of : Stream → Option ℕ → NextFrame
+next_frame_of s None = record { frame = None; after = s }
+next_frame_of s (Some k) =
     record { frame = Some (take k s.bytes); after = record { bytes = drop k s.bytes; is_broken = s.is_broken } }
 
 -- The next frame: a whole frame is returned, less than one stays buffered, and bytes that no frame begins
 -- with break the stream (our choice: where the next frame begins can't be known).
-abbrev pub turn : Stream → Turn
-turn s =
+abbrev pub next_frame : Stream → NextFrame
+next_frame s =
     if begins_no_frame s.bytes then record { frame = None; after = broken_stream }
-    else turn_by s (frame_len s.bytes)
+    else next_frame_of s (frame_len s.bytes)
 
 -- what is done to a stream: a piece is added and the next frame is requested, or one of the two
 pub data Call : Type 0 where
@@ -64,10 +64,10 @@ pub data Call : Type 0 where
   Poll : Call
 
 -- the next frame is taken if it is requested
-abbrev pub turn_at : Stream → Call → Turn
-turn_at s (Piece piece) = turn (with_piece s piece)
-turn_at s (Feed piece) = record { frame = None; after = with_piece s piece }
-turn_at s Poll = turn s
+abbrev pub next_frame_after : Stream → Call → NextFrame
+next_frame_after s (Piece piece) = next_frame (with_piece s piece)
+next_frame_after s (Feed piece) = record { frame = None; after = with_piece s piece }
+next_frame_after s Poll = next_frame s
 
 -- what calls return, one after the other, and the stream after them
 pub record Run : Type 0 where
@@ -79,7 +79,7 @@ given_first frame run = record { given = option_to_list frame ++ run.given; afte
 
 abbrev pub run_of : Stream → List Call → Run
 run_of s [] = record { given = []; after = s }
-run_of s (call ∷ calls) = given_first (turn_at s call).frame (run_of (turn_at s call).after calls)
+run_of s (call ∷ calls) = given_first (next_frame_after s call).frame (run_of (next_frame_after s call).after calls)
 
 -- the bytes received
 abbrev pub bytes_in : List Call → List ℕ

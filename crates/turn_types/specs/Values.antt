@@ -32,8 +32,8 @@ abbrev pub leading_value : ℕ → List ℕ
 leading_value byte = byte ∷ 0 ∷ 0 ∷ 0 ∷ []
 
 -- REQUESTED-ADDRESS-FAMILY (section 18.6) and ADDITIONAL-ADDRESS-FAMILY (section 18.11)
-abbrev pub family_of : List ℕ → Option AddressFamily
-family_of value = option_and_then family_with_number (leading_byte value)
+abbrev pub decoded_family : List ℕ → Option AddressFamily
+decoded_family value = option_and_then family_with_number (leading_byte value)
 
 abbrev pub family_value : AddressFamily → List ℕ
 family_value family = leading_value (family_number family)
@@ -47,8 +47,8 @@ abbrev pub transport_with_number : ℕ → Option TransportType
 transport_with_number number = if number == 17 then Some Udp else (if number == 6 then Some Tcp else None)
 
 -- REQUESTED-TRANSPORT (section 18.8)
-abbrev pub transport_of : List ℕ → Option TransportType
-transport_of value = option_and_then transport_with_number (leading_byte value)
+abbrev pub decoded_transport : List ℕ → Option TransportType
+decoded_transport value = option_and_then transport_with_number (leading_byte value)
 
 abbrev pub transport_value : TransportType → List ℕ
 transport_value transport = leading_value (protocol_number transport)

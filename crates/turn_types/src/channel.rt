@@ -2,7 +2,7 @@
 
 ghost use Rattle.std.specs.Prelude.{◌≡◌, ℕ, ◌+◌, ◌^◌, ◌<◌, ◌≤◌, List, length, drop, IfOk, IfErr, IsOkAnd, Some};
 ghost use Rattle.turn_stun.specs.Number.{u16_at};
-ghost use Rattle.turn_types.specs.Channel.{IsChannel, channel_at, channel_fault_of};
+ghost use Rattle.turn_types.specs.Channel.{IsChannel, channel_data_at, channel_fault_of};
 
 use crate::error::ChannelParseError;
 use std::marker::Model;
@@ -36,7 +36,7 @@ impl<'a> ChannelData<'a> {
     pub fn parse(bytes: &'a [u8]) -> Result<ChannelData<'a>, ChannelParseError>
         // What is accepted begins with a ChannelData message.
         ensures found { IfOk result (λ frame. IsChannel bytes.now frame.id frame.payload (drop (4 + length frame.payload) bytes.now)) }
-        ensures front { IfOk result (λ frame. frame ≡ channel_at bytes.now) }
+        ensures front { IfOk result (λ frame. frame ≡ channel_data_at bytes.now) }
         // What begins with a ChannelData message is accepted, and has no other channel or data.
         ensures only { (id : ℕ) (payload rest : List ℕ) → IsChannel bytes.now id payload rest → IsOkAnd result (λ frame. (frame.id ≡ id) × (frame.payload ≡ payload)) }
         // Which error it is.
@@ -53,7 +53,7 @@ impl<'a> ChannelData<'a> {
         requires whole { 4 + u16_at bytes.now 2 ≤ length bytes.now }
         requires least { 0x4000 ≤ u16_at bytes.now 0 }
         requires most { u16_at bytes.now 0 < 0x8000 }
-        ensures { result ≡ channel_at bytes.now }
+        ensures { result ≡ channel_data_at bytes.now }
     {
         let len = usize::from(u16::from_be_bytes([bytes[2], bytes[3]]));
         ChannelData {

@@ -1,7 +1,7 @@
 //! ADDITIONAL-ADDRESS-FAMILY (RFC 8656, section 18.11).
 
 ghost use Rattle.std.specs.Prelude.{◌≡◌, Some, IfSome};
-ghost use Rattle.turn_types.specs.Values.{family_of, family_value};
+ghost use Rattle.turn_types.specs.Values.{decoded_family, family_value};
 
 use crate::attribute::value::leading_byte;
 use crate::family::AddressFamily;
@@ -38,7 +38,7 @@ impl AdditionalAddressFamily {
     /// The attribute that requests this family.
     pub fn new(family: AddressFamily) -> AdditionalAddressFamily
         ensures family { result ≡ family }
-        ensures again { family_of (family_value result) ≡ Some family }
+        ensures again { decoded_family (family_value result) ≡ Some family }
     {
         AdditionalAddressFamily { family }
     }
@@ -54,7 +54,7 @@ impl AdditionalAddressFamily {
 impl<'a> AttributeFromRaw<'a> for AdditionalAddressFamily {
     ghost kind = { 0x8000 };
 
-    ghost decodes = { λ value id found. found ≡ family_of value };
+    ghost decodes = { λ value id found. found ≡ decoded_family value };
 
     fn attribute_type() -> AttributeType
         ensures { result.value ≡ 0x8000 }
@@ -63,7 +63,7 @@ impl<'a> AttributeFromRaw<'a> for AdditionalAddressFamily {
     }
 
     fn from_value(value: &'a [u8], _id: TransactionId) -> Option<AdditionalAddressFamily>
-        ensures found { result ≡ family_of value.now }
+        ensures found { result ≡ decoded_family value.now }
         // It is written again unchanged.
         ensures again { IfSome result (λ family. family_value family ≡ value.now) }
     {

@@ -1,7 +1,7 @@
 //! REQUESTED-ADDRESS-FAMILY (RFC 8656, section 18.6).
 
 ghost use Rattle.std.specs.Prelude.{◌≡◌, Some, IfSome};
-ghost use Rattle.turn_types.specs.Values.{family_of, family_value};
+ghost use Rattle.turn_types.specs.Values.{decoded_family, family_value};
 
 use crate::attribute::value::leading_byte;
 use crate::family::AddressFamily;
@@ -35,7 +35,7 @@ impl RequestedAddressFamily {
     /// The attribute that requests this family.
     pub fn new(family: AddressFamily) -> RequestedAddressFamily
         ensures family { result ≡ family }
-        ensures again { family_of (family_value result) ≡ Some family }
+        ensures again { decoded_family (family_value result) ≡ Some family }
     {
         RequestedAddressFamily { family }
     }
@@ -51,7 +51,7 @@ impl RequestedAddressFamily {
 impl<'a> AttributeFromRaw<'a> for RequestedAddressFamily {
     ghost kind = { 0x0017 };
 
-    ghost decodes = { λ value id found. found ≡ family_of value };
+    ghost decodes = { λ value id found. found ≡ decoded_family value };
 
     fn attribute_type() -> AttributeType
         ensures { result.value ≡ 0x0017 }
@@ -60,7 +60,7 @@ impl<'a> AttributeFromRaw<'a> for RequestedAddressFamily {
     }
 
     fn from_value(value: &'a [u8], _id: TransactionId) -> Option<RequestedAddressFamily>
-        ensures found { result ≡ family_of value.now }
+        ensures found { result ≡ decoded_family value.now }
         // It is written again unchanged.
         ensures again { IfSome result (λ family. family_value family ≡ value.now) }
     {

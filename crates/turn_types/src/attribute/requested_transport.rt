@@ -1,7 +1,7 @@
 //! REQUESTED-TRANSPORT (RFC 8656, section 18.8, and RFC 6062, section 4.1).
 
 ghost use Rattle.std.specs.Prelude.{◌≡◌, Some, IfSome};
-ghost use Rattle.turn_types.specs.Values.{protocol_number, transport_of, transport_value, transport_with_number};
+ghost use Rattle.turn_types.specs.Values.{protocol_number, decoded_transport, transport_value, transport_with_number};
 
 use crate::attribute::value::leading_byte;
 use std::alloc::AllocError;
@@ -35,7 +35,7 @@ impl RequestedTransport {
     /// The attribute that requests this transport.
     pub fn new(transport: TransportType) -> RequestedTransport
         ensures transport { result ≡ transport }
-        ensures again { transport_of (transport_value result) ≡ Some transport }
+        ensures again { decoded_transport (transport_value result) ≡ Some transport }
     {
         RequestedTransport { transport }
     }
@@ -51,7 +51,7 @@ impl RequestedTransport {
 impl<'a> AttributeFromRaw<'a> for RequestedTransport {
     ghost kind = { 0x0019 };
 
-    ghost decodes = { λ value id found. found ≡ transport_of value };
+    ghost decodes = { λ value id found. found ≡ decoded_transport value };
 
     fn attribute_type() -> AttributeType
         ensures { result.value ≡ 0x0019 }
@@ -60,7 +60,7 @@ impl<'a> AttributeFromRaw<'a> for RequestedTransport {
     }
 
     fn from_value(value: &'a [u8], _id: TransactionId) -> Option<RequestedTransport>
-        ensures found { result ≡ transport_of value.now }
+        ensures found { result ≡ decoded_transport value.now }
         // It is written again unchanged.
         ensures again { IfSome result (λ transport. transport_value transport ≡ value.now) }
     {

@@ -2,10 +2,10 @@
 
 ghost use Rattle.std.specs.Prelude.{◌≡◌, ◌+◌, ◌<◌, ◌↔◌, true, false, [], length, IsTrue, OnOk, OnErr, IsOk, IsErr, IfOk, IsNone, IsSome, IfSome, Some, None, Ok};
 ghost use Rattle.std.specs.Option.{option_map};
-ghost use Rattle.turn_types.specs.Buffers.{IsCounted, IsKept, front_of, left_of};
+ghost use Rattle.turn_types.specs.Buffers.{UpdatesCounts, IsKept, front_offset, left_of};
 ghost use Rattle.turn_types.specs.Frames.{frame_len};
 ghost use Rattle.turn_types.specs.Incoming.{stored_bytes, incoming_bytes, IsNamedStored, IsNamedIncoming, ComesWith};
-ghost use Rattle.turn_types.specs.Streams.{turn_at, broken_stream, framed, with_piece};
+ghost use Rattle.turn_types.specs.Streams.{next_frame_after, broken_stream, framed, with_piece};
 ghost use Rattle.turn_types.specs.Streams.Call.{Piece, Poll};
 
 mod held;
@@ -44,13 +44,13 @@ pub struct TurnTcpBuffer {
 
 impl Model for TurnTcpBuffer {
     ghost use Rattle.std.specs.Prelude.{drop};
-    ghost use Rattle.turn_types.specs.Buffers.{Buffered, IsHeld};
+    ghost use Rattle.turn_types.specs.Buffers.{Buffered, IsBufferValid};
 
     ghost Value = { Buffered };
 
     ghost view = { λ b. record { stream = record { bytes = drop b.start b.bytes.items; is_broken = b.is_broken }; start = b.start; counts = b.counts } };
 
-    ghost invariant = { λ b. IsHeld b.bytes.items b.start b.is_broken b.counts };
+    ghost invariant = { λ b. IsBufferValid b.bytes.items b.start b.is_broken b.counts };
 }
 
 impl TurnTcpBuffer {
@@ -82,10 +82,10 @@ impl TurnTcpBuffer {
         transmit: Transmit<T>,
     ) -> Result<Option<IncomingTcp<T>>, AllocError>
         // The piece is appended to the buffered bytes, and then the next frame is taken.
-        ensures frame { IfOk result (λ given. (turn_at self.old.stream (Piece (T.items transmit.payload))).frame ≡ option_map (incoming_bytes T.items) given) }
+        ensures frame { IfOk result (λ given. (next_frame_after self.old.stream (Piece (T.items transmit.payload))).frame ≡ option_map (incoming_bytes T.items) given) }
         ensures named { IfOk result (λ given. IfSome given (IsNamedIncoming T.items)) }
         ensures place { IfOk result (λ given. IfSome given (ComesWith T.items self.old.stream.bytes transmit)) }
-        ensures after { OnOk result (self.new.stream ≡ (turn_at self.old.stream (Piece (T.items transmit.payload))).after) }
+        ensures after { OnOk result (self.new.stream ≡ (next_frame_after self.old.stream (Piece (T.items transmit.payload))).after) }
 
         // An allocation failure breaks the stream. One whole frame allocates none if the buffer is empty.
         ensures err { OnErr result (self.new.stream ≡ broken_stream) }
@@ -95,7 +95,7 @@ impl TurnTcpBuffer {
         // The bytes that are held, and those that were moved.
         ensures drained { IfOk result (λ given. IsNone given → length self.new.stream.bytes < 65556) }
         ensures kept { IsKept self.new }
-        ensures counted { let left = left_of (with_piece self.old.stream (T.items transmit.payload)).bytes self.new in IsCounted self.old self.new left (front_of self.old left) }
+        ensures counted { let left = left_of (with_piece self.old.stream (T.items transmit.payload)).bytes self.new in UpdatesCounts self.old self.new left (front_offset self.old left) }
     {
         if self.is_broken {
             return Ok(None);
@@ -114,15 +114,15 @@ impl TurnTcpBuffer {
     ) -> Result<Option<IncomingTcp<T>>, AllocError>
         requires nothing { self.old.stream ≡ framed [] }
         requires start { self.old.start ≡ 0 }
-        ensures frame { IfOk result (λ given. (turn_at self.old.stream (Piece (T.items transmit.payload))).frame ≡ option_map (incoming_bytes T.items) given) }
+        ensures frame { IfOk result (λ given. (next_frame_after self.old.stream (Piece (T.items transmit.payload))).frame ≡ option_map (incoming_bytes T.items) given) }
         ensures named { IfOk result (λ given. IfSome given (IsNamedIncoming T.items)) }
         ensures place { IfOk result (λ given. IfSome given (ComesWith T.items self.old.stream.bytes transmit)) }
-        ensures after { OnOk result (self.new.stream ≡ (turn_at self.old.stream (Piece (T.items transmit.payload))).after) }
+        ensures after { OnOk result (self.new.stream ≡ (next_frame_after self.old.stream (Piece (T.items transmit.payload))).after) }
         ensures err { OnErr result (self.new.stream ≡ broken_stream) }
         ensures whole { frame_len (T.items transmit.payload) ≡ Some (length (T.items transmit.payload)) → IsOk result }
         ensures drained { IfOk result (λ given. IsNone given → length self.new.stream.bytes < 65556) }
         ensures kept { IsKept self.new }
-        ensures counted { IsCounted self.old self.new (left_of (T.items transmit.payload) self.new) 0 }
+        ensures counted { UpdatesCounts self.old self.new (left_of (T.items transmit.payload) self.new) 0 }
     {
         let piece = transmit.payload.as_slice();
         match head_of(piece) {
@@ -152,14 +152,14 @@ impl TurnTcpBuffer {
     ) -> Result<Option<IncomingTcp<T>>, AllocError>
         requires unbroken { self.old.stream.is_broken ≡ false }
         requires waiting { 0 < length self.old.stream.bytes }
-        ensures frame { IfOk result (λ given. (turn_at self.old.stream (Piece (T.items transmit.payload))).frame ≡ option_map (incoming_bytes T.items) given) }
+        ensures frame { IfOk result (λ given. (next_frame_after self.old.stream (Piece (T.items transmit.payload))).frame ≡ option_map (incoming_bytes T.items) given) }
         ensures named { IfOk result (λ given. IfSome given (IsNamedIncoming T.items)) }
         ensures place { IfOk result (λ given. IfSome given (ComesWith T.items self.old.stream.bytes transmit)) }
-        ensures after { OnOk result (self.new.stream ≡ (turn_at self.old.stream (Piece (T.items transmit.payload))).after) }
+        ensures after { OnOk result (self.new.stream ≡ (next_frame_after self.old.stream (Piece (T.items transmit.payload))).after) }
         ensures err { OnErr result (self.new.stream ≡ broken_stream) }
         ensures drained { IfOk result (λ given. IsNone given → length self.new.stream.bytes < 65556) }
         ensures kept { IsKept self.new }
-        ensures counted { let left = left_of (with_piece self.old.stream (T.items transmit.payload)).bytes self.new in IsCounted self.old self.new left (self.old.start + left) }
+        ensures counted { let left = left_of (with_piece self.old.stream (T.items transmit.payload)).bytes self.new in UpdatesCounts self.old self.new left (self.old.start + left) }
     {
         let piece = transmit.payload.as_slice();
         if let Err(error) = self.store(piece) {
@@ -186,18 +186,18 @@ impl TurnTcpBuffer {
     /// `AllocError` if memory allocation for the frame fails. The stream is then broken.
     pub fn poll_recv(&mut self) -> Result<Option<StoredTcp>, AllocError>
         // The next frame is taken.
-        ensures frame { IfOk result (λ given. (turn_at self.old.stream Poll).frame ≡ option_map stored_bytes given) }
+        ensures frame { IfOk result (λ given. (next_frame_after self.old.stream Poll).frame ≡ option_map stored_bytes given) }
         ensures named { IfOk result (λ given. IfSome given IsNamedStored) }
-        ensures after { OnOk result (self.new.stream ≡ (turn_at self.old.stream Poll).after) }
+        ensures after { OnOk result (self.new.stream ≡ (next_frame_after self.old.stream Poll).after) }
 
         // An allocation failure breaks the stream. Only a frame needs an allocation.
         ensures err { OnErr result (self.new.stream ≡ broken_stream) }
-        ensures memory { IsErr result → IsSome (turn_at self.old.stream Poll).frame }
+        ensures memory { IsErr result → IsSome (next_frame_after self.old.stream Poll).frame }
 
         // The bytes that are held, and those that were moved.
         ensures drained { IfOk result (λ given. IsNone given → length self.new.stream.bytes < 65556) }
         ensures kept { IsKept self.new }
-        ensures counted { let left = left_of self.old.stream.bytes self.new in IsCounted self.old self.new left (self.old.start + left) }
+        ensures counted { let left = left_of self.old.stream.bytes self.new in UpdatesCounts self.old self.new left (self.old.start + left) }
     {
         match head_of(self.rest()) {
             Head::Partial => Ok(None),

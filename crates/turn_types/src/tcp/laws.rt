@@ -6,7 +6,7 @@ ghost use Rattle.turn_stun.specs.Message.{Attribute, IsMessage};
 ghost use Rattle.turn_types.specs.Channel.{channel_frame};
 ghost use Rattle.turn_types.specs.Cuts.{behind, drained, fed_each};
 ghost use Rattle.turn_types.specs.Frames.{Frames, AreFrames, IsFrame, IsMessageFrame, IsChannelFrame, frame_len, frames_of};
-ghost use Rattle.turn_types.specs.Streams.{Mode, size_in, Call, GivesFrames, broken_stream, framed, turn, run_of, bytes_in};
+ghost use Rattle.turn_types.specs.Streams.{Mode, size_in, Call, GivesFrames, broken_stream, framed, next_frame, run_of, bytes_in};
 ghost use Rattle.turn_types.specs.Streams.Mode.{Framed};
 
 /// The law of cuts: code that takes the frames of a stream one after the other, in a state that may
@@ -23,11 +23,11 @@ pub fn same_for_any_cut<S, O>()
 /// (`poll_recv`, or `front` and `pass`) is the next step, and else each byte is a step of its own.
 pub fn turns_are_steps<S, O>()
     // A frame that is returned is processed, and then the rest.
-    ensures frame { (mode : S → Mode) (handle : S → List ℕ → S × List O) (state : S) (bytes frame : List ℕ) → mode state ≡ Framed → (turn (framed bytes)).frame ≡ Some frame → drained (λ s. size_in (mode s)) handle state bytes ≡ behind (handle state frame).1 (drained (λ s. size_in (mode s)) handle (handle state frame).0 (turn (framed bytes)).after.bytes) }
+    ensures frame { (mode : S → Mode) (handle : S → List ℕ → S × List O) (state : S) (bytes frame : List ℕ) → mode state ≡ Framed → (next_frame (framed bytes)).frame ≡ Some frame → drained (λ s. size_in (mode s)) handle state bytes ≡ behind (handle state frame).1 (drained (λ s. size_in (mode s)) handle (handle state frame).0 (next_frame (framed bytes)).after.bytes) }
     // Less than a frame stays buffered.
-    ensures waits { (mode : S → Mode) (handle : S → List ℕ → S × List O) (state : S) (bytes : List ℕ) → mode state ≡ Framed → (turn (framed bytes)).frame ≡ None → (turn (framed bytes)).after.is_broken ≡ false → drained (λ s. size_in (mode s)) handle state bytes ≡ record { state = state; given = []; rest = bytes } }
+    ensures waits { (mode : S → Mode) (handle : S → List ℕ → S × List O) (state : S) (bytes : List ℕ) → mode state ≡ Framed → (next_frame (framed bytes)).frame ≡ None → (next_frame (framed bytes)).after.is_broken ≡ false → drained (λ s. size_in (mode s)) handle state bytes ≡ record { state = state; given = []; rest = bytes } }
     // The byte that breaks the stream is processed alone.
-    ensures breaks { (mode : S → Mode) (handle : S → List ℕ → S × List O) (state : S) (bytes : List ℕ) → mode state ≡ Framed → (turn (framed bytes)).after.is_broken ≡ true → drained (λ s. size_in (mode s)) handle state bytes ≡ behind (handle state (take 1 bytes)).1 (drained (λ s. size_in (mode s)) handle (handle state (take 1 bytes)).0 (drop 1 bytes)) }
+    ensures breaks { (mode : S → Mode) (handle : S → List ℕ → S × List O) (state : S) (bytes : List ℕ) → mode state ≡ Framed → (next_frame (framed bytes)).after.is_broken ≡ true → drained (λ s. size_in (mode s)) handle state bytes ≡ behind (handle state (take 1 bytes)).1 (drained (λ s. size_in (mode s)) handle (handle state (take 1 bytes)).0 (drop 1 bytes)) }
     // Bytes that are not frames are processed one by one.
     ensures byte { (mode : S → Mode) (handle : S → List ℕ → S × List O) (state : S) (byte : ℕ) (bytes : List ℕ) → (mode state ≡ Framed → ⊥) → drained (λ s. size_in (mode s)) handle state (byte ∷ bytes) ≡ behind (handle state (byte ∷ [])).1 (drained (λ s. size_in (mode s)) handle (handle state (byte ∷ [])).0 bytes) }
 {}

@@ -6,7 +6,7 @@ ghost use Rattle.turn_client_api.specs.Grants.{is_permitted};
 ghost use Rattle.turn_client_api.specs.Payloads.{channel_sent, data_indicated};
 ghost use Rattle.turn_client_core.specs.Indication.{icmp_of_peer, let_in};
 ghost use Rattle.turn_client_core.specs.Told.{IsPart, outcome_in};
-ghost use Rattle.turn_types.specs.Channel.{channel_at};
+ghost use Rattle.turn_types.specs.Channel.{channel_data_at};
 
 use crate::indication::Indication;
 use crate::protocol::TurnClientProtocol;
@@ -54,7 +54,7 @@ impl TurnClientProtocol {
     /// The result of the ChannelData message at the start of these bytes: data of the peer whose active
     /// channel has the number, in any phase. Allocates no memory.
     pub(crate) fn channel_sent(&self, bytes: &[u8], frame: &ChannelData<'_>) -> Told
-        requires frame { frame.now ≡ channel_at bytes.now }
+        requires frame { frame.now ≡ channel_data_at bytes.now }
         requires whole { 4 + length frame.now.payload ≤ length bytes.now }
         ensures outcome { outcome_in bytes.now result ≡ channel_sent self.now bytes.now }
         ensures part { IsPart bytes.now self.now self.now result }

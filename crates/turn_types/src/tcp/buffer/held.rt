@@ -1,7 +1,7 @@
 //! What a buffer holds, and how it changes.
 
 ghost use Rattle.std.specs.Prelude.{◌≡◌, ◌+◌, ◌-◌, ◌≤◌, false, [], length, take, drop, OnOk, OnErr, IsOk, IfOk};
-ghost use Rattle.turn_types.specs.Buffers.{IsCounted, IsKept, broken_off, stored, cut_off, left_of, with_taken};
+ghost use Rattle.turn_types.specs.Buffers.{UpdatesCounts, IsKept, broken_off, stored, cut_off, left_of, with_taken};
 ghost use Rattle.turn_types.specs.Streams.{broken_stream, framed};
 
 use crate::tcp::buffer::TurnTcpBuffer;
@@ -84,7 +84,7 @@ impl TurnTcpBuffer {
         ensures ok { OnOk result (self.new ≡ cut_off len self.old) }
         ensures err { OnErr result (self.new ≡ broken_off 0 self.old) }
         ensures kept { IsKept self.new }
-        ensures counted { IsCounted self.old self.new (left_of self.old.stream.bytes self.new) (self.old.start + left_of self.old.stream.bytes self.new) }
+        ensures counted { UpdatesCounts self.old self.new (left_of self.old.stream.bytes self.new) (self.old.start + left_of self.old.stream.bytes self.new) }
     {
         let alloc = *self.bytes.allocator();
         match Vec::from_slice(alloc, &self.rest()[..len]) {
@@ -109,7 +109,7 @@ impl TurnTcpBuffer {
         ensures err { OnErr result (self.new.stream ≡ broken_stream) }
         ensures whole { len ≡ length piece.now → IsOk result }
         ensures kept { IsKept self.new }
-        ensures counted { IsCounted self.old self.new (left_of piece.now self.new) 0 }
+        ensures counted { UpdatesCounts self.old self.new (left_of piece.now self.new) 0 }
     {
         match self.store(&piece[len..]) {
             Ok(()) => {

@@ -2,9 +2,9 @@
 
 ghost use Rattle.std.specs.Prelude.{◌≡◌, ◌+◌, ◌<◌, true, length, None, OnOk, OnErr, IsOk, IsNone, IfSome};
 ghost use Rattle.std.specs.Option.{option_copied};
-ghost use Rattle.turn_types.specs.Buffers.{IsCounted, IsKept, left_of};
+ghost use Rattle.turn_types.specs.Buffers.{UpdatesCounts, IsKept, left_of};
 ghost use Rattle.turn_types.specs.Frames.{IsFrame, begins_no_frame};
-ghost use Rattle.turn_types.specs.Streams.{turn_at, broken_stream, with_piece};
+ghost use Rattle.turn_types.specs.Streams.{next_frame_after, broken_stream, with_piece};
 ghost use Rattle.turn_types.specs.Streams.Call.{Feed, Poll};
 
 use crate::tcp::buffer::TurnTcpBuffer;
@@ -19,13 +19,13 @@ impl TurnTcpBuffer {
     /// `AllocError` if memory allocation for the piece fails. The stream is then broken.
     pub fn feed(&mut self, piece: &[u8]) -> Result<(), AllocError>
         // The piece is appended to the buffered bytes.
-        ensures ok { OnOk result (self.new.stream ≡ (turn_at self.old.stream (Feed piece.now)).after) }
+        ensures ok { OnOk result (self.new.stream ≡ (next_frame_after self.old.stream (Feed piece.now)).after) }
         ensures err { OnErr result (self.new.stream ≡ broken_stream) }
         ensures broken { self.old.stream.is_broken ≡ true → IsOk result × (self.new ≡ self.old) }
 
         // The bytes that are held, and those that were moved.
         ensures kept { IsKept self.new }
-        ensures counted { let left = left_of (with_piece self.old.stream piece.now).bytes self.new in IsCounted self.old self.new left (self.old.start + left) }
+        ensures counted { let left = left_of (with_piece self.old.stream piece.now).bytes self.new in UpdatesCounts self.old self.new left (self.old.start + left) }
     {
         if self.is_broken {
             return Ok(());
@@ -40,11 +40,11 @@ impl TurnTcpBuffer {
     /// The next frame, if it is whole, borrowed from the buffer. It stays the next one until `pass`.
     pub fn front(&self) -> Option<&[u8]>
         // It is what `poll_recv` would return.
-        ensures frame { option_copied result ≡ (turn_at self.now.stream Poll).frame }
+        ensures frame { option_copied result ≡ (next_frame_after self.now.stream Poll).frame }
         ensures named { IfSome result (λ frame. IsFrame frame.now) }
 
         // Without a whole first frame, `pass` leaves little.
-        ensures drained { IsNone result → length (turn_at self.now.stream Poll).after.bytes < 65556 }
+        ensures drained { IsNone result → length (next_frame_after self.now.stream Poll).after.bytes < 65556 }
     {
         let rest = self.rest();
         match head_of(rest) {
@@ -58,12 +58,12 @@ impl TurnTcpBuffer {
     /// It does the same to the stream as `poll_recv`: less than a frame stays buffered, and bytes that no
     /// frame begins with break the stream.
     pub fn pass(&mut self)
-        ensures after { self.new.stream ≡ (turn_at self.old.stream Poll).after }
+        ensures after { self.new.stream ≡ (next_frame_after self.old.stream Poll).after }
 
         // The bytes that are held, and those that were moved.
-        ensures drained { (turn_at self.old.stream Poll).frame ≡ None → length self.new.stream.bytes < 65556 }
+        ensures drained { (next_frame_after self.old.stream Poll).frame ≡ None → length self.new.stream.bytes < 65556 }
         ensures kept { IsKept self.new }
-        ensures counted { let left = left_of self.old.stream.bytes self.new in IsCounted self.old self.new left (self.old.start + left) }
+        ensures counted { let left = left_of self.old.stream.bytes self.new in UpdatesCounts self.old self.new left (self.old.start + left) }
     {
         match head_of(self.rest()) {
             Head::Partial => {}
