@@ -14,7 +14,7 @@ use Rattle.turn_stun.specs.declared.transport.Transmit.{Transmit}
 use Rattle.turn_stun.specs.Message.{type_of, id_of}
 use Rattle.turn_stun.specs.MessageType.{class_of, IsResponse}
 use Rattle.turn_agent.specs.Schedule.{Timers, resends_of}
-use Rattle.turn_agent.specs.Agent.{Agent, AreDistinct, sent_again, answers, same_address, is_outstanding, is_response, handle_step, poll_step, transmit_step, due, given_up, is_due, is_given_up, next_moment, earliest, ended, IsSilentAt, IsSoonest, IsQuietUntil}
+use Rattle.turn_agent.specs.Agent.{Agent, AreDistinct, sent_again, answers, same_address, is_outstanding, is_response, handle_step, agent_poll_step, agent_transmit_step, due, timed_out_transaction, is_due, is_given_up, next_moment, earliest, transaction_removed, IsSilentAt, IsSoonest, IsQuietUntil}
 use Rattle.turn_agent.specs.declared.agent.StunAgentPollRet.{StunAgentPollRet}
 use Rattle.turn_agent.specs.declared.agent.StunAgentPollRet.TheVariants.{TransactionTimedOut, WaitUntil}
 use Rattle.turn_agent.specs.declared.transaction.Transaction.{Transaction}
@@ -128,7 +128,7 @@ answers-id id from ts i t at taken =
     eqb-true t.id id (and_parts (eqb t.id id) (same_address t.to from) passes).0
 
 -- a response that answers the transaction at this place
-pub handle_step-ended : (a : Agent) (message : List ℕ) (from : SocketAddr) (i : ℕ) (t : Transaction) → IsResponse (class_of (type_of message)) → position (answers (id_of message) from) a.transactions ≡ Some i → slice_get a.transactions i ≡ Some t → ◌≡◌ {A = Bool × Agent} (true, ended t.id a) (handle_step a message from)
+pub handle_step-ended : (a : Agent) (message : List ℕ) (from : SocketAddr) (i : ℕ) (t : Transaction) → IsResponse (class_of (type_of message)) → position (answers (id_of message) from) a.transactions ≡ Some i → slice_get a.transactions i ≡ Some t → ◌≡◌ {A = Bool × Agent} (true, transaction_removed t.id a) (handle_step a message from)
 handle_step-ended a message from i t is at taken =
     let found = position-found (answers (id_of message) from) a.transactions i t at taken in
     let answered = list_any-some (answers (id_of message) from) a.transactions t found in
@@ -152,7 +152,7 @@ IsScanned-found timers transport now ts i least d is within over =
 -- ---- poll
 
 -- the transaction at this place times out
-pub poll_step-over : (a : Agent) (now i : ℕ) (t : Transaction) → given_up a now ≡ slice_get a.transactions i → slice_get a.transactions i ≡ Some t → ◌≡◌ {A = StunAgentPollRet × Agent} (TransactionTimedOut t.id, ended t.id a) (poll_step a now)
+pub poll_step-over : (a : Agent) (now i : ℕ) (t : Transaction) → timed_out_transaction a now ≡ slice_get a.transactions i → slice_get a.transactions i ≡ Some t → ◌≡◌ {A = StunAgentPollRet × Agent} (TransactionTimedOut t.id, transaction_removed t.id a) (agent_poll_step a now)
 poll_step-over a now i t first taken = rw (first ∙ taken) refl
 
 -- the least of all is not above the start value
@@ -199,11 +199,11 @@ some_due timers transport now start (t ∷ ts) none below past =
 
 -- ---- poll_transmit
 
-pub transmit_step-none : (a : Agent) (now : ℕ) → position (is_due a.timers a.transport now) a.transactions ≡ None → ◌≡◌ {A = Option (Transmit (List ℕ)) × Agent} (None, a) (transmit_step a now)
+pub transmit_step-none : (a : Agent) (now : ℕ) → position (is_due a.timers a.transport now) a.transactions ≡ None → ◌≡◌ {A = Option (Transmit (List ℕ)) × Agent} (None, a) (agent_transmit_step a now)
 transmit_step-none a now none = rw (position-none _ a.transactions none) refl
 
 -- the request at this place is sent
-pub transmit_step-sent : (a : Agent) (now i : ℕ) (d : Transaction) → AreDistinct a.transactions → position (is_due a.timers a.transport now) a.transactions ≡ Some i → ◌≡◌ {A = Option (Transmit (List ℕ)) × Agent} (Some (record { payload = (get_or a.transactions i d).request; transport = a.transport; from = a.local; to = (get_or a.transactions i d).to }), record a { transactions = set a.transactions i (sent_again now (get_or a.transactions i d)) }) (transmit_step a now)
+pub transmit_step-sent : (a : Agent) (now i : ℕ) (d : Transaction) → AreDistinct a.transactions → position (is_due a.timers a.transport now) a.transactions ≡ Some i → ◌≡◌ {A = Option (Transmit (List ℕ)) × Agent} (Some (record { payload = (get_or a.transactions i d).request; transport = a.transport; from = a.local; to = (get_or a.transactions i d).to }), record a { transactions = set a.transactions i (sent_again now (get_or a.transactions i d)) }) (agent_transmit_step a now)
 transmit_step-sent a now i d distinct at =
     let first = position-IsFirst (is_due a.timers a.transport now) a.transactions i at in
     rw (first.found d, set-resent now a.transactions i d distinct first.within) refl
@@ -225,7 +225,7 @@ is_due-counted timers transport now ts i d at =
 pub IsSilentAt-quiet : (a : Agent) (now soonest moment : ℕ) → IsQuietUntil a now soonest → moment < soonest → IsSilentAt a moment
 IsSilentAt-quiet a now soonest moment quiet before = IsSilentAt-before a moment (rw (← quiet.1.1) before)
 
-pub poll_step-quiet : (a : Agent) (now soonest : ℕ) → IsQuietUntil a now soonest → ◌≡◌ {A = StunAgentPollRet × Agent} (WaitUntil soonest, a) (poll_step a now)
+pub poll_step-quiet : (a : Agent) (now soonest : ℕ) → IsQuietUntil a now soonest → ◌≡◌ {A = StunAgentPollRet × Agent} (WaitUntil soonest, a) (agent_poll_step a now)
 poll_step-quiet a now soonest quiet =
     let silent = IsSilentAt-quiet a now soonest now quiet quiet.0 in
     let some : eqb (length a.transactions) 0 ≡ false = ne_eqb (length a.transactions) 0 (λ none. omega (arith, none, quiet.1.0)) in

@@ -2,7 +2,7 @@
 use Rattle.std.proofs.Common.{◌≡◌, ℕ, zero, suc, ◌<◌, Bool, true, false, cond, eqb, List, [], ◌∷◌, ◌++◌, ◌||◌, length, take, drop, get_or, set, refl, sym, ◌∙◌, arith}
 use Rattle.std.proofs.lemmas.Bool.{or_parts, eq-eqb, eqb-true, ne_eqb, eqb-false}
 use Rattle.std.proofs.lemmas.List.Folds.{list_any-append}
-use Rattle.turn_agent.specs.Agent.{is_outstanding, AreDistinct, AreIdsOf, without, resent, sent_again}
+use Rattle.turn_agent.specs.Agent.{is_outstanding, AreDistinct, AreIdsOf, without_transaction, resent, sent_again}
 use Rattle.turn_agent.specs.declared.transaction.Transaction.{Transaction}
 
 -- two numbers differ in either order
@@ -19,37 +19,37 @@ AreDistinct-push (u ∷ ts) t distinct fresh =
     )
 
 -- if the ID is not outstanding, nothing is left out
-pub without-none : (id : ℕ) (ts : List Transaction) → is_outstanding id ts ≡ false → without id ts ≡ ts
+pub without-none : (id : ℕ) (ts : List Transaction) → is_outstanding id ts ≡ false → without_transaction id ts ≡ ts
 without-none id [] none = refl
 without-none id (t ∷ ts) none =
     let parts = or_parts (eqb t.id id) (is_outstanding id ts) none in
     rw (parts.0, without-none id ts parts.1) refl
 
 -- the ID that was left out is not outstanding
-pub is_outstanding-without : (id : ℕ) (ts : List Transaction) → is_outstanding id (without id ts) ≡ false
+pub is_outstanding-without : (id : ℕ) (ts : List Transaction) → is_outstanding id (without_transaction id ts) ≡ false
 is_outstanding-without id [] = refl
 is_outstanding-without id (t ∷ ts) = by (is_outstanding-without id ts) (eqb t.id id) refl
   where
-    by : is_outstanding id (without id ts) ≡ false → (b : Bool) → eqb t.id id ≡ b → is_outstanding id (without id (t ∷ ts)) ≡ false
+    by : is_outstanding id (without_transaction id ts) ≡ false → (b : Bool) → eqb t.id id ≡ b → is_outstanding id (without_transaction id (t ∷ ts)) ≡ false
     by others true same = rw same others
     by others false other = rw other (rw other others)
 
 -- nor is one that was not before
-is_outstanding-without_other : (id other : ℕ) (ts : List Transaction) → is_outstanding other ts ≡ false → is_outstanding other (without id ts) ≡ false
+is_outstanding-without_other : (id other : ℕ) (ts : List Transaction) → is_outstanding other ts ≡ false → is_outstanding other (without_transaction id ts) ≡ false
 is_outstanding-without_other id other [] none = refl
 is_outstanding-without_other id other (t ∷ ts) none =
     let parts = or_parts (eqb t.id other) (is_outstanding other ts) none in
     by (is_outstanding-without_other id other ts parts.1) parts.0 (eqb t.id id) refl
   where
-    by : is_outstanding other (without id ts) ≡ false → eqb t.id other ≡ false → (b : Bool) → eqb t.id id ≡ b → is_outstanding other (without id (t ∷ ts)) ≡ false
+    by : is_outstanding other (without_transaction id ts) ≡ false → eqb t.id other ≡ false → (b : Bool) → eqb t.id id ≡ b → is_outstanding other (without_transaction id (t ∷ ts)) ≡ false
     by others here true same = rw same others
     by others here false differ = rw differ (rw here others)
 
-pub AreDistinct-without : (id : ℕ) (ts : List Transaction) → AreDistinct ts → AreDistinct (without id ts)
+pub AreDistinct-without : (id : ℕ) (ts : List Transaction) → AreDistinct ts → AreDistinct (without_transaction id ts)
 AreDistinct-without id [] distinct = tt
 AreDistinct-without id (t ∷ ts) distinct = by (AreDistinct-without id ts distinct.1) (eqb t.id id) refl
   where
-    by : AreDistinct (without id ts) → (b : Bool) → eqb t.id id ≡ b → AreDistinct (without id (t ∷ ts))
+    by : AreDistinct (without_transaction id ts) → (b : Bool) → eqb t.id id ≡ b → AreDistinct (without_transaction id (t ∷ ts))
     by others true same = rw same others
     by others false differ = rw differ (is_outstanding-without_other id t.id ts distinct.0, others)
 
@@ -61,7 +61,7 @@ other_id_at id (t ∷ ts) (suc i) d none within =
     other_id_at id ts i d (or_parts (eqb t.id id) (is_outstanding id ts) none).1 (omega arith)
 
 -- to remove the one at a place is to leave out its ID
-pub remove-without : (ts : List Transaction) (i : ℕ) (d : Transaction) → AreDistinct ts → i < length ts → take i ts ++ drop (suc i) ts ≡ without (get_or ts i d).id ts
+pub remove-without : (ts : List Transaction) (i : ℕ) (d : Transaction) → AreDistinct ts → i < length ts → take i ts ++ drop (suc i) ts ≡ without_transaction (get_or ts i d).id ts
 remove-without [] i d distinct within = absurd (omega arith)
 remove-without (t ∷ ts) zero d distinct within = rw (eq-eqb t.id t.id refl) (sym (without-none t.id ts distinct.0))
 remove-without (t ∷ ts) (suc i) d distinct within =
@@ -116,19 +116,19 @@ AreIdsOf-push ts t had has were inserted = λ q.
     by false false = refl
 
 -- another ID is outstanding as before
-is_outstanding-others : (id q : ℕ) (ts : List Transaction) → eqb id q ≡ false → is_outstanding q (without id ts) ≡ is_outstanding q ts
+is_outstanding-others : (id q : ℕ) (ts : List Transaction) → eqb id q ≡ false → is_outstanding q (without_transaction id ts) ≡ is_outstanding q ts
 is_outstanding-others id q [] differ = refl
 is_outstanding-others id q (t ∷ ts) differ = by (is_outstanding-others id q ts differ) (eqb t.id id) refl
   where
-    by : is_outstanding q (without id ts) ≡ is_outstanding q ts → (b : Bool) → eqb t.id id ≡ b → is_outstanding q (without id (t ∷ ts)) ≡ is_outstanding q (t ∷ ts)
+    by : is_outstanding q (without_transaction id ts) ≡ is_outstanding q ts → (b : Bool) → eqb t.id id ≡ b → is_outstanding q (without_transaction id (t ∷ ts)) ≡ is_outstanding q (t ∷ ts)
     by others true same = rw (same, eqb-true t.id id same, differ) others
     by others false other = rw (other, others) refl
 
 -- the ID that was left out was removed
-pub AreIdsOf-without : (id : ℕ) (ts : List Transaction) (had has : ℕ → Bool) → AreIdsOf ts had → ((q : ℕ) → has q ≡ cond (eqb id q) false (had q)) → AreIdsOf (without id ts) has
+pub AreIdsOf-without : (id : ℕ) (ts : List Transaction) (had has : ℕ → Bool) → AreIdsOf ts had → ((q : ℕ) → has q ≡ cond (eqb id q) false (had q)) → AreIdsOf (without_transaction id ts) has
 AreIdsOf-without id ts had has were removed = λ q. removed q ∙ by q (eqb id q) refl
   where
-    by : (q : ℕ) → (b : Bool) → eqb id q ≡ b → cond (eqb id q) false (had q) ≡ is_outstanding q (without id ts)
+    by : (q : ℕ) → (b : Bool) → eqb id q ≡ b → cond (eqb id q) false (had q) ≡ is_outstanding q (without_transaction id ts)
     by q true same = rw (same, ← eqb-true id q same) (sym (is_outstanding-without id ts))
     by q false differ = rw differ (were q ∙ sym (is_outstanding-others id q ts differ))
 

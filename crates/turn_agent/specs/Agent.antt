@@ -59,8 +59,8 @@ AreDistinct [] = Unit {0}
 AreDistinct (t ∷ others) = (is_outstanding t.id others ≡ false) × AreDistinct others
 
 -- the transactions but for the one with this ID
-abbrev pub without : ℕ → List Transaction → List Transaction
-without id transactions = filter (λ t. not (t.id == id)) transactions
+abbrev pub without_transaction : ℕ → List Transaction → List Transaction
+without_transaction id transactions = filter (λ t. not (t.id == id)) transactions
 
 -- the transactions after the request with this ID was retransmitted at this time
 abbrev pub resent : ℕ → ℕ → List Transaction → List Transaction
@@ -79,8 +79,8 @@ same_address (V6 a) (V4 b) = false
 -- ---- the calls
 
 -- a request is sent for the first time
-abbrev pub asked : Agent → ℕ → SocketAddr → ℕ → List ℕ → Agent
-asked a id to now request =
+abbrev pub request_sent : Agent → ℕ → SocketAddr → ℕ → List ℕ → Agent
+request_sent a id to now request =
     record a { transactions = a.transactions ++ first_sent id to now request ∷ [] }
 
 -- the transaction whose request is retransmitted next: the oldest one that is due
@@ -88,13 +88,13 @@ abbrev pub due : Agent → ℕ → Option Transaction
 due a now = find (is_due a.timers a.transport now) a.transactions
 
 -- the transaction that times out next: the oldest one whose last wait is over
-abbrev pub given_up : Agent → ℕ → Option Transaction
-given_up a now = find (is_given_up a.timers a.transport now) a.transactions
+abbrev pub timed_out_transaction : Agent → ℕ → Option Transaction
+timed_out_transaction a now = find (is_given_up a.timers a.transport now) a.transactions
 
 -- the earliest time at which a wait is over, or 9999 s from now if nothing is outstanding (our
 -- choice)
-abbrev pub next_wakeup : Agent → ℕ → ℕ
-next_wakeup a now =
+abbrev pub next_timeout : Agent → ℕ → ℕ
+next_timeout a now =
     if length a.transactions == 0 then min (now + 9_999_000_000_000) (2 ^ 63 - 1)
     else fold min (2 ^ 63 - 1) (map (next_moment a.timers a.transport) a.transactions)
 
@@ -103,20 +103,20 @@ abbrev pub earliest : Agent → ℕ → ℕ
 earliest a moment = fold min moment (map (next_moment a.timers a.transport) a.transactions)
 
 -- the agent without the transaction with this ID
-abbrev pub ended : ℕ → Agent → Agent
-ended id a = record a { transactions = without id a.transactions }
+abbrev pub transaction_removed : ℕ → Agent → Agent
+transaction_removed id a = record a { transactions = without_transaction id a.transactions }
 
 -- the result of `poll`, and the agent after it
-abbrev pub poll_step : Agent → ℕ → StunAgentPollRet × Agent
-poll_step a now = by (given_up a now)
+abbrev pub agent_poll_step : Agent → ℕ → StunAgentPollRet × Agent
+agent_poll_step a now = by (timed_out_transaction a now)
   where
     by : Option Transaction → StunAgentPollRet × Agent
-    by None = (WaitUntil (next_wakeup a now), a)
-    by (Some t) = (TransactionTimedOut t.id, record a { transactions = without t.id a.transactions })
+    by None = (WaitUntil (next_timeout a now), a)
+    by (Some t) = (TransactionTimedOut t.id, record a { transactions = without_transaction t.id a.transactions })
 
 -- the result of `poll_transmit`, and the agent after it
-abbrev pub transmit_step : Agent → ℕ → Option (Transmit (List ℕ)) × Agent
-transmit_step a now = by (due a now)
+abbrev pub agent_transmit_step : Agent → ℕ → Option (Transmit (List ℕ)) × Agent
+agent_transmit_step a now = by (due a now)
   where
     by : Option Transaction → Option (Transmit (List ℕ)) × Agent
     by None = (None, a)
@@ -145,17 +145,17 @@ ends_one transactions class id from = is_response class && list_any (answers id 
 abbrev pub handle_step : Agent → List ℕ → SocketAddr → Bool × Agent
 handle_step a message from =
     let class = class_of (type_of message) in
-    let ended = ends_one a.transactions class (id_of message) from in (
-      not (is_response class) || ended,
-      record a { transactions = if ended then without (id_of message) a.transactions else a.transactions },
+    let transaction_removed = ends_one a.transactions class (id_of message) from in (
+      not (is_response class) || transaction_removed,
+      record a { transactions = if transaction_removed then without_transaction (id_of message) a.transactions else a.transactions },
     )
 
 -- ---- the returned time
 
 -- at this time nothing is retransmitted and nothing times out
 pub record IsSilentAt (a : Agent) (moment : ℕ) : Type 0 where
-  pub sends_nothing : (transmit_step a moment).0 ≡ None
-  pub gives_nothing_up : given_up a moment ≡ None
+  pub sends_nothing : (agent_transmit_step a moment).0 ≡ None
+  pub gives_nothing_up : timed_out_transaction a moment ≡ None
 
 -- nothing is due before the time that `poll` returns
 abbrev pub IsSilentUntil : StunAgentPollRet → Agent → Type 0
@@ -164,9 +164,9 @@ IsSilentUntil (TransactionTimedOut id) a = Unit {0}
 
 -- if the returned time is not later than now, a request is due, so a caller that sends what is due
 -- does not call for nothing; at the greatest time this may fail, since no later one can be returned
-abbrev pub IsBusy : StunAgentPollRet → Agent → ℕ → Type 0
-IsBusy (WaitUntil t) a now = t ≤ now → now < 2 ^ 63 - 1 → IsSome (due a now)
-IsBusy (TransactionTimedOut id) a now = Unit {0}
+abbrev pub HasRequestDue : StunAgentPollRet → Agent → ℕ → Type 0
+HasRequestDue (WaitUntil t) a now = t ≤ now → now < 2 ^ 63 - 1 → IsSome (due a now)
+HasRequestDue (TransactionTimedOut id) a now = Unit {0}
 
 -- a transaction that timed out is no longer outstanding
 abbrev pub IsEnded : StunAgentPollRet → Agent → Type 0

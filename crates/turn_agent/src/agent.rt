@@ -4,7 +4,7 @@ ghost use Rattle.std.specs.Prelude.{◌≡◌, ◌<◌, ◌==◌, false, [], Non
 ghost use Rattle.turn_stun.specs.Message.{type_of, id_of};
 ghost use Rattle.turn_stun.specs.MessageType.{class_of, IsResponse};
 ghost use Rattle.turn_agent.specs.Schedule.{wait_of, default_timers};
-ghost use Rattle.turn_agent.specs.Agent.{Agent, is_outstanding, asked, due, answers, poll_step, transmit_step, handle_step, IsEnded, IsSilentUntil, IsBusy, IsQuietUntil, earliest, ended};
+ghost use Rattle.turn_agent.specs.Agent.{Agent, is_outstanding, request_sent, due, answers, agent_poll_step, agent_transmit_step, handle_step, IsEnded, IsSilentUntil, HasRequestDue, IsQuietUntil, earliest, transaction_removed};
 ghost use Rattle.std.specs.List.{position};
 
 use crate::front::{Front, first_due};
@@ -255,7 +255,7 @@ impl StunAgent {
           from = self.old.local;
           to = to;
         }) }
-        ensures ok { OnOk result (self.new ≡ asked self.old id to now (T.items bytes)) }
+        ensures ok { OnOk result (self.new ≡ request_sent self.old id to now (T.items bytes)) }
         ensures err { OnErr result (self.new ≡ self.old) }
     {
         let kept = bytes.as_slice().to_vec(self.alloc)?;
@@ -279,7 +279,7 @@ impl StunAgent {
     /// is accepted. Requests and indications are always accepted.
     pub fn handle_stun_message(&mut self, message: &Message<'_>, from: SocketAddr) -> bool
         ensures step { (result, self.new) ≡ handle_step self.old message.now from }
-        ensures ended { IsTrue result → IsResponse (class_of (type_of message.now))
+        ensures transaction_removed { IsTrue result → IsResponse (class_of (type_of message.now))
             → is_outstanding (id_of message.now) self.new.transactions ≡ false }
     {
         if !message.is_response() {
@@ -299,7 +299,7 @@ impl StunAgent {
     /// there was one. The request is not retransmitted, and nothing is accepted as its response.
     pub fn end(&mut self, id: TransactionId) -> bool
         ensures was { result ≡ is_outstanding id self.old.transactions }
-        ensures after { self.new ≡ ended id self.old }
+        ensures after { self.new ≡ transaction_removed id self.old }
     {
         match self.place_of(id) {
             Some(place) => {
@@ -316,12 +316,12 @@ impl StunAgent {
     /// result is the earliest time at which a wait is over, or 9999 s from now if nothing is
     /// outstanding (our choice). Before that time `poll_transmit` returns none.
     pub fn poll(&mut self, now: Instant) -> StunAgentPollRet
-        ensures step { (result, self.new) ≡ poll_step self.old now }
-        ensures ended { IsEnded result self.new }
+        ensures step { (result, self.new) ≡ agent_poll_step self.old now }
+        ensures transaction_removed { IsEnded result self.new }
         // Nothing is due before the returned time. A request is due if that is not later than now,
         // and now is not the greatest time.
         ensures alarm { IsSilentUntil result self.new }
-        ensures busy { IsBusy result self.new now }
+        ensures busy { HasRequestDue result self.new now }
     {
         if let Some(moment) = self.quiet_until(now) {
             return StunAgentPollRet::WaitUntil(moment);
@@ -347,7 +347,7 @@ impl StunAgent {
     ///
     /// If memory allocation for its bytes fails. The request is still due.
     pub fn poll_transmit(&mut self, now: Instant) -> Result<Option<Transmit<Data>>, AllocError>
-        ensures step { IfOk result (λ packet. (packet, self.new) ≡ transmit_step self.old now) }
+        ensures step { IfOk result (λ packet. (packet, self.new) ≡ agent_transmit_step self.old now) }
         ensures err { OnErr result (self.new ≡ self.old) }
         // If nothing is due, no memory is allocated.
         ensures none { due self.old now ≡ None → IsOk result }
@@ -392,7 +392,7 @@ impl StunAgent {
     fn take_out(&mut self, place: usize) -> Transaction
         requires { place < length self.old.transactions }
         ensures taken { slice_get self.old.transactions place ≡ Some result }
-        ensures after { self.new ≡ ended result.id self.old }
+        ensures after { self.new ≡ transaction_removed result.id self.old }
     {
         self.soonest = None;
         self.front = self.front.without_one();

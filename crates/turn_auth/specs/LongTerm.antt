@@ -22,8 +22,8 @@ pub record ClientAuth : Type 0 where
   pub held : Option Challenge
 
 -- the client once it holds this challenge
-abbrev pub holding : Challenge → ClientAuth → ClientAuth
-holding challenge auth = record auth { held = Some challenge }
+abbrev pub with_challenge : Challenge → ClientAuth → ClientAuth
+with_challenge challenge auth = record auth { held = Some challenge }
 
 -- whether two algorithms are the same
 abbrev pub same_algorithm : IntegrityAlgorithm → IntegrityAlgorithm → Bool

@@ -1,7 +1,7 @@
 //! The client's side of the long-term credential mechanism (RFC 8489, section 9.2).
 
 ghost use Rattle.std.specs.Prelude.{◌≡◌, ◌≤◌, length, true, [], ◌∷◌, Some, None, is_some, option_map, ◌↔◌, IsTrue, IsSome, IsNone, IsSomeAnd, IfOk, IfSome, OnOk, OnErr};
-ghost use Rattle.turn_auth.specs.LongTerm.{Challenge, holding, with_algorithm};
+ghost use Rattle.turn_auth.specs.LongTerm.{Challenge, with_challenge, with_algorithm};
 ghost use Rattle.turn_auth.specs.Challenge.{IsChallenge, value_in, MayTake, chosen, held_after, challenge_of};
 ghost use Rattle.turn_auth.specs.Validation.{IsResendRequest, IsSigned, IsValidated, validation_of};
 ghost use Rattle.turn_auth.specs.Signature.{is_unsigned, signature_len, signed_len, signed_text};
@@ -188,7 +188,7 @@ impl LongTermClientAuth {
     /// Accepts a challenge, as [`LongTermClientAuth::take_challenge`] does. Allocates no memory.
     pub fn accept(&mut self, challenge: ServerChallenge)
         requires { MayTake self.old challenge }
-        ensures taken { self.new ≡ holding challenge self.old }
+        ensures taken { self.new ≡ with_challenge challenge self.old }
         ensures kept { IfSome self.old.held (λ old. (challenge.realm ≡ old.realm) × (challenge.algorithm ≡ old.algorithm)) }
     {
         let Some(credentials) = &self.credentials else {
@@ -255,10 +255,10 @@ impl LongTermClientAuth {
     ) -> Result<(), AllocError>
         requires known { IsSome self.now.credentials }
         requires unsigned { is_unsigned (attributes_of message.old) ≡ true }
-        requires room { signed_len (holding challenge.now self.now) message.old ≤ 65552 }
-        ensures text { OnOk result (message.new ≡ signed_text (holding challenge.now self.now) message.old) }
-        ensures signed { OnOk result (IsSigned (holding challenge.now self.now) message.new) }
-        ensures len { OnOk result (length message.new ≡ signed_len (holding challenge.now self.now) message.old) }
+        requires room { signed_len (with_challenge challenge.now self.now) message.old ≤ 65552 }
+        ensures text { OnOk result (message.new ≡ signed_text (with_challenge challenge.now self.now) message.old) }
+        ensures signed { OnOk result (IsSigned (with_challenge challenge.now self.now) message.new) }
+        ensures len { OnOk result (length message.new ≡ signed_len (with_challenge challenge.now self.now) message.old) }
         ensures same_type { OnOk result (type_of message.new ≡ type_of message.old) }
         ensures same_id { OnOk result (id_of message.new ≡ id_of message.old) }
         ensures err { OnErr result (message.new ≡ message.old) }
@@ -305,8 +305,8 @@ impl LongTermClientAuth {
 
     /// How many bytes signing under the challenge adds to a request, and 0 without credentials.
     pub fn signature_bytes_under(&self, challenge: &ServerChallenge) -> usize
-        ensures value { result ≡ signature_len (holding challenge.now self.now) Request }
-        ensures short { (class : MessageClass) → signature_len (holding challenge.now self.now) class ≤ 2160 }
+        ensures value { result ≡ signature_len (with_challenge challenge.now self.now) Request }
+        ensures short { (class : MessageClass) → signature_len (with_challenge challenge.now self.now) class ≤ 2160 }
     {
         match &self.credentials {
             Some(credentials) => {

@@ -110,7 +110,7 @@ accepted-ended message now s = by (judgement_of s message) refl
     id : ℕ
     id = id_of message
 
-    drawn : IsOneOf id (A.without id s.transactions) s → id ≡ fresh_id s
+    drawn : IsOneOf id (A.without_transaction id s.transactions) s → id ≡ fresh_id s
     drawn (inl was) = let gone = is_outstanding-without id s.transactions in cc
     drawn (inr e) = e
 

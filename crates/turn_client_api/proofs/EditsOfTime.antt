@@ -6,7 +6,7 @@ use Rattle.std.proofs.lemmas.Bool.{and_from, and_left, and_right, eq-eqb}
 use Rattle.std.proofs.lemmas.Option.{cond_some, none-some}
 use Rattle.std.specs.declared.net.socket_addr.SocketAddr.{SocketAddr}
 use Rattle.turn_types.specs.declared.family.AddressFamily.{AddressFamily}
-use Rattle.turn_agent.specs.Agent.{due, given_up, resent, same_address}
+use Rattle.turn_agent.specs.Agent.{due, timed_out_transaction, resent, same_address}
 use Rattle.turn_agent.specs.declared.transaction.Transaction.{Transaction}
 use Rattle.turn_client_api.specs.State.{State, Phase, New, Requesting, Authenticating, Allocated, Closed, Grant, Allocation, Permission, Channel, Connect, Offer, Connection, Relay, Progress, Pending, Active, Reserved, Purpose, ForAllocation, ForRefresh, ForPermission, ForChannel, Queued, agent_of}
 use Rattle.turn_client_api.specs.Grants.{allocations, family_of, is_connect, is_for_any, is_of, is_pending_channel, is_pending_permission}
@@ -204,7 +204,7 @@ module _ (R : State → State → Type 0) (k : KeepsEdits R) where
 
   given_up-walk : (now : ℕ) (s : State) → R s (given_up_step now s).1
   given_up-walk now s =
-      found R k (λ (t : Transaction). timed_step s.phase (Some t.id) now (ended t.id s)) (given_up (agent_of s) now) s (timed_step s.phase None now s)
+      found R k (λ (t : Transaction). timed_step s.phase (Some t.id) now (ended t.id s)) (timed_out_transaction (agent_of s) now) s (timed_step s.phase None now s)
       (λ t e. then s (ended t.id s) _ (k.finishes t.id s) (timed_in_phase s.phase (Some t.id) now (ended t.id s))) (timed_in_phase s.phase None now s)
 
   pub poll-walk : (now : ℕ) (s : State) → R s (poll_step now s).1

@@ -8,7 +8,7 @@ use Rattle.std.proofs.lemmas.Bool.{eq-eqb}
 use Rattle.std.specs.declared.net.socket_addr.SocketAddr.{SocketAddr}
 use Rattle.turn_stun.specs.declared.transport.TransportType.{TransportType}
 use Rattle.turn_types.specs.declared.family.AddressFamily.{AddressFamily}
-use Rattle.turn_agent.specs.Agent.{given_up}
+use Rattle.turn_agent.specs.Agent.{timed_out_transaction}
 use Rattle.turn_client_api.specs.State.{State, DataOffer, Phase, New, Requesting, Authenticating, Allocated, Closed, Grant, Allocation, Permission, Channel, Connect, Offer, Connection, Relay, Pending, Active, Reserved, Purpose, agent_of}
 use Rattle.turn_client_api.specs.Grants.{allocations, failure_of, failures_among, family_of, in_turn, is_channel_of, is_connect, is_for_any, is_of, is_pending_channel, is_pending_permission, without}
 use Rattle.turn_client_api.specs.Effect.{closed, ended, reserved}
@@ -323,7 +323,7 @@ pub poll-tells : (now : ℕ) (s : State) → s.phase ≢ Requesting → TellsOfF
 poll-tells now s other =
     by_test (TellsOfFailed s) (has_event s || has_reply s) _ _ (tells-self s)
     (by_found (TellsOfFailed s) (λ offer. offer_step offer s) (next_offer s) (given_up_step now s) (λ offer. offer-tells offer s)
-    (by_found (TellsOfFailed s) (λ t. timed_step s.phase (Some t.id) now (ended t.id s)) (given_up (agent_of s) now) (timed_step s.phase None now s)
+    (by_found (TellsOfFailed s) (λ t. timed_step s.phase (Some t.id) now (ended t.id s)) (timed_out_transaction (agent_of s) now) (timed_step s.phase None now s)
     (λ t. timed-tells s.phase (Some t.id) now (ended t.id s) other) (timed-tells s.phase None now s other)))
 
 -- ---- families
@@ -362,7 +362,7 @@ pub poll-tells_families : (now : ℕ) (s : State) → s.phase ≡ Requesting →
 poll-tells_families now s e =
     by_test (TellsOfFamilies s) (has_event s || has_reply s) _ _ (omega arith)
     (by_found (TellsOfFamilies s) (λ offer. offer_step offer s) (next_offer s) (given_up_step now s) (λ offer. omega arith)
-    (by_found (TellsOfFamilies s) (λ t. timed_step s.phase (Some t.id) now (ended t.id s)) (given_up (agent_of s) now) (timed_step s.phase None now s)
+    (by_found (TellsOfFamilies s) (λ t. timed_step s.phase (Some t.id) now (ended t.id s)) (timed_out_transaction (agent_of s) now) (timed_step s.phase None now s)
     (λ t. timed-families s.phase (Some t.id) now (ended t.id s) e) (timed-families s.phase None now s e)))
 
 pub most-failures : (s : State) → most_failures s ≤ length s.grants

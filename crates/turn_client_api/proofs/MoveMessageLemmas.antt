@@ -78,7 +78,7 @@ requested-made purpose now s u = record {
 
 retry-turns : (Taken : Grant → Type 0) (message : List ℕ) (purpose : Purpose) (d : Challenge) (now : ℕ) (s : State) → Has purpose (purposes_of (id_of message) s) → Turns Taken message now s (state_after_retry s (id_of message) purpose d now)
 retry-turns Taken message purpose d now s answers = (
-  adds-one _ s.transactions (A.without (id_of message) s.transactions) _ (adds-filter _ _ s.transactions) (made-again message now s t purpose answers made),
+  adds-one _ s.transactions (A.without_transaction (id_of message) s.transactions) _ (adds-filter _ _ s.transactions) (made-again message now s t purpose answers made),
   adds-more _ s.listed s.listed _ (adds-same _ s.listed) (listed-again message now s t purpose answers made (purposes_of (id_of message) s) (λ p h. h)),
   loses-same Taken s.grants,
 )
@@ -93,7 +93,7 @@ retry-turns Taken message purpose d now s answers = (
     made = record {
       text = request_for t purpose (fresh_id s);
       spelled = inl refl;
-      outstanding = has-contains x t.transactions (has-right x (A.without (id_of message) s.transactions) (x ∷ []) (inl refl));
+      outstanding = has-contains x t.transactions (has-right x (A.without_transaction (id_of message) s.transactions) (x ∷ []) (inl refl));
     }
 
 challenge-turns : (Taken : Grant → Type 0) (message : List ℕ) (d : Challenge) (now : ℕ) (s : State) → Turns Taken message now s (challenge_step message d now s).1
@@ -136,7 +136,7 @@ denied-turns Taken message now s answers = by (has_code family_not_supported mes
     by : (b : Bool) → (has_code family_not_supported message && leb 2 (length s.families)) ≡ b → Turns Taken message now s (allocate_denied (fresh_id s) message now (ended (id_of message) s))
     by false e = rw e (turns-settled Taken message now s _ (adds-filter Never _ s.transactions, adds-filter Never _ s.listed, loses-same Taken s.grants))
     by true e = rw e (
-      adds-one _ s.transactions (A.without (id_of message) s.transactions) _ (adds-filter _ _ s.transactions) (made-again message now s (requested (fresh_id s) ForAllocation now u) ForAllocation answers made),
+      adds-one _ s.transactions (A.without_transaction (id_of message) s.transactions) _ (adds-filter _ _ s.transactions) (made-again message now s (requested (fresh_id s) ForAllocation now u) ForAllocation answers made),
       adds-more _ s.listed (filter (λ l. not (is_for_allocation l.purpose)) s.listed) _ (adds-filter _ _ s.listed) (listed-again message now s (requested (fresh_id s) ForAllocation now u) ForAllocation answers made (ForAllocation ∷ []) one),
       loses-same Taken s.grants,
     )

@@ -5,7 +5,7 @@ use Rattle.std.specs.List.{Contains}
 use Rattle.std.proofs.lemmas.Bool.{leb-false, leb-true}
 use Rattle.std.specs.declared.net.socket_addr.SocketAddr.{SocketAddr}
 use Rattle.turn_types.specs.declared.family.AddressFamily.{AddressFamily}
-use Rattle.turn_agent.specs.Agent.{due, first_sent, given_up, resent, sent_again}
+use Rattle.turn_agent.specs.Agent.{due, first_sent, timed_out_transaction, resent, sent_again}
 use Rattle.turn_agent.specs.declared.transaction.Transaction.{Transaction}
 use Rattle.turn_client_api.specs.State.{State, DataOffer, Grant, Allocation, Permission, Channel, Connect, Offer, Connection, Relay, Pending, Active, Reserved, Purpose, ForAllocation, Phase, New, Requesting, Authenticating, Allocated, Closed, agent_of}
 use Rattle.turn_client_api.specs.Grants.{allocations, family_of, in_turn, is_connect, is_of, is_pending_channel, is_pending_permission, without}
@@ -219,10 +219,10 @@ pub poll-does : (now : ℕ) (s : State) → Does (Poll now) s (poll_step now s).
 poll-does now s =
     by_test (Does (Poll now) s) (has_event s || has_reply s) _ _ (does-same (Poll now) s)
     (by_found (Does (Poll now) s) (λ offer. offer_step offer s) (next_offer s) (given_up_step now s) (λ offer e. offered offer)
-    (by_found (Does (Poll now) s) (λ t. timed_step s.phase (Some t.id) now (ended t.id s)) (given_up (agent_of s) now) (timed_step s.phase None now s)
+    (by_found (Does (Poll now) s) (λ t. timed_step s.phase (Some t.id) now (ended t.id s)) (timed_out_transaction (agent_of s) now) (timed_step s.phase None now s)
     (λ x e. does-settled (Poll now) s _ (given-ends now s x (inl (some x e)) s.phase)) (does-settled (Poll now) s _ (none-ends now s s.phase refl))))
   where
-    some : (x : Transaction) → given_up (agent_of s) now ≡ Some x → IsSome (given_up (agent_of s) now)
+    some : (x : Transaction) → timed_out_transaction (agent_of s) now ≡ Some x → IsSome (timed_out_transaction (agent_of s) now)
     some x e = rw e refl
 
     offered : (offer : DataOffer) → Does (Poll now) s (offer_step offer s).1

@@ -9,7 +9,7 @@ use Rattle.std.specs.Net.Socket.{socket_ip}
 use Rattle.turn_stun.specs.declared.transport.TransportType.{TransportType}
 use Rattle.turn_stun.specs.declared.transport.TransportType.TheVariants.{Udp, Tcp}
 use Rattle.turn_types.specs.declared.family.AddressFamily.{AddressFamily}
-use Rattle.turn_agent.specs.Agent.{due, given_up, is_outstanding, same_address}
+use Rattle.turn_agent.specs.Agent.{due, timed_out_transaction, is_outstanding, same_address}
 use Rattle.turn_agent.specs.declared.transaction.Transaction.{Transaction}
 use Rattle.turn_client_api.specs.State.{State, Phase, New, Requesting, Authenticating, Allocated, Closed, agent_of}
 use Rattle.turn_client_api.specs.State.{Grant, Allocation, Permission, Channel, Connect, Offer, Connection, DataConnection, Relay, Purpose, Pending, Active, Reserved, Origin, OwnConnect, ServerRequest, ServerIndication}
@@ -184,7 +184,7 @@ module _ (id : ℕ) where
   poll-draws now s =
       either (has_event s || has_reply s) s _ _ (draws-same id s)
       (found (λ offer. offer_step offer s) (next_offer s) s (P.given_up_step now s) (λ offer. draws-same id s)
-      (found (λ (t : Transaction). timed_step s.phase (Some t.id) now (ended t.id s)) (given_up (agent_of s) now) s (timed_step s.phase None now s)
+      (found (λ (t : Transaction). timed_step s.phase (Some t.id) now (ended t.id s)) (timed_out_transaction (agent_of s) now) s (timed_step s.phase None now s)
       timed (draws-nothing id s (timed_step s.phase None now s).1 (timed_in_phase s.phase None now s))))
     where
       timed : (t : Transaction) → Draws id s (timed_step s.phase (Some t.id) now (ended t.id s)).1

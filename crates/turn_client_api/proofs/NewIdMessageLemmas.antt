@@ -38,11 +38,11 @@ outstanding-append id (u ∷ ts) t h = by (eqb u.id id) refl (outstanding-append
     by false e later = rw e (later (rw e at h))
 
 -- what remains was in the list
-pub outstanding-without : (id other : ℕ) (ts : List Transaction) → is_outstanding id (A.without other ts) ≡ true → is_outstanding id ts ≡ true
+pub outstanding-without : (id other : ℕ) (ts : List Transaction) → is_outstanding id (A.without_transaction other ts) ≡ true → is_outstanding id ts ≡ true
 outstanding-without id other [] h = h
 outstanding-without id other (t ∷ ts) h = by (eqb t.id other) refl (eqb t.id id) refl (outstanding-without id other ts)
   where
-    by : (b : Bool) → eqb t.id other ≡ b → (d : Bool) → eqb t.id id ≡ d → (is_outstanding id (A.without other ts) ≡ true → is_outstanding id ts ≡ true) → is_outstanding id (t ∷ ts) ≡ true
+    by : (b : Bool) → eqb t.id other ≡ b → (d : Bool) → eqb t.id id ≡ d → (is_outstanding id (A.without_transaction other ts) ≡ true → is_outstanding id ts ≡ true) → is_outstanding id (t ∷ ts) ≡ true
     by b e true f later = rw f refl
     by true e false f later = rw f (later (rw e at h))
     by false e false f later = rw f (later (rw (e, f) at h))
@@ -169,7 +169,7 @@ pub draws-more : (id : ℕ) (s : State) (t : Transaction) → t.id ≡ fresh_id 
 draws-more id s t drawn = draws-one id s s.transactions t (λ h. h) drawn
 
 retry-draws : (id : ℕ) (s : State) (other : ℕ) (purpose : Purpose) (d : Challenge) (now : ℕ) → Draws id s (state_after_retry s other purpose d now)
-retry-draws id s other purpose d now = draws-one id s (A.without other s.transactions) _ (outstanding-without id other s.transactions) refl
+retry-draws id s other purpose d now = draws-one id s (A.without_transaction other s.transactions) _ (outstanding-without id other s.transactions) refl
 
 challenge-draws : (id : ℕ) (message : List ℕ) (d : Challenge) (now : ℕ) (s : State) → Draws id s (challenge_step message d now s).1
 challenge-draws id message d now s = by (ltb s.challenges most_challenges) refl (retried (purposes_of (id_of message) s)) refl
@@ -187,15 +187,15 @@ wrong-draws id Allocated message s = draws-same id (record s { phase = Allocated
 wrong-draws id Closed message s = draws-same id (record s { phase = Closed })
 
 -- of those that a signed reply leaves outstanding, and one that is used
-pub denied-one : (id : ℕ) (message : List ℕ) (now : ℕ) (s : State) → is_outstanding id (allocate_denied (fresh_id s) message now (ended (id_of message) s)).transactions ≡ true → IsOneOf id (A.without (id_of message) s.transactions) s
+pub denied-one : (id : ℕ) (message : List ℕ) (now : ℕ) (s : State) → is_outstanding id (allocate_denied (fresh_id s) message now (ended (id_of message) s)).transactions ≡ true → IsOneOf id (A.without_transaction (id_of message) s.transactions) s
 denied-one id message now s = by (has_code family_not_supported message && leb 2 (length s.families)) refl
   where
-    by : (b : Bool) → (has_code family_not_supported message && leb 2 (length s.families)) ≡ b → is_outstanding id (allocate_denied (fresh_id s) message now (ended (id_of message) s)).transactions ≡ true → IsOneOf id (A.without (id_of message) s.transactions) s
-    by true e = rw e (outstanding-append id (A.without (id_of message) s.transactions) _)
+    by : (b : Bool) → (has_code family_not_supported message && leb 2 (length s.families)) ≡ b → is_outstanding id (allocate_denied (fresh_id s) message now (ended (id_of message) s)).transactions ≡ true → IsOneOf id (A.without_transaction (id_of message) s.transactions) s
+    by true e = rw e (outstanding-append id (A.without_transaction (id_of message) s.transactions) _)
     by false e = rw e (λ h. inl h)
 
 -- what a signed reply leaves outstanding
-pub signed-one : (id : ℕ) (p : Phase) (is_granted : Bool) (message : List ℕ) (now : ℕ) (s : State) → is_outstanding id (signed_step is_granted message now (record s { phase = p })).1.transactions ≡ true → IsOneOf id (A.without (id_of message) s.transactions) s
+pub signed-one : (id : ℕ) (p : Phase) (is_granted : Bool) (message : List ℕ) (now : ℕ) (s : State) → is_outstanding id (signed_step is_granted message now (record s { phase = p })).1.transactions ≡ true → IsOneOf id (A.without_transaction (id_of message) s.transactions) s
 signed-one id Authenticating true message now s h = inl (rw (granted-asks message now (ended (id_of message) (record s { phase = Authenticating }))) at h)
 signed-one id Authenticating false message now s h = denied-one id message now (record s { phase = Authenticating }) h
 signed-one id New g message now s h = inl (rw (reply-asks g message now (record s { phase = New })) at h)
@@ -206,7 +206,7 @@ signed-one id Closed g message now s h = inl (rw (reply-asks g message now (reco
 signed-draws : (id : ℕ) (is_granted : Bool) (message : List ℕ) (now : ℕ) (s : State) → Draws id s (signed_step is_granted message now s).1
 signed-draws id is_granted message now s h = by (signed-one id s.phase is_granted message now s h)
   where
-    by : IsOneOf id (A.without (id_of message) s.transactions) s → IsOneOf id s.transactions s
+    by : IsOneOf id (A.without_transaction (id_of message) s.transactions) s → IsOneOf id s.transactions s
     by (inl was) = inl (outstanding-without id (id_of message) s.transactions was)
     by (inr e) = inr e
 

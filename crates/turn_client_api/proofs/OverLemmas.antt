@@ -6,7 +6,7 @@ use Rattle.std.proofs.lemmas.Bool.{and_parts, eqb-true, eq-eqb, leb-true, ltb-tr
 use Rattle.std.proofs.lemmas.Option.{none-some, same_Some}
 use Rattle.std.specs.declared.net.socket_addr.SocketAddr.{SocketAddr}
 use Rattle.turn_types.specs.declared.family.AddressFamily.{AddressFamily}
-use Rattle.turn_agent.specs.Agent.{given_up}
+use Rattle.turn_agent.specs.Agent.{timed_out_transaction}
 use Rattle.turn_agent.specs.declared.transaction.Transaction.{Transaction}
 use Rattle.turn_client_api.specs.State.{State, DataOffer, Grant, Allocation, Permission, Channel, Connect, Offer, Connection, DataConnection, Relay, Progress, Pending, Active, Reserved, Purpose, Phase, New, Requesting, Authenticating, Allocated, Closed, agent_of, later_by}
 use Rattle.turn_client_api.specs.Grants.{allocation_in, allocations, family_of, family_of_grant, is_channel_of, is_connect, is_for_any, is_of, is_of_request, is_pending_channel, is_pending_permission}
@@ -210,7 +210,7 @@ module _ (now : ℕ) (s : State) (apart : HasDistinctNumbers s) where
   family-over a there past g is ages e =
       inr (a, has-contains (Allocation a) s.grants there, sym (ages-family g is ages) ∙ same_family-true (family_of_grant is) (family_of a.relayed) e, past)
 
-  module _ (x : Option Transaction) (e : given_up (agent_of s) now ≡ x) where
+  module _ (x : Option Transaction) (e : timed_out_transaction (agent_of s) now ≡ x) where
     abbrev given : Option ℕ
     given = option_map_or (λ (t : Transaction). Some t.id) x None
 
@@ -220,7 +220,7 @@ module _ (now : ℕ) (s : State) (apart : HasDistinctNumbers s) where
     asked-vain : (g : Grant) → is_for_any purposes g ≡ true → IsGivenUp now s g
     asked-vain g for = by x e for
       where
-        by : (o : Option Transaction) → given_up (agent_of s) now ≡ o → is_for_any (given_up_purposes (option_map_or (λ (t : Transaction). Some t.id) o None) s) g ≡ true → IsGivenUp now s g
+        by : (o : Option Transaction) → timed_out_transaction (agent_of s) now ≡ o → is_for_any (given_up_purposes (option_map_or (λ (t : Transaction). Some t.id) o None) s) g ≡ true → IsGivenUp now s g
         by (Some t) f for = (t, f, for)
         by None f for = cc
 
@@ -290,7 +290,7 @@ module _ (now : ℕ) (s : State) (apart : HasDistinctNumbers s) where
     offer-over : (family : AddressFamily) → TakesOver (λ g. is_of family g && is_given_offer given g)
     offer-over family g is ages passes = by is ages (and_parts (is_of family is) (is_given_offer given is) passes).1
       where
-        up : (offer : DataOffer) (o : Option Transaction) → given_up (agent_of s) now ≡ o → is_given_offer (option_map_or (λ (t : Transaction). Some t.id) o None) (Offer offer) ≡ true → IsSpent now s (Offer offer)
+        up : (offer : DataOffer) (o : Option Transaction) → timed_out_transaction (agent_of s) now ≡ o → is_given_offer (option_map_or (λ (t : Transaction). Some t.id) o None) (Offer offer) ≡ true → IsSpent now s (Offer offer)
         up offer (Some t) f of = (t, f, of)
         up offer None f of = cc
 
@@ -383,14 +383,14 @@ module _ (now : ℕ) (s : State) (apart : HasDistinctNumbers s) where
       by [] Authenticating relays = refl
       by [] Closed relays = refl
 
-  none-spares : given_up (agent_of s) now ≡ None → (p : Phase) → s.phase ≡ p → Spares (timed_step p None now s).1.grants
+  none-spares : timed_out_transaction (agent_of s) now ≡ None → (p : Phase) → s.phase ≡ p → Spares (timed_step p None now s).1.grants
   none-spares e New f = spares-same
   none-spares e Requesting f = subst Spares (sym (answer-grants None s)) spares-same
   none-spares e Authenticating f = subst Spares (sym (answer-grants None s)) spares-same
   none-spares e Closed f = spares-same
   none-spares e Allocated f = subst Spares (sym (answer-grants None (lapsed None now s))) (traces-spare (lapsed None now s).grants f (lapsed-traces None e s refl refl))
 
-  given-spares : (x : Transaction) → given_up (agent_of s) now ≡ Some x → (p : Phase) → s.phase ≡ p → Spares (timed_step p (Some x.id) now (ended x.id s)).1.grants
+  given-spares : (x : Transaction) → timed_out_transaction (agent_of s) now ≡ Some x → (p : Phase) → s.phase ≡ p → Spares (timed_step p (Some x.id) now (ended x.id s)).1.grants
   given-spares x e New f = spares-same
   given-spares x e Requesting f = spares-same
   given-spares x e Closed f = spares-same
@@ -406,7 +406,7 @@ module _ (now : ℕ) (s : State) (apart : HasDistinctNumbers s) where
       let u = ended x.id s in
       subst Spares (sym (answer-grants (Some x.id) (lapsed (Some x.id) now u))) (traces-spare (lapsed (Some x.id) now u).grants f (lapsed-traces (Some x) e u refl refl))
 
-  timed-spares : (o : Option Transaction) → given_up (agent_of s) now ≡ o
+  timed-spares : (o : Option Transaction) → timed_out_transaction (agent_of s) now ≡ o
       → Spares (option_map_or (λ (t : Transaction). timed_step s.phase (Some t.id) now (ended t.id s)) o (timed_step s.phase None now s)).1.grants
   timed-spares None e = none-spares e s.phase refl
   timed-spares (Some x) e = given-spares x e s.phase refl
@@ -423,7 +423,7 @@ module _ (now : ℕ) (s : State) (apart : HasDistinctNumbers s) where
           by (inr never) = absurd never
 
       offered : (o : Option DataOffer) → Spares (option_map_or (λ offer. offer_step offer s) o (given_up_step now s)).1.grants
-      offered None = timed-spares (given_up (agent_of s) now) refl
+      offered None = timed-spares (timed_out_transaction (agent_of s) now) refl
       offered (Some offer) = told offer
 
 -- even if memory allocation fails

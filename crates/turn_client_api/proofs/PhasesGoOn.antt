@@ -9,7 +9,7 @@ use Rattle.turn_stun.specs.Message.{id_of}
 use Rattle.turn_auth.specs.Challenge.{challenge_of}
 use Rattle.turn_auth.proofs.ChallengeLemmas.{challenge_of-sound}
 use Rattle.turn_auth.specs.LongTerm.{Challenge}
-use Rattle.turn_agent.specs.Agent.{given_up}
+use Rattle.turn_agent.specs.Agent.{timed_out_transaction}
 use Rattle.turn_agent.specs.declared.transaction.Transaction.{Transaction}
 use Rattle.turn_client_api.specs.State.{State, Phase, New, Requesting, Authenticating, Allocated, Closed, Purpose, agent_of, auth_of}
 use Rattle.turn_client_api.specs.Grants.{purposes_of}
@@ -165,7 +165,7 @@ told_of Requesting events now s e f g = cc
 told_of Authenticating events now s e f g = cc
 told_of Allocated events now s e f g = cc
 told_of Closed (x ∷ xs) now s e f g = cc
-told_of Closed [] now s e f g = rw g (by (given_up (agent_of s) now))
+told_of Closed [] now s e f g = rw g (by (timed_out_transaction (agent_of s) now))
   where
     u : State
     u = record s { phase = Closed; events = [] }

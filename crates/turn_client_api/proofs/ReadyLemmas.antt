@@ -6,7 +6,7 @@ use Rattle.std.specs.Option.{option_map_or}
 use Rattle.std.proofs.Math.Nat.{max-le, le-min, le-max_left, le-max_right}
 use Rattle.std.proofs.lemmas.Option.{none-some, same_Some}
 use Rattle.std.proofs.lemmas.Bool.{not-true, false_from_ne_true, leb-true, lt-ltb, le-leb, ltb-true, ltb-false, and_right, lt-leb, leb-false}
-use Rattle.turn_agent.specs.Agent.{Agent, given_up, due, is_due, is_given_up, next_moment}
+use Rattle.turn_agent.specs.Agent.{Agent, timed_out_transaction, due, is_due, is_given_up, next_moment}
 use Rattle.turn_agent.specs.declared.transaction.Transaction.{Transaction}
 use Rattle.turn_stun.specs.declared.transport.TransportType.{TransportType}
 use Rattle.turn_agent.specs.Schedule.{Timers, resends_of}
@@ -37,7 +37,7 @@ pub record IsReady (now : ℕ) (t : State) : Type 0 where
   pub no_offer : next_offer t ≡ None
   pub no_close : t.closes ≡ []
   pub not_new : t.phase ≢ New
-  pub none_over : given_up (agent_of t) now ≡ None
+  pub none_over : timed_out_transaction (agent_of t) now ≡ None
   pub alive : (g : Grant) → Has g t.grants → Alive now g
   pub grants_later : (t.phase ≡ Allocated) ⊎ (t.grants ≡ [])
 
@@ -78,7 +78,7 @@ not_due : (now m : ℕ) (t : State) → m < least_due now t → due (agent_of t)
 not_due now m t before =
     find-none _ t.transactions (λ x h. and_right _ _ (lt-leb _ m (omega (arith, before, least-transaction now t x h))))
 
-not_over : (now m : ℕ) (t : State) → m < least_due now t → given_up (agent_of t) m ≡ None
+not_over : (now m : ℕ) (t : State) → m < least_due now t → timed_out_transaction (agent_of t) m ≡ None
 not_over now m t before =
     find-none _ t.transactions (λ x h. and_right _ _ (lt-leb _ m (omega (arith, before, least-transaction now t x h))))
 
@@ -220,7 +220,7 @@ pub record AreLater (now : ℕ) (t : State) : Type 0 where
   pub in_range : now ≤ 2 ^ 62
   pub queued : has_queued_request t ≡ true → now < pause_end t
   pub none_due : due (agent_of t) now ≡ None
-  pub none_over : given_up (agent_of t) now ≡ None
+  pub none_over : timed_out_transaction (agent_of t) now ≡ None
   pub grants : (g : Grant) → Has g t.grants → (m : ℕ) → Has m (grant_part now t g) → now < m
 
 has-queued : (now m : ℕ) (t : State) → (has_queued_request t ≡ true → now < pause_end t) → Has m (queued_part t) → now < m

@@ -5,7 +5,7 @@ use Rattle.std.specs.Option.{option_map_or}
 use Rattle.std.proofs.Math.Nat.{max-le, le-max_right}
 use Rattle.std.proofs.lemmas.Bool.{ltb-true, ltb-false, eq-eqb}
 use Rattle.std.specs.declared.net.socket_addr.SocketAddr.{SocketAddr}
-use Rattle.turn_agent.specs.Agent.{given_up, is_given_up, is_outstanding}
+use Rattle.turn_agent.specs.Agent.{timed_out_transaction, is_given_up, is_outstanding}
 use Rattle.turn_agent.specs.Agent as A
 use Rattle.turn_agent.specs.declared.transaction.Transaction.{Transaction}
 use Rattle.turn_client_api.specs.State.{State, DataOffer, Phase, New, Requesting, Authenticating, Allocated, Closed, Grant, Relay, agent_of}
@@ -51,7 +51,7 @@ pub record IsSettled (now : ℕ) (was : State) (given : Bool) (t : State) : Type
   pub not_new : t.phase ≢ New
   pub no_reply : has_reply t ≡ false
   pub gave_up : given ≡ true → GaveUp was t
-  pub none_over : given ≡ false → given_up (agent_of t) now ≡ None
+  pub none_over : given ≡ false → timed_out_transaction (agent_of t) now ≡ None
   pub no_offer : next_offer t ≡ None
   pub alive : t.events ≡ [] → given ≡ false → (g : Grant) → Has g t.grants → Alive now g
   pub grants_later : given ≡ false → (t.phase ≡ Allocated) ⊎ (t.grants ≡ [])
@@ -136,11 +136,11 @@ found-outstanding p x (y ∷ ys) (inr h) = by (eqb y.id x.id) refl (found-outsta
     by true e later = rw e refl
     by false e later = rw e later
 
-without-ended : (id : ℕ) (xs : List Transaction) → is_outstanding id (A.without id xs) ≡ false
+without-ended : (id : ℕ) (xs : List Transaction) → is_outstanding id (A.without_transaction id xs) ≡ false
 without-ended id [] = refl
 without-ended id (y ∷ ys) = by (eqb y.id id) refl (without-ended id ys)
   where
-    by : (b : Bool) → eqb y.id id ≡ b → is_outstanding id (A.without id ys) ≡ false → is_outstanding id (A.without id (y ∷ ys)) ≡ false
+    by : (b : Bool) → eqb y.id id ≡ b → is_outstanding id (A.without_transaction id ys) ≡ false → is_outstanding id (A.without_transaction id (y ∷ ys)) ≡ false
     by true e later = rw e later
     by false e later = rw e (rw e later)
 
@@ -171,7 +171,7 @@ replies-same s t same no_reply = rw same no_reply
 old-phase : (p q : Phase) → q ≡ p → p ≢ New → q ≢ New
 old-phase p q e old new = old (sym e ∙ new)
 
-given-timely : (now : ℕ) (s : State) → IsOrderly s → now ≤ 2 ^ 62 → has_reply s ≡ false → next_offer s ≡ None → (x : Transaction) → given_up (agent_of s) now ≡ Some x → (p : Phase) → s.phase ≡ p → Timely now s (timed_step p (Some x.id) now (ended x.id s))
+given-timely : (now : ℕ) (s : State) → IsOrderly s → now ≤ 2 ^ 62 → has_reply s ≡ false → next_offer s ≡ None → (x : Transaction) → timed_out_transaction (agent_of s) now ≡ Some x → (p : Phase) → s.phase ≡ p → Timely now s (timed_step p (Some x.id) now (ended x.id s))
 given-timely now s orderly range no_reply no_offer x given p e = by p e
   where
     u : State
@@ -207,7 +207,7 @@ given-timely now s orderly range no_reply no_offer x given p e = by p e
         allocated_new : Allocated ≡ New → ⊥
         allocated_new f = cc
 
-none-timely : (now : ℕ) (s : State) → IsOrderly s → AllStandIn s → now ≤ 2 ^ 62 → has_reply s ≡ false → next_offer s ≡ None → given_up (agent_of s) now ≡ None → (p : Phase) → s.phase ≡ p → Timely now s (timed_step p None now s)
+none-timely : (now : ℕ) (s : State) → IsOrderly s → AllStandIn s → now ≤ 2 ^ 62 → has_reply s ≡ false → next_offer s ≡ None → timed_out_transaction (agent_of s) now ≡ None → (p : Phase) → s.phase ≡ p → Timely now s (timed_step p None now s)
 none-timely now s orderly stand range no_reply no_offer none p e = by p e
   where
     wrong : false ≡ true → ⊥
@@ -245,7 +245,7 @@ none-timely now s orderly stand range no_reply no_offer none p e = by p e
           not_new = old-phase Allocated t.phase live (λ new. allocated_new new);
           no_reply = replies-same s t shrinks.queue no_reply;
           gave_up = λ f. absurd (wrong f);
-          none_over = λ f. subst (λ a. given_up a now ≡ None) (sym shrinks.agent) none;
+          none_over = λ f. subst (λ a. timed_out_transaction a now ≡ None) (sym shrinks.agent) none;
           no_offer = lapsed-no_offer s t shrinks no_offer;
           alive = λ quiet f. lapsed-alive None now s stand quiet;
           grants_later = λ f. inl live;
@@ -258,13 +258,13 @@ none-timely now s orderly stand range no_reply no_offer none p e = by p e
 pub poll-timely : (now : ℕ) (s : State) → IsOrderly s → AllStandIn s → now ≤ 2 ^ 62 → IsTimely (poll_step now s).0 now s (poll_step now s).1
 poll-timely now s orderly stand range = events (has_event s) (has_reply s) refl refl
   where
-    given : has_reply s ≡ false → next_offer s ≡ None → (o : Option Transaction) → given_up (agent_of s) now ≡ o → Timely now s (given_up_step now s)
+    given : has_reply s ≡ false → next_offer s ≡ None → (o : Option Transaction) → timed_out_transaction (agent_of s) now ≡ o → Timely now s (given_up_step now s)
     given no_reply no_offer None e = rw (given_up_step, e) (none-timely now s orderly stand range no_reply no_offer e s.phase refl)
     given no_reply no_offer (Some x) e = rw (given_up_step, e) (given-timely now s orderly range no_reply no_offer x e s.phase refl)
 
     offers : has_event s ≡ false → has_reply s ≡ false → (o : Option DataOffer) → next_offer s ≡ o → Timely now s (option_map_or (λ offer. offer_step offer s) (next_offer s) (given_up_step now s))
     offers no_event no_reply (Some offer) e = rw e tt
-    offers no_event no_reply None e = rw e (given no_reply e (given_up (agent_of s) now) refl)
+    offers no_event no_reply None e = rw e (given no_reply e (timed_out_transaction (agent_of s) now) refl)
 
     events : (b c : Bool) → has_event s ≡ b → has_reply s ≡ c → Timely now s (poll_step now s)
     events true c e f = rw (poll_step, e) (now-timely now s s (event-busy now s s e))

@@ -1,6 +1,6 @@
 -- What the time means that `poll` returns.
 use Rattle.std.specs.Prelude.{◌≡◌, ◌≢◌, ◌⊎◌, ℕ, ◌<◌, ◌≤◌, true, false, [], All, is_some, None, IsSome, IfSome, ⊤}
-use Rattle.turn_agent.specs.Agent.{given_up, is_outstanding}
+use Rattle.turn_agent.specs.Agent.{timed_out_transaction, is_outstanding}
 use Rattle.turn_agent.specs.declared.transaction.Transaction.{Transaction}
 use Rattle.turn_client_api.specs.State.{State, Phase, New, Requesting, Authenticating, Grant, Allocation, Permission, Channel, Connection, Active, agent_of}
 use Rattle.turn_client_api.specs.Grants.{allocation_of, family_of_grant}
@@ -22,7 +22,7 @@ Lasts moment _ = ⊤
 -- transaction ends, no event, offer or close is pending, and no grant expires.
 pub record IsSilent (now moment : ℕ) (s : State) : Type 0 where
   pub sends_nothing : (t : ℕ) → now ≤ t → t < moment → transmit_step t s ≡ (None, s)
-  pub ends_nothing : (t : ℕ) → now ≤ t → t < moment → given_up (agent_of s) t ≡ None
+  pub ends_nothing : (t : ℕ) → now ≤ t → t < moment → timed_out_transaction (agent_of s) t ≡ None
   pub no_event : s.events ≡ []
   pub no_offer : next_offer s ≡ None
   pub no_close : s.closes ≡ []

@@ -65,7 +65,7 @@ closed s = in_phase Closed s
 
 -- the request of this ID is no longer outstanding
 abbrev pub ended : ℕ → State → State
-ended id s = record s { transactions = A.without id s.transactions }
+ended id s = record s { transactions = A.without_transaction id s.transactions }
 
 -- the server accepted a request: challenges are counted anew
 abbrev pub challenges_reset : State → State

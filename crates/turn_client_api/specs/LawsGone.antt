@@ -1,7 +1,7 @@
 -- Which call removes a grant, by its kind (RFC 8656, sections 7 to 12; RFC 6062, section 4).
 use Rattle.std.specs.Prelude.{◌≡◌, ◌⊎◌, ◌<◌, ◌≤◌, ℕ, true, false, List, None, Some, Option, IsSome}
 use Rattle.std.specs.List.{Contains}
-use Rattle.turn_agent.specs.Agent.{given_up}
+use Rattle.turn_agent.specs.Agent.{timed_out_transaction}
 use Rattle.turn_agent.specs.declared.transaction.Transaction.{Transaction}
 use Rattle.turn_client_api.specs.State.{State, Grant, Allocation, Permission, Channel, Connect, Offer, Connection, Pending, Active, Reserved, Relay, Purpose, ForRefresh, Stream, Waiting, Allocated, agent_of, later_by}
 use Rattle.turn_client_api.specs.Grants.{family_of, family_of_grant, is_connection_from, is_for, is_for_any, is_of_request, purposes_of}
@@ -58,13 +58,13 @@ IsClosedWith call s g = (end : IsStreamEnd call s (state_after call s)) × (is_c
 -- a transaction times out, or the earliest time at which a grant expires has come
 abbrev pub IsTimeUp : ℕ → State → Type 0
 IsTimeUp now s =
-    IsSome (given_up (agent_of s) now)
+    IsSome (timed_out_transaction (agent_of s) now)
     ⊎ ((s.phase ≡ Allocated) × ((moment : ℕ) × Contains (lapse_moments s) moment × (moment ≤ now)))
 
 -- the request that times out now was made for the grant
 abbrev pub IsGivenUp : ℕ → State → Grant → Type 0
 IsGivenUp now s g =
-    (x : Transaction) × (given_up (agent_of s) now ≡ Some x) × (is_for_any (purposes_of x.id s) g ≡ true)
+    (x : Transaction) × (timed_out_transaction (agent_of s) now ≡ Some x) × (is_for_any (purposes_of x.id s) g ≡ true)
 
 -- It has expired, or the request for it timed out. A channel that expires is reserved for a while and
 -- exists so long, and an offer is removed with the server's request for it.
@@ -76,7 +76,7 @@ IsSpent now s (Channel number peer (Reserved until)) = until < now
 IsSpent now s (Channel number peer Pending) = IsGivenUp now s (Channel number peer Pending)
 IsSpent now s (Connect peer) = IsGivenUp now s (Connect peer)
 IsSpent now s (Offer offer) =
-    (x : Transaction) × (given_up (agent_of s) now ≡ Some x) × (is_of_request x.id (Offer offer) ≡ true)
+    (x : Transaction) × (timed_out_transaction (agent_of s) now ≡ Some x) × (is_of_request x.id (Offer offer) ≡ true)
 IsSpent now s (Connection c) =
     (deadline : ℕ) × (c.deadline ≡ Some deadline) × ((deadline ≤ now) ⊎ IsGivenUp now s (Connection c))
 IsSpent now s _ = ⊥

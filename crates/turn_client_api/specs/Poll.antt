@@ -4,7 +4,7 @@ use Rattle.std.specs.List.{list_any}
 use Rattle.std.specs.Option.{option_map_or}
 use Rattle.std.specs.declared.net.socket_addr.SocketAddr.{SocketAddr}
 use Rattle.turn_types.specs.declared.family.AddressFamily.{AddressFamily}
-use Rattle.turn_agent.specs.Agent.{given_up}
+use Rattle.turn_agent.specs.Agent.{timed_out_transaction}
 use Rattle.turn_client_api.specs.State.{State, Phase, New, Requesting, Authenticating, Allocated, Closed, Grant, Allocation, Permission, Channel, Offer, Connection, Relay, DataOffer, Active, Reserved, Purpose, agent_of}
 use Rattle.turn_client_api.specs.Grants.{allocations, family_of, failures_among, first_in, connection_in, has_request, in_turn, is_connect, is_for_allocation, is_for_any, is_of, is_of_family, is_of_request, is_past, is_pending_channel, is_pending_permission, jump, purposes_of, unlisted, without}
 use Rattle.turn_client_api.specs.Effect.{closed, ended, reserved, without_families}
@@ -179,7 +179,7 @@ timed_step Closed given now s = (Do.Closed, s)
 
 abbrev pub given_up_step : ℕ → State → TurnPollRet × State
 given_up_step now s =
-    option_map_or (λ t. timed_step s.phase (Some t.id) now (ended t.id s)) (given_up (agent_of s) now) (timed_step s.phase None now s)
+    option_map_or (λ t. timed_step s.phase (Some t.id) now (ended t.id s)) (timed_out_transaction (agent_of s) now) (timed_step s.phase None now s)
 
 -- what the caller is to do next: first to poll what is pending, and to open a data connection
 abbrev pub poll_step : ℕ → State → TurnPollRet × State

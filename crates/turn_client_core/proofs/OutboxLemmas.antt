@@ -6,7 +6,7 @@ use Rattle.std.proofs.lemmas.List.Elements.{filter-append}
 use Rattle.std.specs.Prelude.{◌==◌, not}
 use Rattle.std.specs.declared.net.socket_addr.SocketAddr.{SocketAddr}
 use Rattle.turn_agent.proofs.TransactionLemmas.{without-none}
-use Rattle.turn_agent.specs.Agent.{first_sent, is_outstanding, without}
+use Rattle.turn_agent.specs.Agent.{first_sent, is_outstanding, without_transaction}
 use Rattle.turn_agent.specs.declared.transaction.Transaction.{Transaction}
 use Rattle.turn_client_core.specs.Outgoing.{Outgoing, answering}
 
@@ -14,6 +14,6 @@ pub answering_none : (o : Outgoing) → answering None o ≡ o
 answering_none o = rw (append-nil o.queue) refl
 
 -- to drop a request again is as if it was never made
-pub without_begun : (id : ℕ) (to : SocketAddr) (now : ℕ) (text : List ℕ) (ts : List Transaction) → is_outstanding id ts ≡ false → without id (ts ++ first_sent id to now text ∷ []) ≡ ts
+pub without_begun : (id : ℕ) (to : SocketAddr) (now : ℕ) (text : List ℕ) (ts : List Transaction) → is_outstanding id ts ≡ false → without_transaction id (ts ++ first_sent id to now text ∷ []) ≡ ts
 without_begun id to now text ts new =
     rw (filter-append (λ (t : Transaction). not (t.id == id)) ts (first_sent id to now text ∷ []), without-none id ts new, nat_eq_equiv.refl id, append-nil ts) refl

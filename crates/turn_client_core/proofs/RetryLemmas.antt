@@ -4,7 +4,7 @@ use Rattle.std.proofs.lemmas.Bool.{eqb-true, lt-ltb}
 use Rattle.std.specs.List.{list_any}
 use Rattle.std.specs.Prelude.{◌==◌, ◌+◌, ◌<◌, filter}
 use Rattle.std.specs.declared.net.socket_addr.SocketAddr.{SocketAddr}
-use Rattle.turn_agent.specs.Agent.{is_outstanding, without}
+use Rattle.turn_agent.specs.Agent.{is_outstanding, without_transaction}
 use Rattle.turn_agent.specs.declared.transaction.Transaction.{Transaction}
 use Rattle.turn_auth.specs.LongTerm.{Challenge}
 use Rattle.turn_client_api.specs.Effect.{ended}
@@ -19,11 +19,11 @@ use Rattle.turn_client_api.specs.declared.grant.Purpose.TheVariants.{ForAllocati
 use Rattle.turn_stun.specs.Message.{id_of}
 
 -- the old request is no longer outstanding, whether it ends before the new one is made or after it
-pub without-other : (id : ℕ) (t : Transaction) (transactions : List Transaction) → (t.id == id) ≡ false → without id (transactions ++ t ∷ []) ≡ without id transactions ++ t ∷ []
+pub without-other : (id : ℕ) (t : Transaction) (transactions : List Transaction) → (t.id == id) ≡ false → without_transaction id (transactions ++ t ∷ []) ≡ without_transaction id transactions ++ t ∷ []
 without-other id t [] other = rw other refl
 without-other id t (u ∷ others) other = by (u.id == id) refl (without-other id t others other)
   where
-    by : (b : Bool) → (u.id == id) ≡ b → without id (others ++ t ∷ []) ≡ without id others ++ t ∷ [] → without id ((u ∷ others) ++ t ∷ []) ≡ without id (u ∷ others) ++ t ∷ []
+    by : (b : Bool) → (u.id == id) ≡ b → without_transaction id (others ++ t ∷ []) ≡ without_transaction id others ++ t ∷ [] → without_transaction id ((u ∷ others) ++ t ∷ []) ≡ without_transaction id (u ∷ others) ++ t ∷ []
     by true e rest = rw e rest
     by false e rest = rw e (ap (λ ts. u ∷ ts) rest)
 

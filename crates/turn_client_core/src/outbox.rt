@@ -1,7 +1,7 @@
 //! Packets and requests for the server.
 
 ghost use Rattle.std.specs.Prelude.{◌≡◌, ◌≤◌, ◌<◌, [], None, false, true, length, IfOk, OnOk, OnErr};
-ghost use Rattle.turn_agent.specs.Agent.{is_outstanding, without};
+ghost use Rattle.turn_agent.specs.Agent.{is_outstanding, without_transaction};
 ghost use Rattle.turn_agent.specs.TransactionIds.{next_id};
 ghost use Rattle.turn_client_core.specs.Outgoing.{answering, asked, asked_over, begun, drawn, packet_of, waiting, with_room};
 ghost use Rattle.turn_client_api.specs.Calls.{with_stream};
@@ -168,7 +168,7 @@ impl Outbox {
 
     /// Drops the request with this ID. It is no longer outstanding.
     pub(crate) fn end(&mut self, id: TransactionId)
-        ensures { self.new ≡ record self.old { transactions = without id self.old.transactions } }
+        ensures { self.new ≡ record self.old { transactions = without_transaction id self.old.transactions } }
     {
         let _was_outstanding = self.agent.end(id);
     }

@@ -1,7 +1,7 @@
 //! The requests of a client.
 
 ghost use Rattle.std.specs.Prelude.{◌≡◌, IfOk, IsSome};
-ghost use Rattle.turn_auth.specs.LongTerm.{holding};
+ghost use Rattle.turn_auth.specs.LongTerm.{with_challenge};
 ghost use Rattle.turn_client_api.specs.Calls.{delete_text};
 ghost use Rattle.turn_client_api.specs.Requests.{first_allocate, fresh_id};
 ghost use Rattle.turn_client_api.specs.State.{State, auth_of};
@@ -91,7 +91,7 @@ pub fn request_under(
     id: TransactionId,
 ) -> Result<Data, AllocError>
     requires { IsSome auth.now.credentials }
-    ensures { IfOk result (IsRequestFor (holding challenge.now auth.now) transport families.now purpose.now id) }
+    ensures { IfOk result (IsRequestFor (with_challenge challenge.now auth.now) transport families.now purpose.now id) }
 {
     let asked = HEADER_LEN + asked_len(transport, families, purpose);
     let len = asked + auth.signature_bytes_under(challenge);

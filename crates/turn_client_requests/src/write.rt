@@ -4,7 +4,7 @@ ghost use Rattle.std.specs.Prelude.{◌≡◌, ℕ, ◌<◌, ◌≤◌, ◌+◌,
 ghost use Rattle.turn_stun.specs.Message.{IsMessage, attributes_of, id_of};
 ghost use Rattle.turn_stun.specs.MessageType.{type_number};
 ghost use Rattle.turn_stun.specs.Writer.{AddsAttribute, header_of, with_attribute};
-ghost use Rattle.turn_auth.specs.LongTerm.{holding};
+ghost use Rattle.turn_auth.specs.LongTerm.{with_challenge};
 ghost use Rattle.turn_auth.specs.Signature.{is_unsigned, signed_len, signed_text, written_len};
 ghost use Rattle.turn_client_requests.specs.Written.{StaysUnsigned};
 
@@ -92,8 +92,8 @@ pub(crate) fn signed_under(
     requires known { IsSome auth.now.credentials }
     requires unsigned { is_unsigned (attributes_of message) ≡ true }
     requires short { length message ≤ 2000 }
-    ensures text { IfOk result (λ text. text ≡ signed_text (holding challenge.now auth.now) message) }
-    ensures len { IfOk result (λ text. length text ≡ signed_len (holding challenge.now auth.now) message) }
+    ensures text { IfOk result (λ text. text ≡ signed_text (with_challenge challenge.now auth.now) message) }
+    ensures len { IfOk result (λ text. length text ≡ signed_len (with_challenge challenge.now auth.now) message) }
 {
     let mut message = message;
     let _room = auth.signature_bytes_under(challenge);

@@ -86,7 +86,7 @@ retry-relists message purpose d now s first =
     made = record {
       text = request_for t purpose (fresh_id s);
       spelled = inl refl;
-      outstanding = has-contains x t.transactions (has-right x (A.without (id_of message) s.transactions) (x ∷ []) (inl refl));
+      outstanding = has-contains x t.transactions (has-right x (A.without_transaction (id_of message) s.transactions) (x ∷ []) (inl refl));
     }
 
 challenge-relists : (message : List ℕ) (d : Challenge) (now : ℕ) (s : State) → Relists message now s (challenge_step message d now s).1

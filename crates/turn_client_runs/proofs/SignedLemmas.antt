@@ -6,7 +6,7 @@ use Rattle.std.proofs.lemmas.Bool.{and_parts, eq-eqb, eqb-true}
 use Rattle.std.specs.declared.net.socket_addr.SocketAddr.{SocketAddr}
 use Rattle.turn_stun.specs.Message.{id_of}
 use Rattle.turn_auth.specs.LongTerm.{Challenge}
-use Rattle.turn_agent.specs.Agent.{first_sent, is_outstanding, is_response, without}
+use Rattle.turn_agent.specs.Agent.{first_sent, is_outstanding, is_response, without_transaction}
 use Rattle.turn_agent.specs.declared.transaction.Transaction.{Transaction}
 use Rattle.turn_client_api.specs.Config.{Config}
 use Rattle.turn_client_api.specs.State.{State}
@@ -175,16 +175,16 @@ module _ (message : List ℕ) (now : ℕ) (s : State) (order : AllocatesInOrder 
 
   -- the first one ends as it is made again, and then nothing else is outstanding
   retried-signs : (id : ℕ) (purpose : Purpose) (d : Challenge) (u : State) → IsOfOneId s.transactions → is_outstanding id s.transactions ≡ true → purpose ≡ ForAllocation → u.config ≡ s.config → u.held ≡ Some d
-      → AreSigned s.config (Some d) (without id s.transactions ++ first_sent (fresh_id s) s.remote now (request_for u purpose (fresh_id s)) ∷ [])
-  retried-signs id purpose d u one outstanding is same held x there = by (has-append x (without id s.transactions) _ there)
+      → AreSigned s.config (Some d) (without_transaction id s.transactions ++ first_sent (fresh_id s) s.remote now (request_for u purpose (fresh_id s)) ∷ [])
+  retried-signs id purpose d u one outstanding is same held x there = by (has-append x (without_transaction id s.transactions) _ there)
     where
-      old : Has x (without id s.transactions) → ⊥
+      old : Has x (without_transaction id s.transactions) → ⊥
       old left =
           let (before, other) = has-filter (λ (z : Transaction). not (eqb z.id id)) x s.transactions left in
           let (y, here, same) = any-has (λ (z : Transaction). eqb z.id id) s.transactions outstanding in
           not-both (eqb x.id id) (eq-eqb x.id id (one x y before here ∙ eqb-true y.id id same)) other
 
-      by : Has x (without id s.transactions) ⊎ Has x (first_sent (fresh_id s) s.remote now (request_for u purpose (fresh_id s)) ∷ []) → IsSignedAllocate s.config (Some d) x
+      by : Has x (without_transaction id s.transactions) ⊎ Has x (first_sent (fresh_id s) s.remote now (request_for u purpose (fresh_id s)) ∷ []) → IsSignedAllocate s.config (Some d) x
       by (inl left) = absurd (old left)
       by (inr (inl e)) = signed-as u s.config (Some d) purpose (fresh_id s) x same (d, d, held, refl, refl, refl) is (ap (λ (z : Transaction). z.id) e) (ap (λ (z : Transaction). z.request) e)
       by (inr (inr none)) = absurd none

@@ -1,6 +1,6 @@
 use Rattle.std.proofs.Common.{◌≡◌, ◌<◌, ◌++◌, Some, length, take, drop, suc, sym, ap, refl, ◌∙◌}
 use Rattle.std.proofs.lemmas.Option.{slice_get-get_or}
-use Rattle.turn_agent.specs.Agent.{without}
+use Rattle.turn_agent.specs.Agent.{without_transaction}
 use Rattle.turn_agent.proofs.FrontLemmas.{IsFront-removed}
 use Rattle.turn_agent.proofs.TransactionLemmas.{AreDistinct-without, AreIdsOf-without, remove-without}
 use Rattle.turn_agent.proofs.agent.StunAgent.take_out.Goals as goal
@@ -10,7 +10,7 @@ invariant_of-self c =
     let ts = c.self.inside.transactions.items in
     let within : c.args.place < length ts = rw (← c.self.view_is) at c.requires in
     let removed = remove-without ts c.args.place c.remove-taken.result c.self.invariant.distinct within in
-    let left : take c.args.place ts ++ drop (suc c.args.place) ts ≡ without c.remove-taken.result.id ts = rw (← c.remove-taken.ensures.value) at removed in
+    let left : take c.args.place ts ++ drop (suc c.args.place) ts ≡ without_transaction c.remove-taken.result.id ts = rw (← c.remove-taken.ensures.value) at removed in
     let kept = c.without_one-self-inside.ensures in
     rw (c.remove-taken.ensures.items, left) (record {
       distinct = AreDistinct-without _ ts c.self.invariant.distinct;

@@ -2,7 +2,7 @@ use Rattle.std.proofs.Common.{◌≡◌, ◌∙◌, ap, refl, sym}
 use Rattle.std.specs.Prelude.{◌∷◌, [], Some, find, true}
 use Rattle.std.proofs.lemmas.Option.{same_Some}
 use Rattle.turn_auth.specs.Challenge.{challenge_of}
-use Rattle.turn_auth.specs.LongTerm.{holding}
+use Rattle.turn_auth.specs.LongTerm.{with_challenge}
 use Rattle.turn_client_api.specs.Connections.{bind_again}
 use Rattle.turn_client_api.specs.Grants.{purposes_of}
 use Rattle.turn_client_api.specs.Judgement.{is_bind_of}
@@ -47,7 +47,7 @@ returns-clause-ok c = λ challenge is.
     let own = sym (auth-is s c.self.inside.auth c.self.invariant.credentials c.self.invariant.supported c.self.invariant.anonymous refl) in
     let same : given ≡ challenge = same_Some given challenge (sym c.in-Some.is ∙ (c.in_ok-challenge.ensures.exact ∙ (ap (λ auth. challenge_of auth c.args.message.now) (own ∙ ap auth_of c.self.view_is) ∙ is))) in
     let all : asking c.transport.result c.as_slice.result.now t ≡ t = rw (c.transport.ensures, c.as_slice.ensures) refl in
-    let written : text ≡ request_for t purpose fresh = c.in_ok-text.ensures t (sym (ap (holding given) own)) ∙ ap (λ u. request_for u purpose fresh) all in
+    let written : text ≡ request_for t purpose fresh = c.in_ok-text.ensures t (sym (ap (with_challenge given) own)) ∙ ap (λ u. request_for u purpose fresh) all in
     let listed : find (is_bind_of d.local) (purposes_of id s) ≡ Some purpose = ap (λ u. find (is_bind_of d.local) (purposes_of id u)) c.self.view_is ∙ c.requires.asked in
     let sent : from ≡ sent_from s purpose = c.sent_from-from.ensures ∙ ap (λ u. sent_from u purpose) (sym c.self.view_is) in
     rw c.accept.ensures.taken

@@ -2,7 +2,7 @@ use Rattle.std.proofs.Common.{◌≡◌, ◌∙◌, false, true, ap, refl, sym}
 use Rattle.std.specs.Prelude.{◌==◌, ◌∷◌, [], ◌++◌, not}
 use Rattle.std.specs.List.{list_any}
 use Rattle.std.proofs.lemmas.List.{append-nil}
-use Rattle.turn_agent.specs.Agent.{first_sent, without}
+use Rattle.turn_agent.specs.Agent.{first_sent, without_transaction}
 use Rattle.turn_client_api.specs.Effect.{ended, in_phase}
 use Rattle.turn_client_api.specs.Grants.{is_for_allocation, wait}
 use Rattle.turn_client_api.specs.Requests.{asked, drawn, fresh_id, queued, request_for}
@@ -54,7 +54,7 @@ returns-clause-ok c =
     let told : on c.tell.new.self v ≡ u = c.tell.ensures.state v ∙ ap (wait (AllocationCreateFailed IPV4 ∷ [])) (c.unlist_allocates.ensures.state v v.phase ∙ ap (in_phase v.phase) (c.reserve.ensures.same v)) in
     let more : record (on c.tell.new.self v) { grants = c.tell.new.self.grants ++ [] } ≡ u = ap (λ gs. record (on c.tell.new.self v) { grants = gs }) (append-nil c.tell.new.self.grants) ∙ told in
     rw c.only_ipv6-families.ensures
-    (ap (λ o. on c.ask-2.new.self (with_outbox o v)) (c.end.ensures ∙ ap (λ (o : Outgoing). record o { transactions = without id o.transactions }) c.in_ok-ask.ensures.ok)
+    (ap (λ o. on c.ask-2.new.self (with_outbox o v)) (c.end.ensures ∙ ap (λ (o : Outgoing). record o { transactions = without_transaction id o.transactions }) c.in_ok-ask.ensures.ok)
     ∙ (ap (λ ts. queued true from text (on c.ask-2.new.self (record (drawn v) { transactions = ts }))) (without-other id new s.transactions other)
     ∙ (ap (queued true from text) ((rw c.one.ensures at (c.ask-2.ensures.state v text now)) ∙ ap (λ w. asked fresh text (ForAllocation ∷ []) now w) more)
     ∙ (first-is u fresh from text now written c.local_addr-from.ensures
