@@ -15,10 +15,10 @@ use Rattle.turn_client_api.specs.Grants.{is_channel_of, is_connect_to, is_for, i
 use Rattle.turn_client_api.specs.Requests.{asked, first_allocate, listings, request_for}
 use Rattle.turn_client_api.specs.Effect.{ended, phase_with, relayed_in, taken_addresses}
 use Rattle.turn_client_api.specs.Retry.{phase_after}
-use Rattle.turn_client_api.specs.Handled.{Turn, handled}
+use Rattle.turn_client_api.specs.Handled.{Input, handled}
 use Rattle.turn_client_api.specs.Steps.{Call, Leaves}
-use Rattle.turn_client_api.specs.LawsAllocates.{AllocatesAsAsked, AllocatesInOrder, AsksForFamilies, HasConfiguredFamilies, IsAllocate, IsAllocationTurn, IsAskedForFamilies}
-use Rattle.turn_client_api.specs.LawsGranted.{IsEndedNow, IsGrantTurn, Stood}
+use Rattle.turn_client_api.specs.LawsAllocates.{AllocatesAsAsked, AllocatesInOrder, AsksForFamilies, HasConfiguredFamilies, IsAllocate, IsAllocationInput, IsAskedForFamilies}
+use Rattle.turn_client_api.specs.LawsGranted.{IsEndedNow, IsGrantInput, Stood}
 use Rattle.turn_client_api.specs.LawsHandled.{IsDoneBy}
 use Rattle.turn_client_api.specs.LawsOrder.{IsUngranted}
 use Rattle.turn_client_api.proofs.Edits.{IsSpelled, IsUnlisted, KeepsAllEdits, KeepsEdits, MayAskFor, listing}
@@ -319,7 +319,7 @@ leaves-AllocatesInOrder call s t leaves h = in_order-stated t (leaves-walk StayI
 pub leaves-allocations : (call : Call) (s t : State) → Leaves call s t → AllocatesInOrder s → AllocatesAsAsked call s t
 leaves-allocations call s t leaves h a there = by (leaves-grants call s t (Allocation a) leaves there tt)
   where
-    turned : (one : Turn) → Contains (handled call s) one → IsGrantTurn (Allocation a) one → IsAllocationTurn a one
+    turned : (one : Input) → Contains (handled call s) one → IsGrantInput (Allocation a) one → IsAllocationInput a one
     turned one among turn = (turn, asked)
       where
         order : AllocatesInOrder one.before
@@ -331,7 +331,7 @@ leaves-allocations call s t leaves h a there = by (leaves-grants call s t (Alloc
             let listed = purpose-with (id_of one.bytes) ForAllocation one.before (contains-has ForAllocation (purposes_of (id_of one.bytes) one.before) answers) in
             order.1 (id_of one.bytes) (has-contains (listing (id_of one.bytes) ForAllocation) one.before.listed listed) turn.grant.1.outstanding
 
-    by : Stood s (Allocation a) ⊎ IsEndedNow call s (Allocation a) ⊎ IsDoneBy (IsGrantTurn (Allocation a)) call s → Stood s (Allocation a) ⊎ IsEndedNow call s (Allocation a) ⊎ IsDoneBy (IsAllocationTurn a) call s
+    by : Stood s (Allocation a) ⊎ IsEndedNow call s (Allocation a) ⊎ IsDoneBy (IsGrantInput (Allocation a)) call s → Stood s (Allocation a) ⊎ IsEndedNow call s (Allocation a) ⊎ IsDoneBy (IsAllocationInput a) call s
     by (inl stood) = inl stood
     by (inr (inl ended)) = inr (inl ended)
     by (inr (inr (one, among, turn))) = inr (inr (one, among, turned one among turn))

@@ -12,8 +12,8 @@ use Rattle.turn_client_api.specs.State.{State, Waiting, Stream, DataConnection, 
 use Rattle.turn_client_api.specs.Grants.{purposes_of}
 use Rattle.turn_client_api.specs.Judgement.{Judgement, Fatal, SignedSuccess, bind_judgement, by_class, challenge_in, challenged_or, class_in, is_bind_of}
 use Rattle.turn_client_api.specs.Payloads.{is_message}
-use Rattle.turn_client_api.specs.Handled.{Turn}
-use Rattle.turn_client_api.specs.LawsBound.{IsBindTurn}
+use Rattle.turn_client_api.specs.Handled.{Input}
+use Rattle.turn_client_api.specs.LawsBound.{IsBindInput}
 use Rattle.turn_client_api.proofs.AddressLemmas.{same_address-true}
 use Rattle.turn_client_api.proofs.HasLemmas.{Has, has-found}
 use Rattle.turn_client_api.proofs.StandLemmas.{has-contains}
@@ -77,7 +77,7 @@ pub found-local : (local : SocketAddr) (c : DataConnection) (cs : List DataConne
 found-local local c cs e = same_address-true c.local local (has-found (λ (d : DataConnection). same_address d.local local) c cs e).1
 
 -- the input of a message that binds the connection
-pub binds-turn : (one : Turn) (stream : Stream) (t : State) → one.stream ≡ Some stream → stream.mode ≡ Waiting → is_message one.bytes ≡ true → (b : Binds stream.local one.bytes one.before t) → IsBindTurn stream.local b.c.peer one
+pub binds-turn : (one : Input) (stream : Stream) (t : State) → one.stream ≡ Some stream → stream.mode ≡ Waiting → is_message one.bytes ≡ true → (b : Binds stream.local one.bytes one.before t) → IsBindInput stream.local b.c.peer one
 binds-turn one stream t of waits whole b = record {
   over = rw of (waits, refl);
   whole = whole;

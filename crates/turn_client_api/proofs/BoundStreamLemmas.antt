@@ -8,9 +8,9 @@ use Rattle.turn_client_api.specs.State.{State, Mode, Waiting, Bound, Stream, All
 use Rattle.turn_client_api.specs.Connections.{bind_step, connection_at}
 use Rattle.turn_client_api.specs.Payloads.{is_message, message_step}
 use Rattle.turn_client_api.specs.Receive.{connection_gone}
-use Rattle.turn_client_api.specs.Handled.{Turn}
+use Rattle.turn_client_api.specs.Handled.{Input}
 use Rattle.turn_client_api.specs.Steps.{Call, Leaves, state_after, Delete, CreatePermission, BindChannel, TcpConnect, AllocatedTcpSocket, TcpClosed, SendTo, Recv, PollRecv, Poll, PollTransmit, PollEvent, RelayedAddresses, Permissions, HavePermission, ProtocolError}
-use Rattle.turn_client_api.specs.LawsBound.{IsBindTurn, IsBoundBy, IsBoundConnection, IsConnectedBy}
+use Rattle.turn_client_api.specs.LawsBound.{IsBindInput, IsBoundBy, IsBoundConnection, IsConnectedBy}
 use Rattle.turn_client_api.specs.LawsGranted.{IsEndedNow, IsGrantedIn, Stood}
 use Rattle.turn_client_api.specs.LawsHandled.{IsBoundAt, IsDoneBy}
 use Rattle.turn_client_api.proofs.AddressLemmas.{same_address-true}
@@ -38,7 +38,7 @@ module _ (local peer : SocketAddr) where
       by true f = let is : x ≡ record z { mode = mode } = e ∙ rw f refl in inr (rw is (same_address-true z.local a f), rw is refl)
       by false f = inl (e ∙ rw f refl)
 
-  bind-bound : (one : Turn) (stream : Stream) (t : State) → one.stream ≡ Some stream → stream.mode ≡ Waiting → is_message one.bytes ≡ true → Binds stream.local one.bytes one.before t → IsBoundAt local peer t → IsBoundAt local peer one.before ⊎ IsBindTurn local peer one
+  bind-bound : (one : Input) (stream : Stream) (t : State) → one.stream ≡ Some stream → stream.mode ≡ Waiting → is_message one.bytes ≡ true → Binds stream.local one.bytes one.before t → IsBoundAt local peer t → IsBoundAt local peer one.before ⊎ IsBindInput local peer one
   bind-bound one stream t of waits whole b (x, there, at, mode) = by (has-mapped f x one.before.streams (subst (Has x) b.streams (contains-has x t.streams there)))
     where
       f : Stream → Stream
@@ -47,17 +47,17 @@ module _ (local peer : SocketAddr) where
       same_peer : Bound b.c.peer ≡ Bound peer → b.c.peer ≡ peer
       same_peer e = cc
 
-      bound : x.local ≡ b.c.local → x.mode ≡ Bound b.c.peer → IsBindTurn local peer one
+      bound : x.local ≡ b.c.local → x.mode ≡ Bound b.c.peer → IsBindInput local peer one
       bound ends is =
           let place : stream.local ≡ local = sym (found-local stream.local b.c _ b.found) ∙ (sym ends ∙ at) in
           let to : b.c.peer ≡ peer = same_peer (sym is ∙ mode) in
-          subst (λ (p : SocketAddr). IsBindTurn local p one) to
-          (subst (λ (l : SocketAddr). IsBindTurn l b.c.peer one) place (binds-turn one stream t of waits whole b))
+          subst (λ (p : SocketAddr). IsBindInput local p one) to
+          (subst (λ (l : SocketAddr). IsBindInput l b.c.peer one) place (binds-turn one stream t of waits whole b))
 
-      by : (z : Stream) × Has z one.before.streams × (x ≡ f z) → IsBoundAt local peer one.before ⊎ IsBindTurn local peer one
+      by : (z : Stream) × Has z one.before.streams × (x ≡ f z) → IsBoundAt local peer one.before ⊎ IsBindInput local peer one
       by (z, before, e) = now (mode-was b.c.local (Bound b.c.peer) x z e)
         where
-          now : (x ≡ z) ⊎ ((x.local ≡ b.c.local) × (x.mode ≡ Bound b.c.peer)) → IsBoundAt local peer one.before ⊎ IsBindTurn local peer one
+          now : (x ≡ z) ⊎ ((x.local ≡ b.c.local) × (x.mode ≡ Bound b.c.peer)) → IsBoundAt local peer one.before ⊎ IsBindInput local peer one
           now (inl same) = inl (x, has-contains x one.before.streams (subst (λ (y : Stream). Has y one.before.streams) (sym same) before), at, mode)
           now (inr (ends, is)) = inr (bound ends is)
 
@@ -65,7 +65,7 @@ module _ (local peer : SocketAddr) where
   gone-bound a s = same-bound s (connection_gone a s) (same-cond (is_some (connection_at a s)) s _ _ refl refl)
 
   -- a stream that is bound was so before, or an input bound it
-  pub bringing : IsBrought (IsBoundAt local peer) (IsBindTurn local peer)
+  pub bringing : IsBrought (IsBoundAt local peer) (IsBindInput local peer)
   bringing = record {
     differs = λ s t differs. differs.bound local peer;
     message = λ one over whole h. inl (same-bound one.before (message_step one.bytes one.moment one.before).1 (message-same one.bytes one.moment one.before) h);
@@ -74,9 +74,9 @@ module _ (local peer : SocketAddr) where
     ended = λ s h. h;
   }
     where
-      binds : (one : Turn) (stream : Stream) → one.stream ≡ Some stream → stream.mode ≡ Waiting → is_message one.bytes ≡ true
+      binds : (one : Input) (stream : Stream) → one.stream ≡ Some stream → stream.mode ≡ Waiting → is_message one.bytes ≡ true
           → BindsOrLeaves stream.local one.bytes one.before (bind_step stream.local one.bytes one.moment one.before)
-          → IsBoundAt local peer (bind_step stream.local one.bytes one.moment one.before) → IsBoundAt local peer one.before ⊎ IsBindTurn local peer one
+          → IsBoundAt local peer (bind_step stream.local one.bytes one.moment one.before) → IsBoundAt local peer one.before ⊎ IsBindInput local peer one
       binds one stream of waits whole (inl b) h = bind-bound one stream (bind_step stream.local one.bytes one.moment one.before) of waits whole b h
       binds one stream of waits whole (inr (leaves, same)) h = inl (same-bound one.before (bind_step stream.local one.bytes one.moment one.before) same h)
 
@@ -98,9 +98,9 @@ module _ (local peer : SocketAddr) where
 
   pub leaves-bound : (call : Call) (s t : State) → Leaves call s t → IsBoundAt local peer t → IsBoundBy local peer call s
   leaves-bound call s t leaves h =
-      by (leaves-bring (IsBoundAt local peer) (IsBindTurn local peer) bringing (λ call s. ⊥) (λ call s other there. inl (opened-bound s (state_after call s) (others-opened call s other) there)) call s t leaves h)
+      by (leaves-bring (IsBoundAt local peer) (IsBindInput local peer) bringing (λ call s. ⊥) (λ call s other there. inl (opened-bound s (state_after call s) (others-opened call s other) there)) call s t leaves h)
     where
-      by : IsBoundAt local peer s ⊎ ⊥ ⊎ IsDoneBy (IsBindTurn local peer) call s → IsBoundAt local peer s ⊎ IsDoneBy (IsBindTurn local peer) call s
+      by : IsBoundAt local peer s ⊎ ⊥ ⊎ IsDoneBy (IsBindInput local peer) call s → IsBoundAt local peer s ⊎ IsDoneBy (IsBindInput local peer) call s
       by (inl there) = inl there
       by (inr (inl no_other)) = absurd no_other
       by (inr (inr did)) = inr did

@@ -7,9 +7,9 @@ use Rattle.turn_stun.specs.Message.{id_of}
 use Rattle.turn_agent.specs.Agent.{same_address}
 use Rattle.turn_client_api.specs.State.{State, Grant, Allocation, Permission, Channel, Connect, Offer, Connection, Progress, Pending, Active, Reserved, Purpose, ForAllocation, ForRefresh, ForPermission, ForChannel, ForConnect, ForBind, Listing}
 use Rattle.turn_client_api.specs.Grants.{purposes_of}
-use Rattle.turn_client_api.specs.Handled.{Turn, handled}
+use Rattle.turn_client_api.specs.Handled.{Input, handled}
 use Rattle.turn_client_api.specs.Steps.{Call, Leaves, Delete}
-use Rattle.turn_client_api.specs.LawsGranted.{GrantsToPeers, HasChannelCause, HasChannelTo, IsChannelTurn, IsEndedNow, IsGivenFor, IsGrantTurn, IsGrantedBy, IsKeptAs, Stood}
+use Rattle.turn_client_api.specs.LawsGranted.{GrantsToPeers, HasChannelCause, HasChannelTo, IsChannelInput, IsEndedNow, IsGivenFor, IsGrantInput, IsGrantedBy, IsKeptAs, Stood}
 use Rattle.turn_client_api.specs.LawsHandled.{IsDoneBy}
 use Rattle.turn_client_api.specs.LawsNumbers.{HasDistinctNumbers}
 use Rattle.turn_client_api.specs.LawsStates.{HasGrantsAsked, HasItsGrant, is_asked_by}
@@ -134,7 +134,7 @@ leaves-channels call s t leaves asked distinct number peer expiry there = by (le
     stood (Offer offer) here kept = absurd kept
     stood (Connection c) here kept = absurd kept
 
-    turned : (one : Turn) → Contains (handled call s) one → IsGrantTurn channel one → IsChannelTurn number peer expiry one
+    turned : (one : Input) → Contains (handled call s) one → IsGrantInput channel one → IsChannelInput number peer expiry one
     turned one among turn =
         let founded = before-kept StayFounded (edits-IsKept StayFounded StayFounded-KeepsAllEdits (λ s streams h. h)) call s one among (λ l here. has-all (HasItsGrant s) l s.listed asked here) in
         let apart = before-kept _ (edits-IsKept _ (grants-KeepsAllEdits AreApart AreApart-KeepsGrants) (λ s streams h. h)) call s one among distinct in
@@ -144,7 +144,7 @@ leaves-channels call s t leaves asked distinct number peer expiry there = by (le
     never (Delete now) e = e
     never call e = e
 
-    by : Stood s channel ⊎ IsEndedNow call s channel ⊎ IsDoneBy (IsGrantTurn channel) call s → HasChannelCause number peer expiry call s
+    by : Stood s channel ⊎ IsEndedNow call s channel ⊎ IsDoneBy (IsGrantInput channel) call s → HasChannelCause number peer expiry call s
     by (inl (was, here, kept)) = inl (has-contains channel s.grants (stood was (contains-has was s.grants here) kept))
     by (inr (inl ended)) = absurd (never call ended)
     by (inr (inr (one, among, turn))) = inr (one, among, turned one among turn)

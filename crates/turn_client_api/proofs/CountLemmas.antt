@@ -5,9 +5,9 @@ use Rattle.turn_client_api.specs.Connections.{bind_step}
 use Rattle.turn_client_api.specs.Payloads.{message_step}
 use Rattle.turn_client_api.specs.Receive.{connection_gone}
 use Rattle.turn_client_api.specs.Steps.{Call, Leaves, state_after, Delete, AllocatedTcpSocket, Recv, PollRecv}
-use Rattle.turn_client_api.specs.LawsHandled.{TakesTurns}
+use Rattle.turn_client_api.specs.LawsHandled.{TakesInput}
 use Rattle.turn_client_api.specs.LawsReplies.{IsHeeded}
-use Rattle.turn_client_api.specs.LawsTurns.{IsBroughtBy}
+use Rattle.turn_client_api.specs.LawsInputs.{IsBroughtBy}
 use Rattle.turn_client_api.proofs.TurnLemmas.{IsBringing, message-brings}
 use Rattle.turn_client_api.proofs.Edits.{IgnoresAll, KeepsEdits, KeepsHeeded}
 use Rattle.turn_client_api.proofs.EditsOfReplies.{gone-walk}
@@ -93,10 +93,10 @@ bringing n = record {
 }
 
 -- no call that processes no input decreases it
-call-same : (n : ℕ) (call : Call) (s : State) → (TakesTurns call → ⊥) → Fewer n (state_after call s) → Fewer n s ⊎ ⊥
+call-same : (n : ℕ) (call : Call) (s : State) → (TakesInput call → ⊥) → Fewer n (state_after call s) → Fewer n s ⊎ ⊥
 call-same n call s other fewer = back ⊥ n s (state_after call s) (by call other) fewer
   where
-    by : (call : Call) → (TakesTurns call → ⊥) → Grows ⊥ s (state_after call s)
+    by : (call : Call) → (TakesInput call → ⊥) → Grows ⊥ s (state_after call s)
     by (Recv packet now) other = absurd (other tt)
     by (PollRecv now) other = absurd (other tt)
     by (Delete now) other = delete-walk (Grows ⊥) (Grows-KeepsEdits ⊥) (expires-walk ⊥ (Grows ⊥) (Grows-KeepsHeeded ⊥)) now s

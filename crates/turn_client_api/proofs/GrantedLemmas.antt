@@ -11,11 +11,11 @@ use Rattle.turn_client_api.specs.Connections.{bind_step, deadline_set}
 use Rattle.turn_agent.specs.Agent.{same_address}
 use Rattle.turn_client_api.specs.Receive.{connection_gone}
 use Rattle.turn_client_api.specs.Calls.{deleted, is_allocated, is_granted_in}
-use Rattle.turn_client_api.specs.Handled.{Turn}
+use Rattle.turn_client_api.specs.Handled.{Input}
 use Rattle.turn_client_api.specs.Payloads.{is_message, message_step}
-use Rattle.turn_client_api.specs.LawsHandled.{IsDoneBy, IsOverControl, TakesTurns}
-use Rattle.turn_client_api.specs.LawsBound.{IsBindTurn}
-use Rattle.turn_client_api.specs.LawsGranted.{HasCause, IsEndedNow, IsGivenFor, IsGrant, IsGrantTurn, IsGrantedBy, IsGrantedIn, IsKeptAs, IsStanding, Stood}
+use Rattle.turn_client_api.specs.LawsHandled.{IsDoneBy, IsOverControl, TakesInput}
+use Rattle.turn_client_api.specs.LawsBound.{IsBindInput}
+use Rattle.turn_client_api.specs.LawsGranted.{HasCause, IsEndedNow, IsGivenFor, IsGrant, IsGrantInput, IsGrantedBy, IsGrantedIn, IsKeptAs, IsStanding, Stood}
 use Rattle.turn_client_api.specs.Steps.{Call, state_after, Delete, CreatePermission, BindChannel, TcpConnect, AllocatedTcpSocket, TcpClosed, SendTo, Recv, PollRecv, Poll, PollTransmit, PollEvent, RelayedAddresses, Permissions, HavePermission, ProtocolError}
 use Rattle.turn_client_api.specs.Steps as S
 use Rattle.turn_client_api.proofs.HasLemmas.{Has, has-filter}
@@ -55,13 +55,13 @@ delete-ends now s g = by (is_allocated s.phase)
 -- ---- what the inputs of a call grant
 
 -- an allocation, a permission or a channel is granted over the control connection
-control-grants : (g : Grant) (one : Turn) → IsOverControl one → is_message one.bytes ≡ true → Covers (message_step one.bytes one.moment one.before).1.grants g → Covers one.before.grants g ⊎ IsGrantedIn g one
+control-grants : (g : Grant) (one : Input) → IsOverControl one → is_message one.bytes ≡ true → Covers (message_step one.bytes one.moment one.before).1.grants g → Covers one.before.grants g ⊎ IsGrantedIn g one
 control-grants g one over whole covers = by g (message-brings g one.bytes one.moment one.before covers)
   where
     Grants : Grant → Type 0
     Grants g = IsGrant g one.bytes one.moment one.before
 
-    turn : (g : Grant) → Grants g → IsGrantTurn g one
+    turn : (g : Grant) → Grants g → IsGrantInput g one
     turn g grant = record { over = over; whole = whole; grant = grant }
 
     -- a connection is not
@@ -107,13 +107,13 @@ deadline-has local g (Channel number peer progress) e = inl e
 deadline-has local g (Connect peer) e = inl e
 deadline-has local g (Offer offer) e = inl e
 
-bind-covers : (one : Turn) (stream : Stream) (g : Grant) (t : State) → one.stream ≡ Some stream → stream.mode ≡ Waiting → is_message one.bytes ≡ true → Binds stream.local one.bytes one.before t → Covers t.grants g → Covers one.before.grants g ⊎ IsGrantedIn g one
+bind-covers : (one : Input) (stream : Stream) (g : Grant) (t : State) → one.stream ≡ Some stream → stream.mode ≡ Waiting → is_message one.bytes ≡ true → Binds stream.local one.bytes one.before t → Covers t.grants g → Covers one.before.grants g ⊎ IsGrantedIn g one
 bind-covers one stream g t of waits whole b (is, there, kept) = by (has-mapped (deadline_set b.c.local None) is one.before.grants (subst (Has is) b.grants there))
   where
     bound : (c : DataConnection) (h : Grant) → c.local ≡ b.c.local → IsKeptAs (Connection c) h → IsGrantedIn h one
     bound c (Connection d) at (same, none) =
         let ends : stream.local ≡ d.local = sym (found-local stream.local b.c _ b.found) ∙ (sym at ∙ ap (λ (x : DataConnection). x.local) same) in
-        (b.c.peer, subst (λ (local : SocketAddr). IsBindTurn local b.c.peer one) ends (binds-turn one stream t of waits whole b))
+        (b.c.peer, subst (λ (local : SocketAddr). IsBindInput local b.c.peer one) ends (binds-turn one stream t of waits whole b))
     bound c (Allocation a) at k = absurd k
     bound c (Permission ip progress) at k = absurd k
     bound c (Channel number peer progress) at k = absurd k
@@ -137,7 +137,7 @@ bringing g = record {
   ended = λ s covers. covers;
 }
   where
-    binds : (one : Turn) (stream : Stream) → one.stream ≡ Some stream → stream.mode ≡ Waiting → is_message one.bytes ≡ true
+    binds : (one : Input) (stream : Stream) → one.stream ≡ Some stream → stream.mode ≡ Waiting → is_message one.bytes ≡ true
         → BindsOrLeaves stream.local one.bytes one.before (bind_step stream.local one.bytes one.moment one.before)
         → Covers (bind_step stream.local one.bytes one.moment one.before).grants g → Covers one.before.grants g ⊎ IsGrantedIn g one
     binds one stream of waits whole (inl b) covers = bind-covers one stream g _ of waits whole b covers
@@ -175,7 +175,7 @@ module _ (s : State) (g : Grant) where
       by (inl was) = stood was
       by (inr e) = inr (ended is g e kept)
 
-  call-grants : (call : Call) → (TakesTurns call → ⊥) → Covers (state_after call s).grants g → Before call
+  call-grants : (call : Call) → (TakesInput call → ⊥) → Covers (state_after call s).grants g → Before call
   call-grants (Recv packet now) other covers = absurd (other tt)
   call-grants (PollRecv now) other covers = absurd (other tt)
   call-grants (Delete now) other covers = deleted-covers now covers

@@ -16,7 +16,7 @@ use Rattle.turn_agent.specs.Agent as A
 use Rattle.turn_agent.specs.Agent.{first_sent, is_response, same_address}
 use Rattle.turn_agent.specs.declared.transaction.Transaction.{Transaction}
 use Rattle.turn_client_api.specs.State.{State, Grant, Allocation, Permission, Channel, Connect, Offer, Connection, DataConnection, Listing, Mode, Control, Waiting, Bound, Broken, Stream, Purpose, ForAllocation, ForRefresh, ForPermission, ForChannel, ForConnect, ForBind, Phase, New, Requesting, Authenticating, Allocated, Closed, later_by}
-use Rattle.turn_client_api.specs.Handled.{Turn, made_of}
+use Rattle.turn_client_api.specs.Handled.{Input, processed}
 use Rattle.turn_client_api.specs.Grants.{allocation_for, connection_in, is_connection_from, is_for, is_for_allocation, purposes_of, unlisted, wait}
 use Rattle.turn_client_api.specs.Requests.{connection_attempt_method, connection_bind_method, fresh_id, listings, request_for, requested}
 use Rattle.turn_client_api.specs.Judgement.{Judgement, Unrelated, Challenged, Fatal, LateResponse, DataIndication, ConnectionAttempt, SignedRequest, SignedSuccess, SignedError, answers_allocate, authenticating_judgement, bind_judgement, class_in, connection_id_in, is_bind_of, judgement_of, lifetime_in, method_in, peer_in}
@@ -27,7 +27,7 @@ use Rattle.turn_client_api.specs.Payloads.{Outcome, Handled, Ignored, challenge_
 use Rattle.turn_client_api.specs.Streams.{frame_step}
 use Rattle.turn_client_api.specs.LawsReplies.{IsAccepted}
 use Rattle.turn_client_api.specs.LawsRequests.{IsAnswer, IsListedAgain, IsMade, IsMadeAgain}
-use Rattle.turn_client_api.specs.LawsGone.{GivesBack, IsOverItself, IsTakenByReply, IsTakenInTurn, bare}
+use Rattle.turn_client_api.specs.LawsGone.{GivesBack, IsOverItself, IsTakenByReply, IsRemovedByInput, bare}
 use Rattle.turn_client_api.proofs.AddressLemmas.{same_address-true}
 use Rattle.turn_client_api.proofs.EditsOfMessages.{found-has, retried-has}
 use Rattle.turn_client_api.proofs.HasLemmas.{Has, has-found, has-right}
@@ -383,9 +383,9 @@ frame_in_mode (Bound peer) stream bytes now s = turns-same _ bytes now s
 frame_in_mode Broken stream bytes now s = turns-same _ bytes now s
 
 -- an input that is processed requests this, and removes grants so
-pub turn-turns : (one : Turn) → Turns (λ g. IsTakenInTurn g one) one.bytes one.moment one.before (made_of one).1
+pub turn-turns : (one : Input) → Turns (λ g. IsRemovedByInput g one) one.bytes one.moment one.before (processed one).1
 turn-turns one = by one.stream
   where
-    by : (o : Option Stream) → Turns (λ g. IsTakenInTurn g (record one { stream = o })) one.bytes one.moment one.before (made_of (record one { stream = o })).1
+    by : (o : Option Stream) → Turns (λ g. IsRemovedByInput g (record one { stream = o })) one.bytes one.moment one.before (processed (record one { stream = o })).1
     by None = datagram-turns one.bytes one.moment one.before
     by (Some stream) = frame_in_mode stream.mode stream one.bytes one.moment one.before

@@ -27,8 +27,8 @@ use Rattle.turn_client_api.specs.Receive.{connection_gone, tcp_closed_step}
 use Rattle.turn_client_api.specs.Transmit.{idle_step, queue_step, refreshes_in, transmit_step}
 use Rattle.turn_client_api.specs.Transmit as T
 use Rattle.turn_client_api.specs.LawsReplies.{IsDrawn}
-use Rattle.turn_client_api.specs.LawsHandled.{TakesTurns}
-use Rattle.turn_client_api.specs.LawsTurns.{IsBroughtBy}
+use Rattle.turn_client_api.specs.LawsHandled.{TakesInput}
+use Rattle.turn_client_api.specs.LawsInputs.{IsBroughtBy}
 use Rattle.turn_client_api.specs.Steps.{Call, Leaves, state_after, Delete, CreatePermission, BindChannel, TcpConnect, AllocatedTcpSocket, TcpClosed, SendTo, Recv, PollRecv, Poll, PollTransmit, PollEvent, RelayedAddresses, Permissions, HavePermission, ProtocolError}
 use Rattle.turn_client_api.proofs.NewIdMessageLemmas.{AsksNothing, Draws, asks-cond, asks-fold, bind-draws, draws-more, draws-nothing, draws-same, message-draws, outstanding-resent, outstanding-without}
 use Rattle.turn_client_api.proofs.TurnLemmas.{IsBringing, message-brings}
@@ -217,7 +217,7 @@ module _ (id : ℕ) where
   }
 
   -- the ID was outstanding, or is the next one of the client before the call
-  call-draws : (call : Call) (s : State) → (TakesTurns call → ⊥) → is_outstanding id (state_after call s).transactions ≡ true → (is_outstanding id s.transactions ≡ true) ⊎ (id ≡ fresh_id s)
+  call-draws : (call : Call) (s : State) → (TakesInput call → ⊥) → is_outstanding id (state_after call s).transactions ≡ true → (is_outstanding id s.transactions ≡ true) ⊎ (id ≡ fresh_id s)
   call-draws (Delete now) s other = delete-draws now s
   call-draws (CreatePermission transport peer now) s other = permission-draws transport peer now s
   call-draws (BindChannel transport peer now) s other = bind_channel-draws transport peer now s

@@ -7,7 +7,7 @@ use Rattle.turn_types.proofs.FrameLemmas.{frame_len-IsWhole}
 use Rattle.turn_types.proofs.SplitLemmas.{IsWhole-IsFrame}
 use Rattle.turn_client_api.specs.State.{State, Mode, Control, Waiting, Bound, Broken, Stream}
 use Rattle.turn_client_api.specs.Streams.{is_ready, most_turns, poll_recv_step, ready_len, turns_until_payload}
-use Rattle.turn_client_api.specs.Handled.{poll_recv_turns, turns_taken}
+use Rattle.turn_client_api.specs.Handled.{poll_recv_inputs, inputs_taken}
 use Rattle.turn_client_api.specs.LawsStreams.{HasNoFrame, IsDrained}
 use Rattle.turn_client_api.proofs.HasLemmas.{find-none, has-all}
 
@@ -38,13 +38,13 @@ unfolding turns_until_payload
 turns-rest zero now s e = refl
 turns-rest (suc n) now s e = rw e refl
 
-taken-rest : (n now : ℕ) (s : State) → find is_ready s.streams ≡ None → turns_taken n now s ≡ []
-unfolding turns_taken
+taken-rest : (n now : ℕ) (s : State) → find is_ready s.streams ≡ None → inputs_taken n now s ≡ []
+unfolding inputs_taken
 taken-rest zero now s e = refl
 taken-rest (suc n) now s e = rw e refl
 
 pub poll_recv-rests : (now : ℕ) (s : State) → All IsDrained s.streams → poll_recv_step now s ≡ (None, s)
 poll_recv-rests now s all = turns-rest (most_turns s) now s (none-ready s all)
 
-pub poll_recv-handles_nothing : (now : ℕ) (s : State) → All IsDrained s.streams → poll_recv_turns now s ≡ []
+pub poll_recv-handles_nothing : (now : ℕ) (s : State) → All IsDrained s.streams → poll_recv_inputs now s ≡ []
 poll_recv-handles_nothing now s all = taken-rest (most_turns s) now s (none-ready s all)

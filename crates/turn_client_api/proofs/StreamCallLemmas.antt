@@ -18,7 +18,7 @@ use Rattle.turn_client_api.specs.Calls.{socket_opened, socket_refused, socket_st
 use Rattle.turn_client_api.specs.declared.poll.Socket5Tuple.{Socket5Tuple}
 use Rattle.turn_client_api.specs.declared.error.TcpAllocateError.TheVariants as Socket
 use Rattle.turn_client_api.specs.Steps.{Call, state_after, Delete, AllocatedTcpSocket, Recv, PollRecv}
-use Rattle.turn_client_api.specs.LawsHandled.{TakesTurns}
+use Rattle.turn_client_api.specs.LawsHandled.{TakesInput}
 use Rattle.turn_client_api.specs.LawsStreams.{AreApart, IsEmptyIfBroken}
 use Rattle.turn_client_api.proofs.StreamApartLemmas.{Apart, new-apart}
 use Rattle.turn_client_api.proofs.StreamMessageLemmas.{Same, Same-KeepsEdits}
@@ -79,7 +79,7 @@ call-apart (AllocatedTcpSocket id tuple peer local now) s = opened-apart s (stat
 call-apart call s = same-apart s (state_after call s) (quiet-walk Same Same-KeepsEdits call s tt)
 
 -- a call that processes no input
-pub others-opened : (call : Call) (s : State) → (TakesTurns call → ⊥) → IsOpened s (state_after call s)
+pub others-opened : (call : Call) (s : State) → (TakesInput call → ⊥) → IsOpened s (state_after call s)
 others-opened (Recv packet now) s other = absurd (other tt)
 others-opened (PollRecv now) s other = absurd (other tt)
 others-opened (Delete now) s other = inl (delete-same now s)

@@ -8,9 +8,9 @@ use Rattle.turn_client_api.specs.Connections.{bind_step}
 use Rattle.turn_client_api.specs.Payloads.{Outcome, Handled, Ignored, channel_sent, is_channel_frame, is_message, message_step}
 use Rattle.turn_client_api.specs.Receive.{connection_gone}
 use Rattle.turn_client_api.specs.Streams.{without_stream}
-use Rattle.turn_client_api.specs.Handled.{Turn, handled, made_of}
+use Rattle.turn_client_api.specs.Handled.{Input, handled, processed}
 use Rattle.turn_client_api.specs.Steps.{Call, EndsWithoutMemory, Leaves, state_after, Delete, CreatePermission, BindChannel, TcpConnect, AllocatedTcpSocket, TcpClosed, SendTo, Recv, PollRecv, Poll, PollTransmit, PollEvent, RelayedAddresses, Permissions, HavePermission, ProtocolError}
-use Rattle.turn_client_api.specs.LawsHandled.{DiffersInStreams, DoesTurns, EndsInTurns, IsDoneBy, IsOverControl, TakesTurns, TurnsLead}
+use Rattle.turn_client_api.specs.LawsHandled.{DiffersInStreams, ProcessesInputs, EndsAmidInputs, IsDoneBy, IsOverControl, TakesInput, InputsLead}
 use Rattle.turn_client_api.proofs.HasLemmas.{Has, has-left}
 use Rattle.turn_client_api.proofs.StandLemmas.{has-contains}
 use Rattle.turn_client_api.proofs.TurnChainLemmas.{calls-do, dropped-differs}
@@ -19,21 +19,21 @@ use Rattle.turn_client_api.proofs.TurnEndLemmas.{calls-end}
 -- Of a claim on states and what an input does: the bytes of streams do not count, and if the claim holds
 -- after a message and did not before it, the input of the message did it. The end of a connection, or of
 -- the client, causes nothing.
-pub record IsBrought (P : State → Type 0) (Did : Turn → Type 0) : Type 0 where
+pub record IsBrought (P : State → Type 0) (Did : Input → Type 0) : Type 0 where
   pub differs : (s t : State) → DiffersInStreams s t → P t → P s
-  pub message : (one : Turn) → IsOverControl one → is_message one.bytes ≡ true → P (message_step one.bytes one.moment one.before).1 → P one.before ⊎ Did one
-  pub binds : (one : Turn) (stream : Stream) → one.stream ≡ Some stream → stream.mode ≡ Waiting → is_message one.bytes ≡ true → P (bind_step stream.local one.bytes one.moment one.before) → P one.before ⊎ Did one
+  pub message : (one : Input) → IsOverControl one → is_message one.bytes ≡ true → P (message_step one.bytes one.moment one.before).1 → P one.before ⊎ Did one
+  pub binds : (one : Input) (stream : Stream) → one.stream ≡ Some stream → stream.mode ≡ Waiting → is_message one.bytes ≡ true → P (bind_step stream.local one.bytes one.moment one.before) → P one.before ⊎ Did one
   pub gone : (local : SocketAddr) (s : State) → P (connection_gone local s) → P s
   pub ended : (s : State) → P (closed s) → P s
 
-module _ (P : State → Type 0) (Did : Turn → Type 0) (k : IsBrought P Did) where
+module _ (P : State → Type 0) (Did : Input → Type 0) (k : IsBrought P Did) where
   -- it held before, or the input did it
-  abbrev Brings : Turn → Type 0
+  abbrev Brings : Input → Type 0
   Brings one = P one.before ⊎ Did one
 
   -- ---- one input
 
-  datagram-brings : (one : Turn) → one.stream ≡ None → P (made_of (record one { stream = None })).1 → Brings one
+  datagram-brings : (one : Input) → one.stream ≡ None → P (processed (record one { stream = None })).1 → Brings one
   datagram-brings one of = by (is_message one.bytes) refl (is_channel_frame one.bytes)
     where
       by : (b : Bool) → is_message one.bytes ≡ b → (c : Bool) → P (cond {A = Outcome × State} b (message_step one.bytes one.moment one.before) (cond {A = Outcome × State} c (channel_sent one.before one.bytes, one.before) (Ignored, one.before))).1 → Brings one
@@ -41,7 +41,7 @@ module _ (P : State → Type 0) (Did : Turn → Type 0) (k : IsBrought P Did) wh
       by false e true h = inl h
       by false e false h = inl h
 
-  control-brings : (one : Turn) (stream : Stream) → one.stream ≡ Some stream → stream.mode ≡ Control → P (made_of (record one { stream = Some (record stream { mode = Control }) })).1 → Brings one
+  control-brings : (one : Input) (stream : Stream) → one.stream ≡ Some stream → stream.mode ≡ Control → P (processed (record one { stream = Some (record stream { mode = Control }) })).1 → Brings one
   control-brings one stream of mode = by (not (begins_message one.bytes)) (is_message one.bytes) refl
     where
       by : (b c : Bool) → is_message one.bytes ≡ c → P (cond {A = Outcome × State} b (channel_sent one.before one.bytes, one.before) (cond {A = Outcome × State} c (message_step one.bytes one.moment one.before) (Handled, one.before))).1 → Brings one
@@ -49,7 +49,7 @@ module _ (P : State → Type 0) (Did : Turn → Type 0) (k : IsBrought P Did) wh
       by false true e h = k.message one (rw of mode) e h
       by false false e h = inl h
 
-  waiting-brings : (one : Turn) (stream : Stream) → one.stream ≡ Some stream → stream.mode ≡ Waiting → P (made_of (record one { stream = Some (record stream { mode = Waiting }) })).1 → Brings one
+  waiting-brings : (one : Input) (stream : Stream) → one.stream ≡ Some stream → stream.mode ≡ Waiting → P (processed (record one { stream = Some (record stream { mode = Waiting }) })).1 → Brings one
   waiting-brings one stream of mode = by (not (begins_message one.bytes)) (is_message one.bytes) refl
     where
       by : (b c : Bool) → is_message one.bytes ≡ c → P (cond {A = Outcome × State} b (Ignored, one.before) (cond {A = Outcome × State} c (Handled, bind_step stream.local one.bytes one.moment one.before) (Handled, one.before))).1 → Brings one
@@ -57,41 +57,41 @@ module _ (P : State → Type 0) (Did : Turn → Type 0) (k : IsBrought P Did) wh
       by false true e h = k.binds one stream of mode e h
       by false false e h = inl h
 
-  turn_in_mode : (m : Mode) (one : Turn) (stream : Stream) → one.stream ≡ Some stream → stream.mode ≡ m → P (made_of (record one { stream = Some (record stream { mode = m }) })).1 → Brings one
+  turn_in_mode : (m : Mode) (one : Input) (stream : Stream) → one.stream ≡ Some stream → stream.mode ≡ m → P (processed (record one { stream = Some (record stream { mode = m }) })).1 → Brings one
   turn_in_mode Control one stream of mode h = control-brings one stream of mode h
   turn_in_mode Waiting one stream of mode h = waiting-brings one stream of mode h
   turn_in_mode (Bound peer) one stream of mode h = inl h
   turn_in_mode Broken one stream of mode h = inl h
 
-  pub turn-brings : (one : Turn) → P (made_of one).1 → Brings one
+  pub turn-brings : (one : Input) → P (processed one).1 → Brings one
   turn-brings one = by one.stream refl
     where
-      by : (o : Option Stream) → one.stream ≡ o → P (made_of (record one { stream = o })).1 → Brings one
+      by : (o : Option Stream) → one.stream ≡ o → P (processed (record one { stream = o })).1 → Brings one
       by None of h = datagram-brings one of h
       by (Some stream) of h = turn_in_mode stream.mode one stream of refl h
 
   -- ---- inputs in sequence
 
   -- one of these inputs did it
-  abbrev Among : List Turn → Type 0
-  Among turns = (one : Turn) × Has one turns × Did one
+  abbrev Among : List Input → Type 0
+  Among turns = (one : Input) × Has one turns × Did one
 
-  pub lead-brings : (turns : List Turn) (s t : State) → TurnsLead turns s t → P t → P s ⊎ Among turns
+  pub lead-brings : (turns : List Input) (s t : State) → InputsLead turns s t → P t → P s ⊎ Among turns
   lead-brings [] s t lead h = inl (k.differs s t lead h)
-  lead-brings (one ∷ later) s t (first, lead) h = by (lead-brings later (made_of one).1 t lead h)
+  lead-brings (one ∷ later) s t (first, lead) h = by (lead-brings later (processed one).1 t lead h)
     where
       now : Brings one → P s ⊎ Among (one ∷ later)
       now (inl there) = inl (k.differs s one.before first there)
       now (inr did) = inr (one, inl refl, did)
 
-      by : P (made_of one).1 ⊎ Among later → P s ⊎ Among (one ∷ later)
+      by : P (processed one).1 ⊎ Among later → P s ⊎ Among (one ∷ later)
       by (inl there) = now (turn-brings one there)
       by (inr (other, there, did)) = inr (other, inr there, did)
 
-  done : (call : Call) (s : State) (front later : List Turn) → handled call s ≡ front ++ later → Among front → IsDoneBy Did call s
+  done : (call : Call) (s : State) (front later : List Input) → handled call s ≡ front ++ later → Among front → IsDoneBy Did call s
   done call s front later all (one, there, did) = (one, has-contains one (handled call s) (subst (Has one) (sym all) (has-left one front later there)), did)
 
-  does-brings : (call : Call) (s : State) → DoesTurns call s → P (state_after call s) → P s ⊎ IsDoneBy Did call s
+  does-brings : (call : Call) (s : State) → ProcessesInputs call s → P (state_after call s) → P s ⊎ IsDoneBy Did call s
   does-brings call s (inl lead) h = by (lead-brings (handled call s) s (state_after call s) lead h)
     where
       by : P s ⊎ Among (handled call s) → P s ⊎ IsDoneBy Did call s
@@ -101,7 +101,7 @@ module _ (P : State → Type 0) (Did : Turn → Type 0) (k : IsBrought P Did) wh
       let t = connection_gone end.local s in
       inl (k.gone end.local s (k.differs t (without_stream end.local t) (dropped-differs end.local t) (subst P end.gone h)))
 
-  end-brings : (call : Call) (s t : State) → EndsInTurns call s t → P t → P s ⊎ IsDoneBy Did call s
+  end-brings : (call : Call) (s t : State) → EndsAmidInputs call s t → P t → P s ⊎ IsDoneBy Did call s
   end-brings call s t end h = by (lead-brings end.front s end.last end.lead (k.ended end.last (subst P end.ended h)))
     where
       by : P s ⊎ Among end.front → P s ⊎ IsDoneBy Did call s
@@ -110,7 +110,7 @@ module _ (P : State → Type 0) (Did : Turn → Type 0) (k : IsBrought P Did) wh
 
   -- ---- a call
 
-  module _ (Other : Call → State → Type 0) (others : (call : Call) (s : State) → (TakesTurns call → ⊥) → P (state_after call s) → P s ⊎ Other call s) where
+  module _ (Other : Call → State → Type 0) (others : (call : Call) (s : State) → (TakesInput call → ⊥) → P (state_after call s) → P s ⊎ Other call s) where
     abbrev Brought : Call → State → Type 0
     Brought call s = P s ⊎ Other call s ⊎ IsDoneBy Did call s
 

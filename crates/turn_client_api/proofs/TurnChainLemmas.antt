@@ -11,9 +11,9 @@ use Rattle.turn_client_api.specs.State.{State, Mode, Control, Waiting, Bound, Br
 use Rattle.turn_client_api.specs.Payloads.{Payload, Outcome, Handled, Ignored, PeerData, PeerIcmp, datagram_step}
 use Rattle.turn_client_api.specs.Streams.{broken_at, framed_by, framed_turn, go_on, is_ready, most_turns, payload_in, poll_recv_step, stream_at, turn, turn_of_first, turned, turns_until_payload, with_bytes, without_stream}
 use Rattle.turn_client_api.specs.Receive.{connection_gone, first_turn, is_from_server, piece_step, recv_step, stream_step, then_all}
-use Rattle.turn_client_api.specs.Handled.{Turn, fed, fed_taken, frame_taken, handled, is_front, made_of, piece_turns, poll_recv_turns, recv_turns, stream_turns, taken, taken_first, taken_in, taken_of_len, then_taken, turn_of, turns_taken, unless_given}
+use Rattle.turn_client_api.specs.Handled.{Input, fed, fed_taken, frame_taken, handled, is_front, processed, piece_inputs, poll_recv_inputs, recv_inputs, stream_inputs, taken, taken_first, taken_in, taken_of_len, then_taken, stream_input, inputs_taken, unless_given}
 use Rattle.turn_client_api.specs.Steps.{Call, packet_step, Delete, CreatePermission, BindChannel, TcpConnect, AllocatedTcpSocket, TcpClosed, SendTo, Recv, PollRecv, Poll, PollTransmit, PollEvent, RelayedAddresses, Permissions, HavePermission, ProtocolError}
-use Rattle.turn_client_api.specs.LawsHandled.{DiffersInStreams, DoesTurns, IsBoundAt, TakesTurns, TurnsLead}
+use Rattle.turn_client_api.specs.LawsHandled.{DiffersInStreams, ProcessesInputs, IsBoundAt, TakesInput, InputsLead}
 use Rattle.turn_client_api.proofs.HasLemmas.{Has, has-filter}
 use Rattle.turn_client_api.proofs.GrantOriginLemmas.{has-mapped}
 use Rattle.turn_client_api.proofs.StandLemmas.{contains-has, has-contains}
@@ -67,76 +67,76 @@ dropped-differs a s = record { others = refl; bound = by }
 
 -- ---- inputs in sequence
 
-pub leads-after : (turns : List Turn) (s t u : State) → TurnsLead turns s t → DiffersInStreams t u → TurnsLead turns s u
+pub leads-after : (turns : List Input) (s t u : State) → InputsLead turns s t → DiffersInStreams t u → InputsLead turns s u
 leads-after [] s t u lead more = differs-trans s t u lead more
-leads-after (one ∷ later) s t u (first, lead) more = (first, leads-after later (made_of one).1 t u lead more)
+leads-after (one ∷ later) s t u (first, lead) more = (first, leads-after later (processed one).1 t u lead more)
 
-leads-before : (turns : List Turn) (s t u : State) → DiffersInStreams s t → TurnsLead turns t u → TurnsLead turns s u
+leads-before : (turns : List Input) (s t u : State) → DiffersInStreams s t → InputsLead turns t u → InputsLead turns s u
 leads-before [] s t u first lead = differs-trans s t u first lead
 leads-before (one ∷ later) s t u first (more, lead) = (differs-trans s t one.before first more, lead)
 
-pub leads-append : (front later : List Turn) (s t u : State) → TurnsLead front s t → TurnsLead later t u → TurnsLead (front ++ later) s u
+pub leads-append : (front later : List Input) (s t u : State) → InputsLead front s t → InputsLead later t u → InputsLead (front ++ later) s u
 leads-append [] later s t u first second = leads-before later s t u first second
-leads-append (one ∷ front) later s t u (first, lead) second = (first, leads-append front later (made_of one).1 t u lead second)
+leads-append (one ∷ front) later s t u (first, lead) second = (first, leads-append front later (processed one).1 t u lead second)
 
 -- ---- the step of a stream
 
-one-leads : (one : Turn) (s t : State) → DiffersInStreams s one.before → DiffersInStreams (made_of one).1 t → TurnsLead (one ∷ []) s t
+one-leads : (one : Input) (s t : State) → DiffersInStreams s one.before → DiffersInStreams (processed one).1 t → InputsLead (one ∷ []) s t
 one-leads one s t first last = (first, last)
 
-framed-leads : (l : Bool) (stream : Stream) (now : ℕ) (t : State) → TurnsLead (frame_taken l stream now t) t (framed_turn stream now t).1
+framed-leads : (l : Bool) (stream : Stream) (now : ℕ) (t : State) → InputsLead (frame_taken l stream now t) t (framed_turn stream now t).1
 framed-leads l stream now t = by (begins_no_frame stream.bytes) (frame_len stream.bytes)
   where
-    by : (b : Bool) (o : Option ℕ) → TurnsLead (cond b [] (taken_of_len l stream now t o)) t (cond {A = Outcome × State} b (Handled, broken_at stream.local t) (framed_by stream now t o)).1
+    by : (b : Bool) (o : Option ℕ) → InputsLead (cond b [] (taken_of_len l stream now t o)) t (cond {A = Outcome × State} b (Handled, broken_at stream.local t) (framed_by stream now t o)).1
     by true o = broken-differs stream.local t
     by false None = bytes-differs stream.local stream.bytes t
     by false (Some len) =
-        let one = turn_of l stream (take len stream.bytes) now t in
-        (differs-same t, bytes-differs stream.local (drop len stream.bytes) (made_of one).1)
+        let one = stream_input l stream (take len stream.bytes) now t in
+        (differs-same t, bytes-differs stream.local (drop len stream.bytes) (processed one).1)
 
-turned_in_mode : (m : Mode) (l : Bool) (stream : Stream) (now : ℕ) (t : State) → TurnsLead (taken_in l (record stream { mode = m }) now t) t (turned (record stream { mode = m }) now t).1
+turned_in_mode : (m : Mode) (l : Bool) (stream : Stream) (now : ℕ) (t : State) → InputsLead (taken_in l (record stream { mode = m }) now t) t (turned (record stream { mode = m }) now t).1
 turned_in_mode Control l stream now t = framed-leads l (record stream { mode = Control }) now t
 turned_in_mode Waiting l stream now t = framed-leads l (record stream { mode = Waiting }) now t
 turned_in_mode (Bound peer) l stream now t = (differs-same t, differs-same t)
 turned_in_mode Broken l stream now t = differs-same t
 
-turn-leads : (l : Bool) (stream : Stream) (now : ℕ) (s : State) → TurnsLead (taken l stream now s) s (turn stream now s).1
+turn-leads : (l : Bool) (stream : Stream) (now : ℕ) (s : State) → InputsLead (taken l stream now s) s (turn stream now s).1
 turn-leads l stream now s =
     let out = with_bytes stream.local [] s in
     leads-before (taken_in l stream now out) s out (turn stream now s).1 (bytes-differs stream.local [] s) (turned_in_mode stream.mode l stream now out)
 
 -- ---- all streams
 
-go_on-leads : (next : State → Option Payload × State) (later : State → List Turn) (front : List Turn) (s : State) (p : Outcome × State) → TurnsLead front s p.1 → ((t : State) → TurnsLead (later t) t (next t).1) → TurnsLead (front ++ unless_given (payload_in p.0) (later p.1)) s (go_on next p).1
+go_on-leads : (next : State → Option Payload × State) (later : State → List Input) (front : List Input) (s : State) (p : Outcome × State) → InputsLead front s p.1 → ((t : State) → InputsLead (later t) t (next t).1) → InputsLead (front ++ unless_given (payload_in p.0) (later p.1)) s (go_on next p).1
 go_on-leads next later front s (PeerData payload, t) first more = leads-append front [] s t t first (differs-same t)
 go_on-leads next later front s (Handled, t) first more = leads-append front (later t) s t (next t).1 first (more t)
 go_on-leads next later front s (Ignored, t) first more = leads-append front (later t) s t (next t).1 first (more t)
 go_on-leads next later front s (PeerIcmp transport peer icmp, t) first more = leads-append front (later t) s t (next t).1 first (more t)
 
-pub turns-lead : (n now : ℕ) (s : State) → TurnsLead (turns_taken n now s) s (turns_until_payload n now s).1
-unfolding turns_until_payload turns_taken
+pub turns-lead : (n now : ℕ) (s : State) → InputsLead (inputs_taken n now s) s (turns_until_payload n now s).1
+unfolding turns_until_payload inputs_taken
 turns-lead zero now s = differs-same s
 turns-lead (suc n) now s = by (find is_ready s.streams) (λ t. turns-lead n now t)
   where
-    by : (o : Option Stream) → ((t : State) → TurnsLead (turns_taken n now t) t (turns_until_payload n now t).1) → TurnsLead (taken_first (turns_taken n now) now s o) s (turn_of_first (turns_until_payload n now) now s o).1
+    by : (o : Option Stream) → ((t : State) → InputsLead (inputs_taken n now t) t (turns_until_payload n now t).1) → InputsLead (taken_first (inputs_taken n now) now s o) s (turn_of_first (turns_until_payload n now) now s o).1
     by None more = differs-same s
-    by (Some stream) more = go_on-leads (turns_until_payload n now) (turns_taken n now) (taken false stream now s) s (turn stream now s) (turn-leads false stream now s) more
+    by (Some stream) more = go_on-leads (turns_until_payload n now) (inputs_taken n now) (taken false stream now s) s (turn stream now s) (turn-leads false stream now s) more
 
-poll_recv-leads : (now : ℕ) (s : State) → TurnsLead (poll_recv_turns now s) s (poll_recv_step now s).1
+poll_recv-leads : (now : ℕ) (s : State) → InputsLead (poll_recv_inputs now s) s (poll_recv_step now s).1
 poll_recv-leads now s = turns-lead (most_turns s) now s
 
 -- ---- a piece of a stream
 
-then_all-leads : (now : ℕ) (front : List Turn) (s : State) (p : Outcome × State) → TurnsLead front s p.1 → TurnsLead (front ++ then_taken now p) s (then_all now p).1
+then_all-leads : (now : ℕ) (front : List Input) (s : State) (p : Outcome × State) → InputsLead front s p.1 → InputsLead (front ++ then_taken now p) s (then_all now p).1
 then_all-leads now front s (PeerData payload, t) first = leads-append front [] s t t first (differs-same t)
 then_all-leads now front s (PeerIcmp transport peer icmp, t) first = leads-append front [] s t t first (differs-same t)
-then_all-leads now front s (Handled, t) first = leads-append front (poll_recv_turns now t) s t (poll_recv_step now t).1 first (poll_recv-leads now t)
-then_all-leads now front s (Ignored, t) first = leads-append front (poll_recv_turns now t) s t (poll_recv_step now t).1 first (poll_recv-leads now t)
+then_all-leads now front s (Handled, t) first = leads-append front (poll_recv_inputs now t) s t (poll_recv_step now t).1 first (poll_recv-leads now t)
+then_all-leads now front s (Ignored, t) first = leads-append front (poll_recv_inputs now t) s t (poll_recv_step now t).1 first (poll_recv-leads now t)
 
-pub fed-leads : (stream : Stream) (piece : List ℕ) (now : ℕ) (s : State) → TurnsLead (fed_taken stream piece now s) s (first_turn stream piece now s).1
+pub fed-leads : (stream : Stream) (piece : List ℕ) (now : ℕ) (s : State) → InputsLead (fed_taken stream piece now s) s (first_turn stream piece now s).1
 fed-leads stream piece now s = turn-leads (is_front stream.bytes) (fed stream piece) now s
 
-piece_in_mode : (m : Mode) (stream : Stream) (piece : List ℕ) (now : ℕ) (s : State) → TurnsLead (piece_turns (record stream { mode = m }) piece now s) s (piece_step (record stream { mode = m }) piece now s).1
+piece_in_mode : (m : Mode) (stream : Stream) (piece : List ℕ) (now : ℕ) (s : State) → InputsLead (piece_inputs (record stream { mode = m }) piece now s) s (piece_step (record stream { mode = m }) piece now s).1
 piece_in_mode Control stream piece now s =
     let u = record stream { mode = Control } in
     then_all-leads now (fed_taken u piece now s) s (first_turn u piece now s) (fed-leads u piece now s)
@@ -144,31 +144,31 @@ piece_in_mode Waiting stream piece now s = fed-leads (record stream { mode = Wai
 piece_in_mode (Bound peer) stream piece now s = fed-leads (record stream { mode = Bound peer }) piece now s
 piece_in_mode Broken stream piece now s = by (same_address stream.local s.local)
   where
-    by : (b : Bool) → TurnsLead (cond b (poll_recv_turns now s) []) s (cond {A = Outcome × State} b (then_all now (Handled, s)) (Handled, s)).1
+    by : (b : Bool) → InputsLead (cond b (poll_recv_inputs now s) []) s (cond {A = Outcome × State} b (then_all now (Handled, s)) (Handled, s)).1
     by true = poll_recv-leads now s
     by false = differs-same s
 
 -- ---- input
 
 -- the inputs lead to the state after it, or the stream has ended
-abbrev Does : List Turn → State → State → Type 0
-Does turns s t = TurnsLead turns s t ⊎ ((local : SocketAddr) × (turns ≡ []) × (t ≡ without_stream local (connection_gone local s)))
+abbrev Does : List Input → State → State → Type 0
+Does turns s t = InputsLead turns s t ⊎ ((local : SocketAddr) × (turns ≡ []) × (t ≡ without_stream local (connection_gone local s)))
 
-stream-does : (stream : Stream) (piece : List ℕ) (now : ℕ) (s : State) → Does (stream_turns stream piece now s) s (stream_step stream piece now s).1
+stream-does : (stream : Stream) (piece : List ℕ) (now : ℕ) (s : State) → Does (stream_inputs stream piece now s) s (stream_step stream piece now s).1
 stream-does stream [] now s = inr (stream.local, refl, refl)
 stream-does stream (b ∷ bs) now s = inl (piece_in_mode stream.mode stream (b ∷ bs) now s)
 
-recv_over : (carrier : TransportType) (transport : TransportType) (from to : SocketAddr) (bytes : List ℕ) (now : ℕ) (s : State) → Does (recv_turns transport from to bytes now (record s { transport = carrier })) (record s { transport = carrier }) (recv_step transport from to bytes now (record s { transport = carrier })).1
+recv_over : (carrier : TransportType) (transport : TransportType) (from to : SocketAddr) (bytes : List ℕ) (now : ℕ) (s : State) → Does (recv_inputs transport from to bytes now (record s { transport = carrier })) (record s { transport = carrier }) (recv_step transport from to bytes now (record s { transport = carrier })).1
 recv_over Udp transport from to bytes now s = by (is_from_server transport from u) (same_address to s.local)
   where
     u : State
     u = record s { transport = Udp }
 
-    one : Turn
+    one : Input
     one = record { stream = None; bytes = bytes; is_lent = true; moment = now; before = u }
 
     by : (b c : Bool) → Does (cond b (cond c (one ∷ []) []) []) u (cond {A = Outcome × State} b (cond {A = Outcome × State} c (datagram_step bytes now u) (Ignored, u)) (Ignored, u)).1
-    by true true = inl (differs-same u, differs-same (made_of one).1)
+    by true true = inl (differs-same u, differs-same (processed one).1)
     by true false = inl (differs-same u)
     by false c = inl (differs-same u)
 recv_over Tcp transport from to bytes now s = by (is_from_server transport from u) (stream_at to s)
@@ -180,23 +180,23 @@ recv_over Tcp transport from to bytes now s = by (is_from_server transport from 
     by_stream None = (Ignored, u)
     by_stream (Some stream) = stream_step stream bytes now u
 
-    turns_by : Option Stream → List Turn
+    turns_by : Option Stream → List Input
     turns_by None = []
-    turns_by (Some stream) = stream_turns stream bytes now u
+    turns_by (Some stream) = stream_inputs stream bytes now u
 
     by : (b : Bool) (o : Option Stream) → Does (cond b (turns_by o) []) u (cond {A = Outcome × State} b (by_stream o) (Ignored, u)).1
     by true (Some stream) = stream-does stream bytes now u
     by true None = inl (differs-same u)
     by false o = inl (differs-same u)
 
-recv-does : (packet : Transmit (List ℕ)) (now : ℕ) (s : State) → DoesTurns (Recv packet now) s
+recv-does : (packet : Transmit (List ℕ)) (now : ℕ) (s : State) → ProcessesInputs (Recv packet now) s
 recv-does packet now s = by (recv_over s.transport packet.transport packet.from packet.to packet.payload now s)
   where
-    by : Does (handled (Recv packet now) s) s (packet_step packet now s).1 → DoesTurns (Recv packet now) s
+    by : Does (handled (Recv packet now) s) s (packet_step packet now s).1 → ProcessesInputs (Recv packet now) s
     by (inl lead) = inl lead
     by (inr (local, nothing, gone)) = inr (record { local = local; nothing = nothing; gone = gone })
 
-pub calls-do : (call : Call) (s : State) → TakesTurns call → DoesTurns call s
+pub calls-do : (call : Call) (s : State) → TakesInput call → ProcessesInputs call s
 calls-do (Recv packet now) s is = recv-does packet now s
 calls-do (PollRecv now) s is = inl (poll_recv-leads now s)
 calls-do (Delete now) s is = absurd is

@@ -8,7 +8,7 @@ use Rattle.turn_client_api.specs.State.{State, Mode, Control, Waiting, Bound, Br
 use Rattle.turn_client_api.specs.Payloads.{Outcome, Handled}
 use Rattle.turn_client_api.specs.Streams.{broken_at, framed_by, framed_turn, turn, with_bytes}
 use Rattle.turn_client_api.specs.Handled.{frame_taken, taken, taken_of_len}
-use Rattle.turn_client_api.specs.LawsHandled.{IsTurnOf}
+use Rattle.turn_client_api.specs.LawsHandled.{IsInputOf}
 use Rattle.turn_client_api.proofs.FrameRestLemmas.{bytes_by}
 
 once : (a : SocketAddr) (first later : List ℕ) (x : Stream) → bytes_by a later (bytes_by a first x) ≡ bytes_by a later x
@@ -43,13 +43,13 @@ broken-all a first (x ∷ xs) = rw (broken-once a first x, broken-all a first xs
 emptied-broken : (a : SocketAddr) (s : State) → broken_at a (with_bytes a [] s) ≡ broken_at a s
 emptied-broken a s = ap (λ (x : List Stream). record s { streams = x }) (broken-all a [] s.streams)
 
-framed-IsTurnOf : (stream : Stream) (now : ℕ) (s : State) → IsTurnOf stream now s (frame_taken false stream now (with_bytes stream.local [] s)) (framed_turn stream now (with_bytes stream.local [] s))
-framed-IsTurnOf stream now s = by (begins_no_frame stream.bytes) (frame_len stream.bytes)
+framed-IsInputOf : (stream : Stream) (now : ℕ) (s : State) → IsInputOf stream now s (frame_taken false stream now (with_bytes stream.local [] s)) (framed_turn stream now (with_bytes stream.local [] s))
+framed-IsInputOf stream now s = by (begins_no_frame stream.bytes) (frame_len stream.bytes)
   where
     t : State
     t = with_bytes stream.local [] s
 
-    by : (b : Bool) (o : Option ℕ) → IsTurnOf stream now s (cond b [] (taken_of_len false stream now t o)) (cond {A = Outcome × State} b (Handled, broken_at stream.local t) (framed_by stream now t o))
+    by : (b : Bool) (o : Option ℕ) → IsInputOf stream now s (cond b [] (taken_of_len false stream now t o)) (cond {A = Outcome × State} b (Handled, broken_at stream.local t) (framed_by stream now t o))
     by true o = inl (ap (λ (x : State). (Handled, x)) (emptied-broken stream.local s))
     by false None = inr (inl (ap (λ (x : State). (Handled, x)) (bytes-twice stream.local [] stream.bytes s)))
     by false (Some len) = record {
@@ -62,9 +62,9 @@ framed-IsTurnOf stream now s = by (begins_no_frame stream.bytes) (frame_len stre
       after = refl;
     }
 
-turn_in_mode : (m : Mode) (stream : Stream) (now : ℕ) (s : State) → IsTurnOf (record stream { mode = m }) now s (taken false (record stream { mode = m }) now s) (turn (record stream { mode = m }) now s)
-turn_in_mode Control stream now s = framed-IsTurnOf (record stream { mode = Control }) now s
-turn_in_mode Waiting stream now s = framed-IsTurnOf (record stream { mode = Waiting }) now s
+turn_in_mode : (m : Mode) (stream : Stream) (now : ℕ) (s : State) → IsInputOf (record stream { mode = m }) now s (taken false (record stream { mode = m }) now s) (turn (record stream { mode = m }) now s)
+turn_in_mode Control stream now s = framed-IsInputOf (record stream { mode = Control }) now s
+turn_in_mode Waiting stream now s = framed-IsInputOf (record stream { mode = Waiting }) now s
 turn_in_mode (Bound peer) stream now s = record {
   taken_of = refl;
   at = refl;
@@ -76,5 +76,5 @@ turn_in_mode (Bound peer) stream now s = record {
 }
 turn_in_mode Broken stream now s = inr (inr (refl, refl))
 
-pub turn-IsTurnOf : (stream : Stream) (now : ℕ) (s : State) → IsTurnOf stream now s (taken false stream now s) (turn stream now s)
-turn-IsTurnOf stream now s = turn_in_mode stream.mode stream now s
+pub turn-IsInputOf : (stream : Stream) (now : ℕ) (s : State) → IsInputOf stream now s (taken false stream now s) (turn stream now s)
+turn-IsInputOf stream now s = turn_in_mode stream.mode stream now s

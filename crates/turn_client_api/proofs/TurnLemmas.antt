@@ -6,10 +6,10 @@ use Rattle.turn_client_api.specs.Connections.{bind_step}
 use Rattle.turn_client_api.specs.Effect.{closed}
 use Rattle.turn_client_api.specs.Payloads.{is_message, message_step}
 use Rattle.turn_client_api.specs.Receive.{connection_gone}
-use Rattle.turn_client_api.specs.Handled.{Turn}
+use Rattle.turn_client_api.specs.Handled.{Input}
 use Rattle.turn_client_api.specs.Steps.{Call, Leaves, state_after}
-use Rattle.turn_client_api.specs.LawsHandled.{TakesTurns}
-use Rattle.turn_client_api.specs.LawsTurns.{Deed, IsBroughtBy}
+use Rattle.turn_client_api.specs.LawsHandled.{TakesInput}
+use Rattle.turn_client_api.specs.LawsInputs.{Deed, IsBroughtBy}
 use Rattle.turn_client_api.proofs.TurnBringLemmas.{IsBrought, leaves-bring}
 
 -- Of a claim on states and what a message does: streams do not count, and if the claim holds after a
@@ -24,10 +24,10 @@ pub record IsBringing (P : State → Type 0) (Did : Deed) : Type 0 where
 
 module _ (P : State → Type 0) (Did : Deed) (k : IsBringing P Did) where
   -- the input is a whole message, which did it
-  abbrev DidIn : Turn → Type 0
+  abbrev DidIn : Input → Type 0
   DidIn one = (is_message one.bytes ≡ true) × Did one.bytes one.moment one.before
 
-  whole-did : (one : Turn) → is_message one.bytes ≡ true → P one.before ⊎ Did one.bytes one.moment one.before → P one.before ⊎ DidIn one
+  whole-did : (one : Input) → is_message one.bytes ≡ true → P one.before ⊎ Did one.bytes one.moment one.before → P one.before ⊎ DidIn one
   whole-did one whole (inl there) = inl there
   whole-did one whole (inr did) = inr (whole, did)
 
@@ -40,6 +40,6 @@ module _ (P : State → Type 0) (Did : Deed) (k : IsBringing P Did) where
     ended = k.ended;
   }
 
-  pub message-brings : (Other : Call → State → Type 0) → ((call : Call) (s : State) → (TakesTurns call → ⊥) → P (state_after call s) → P s ⊎ Other call s)
+  pub message-brings : (Other : Call → State → Type 0) → ((call : Call) (s : State) → (TakesInput call → ⊥) → P (state_after call s) → P s ⊎ Other call s)
       → (call : Call) (s t : State) → Leaves call s t → P t → P s ⊎ Other call s ⊎ IsBroughtBy Did call s
   message-brings Other others call s t leaves h = leaves-bring P DidIn brought Other others call s t leaves h

@@ -20,10 +20,10 @@ use Rattle.turn_client_api.specs.Calls.{free_number}
 use Rattle.turn_client_api.specs.Transmit.{refreshes_in}
 use Rattle.turn_client_api.specs.Receive.{connection_gone}
 use Rattle.turn_client_api.specs.Streams.{without_stream}
-use Rattle.turn_client_api.specs.Handled.{Turn, handled, made_of}
+use Rattle.turn_client_api.specs.Handled.{Input, handled, processed}
 use Rattle.turn_client_api.specs.declared.poll.Socket5Tuple.{Socket5Tuple}
 use Rattle.turn_client_api.specs.Steps.{Call, EndsWithoutMemory, Leaves, state_after, Delete, CreatePermission, BindChannel, TcpConnect, AllocatedTcpSocket, TcpClosed, SendTo, Recv, PollRecv, Poll, PollTransmit, PollEvent, RelayedAddresses, Permissions, HavePermission, ProtocolError}
-use Rattle.turn_client_api.specs.LawsHandled.{DiffersInStreams, DoesTurns, EndsInTurns, TurnsLead}
+use Rattle.turn_client_api.specs.LawsHandled.{DiffersInStreams, ProcessesInputs, EndsAmidInputs, InputsLead}
 use Rattle.turn_client_api.specs.LawsPurposes.{HasTwoPurposes}
 use Rattle.turn_client_api.specs.LawsRequests.{AsksFor, IsListedAgain, IsListedAs, IsListedFor}
 use Rattle.turn_client_api.proofs.Edits.{listing}
@@ -234,21 +234,21 @@ module _ (call : Call) (s : State) where
 -- ---- inputs
 
 -- a request is made again for what it was made for
-turn-two : (one : Turn) → AllAmongTwo one.before → AllAmongTwo (made_of one).1
+turn-two : (one : Input) → AllAmongTwo one.before → AllAmongTwo (processed one).1
 turn-two one h =
-    two-more (λ p. Has (listing (id_of one.bytes) p) one.before.listed) one.before (made_of one).1 (h (id_of one.bytes)) (λ l there. by l ((turn-turns one).1 l there)) h
+    two-more (λ p. Has (listing (id_of one.bytes) p) one.before.listed) one.before (processed one).1 (h (id_of one.bytes)) (λ l there. by l ((turn-turns one).1 l there)) h
   where
-    by : (l : Listing) → Has l one.before.listed ⊎ IsListedAgain one.bytes one.moment one.before (made_of one).1 l → Has l one.before.listed ⊎ ((l.id ≡ fresh_id one.before) × Has (listing (id_of one.bytes) l.purpose) one.before.listed)
+    by : (l : Listing) → Has l one.before.listed ⊎ IsListedAgain one.bytes one.moment one.before (processed one).1 l → Has l one.before.listed ⊎ ((l.id ≡ fresh_id one.before) × Has (listing (id_of one.bytes) l.purpose) one.before.listed)
     by l (inl old) = inl old
     by l (inr (purpose, asked, answers, (made, is))) = inr (is, purpose-with (id_of one.bytes) l.purpose one.before (contains-has l.purpose (purposes_of (id_of one.bytes) one.before) answers))
 
 differs-two : (s t : State) → DiffersInStreams s t → AllAmongTwo s → AllAmongTwo t
 differs-two s t differs h = subst AllAmongTwo (sym differs.others) h
 
-lead-two : (turns : List Turn) (s t : State) → TurnsLead turns s t → AllAmongTwo s → AllAmongTwo t
+lead-two : (turns : List Input) (s t : State) → InputsLead turns s t → AllAmongTwo s → AllAmongTwo t
 lead-two [] s t lead h = differs-two s t lead h
 lead-two (one ∷ later) s t (first, lead) h =
-    lead-two later (made_of one).1 t lead (turn-two one (differs-two s one.before first h))
+    lead-two later (processed one).1 t lead (turn-two one (differs-two s one.before first h))
 
 closed-two : (s : State) → AllAmongTwo s → AllAmongTwo (closed s)
 closed-two s = two-less s (closed s) (λ l there. (has-filter (λ (l : Listing). not (is_for_allocation l.purpose)) l s.listed there).0)
@@ -261,11 +261,11 @@ gone-two local s = two-less s (without_stream local (connection_gone local s)) (
     old l (inr none) = absurd none
 
 module _ (call : Call) (s : State) where
-  turns-two : DoesTurns call s → AllAmongTwo s → AllAmongTwo (state_after call s)
+  turns-two : ProcessesInputs call s → AllAmongTwo s → AllAmongTwo (state_after call s)
   turns-two (inl lead) h = lead-two (handled call s) s (state_after call s) lead h
   turns-two (inr end) h = subst AllAmongTwo (sym end.gone) (gone-two end.local s h)
 
-  ends-two : (t : State) → EndsInTurns call s t → AllAmongTwo s → AllAmongTwo t
+  ends-two : (t : State) → EndsAmidInputs call s t → AllAmongTwo s → AllAmongTwo t
   ends-two t end h =
       subst AllAmongTwo (sym end.ended) (closed-two end.last (lead-two end.front s end.last end.lead h))
 

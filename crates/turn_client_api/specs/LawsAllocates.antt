@@ -9,8 +9,8 @@ use Rattle.turn_agent.specs.declared.transaction.Transaction.{Transaction}
 use Rattle.turn_client_api.specs.Config.{Config}
 use Rattle.turn_client_api.specs.State.{State, Allocation, Listing, Relay, ForAllocation}
 use Rattle.turn_client_api.specs.Requests.{first_allocate, request_for}
-use Rattle.turn_client_api.specs.Handled.{Turn}
-use Rattle.turn_client_api.specs.LawsGranted.{IsEndedNow, IsGrantTurn, Stood}
+use Rattle.turn_client_api.specs.Handled.{Input}
+use Rattle.turn_client_api.specs.LawsGranted.{IsEndedNow, IsGrantInput, Stood}
 use Rattle.turn_client_api.specs.LawsHandled.{IsDoneBy}
 use Rattle.turn_client_api.specs.LawsOrder.{IsUngranted}
 use Rattle.turn_client_api.specs.Steps.{Call}
@@ -56,13 +56,13 @@ AllocatesInOrder s = AsksInTime s × AsksItsFamilies s × HasConfiguredFamilies 
 -- ---- what is allocated
 
 -- the input granted the allocation: a first one in answer to a request for its family
-abbrev pub IsAllocationTurn : Relay → Turn → Type 0
-IsAllocationTurn a one =
-    (turn : IsGrantTurn (Allocation a) one)
+abbrev pub IsAllocationInput : Relay → Input → Type 0
+IsAllocationInput a one =
+    (turn : IsGrantInput (Allocation a) one)
     × (turn.grant.1.purpose ≡ ForAllocation → IsAskedForFamilies (id_of one.bytes) one.before)
 
 -- each allocation after the call existed before, is deleted now, or was granted so
 abbrev pub AllocatesAsAsked : Call → State → State → Type 0
 AllocatesAsAsked call s t =
     (a : Relay) → Contains t.grants (Allocation a)
-    → Stood s (Allocation a) ⊎ IsEndedNow call s (Allocation a) ⊎ IsDoneBy (IsAllocationTurn a) call s
+    → Stood s (Allocation a) ⊎ IsEndedNow call s (Allocation a) ⊎ IsDoneBy (IsAllocationInput a) call s

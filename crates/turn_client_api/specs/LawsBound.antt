@@ -12,14 +12,14 @@ use Rattle.turn_client_api.specs.Requests.{connection_bind_method}
 use Rattle.turn_client_api.specs.Judgement.{class_in, method_in}
 use Rattle.turn_client_api.specs.Connections.{connection_at}
 use Rattle.turn_client_api.specs.Payloads.{is_message}
-use Rattle.turn_client_api.specs.Handled.{Turn}
+use Rattle.turn_client_api.specs.Handled.{Input}
 use Rattle.turn_client_api.specs.Steps.{Call}
 use Rattle.turn_client_api.specs.LawsHandled.{IsBoundAt, IsDoneBy, IsOverWaiting}
 
 -- The input is a whole message on the connection from this local address, which waited to be bound to this
 -- peer. It is a success that is signed, and answers the outstanding CONNECTION_BIND that was made for the
 -- connection (RFC 6062, section 4.3).
-pub record IsBindTurn (local peer : SocketAddr) (one : Turn) : Type 0 where
+pub record IsBindInput (local peer : SocketAddr) (one : Input) : Type 0 where
   pub over : IsOverWaiting local one
   pub whole : is_message one.bytes ≡ true
   pub method : method_in one.bytes ≡ connection_bind_method
@@ -34,12 +34,12 @@ pub record IsBindTurn (local peer : SocketAddr) (one : Turn) : Type 0 where
   pub listed : Contains (purposes_of (id_of one.bytes) one.before) (ForBind local asked number)
 
 -- it binds the connection
-abbrev pub IsConnecting : DataConnection → Turn → Type 0
-IsConnecting c one = (peer : SocketAddr) × IsBindTurn c.local peer one
+abbrev pub IsConnecting : DataConnection → Input → Type 0
+IsConnecting c one = (peer : SocketAddr) × IsBindInput c.local peer one
 
 -- why the stream at this local address is bound after the call: it was before, or an input bound it
 abbrev pub IsBoundBy : SocketAddr → SocketAddr → Call → State → Type 0
-IsBoundBy local peer call s = IsBoundAt local peer s ⊎ IsDoneBy (IsBindTurn local peer) call s
+IsBoundBy local peer call s = IsBoundAt local peer s ⊎ IsDoneBy (IsBindInput local peer) call s
 
 -- the connection is bound
 abbrev pub IsBoundConnection : DataConnection → State → Type 0

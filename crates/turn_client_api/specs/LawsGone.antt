@@ -8,7 +8,7 @@ use Rattle.turn_client_api.specs.Grants.{family_of, family_of_grant, is_connecti
 use Rattle.turn_client_api.specs.Effect.{reserved_time}
 use Rattle.turn_client_api.specs.Judgement.{judgement_of}
 use Rattle.turn_client_api.specs.Calls.{is_granted_in, is_offer_of}
-use Rattle.turn_client_api.specs.Handled.{Turn}
+use Rattle.turn_client_api.specs.Handled.{Input}
 use Rattle.turn_client_api.specs.Steps.{Call, state_after, Delete, AllocatedTcpSocket, TcpClosed, Recv, PollRecv, Poll}
 use Rattle.turn_client_api.specs.LawsHandled.{IsDoneBy, IsStreamEnd}
 use Rattle.turn_client_api.specs.LawsBodies.{lapse_moments}
@@ -46,8 +46,8 @@ abbrev pub IsOverItself : Option Stream → Grant → Type 0
 IsOverItself (Some stream) g = (stream.mode ≡ Waiting) × (is_connection_from stream.local g ≡ true)
 IsOverItself None g = ⊥
 
-abbrev pub IsTakenInTurn : Grant → Turn → Type 0
-IsTakenInTurn g one = IsTakenByReply one.bytes one.before g ⊎ IsOverItself one.stream g
+abbrev pub IsRemovedByInput : Grant → Input → Type 0
+IsRemovedByInput g one = IsTakenByReply one.bytes one.before g ⊎ IsOverItself one.stream g
 
 -- the server closed the stream of the connection
 abbrev pub IsClosedWith : Call → State → Grant → Type 0
@@ -100,7 +100,7 @@ abbrev pub IsTakenBy : Call → State → Grant → Type 0
 IsTakenBy (Delete now) s g = is_granted_in g ≡ true
 IsTakenBy (AllocatedTcpSocket id tuple peer local now) s g = is_offer_of id peer g ≡ true
 IsTakenBy (TcpClosed local remote now) s g = is_connection_from local g ≡ true
-IsTakenBy (Recv packet now) s g = IsDoneBy (IsTakenInTurn g) (Recv packet now) s ⊎ IsClosedWith (Recv packet now) s g
-IsTakenBy (PollRecv now) s g = IsDoneBy (IsTakenInTurn g) (PollRecv now) s
+IsTakenBy (Recv packet now) s g = IsDoneBy (IsRemovedByInput g) (Recv packet now) s ⊎ IsClosedWith (Recv packet now) s g
+IsTakenBy (PollRecv now) s g = IsDoneBy (IsRemovedByInput g) (PollRecv now) s
 IsTakenBy (Poll now) s g = IsTimeUp now s
 IsTakenBy _ s g = ⊥

@@ -11,11 +11,11 @@ use Rattle.turn_client_api.specs.State.{State, Grant, Allocation, Permission, Ch
 use Rattle.turn_client_api.specs.Grants.{is_of_family, purposes_of, same_ip}
 use Rattle.turn_client_api.specs.Judgement.{class_in, lifetime_in}
 use Rattle.turn_client_api.specs.Payloads.{is_message}
-use Rattle.turn_client_api.specs.Handled.{Turn}
+use Rattle.turn_client_api.specs.Handled.{Input}
 use Rattle.turn_client_api.specs.LawsBound.{IsConnecting}
 use Rattle.turn_client_api.specs.LawsHandled.{IsDoneBy, IsOverControl}
 use Rattle.turn_client_api.specs.Effect.{channel_lifetime, least_lifetime, permission_lifetime, relayed_in}
-use Rattle.turn_client_api.specs.LawsTurns.{Deed}
+use Rattle.turn_client_api.specs.LawsInputs.{Deed}
 use Rattle.turn_client_api.specs.Steps.{Call, Delete}
 
 -- what the server granted: an allocation, an active permission or channel, and a connection that is bound
@@ -73,15 +73,15 @@ abbrev pub IsGrant : Grant → Deed
 IsGrant g message now s = (was : Grant) × IsGrantedBy message now s was × IsKeptAs was g
 
 -- The input is a whole message, a datagram or a frame of the control connection, which granted it.
-pub record IsGrantTurn (g : Grant) (one : Turn) : Type 0 where
+pub record IsGrantInput (g : Grant) (one : Input) : Type 0 where
   pub over : IsOverControl one
   pub whole : is_message one.bytes ≡ true
   pub grant : IsGrant g one.bytes one.moment one.before
 
 -- a connection is bound over itself, and all other grants are granted over the control connection
-abbrev pub IsGrantedIn : Grant → Turn → Type 0
+abbrev pub IsGrantedIn : Grant → Input → Type 0
 IsGrantedIn (Connection c) one = IsConnecting c one
-IsGrantedIn g one = IsGrantTurn g one
+IsGrantedIn g one = IsGrantInput g one
 
 -- the caller deletes the allocation, which expires now
 abbrev pub IsEndedNow : Call → State → Grant → Type 0
@@ -96,14 +96,14 @@ HasCause call s g = Stood s g ⊎ IsEndedNow call s g ⊎ IsDoneBy (IsGrantedIn 
 -- ---- a channel's peer
 
 -- the input granted the channel, in answer to the request for its number and its peer
-abbrev pub IsChannelTurn : ℕ → SocketAddr → ℕ → Turn → Type 0
-IsChannelTurn number peer expiry one =
-    (turn : IsGrantTurn (Channel number peer (Active expiry)) one) × (turn.grant.1.purpose ≡ ForChannel number peer)
+abbrev pub IsChannelInput : ℕ → SocketAddr → ℕ → Input → Type 0
+IsChannelInput number peer expiry one =
+    (turn : IsGrantInput (Channel number peer (Active expiry)) one) × (turn.grant.1.purpose ≡ ForChannel number peer)
 
 -- why the channel is active after the call: it was before, with this expiry, or an input granted it
 abbrev pub HasChannelCause : ℕ → SocketAddr → ℕ → Call → State → Type 0
 HasChannelCause number peer expiry call s =
-    Contains s.grants (Channel number peer (Active expiry)) ⊎ IsDoneBy (IsChannelTurn number peer expiry) call s
+    Contains s.grants (Channel number peer (Active expiry)) ⊎ IsDoneBy (IsChannelInput number peer expiry) call s
 
 -- each channel that the call leaves active has the peer of its request
 abbrev pub GrantsToPeers : Call → State → State → Type 0

@@ -7,7 +7,7 @@ use Rattle.turn_client_api.specs.Effect.{closed}
 use Rattle.turn_client_api.specs.Payloads.{Outcome, Handled, message_step}
 use Rattle.turn_client_api.specs.Receive.{connection_gone}
 use Rattle.turn_client_api.specs.Streams.{broken_at, frame_step, owned, with_bytes, without_stream}
-use Rattle.turn_client_api.specs.Handled.{Turn, handled, made_of}
+use Rattle.turn_client_api.specs.Handled.{Input, handled, processed}
 use Rattle.turn_client_api.specs.Steps.{Call, Recv, PollRecv, state_after}
 
 -- ---- messages are independent of the streams
@@ -28,14 +28,14 @@ IgnoresBytes local bytes stream frame now s =
 
 -- The stream had a first frame. It was processed in the state in which the stream holds nothing, and the
 -- bytes after it were put back. The place of a payload does not count.
-pub record IsFrameOf (stream : Stream) (now : ℕ) (s : State) (one : Turn) (p : Outcome × State) : Type 0 where
+pub record IsFrameOf (stream : Stream) (now : ℕ) (s : State) (one : Input) (p : Outcome × State) : Type 0 where
   pub taken_of : one.stream ≡ Some stream
   pub at : one.moment ≡ now
   pub alone : one.before ≡ with_bytes stream.local [] s
   pub rest : List ℕ
   pub cut : stream.bytes ≡ one.bytes ++ rest
-  pub outcome : owned p.0 ≡ owned (made_of one).0
-  pub after : p.1 ≡ with_bytes stream.local rest (made_of one).1
+  pub outcome : owned p.0 ≡ owned (processed one).0
+  pub after : p.1 ≡ with_bytes stream.local rest (processed one).1
 
 -- There was no first frame: no frame begins so, and the stream is broken, it waits for more, or it was
 -- broken.
@@ -46,10 +46,10 @@ IsFrameless stream s p =
     ⊎ ((stream.mode ≡ Broken) × (p ≡ (Handled, with_bytes stream.local [] s)))
 
 -- the step of the stream took these frames, and did what they do
-abbrev pub IsTurnOf : Stream → ℕ → State → List Turn → Outcome × State → Type 0
-IsTurnOf stream now s [] p = IsFrameless stream s p
-IsTurnOf stream now s (one ∷ []) p = IsFrameOf stream now s one p
-IsTurnOf stream now s (one ∷ other ∷ later) p = ⊥
+abbrev pub IsInputOf : Stream → ℕ → State → List Input → Outcome × State → Type 0
+IsInputOf stream now s [] p = IsFrameless stream s p
+IsInputOf stream now s (one ∷ []) p = IsFrameOf stream now s one p
+IsInputOf stream now s (one ∷ other ∷ later) p = ⊥
 
 -- ---- all inputs of a call
 
@@ -63,15 +63,15 @@ pub record DiffersInStreams (s t : State) : Type 0 where
   pub bound : (local peer : SocketAddr) → IsBoundAt local peer t → IsBoundAt local peer s
 
 -- these inputs, each in the state that the one before left, lead from the first state to the second
-abbrev pub TurnsLead : List Turn → State → State → Type 0
-TurnsLead [] s t = DiffersInStreams s t
-TurnsLead (one ∷ later) s t = DiffersInStreams s one.before × TurnsLead later (made_of one).1 t
+abbrev pub InputsLead : List Input → State → State → Type 0
+InputsLead [] s t = DiffersInStreams s t
+InputsLead (one ∷ later) s t = DiffersInStreams s one.before × InputsLead later (processed one).1 t
 
 -- the call processes inputs
-abbrev pub TakesTurns : Call → Type 0
-TakesTurns (Recv packet now) = ⊤
-TakesTurns (PollRecv now) = ⊤
-TakesTurns _ = ⊥
+abbrev pub TakesInput : Call → Type 0
+TakesInput (Recv packet now) = ⊤
+TakesInput (PollRecv now) = ⊤
+TakesInput _ = ⊥
 
 -- an empty piece was passed in: the server closed the stream, and no input is processed
 pub record IsStreamEnd (call : Call) (s t : State) : Type 0 where
@@ -80,27 +80,27 @@ pub record IsStreamEnd (call : Call) (s t : State) : Type 0 where
   pub gone : t ≡ without_stream local (connection_gone local s)
 
 -- what the call does, if no memory allocation fails
-abbrev pub DoesTurns : Call → State → Type 0
-DoesTurns call s = TurnsLead (handled call s) s (state_after call s) ⊎ IsStreamEnd call s (state_after call s)
+abbrev pub ProcessesInputs : Call → State → Type 0
+ProcessesInputs call s = InputsLead (handled call s) s (state_after call s) ⊎ IsStreamEnd call s (state_after call s)
 
 -- an allocation for the next input failed: the call processed the first of these inputs, and then ended the
 -- client
-pub record EndsInTurns (call : Call) (s t : State) : Type 0 where
-  pub front : List Turn
-  pub later : List Turn
+pub record EndsAmidInputs (call : Call) (s t : State) : Type 0 where
+  pub front : List Input
+  pub later : List Input
   pub all : handled call s ≡ front ++ later
   pub last : State
-  pub lead : TurnsLead front s last
+  pub lead : InputsLead front s last
   pub ended : t ≡ closed last
 
 -- one of the inputs that the call processes did it
-abbrev pub IsDoneBy : (Turn → Type 0) → Call → State → Type 0
-IsDoneBy Did call s = (one : Turn) × Contains (handled call s) one × Did one
+abbrev pub IsDoneBy : (Input → Type 0) → Call → State → Type 0
+IsDoneBy Did call s = (one : Input) × Contains (handled call s) one × Did one
 
 -- ---- where it was received
 
 -- it is a datagram, or a frame of the control connection
-abbrev pub IsOverControl : Turn → Type 0
+abbrev pub IsOverControl : Input → Type 0
 IsOverControl one = by one.stream
   where
     by : Option Stream → Type 0
@@ -108,7 +108,7 @@ IsOverControl one = by one.stream
     by (Some stream) = stream.mode ≡ Control
 
 -- it is a frame of the connection from this local address, which waits to be bound
-abbrev pub IsOverWaiting : SocketAddr → Turn → Type 0
+abbrev pub IsOverWaiting : SocketAddr → Input → Type 0
 IsOverWaiting local one = by one.stream
   where
     by : Option Stream → Type 0

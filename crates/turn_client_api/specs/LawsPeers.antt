@@ -14,7 +14,7 @@ use Rattle.turn_client_api.specs.Judgement.{has_unknown, last_icmp_in, last_in, 
 use Rattle.turn_client_api.specs.Answers.{is_data_indication}
 use Rattle.turn_client_api.specs.Payloads.{Payload, Outcome, Handled, Ignored, PeerData, PeerIcmp, data_of}
 use Rattle.turn_client_api.specs.Streams.{all_of, sent_by}
-use Rattle.turn_client_api.specs.Handled.{Turn, made_of, turn_payload}
+use Rattle.turn_client_api.specs.Handled.{Input, processed, input_payload}
 use Rattle.turn_client_api.specs.Steps.{Call}
 use Rattle.turn_client_api.specs.LawsHandled.{IsDoneBy}
 
@@ -75,23 +75,23 @@ IsLetIn Broken frame s outcome = IsNobodys outcome
 
 -- an input that a call processes returns only data of peers that are permitted in the state in which it is
 -- processed
-abbrev pub IsLetInTurn : Turn → Type 0
+abbrev pub IsLetInTurn : Input → Type 0
 IsLetInTurn t = by t.stream
   where
     by : Option Stream → Type 0
-    by None = IsLetThrough t.bytes t.before (made_of t).0
-    by (Some stream) = IsLetIn stream.mode t.bytes t.before (made_of t).0
+    by None = IsLetThrough t.bytes t.before (processed t).0
+    by (Some stream) = IsLetIn stream.mode t.bytes t.before (processed t).0
 
 -- an input of the call returns the payload, at its place in what the caller passed in, or owned
 abbrev pub IsGivenBy : Payload → Call → State → Type 0
-IsGivenBy payload call s = IsDoneBy (λ one. (turn_payload one ≡ Some payload) × IsLetInTurn one) call s
+IsGivenBy payload call s = IsDoneBy (λ one. (input_payload one ≡ Some payload) × IsLetInTurn one) call s
 
 -- if the call returns a payload, an input returns it
-abbrev pub IsGivenInTurn : Option Payload → Call → State → Type 0
-IsGivenInTurn o call s = IfSome o (λ payload. IsGivenBy payload call s)
+abbrev pub IsDeliveredByInput : Option Payload → Call → State → Type 0
+IsDeliveredByInput o call s = IfSome o (λ payload. IsGivenBy payload call s)
 
 -- if it returns an ICMP report, an input of the call returns that
 abbrev pub IsToldBy : Outcome → Call → State → Type 0
 IsToldBy (PeerIcmp transport peer icmp) call s =
-    IsDoneBy (λ one. ((made_of one).0 ≡ PeerIcmp transport peer icmp) × IsLetInTurn one) call s
+    IsDoneBy (λ one. ((processed one).0 ≡ PeerIcmp transport peer icmp) × IsLetInTurn one) call s
 IsToldBy _ call s = ⊤

@@ -10,7 +10,7 @@ use Rattle.turn_client_api.specs.Judgement.{Judgement, SignedSuccess, SignedErro
 use Rattle.turn_client_api.specs.Connections.{bind_answered, bind_step}
 use Rattle.turn_client_api.specs.Payloads.{answered_purposes, message_step}
 use Rattle.turn_client_api.specs.Steps.{Call}
-use Rattle.turn_client_api.specs.LawsTurns.{Deed, IsBroughtBy}
+use Rattle.turn_client_api.specs.LawsInputs.{Deed, IsBroughtBy}
 
 -- the server grants what was requested, or denies it, and signed that
 abbrev pub IsAccepted : Judgement → Type 0

@@ -12,7 +12,7 @@ use Rattle.turn_client_api.specs.Grants.{allocations, purposes_of}
 use Rattle.turn_client_api.specs.Requests.{first_allocate, fresh_id, request_for}
 use Rattle.turn_client_api.specs.Calls.{free_number}
 use Rattle.turn_client_api.specs.Transmit.{refreshes_in}
-use Rattle.turn_client_api.specs.Handled.{Turn, made_of}
+use Rattle.turn_client_api.specs.Handled.{Input, processed}
 use Rattle.turn_client_api.specs.Steps.{Call, state_after, Delete, CreatePermission, BindChannel, TcpConnect, AllocatedTcpSocket, Recv, PollRecv, PollTransmit}
 use Rattle.turn_client_api.specs.LawsHandled.{IsDoneBy}
 
@@ -80,25 +80,25 @@ abbrev pub IsListedAgain : List ℕ → ℕ → State → State → Listing → 
 IsListedAgain message now s t l =
     (purpose : Purpose) × IsAnswer message s purpose × IsAnswer message s l.purpose × IsListedAs purpose now s t l
 
-abbrev pub IsMadeInTurn : Transaction → Turn → Type 0
-IsMadeInTurn x one = IsMadeAgain one.bytes one.moment one.before (made_of one).1 x
+abbrev pub IsMadeByInput : Transaction → Input → Type 0
+IsMadeByInput x one = IsMadeAgain one.bytes one.moment one.before (processed one).1 x
 
-abbrev pub IsListedInTurn : Listing → Turn → Type 0
-IsListedInTurn l one = IsListedAgain one.bytes one.moment one.before (made_of one).1 l
+abbrev pub IsListedByInput : Listing → Input → Type 0
+IsListedByInput l one = IsListedAgain one.bytes one.moment one.before (processed one).1 l
 
 -- ---- a call
 
 -- the call made the request, or retransmitted it
 abbrev pub IsRequestOf : Call → State → Transaction → Type 0
-IsRequestOf (Recv packet now) s x = IsDoneBy (IsMadeInTurn x) (Recv packet now) s
-IsRequestOf (PollRecv now) s x = IsDoneBy (IsMadeInTurn x) (PollRecv now) s
+IsRequestOf (Recv packet now) s x = IsDoneBy (IsMadeByInput x) (Recv packet now) s
+IsRequestOf (PollRecv now) s x = IsDoneBy (IsMadeByInput x) (PollRecv now) s
 IsRequestOf call s x =
     IsSentAgain call s x ⊎ ((purpose : Purpose) × (at : ℕ) × AsksFor call s purpose at × IsMadeAs purpose at s (state_after call s) x)
 
 -- the call made the request that is listed so
 abbrev pub IsListingOf : Call → State → Listing → Type 0
-IsListingOf (Recv packet now) s l = IsDoneBy (IsListedInTurn l) (Recv packet now) s
-IsListingOf (PollRecv now) s l = IsDoneBy (IsListedInTurn l) (PollRecv now) s
+IsListingOf (Recv packet now) s l = IsDoneBy (IsListedByInput l) (Recv packet now) s
+IsListingOf (PollRecv now) s l = IsDoneBy (IsListedByInput l) (PollRecv now) s
 IsListingOf call s l =
     (purpose : Purpose) × (at : ℕ) × AsksFor call s purpose at × IsListedFor purpose l.purpose
     × IsListedAs purpose at s (state_after call s) l

@@ -33,7 +33,7 @@ pub mod LawsSockets
 pub mod LawsStates
 pub mod LawsSteps
 pub mod LawsStreams
-pub mod LawsTurns
+pub mod LawsInputs
 pub mod LawsWakeup
 pub mod Memory
 pub mod Payloads

@@ -26,14 +26,14 @@ mod standards;
 mod states;
 mod steps;
 mod streams;
-mod turns;
+mod inputs;
 mod wakeup;
 
 pub use alarm::sleeps_through_nothing;
 pub use allocates::allocates_ask_for_families;
 pub use bodies::{
     drained_streams_rest, events_are_bounded, least_free_number_is_bound, least_moment_has_parts,
-    nothing_lapses_early, turns_leave_other_streams,
+    nothing_lapses_early, inputs_leave_other_streams,
 };
 pub use bound::only_a_signed_success_binds;
 pub use doubles::grants_are_distinct;
@@ -66,5 +66,5 @@ pub use states::{
 };
 pub use steps::{challenges_are_counted, phases_go_on, realm_stays, stays_closed};
 pub use streams::{streams_are_drained, streams_stay_apart};
-pub use turns::{calls_are_turns, messages_leave_streams, turns_are_frames};
+pub use inputs::{calls_process_inputs, messages_leave_streams, inputs_are_frames};
 pub use wakeup::wakeup_is_the_least_moment;

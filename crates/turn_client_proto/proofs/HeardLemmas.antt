@@ -13,7 +13,7 @@ use Rattle.turn_client_api.proofs.HasLemmas.{Has, has-left, has-right}
 use Rattle.turn_client_api.proofs.StandLemmas.{contains-has, has-contains}
 use Rattle.turn_client_runs.specs.Turns.{IsAmong, answered, answered_in, handled_in}
 use Rattle.turn_client_api.proofs.HandledLemmas.{recv-IsToldBy}
-use Rattle.turn_client_api.specs.Handled.{Turn, handled, made_of}
+use Rattle.turn_client_api.specs.Handled.{Input, handled, processed}
 use Rattle.turn_client_api.specs.LawsPeers.{IsToldBy}
 use Rattle.turn_client_runs.specs.Peers.{TellsOfPermitted}
 use Rattle.turn_client_runs.proofs.TurnsOfRuns.{among-left, among-right}
@@ -106,8 +106,8 @@ module _ (transport : TransportType) (peer : SocketAddr) (icmp : Icmp) where
   poll-tells None e = cc
   poll-tells (Some payload) e = cc
 
-  abbrev Did : Turn → Type 0
-  Did one = ((made_of one).0 ≡ O.PeerIcmp transport peer icmp) × TellsOfPermitted one
+  abbrev Did : Input → Type 0
+  Did one = ((processed one).0 ≡ O.PeerIcmp transport peer icmp) × TellsOfPermitted one
 
   packet-tells : (packet : Transmit (List ℕ)) (now : ℕ) (s : State) → (packet_step packet now s).0 ≡ O.PeerIcmp transport peer icmp → IsAmong Did (handled (Recv packet now) s)
   packet-tells packet now s e = by (subst (λ (o : Outcome). IsToldBy o (Recv packet now) s) e (recv-IsToldBy packet now s))

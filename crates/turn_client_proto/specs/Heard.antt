@@ -7,7 +7,7 @@ use Rattle.turn_client_api.specs.Payloads.{Payload, PeerIcmp}
 use Rattle.std.specs.declared.net.socket_addr.SocketAddr.{SocketAddr}
 use Rattle.turn_stun.specs.declared.transport.TransportType.{TransportType}
 use Rattle.turn_types.specs.declared.attribute.icmp_report.Icmp.{Icmp}
-use Rattle.turn_client_api.specs.Handled.{made_of}
+use Rattle.turn_client_api.specs.Handled.{processed}
 use Rattle.turn_client_runs.specs.Turns.{IsAmong, handled_in}
 use Rattle.turn_client_api.specs.declared.call.Call.{Call}
 use Rattle.turn_client_runs.specs.Peers.{IsDeliveredIn, TellsOfPermitted}
@@ -22,7 +22,7 @@ IsHeard given s calls = (payload : Payload) × (peer_data payload ≡ given) × 
 -- one of the inputs gave this ICMP report, for a permitted peer
 abbrev pub IsTold : TransportType → SocketAddr → Icmp → State → List Call → Type 0
 IsTold transport peer icmp s calls =
-    IsAmong (λ one. ((made_of one).0 ≡ PeerIcmp transport peer icmp) × TellsOfPermitted one) (handled_in s calls)
+    IsAmong (λ one. ((processed one).0 ≡ PeerIcmp transport peer icmp) × TellsOfPermitted one) (handled_in s calls)
 
 -- so is all data of peers among the replies to the calls, and every ICMP report
 abbrev pub GivesLetIn : State → List Call → Type 0

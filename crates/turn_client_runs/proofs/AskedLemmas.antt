@@ -11,9 +11,9 @@ use Rattle.turn_client_api.specs.declared.grant.Listing.{Listing}
 use Rattle.turn_client_api.specs.declared.grant.Purpose.{Purpose}
 use Rattle.turn_client_api.specs.declared.grant.Purpose.TheVariants.{ForAllocation, ForRefresh, ForPermission, ForChannel, ForConnect, ForBind}
 use Rattle.turn_client_api.specs.Grants.{purposes_of}
-use Rattle.turn_client_api.specs.Handled.{Turn, handled, made_of}
+use Rattle.turn_client_api.specs.Handled.{Input, handled, processed}
 use Rattle.turn_client_api.specs.LawsGone.{GivesBack}
-use Rattle.turn_client_api.specs.LawsHandled.{DiffersInStreams, DoesTurns, TakesTurns, TurnsLead}
+use Rattle.turn_client_api.specs.LawsHandled.{DiffersInStreams, ProcessesInputs, TakesInput, InputsLead}
 use Rattle.turn_client_api.specs.LawsRequests.{IsListedFor, IsListingOf}
 use Rattle.turn_client_api.specs.Retry.{first_or, is_allocate_or_connect, is_channel_bind, is_create_permission, is_refresh, retried}
 use Rattle.turn_client_api.specs.Steps.{state_after, state_after_all}
@@ -25,7 +25,7 @@ use Rattle.turn_client_api.proofs.MoveTurnLemmas.{listings-made}
 use Rattle.turn_client_api.proofs.StandLemmas.{contains-has, has-contains}
 use Rattle.turn_client_api.proofs.TurnChainLemmas.{calls-do}
 use Rattle.turn_client_api.proofs.TwoPurposes.{purpose-with}
-use Rattle.turn_client_runs.specs.Granted.{IsAskedInCall, IsAskedInTurn, WasAsked, WasAskedBefore}
+use Rattle.turn_client_runs.specs.Granted.{IsAskedInCall, IsRequestedByInput, WasAsked, WasAskedBefore}
 use Rattle.turn_client_runs.proofs.CallGrants.{quiet, taking}
 use Rattle.turn_client_runs.proofs.RelistLemmas.{IsRelisted, IsRetriedFor, turn-relists}
 use Rattle.turn_client_runs.proofs.TogetherLemmas.{AreTogether, IsListingHere, Together, call-together, differs-together, first-together, listing-here}
@@ -101,49 +101,49 @@ listed-for message s purpose p together wanted (inr (first, there)) =
 
 -- for a listing that deletes no allocation
 module _ (l : Listing) (wanted : GivesBack l.purpose → ⊥) where
-  turn-asks : (one : Turn) → AreTogether one.before → Has l (made_of one).1.listed → Has l one.before.listed ⊎ IsAskedInTurn l.id l.purpose one
+  turn-asks : (one : Input) → AreTogether one.before → Has l (processed one).1.listed → Has l one.before.listed ⊎ IsRequestedByInput l.id l.purpose one
   turn-asks one together there = by (turn-relists one l there)
     where
-      by : Has l one.before.listed ⊎ IsRelisted one.bytes one.moment one.before (made_of one).1 l → Has l one.before.listed ⊎ IsAskedInTurn l.id l.purpose one
+      by : Has l one.before.listed ⊎ IsRelisted one.bytes one.moment one.before (processed one).1 l → Has l one.before.listed ⊎ IsRequestedByInput l.id l.purpose one
       by (inl old) = inl old
       by (inr (purpose, made, is, for)) = inr (purpose, listed-for one.bytes one.before purpose l.purpose together wanted for, made, is)
 
   -- one of these inputs made it
-  abbrev AmongTurns : List Turn → Type 0
-  AmongTurns turns = (one : Turn) × Has one turns × IsAskedInTurn l.id l.purpose one
+  abbrev AmongTurns : List Input → Type 0
+  AmongTurns turns = (one : Input) × Has one turns × IsRequestedByInput l.id l.purpose one
 
-  later-among : (one : Turn) (turns : List Turn) → AmongTurns turns → AmongTurns (one ∷ turns)
+  later-among : (one : Input) (turns : List Input) → AmongTurns turns → AmongTurns (one ∷ turns)
   later-among one turns (x, there, asked) = (x, inr there, asked)
 
   differs-listed : (s t : State) → DiffersInStreams s t → Has l t.listed → Has l s.listed
   differs-listed s t differs there = subst (λ (u : State). Has l u.listed) differs.others there
 
   -- the first input made it, or a later one, or it was listed before
-  step-asks : (one : Turn) (later : List Turn) (s : State) → DiffersInStreams s one.before → AreTogether s → Has l (made_of one).1.listed ⊎ AmongTurns later → Has l s.listed ⊎ AmongTurns (one ∷ later)
+  step-asks : (one : Input) (later : List Input) (s : State) → DiffersInStreams s one.before → AreTogether s → Has l (processed one).1.listed ⊎ AmongTurns later → Has l s.listed ⊎ AmongTurns (one ∷ later)
   step-asks one later s differs together (inr among) = inr (later-among one later among)
   step-asks one later s differs together (inl there) = by (turn-asks one (differs-together s one.before differs together) there)
     where
-      by : Has l one.before.listed ⊎ IsAskedInTurn l.id l.purpose one → Has l s.listed ⊎ AmongTurns (one ∷ later)
+      by : Has l one.before.listed ⊎ IsRequestedByInput l.id l.purpose one → Has l s.listed ⊎ AmongTurns (one ∷ later)
       by (inl old) = inl (differs-listed s one.before differs old)
       by (inr asked) = inr (one, inl refl, asked)
 
-  lead-asks : (turns : List Turn) (s t : State) → TurnsLead turns s t → AreTogether s → Has l t.listed → Has l s.listed ⊎ AmongTurns turns
+  lead-asks : (turns : List Input) (s t : State) → InputsLead turns s t → AreTogether s → Has l t.listed → Has l s.listed ⊎ AmongTurns turns
   lead-asks [] s t lead together there = inl (differs-listed s t lead there)
   lead-asks (one ∷ later) s t (first, lead) together there =
       step-asks one later s first together
-      (lead-asks later (made_of one).1 t lead (first-together one later s first together) there)
+      (lead-asks later (processed one).1 t lead (first-together one later s first together) there)
 
   -- up to one of the inputs
-  front-asks : (front : List Turn) (one : Turn) (back : List Turn) (s t : State) → TurnsLead (front ++ one ∷ back) s t → AreTogether s → Has l one.before.listed → Has l s.listed ⊎ AmongTurns front
+  front-asks : (front : List Input) (one : Input) (back : List Input) (s t : State) → InputsLead (front ++ one ∷ back) s t → AreTogether s → Has l one.before.listed → Has l s.listed ⊎ AmongTurns front
   front-asks [] one back s t (first, lead) together there = inl (differs-listed s one.before first there)
   front-asks (x ∷ front) one back s t (first, lead) together there =
       step-asks x front s first together
-      (front-asks front one back (made_of x).1 t lead (first-together x (front ++ one ∷ back) s first together) there)
+      (front-asks front one back (processed x).1 t lead (first-together x (front ++ one ∷ back) s first together) there)
 
   -- ---- a call
 
   module _ (call : Call) (s : State) (together : AreTogether s) where
-    gone-listed : DoesTurns call s → Has l (state_after call s).listed → Has l s.listed ⊎ AmongTurns (handled call s)
+    gone-listed : ProcessesInputs call s → Has l (state_after call s).listed → Has l s.listed ⊎ AmongTurns (handled call s)
     gone-listed (inl lead) there = lead-asks (handled call s) s (state_after call s) lead together there
     gone-listed (inr end) there = old ((gone-settles end.local s).1 l (subst (λ (t : State). Has l t.listed) end.gone there))
       where
@@ -162,19 +162,19 @@ module _ (l : Listing) (wanted : GivesBack l.purpose → ⊥) where
         itself own (inl old) = inl old
         itself own (inr is) = inr (inl (own l is))
 
-        by : TakesTurns call ⊎ ((x : Listing) → IsListingOf call s x → IsListingHere call s x) → Contains s.listed l ⊎ IsAskedInCall l.id l.purpose call s
+        by : TakesInput call ⊎ ((x : Listing) → IsListingOf call s x → IsListingHere call s x) → Contains s.listed l ⊎ IsAskedInCall l.id l.purpose call s
         by (inl takes) = turned (gone-listed (calls-do call s takes) (contains-has l (state_after call s).listed there))
         by (inr own) = itself own (listings-made call s (state_after call s) l (inl refl) there)
 
     -- up to an input of it
-    turn-was-asked : (front : List Turn) (one : Turn) (back : List Turn) → handled call s ≡ front ++ one ∷ back → Has l one.before.listed → DoesTurns call s → Has l s.listed ⊎ AmongTurns front
+    turn-was-asked : (front : List Input) (one : Input) (back : List Input) → handled call s ≡ front ++ one ∷ back → Has l one.before.listed → ProcessesInputs call s → Has l s.listed ⊎ AmongTurns front
     turn-was-asked front one back cut there (inl lead) =
         front-asks front one back s (state_after call s)
-        (subst (λ (turns : List Turn). TurnsLead turns s (state_after call s)) cut lead)
+        (subst (λ (turns : List Input). InputsLead turns s (state_after call s)) cut lead)
         together there
     turn-was-asked front one back cut there (inr end) = absurd (filled front (sym end.nothing ∙ cut))
       where
-        filled : (front : List Turn) → [] ≡ front ++ one ∷ back → ⊥
+        filled : (front : List Input) → [] ≡ front ++ one ∷ back → ⊥
         filled [] e = cc
         filled (x ∷ front) e = cc
 
@@ -202,20 +202,20 @@ run-together : (calls : List Call) (s : State) → AreTogether s → AreTogether
 run-together [] s h = h
 run-together (call ∷ calls) s h = run-together calls (state_after call s) (call-together call s h)
 
-takes-turns : (call : Call) (s : State) (front : List Turn) (one : Turn) (back : List Turn) → handled call s ≡ front ++ one ∷ back → DoesTurns call s
+takes-turns : (call : Call) (s : State) (front : List Input) (one : Input) (back : List Input) → handled call s ≡ front ++ one ∷ back → ProcessesInputs call s
 takes-turns call s front one back cut = by (taking call)
   where
-    filled : (front : List Turn) → [] ≡ front ++ one ∷ back → ⊥
+    filled : (front : List Input) → [] ≡ front ++ one ∷ back → ⊥
     filled [] e = cc
     filled (x ∷ front) e = cc
 
-    by : TakesTurns call ⊎ (TakesTurns call → ⊥) → DoesTurns call s
+    by : TakesInput call ⊎ (TakesInput call → ⊥) → ProcessesInputs call s
     by (inl takes) = calls-do call s takes
     by (inr other) = absurd (filled front (sym (quiet call s other) ∙ cut))
 
 -- the request that an input answers was made before it
 pub was-asked : (earlier : List Call) (call : Call) (later : List Call) (first : State) → first.listed ≡ []
-    → (front : List Turn) (one : Turn) (back : List Turn) → handled call (state_after_all first earlier) ≡ front ++ one ∷ back
+    → (front : List Input) (one : Input) (back : List Input) → handled call (state_after_all first earlier) ≡ front ++ one ∷ back
     → (p : Purpose) → (GivesBack p → ⊥) → Contains (purposes_of (id_of one.bytes) one.before) p
     → WasAskedBefore (id_of one.bytes) p earlier first front
 was-asked earlier call later first empty front one back cut p wanted listed = by (turn-was-asked l wanted call s together front one back cut there (takes-turns call s front one back cut))

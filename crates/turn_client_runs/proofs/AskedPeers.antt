@@ -13,7 +13,7 @@ use Rattle.turn_client_api.specs.declared.grant.Listing.{Listing}
 use Rattle.turn_client_api.specs.declared.grant.Progress.{Progress}
 use Rattle.turn_client_api.specs.declared.grant.Purpose.TheVariants.{ForChannel}
 use Rattle.turn_client_api.specs.Grants.{purposes_of}
-use Rattle.turn_client_api.specs.Handled.{Turn, handled}
+use Rattle.turn_client_api.specs.Handled.{Input, handled}
 use Rattle.turn_client_api.specs.LawsGranted.{HasChannelTo}
 use Rattle.turn_client_api.specs.LawsNumbers.{HasDistinctNumbers}
 use Rattle.turn_client_api.specs.LawsStates.{HasGrantsAsked, HasItsGrant, is_asked_by}
@@ -93,11 +93,11 @@ asked-peer number peer to s founded apart l listed asks (progress, there) = by (
 -- ---- the inputs of a call
 
 -- a channel has the peer with which it was requested
-abbrev pub HasAskedPeers : Turn → Type 0
+abbrev pub HasAskedPeers : Input → Type 0
 HasAskedPeers one =
     (number : ℕ) (peer to : SocketAddr) → Contains (purposes_of (id_of one.bytes) one.before) (ForChannel number peer) → HasChannelTo number to one.before → to ≡ peer
 
-pub turns-ask-peers : (call : Call) (s : State) → HasGrantsAsked s → HasDistinctNumbers s → (one : Turn) → Contains (handled call s) one → HasAskedPeers one
+pub turns-ask-peers : (call : Call) (s : State) → HasGrantsAsked s → HasDistinctNumbers s → (one : Input) → Contains (handled call s) one → HasAskedPeers one
 turns-ask-peers call s asked distinct one among number peer to listed there =
     let founded = before-kept StayFounded (edits-IsKept StayFounded StayFounded-KeepsAllEdits (λ s streams h. h)) call s one among (λ l here. has-all (HasItsGrant s) l s.listed asked here) in
     let apart = before-kept _ (edits-IsKept _ (grants-KeepsAllEdits AreApart AreApart-KeepsGrants) (λ s streams h. h)) call s one among distinct in

@@ -11,10 +11,10 @@ use Rattle.turn_client_api.specs.Requests.{connection_bind_method}
 use Rattle.turn_client_api.specs.Judgement.{bind_judgement, method_in}
 use Rattle.turn_client_api.specs.Connections.{bind_answered, bind_step, connection_at}
 use Rattle.turn_client_api.specs.Payloads.{is_message}
-use Rattle.turn_client_api.specs.Handled.{Turn, handled, made_of}
-use Rattle.turn_client_api.specs.LawsBound.{IsBindTurn, IsBoundConnection, IsConnectedBy, IsConnecting}
+use Rattle.turn_client_api.specs.Handled.{Input, handled, processed}
+use Rattle.turn_client_api.specs.LawsBound.{IsBindInput, IsBoundConnection, IsConnectedBy, IsConnecting}
 use Rattle.turn_client_api.specs.LawsGranted.{Stood}
-use Rattle.turn_client_api.specs.LawsHandled.{IsBoundAt, IsDoneBy, IsOverControl, IsOverWaiting, TakesTurns}
+use Rattle.turn_client_api.specs.LawsHandled.{IsBoundAt, IsDoneBy, IsOverControl, IsOverWaiting, TakesInput}
 use Rattle.turn_client_api.specs.LawsReplies.{IsAccepted, IsNotAwaited}
 use Rattle.turn_client_api.specs.Steps.{state_after, state_after_all}
 use Rattle.turn_client_api.specs.declared.call.Call.{Call}
@@ -75,7 +75,7 @@ binds-ended local message now s b = by (bind-does local message now s)
         inr (rw answered (subst (λ (d : DataConnection). IsNotAwaited message (bind_answered d message now s)) is (bind-ended b.c message now s accepted)))
 
 -- no input is over both
-not_both : (local : SocketAddr) (one : Turn) → IsOverControl one → IsOverWaiting local one → ⊥
+not_both : (local : SocketAddr) (one : Input) → IsOverControl one → IsOverWaiting local one → ⊥
 not_both local one control waiting = by one.stream refl
   where
     unlike : Control ≡ Waiting → ⊥
@@ -90,17 +90,17 @@ not_both local one control waiting = by one.stream refl
 
 -- ---- what only an input over a waiting connection causes ends its request there
 
-module _ (P : State → Type 0) (Did : Turn → Type 0) (k : IsBrought P Did) (waits : (one : Turn) → Did one → (local : SocketAddr) × IsOverWaiting local one) (spares : (s t : State) → Stand.Leaves s t → t.streams ≡ s.streams → P t → P s) where
-  abbrev Ends : Turn → Type 0
+module _ (P : State → Type 0) (Did : Input → Type 0) (k : IsBrought P Did) (waits : (one : Input) → Did one → (local : SocketAddr) × IsOverWaiting local one) (spares : (s t : State) → Stand.Leaves s t → t.streams ≡ s.streams → P t → P s) where
+  abbrev Ends : Input → Type 0
   Ends one = Did one × IsAnswered one
 
-  bind-ends : (one : Turn) (stream : Stream) → one.stream ≡ Some stream → stream.mode ≡ Waiting → is_message one.bytes ≡ true → P (bind_step stream.local one.bytes one.moment one.before) → P one.before ⊎ Ends one
+  bind-ends : (one : Input) (stream : Stream) → one.stream ≡ Some stream → stream.mode ≡ Waiting → is_message one.bytes ≡ true → P (bind_step stream.local one.bytes one.moment one.before) → P one.before ⊎ Ends one
   bind-ends one stream of mode whole h = by (bind-leaves stream.local one.bytes one.moment one.before)
     where
       t : State
       t = bind_step stream.local one.bytes one.moment one.before
 
-      made : (made_of one).1 ≡ t
+      made : (processed one).1 ≡ t
       made = waiting-made stream.local one (rw of (mode, refl)) whole
 
       did : IsNotAwaited one.bytes t → P one.before ⊎ Did one → P one.before ⊎ Ends one
@@ -124,7 +124,7 @@ module _ (P : State → Type 0) (Did : Turn → Type 0) (k : IsBrought P Did) (w
     ended = k.ended;
   }
     where
-      control : (one : Turn) → IsOverControl one → P one.before ⊎ Did one → P one.before ⊎ Ends one
+      control : (one : Input) → IsOverControl one → P one.before ⊎ Did one → P one.before ⊎ Ends one
       control one over (inl there) = inl there
       control one over (inr did) = let (local, waiting) = waits one did in absurd (not_both local one over waiting)
 
@@ -135,12 +135,12 @@ module _ (P : State → Type 0) (Did : Turn → Type 0) (k : IsBrought P Did) (w
       where
         none : (call : Call) (s : State) → ((u : State) → handled call u ≡ []) → P s ⊎ IsDoneBy Did call s → P s ⊎ ⊥
         none call s nothing (inl there) = inl there
-        none call s nothing (inr did) = absurd (among-none Did (subst (λ (turns : List Turn). IsAmong Did turns) (nothing s) did))
+        none call s nothing (inr did) = absurd (among-none Did (subst (λ (turns : List Input). IsAmong Did turns) (nothing s) did))
 
-        other : (call : Call) (s : State) → (TakesTurns call → ⊥) → P (state_after call s) → P s ⊎ ⊥
+        other : (call : Call) (s : State) → (TakesInput call → ⊥) → P (state_after call s) → P s ⊎ ⊥
         other call s no_turns there = at (takes-or call)
           where
-            at : TakesTurns call ⊎ ((u : State) → handled call u ≡ []) → P s ⊎ ⊥
+            at : TakesInput call ⊎ ((u : State) → handled call u ≡ []) → P s ⊎ ⊥
             at (inl takes) = absurd (no_turns takes)
             at (inr nothing) = none call s nothing (others call s there)
 
@@ -159,10 +159,10 @@ module _ (local peer : SocketAddr) where
   abbrev IsBoundTo : State → Type 0
   IsBoundTo s = IsBoundAt local peer s
 
-  abbrev BindsIt : Turn → Type 0
-  BindsIt one = IsBindTurn local peer one
+  abbrev BindsIt : Input → Type 0
+  BindsIt one = IsBindInput local peer one
 
-  waits : (one : Turn) → BindsIt one → (at : SocketAddr) × IsOverWaiting at one
+  waits : (one : Input) → BindsIt one → (at : SocketAddr) × IsOverWaiting at one
   waits one bind = (local, bind.over)
 
   spares : (s t : State) → Stand.Leaves s t → t.streams ≡ s.streams → IsBoundTo t → IsBoundTo s
@@ -180,7 +180,7 @@ module _ (local peer : SocketAddr) where
       let is = run-did IsBoundTo (λ call u. IsDoneBy (λ one. BindsIt one × IsAnswered one) call u) (λ u. ⊤) (λ call u inv. tt) (λ call u inv. stream-ends call u) calls s tt none h in
       record { earlier = is.earlier; call = is.call; later = is.later; split = is.split; success = is.did; since = is.holds }
 
-  streams-before : (s : State) (calls : List Call) (earlier : List Call) (call : Call) (later : List Call) (front back : List Turn) (one : Turn) → (IsBoundTo s → ⊥)
+  streams-before : (s : State) (calls : List Call) (earlier : List Call) (call : Call) (later : List Call) (front back : List Input) (one : Input) → (IsBoundTo s → ⊥)
       → calls ≡ earlier ++ call ∷ later → handled call (state_after_all s earlier) ≡ front ++ one ∷ back → IsBoundTo one.before
       → IsBoundSince local peer earlier s ⊎ HasSuccess local peer front
   streams-before s calls earlier call later front back one none split e h =

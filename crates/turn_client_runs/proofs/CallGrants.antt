@@ -9,9 +9,9 @@ use Rattle.turn_client_api.specs.declared.grant.Grant.{Grant}
 use Rattle.turn_client_api.specs.declared.grant.Grant.TheVariants.{Allocation, Permission, Channel, Connect, Offer, Connection}
 use Rattle.turn_client_api.specs.declared.grant.Relay.{Relay}
 use Rattle.turn_client_api.specs.Calls.{delete_step, is_allocated}
-use Rattle.turn_client_api.specs.Handled.{Turn, handled}
+use Rattle.turn_client_api.specs.Handled.{Input, handled}
 use Rattle.turn_client_api.specs.LawsGranted.{IsEndedNow, IsGrantedIn, IsKeptAs, Stood}
-use Rattle.turn_client_api.specs.LawsHandled.{IsDoneBy, TakesTurns}
+use Rattle.turn_client_api.specs.LawsHandled.{IsDoneBy, TakesInput}
 use Rattle.turn_client_api.specs.Steps.{state_after}
 use Rattle.turn_client_api.proofs.GrantedLemmas.{leaves-grants}
 use Rattle.turn_client_api.proofs.StandLemmas.{Covers, contains-has, covers-stood, has-contains, kept-stood, kept-trans}
@@ -66,7 +66,7 @@ ended-kept call s is g kept (a, now, what, how, ends, was) = by (kept-alike is g
 
 -- ---- calls that process no input
 
-pub taking : (call : Call) → TakesTurns call ⊎ (TakesTurns call → ⊥)
+pub taking : (call : Call) → TakesInput call ⊎ (TakesInput call → ⊥)
 taking (Recv packet now) = inl tt
 taking (PollRecv now) = inl tt
 taking (Delete now) = inr (λ takes. takes)
@@ -84,7 +84,7 @@ taking (Permissions transport relayed) = inr (λ takes. takes)
 taking (HavePermission transport to) = inr (λ takes. takes)
 taking ProtocolError = inr (λ takes. takes)
 
-pub quiet : (call : Call) (s : State) → (TakesTurns call → ⊥) → handled call s ≡ []
+pub quiet : (call : Call) (s : State) → (TakesInput call → ⊥) → handled call s ≡ []
 quiet (Recv packet now) s other = absurd (other tt)
 quiet (PollRecv now) s other = absurd (other tt)
 quiet (Delete now) s other = refl
@@ -102,11 +102,11 @@ quiet (Permissions transport relayed) s other = refl
 quiet (HavePermission transport to) s other = refl
 quiet ProtocolError s other = refl
 
-none-done : (Did : Turn → Type 0) (call : Call) (s : State) → (TakesTurns call → ⊥) → IsDoneBy Did call s → ⊥
-none-done Did call s other (one, among, did) = contains-has one [] (subst (λ (turns : List Turn). Contains turns one) (quiet call s other) among)
+none-done : (Did : Input → Type 0) (call : Call) (s : State) → (TakesInput call → ⊥) → IsDoneBy Did call s → ⊥
+none-done Did call s other (one, among, did) = contains-has one [] (subst (λ (turns : List Input). Contains turns one) (quiet call s other) among)
 
 module _ (g : Grant) where
-  quiet-grants : (call : Call) (s : State) → (TakesTurns call → ⊥) → Covers (state_after call s).grants g → Covers s.grants g ⊎ IsEndedBy call s g
+  quiet-grants : (call : Call) (s : State) → (TakesInput call → ⊥) → Covers (state_after call s).grants g → Covers s.grants g ⊎ IsEndedBy call s g
   quiet-grants call s other (is, there, kept) = by (leaves-grants call s (state_after call s) is (inl refl) (has-contains is (state_after call s).grants there) (kept-stood is g kept))
     where
       by : Stood s is ⊎ IsEndedNow call s is ⊎ IsDoneBy (IsGrantedIn is) call s → Covers s.grants g ⊎ IsEndedBy call s g

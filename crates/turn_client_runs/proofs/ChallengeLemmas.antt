@@ -4,8 +4,8 @@ use Rattle.std.proofs.lemmas.Bool.{ltb-true, ltb-false}
 use Rattle.turn_auth.specs.LongTerm.{Challenge}
 use Rattle.turn_client_api.specs.State.{State}
 use Rattle.turn_client_api.specs.Payloads.{Outcome, is_message}
-use Rattle.turn_client_api.specs.Handled.{Turn, handled, made_of}
-use Rattle.turn_client_api.specs.LawsHandled.{DoesTurns, TakesTurns, TurnsLead}
+use Rattle.turn_client_api.specs.Handled.{Input, handled, processed}
+use Rattle.turn_client_api.specs.LawsHandled.{ProcessesInputs, TakesInput, InputsLead}
 use Rattle.turn_client_api.specs.LawsReplies.{IsHeeded}
 use Rattle.turn_client_api.specs.LawsStates.{HoldsAtFirst, StaysInCalls}
 use Rattle.turn_client_api.specs.LawsSteps.{IsCounted, KeepsRealm}
@@ -17,7 +17,7 @@ use Rattle.turn_client_api.proofs.PhasesGoOn.{challenge-IsCounted, leaves-keeps}
 use Rattle.turn_client_api.proofs.TurnBringLemmas.{turn-brings}
 use Rattle.turn_client_api.proofs.TurnChainLemmas.{calls-do}
 use Rattle.turn_client_api.proofs.TurnLemmas.{brought}
-use Rattle.turn_client_runs.specs.Challenges.{CountsIt, IsChallengeTurn, IsHeededAmong, IsPatient, answers_in, is_answer}
+use Rattle.turn_client_runs.specs.Challenges.{CountsIt, IsChallengeInput, IsHeededAmong, IsPatient, answers_in, is_answer}
 use Rattle.turn_client_runs.specs.Holds.{Reaches}
 use Rattle.turn_client_runs.specs.Turns.{IsAmong, handled_in}
 use Rattle.turn_client_runs.proofs.HoldLemmas.{kept-behind}
@@ -47,22 +47,22 @@ initial-patient transport local remote config seed = omega arith
 pub leaves-patient : StaysInCalls IsPatient
 leaves-patient call s t leaves = (leaves-keeps call s t leaves).1
 
-pub challenge-counts : (one : Turn) → IsChallengeTurn one → CountsIt one
+pub challenge-counts : (one : Input) → IsChallengeInput one → CountsIt one
 challenge-counts one c =
     subst (λ (p : Outcome × State). IsCounted one.before p.1) (sym (control-made one c.over c.whole))
     (challenge-IsCounted one.bytes one.moment one.before c.challenge c.judged)
 
 -- ---- how many in sequence
 
-abbrev IsHeededIn : Turn → Type 0
-IsHeededIn one = ((made_of one).1.challenges < one.before.challenges) × (is_message one.bytes ≡ true) × IsHeeded one.bytes one.moment one.before
+abbrev IsHeededIn : Input → Type 0
+IsHeededIn one = ((processed one).1.challenges < one.before.challenges) × (is_message one.bytes ≡ true) × IsHeeded one.bytes one.moment one.before
 
-abbrev IsWellHeeded : Turn → Type 0
+abbrev IsWellHeeded : Input → Type 0
 IsWellHeeded one = (is_message one.bytes ≡ true) × IsHeeded one.bytes one.moment one.before
 
 -- an input makes the count no less, or is accepted
-turn-grows : (one : Turn) → (one.before.challenges ≤ (made_of one).1.challenges) ⊎ IsHeededIn one
-turn-grows one = by (ltb (made_of one).1.challenges n) refl
+turn-grows : (one : Input) → (one.before.challenges ≤ (processed one).1.challenges) ⊎ IsHeededIn one
+turn-grows one = by (ltb (processed one).1.challenges n) refl
   where
     n : ℕ
     n = one.before.challenges
@@ -70,30 +70,30 @@ turn-grows one = by (ltb (made_of one).1.challenges n) refl
     Fewer : State → Type 0
     Fewer s = s.challenges < n
 
-    did : (made_of one).1.challenges < n → Fewer one.before ⊎ IsWellHeeded one → (n ≤ (made_of one).1.challenges) ⊎ IsHeededIn one
+    did : (processed one).1.challenges < n → Fewer one.before ⊎ IsWellHeeded one → (n ≤ (processed one).1.challenges) ⊎ IsHeededIn one
     did fewer (inl less) = absurd (omega (arith, less))
     did fewer (inr heeded) = inr (fewer, heeded.0, heeded.1)
 
-    by : (b : Bool) → ltb (made_of one).1.challenges n ≡ b → (n ≤ (made_of one).1.challenges) ⊎ IsHeededIn one
-    by true e = let fewer = ltb-true (made_of one).1.challenges n e in did fewer (turn-brings (λ s. s.challenges < n) IsWellHeeded (brought (λ s. s.challenges < n) IsHeeded (bringing n)) one fewer)
-    by false e = inl (ltb-false (made_of one).1.challenges n e)
+    by : (b : Bool) → ltb (processed one).1.challenges n ≡ b → (n ≤ (processed one).1.challenges) ⊎ IsHeededIn one
+    by true e = let fewer = ltb-true (processed one).1.challenges n e in did fewer (turn-brings (λ s. s.challenges < n) IsWellHeeded (brought (λ s. s.challenges < n) IsHeeded (bringing n)) one fewer)
+    by false e = inl (ltb-false (processed one).1.challenges n e)
 
 -- the count grows by each answer, or one of these inputs is accepted
-abbrev Counts : State → State → List Turn → Type 0
+abbrev Counts : State → State → List Input → Type 0
 Counts s t turns = (s.challenges + answers_in turns ≤ t.challenges) ⊎ IsHeededAmong turns
 
-lead-counts : (turns : List Turn) (s t : State) → TurnsLead turns s t → Counts s t turns
+lead-counts : (turns : List Input) (s t : State) → InputsLead turns s t → Counts s t turns
 lead-counts [] s t lead = let same : t.challenges ≡ s.challenges = ap (λ (x : State). x.challenges) lead.others in inl (omega (arith, same))
-lead-counts (one ∷ later) s t (first, lead) = by (lead-counts later (made_of one).1 t lead) (turn-grows one)
+lead-counts (one ∷ later) s t (first, lead) = by (lead-counts later (processed one).1 t lead) (turn-grows one)
   where
     same : one.before.challenges ≡ s.challenges
     same = ap (λ (x : State). x.challenges) first.others
 
-    count : (b : Bool) → is_answer one ≡ b → one.before.challenges ≤ (made_of one).1.challenges → (made_of one).1.challenges + answers_in later ≤ t.challenges → s.challenges + answers_in (one ∷ later) ≤ t.challenges
-    count true e grows rest = rw e (let more = ltb-true one.before.challenges (made_of one).1.challenges e in omega (arith, more, rest, same))
+    count : (b : Bool) → is_answer one ≡ b → one.before.challenges ≤ (processed one).1.challenges → (processed one).1.challenges + answers_in later ≤ t.challenges → s.challenges + answers_in (one ∷ later) ≤ t.challenges
+    count true e grows rest = rw e (let more = ltb-true one.before.challenges (processed one).1.challenges e in omega (arith, more, rest, same))
     count false e grows rest = rw e (omega (arith, grows, rest, same))
 
-    by : Counts (made_of one).1 t later → (one.before.challenges ≤ (made_of one).1.challenges) ⊎ IsHeededIn one → Counts s t (one ∷ later)
+    by : Counts (processed one).1 t later → (one.before.challenges ≤ (processed one).1.challenges) ⊎ IsHeededIn one → Counts s t (one ∷ later)
     by (inl rest) (inl grows) = inl (count (is_answer one) refl grows rest)
     by (inl rest) (inr heeded) = inr (among-first IsHeededIn one later heeded)
     by (inr among) grows = inr (among-later IsHeededIn one later among)
@@ -103,21 +103,21 @@ idle-counts : (call : Call) (s : State) → handled call s ≡ [] → Counts s (
 idle-counts call s none = by (ltb (state_after call s).challenges s.challenges) refl
   where
     by : (b : Bool) → ltb (state_after call s).challenges s.challenges ≡ b → Counts s (state_after call s) (handled call s)
-    by true e = absurd (among-none IsWellHeeded (subst (λ (turns : List Turn). IsAmong IsWellHeeded turns) none (leaves-heeded call s (state_after call s) (inl refl) (ltb-true (state_after call s).challenges s.challenges e))))
+    by true e = absurd (among-none IsWellHeeded (subst (λ (turns : List Input). IsAmong IsWellHeeded turns) none (leaves-heeded call s (state_after call s) (inl refl) (ltb-true (state_after call s).challenges s.challenges e))))
     by false e = rw none (inl (let less = ltb-false (state_after call s).challenges s.challenges e in omega (arith, less)))
 
 call-counts : (call : Call) (s : State) → Counts s (state_after call s) (handled call s)
 call-counts call s = by (takes-or call)
   where
-    does : DoesTurns call s → Counts s (state_after call s) (handled call s)
+    does : ProcessesInputs call s → Counts s (state_after call s) (handled call s)
     does (inl lead) = lead-counts (handled call s) s (state_after call s) lead
     does (inr end) = idle-counts call s end.nothing
 
-    by : TakesTurns call ⊎ ((u : State) → handled call u ≡ []) → Counts s (state_after call s) (handled call s)
+    by : TakesInput call ⊎ ((u : State) → handled call u ≡ []) → Counts s (state_after call s) (handled call s)
     by (inl takes) = does (calls-do call s takes)
     by (inr none) = idle-counts call s (none s)
 
-answers-append : (turns more : List Turn) → answers_in (turns ++ more) ≡ answers_in turns + answers_in more
+answers-append : (turns more : List Input) → answers_in (turns ++ more) ≡ answers_in turns + answers_in more
 answers-append [] more = omega arith
 answers-append (one ∷ turns) more = by (is_answer one) refl (answers-append turns more)
   where
@@ -129,10 +129,10 @@ run-counts : (s : State) (calls : List Call) → Counts s (state_after_all s cal
 run-counts s [] = inl (omega arith)
 run-counts s (call ∷ calls) = by (call-counts call s) (run-counts (state_after call s) calls)
   where
-    turns : List Turn
+    turns : List Input
     turns = handled call s
 
-    more : List Turn
+    more : List Input
     more = handled_in (state_after call s) calls
 
     by : Counts s (state_after call s) turns → Counts (state_after call s) (state_after_all (state_after call s) calls) more → Counts s (state_after_all s (call ∷ calls)) (turns ++ more)

@@ -22,9 +22,9 @@ use Rattle.turn_client_api.specs.declared.state.Mode.TheVariants.{Waiting}
 use Rattle.turn_client_api.specs.declared.state.Stream.{Stream}
 use Rattle.turn_client_api.specs.Grants.{purposes_of}
 use Rattle.turn_client_api.specs.Connections.{bind_answered, bind_step, deadline_set}
-use Rattle.turn_client_api.specs.Handled.{Turn, made_of}
+use Rattle.turn_client_api.specs.Handled.{Input, processed}
 use Rattle.turn_client_api.specs.Judgement.{Fatal, SignedSuccess, Unrelated, answers_one, bind_judgement, challenge_in, challenged_or, class_in, judgement_of, requesting_judgement}
-use Rattle.turn_client_api.specs.LawsBound.{IsBindTurn}
+use Rattle.turn_client_api.specs.LawsBound.{IsBindInput}
 use Rattle.turn_client_api.specs.LawsGranted.{IsGivenFor, IsGrant, IsGrantedBy, IsKeptAs}
 use Rattle.turn_client_api.specs.LawsHandled.{IsOverControl}
 use Rattle.turn_client_api.specs.LawsReplies.{IsAccepted, IsAwaited, IsNotAwaited}
@@ -102,18 +102,18 @@ given-kept p was g message now s kept given = by (kept-alike was g kept)
 -- ---- what an input grants
 
 -- what the input grants: a connection that it binds, and all else as the machine says
-abbrev pub IsGivenAt : Turn → Purpose → Grant → Type 0
+abbrev pub IsGivenAt : Input → Purpose → Grant → Type 0
 IsGivenAt one p (Connection c) = IsGivenIn one p (Connection c)
 IsGivenAt one p g = IsGivenFor p one.bytes one.moment one.before g
 
 -- The input is a success, and answers a request for the purpose.
-pub record IsAccepting (purpose : Purpose) (one : Turn) : Type 0 where
+pub record IsAccepting (purpose : Purpose) (one : Input) : Type 0 where
   pub whole : is_message one.bytes ≡ true
   pub success : class_in one.bytes ≡ Success
   pub signed : IsValidated (validation_of (auth_of one.before) one.bytes)
   pub listed : Contains (purposes_of (id_of one.bytes) one.before) purpose
   pub outstanding : IsAwaited one.bytes one.before
-  pub ended : IsNotAwaited one.bytes (made_of one).1
+  pub ended : IsNotAwaited one.bytes (processed one).1
   -- the first challenge was answered
   pub heard : one.before.phase ≡ Requesting → ⊥
 
@@ -124,14 +124,14 @@ requesting-unsigned true None e = cc
 requesting-unsigned false o e = cc
 
 -- the input granted it
-pub record Granting (g : Grant) (one : Turn) : Type 0 where
+pub record Granting (g : Grant) (one : Input) : Type 0 where
   pub over : IsOverIts g one
   pub purpose : Purpose
   pub accepting : IsAccepting purpose one
   pub given : IsGivenAt one purpose g
 
 -- over the control connection
-module _ (one : Turn) (over : IsOverControl one) (whole : is_message one.bytes ≡ true) where
+module _ (one : Input) (over : IsOverControl one) (whole : is_message one.bytes ≡ true) where
   accepting : judgement_of one.before one.bytes ≡ SignedSuccess → (was : Grant) (is : IsGrantedBy one.bytes one.moment one.before was) → IsAccepting is.purpose one
   accepting judged was is = record {
     whole = whole;
@@ -189,15 +189,15 @@ deadline-has local g (Channel number peer progress) e = inl e
 deadline-has local g (Connect peer) e = inl e
 deadline-has local g (Offer offer) e = inl e
 
-module _ (one : Turn) (stream : Stream) (of : one.stream ≡ Some stream) (waits : stream.mode ≡ Waiting) (whole : is_message one.bytes ≡ true) where
+module _ (one : Input) (stream : Stream) (of : one.stream ≡ Some stream) (waits : stream.mode ≡ Waiting) (whole : is_message one.bytes ≡ true) where
   -- the request is no longer outstanding
-  bind-ends : (b : Binds stream.local one.bytes one.before (bind_step stream.local one.bytes one.moment one.before)) → one.before.phase ≡ Allocated → IsNotAwaited one.bytes (made_of one).1
+  bind-ends : (b : Binds stream.local one.bytes one.before (bind_step stream.local one.bytes one.moment one.before)) → one.before.phase ≡ Allocated → IsNotAwaited one.bytes (processed one).1
   bind-ends b phase =
       let steps : bind_step stream.local one.bytes one.moment one.before ≡ bind_answered b.c one.bytes one.moment one.before = rw (phase, b.found, b.method) refl in
       let judged : IsAccepted (bind_judgement one.before b.c.local one.bytes) = rw b.judged tt in
       rw (made-waiting one stream of waits whole, steps) (bind-ended b.c one.bytes one.moment one.before judged)
 
-  bind-accepting : (b : Binds stream.local one.bytes one.before (bind_step stream.local one.bytes one.moment one.before)) → one.before.phase ≡ Allocated → (turn : IsBindTurn stream.local b.c.peer one) → IsAccepting (ForBind stream.local turn.asked turn.number) one
+  bind-accepting : (b : Binds stream.local one.bytes one.before (bind_step stream.local one.bytes one.moment one.before)) → one.before.phase ≡ Allocated → (turn : IsBindInput stream.local b.c.peer one) → IsAccepting (ForBind stream.local turn.asked turn.number) one
   bind-accepting b phase turn = record {
     whole = whole;
     success = turn.success;

@@ -16,10 +16,10 @@ use Rattle.turn_client_api.specs.Retry.{most_challenges, retried, state_after_re
 use Rattle.turn_client_api.specs.Connections.{bind_step, connection_at}
 use Rattle.turn_client_api.specs.Payloads.{Outcome, Handled, Ignored, is_message, message_step}
 use Rattle.turn_client_api.specs.Receive.{connection_gone}
-use Rattle.turn_client_api.specs.Handled.{Turn, handled, made_of}
+use Rattle.turn_client_api.specs.Handled.{Input, handled, processed}
 use Rattle.turn_client_api.specs.Steps.{state_after, state_after_all}
 use Rattle.turn_client_api.specs.Transmit.{sent}
-use Rattle.turn_client_api.specs.LawsHandled.{DiffersInStreams, IsDoneBy, IsOverControl, TakesTurns}
+use Rattle.turn_client_api.specs.LawsHandled.{DiffersInStreams, IsDoneBy, IsOverControl, TakesInput}
 use Rattle.turn_client_api.specs.declared.call.Call.{Call}
 use Rattle.turn_client_api.specs.declared.call.Call.TheVariants.{Delete, CreatePermission, BindChannel, TcpConnect, AllocatedTcpSocket, TcpClosed, SendTo, Recv, PollRecv, Poll, PollTransmit, PollEvent, ProtocolError, RelayedAddresses, Permissions, HavePermission}
 use Rattle.turn_client_api.specs.declared.grant.Purpose.{Purpose}
@@ -144,7 +144,7 @@ closed-late s (inl some) = inl some
 closed-late s (inr (inl e)) = cc
 closed-late s (inr (inr e)) = cc
 
-abbrev IsFirst : Turn → Type 0
+abbrev IsFirst : Input → Type 0
 IsFirst one = (d : Challenge) × IsFirstAnswer d one
 
 bringing : IsBrought IsLate IsFirst
@@ -156,7 +156,7 @@ bringing = record {
   ended = closed-late;
 }
   where
-    control : (one : Turn) → IsOverControl one → is_message one.bytes ≡ true → IsLate (message_step one.bytes one.moment one.before).1 → IsLate one.before ⊎ IsFirst one
+    control : (one : Input) → IsOverControl one → is_message one.bytes ≡ true → IsLate (message_step one.bytes one.moment one.before).1 → IsLate one.before ⊎ IsFirst one
     control one over whole h = by (message-late one.bytes one.moment one.before h)
       where
         by : IsLate one.before ⊎ Answers one.bytes one.moment one.before → IsLate one.before ⊎ IsFirst one
@@ -214,11 +214,11 @@ Back-KeepsEdits = record {
   reserves = λ number peer was until s there h. h;
 }
 
-others : (call : Call) (s : State) → (TakesTurns call → ⊥) → IsLate (state_after call s) → IsLate s ⊎ ⊥
+others : (call : Call) (s : State) → (TakesInput call → ⊥) → IsLate (state_after call s) → IsLate s ⊎ ⊥
 unfolding Back
 others call s other h = inl (by call other h)
   where
-    by : (call : Call) → (TakesTurns call → ⊥) → Back s (state_after call s)
+    by : (call : Call) → (TakesInput call → ⊥) → Back s (state_after call s)
     by (Recv packet now) other = absurd (other tt)
     by (PollRecv now) other = absurd (other tt)
     by (Delete now) other = delete-walk Back Back-KeepsEdits (λ now s h. h) now s
@@ -246,7 +246,7 @@ held-from transport local remote config seed calls c e = by (run-brings IsLate I
     first : State
     first = initial transport local remote config seed
 
-    same : (one : Turn) (d : Challenge) → (made_of one).1.held ≡ Some d → (x : Challenge) × ((state_after_all first calls).held ≡ Some x) × (x.realm ≡ d.realm) × (x.algorithm ≡ d.algorithm) → (c.realm ≡ d.realm) × (c.algorithm ≡ d.algorithm)
+    same : (one : Input) (d : Challenge) → (processed one).1.held ≡ Some d → (x : Challenge) × ((state_after_all first calls).held ≡ Some x) × (x.realm ≡ d.realm) × (x.algorithm ≡ d.algorithm) → (c.realm ≡ d.realm) × (c.algorithm ≡ d.algorithm)
     same one d held (x, f, realm, algorithm) = let is : c ≡ x = same_Some c x (sym e ∙ f) in rw is (realm, algorithm)
 
     by : IsLate first ⊎ IsAmong IsFirst (handled_in first calls) → IsAmong (IsOfChallenge c) (handled_in first calls)

@@ -8,7 +8,7 @@ use Rattle.turn_stun.proofs.FaultLemmas.{no_fault-IsFaultless}
 use Rattle.turn_types.specs.Frames.{begins_message}
 use Rattle.turn_client_api.specs.Connections.{bind_step}
 use Rattle.turn_client_api.specs.Payloads.{is_message, message_step}
-use Rattle.turn_client_api.specs.Handled.{Turn, made_of}
+use Rattle.turn_client_api.specs.Handled.{Input, processed}
 use Rattle.turn_client_api.specs.LawsHandled.{IsOverControl, IsOverWaiting}
 use Rattle.turn_client_api.specs.declared.state.Mode.TheVariants.{Control, Waiting}
 use Rattle.turn_client_api.specs.declared.state.Stream.{Stream}
@@ -22,20 +22,20 @@ whole-begins bytes whole = lt-ltb (type_of bytes) 0x4000 (no_fault-IsFaultless b
     none (Some x) e = cc
 
 -- over the control connection the message is processed
-pub control-made : (one : Turn) → IsOverControl one → is_message one.bytes ≡ true → made_of one ≡ message_step one.bytes one.moment one.before
+pub control-made : (one : Input) → IsOverControl one → is_message one.bytes ≡ true → processed one ≡ message_step one.bytes one.moment one.before
 control-made one over whole = by one.stream refl
   where
-    by : (o : Option Stream) → one.stream ≡ o → made_of one ≡ message_step one.bytes one.moment one.before
+    by : (o : Option Stream) → one.stream ≡ o → processed one ≡ message_step one.bytes one.moment one.before
     by None e = rw (e, whole) refl
     by (Some stream) e =
         let mode : stream.mode ≡ Control = rw e at over in
         rw (e, mode, whole-begins one.bytes whole, whole) refl
 
 -- on a connection that waits it binds, or not
-pub waiting-made : (local : SocketAddr) (one : Turn) → IsOverWaiting local one → is_message one.bytes ≡ true → (made_of one).1 ≡ bind_step local one.bytes one.moment one.before
+pub waiting-made : (local : SocketAddr) (one : Input) → IsOverWaiting local one → is_message one.bytes ≡ true → (processed one).1 ≡ bind_step local one.bytes one.moment one.before
 waiting-made local one over whole = by one.stream refl
   where
-    by : (o : Option Stream) → one.stream ≡ o → (made_of one).1 ≡ bind_step local one.bytes one.moment one.before
+    by : (o : Option Stream) → one.stream ≡ o → (processed one).1 ≡ bind_step local one.bytes one.moment one.before
     by None e = absurd (rw e at over)
     by (Some stream) e =
         let (mode, ends) : (stream.mode ≡ Waiting) × (stream.local ≡ local) = rw e at over in

@@ -13,7 +13,7 @@ use Rattle.turn_client_api.specs.State.{State}
 use Rattle.turn_client_api.specs.Payloads.{Payload, Outcome, Handled, Ignored, PeerData, PeerIcmp}
 use Rattle.turn_client_api.specs.Streams.{is_ready, owned, payload_in, stream_at, turn, with_bytes}
 use Rattle.turn_client_api.specs.Receive.{first_turn, is_from_server}
-use Rattle.turn_client_api.specs.Handled.{Turn, fed, fed_taken, frame_taken, handled, is_front, made_of, payloads_by, piece_turns, poll_recv_turns, recv_turns, stream_turns, taken, taken_first, taken_in, taken_of_len, then_taken, turn_of, turn_payload, turns_taken, unless_given}
+use Rattle.turn_client_api.specs.Handled.{Input, fed, fed_taken, frame_taken, handled, is_front, processed, payloads_by, piece_inputs, poll_recv_inputs, recv_inputs, stream_inputs, taken, taken_first, taken_in, taken_of_len, then_taken, stream_input, input_payload, inputs_taken, unless_given}
 use Rattle.turn_client_api.specs.LawsHandled.{IsBoundAt}
 use Rattle.turn_client_api.specs.LawsPeers.{IsLetInTurn, IsLetThrough, IsNobodys}
 use Rattle.turn_client_api.specs.Steps.{state_after}
@@ -35,23 +35,23 @@ use Rattle.turn_client_runs.proofs.TurnsOfRuns.{among-left, among-right, has-amo
 abbrev Stands : Stream → State → Type 0
 Stands stream s = (x : Stream) × Contains s.streams x × (x.local ≡ stream.local) × (x.mode ≡ stream.mode)
 
-abbrev IsIn : Turn → Type 0
+abbrev IsIn : Input → Type 0
 IsIn one = (stream : Stream) → one.stream ≡ Some stream → Stands stream one.before
 
-abbrev AreIn : List Turn → Type 0
-AreIn turns = (one : Turn) → Has one turns → IsIn one
+abbrev AreIn : List Input → Type 0
+AreIn turns = (one : Input) → Has one turns → IsIn one
 
 none-in : AreIn []
 none-in one there = absurd there
 
-append-in : (front later : List Turn) → AreIn front → AreIn later → AreIn (front ++ later)
+append-in : (front later : List Input) → AreIn front → AreIn later → AreIn (front ++ later)
 append-in front later first second one there = by (has-append one front later there)
   where
     by : Has one front ⊎ Has one later → IsIn one
     by (inl here) = first one here
     by (inr there) = second one there
 
-one-in : (l : Bool) (stream : Stream) (bytes : List ℕ) (now : ℕ) (t : State) → Stands stream t → AreIn (turn_of l stream bytes now t ∷ [])
+one-in : (l : Bool) (stream : Stream) (bytes : List ℕ) (now : ℕ) (t : State) → Stands stream t → AreIn (stream_input l stream bytes now t ∷ [])
 one-in l stream bytes now t stands one (inl e) = rw e (λ z is. let same : stream ≡ z = cc in subst (λ (x : Stream). Stands x t) same stands)
 one-in l stream bytes now t stands one (inr none) = absurd none
 
@@ -88,23 +88,23 @@ taken-in l stream now s stands = in_mode stream.mode l stream now (with_bytes st
 found-stands : (p : Stream → Bool) (stream : Stream) (s : State) → find p s.streams ≡ Some stream → Stands stream s
 found-stands p stream s e = (stream, has-contains stream s.streams (has-found p stream s.streams e).0, refl, refl)
 
-unless-in : (o : Option Payload) (later : List Turn) → AreIn later → AreIn (unless_given o later)
+unless-in : (o : Option Payload) (later : List Input) → AreIn later → AreIn (unless_given o later)
 unless-in (Some payload) later in_later = none-in
 unless-in None later in_later = in_later
 
-turns-in : (n now : ℕ) (s : State) → AreIn (turns_taken n now s)
-unfolding turns_taken
+turns-in : (n now : ℕ) (s : State) → AreIn (inputs_taken n now s)
+unfolding inputs_taken
 turns-in zero now s = none-in
 turns-in (suc n) now s = by (find is_ready s.streams) refl (λ t. turns-in n now t)
   where
-    by : (o : Option Stream) → find is_ready s.streams ≡ o → ((t : State) → AreIn (turns_taken n now t)) → AreIn (taken_first (turns_taken n now) now s o)
+    by : (o : Option Stream) → find is_ready s.streams ≡ o → ((t : State) → AreIn (inputs_taken n now t)) → AreIn (taken_first (inputs_taken n now) now s o)
     by None e more = none-in
     by (Some stream) e more =
-        let next = turns_taken n now (turn stream now s).1 in
+        let next = inputs_taken n now (turn stream now s).1 in
         let o = payload_in (turn stream now s).0 in
         append-in (taken false stream now s) (unless_given o next) (taken-in false stream now s (found-stands is_ready stream s e)) (unless-in o next (more (turn stream now s).1))
 
-poll_recv-in : (now : ℕ) (s : State) → AreIn (poll_recv_turns now s)
+poll_recv-in : (now : ℕ) (s : State) → AreIn (poll_recv_inputs now s)
 poll_recv-in now s = turns-in _ now s
 
 then-in : (now : ℕ) (p : Outcome × State) → AreIn (then_taken now p)
@@ -113,7 +113,7 @@ then-in now (PeerIcmp transport peer icmp, t) = none-in
 then-in now (Handled, t) = poll_recv-in now t
 then-in now (Ignored, t) = poll_recv-in now t
 
-piece_in_mode : (m : Mode) (stream : Stream) (piece : List ℕ) (now : ℕ) (s : State) → Stands (record stream { mode = m }) s → AreIn (piece_turns (record stream { mode = m }) piece now s)
+piece_in_mode : (m : Mode) (stream : Stream) (piece : List ℕ) (now : ℕ) (s : State) → Stands (record stream { mode = m }) s → AreIn (piece_inputs (record stream { mode = m }) piece now s)
 piece_in_mode Control stream piece now s stands =
     let u = record stream { mode = Control } in
     append-in (fed_taken u piece now s) (then_taken now (first_turn u piece now s)) (taken-in (is_front u.bytes) (fed u piece) now s stands) (then-in now (first_turn u piece now s))
@@ -121,26 +121,26 @@ piece_in_mode Waiting stream piece now s stands = let u = record stream { mode =
 piece_in_mode (Bound peer) stream piece now s stands = let u = record stream { mode = Bound peer } in taken-in (is_front u.bytes) (fed u piece) now s stands
 piece_in_mode Broken stream piece now s stands = by (same_address stream.local s.local)
   where
-    by : (b : Bool) → AreIn (cond b (poll_recv_turns now s) [])
+    by : (b : Bool) → AreIn (cond b (poll_recv_inputs now s) [])
     by true = poll_recv-in now s
     by false = none-in
 
-stream-in : (stream : Stream) (piece : List ℕ) (now : ℕ) (s : State) → Stands stream s → AreIn (stream_turns stream piece now s)
+stream-in : (stream : Stream) (piece : List ℕ) (now : ℕ) (s : State) → Stands stream s → AreIn (stream_inputs stream piece now s)
 stream-in stream [] now s stands = none-in
 stream-in stream (b ∷ bs) now s stands = piece_in_mode stream.mode stream (b ∷ bs) now s stands
 
 -- a datagram is of no stream
-datagram-in : (one : Turn) → one.stream ≡ None → AreIn (one ∷ [])
+datagram-in : (one : Input) → one.stream ≡ None → AreIn (one ∷ [])
 datagram-in one none other (inl e) = rw e (λ stream is. let no_stream : None ≡ Some stream = sym none ∙ is in cc)
 datagram-in one none other (inr h) = absurd h
 
-recv_over : (carrier : TransportType) (transport : TransportType) (from to : SocketAddr) (bytes : List ℕ) (now : ℕ) (s : State) → AreIn (recv_turns transport from to bytes now (record s { transport = carrier }))
+recv_over : (carrier : TransportType) (transport : TransportType) (from to : SocketAddr) (bytes : List ℕ) (now : ℕ) (s : State) → AreIn (recv_inputs transport from to bytes now (record s { transport = carrier }))
 recv_over Udp transport from to bytes now s = by (is_from_server transport from u) (same_address to s.local)
   where
     u : State
     u = record s { transport = Udp }
 
-    one : Turn
+    one : Input
     one = record { stream = None; bytes = bytes; is_lent = true; moment = now; before = u }
 
     by : (b c : Bool) → AreIn (cond b (cond c (one ∷ []) []) [])
@@ -152,9 +152,9 @@ recv_over Tcp transport from to bytes now s = by (is_from_server transport from 
     u : State
     u = record s { transport = Tcp }
 
-    turns_by : Option Stream → List Turn
+    turns_by : Option Stream → List Input
     turns_by None = []
-    turns_by (Some stream) = stream_turns stream bytes now u
+    turns_by (Some stream) = stream_inputs stream bytes now u
 
     by : (b : Bool) (o : Option Stream) → stream_at to s ≡ o → AreIn (cond b (turns_by o) [])
     by true (Some stream) e = stream-in stream bytes now u (found-stands (λ (x : Stream). same_address x.local to) stream u e)
@@ -189,7 +189,7 @@ module _ (payload : Payload) where
   no_icmp false transport peer icmp e = cc
 
   -- a whole message or a ChannelData message
-  through : (one : Turn) (o : Outcome) → IsLetThrough one.bytes one.before o → Gives one.is_lent o → IsOfLetIn payload.peer one
+  through : (one : Input) (o : Outcome) → IsLetThrough one.bytes one.before o → Gives one.is_lent o → IsOfLetIn payload.peer one
   through one (PeerData p) exact gives = subst (λ (peer : SocketAddr). IsOfLetIn peer one) (peer-same one.is_lent p payload gives) (by exact)
     where
       by : IsLetThrough one.bytes one.before (PeerData p) → IsOfLetIn p.peer one
@@ -200,16 +200,16 @@ module _ (payload : Payload) where
   through one (PeerIcmp transport peer icmp) exact gives = absurd (no_icmp one.is_lent transport peer icmp gives)
 
   -- what no peer sent is no payload
-  nobody : (one : Turn) (o : Outcome) → IsNobodys o → Gives one.is_lent o → IsOfLetIn payload.peer one
+  nobody : (one : Input) (o : Outcome) → IsNobodys o → Gives one.is_lent o → IsOfLetIn payload.peer one
   nobody one (PeerData p) none gives = absurd none
   nobody one Handled none gives = absurd (nothing one.is_lent (inl gives))
   nobody one Ignored none gives = absurd (nothing one.is_lent (inr gives))
   nobody one (PeerIcmp transport peer icmp) none gives = absurd none
 
-  stream_in_mode : (m : Mode) (stream : Stream) (t : Turn) → turn_payload (record t { stream = Some (record stream { mode = m }) }) ≡ Some payload → IsLetInTurn (record t { stream = Some (record stream { mode = m }) }) → IsIn (record t { stream = Some (record stream { mode = m }) }) → IsOfLetIn payload.peer (record t { stream = Some (record stream { mode = m }) })
-  stream_in_mode Control stream t gives exact is = let one = record t { stream = Some (record stream { mode = Control }) } in through one (made_of one).0 exact gives
-  stream_in_mode Waiting stream t gives exact is = let one = record t { stream = Some (record stream { mode = Waiting }) } in nobody one (made_of one).0 exact gives
-  stream_in_mode Broken stream t gives exact is = let one = record t { stream = Some (record stream { mode = Broken }) } in nobody one (made_of one).0 exact gives
+  stream_in_mode : (m : Mode) (stream : Stream) (t : Input) → input_payload (record t { stream = Some (record stream { mode = m }) }) ≡ Some payload → IsLetInTurn (record t { stream = Some (record stream { mode = m }) }) → IsIn (record t { stream = Some (record stream { mode = m }) }) → IsOfLetIn payload.peer (record t { stream = Some (record stream { mode = m }) })
+  stream_in_mode Control stream t gives exact is = let one = record t { stream = Some (record stream { mode = Control }) } in through one (processed one).0 exact gives
+  stream_in_mode Waiting stream t gives exact is = let one = record t { stream = Some (record stream { mode = Waiting }) } in nobody one (processed one).0 exact gives
+  stream_in_mode Broken stream t gives exact is = let one = record t { stream = Some (record stream { mode = Broken }) } in nobody one (processed one).0 exact gives
   stream_in_mode (Bound peer) stream t gives exact is =
       let u = record stream { mode = Bound peer } in
       let one = record t { stream = Some u } in
@@ -219,19 +219,19 @@ module _ (payload : Payload) where
       bound : Stands (record stream { mode = Bound peer }) t.before → IsBoundAt stream.local peer t.before
       bound (x, there, at, mode) = (x, there, at, mode)
 
-  let-in : (one : Turn) → turn_payload one ≡ Some payload → IsLetInTurn one → IsIn one → IsOfLetIn payload.peer one
+  let-in : (one : Input) → input_payload one ≡ Some payload → IsLetInTurn one → IsIn one → IsOfLetIn payload.peer one
   let-in one = by one.stream one
     where
-      by : (o : Option Stream) (t : Turn) → turn_payload (record t { stream = o }) ≡ Some payload → IsLetInTurn (record t { stream = o }) → IsIn (record t { stream = o }) → IsOfLetIn payload.peer (record t { stream = o })
-      by None t gives exact is = let one = record t { stream = None } in through one (made_of one).0 exact gives
+      by : (o : Option Stream) (t : Input) → input_payload (record t { stream = o }) ≡ Some payload → IsLetInTurn (record t { stream = o }) → IsIn (record t { stream = o }) → IsOfLetIn payload.peer (record t { stream = o })
+      by None t gives exact is = let one = record t { stream = None } in through one (processed one).0 exact gives
       by (Some stream) t gives exact is = stream_in_mode stream.mode stream t gives exact is
 
   -- ---- a call, and a run
 
   by-call : (call : Call) (s : State) → Contains (payloads_by call s) payload → IsAmong (InputDelivers payload) (handled call s)
-  by-call call s there = by (has-filter_map turn_payload payload (handled call s) (contains-has payload (payloads_by call s) there))
+  by-call call s there = by (has-filter_map input_payload payload (handled call s) (contains-has payload (payloads_by call s) there))
     where
-      by : (one : Turn) × Has one (handled call s) × (turn_payload one ≡ Some payload) → IsAmong (InputDelivers payload) (handled call s)
+      by : (one : Input) × Has one (handled call s) × (input_payload one ≡ Some payload) → IsAmong (InputDelivers payload) (handled call s)
       by (one, among, gives) =
           let exact = turn-IsLetIn one in
           has-among (InputDelivers payload) (handled call s) (one, among, record { given = gives; exact = exact; let_in = let-in one gives exact (call-in call s one among) })
@@ -240,7 +240,7 @@ module _ (payload : Payload) where
   received s [] there = absurd (contains-has payload [] there)
   received s (call ∷ calls) there = by (received (state_after call s) calls) (Contains-append_cases (payloads_by call s) (payloads_in (state_after call s) calls) payload there)
     where
-      more : List Turn
+      more : List Input
       more = handled_in (state_after call s) calls
 
       by : (Contains (payloads_in (state_after call s) calls) payload → IsDeliveredIn payload (state_after call s) calls) → Contains (payloads_by call s) payload ⊎ Contains (payloads_in (state_after call s) calls) payload → IsDeliveredIn payload s (call ∷ calls)
@@ -260,27 +260,27 @@ all-answered s (call ∷ calls) = rw (call-answered call s, all-answered (state_
 
 -- ---- ICMP reports
 
-tells-through : (one : Turn) (o : Outcome) → (made_of one).0 ≡ o → IsLetThrough one.bytes one.before o → TellsOfPermitted one
+tells-through : (one : Input) (o : Outcome) → (processed one).0 ≡ o → IsLetThrough one.bytes one.before o → TellsOfPermitted one
 tells-through one (PeerIcmp transport peer icmp) e (indicated, is) = rw e (indicated, is)
 tells-through one (PeerData payload) e exact = rw e tt
 tells-through one Handled e exact = rw e tt
 tells-through one Ignored e exact = rw e tt
 
-tells-nothing : (one : Turn) (o : Outcome) → (made_of one).0 ≡ o → IsNobodys o → TellsOfPermitted one
+tells-nothing : (one : Input) (o : Outcome) → (processed one).0 ≡ o → IsNobodys o → TellsOfPermitted one
 tells-nothing one (PeerIcmp transport peer icmp) e none = absurd none
 tells-nothing one (PeerData payload) e none = absurd none
 tells-nothing one Handled e none = rw e tt
 tells-nothing one Ignored e none = rw e tt
 
-tells_in_mode : (m : Mode) (stream : Stream) (t : Turn) → IsLetInTurn (record t { stream = Some (record stream { mode = m }) }) → TellsOfPermitted (record t { stream = Some (record stream { mode = m }) })
-tells_in_mode Control stream t exact = let one = record t { stream = Some (record stream { mode = Control }) } in tells-through one (made_of one).0 refl exact
-tells_in_mode Waiting stream t exact = let one = record t { stream = Some (record stream { mode = Waiting }) } in tells-nothing one (made_of one).0 refl exact
+tells_in_mode : (m : Mode) (stream : Stream) (t : Input) → IsLetInTurn (record t { stream = Some (record stream { mode = m }) }) → TellsOfPermitted (record t { stream = Some (record stream { mode = m }) })
+tells_in_mode Control stream t exact = let one = record t { stream = Some (record stream { mode = Control }) } in tells-through one (processed one).0 refl exact
+tells_in_mode Waiting stream t exact = let one = record t { stream = Some (record stream { mode = Waiting }) } in tells-nothing one (processed one).0 refl exact
 tells_in_mode (Bound peer) stream t exact = tt
 tells_in_mode Broken stream t exact = tt
 
-pub tells-permitted : (one : Turn) → TellsOfPermitted one
+pub tells-permitted : (one : Input) → TellsOfPermitted one
 tells-permitted one = by one.stream one (turn-IsLetIn one)
   where
-    by : (o : Option Stream) (t : Turn) → IsLetInTurn (record t { stream = o }) → TellsOfPermitted (record t { stream = o })
-    by None t exact = let u = record t { stream = None } in tells-through u (made_of u).0 refl exact
+    by : (o : Option Stream) (t : Input) → IsLetInTurn (record t { stream = o }) → TellsOfPermitted (record t { stream = o })
+    by None t exact = let u = record t { stream = None } in tells-through u (processed u).0 refl exact
     by (Some stream) t exact = tells_in_mode stream.mode stream t exact

@@ -10,8 +10,8 @@ use Rattle.turn_client_api.specs.declared.state.Stream.{Stream}
 use Rattle.turn_client_api.specs.declared.call.Call.{Call}
 use Rattle.turn_client_api.specs.Connections.{bind_step}
 use Rattle.turn_client_api.specs.Payloads.{Outcome, Handled, Ignored, channel_sent, is_channel_frame, is_message, message_step}
-use Rattle.turn_client_api.specs.Handled.{Turn, handled, made_of}
-use Rattle.turn_client_api.specs.LawsHandled.{DiffersInStreams, DoesTurns, TakesTurns, TurnsLead}
+use Rattle.turn_client_api.specs.Handled.{Input, handled, processed}
+use Rattle.turn_client_api.specs.LawsHandled.{DiffersInStreams, ProcessesInputs, TakesInput, InputsLead}
 use Rattle.turn_client_api.specs.LawsSteps.{KeepsRealm}
 use Rattle.turn_client_api.specs.Steps.{state_after, state_after_all}
 use Rattle.turn_client_api.proofs.HasLemmas.{Has, has-append}
@@ -35,7 +35,7 @@ differs-realm s t differs c e = (c, ap (λ (x : State). x.held) differs.others �
 
 -- ---- one input
 
-turn_in_mode : (m : Mode) (one : Turn) (stream : Stream) → KeepsRealm one.before (made_of (record one { stream = Some (record stream { mode = m }) })).1
+turn_in_mode : (m : Mode) (one : Input) (stream : Stream) → KeepsRealm one.before (processed (record one { stream = Some (record stream { mode = m }) })).1
 turn_in_mode Control one stream = by (not (begins_message one.bytes)) (is_message one.bytes)
   where
     by : (b c : Bool) → KeepsRealm one.before (cond {A = Outcome × State} b (channel_sent one.before one.bytes, one.before) (cond {A = Outcome × State} c (message_step one.bytes one.moment one.before) (Handled, one.before))).1
@@ -51,7 +51,7 @@ turn_in_mode Waiting one stream = by (not (begins_message one.bytes)) (is_messag
 turn_in_mode (Bound peer) one stream = same-realm one.before
 turn_in_mode Broken one stream = same-realm one.before
 
-turn-realm : (one : Turn) → KeepsRealm one.before (made_of one).1
+turn-realm : (one : Input) → KeepsRealm one.before (processed one).1
 turn-realm one = by one.stream
   where
     datagram : (b c : Bool) → KeepsRealm one.before (cond {A = Outcome × State} b (message_step one.bytes one.moment one.before) (cond {A = Outcome × State} c (channel_sent one.before one.bytes, one.before) (Ignored, one.before))).1
@@ -59,40 +59,40 @@ turn-realm one = by one.stream
     datagram false true = same-realm one.before
     datagram false false = same-realm one.before
 
-    by : (o : Option Stream) → KeepsRealm one.before (made_of (record one { stream = o })).1
+    by : (o : Option Stream) → KeepsRealm one.before (processed (record one { stream = o })).1
     by None = datagram (is_message one.bytes) (is_channel_frame one.bytes)
     by (Some stream) = turn_in_mode stream.mode one stream
 
 -- ---- inputs in sequence
 
-lead-realm : (turns : List Turn) (s t : State) → TurnsLead turns s t → KeepsRealm s t
+lead-realm : (turns : List Input) (s t : State) → InputsLead turns s t → KeepsRealm s t
 lead-realm [] s t lead = differs-realm s t lead
 lead-realm (one ∷ later) s t (first, lead) =
     then-realm s one.before t (differs-realm s one.before first)
-    (then-realm one.before (made_of one).1 t (turn-realm one) (lead-realm later (made_of one).1 t lead))
+    (then-realm one.before (processed one).1 t (turn-realm one) (lead-realm later (processed one).1 t lead))
 
 -- realm and algorithm stay up to the input, and after it
-abbrev Stays : State → State → Turn → Type 0
-Stays s t one = KeepsRealm s one.before × KeepsRealm (made_of one).1 t
+abbrev Stays : State → State → Input → Type 0
+Stays s t one = KeepsRealm s one.before × KeepsRealm (processed one).1 t
 
-lead-turn : (turns : List Turn) (s t : State) → TurnsLead turns s t → (one : Turn) → Has one turns → Stays s t one
+lead-turn : (turns : List Input) (s t : State) → InputsLead turns s t → (one : Input) → Has one turns → Stays s t one
 lead-turn [] s t lead one there = absurd there
 lead-turn (other ∷ later) s t (first, lead) one (inl e) =
-    rw e (differs-realm s other.before first, lead-realm later (made_of other).1 t lead)
+    rw e (differs-realm s other.before first, lead-realm later (processed other).1 t lead)
 lead-turn (other ∷ later) s t (first, lead) one (inr there) =
-    let rest = lead-turn later (made_of other).1 t lead one there in
-    (then-realm s other.before one.before (differs-realm s other.before first) (then-realm other.before (made_of other).1 one.before (turn-realm other) rest.0), rest.1)
+    let rest = lead-turn later (processed other).1 t lead one there in
+    (then-realm s other.before one.before (differs-realm s other.before first) (then-realm other.before (processed other).1 one.before (turn-realm other) rest.0), rest.1)
 
 -- ---- a run
 
-call-turn : (call : Call) (s : State) (one : Turn) → Has one (handled call s) → Stays s (state_after call s) one
+call-turn : (call : Call) (s : State) (one : Input) → Has one (handled call s) → Stays s (state_after call s) one
 call-turn call s one there = by (takes-or call)
   where
-    does : DoesTurns call s → Stays s (state_after call s) one
+    does : ProcessesInputs call s → Stays s (state_after call s) one
     does (inl lead) = lead-turn (handled call s) s (state_after call s) lead one there
     does (inr end) = absurd (rw end.nothing at there)
 
-    by : TakesTurns call ⊎ ((u : State) → handled call u ≡ []) → Stays s (state_after call s) one
+    by : TakesInput call ⊎ ((u : State) → handled call u ≡ []) → Stays s (state_after call s) one
     by (inl takes) = does (calls-do call s takes)
     by (inr none) = absurd (rw (none s) at there)
 
@@ -100,7 +100,7 @@ behind-realm : (s : State) (calls : List Call) → KeepsRealm s (state_after_all
 behind-realm s [] = same-realm s
 behind-realm s (call ∷ calls) = then-realm s (state_after call s) (state_after_all (state_after call s) calls) (call-keeps call s).2 (behind-realm (state_after call s) calls)
 
-run-turn : (s : State) (calls : List Call) (one : Turn) → Has one (handled_in s calls) → Stays s (state_after_all s calls) one
+run-turn : (s : State) (calls : List Call) (one : Input) → Has one (handled_in s calls) → Stays s (state_after_all s calls) one
 run-turn s [] one there = absurd there
 run-turn s (call ∷ calls) one there = by (λ later. run-turn (state_after call s) calls one later) (has-append one (handled call s) (handled_in (state_after call s) calls) there)
   where
@@ -108,13 +108,13 @@ run-turn s (call ∷ calls) one there = by (λ later. run-turn (state_after call
     t = state_after call s
 
     by : (Has one (handled_in t calls) → Stays t (state_after_all t calls) one) → Has one (handled call s) ⊎ Has one (handled_in t calls) → Stays s (state_after_all t calls) one
-    by more (inl here) = let now = call-turn call s one here in (now.0, then-realm (made_of one).1 t (state_after_all t calls) now.1 (behind-realm t calls))
+    by more (inl here) = let now = call-turn call s one here in (now.0, then-realm (processed one).1 t (state_after_all t calls) now.1 (behind-realm t calls))
     by more (inr later) = let rest = more later in (then-realm s t one.before (call-keeps call s).2 rest.0, rest.1)
 
-pub turns-realm : (s : State) (calls : List Call) (one : Turn) → Contains (handled_in s calls) one → KeepsRealm s one.before × KeepsRealm one.before (state_after_all s calls)
+pub turns-realm : (s : State) (calls : List Call) (one : Input) → Contains (handled_in s calls) one → KeepsRealm s one.before × KeepsRealm one.before (state_after_all s calls)
 turns-realm s calls one there =
     let stays = run-turn s calls one (contains-has one (handled_in s calls) there) in
-    (stays.0, then-realm one.before (made_of one).1 (state_after_all s calls) (turn-realm one) stays.1)
+    (stays.0, then-realm one.before (processed one).1 (state_after_all s calls) (turn-realm one) stays.1)
 
-pub turns-after : (s : State) (calls : List Call) (one : Turn) → Contains (handled_in s calls) one → KeepsRealm (made_of one).1 (state_after_all s calls)
+pub turns-after : (s : State) (calls : List Call) (one : Input) → Contains (handled_in s calls) one → KeepsRealm (processed one).1 (state_after_all s calls)
 turns-after s calls one there = (run-turn s calls one (contains-has one (handled_in s calls) there)).1

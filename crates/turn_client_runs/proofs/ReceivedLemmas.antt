@@ -11,7 +11,7 @@ use Rattle.turn_client_api.specs.declared.state.Stream.{Stream}
 use Rattle.turn_client_api.specs.Calls.{with_stream}
 use Rattle.turn_client_api.specs.Connections.{connection_at}
 use Rattle.turn_client_api.specs.Grants.{is_connection_from, without}
-use Rattle.turn_client_api.specs.Handled.{Turn, fed, fed_taken, frame_taken, is_front, piece_turns, poll_recv_turns, stream_turns, taken, taken_first, taken_in, taken_of_len, then_taken, turns_taken, unless_given}
+use Rattle.turn_client_api.specs.Handled.{Input, fed, fed_taken, frame_taken, is_front, piece_inputs, poll_recv_inputs, stream_inputs, taken, taken_first, taken_in, taken_of_len, then_taken, inputs_taken, unless_given}
 use Rattle.turn_client_api.specs.Payloads.{Payload, Outcome, Handled, Ignored, PeerData, PeerIcmp}
 use Rattle.turn_client_api.specs.Receive.{connection_gone, first_turn, piece_step, stream_step, then_all}
 use Rattle.turn_client_api.specs.Streams.{broken_at, frame_step, framed_by, framed_turn, go_on, is_ready, most_turns, payload_in, poll_recv_step, turn, turn_of_first, turned, turns_until_payload, with_bytes, without_stream}
@@ -103,23 +103,23 @@ module _ (Known : SocketAddr → List ℕ → Type 0) (none : (a : SocketAddr) �
   -- ---- the inputs of a call
 
   -- for what its stream holds
-  abbrev pub KnownTurn : Turn → Type 0
+  abbrev pub KnownTurn : Input → Type 0
   KnownTurn one = (stream : Stream) → one.stream ≡ Some stream → Known stream.local stream.bytes
 
-  abbrev pub KnownTurns : List Turn → Type 0
-  KnownTurns turns = (one : Turn) → Has one turns → KnownTurn one
+  abbrev pub KnownTurns : List Input → Type 0
+  KnownTurns turns = (one : Input) → Has one turns → KnownTurn one
 
   no-turns : KnownTurns []
   no-turns one there = absurd there
 
-  one-turn : (one : Turn) (stream : Stream) → one.stream ≡ Some stream → Known stream.local stream.bytes → KnownTurns (one ∷ [])
-  one-turn one stream of is x (inl same) other e = subst (λ (z : Stream). Known z.local z.bytes) (both (sym of ∙ (sym (ap (λ (y : Turn). y.stream) same) ∙ e))) is
+  one-turn : (one : Input) (stream : Stream) → one.stream ≡ Some stream → Known stream.local stream.bytes → KnownTurns (one ∷ [])
+  one-turn one stream of is x (inl same) other e = subst (λ (z : Stream). Known z.local z.bytes) (both (sym of ∙ (sym (ap (λ (y : Input). y.stream) same) ∙ e))) is
     where
       both : Some stream ≡ Some other → stream ≡ other
       both h = cc
   one-turn one stream of is x (inr absent) other e = absurd absent
 
-  joined-turns : (xs ys : List Turn) → KnownTurns xs → KnownTurns ys → KnownTurns (xs ++ ys)
+  joined-turns : (xs ys : List Input) → KnownTurns xs → KnownTurns ys → KnownTurns (xs ++ ys)
   joined-turns xs ys k l one there = by (has-append one xs ys there)
     where
       by : Has one xs ⊎ Has one ys → KnownTurn one
@@ -147,50 +147,50 @@ module _ (Known : SocketAddr → List ℕ → Type 0) (none : (a : SocketAddr) �
   taken-turns is_lent stream now s is = mode-turns stream.mode is_lent stream now (with_bytes stream.local [] s) is
 
   -- what the call processes is known, and so is what its streams hold after it
-  abbrev pub Goes : List Turn → State → Type 0
+  abbrev pub Goes : List Input → State → Type 0
   Goes turns t = KnownTurns turns × AllKnown t.streams
 
-  go_on-known : (next : State → Option Payload × State) (later : State → List Turn) (front : List Turn) (p : Outcome × State) → Goes front p.1 → ((t : State) → AllKnown t.streams → Goes (later t) (next t).1)
+  go_on-known : (next : State → Option Payload × State) (later : State → List Input) (front : List Input) (p : Outcome × State) → Goes front p.1 → ((t : State) → AllKnown t.streams → Goes (later t) (next t).1)
       → Goes (front ++ unless_given (payload_in p.0) (later p.1)) (go_on next p).1
   go_on-known next later front (PeerData payload, t) first more = (joined-turns front [] first.0 no-turns, first.1)
   go_on-known next later front (Handled, t) first more = let rest = more t first.1 in (joined-turns front (later t) first.0 rest.0, rest.1)
   go_on-known next later front (Ignored, t) first more = let rest = more t first.1 in (joined-turns front (later t) first.0 rest.0, rest.1)
   go_on-known next later front (PeerIcmp transport peer icmp, t) first more = let rest = more t first.1 in (joined-turns front (later t) first.0 rest.0, rest.1)
 
-  turns-known : (n now : ℕ) (s : State) → AllKnown s.streams → Goes (turns_taken n now s) (turns_until_payload n now s).1
-  unfolding turns_taken turns_until_payload
+  turns-known : (n now : ℕ) (s : State) → AllKnown s.streams → Goes (inputs_taken n now s) (turns_until_payload n now s).1
+  unfolding inputs_taken turns_until_payload
   turns-known zero now s all = (no-turns, all)
   turns-known (suc n) now s all = by (find is_ready s.streams) refl (λ t known. turns-known n now t known)
     where
-      by : (o : Option Stream) → find is_ready s.streams ≡ o → ((t : State) → AllKnown t.streams → Goes (turns_taken n now t) (turns_until_payload n now t).1)
-          → Goes (taken_first (turns_taken n now) now s o) (turn_of_first (turns_until_payload n now) now s o).1
+      by : (o : Option Stream) → find is_ready s.streams ≡ o → ((t : State) → AllKnown t.streams → Goes (inputs_taken n now t) (turns_until_payload n now t).1)
+          → Goes (taken_first (inputs_taken n now) now s o) (turn_of_first (turns_until_payload n now) now s o).1
       by None e more = (no-turns, all)
       by (Some stream) e more =
           let is = all stream (has-found is_ready stream s.streams e).0 in
-          go_on-known (turns_until_payload n now) (turns_taken n now) (taken false stream now s) (turn stream now s)
+          go_on-known (turns_until_payload n now) (inputs_taken n now) (taken false stream now s) (turn stream now s)
           (taken-turns false stream now s is, turn-known stream now s is (all-others stream.local s.streams all)) more
 
-  pub poll-known : (now : ℕ) (s : State) → AllKnown s.streams → Goes (poll_recv_turns now s) (poll_recv_step now s).1
+  pub poll-known : (now : ℕ) (s : State) → AllKnown s.streams → Goes (poll_recv_inputs now s) (poll_recv_step now s).1
   poll-known now s all = turns-known (most_turns s) now s all
 
   -- ---- a piece
 
-  then-known : (now : ℕ) (front : List Turn) (p : Outcome × State) → Goes front p.1 → Goes (front ++ then_taken now p) (then_all now p).1
+  then-known : (now : ℕ) (front : List Input) (p : Outcome × State) → Goes front p.1 → Goes (front ++ then_taken now p) (then_all now p).1
   then-known now front (PeerData payload, t) first = (joined-turns front [] first.0 no-turns, first.1)
   then-known now front (PeerIcmp transport peer icmp, t) first = (joined-turns front [] first.0 no-turns, first.1)
-  then-known now front (Handled, t) first = let rest = poll-known now t first.1 in (joined-turns front (poll_recv_turns now t) first.0 rest.0, rest.1)
-  then-known now front (Ignored, t) first = let rest = poll-known now t first.1 in (joined-turns front (poll_recv_turns now t) first.0 rest.0, rest.1)
+  then-known now front (Handled, t) first = let rest = poll-known now t first.1 in (joined-turns front (poll_recv_inputs now t) first.0 rest.0, rest.1)
+  then-known now front (Ignored, t) first = let rest = poll-known now t first.1 in (joined-turns front (poll_recv_inputs now t) first.0 rest.0, rest.1)
 
   fed-known : (stream : Stream) (piece : List ℕ) (now : ℕ) (s : State) → Known stream.local (stream.bytes ++ piece) → OthersKnown stream.local s.streams → Goes (fed_taken stream piece now s) (first_turn stream piece now s).1
   fed-known stream piece now s is others = (taken-turns (is_front stream.bytes) (fed stream piece) now s is, turn-known (fed stream piece) now s is others)
 
-  broken-turns : (b : Bool) (now : ℕ) (s : State) → AllKnown s.streams → Goes (cond b (poll_recv_turns now s) []) (cond {A = Outcome × State} b (then_all now (Handled, s)) (Handled, s)).1
+  broken-turns : (b : Bool) (now : ℕ) (s : State) → AllKnown s.streams → Goes (cond b (poll_recv_inputs now s) []) (cond {A = Outcome × State} b (then_all now (Handled, s)) (Handled, s)).1
   broken-turns true now s all = then-known now [] (Handled, s) (no-turns, all)
   broken-turns false now s all = (no-turns, all)
 
   -- a broken stream stores nothing
   piece-known : (m : Mode) (stream : Stream) (piece : List ℕ) (now : ℕ) (s : State) → (m ≡ Broken → AllKnown s.streams) → Known stream.local (stream.bytes ++ unless_broken m piece) → OthersKnown stream.local s.streams
-      → Goes (piece_turns (record stream { mode = m }) piece now s) (piece_step (record stream { mode = m }) piece now s).1
+      → Goes (piece_inputs (record stream { mode = m }) piece now s) (piece_step (record stream { mode = m }) piece now s).1
   piece-known Control stream piece now s broken is others =
       let u = record stream { mode = Control } in
       then-known now (fed_taken u piece now s) (first_turn u piece now s) (fed-known u piece now s is others)
@@ -212,7 +212,7 @@ module _ (Known : SocketAddr → List ℕ → Type 0) (none : (a : SocketAddr) �
   end-known a s all = filter-known _ (connection_gone a s).streams (subst AllKnown (sym (gone-streams a s)) all)
 
   pub stream-known : (stream : Stream) (piece : List ℕ) (now : ℕ) (s : State) → (piece ≡ [] → AllKnown s.streams) → (stream.mode ≡ Broken → AllKnown s.streams) → Known stream.local (stream.bytes ++ unless_broken stream.mode piece) → OthersKnown stream.local s.streams
-      → Goes (stream_turns stream piece now s) (stream_step stream piece now s).1
+      → Goes (stream_inputs stream piece now s) (stream_step stream piece now s).1
   stream-known stream [] now s empty broken is others = (no-turns, end-known stream.local s (empty refl))
   stream-known stream (b ∷ bs) now s empty broken is others = piece-known stream.mode stream (b ∷ bs) now s broken is others
 

@@ -14,8 +14,8 @@ use Rattle.turn_client_api.specs.declared.call.Call.TheVariants.{Delete, CreateP
 use Rattle.turn_client_api.specs.declared.state.Mode.{Mode}
 use Rattle.turn_client_api.specs.declared.state.Mode.TheVariants.{Control, Waiting, Bound, Broken}
 use Rattle.turn_client_api.specs.declared.state.Stream.{Stream}
-use Rattle.turn_client_api.specs.Handled.{Turn, handled, recv_turns, stream_turns}
-use Rattle.turn_client_api.specs.LawsHandled.{TakesTurns}
+use Rattle.turn_client_api.specs.Handled.{Input, handled, recv_inputs, stream_inputs}
+use Rattle.turn_client_api.specs.LawsHandled.{TakesInput}
 use Rattle.turn_client_api.specs.Payloads.{Outcome, Ignored, channel_sent, datagram_step, is_channel_frame, is_message, message_step}
 use Rattle.turn_client_api.specs.Receive.{is_from_server, recv_step, stream_step}
 use Rattle.turn_client_api.specs.Steps.{state_after, state_after_all}
@@ -43,12 +43,12 @@ less-ends all a n bytes (before, e) =
 abbrev Held : (SocketAddr → List ℕ) → List Stream → Type 0
 Held all xs = AllKnown (Ends all) (nothing-ends all) (less-ends all) xs
 
-abbrev Steps : (SocketAddr → List ℕ) → List Turn → State → Type 0
+abbrev Steps : (SocketAddr → List ℕ) → List Input → State → Type 0
 Steps all turns t = Goes (Ends all) (nothing-ends all) (less-ends all) turns t
 
 -- ---- a call
 
-quiet-piece : (a : SocketAddr) (call : Call) (s : State) → (TakesTurns call → ⊥) → piece_for a call s ≡ []
+quiet-piece : (a : SocketAddr) (call : Call) (s : State) → (TakesInput call → ⊥) → piece_for a call s ≡ []
 quiet-piece a (Recv packet now) s other = absurd (other tt)
 quiet-piece a (PollRecv now) s other = refl
 quiet-piece a (Delete now) s other = refl
@@ -77,13 +77,13 @@ module _ (all more : SocketAddr → List ℕ) where
   still-held : (xs : List Stream) (piece : SocketAddr → List ℕ) → ((a : SocketAddr) → more a ≡ all a ++ piece a) → ((a : SocketAddr) → piece a ≡ []) → Held all xs → Held more xs
   still-held xs piece e empty held x there = still-ends x.local (piece x.local) x.bytes (e x.local) (empty x.local) (held x there)
 
-  quiet-steps : (call : Call) (s : State) → (TakesTurns call → ⊥) → ((a : SocketAddr) → more a ≡ all a ++ piece_for a call s) → Held all s.streams → Steps more (handled call s) (state_after call s)
+  quiet-steps : (call : Call) (s : State) → (TakesInput call → ⊥) → ((a : SocketAddr) → more a ≡ all a ++ piece_for a call s) → Held all s.streams → Steps more (handled call s) (state_after call s)
   quiet-steps call s other e held = (none, by (others-opened call s other))
     where
       before : Held more s.streams
       before = still-held s.streams (λ a. piece_for a call s) e (λ a. quiet-piece a call s other) held
 
-      none : (one : Turn) → Has one (handled call s) → (stream : Stream) → one.stream ≡ Some stream → Ends more stream.local stream.bytes
+      none : (one : Input) → Has one (handled call s) → (stream : Stream) → one.stream ≡ Some stream → Ends more stream.local stream.bytes
       none one there = absurd (subst (Has one) (quiet call s other) there)
 
       by : IsOpened s (state_after call s) → Held more (state_after call s).streams
@@ -101,7 +101,7 @@ module _ (all more : SocketAddr → List ℕ) where
 
     -- for the stream at this local address
     fed-steps : (s : State) (stream : Stream) → stream_at packet.to s ≡ Some stream → ((a : SocketAddr) → more a ≡ all a ++ cond (same_address packet.to a) (unless_broken stream.mode packet.payload) []) → Held all s.streams
-        → Steps more (stream_turns stream packet.payload now s) (stream_step stream packet.payload now s).1
+        → Steps more (stream_inputs stream packet.payload now s) (stream_step stream packet.payload now s).1
     fed-steps s stream found e held = stream-known (Ends more) (nothing-ends more) (less-ends more) stream packet.payload now s empty broken is others
       where
         there : Has stream s.streams × (same_address stream.local packet.to ≡ true)
@@ -151,8 +151,8 @@ module _ (all more : SocketAddr → List ℕ) where
         (cond {A = Outcome × State} b (cond {A = Outcome × State} c (datagram_step packet.payload now s) (Ignored, s)) (Ignored, s)).1
     datagram-steps true true s held = (only, by (is_message packet.payload) (is_channel_frame packet.payload))
       where
-        only : (one : Turn) → Has one (record { stream = None; bytes = packet.payload; is_lent = true; moment = now; before = s } ∷ []) → (stream : Stream) → one.stream ≡ Some stream → Ends more stream.local stream.bytes
-        only one (inl e) stream of = absurd (no_stream (sym (ap (λ (x : Turn). x.stream) e) ∙ of))
+        only : (one : Input) → Has one (record { stream = None; bytes = packet.payload; is_lent = true; moment = now; before = s } ∷ []) → (stream : Stream) → one.stream ≡ Some stream → Ends more stream.local stream.bytes
+        only one (inl e) stream of = absurd (no_stream (sym (ap (λ (x : Input). x.stream) e) ∙ of))
           where
             no_stream : None ≡ Some stream → ⊥
             no_stream h = cc
@@ -166,7 +166,7 @@ module _ (all more : SocketAddr → List ℕ) where
     datagram-steps false c s held = (λ one absent. absurd absent, held)
 
     recv-steps : (carrier : TransportType) (s : State) → ((a : SocketAddr) → more a ≡ all a ++ piece_for a (Recv packet now) (record s { transport = carrier })) → Held all s.streams
-        → Steps more (recv_turns packet.transport packet.from packet.to packet.payload now (record s { transport = carrier }))
+        → Steps more (recv_inputs packet.transport packet.from packet.to packet.payload now (record s { transport = carrier }))
         (recv_step packet.transport packet.from packet.to packet.payload now (record s { transport = carrier })).1
     recv-steps Udp s e held =
         datagram-steps (is_from_server packet.transport packet.from u) (same_address packet.to s.local) u
@@ -191,7 +191,7 @@ module _ (all more : SocketAddr → List ℕ) where
         nowhere false = refl
 
         by : (b : Bool) → is_from_server packet.transport packet.from u ≡ b → (o : Option Stream) → stream_at packet.to s ≡ o
-            → Steps more (recv_turns packet.transport packet.from packet.to packet.payload now u) (recv_step packet.transport packet.from packet.to packet.payload now u).1
+            → Steps more (recv_inputs packet.transport packet.from packet.to packet.payload now u) (recv_step packet.transport packet.from packet.to packet.payload now u).1
         by false f o g = let nothing = none (λ a. rw f refl) in rw f nothing
         by true f None g = let nothing = none (λ a. rw (f, g) (nowhere (same_address packet.to a))) in rw (f, g) nothing
         by true f (Some stream) g = let fed = fed-steps u stream g (λ a. e a ∙ rw (f, g) refl) held in rw (f, g) fed
@@ -227,7 +227,7 @@ pieces-then a (x ∷ calls) call s =
 abbrev pub HoldNothing : State → Type 0
 HoldNothing s = (x : Stream) → Has x s.streams → x.bytes ≡ []
 
-pub turns-received : (earlier : List Call) (call : Call) (first : State) → HoldNothing first → (one : Turn) → Has one (handled call (state_after_all first earlier)) → IsReceived (earlier ++ call ∷ []) first one
+pub turns-received : (earlier : List Call) (call : Call) (first : State) → HoldNothing first → (one : Input) → Has one (handled call (state_after_all first earlier)) → IsReceived (earlier ++ call ∷ []) first one
 turns-received earlier call first empty one there = by one.stream refl
   where
     s : State

@@ -27,7 +27,7 @@ use Rattle.turn_client_api.specs.declared.state.Stream.{Stream}
 use Rattle.turn_client_api.specs.Connections.{attempt_indicated, attempt_requested, bind_again, bind_answered, bind_step, connection_at, is_connected, is_heeded, not_bound}
 use Rattle.turn_client_api.specs.Effect.{allocate_denied, allocate_granted, closed, ended, fail_all, family_not_supported, has_code, in_phase}
 use Rattle.turn_client_api.specs.Grants.{allocation_for, is_connection_from, is_for_allocation, purposes_of, unlisted, wait}
-use Rattle.turn_client_api.specs.Handled.{Turn, made_of}
+use Rattle.turn_client_api.specs.Handled.{Input, processed}
 use Rattle.turn_client_api.specs.Judgement.{Judgement, Unrelated, Challenged, Fatal, LateResponse, DataIndication, ConnectionAttempt, SignedRequest, SignedSuccess, SignedError, bind_judgement, connection_id_in, is_bind_of, judgement_of, lifetime_in, method_in, peer_in}
 use Rattle.turn_client_api.specs.LawsRequests.{IsMade}
 use Rattle.turn_client_api.specs.Payloads.{Outcome, Handled, Ignored, challenge_step, channel_sent, datagram_step, is_channel_frame, is_message, message_step, response_step, signed_step, wrong_step}
@@ -250,9 +250,9 @@ datagram-relists bytes now s =
     by_test (Relists bytes now s) (is_message bytes) (message_step bytes now s) _ (message-relists bytes now s)
     (by_test (Relists bytes now s) (is_channel_frame bytes) (channel_sent s bytes, s) (Ignored, s) (same bytes now s s refl) (same bytes now s s refl))
 
-pub turn-relists : (one : Turn) → Relists one.bytes one.moment one.before (made_of one).1
+pub turn-relists : (one : Input) → Relists one.bytes one.moment one.before (processed one).1
 turn-relists one = by one.stream
   where
-    by : (o : Option Stream) → Relists one.bytes one.moment one.before (made_of (record one { stream = o })).1
+    by : (o : Option Stream) → Relists one.bytes one.moment one.before (processed (record one { stream = o })).1
     by None = datagram-relists one.bytes one.moment one.before
     by (Some stream) = frame_in_mode stream.mode stream one.bytes one.moment one.before

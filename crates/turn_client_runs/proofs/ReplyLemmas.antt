@@ -8,8 +8,8 @@ use Rattle.turn_client_api.specs.Requests.{fresh_id}
 use Rattle.turn_client_api.specs.Judgement.{bind_judgement}
 use Rattle.turn_client_api.specs.Connections.{bind_answered, bind_step}
 use Rattle.turn_client_api.specs.Payloads.{Outcome, is_message, message_step}
-use Rattle.turn_client_api.specs.Handled.{Turn, made_of}
-use Rattle.turn_client_api.specs.LawsHandled.{TurnsLead}
+use Rattle.turn_client_api.specs.Handled.{Input, processed}
+use Rattle.turn_client_api.specs.LawsHandled.{InputsLead}
 use Rattle.turn_client_api.specs.LawsReplies.{IsAccepted, IsAwaited, IsDrawn, IsNotAwaited}
 use Rattle.turn_client_api.specs.Steps.{state_after, state_after_all}
 use Rattle.turn_client_api.specs.declared.call.Call.{Call}
@@ -19,7 +19,7 @@ use Rattle.turn_client_api.proofs.HasLemmas.{Has}
 use Rattle.turn_client_api.proofs.NewIdCallLemmas.{draws-IsBringing, leaves-draws}
 use Rattle.turn_client_api.proofs.TurnBringLemmas.{IsBrought, lead-brings}
 use Rattle.turn_client_api.proofs.TurnLemmas.{brought}
-use Rattle.turn_client_runs.specs.Replies.{AreReplies, EndsItsRequest, IsBindReply, IsMadeAmong, IsMadeBetween, IsMadeIn, IsMadeSince, IsMadeUntil, IsReplyTurn, MakesInTurn}
+use Rattle.turn_client_runs.specs.Replies.{AreReplies, EndsItsRequest, IsBindReply, IsMadeAmong, IsMadeBetween, IsMadeIn, IsMadeSince, IsMadeUntil, IsReplyInput, InputMakesRequest}
 use Rattle.turn_client_runs.proofs.MadeLemmas.{control-made, waiting-made}
 use Rattle.turn_client_runs.proofs.TurnsOfRuns.{handled-leads, has-among, leads-from, leads-to}
 
@@ -29,11 +29,11 @@ unlike : true ≡ false → ⊥
 unlike e = cc
 
 -- on a connection that waits it is awaited no longer
-pub bind-reply-ended : (one : Turn) → IsBindReply one → IsNotAwaited one.bytes (made_of one).1
+pub bind-reply-ended : (one : Input) → IsBindReply one → IsNotAwaited one.bytes (processed one).1
 bind-reply-ended one b =
     subst (λ (t : State). IsNotAwaited one.bytes t) (sym (made ∙ answered)) (bind-ended b.connection one.bytes one.moment one.before accepted)
   where
-    made : (made_of one).1 ≡ bind_step b.local one.bytes one.moment one.before
+    made : (processed one).1 ≡ bind_step b.local one.bytes one.moment one.before
     made = waiting-made b.local one b.over b.whole
 
     answered : bind_step b.local one.bytes one.moment one.before ≡ bind_answered b.connection one.bytes one.moment one.before
@@ -42,7 +42,7 @@ bind-reply-ended one b =
     accepted : IsAccepted (bind_judgement one.before b.connection.local one.bytes)
     accepted = subst (λ (local : SocketAddr). IsAccepted (bind_judgement one.before local one.bytes)) (sym (found-local b.local b.connection _ b.found)) b.accepted
 
-pub reply-ends : (one : Turn) → IsReplyTurn one → EndsItsRequest one
+pub reply-ends : (one : Input) → IsReplyInput one → EndsItsRequest one
 reply-ends one (inl c) = (
   accepted-outstanding one.bytes one.before c.accepted,
   subst (λ (p : Outcome × State). IsNotAwaited one.bytes p.1) (sym (control-made one c.over c.whole))
@@ -52,11 +52,11 @@ reply-ends one (inr b) = (bind-outstanding b.local one.bytes one.before b.accept
 
 -- ---- what an input causes did not hold before it
 
-module _ (P : State → Bool) (Did : Turn → Type 0) (k : IsBrought (λ s. P s ≡ true) Did) where
-  abbrev Anew : Turn → Type 0
-  Anew one = (did : Did one) × (P one.before ≡ false) × (P (made_of one).1 ≡ true)
+module _ (P : State → Bool) (Did : Input → Type 0) (k : IsBrought (λ s. P s ≡ true) Did) where
+  abbrev Anew : Input → Type 0
+  Anew one = (did : Did one) × (P one.before ≡ false) × (P (processed one).1 ≡ true)
 
-  anew : (one : Turn) (t : State) → (made_of one).1 ≡ t → P t ≡ true → (P one.before ≡ true) ⊎ Did one → (P one.before ≡ true) ⊎ Anew one
+  anew : (one : Input) (t : State) → (processed one).1 ≡ t → P t ≡ true → (P one.before ≡ true) ⊎ Did one → (P one.before ≡ true) ⊎ Anew one
   anew one t made h (inl there) = inl there
   anew one t made h (inr did) = by (P one.before) refl
     where
@@ -64,7 +64,7 @@ module _ (P : State → Bool) (Did : Turn → Type 0) (k : IsBrought (λ s. P s 
       by true e = inl e
       by false e = inr (did, e, subst (λ (u : State). P u ≡ true) (sym made) h)
 
-  bringing-anew : IsBrought (λ s. P s ≡ true) (λ one. (did : Did one) × (P one.before ≡ false) × (P (made_of one).1 ≡ true))
+  bringing-anew : IsBrought (λ s. P s ≡ true) (λ one. (did : Did one) × (P one.before ≡ false) × (P (processed one).1 ≡ true))
   bringing-anew = record {
     differs = k.differs;
     message = λ one over whole h.
@@ -99,24 +99,24 @@ module _ (id : ℕ) where
       by (inl out) = first (is_out s) refl out
       by (inr made) = inr (inr made)
 
-  abbrev Draws : Turn → Type 0
+  abbrev Draws : Input → Type 0
   Draws one = (is_message one.bytes ≡ true) × (id ≡ fresh_id one.before)
 
   -- so do the inputs of a call
-  lead-makes : (turns : List Turn) (s t : State) → TurnsLead turns s t → is_out t ≡ true → (is_out s ≡ true) ⊎ IsMadeAmong id turns
+  lead-makes : (turns : List Input) (s t : State) → InputsLead turns s t → is_out t ≡ true → (is_out s ≡ true) ⊎ IsMadeAmong id turns
   lead-makes turns s t lead h = by (lead-brings (λ u. is_out u ≡ true) (Anew is_out Draws drawing) (bringing-anew is_out Draws drawing) turns s t lead h)
     where
       drawing : IsBrought (λ u. is_out u ≡ true) Draws
       drawing = brought (λ u. is_out u ≡ true) (λ message now u. id ≡ fresh_id u) (draws-IsBringing id)
 
-      makes : (one : Turn) → Anew is_out Draws drawing one → MakesInTurn id one
+      makes : (one : Input) → Anew is_out Draws drawing one → InputMakesRequest id one
       makes one (did, free, made) = record { whole = did.0; drawn = did.1; free = free; made = made }
 
-      by : (is_out s ≡ true) ⊎ ((one : Turn) × Has one turns × Anew is_out Draws drawing one) → (is_out s ≡ true) ⊎ IsMadeAmong id turns
+      by : (is_out s ≡ true) ⊎ ((one : Input) × Has one turns × Anew is_out Draws drawing one) → (is_out s ≡ true) ⊎ IsMadeAmong id turns
       by (inl was) = inl was
-      by (inr (one, there, did)) = inr (has-among (MakesInTurn id) turns (one, there, makes one did))
+      by (inr (one, there, did)) = inr (has-among (InputMakesRequest id) turns (one, there, makes one did))
 
-pub reply-again : (s : State) (call : Call) (calls : List Call) (one : Turn) → IsReplyTurn one → IsMadeSince s call calls one
+pub reply-again : (s : State) (call : Call) (calls : List Call) (one : Input) → IsReplyInput one → IsMadeSince s call calls one
 reply-again s call calls one reply front later e awaited = by (made-in id (state_after call s) calls awaited)
   where
     id : ℕ
@@ -125,35 +125,35 @@ reply-again s call calls one reply front later e awaited = by (made-in id (state
     Goal : Type 0
     Goal = IsMadeAmong id later ⊎ IsMadeIn id (state_after call s) calls
 
-    at_turn : IsAwaited one.bytes (made_of one).1 ⊎ IsMadeAmong id later → Goal
+    at_turn : IsAwaited one.bytes (processed one).1 ⊎ IsMadeAmong id later → Goal
     at_turn (inl out) = absurd (unlike (sym out ∙ (reply-ends one reply).1))
     at_turn (inr made) = inl made
 
     by : IsAwaited one.bytes (state_after call s) ⊎ IsMadeIn id (state_after call s) calls → Goal
     by (inl out) =
-        at_turn (lead-makes id later (made_of one).1 (state_after call s) (leads-from front later one s (state_after call s) (handled-leads call s front later one e)) out)
+        at_turn (lead-makes id later (processed one).1 (state_after call s) (leads-from front later one s (state_after call s) (handled-leads call s front later one e)) out)
     by (inr made) = inr made
 
 -- ---- two replies with one ID
 
 -- the second finds its request outstanding
-second-out : (one other : Turn) → AreReplies one other → is_outstanding (id_of one.bytes) other.before.transactions ≡ true
+second-out : (one other : Input) → AreReplies one other → is_outstanding (id_of one.bytes) other.before.transactions ≡ true
 second-out one other (first, second, same) =
     subst (λ (id : ℕ). is_outstanding id other.before.transactions ≡ true) (sym same) (reply-ends other second).0
 
 pub made-between : (s : State) (call : Call) → IsMadeBetween s call
-made-between s call one other front between rest replies e = by (lead-makes id between (made_of one).1 other.before lead (second-out one other replies))
+made-between s call one other front between rest replies e = by (lead-makes id between (processed one).1 other.before lead (second-out one other replies))
   where
     id : ℕ
     id = id_of one.bytes
 
-    all : TurnsLead (front ++ one ∷ (between ++ other ∷ rest)) s (state_after call s)
+    all : InputsLead (front ++ one ∷ (between ++ other ∷ rest)) s (state_after call s)
     all = handled-leads call s front (between ++ other ∷ rest) one e
 
-    lead : TurnsLead between (made_of one).1 other.before
-    lead = leads-to between rest other (made_of one).1 (state_after call s) (leads-from front (between ++ other ∷ rest) one s (state_after call s) all)
+    lead : InputsLead between (processed one).1 other.before
+    lead = leads-to between rest other (processed one).1 (state_after call s) (leads-from front (between ++ other ∷ rest) one s (state_after call s) all)
 
-    by : IsAwaited one.bytes (made_of one).1 ⊎ IsMadeAmong id between → IsMadeAmong id between
+    by : IsAwaited one.bytes (processed one).1 ⊎ IsMadeAmong id between → IsMadeAmong id between
     by (inl out) = absurd (unlike (sym out ∙ (reply-ends one replies.0).1))
     by (inr made) = made
 
@@ -166,7 +166,7 @@ made-until s call calls last one other front later before rest replies e f = by 
     u : State
     u = state_after_all (state_after call s) calls
 
-    lead : TurnsLead before u other.before
+    lead : InputsLead before u other.before
     lead = leads-to before rest other u (state_after last u) (handled-leads last u before rest other f)
 
     Goal : Type 0

@@ -17,7 +17,7 @@ use Rattle.turn_client_api.specs.declared.grant.Purpose.{Purpose}
 use Rattle.turn_client_api.specs.declared.grant.Purpose.TheVariants.{ForAllocation, ForRefresh, ForPermission, ForChannel, ForConnect, ForBind}
 use Rattle.turn_client_api.specs.Calls.{delete_step}
 use Rattle.turn_client_api.specs.Grants.{purposes_of}
-use Rattle.turn_client_api.specs.Handled.{Turn, handled}
+use Rattle.turn_client_api.specs.Handled.{Input, handled}
 use Rattle.turn_client_api.specs.LawsAllocates.{AllocatesInOrder}
 use Rattle.turn_client_api.specs.LawsGranted.{HasChannelTo, IsKeptAs, IsStanding, Stood}
 use Rattle.turn_client_api.specs.LawsHandled.{IsDoneBy}
@@ -46,7 +46,7 @@ use Rattle.turn_client_runs.proofs.SignedLemmas.{Signs}
 
 -- ---- one input
 
-module _ (one : Turn) where
+module _ (one : Input) where
   -- the channel has the peer that the request named
   abbrev Asked : Purpose → Type 0
   Asked p = (number : ℕ) (peer to : SocketAddr) → p ≡ ForChannel number peer → HasChannelTo number to one.before → to ≡ peer
@@ -115,8 +115,8 @@ call-keeps call s (asked, distinct, order, steady, signs) = (
 )
 
 -- an input of the call answered a request for a purpose, and did this for it
-abbrev IsDoneFor : (Purpose → Turn → Type 0) → Call → State → Type 0
-IsDoneFor Did call s = (one : Turn) × Contains (handled call s) one × ((p : Purpose) × Did p one)
+abbrev IsDoneFor : (Purpose → Input → Type 0) → Call → State → Type 0
+IsDoneFor Did call s = (one : Input) × Contains (handled call s) one × ((p : Purpose) × Did p one)
 
 granted-in : (g : Grant) (call : Call) (s : State) → IsStanding g → Keeps s → IsDoneBy (Granting g) call s → IsDoneFor (IsGranting g) call s
 granted-in g call s stands (asked, distinct, order, steady, signs) (one, among, is) =
@@ -179,11 +179,11 @@ has-cut {X} x (y ∷ xs) (inr there) = by (has-cut x xs there)
 has-cut x [] none = absurd none
 
 -- it answers a request for this, which deletes nothing
-abbrev AnswersFor : (Purpose → Turn → Type 0) → Type 0
-AnswersFor Did = (p : Purpose) (one : Turn) → Did p one → Contains (purposes_of (id_of one.bytes) one.before) p × (GivesBack p → ⊥)
+abbrev AnswersFor : (Purpose → Input → Type 0) → Type 0
+AnswersFor Did = (p : Purpose) (one : Input) → Did p one → Contains (purposes_of (id_of one.bytes) one.before) p × (GivesBack p → ⊥)
 
 -- what is granted is granted for a request that deletes nothing
-no-return : (one : Turn) (g : Grant) (p : Purpose) → IsGivenIn one p g → GivesBack p → ⊥
+no-return : (one : Input) (g : Grant) (p : Purpose) → IsGivenIn one p g → GivesBack p → ⊥
 no-return one (Allocation a) (ForRefresh family lifetime) (least, same, told) back = absurd (omega (arith, least, back))
 no-return one (Permission ip progress) (ForRefresh family lifetime) given back = given
 no-return one (Channel number peer progress) (ForRefresh family lifetime) given back = given
@@ -203,16 +203,16 @@ address-answers : (relayed : SocketAddr) → AnswersFor (GrantsAddress relayed)
 address-answers relayed p one (a, is, e) = granting-answers (Allocation a) p one is
 
 module _ (first : State) (unlisted : first.listed ≡ []) (hold : HoldNothing first) (calls : List Call) where
-  answered-in : (Did : Purpose → Turn → Type 0) → AnswersFor Did → (P : State → Type 0) → IsDoneLast (IsDoneFor Did) P calls first → IsAnsweredIn Did P calls first
+  answered-in : (Did : Purpose → Input → Type 0) → AnswersFor Did → (P : State → Type 0) → IsDoneLast (IsDoneFor Did) P calls first → IsAnsweredIn Did P calls first
   answered-in Did answers P is = by is.did
     where
       s : State
       s = state_after_all first is.earlier
 
-      among : (one : Turn) (front back : List Turn) → handled is.call s ≡ front ++ one ∷ back → Has one (handled is.call s)
+      among : (one : Input) (front back : List Input) → handled is.call s ≡ front ++ one ∷ back → Has one (handled is.call s)
       among one front back e = subst (Has one) (sym e) (has-right one front (one ∷ back) (inl refl))
 
-      cut : (one : Turn) (p : Purpose) → Did p one → (front back : List Turn) × (handled is.call s ≡ front ++ one ∷ back) → IsAnsweredIn Did P calls first
+      cut : (one : Input) (p : Purpose) → Did p one → (front back : List Input) × (handled is.call s ≡ front ++ one ∷ back) → IsAnsweredIn Did P calls first
       cut one p did (front, back, e) = record {
         earlier = is.earlier;
         call = is.call;

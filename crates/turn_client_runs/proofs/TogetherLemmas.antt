@@ -13,9 +13,9 @@ use Rattle.turn_client_api.specs.declared.grant.Purpose.{Purpose}
 use Rattle.turn_client_api.specs.declared.grant.Purpose.TheVariants.{ForAllocation, ForRefresh, ForPermission, ForChannel, ForConnect, ForBind}
 use Rattle.turn_client_api.specs.declared.state.Phase.TheVariants.{New, Allocated}
 use Rattle.turn_client_api.specs.Grants.{is_of_request, purposes_of}
-use Rattle.turn_client_api.specs.Handled.{Turn, handled, made_of}
+use Rattle.turn_client_api.specs.Handled.{Input, handled, processed}
 use Rattle.turn_client_api.specs.LawsGone.{GivesBack}
-use Rattle.turn_client_api.specs.LawsHandled.{DiffersInStreams, DoesTurns, TakesTurns, TurnsLead}
+use Rattle.turn_client_api.specs.LawsHandled.{DiffersInStreams, ProcessesInputs, TakesInput, InputsLead}
 use Rattle.turn_client_api.specs.LawsRequests.{AsksFor, IsListedAgain, IsListedAs, IsListedFor, IsListingOf}
 use Rattle.turn_client_api.specs.Receive.{connection_gone}
 use Rattle.turn_client_api.specs.Requests.{fresh_id}
@@ -118,7 +118,7 @@ IsListingHere call s l =
     × IsListedAs purpose at s (state_after call s) l
 
 -- the call processes inputs, or what it lists it requests itself
-pub listing-here : (call : Call) (s : State) → TakesTurns call ⊎ ((l : Listing) → IsListingOf call s l → IsListingHere call s l)
+pub listing-here : (call : Call) (s : State) → TakesInput call ⊎ ((l : Listing) → IsListingOf call s l → IsListingHere call s l)
 listing-here (Recv packet now) s = inl tt
 listing-here (PollRecv now) s = inl tt
 listing-here (Delete now) s = inr (λ l is. is)
@@ -165,8 +165,8 @@ together-less s t less h l other here there e = h l other (less l here) (less ot
 -- ---- inputs
 
 -- a request is made again for what the old one is listed for
-turn-together : (one : Turn) → AreTogether one.before → AreTogether (made_of one).1
-turn-together one h = together-more Came one.before (made_of one).1 with (λ l there. by l ((turn-turns one).1 l there)) h
+turn-together : (one : Input) → AreTogether one.before → AreTogether (processed one).1
+turn-together one h = together-more Came one.before (processed one).1 with (λ l there. by l ((turn-turns one).1 l there)) h
   where
     Came : Listing → Type 0
     Came l = Has (listing (id_of one.bytes) l.purpose) one.before.listed
@@ -174,24 +174,24 @@ turn-together one h = together-more Came one.before (made_of one).1 with (λ l t
     with : (l other : Listing) → Came l → Came other → Together l.purpose other.purpose
     with l other here there = h (listing (id_of one.bytes) l.purpose) (listing (id_of one.bytes) other.purpose) here there refl
 
-    by : (l : Listing) → Has l one.before.listed ⊎ IsListedAgain one.bytes one.moment one.before (made_of one).1 l → Has l one.before.listed ⊎ ((l.id ≡ fresh_id one.before) × Came l)
+    by : (l : Listing) → Has l one.before.listed ⊎ IsListedAgain one.bytes one.moment one.before (processed one).1 l → Has l one.before.listed ⊎ ((l.id ≡ fresh_id one.before) × Came l)
     by l (inl old) = inl old
     by l (inr (purpose, asked, answers, (made, is))) = inr (is, purpose-with (id_of one.bytes) l.purpose one.before (contains-has l.purpose (purposes_of (id_of one.bytes) one.before) answers))
 
 pub differs-together : (s t : State) → DiffersInStreams s t → AreTogether s → AreTogether t
 differs-together s t differs h = subst AreTogether (sym differs.others) h
 
-pub first-together : (one : Turn) (later : List Turn) (s : State) → DiffersInStreams s one.before → AreTogether s → AreTogether (made_of one).1
+pub first-together : (one : Input) (later : List Input) (s : State) → DiffersInStreams s one.before → AreTogether s → AreTogether (processed one).1
 first-together one later s differs h = turn-together one (differs-together s one.before differs h)
 
-lead-together : (turns : List Turn) (s t : State) → TurnsLead turns s t → AreTogether s → AreTogether t
+lead-together : (turns : List Input) (s t : State) → InputsLead turns s t → AreTogether s → AreTogether t
 lead-together [] s t lead h = differs-together s t lead h
-lead-together (one ∷ later) s t (first, lead) h = lead-together later (made_of one).1 t lead (first-together one later s first h)
+lead-together (one ∷ later) s t (first, lead) h = lead-together later (processed one).1 t lead (first-together one later s first h)
 
 -- ---- all calls
 
 module _ (call : Call) (s : State) where
-  does-together : DoesTurns call s → AreTogether s → AreTogether (state_after call s)
+  does-together : ProcessesInputs call s → AreTogether s → AreTogether (state_after call s)
   does-together (inl lead) h = lead-together (handled call s) s (state_after call s) lead h
   does-together (inr end) h = together-less s (state_after call s) less h
     where
@@ -222,6 +222,6 @@ module _ (call : Call) (s : State) where
   pub call-together : AreTogether s → AreTogether (state_after call s)
   call-together h = by (listing-here call s)
     where
-      by : TakesTurns call ⊎ ((l : Listing) → IsListingOf call s l → IsListingHere call s l) → AreTogether (state_after call s)
+      by : TakesInput call ⊎ ((l : Listing) → IsListingOf call s l → IsListingHere call s l) → AreTogether (state_after call s)
       by (inl takes) = does-together (calls-do call s takes) h
       by (inr own) = here-together own h

@@ -18,8 +18,8 @@ use Rattle.turn_client_api.specs.Payloads.{Payload, Outcome, Handled, Ignored, P
 use Rattle.turn_client_api.specs.Streams.{broken_at, frame_step, framed_by, framed_turn, go_on, is_ready, most_turns, payload_in, poll_recv_step, stream_at, turn, turn_of_first, turned, turns_until_payload, with_bytes, without_stream}
 use Rattle.turn_client_api.specs.Receive.{connection_gone, first_turn, is_from_server, piece_step, recv_step, stream_step, then_all}
 use Rattle.turn_client_api.specs.Connections.{connection_at}
-use Rattle.turn_client_api.specs.Handled.{Turn, datagram_turn, fed_taken, frame_taken, handled, is_front, piece_turns, poll_recv_turns, recv_turns, stream_turns, taken, taken_first, taken_in, taken_of_len, then_taken, turns_taken, unless_given}
-use Rattle.turn_client_api.specs.LawsHandled.{TakesTurns}
+use Rattle.turn_client_api.specs.Handled.{Input, datagram_input, fed_taken, frame_taken, handled, is_front, piece_inputs, poll_recv_inputs, recv_inputs, stream_inputs, taken, taken_first, taken_in, taken_of_len, then_taken, inputs_taken, unless_given}
+use Rattle.turn_client_api.specs.LawsHandled.{TakesInput}
 use Rattle.turn_client_api.specs.Steps.{state_after}
 use Rattle.turn_client_api.specs.declared.call.Call.{Call}
 use Rattle.turn_client_api.specs.declared.call.Call.TheVariants.{Recv, PollRecv}
@@ -73,7 +73,7 @@ module _ (p : Stream → Bool) (stream : Stream) (s : State) (found : find p s.s
       (moved-twice rest (λ x. bind (empty x)) fill (later-Sets stream.local [] rest (λ x. bind (empty x)) fill bound (bytes_by-Sets stream.local rest)))
 
   -- a step of these bytes, whatever of them the stream held before
-  abbrev TakesOut : List ℕ → List Turn → Outcome × State → Type 0
+  abbrev TakesOut : List ℕ → List Input → Outcome × State → Type 0
   TakesOut bytes turns q = length turns + (weight q.1.streams + length stream.bytes) ≤ weight s.streams + length bytes
 
   framed-takes : (l : Bool) (mode : Mode) (bytes : List ℕ) (now : ℕ) → (let u = record stream { mode = mode; bytes = bytes } in TakesOut bytes (frame_taken l u now out) (framed_turn u now out))
@@ -104,41 +104,41 @@ module _ (p : Stream → Bool) (stream : Stream) (s : State) (found : find p s.s
 -- ---- all streams
 
 -- the inputs and what the streams hold then are no more than what they held
-abbrev Takes : List Turn → State → State → Type 0
+abbrev Takes : List Input → State → State → Type 0
 Takes turns s t = length turns + weight t.streams ≤ weight s.streams
 
-go_on-takes : (next : State → Option Payload × State) (later : State → List Turn) (front : List Turn) (s : State) (q : Outcome × State) → Takes front s q.1 → Takes (later q.1) q.1 (next q.1).1 → Takes (front ++ unless_given (payload_in q.0) (later q.1)) s (go_on next q).1
+go_on-takes : (next : State → Option Payload × State) (later : State → List Input) (front : List Input) (s : State) (q : Outcome × State) → Takes front s q.1 → Takes (later q.1) q.1 (next q.1).1 → Takes (front ++ unless_given (payload_in q.0) (later q.1)) s (go_on next q).1
 go_on-takes next later front s (PeerData payload, t) first more = let sum = length-append front [] in omega (arith, sum, first)
 go_on-takes next later front s (Handled, t) first more = let sum = length-append front (later t) in omega (arith, sum, first, more)
 go_on-takes next later front s (Ignored, t) first more = let sum = length-append front (later t) in omega (arith, sum, first, more)
 go_on-takes next later front s (PeerIcmp transport peer icmp, t) first more = let sum = length-append front (later t) in omega (arith, sum, first, more)
 
-turns-take : (n now : ℕ) (s : State) → Takes (turns_taken n now s) s (turns_until_payload n now s).1
-unfolding turns_until_payload turns_taken
+turns-take : (n now : ℕ) (s : State) → Takes (inputs_taken n now s) s (turns_until_payload n now s).1
+unfolding turns_until_payload inputs_taken
 turns-take zero now s = omega arith
 turns-take (suc n) now s = by (find is_ready s.streams) refl (λ t. turns-take n now t)
   where
-    by : (o : Option Stream) → find is_ready s.streams ≡ o → ((t : State) → Takes (turns_taken n now t) t (turns_until_payload n now t).1) → Takes (taken_first (turns_taken n now) now s o) s (turn_of_first (turns_until_payload n now) now s o).1
+    by : (o : Option Stream) → find is_ready s.streams ≡ o → ((t : State) → Takes (inputs_taken n now t) t (turns_until_payload n now t).1) → Takes (taken_first (inputs_taken n now) now s o) s (turn_of_first (turns_until_payload n now) now s o).1
     by None e more = omega arith
     by (Some stream) e more =
         let some = ready-waits stream.mode stream stream.bytes (found-ready s.streams stream e) in
         let takes = turn-takes is_ready stream s e false stream.bytes now some in
-        go_on-takes (turns_until_payload n now) (turns_taken n now) (taken false stream now s) s (turn stream now s) (omega (arith, takes)) (more (turn stream now s).1)
+        go_on-takes (turns_until_payload n now) (inputs_taken n now) (taken false stream now s) s (turn stream now s) (omega (arith, takes)) (more (turn stream now s).1)
 
-poll-takes : (now : ℕ) (s : State) → Takes (poll_recv_turns now s) s (poll_recv_step now s).1
+poll-takes : (now : ℕ) (s : State) → Takes (poll_recv_inputs now s) s (poll_recv_step now s).1
 poll-takes now s = turns-take (most_turns s) now s
 
 -- ---- a piece of a stream
 
 -- so many bytes were received
-abbrev TakesOf : List ℕ → List Turn → State → State → Type 0
+abbrev TakesOf : List ℕ → List Input → State → State → Type 0
 TakesOf piece turns s t = length turns + weight t.streams ≤ weight s.streams + length piece
 
-then_all-takes : (now : ℕ) (piece : List ℕ) (front : List Turn) (s : State) (q : Outcome × State) → TakesOf piece front s q.1 → TakesOf piece (front ++ then_taken now q) s (then_all now q).1
+then_all-takes : (now : ℕ) (piece : List ℕ) (front : List Input) (s : State) (q : Outcome × State) → TakesOf piece front s q.1 → TakesOf piece (front ++ then_taken now q) s (then_all now q).1
 then_all-takes now piece front s (PeerData payload, t) first = let sum = length-append front [] in omega (arith, sum, first)
 then_all-takes now piece front s (PeerIcmp transport peer icmp, t) first = let sum = length-append front [] in omega (arith, sum, first)
-then_all-takes now piece front s (Handled, t) first = let sum = length-append front (poll_recv_turns now t) in let more = poll-takes now t in omega (arith, sum, first, more)
-then_all-takes now piece front s (Ignored, t) first = let sum = length-append front (poll_recv_turns now t) in let more = poll-takes now t in omega (arith, sum, first, more)
+then_all-takes now piece front s (Handled, t) first = let sum = length-append front (poll_recv_inputs now t) in let more = poll-takes now t in omega (arith, sum, first, more)
+then_all-takes now piece front s (Ignored, t) first = let sum = length-append front (poll_recv_inputs now t) in let more = poll-takes now t in omega (arith, sum, first, more)
 
 module _ (to : SocketAddr) (s : State) where
   fed-takes : (stream : Stream) (piece : List ℕ) (now : ℕ) → stream_at to s ≡ Some stream → 0 < length piece → TakesOf piece (fed_taken stream piece now s) s (first_turn stream piece now s).1
@@ -147,7 +147,7 @@ module _ (to : SocketAddr) (s : State) where
       let takes = turn-takes (λ x. same_address x.local to) stream s found (is_front stream.bytes) (stream.bytes ++ piece) now (omega (arith, all, some)) in
       omega (arith, all, takes)
 
-  piece-takes : (m : Mode) (stream : Stream) (piece : List ℕ) (now : ℕ) → stream_at to s ≡ Some (record stream { mode = m }) → 0 < length piece → TakesOf piece (piece_turns (record stream { mode = m }) piece now s) s (piece_step (record stream { mode = m }) piece now s).1
+  piece-takes : (m : Mode) (stream : Stream) (piece : List ℕ) (now : ℕ) → stream_at to s ≡ Some (record stream { mode = m }) → 0 < length piece → TakesOf piece (piece_inputs (record stream { mode = m }) piece now s) s (piece_step (record stream { mode = m }) piece now s).1
   piece-takes Control stream piece now found some =
       let u = record stream { mode = Control } in
       then_all-takes now piece (fed_taken u piece now s) s (first_turn u piece now s) (fed-takes u piece now found some)
@@ -155,7 +155,7 @@ module _ (to : SocketAddr) (s : State) where
   piece-takes (Bound peer) stream piece now found some = fed-takes (record stream { mode = Bound peer }) piece now found some
   piece-takes Broken stream piece now found some = by (same_address stream.local s.local)
     where
-      by : (b : Bool) → TakesOf piece (cond b (poll_recv_turns now s) []) s (cond {A = Outcome × State} b (then_all now (Handled, s)) (Handled, s)).1
+      by : (b : Bool) → TakesOf piece (cond b (poll_recv_inputs now s) []) s (cond {A = Outcome × State} b (then_all now (Handled, s)) (Handled, s)).1
       by true = let takes = poll-takes now s in omega (arith, takes)
       by false = omega arith
 
@@ -216,7 +216,7 @@ opened-weight s t (inr (local, is)) = rw is (let less = weight-left local s.stre
 gone-same : (local : SocketAddr) (s : State) → Same s (connection_gone local s)
 gone-same local s = same-cond (is_some (connection_at local s)) s _ _ refl refl
 
-stream-takes : (to : SocketAddr) (stream : Stream) (piece : List ℕ) (now : ℕ) (s : State) → stream_at to s ≡ Some stream → TakesOf piece (stream_turns stream piece now s) s (stream_step stream piece now s).1
+stream-takes : (to : SocketAddr) (stream : Stream) (piece : List ℕ) (now : ℕ) (s : State) → stream_at to s ≡ Some stream → TakesOf piece (stream_inputs stream piece now s) s (stream_step stream piece now s).1
 stream-takes to stream [] now s found =
     let same = gone-same stream.local s in
     let less = weight-left stream.local (connection_gone stream.local s).streams in
@@ -233,17 +233,17 @@ datagram-weight bytes now s = by (is_message bytes) (is_channel_frame bytes)
     by false false = refl
 
 -- one input that is a datagram, or inputs made of bytes
-abbrev TakesOfPacket : List ℕ → List Turn → State → State → Type 0
+abbrev TakesOfPacket : List ℕ → List Input → State → State → Type 0
 TakesOfPacket bytes turns s t = length turns + weight t.streams ≤ weight s.streams + (1 + length bytes)
 
 recv_over : (carrier : TransportType) (transport : TransportType) (from to : SocketAddr) (bytes : List ℕ) (now : ℕ) (s : State)
-    → (let u = record s { transport = carrier } in TakesOfPacket bytes (recv_turns transport from to bytes now u) u (recv_step transport from to bytes now u).1)
+    → (let u = record s { transport = carrier } in TakesOfPacket bytes (recv_inputs transport from to bytes now u) u (recv_step transport from to bytes now u).1)
 recv_over Udp transport from to bytes now s = by (is_from_server transport from u) (same_address to s.local)
   where
     u : State
     u = record s { transport = Udp }
 
-    by : (b c : Bool) → TakesOfPacket bytes (cond b (cond c (datagram_turn bytes now u ∷ []) []) []) u (cond {A = Outcome × State} b (cond {A = Outcome × State} c (datagram_step bytes now u) (Ignored, u)) (Ignored, u)).1
+    by : (b c : Bool) → TakesOfPacket bytes (cond b (cond c (datagram_input bytes now u ∷ []) []) []) u (cond {A = Outcome × State} b (cond {A = Outcome × State} c (datagram_step bytes now u) (Ignored, u)) (Ignored, u)).1
     by true true = let kept = datagram-weight bytes now u in omega (arith, kept)
     by true false = omega arith
     by false c = omega arith
@@ -252,7 +252,7 @@ recv_over Tcp transport from to bytes now s = by (is_from_server transport from 
     u : State
     u = record s { transport = Tcp }
 
-    by : (b : Bool) → is_from_server transport from u ≡ b → (o : Option Stream) → stream_at to s ≡ o → TakesOfPacket bytes (recv_turns transport from to bytes now u) u (recv_step transport from to bytes now u).1
+    by : (b : Bool) → is_from_server transport from u ≡ b → (o : Option Stream) → stream_at to s ≡ o → TakesOfPacket bytes (recv_inputs transport from to bytes now u) u (recv_step transport from to bytes now u).1
     by false e o f = rw e (omega arith)
     by true e None f = rw (e, f) (omega arith)
     by true e (Some stream) f = let takes = stream-takes to stream bytes now u f in rw (e, f) (omega (arith, takes))
@@ -264,5 +264,5 @@ recv-takes packet now s = recv_over s.transport packet.transport packet.from pac
 pub poll_recv-takes : (now : ℕ) (s : State) → length (handled (PollRecv now) s) + weight (state_after (PollRecv now) s).streams ≤ weight s.streams
 poll_recv-takes now s = poll-takes now s
 
-pub others-weight : (call : Call) (s : State) → (TakesTurns call → ⊥) → weight (state_after call s).streams ≤ weight s.streams
+pub others-weight : (call : Call) (s : State) → (TakesInput call → ⊥) → weight (state_after call s).streams ≤ weight s.streams
 others-weight call s other = opened-weight s (state_after call s) (others-opened call s other)

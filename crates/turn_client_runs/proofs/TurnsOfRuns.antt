@@ -2,8 +2,8 @@
 use Rattle.std.proofs.Common.{◌≡◌, ◌⊎◌, List, [], ◌∷◌, ◌++◌, inl, inr, refl, sym, subst, ◌∙◌}
 use Rattle.std.proofs.lemmas.List.Elements.{Contains-append_left, Contains-append_right}
 use Rattle.turn_client_api.specs.State.{State}
-use Rattle.turn_client_api.specs.Handled.{Turn, handled, made_of}
-use Rattle.turn_client_api.specs.LawsHandled.{DoesTurns, IsDoneBy, TakesTurns, TurnsLead}
+use Rattle.turn_client_api.specs.Handled.{Input, handled, processed}
+use Rattle.turn_client_api.specs.LawsHandled.{ProcessesInputs, IsDoneBy, TakesInput, InputsLead}
 use Rattle.turn_client_api.specs.Steps.{state_after, state_after_all}
 use Rattle.turn_client_api.specs.declared.call.Call.{Call}
 use Rattle.turn_client_api.specs.declared.call.Call.TheVariants.{Recv, PollRecv}
@@ -15,28 +15,28 @@ use Rattle.turn_client_runs.specs.Turns.{IsAmong, handled_in}
 
 -- ---- one of some inputs did it
 
-pub among-left : (Did : Turn → Type 0) (turns more : List Turn) → IsAmong Did turns → IsAmong Did (turns ++ more)
+pub among-left : (Did : Input → Type 0) (turns more : List Input) → IsAmong Did turns → IsAmong Did (turns ++ more)
 among-left Did turns more (one, there, did) = (one, Contains-append_left turns more one there, did)
 
-pub among-right : (Did : Turn → Type 0) (turns more : List Turn) → IsAmong Did more → IsAmong Did (turns ++ more)
+pub among-right : (Did : Input → Type 0) (turns more : List Input) → IsAmong Did more → IsAmong Did (turns ++ more)
 among-right Did turns more (one, there, did) = (one, Contains-append_right turns more one there, did)
 
-pub among-first : (Did : Turn → Type 0) (one : Turn) (turns : List Turn) → Did one → IsAmong Did (one ∷ turns)
+pub among-first : (Did : Input → Type 0) (one : Input) (turns : List Input) → Did one → IsAmong Did (one ∷ turns)
 among-first Did one turns did = (one, has-contains one (one ∷ turns) (inl refl), did)
 
-pub among-later : (Did : Turn → Type 0) (one : Turn) (turns : List Turn) → IsAmong Did turns → IsAmong Did (one ∷ turns)
+pub among-later : (Did : Input → Type 0) (one : Input) (turns : List Input) → IsAmong Did turns → IsAmong Did (one ∷ turns)
 among-later Did one turns among = among-right Did (one ∷ []) turns among
 
-pub has-among : (Did : Turn → Type 0) (turns : List Turn) → (one : Turn) × Has one turns × Did one → IsAmong Did turns
+pub has-among : (Did : Input → Type 0) (turns : List Input) → (one : Input) × Has one turns × Did one → IsAmong Did turns
 has-among Did turns (one, there, did) = (one, has-contains one turns there, did)
 
-pub among-none : (Did : Turn → Type 0) → IsAmong Did [] → ⊥
+pub among-none : (Did : Input → Type 0) → IsAmong Did [] → ⊥
 among-none Did (one, there, did) = contains-has one [] there
 
 -- ---- the inputs of a call
 
 -- a call processes inputs, or nothing
-pub takes-or : (call : Call) → TakesTurns call ⊎ ((s : State) → handled call s ≡ [])
+pub takes-or : (call : Call) → TakesInput call ⊎ ((s : State) → handled call s ≡ [])
 takes-or (Recv packet now) = inl tt
 takes-or (PollRecv now) = inl tt
 takes-or _ = inr (λ s. refl)
@@ -46,35 +46,35 @@ none-front [] later x e = cc
 none-front (y ∷ front) later x e = cc
 
 -- if a call processes something, its inputs lead to the state after it
-pub handled-leads : (call : Call) (s : State) (front later : List Turn) (one : Turn) → handled call s ≡ front ++ one ∷ later → TurnsLead (front ++ one ∷ later) s (state_after call s)
+pub handled-leads : (call : Call) (s : State) (front later : List Input) (one : Input) → handled call s ≡ front ++ one ∷ later → InputsLead (front ++ one ∷ later) s (state_after call s)
 handled-leads call s front later one e = by (takes-or call)
   where
-    does : DoesTurns call s → TurnsLead (front ++ one ∷ later) s (state_after call s)
-    does (inl lead) = subst (λ (turns : List Turn). TurnsLead turns s (state_after call s)) e lead
+    does : ProcessesInputs call s → InputsLead (front ++ one ∷ later) s (state_after call s)
+    does (inl lead) = subst (λ (turns : List Input). InputsLead turns s (state_after call s)) e lead
     does (inr end) = absurd (none-front front later one (sym end.nothing ∙ e))
 
-    by : TakesTurns call ⊎ ((u : State) → handled call u ≡ []) → TurnsLead (front ++ one ∷ later) s (state_after call s)
+    by : TakesInput call ⊎ ((u : State) → handled call u ≡ []) → InputsLead (front ++ one ∷ later) s (state_after call s)
     by (inl takes) = does (calls-do call s takes)
     by (inr none) = absurd (none-front front later one (sym (none s) ∙ e))
 
 -- the inputs before one of them, and those after it
-pub leads-to : (front later : List Turn) (one : Turn) (s t : State) → TurnsLead (front ++ one ∷ later) s t → TurnsLead front s one.before
+pub leads-to : (front later : List Input) (one : Input) (s t : State) → InputsLead (front ++ one ∷ later) s t → InputsLead front s one.before
 leads-to [] later one s t (first, lead) = first
-leads-to (other ∷ front) later one s t (first, lead) = (first, leads-to front later one (made_of other).1 t lead)
+leads-to (other ∷ front) later one s t (first, lead) = (first, leads-to front later one (processed other).1 t lead)
 
-pub leads-from : (front later : List Turn) (one : Turn) (s t : State) → TurnsLead (front ++ one ∷ later) s t → TurnsLead later (made_of one).1 t
+pub leads-from : (front later : List Input) (one : Input) (s t : State) → InputsLead (front ++ one ∷ later) s t → InputsLead later (processed one).1 t
 leads-from [] later one s t (first, lead) = lead
-leads-from (other ∷ front) later one s t (first, lead) = leads-from front later one (made_of other).1 t lead
+leads-from (other ∷ front) later one s t (first, lead) = leads-from front later one (processed other).1 t lead
 
 -- ---- the inputs of a run
 
 -- what holds after a run did so before it, or an input of it caused it
-module _ (P : State → Type 0) (Did : Turn → Type 0) (each : (call : Call) (s : State) → P (state_after call s) → P s ⊎ IsDoneBy Did call s) where
+module _ (P : State → Type 0) (Did : Input → Type 0) (each : (call : Call) (s : State) → P (state_after call s) → P s ⊎ IsDoneBy Did call s) where
   pub run-brings : (s : State) (calls : List Call) → P (state_after_all s calls) → P s ⊎ IsAmong Did (handled_in s calls)
   run-brings s [] h = inl h
   run-brings s (call ∷ calls) h = by (run-brings (state_after call s) calls h)
     where
-      more : List Turn
+      more : List Input
       more = handled_in (state_after call s) calls
 
       first : P s ⊎ IsDoneBy Did call s → P s ⊎ IsAmong Did (handled call s ++ more)
@@ -108,30 +108,30 @@ cut-in {X = X} (y ∷ xs) ys (z ∷ front) later x e = by (cut-in xs ys front la
     by (inr (rest, f, g)) = inr (rest, cc, g)
 
 -- what holds when an input is processed did so before the run, or an earlier input caused it
-module _ (P : State → Type 0) (Did : Turn → Type 0) (k : IsBrought P Did) (each : (call : Call) (s : State) → P (state_after call s) → P s ⊎ IsDoneBy Did call s) where
-  pub in_call : (call : Call) (s : State) (earlier later : List Turn) (one : Turn) → handled call s ≡ earlier ++ one ∷ later → P one.before → P s ⊎ IsAmong Did earlier
+module _ (P : State → Type 0) (Did : Input → Type 0) (k : IsBrought P Did) (each : (call : Call) (s : State) → P (state_after call s) → P s ⊎ IsDoneBy Did call s) where
+  pub in_call : (call : Call) (s : State) (earlier later : List Input) (one : Input) → handled call s ≡ earlier ++ one ∷ later → P one.before → P s ⊎ IsAmong Did earlier
   in_call call s earlier later one e h = by (lead-brings P Did k earlier s one.before (leads-to earlier later one s (state_after call s) (handled-leads call s earlier later one e)) h)
     where
-      by : P s ⊎ ((other : Turn) × Has other earlier × Did other) → P s ⊎ IsAmong Did earlier
+      by : P s ⊎ ((other : Input) × Has other earlier × Did other) → P s ⊎ IsAmong Did earlier
       by (inl there) = inl there
       by (inr did) = inr (has-among Did earlier did)
 
-  pub turn-brought : (s : State) (calls : List Call) (earlier later : List Turn) (one : Turn) → handled_in s calls ≡ earlier ++ one ∷ later → P one.before → P s ⊎ IsAmong Did earlier
+  pub turn-brought : (s : State) (calls : List Call) (earlier later : List Input) (one : Input) → handled_in s calls ≡ earlier ++ one ∷ later → P one.before → P s ⊎ IsAmong Did earlier
   turn-brought s [] earlier later one e h = absurd (none-front earlier later one e)
   turn-brought s (call ∷ calls) earlier later one e h =
       by (λ front f. turn-brought (state_after call s) calls front later one f h) (cut-in (handled call s) (handled_in (state_after call s) calls) earlier later one e)
     where
-      more : List Turn
+      more : List Input
       more = handled_in (state_after call s) calls
 
-      first : (front : List Turn) → P s ⊎ IsDoneBy Did call s → P s ⊎ IsAmong Did (handled call s ++ front)
+      first : (front : List Input) → P s ⊎ IsDoneBy Did call s → P s ⊎ IsAmong Did (handled call s ++ front)
       first front (inl there) = inl there
       first front (inr did) = inr (among-left Did (handled call s) front did)
 
-      then : (front : List Turn) → P (state_after call s) ⊎ IsAmong Did front → P s ⊎ IsAmong Did (handled call s ++ front)
+      then : (front : List Input) → P (state_after call s) ⊎ IsAmong Did front → P s ⊎ IsAmong Did (handled call s ++ front)
       then front (inl there) = first front (each call s there)
       then front (inr among) = inr (among-right Did (handled call s) front among)
 
-      by : ((front : List Turn) → more ≡ front ++ one ∷ later → P (state_after call s) ⊎ IsAmong Did front) → IsCut (handled call s) more earlier later one → P s ⊎ IsAmong Did earlier
+      by : ((front : List Input) → more ≡ front ++ one ∷ later → P (state_after call s) ⊎ IsAmong Did front) → IsCut (handled call s) more earlier later one → P s ⊎ IsAmong Did earlier
       by rest (inl (behind, f)) = in_call call s earlier behind one f h
-      by rest (inr (front, f, g)) = subst (λ (turns : List Turn). P s ⊎ IsAmong Did turns) (sym f) (then front (rest front g))
+      by rest (inr (front, f, g)) = subst (λ (turns : List Input). P s ⊎ IsAmong Did turns) (sym f) (then front (rest front g))

@@ -2,8 +2,8 @@
 use Rattle.std.specs.Prelude.{◌≡◌, ◌⊎◌, List, ◌∷◌, ◌++◌}
 use Rattle.std.specs.declared.net.socket_addr.SocketAddr.{SocketAddr}
 use Rattle.turn_client_api.specs.State.{State}
-use Rattle.turn_client_api.specs.Handled.{Turn, handled, made_of}
-use Rattle.turn_client_api.specs.LawsBound.{IsBindTurn, IsBoundConnection, IsConnecting}
+use Rattle.turn_client_api.specs.Handled.{Input, handled, processed}
+use Rattle.turn_client_api.specs.LawsBound.{IsBindInput, IsBoundConnection, IsConnecting}
 use Rattle.turn_client_api.specs.LawsHandled.{IsBoundAt}
 use Rattle.turn_client_api.specs.LawsReplies.{IsNotAwaited}
 use Rattle.turn_client_api.specs.declared.call.Call.{Call}
@@ -13,17 +13,17 @@ use Rattle.turn_client_runs.specs.Granted.{HoldsThrough}
 use Rattle.turn_client_runs.specs.Turns.{IsAmong, handled_in}
 
 -- its request is no longer outstanding
-abbrev pub IsAnswered : Turn → Type 0
-IsAnswered one = IsNotAwaited one.bytes (made_of one).1
+abbrev pub IsAnswered : Input → Type 0
+IsAnswered one = IsNotAwaited one.bytes (processed one).1
 
 -- One of these inputs bound the stream at this local address to this peer: by a signed success to the
 -- outstanding CONNECTION_BIND that was made for it, which is no longer outstanding after the input (RFC
 -- 6062, section 4.3).
-abbrev pub HasSuccess : SocketAddr → SocketAddr → List Turn → Type 0
-HasSuccess local peer turns = IsAmong (λ one. IsBindTurn local peer one × IsAnswered one) turns
+abbrev pub HasSuccess : SocketAddr → SocketAddr → List Input → Type 0
+HasSuccess local peer turns = IsAmong (λ one. IsBindInput local peer one × IsAnswered one) turns
 
 -- so did one of these inputs for the data connection
-abbrev pub HasConnectionSuccess : DataConnection → List Turn → Type 0
+abbrev pub HasConnectionSuccess : DataConnection → List Input → Type 0
 HasConnectionSuccess c turns = IsAmong (λ one. IsConnecting c one × IsAnswered one) turns
 
 -- one of these calls bound the stream at this local address to this peer by such an input, and it is bound
@@ -45,7 +45,7 @@ BoundStreamsHaveSuccess s calls =
 -- the same call bound it
 abbrev pub StreamsAreBoundBefore : State → List Call → Type 0
 StreamsAreBoundBefore s calls =
-    (earlier : List Call) (call : Call) (later : List Call) (front back : List Turn) (one : Turn) (local peer : SocketAddr)
+    (earlier : List Call) (call : Call) (later : List Call) (front back : List Input) (one : Input) (local peer : SocketAddr)
     → calls ≡ earlier ++ call ∷ later → handled call (state_after_all s earlier) ≡ front ++ one ∷ back → IsBoundAt local peer one.before
     → IsBoundSince local peer earlier s ⊎ HasSuccess local peer front
 

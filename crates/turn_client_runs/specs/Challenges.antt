@@ -6,7 +6,7 @@ use Rattle.turn_client_api.specs.State.{State}
 use Rattle.turn_client_api.specs.Judgement.{Challenged, judgement_of}
 use Rattle.turn_client_api.specs.Retry.{most_challenges}
 use Rattle.turn_client_api.specs.Payloads.{is_message}
-use Rattle.turn_client_api.specs.Handled.{Turn, made_of}
+use Rattle.turn_client_api.specs.Handled.{Input, processed}
 use Rattle.turn_client_api.specs.LawsHandled.{IsOverControl}
 use Rattle.turn_client_api.specs.LawsReplies.{IsHeeded}
 use Rattle.turn_client_api.specs.LawsSteps.{IsCounted}
@@ -18,33 +18,33 @@ abbrev pub IsPatient : State → Type 0
 IsPatient s = s.challenges ≤ most_challenges
 
 -- the input is a challenge over the control connection
-pub record IsChallengeTurn (one : Turn) : Type 0 where
+pub record IsChallengeInput (one : Input) : Type 0 where
   pub over : IsOverControl one
   pub whole : is_message one.bytes ≡ true
   pub challenge : Challenge
   pub judged : judgement_of one.before one.bytes ≡ Challenged challenge
 
 -- it is counted if it is answered
-abbrev pub CountsIt : Turn → Type 0
-CountsIt one = IsCounted one.before (made_of one).1
+abbrev pub CountsIt : Input → Type 0
+CountsIt one = IsCounted one.before (processed one).1
 
 -- the input answers a challenge
-abbrev pub is_answer : Turn → Bool
-is_answer one = nat_lt one.before.challenges (made_of one).1.challenges
+abbrev pub is_answer : Input → Bool
+is_answer one = nat_lt one.before.challenges (processed one).1.challenges
 
 -- so many challenges are answered by these inputs
-abbrev pub answers_in : List Turn → ℕ
+abbrev pub answers_in : List Input → ℕ
 answers_in turns = length (filter is_answer turns)
 
 -- one of these inputs is a signed reply to an outstanding request, after which challenges are counted anew
-abbrev pub IsHeededAmong : List Turn → Type 0
+abbrev pub IsHeededAmong : List Input → Type 0
 IsHeededAmong turns =
-    IsAmong (λ one. ((made_of one).1.challenges < one.before.challenges)
+    IsAmong (λ one. ((processed one).1.challenges < one.before.challenges)
     × (is_message one.bytes ≡ true) × IsHeeded one.bytes one.moment one.before) turns
 
 -- each challenge among the inputs of the calls is counted if it is answered
 abbrev pub CountsAll : State → List Call → Type 0
-CountsAll s calls = (one : Turn) → Contains (handled_in s calls) one → IsChallengeTurn one → CountsIt one
+CountsAll s calls = (one : Input) → Contains (handled_in s calls) one → IsChallengeInput one → CountsIt one
 
 -- at most nine are answered by the calls, unless challenges are counted anew among them
 abbrev pub AnswersFew : State → List Call → Type 0

@@ -25,7 +25,7 @@ use Rattle.turn_client_api.specs.Grants.{is_of_family, purposes_of, same_ip}
 use Rattle.turn_client_api.specs.Judgement.{class_in, lifetime_in}
 use Rattle.turn_client_api.specs.Effect.{channel_lifetime, least_lifetime, permission_lifetime, relayed_in}
 use Rattle.turn_client_api.specs.Payloads.{is_message}
-use Rattle.turn_client_api.specs.Handled.{Turn, handled, made_of}
+use Rattle.turn_client_api.specs.Handled.{Input, handled, processed}
 use Rattle.turn_client_api.specs.Steps.{state_after, state_after_all}
 use Rattle.turn_client_api.specs.LawsAllocates.{IsAskedForFamilies}
 use Rattle.turn_client_api.specs.LawsGranted.{Stood}
@@ -38,13 +38,13 @@ use Rattle.turn_client_runs.specs.Received.{IsReceived}
 -- ---- what a reply grants
 
 -- a data connection is bound over itself, and all other grants are granted over the control connection
-abbrev pub IsOverIts : Grant → Turn → Type 0
+abbrev pub IsOverIts : Grant → Input → Type 0
 IsOverIts (Connection c) one = IsOverWaiting c.local one
 IsOverIts g one = IsOverControl one
 
 -- What the success in the input grants for a purpose: an allocation for the first LIFETIME that is seen, at
 -- least 600 s in answer to a REFRESH for more than 0 s; a permission for 300 s; a channel for 600 s.
-abbrev pub IsGivenIn : Turn → Purpose → Grant → Type 0
+abbrev pub IsGivenIn : Input → Purpose → Grant → Type 0
 IsGivenIn one ForAllocation (Allocation a) =
     (n : ℕ) × (lifetime_in one.bytes ≡ Some n) × (a.expiry ≡ later_by (seconds n) one.moment)
     × Contains (relayed_in one.bytes) a.relayed
@@ -74,26 +74,26 @@ IsSignedAllocate config held x =
 -- response is the challenge (RFC 8489, section 9.2.3): it is signed under the realm, the key and the
 -- algorithm under which the reply is. By its bytes it requests the families of which the client still
 -- requests an address (RFC 8656, sections 7.1 and 7.3).
-pub record AsksToAllocate (one : Turn) : Type 0 where
+pub record AsksToAllocate (one : Input) : Type 0 where
   pub families : IsAskedForFamilies (id_of one.bytes) one.before
   pub signed : (x : Transaction) → Contains one.before.transactions x → x.id ≡ id_of one.bytes → IsSignedAllocate one.before.config one.before.held x
 
 -- a first allocation is granted in answer to such a request, and is of one of these families
-abbrev pub AsksForItsFamily : Purpose → Turn → Type 0
+abbrev pub AsksForItsFamily : Purpose → Input → Type 0
 AsksForItsFamily ForAllocation one = AsksToAllocate one
 AsksForItsFamily _ one = ⊤
 
 -- The input granted it, with this expiry. It is a success, which is signed under the realm, the key and the
 -- algorithm that are held then. It answers a request that was made for this purpose: outstanding just
 -- before the input, and not just after it.
-pub record IsGranting (g : Grant) (purpose : Purpose) (one : Turn) : Type 0 where
+pub record IsGranting (g : Grant) (purpose : Purpose) (one : Input) : Type 0 where
   pub over : IsOverIts g one
   pub whole : is_message one.bytes ≡ true
   pub success : class_in one.bytes ≡ Success
   pub signed : IsValidated (validation_of (auth_of one.before) one.bytes)
   pub listed : Contains (purposes_of (id_of one.bytes) one.before) purpose
   pub outstanding : IsAwaited one.bytes one.before
-  pub ended : IsNotAwaited one.bytes (made_of one).1
+  pub ended : IsNotAwaited one.bytes (processed one).1
   pub asks : AsksForItsFamily purpose one
   pub given : IsGivenIn one purpose g
 
@@ -104,7 +104,7 @@ abbrev pub IsInFront : List ℕ → List ℕ → Type 0
 IsInFront front bytes = (rest : List ℕ) × (bytes ≡ front ++ rest)
 
 -- a frame comes first in its stream, and a datagram is these bytes
-abbrev pub IsWholeOrInFront : List ℕ → Turn → Type 0
+abbrev pub IsWholeOrInFront : List ℕ → Input → Type 0
 IsWholeOrInFront payload one = by one.stream
   where
     by : Option Stream → Type 0
@@ -112,7 +112,7 @@ IsWholeOrInFront payload one = by one.stream
     by (Some stream) = IsInFront one.bytes stream.bytes
 
 -- `poll_recv` processes only frames
-abbrev pub IsFrameInFront : Turn → Type 0
+abbrev pub IsFrameInFront : Input → Type 0
 IsFrameInFront one = by one.stream
   where
     by : Option Stream → Type 0
@@ -120,7 +120,7 @@ IsFrameInFront one = by one.stream
     by (Some stream) = IsInFront one.bytes stream.bytes
 
 -- the input is processed in this call, and at its time
-abbrev pub ComesIn : Call → Turn → Type 0
+abbrev pub ComesIn : Call → Input → Type 0
 ComesIn (Recv packet now) one = (one.moment ≡ now) × IsWholeOrInFront packet.payload one
 ComesIn (PollRecv now) one = (one.moment ≡ now) × IsFrameInFront one
 ComesIn _ one = ⊥
@@ -133,8 +133,8 @@ abbrev pub IsAsked : ℕ → Purpose → ℕ → State → State → Type 0
 IsAsked id p now s t = (request : Purpose) × IsListedFor request p × IsMade request now s t × (id ≡ fresh_id s)
 
 -- the input made it, in answer to a request that was made for the same
-abbrev pub IsAskedInTurn : ℕ → Purpose → Turn → Type 0
-IsAskedInTurn id p one = IsAsked id p one.moment one.before (made_of one).1
+abbrev pub IsRequestedByInput : ℕ → Purpose → Input → Type 0
+IsRequestedByInput id p one = IsAsked id p one.moment one.before (processed one).1
 
 -- the call requests this itself, and made it
 abbrev pub IsAskedItself : ℕ → Purpose → Call → State → Type 0
@@ -144,7 +144,7 @@ IsAskedItself id p call s =
 
 -- the call made it, or an input that it processed
 abbrev pub IsAskedInCall : ℕ → Purpose → Call → State → Type 0
-IsAskedInCall id p call s = IsAskedItself id p call s ⊎ IsDoneBy (IsAskedInTurn id p) call s
+IsAskedInCall id p call s = IsAskedItself id p call s ⊎ IsDoneBy (IsRequestedByInput id p) call s
 
 -- one of these calls made it
 pub record WasAsked (id : ℕ) (p : Purpose) (calls : List Call) (first : State) : Type 0 where
@@ -155,8 +155,8 @@ pub record WasAsked (id : ℕ) (p : Purpose) (calls : List Call) (first : State)
   pub asked : IsAskedInCall id p call (state_after_all first earlier)
 
 -- an earlier call made it, or an earlier input of the same call
-abbrev pub WasAskedBefore : ℕ → Purpose → List Call → State → List Turn → Type 0
-WasAskedBefore id p earlier first front = WasAsked id p earlier first ⊎ ((one : Turn) × Contains front one × IsAskedInTurn id p one)
+abbrev pub WasAskedBefore : ℕ → Purpose → List Call → State → List Input → Type 0
+WasAskedBefore id p earlier first front = WasAsked id p earlier first ⊎ ((one : Input) × Contains front one × IsRequestedByInput id p one)
 
 -- ---- a run
 
@@ -167,14 +167,14 @@ HoldsThrough P (call ∷ calls) s = P s × HoldsThrough P calls (state_after cal
 
 -- An input of one of these calls answered a request for a purpose, and did this for it. Its request was
 -- made before. The claim holds after that call and after each later one.
-pub record IsAnsweredIn (Did : Purpose → Turn → Type 0) (P : State → Type 0) (calls : List Call) (first : State) : Type 0 where
+pub record IsAnsweredIn (Did : Purpose → Input → Type 0) (P : State → Type 0) (calls : List Call) (first : State) : Type 0 where
   pub earlier : List Call
   pub call : Call
   pub later : List Call
   pub split : calls ≡ earlier ++ call ∷ later
-  pub front : List Turn
-  pub turn : Turn
-  pub back : List Turn
+  pub front : List Input
+  pub turn : Input
+  pub back : List Input
   pub cut : handled call (state_after_all first earlier) ≡ front ++ turn ∷ back
   pub comes : ComesIn call turn
   pub received : IsReceived (earlier ++ call ∷ []) first turn
@@ -194,7 +194,7 @@ IsGranted g calls first = IsAnsweredIn (IsGranting g) (λ s. Stood s g) calls fi
 abbrev pub IsRelayed : SocketAddr → State → Type 0
 IsRelayed relayed s = (a : Relay) × Contains s.grants (Allocation a) × (a.relayed ≡ relayed)
 
-abbrev pub GrantsAddress : SocketAddr → Purpose → Turn → Type 0
+abbrev pub GrantsAddress : SocketAddr → Purpose → Input → Type 0
 GrantsAddress relayed purpose one = (a : Relay) × IsGranting (Allocation a) purpose one × (a.relayed ≡ relayed)
 
 -- an input of one of these calls granted an allocation with this address, and no later call removed it

@@ -5,7 +5,7 @@ use Rattle.std.specs.Net.Socket.{socket_ip}
 use Rattle.std.specs.declared.net.socket_addr.SocketAddr.{SocketAddr}
 use Rattle.turn_client_api.specs.State.{State}
 use Rattle.turn_client_api.specs.Payloads.{Payload, Outcome, PeerIcmp}
-use Rattle.turn_client_api.specs.Handled.{Turn, made_of, turn_payload}
+use Rattle.turn_client_api.specs.Handled.{Input, processed, input_payload}
 use Rattle.turn_client_api.specs.LawsHandled.{IsBoundAt}
 use Rattle.turn_client_api.specs.LawsPeers.{HasChannel, HasPermission, IsIcmpAttribute, IsIndicated, IsLetInTurn}
 use Rattle.turn_client_api.specs.declared.call.Call.{Call}
@@ -14,12 +14,12 @@ use Rattle.turn_client_api.specs.declared.state.Stream.{Stream}
 use Rattle.turn_client_runs.specs.Turns.{IsAmong, handled_in, payloads_in}
 
 -- the input is bytes of a stream that is bound to this peer, which is in the state just before
-abbrev pub IsOverBound : SocketAddr → Turn → Type 0
+abbrev pub IsOverBound : SocketAddr → Input → Type 0
 IsOverBound peer one = (stream : Stream) × (one.stream ≡ Some stream) × (stream.mode ≡ Bound peer) × IsBoundAt stream.local peer one.before
 
 -- When the input was processed, the peer was permitted: its IP address had an active permission, it had an
 -- active channel, or its data connection was bound (RFC 8656, sections 9 and 12; RFC 6062, section 4.3).
-abbrev pub IsOfLetIn : SocketAddr → Turn → Type 0
+abbrev pub IsOfLetIn : SocketAddr → Input → Type 0
 IsOfLetIn peer one =
     HasPermission (socket_ip peer) one.before
     ⊎ ((number : ℕ) × HasChannel number peer one.before)
@@ -27,8 +27,8 @@ IsOfLetIn peer one =
 
 -- the input returns the payload: exactly what the frame carries, or the bytes of the stream, of a permitted
 -- peer
-pub record InputDelivers (payload : Payload) (one : Turn) : Type 0 where
-  pub given : turn_payload one ≡ Some payload
+pub record InputDelivers (payload : Payload) (one : Input) : Type 0 where
+  pub given : input_payload one ≡ Some payload
   pub exact : IsLetInTurn one
   pub let_in : IsOfLetIn payload.peer one
 
@@ -41,8 +41,8 @@ abbrev pub ReceivesLetIn : State → List Call → Type 0
 ReceivesLetIn s calls = (payload : Payload) → Contains (payloads_in s calls) payload → IsDeliveredIn payload s calls
 
 -- an ICMP report of an input is about a peer whose IP address has an active permission
-abbrev pub TellsOfPermitted : Turn → Type 0
-TellsOfPermitted one = by (made_of one).0
+abbrev pub TellsOfPermitted : Input → Type 0
+TellsOfPermitted one = by (processed one).0
   where
     by : Outcome → Type 0
     by (PeerIcmp transport peer icmp) = IsIndicated one.bytes peer one.before × IsIcmpAttribute one.bytes one.before transport icmp
@@ -50,4 +50,4 @@ TellsOfPermitted one = by (made_of one).0
 
 -- this holds for each input of the run
 abbrev pub IcmpIsOfPermitted : State → List Call → Type 0
-IcmpIsOfPermitted s calls = (one : Turn) → Contains (handled_in s calls) one → TellsOfPermitted one
+IcmpIsOfPermitted s calls = (one : Input) → Contains (handled_in s calls) one → TellsOfPermitted one

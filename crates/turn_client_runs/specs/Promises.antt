@@ -4,7 +4,7 @@ use Rattle.std.specs.List.{Contains, concat}
 use Rattle.std.specs.declared.net.socket_addr.SocketAddr.{SocketAddr}
 use Rattle.turn_stun.specs.declared.transport.TransportType.TheVariants.{Tcp}
 use Rattle.turn_client_api.specs.State.{State}
-use Rattle.turn_client_api.specs.Handled.{Turn, handled}
+use Rattle.turn_client_api.specs.Handled.{Input, handled}
 use Rattle.turn_client_api.specs.LawsGranted.{IsStanding}
 use Rattle.turn_client_api.specs.LawsNumbers.{HasDistinctNumbers}
 use Rattle.turn_client_api.specs.LawsSteps.{KeepsRealm}
@@ -50,7 +50,7 @@ BoundHaveSuccess first calls =
 -- one.
 abbrev pub TurnsCameIn : State → List Call → Type 0
 TurnsCameIn first calls =
-    (earlier : List Call) (call : Call) (later : List Call) (one : Turn) → calls ≡ earlier ++ call ∷ later
+    (earlier : List Call) (call : Call) (later : List Call) (one : Input) → calls ≡ earlier ++ call ∷ later
     → Contains (handled call (state_after_all first earlier)) one → ComesIn call one × IsReceived (earlier ++ call ∷ []) first one
 
 -- each payload is of a permitted peer, and an ICMP report is about a permitted one
@@ -71,7 +71,7 @@ FewAreAnswered = InEachPart (λ s middle. IsPatient s × AnswersFew s middle × 
 abbrev pub RealmStays : State → List Call → Type 0
 RealmStays = InEachPart (λ s middle.
     KeepsRealm s (state_after_all s middle)
-    × ((one : Turn) → Contains (handled_in s middle) one → KeepsRealm s one.before × KeepsRealm one.before (state_after_all s middle)))
+    × ((one : Input) → Contains (handled_in s middle) one → KeepsRealm s one.before × KeepsRealm one.before (state_after_all s middle)))
 
 -- what is held is of the realm and the algorithm of the first challenge that was answered
 abbrev pub RealmIsAnswered : State → List Call → Type 0

@@ -10,7 +10,7 @@ use Rattle.turn_client_api.specs.declared.call.Call.TheVariants.{Recv}
 use Rattle.turn_client_api.specs.declared.state.Mode.{Mode}
 use Rattle.turn_client_api.specs.declared.state.Mode.TheVariants.{Broken}
 use Rattle.turn_client_api.specs.declared.state.Stream.{Stream}
-use Rattle.turn_client_api.specs.Handled.{Turn}
+use Rattle.turn_client_api.specs.Handled.{Input}
 use Rattle.turn_client_api.specs.Receive.{is_from_server}
 use Rattle.turn_client_api.specs.Steps.{state_after}
 use Rattle.turn_client_api.specs.Streams.{stream_at}
@@ -37,7 +37,7 @@ pieces_for local (call ∷ calls) s = piece_for local call s ++ pieces_for local
 
 -- What the stream of the input holds ends what was received for it by these calls, so that its first frame
 -- was received unchanged. A datagram has no stream.
-abbrev pub IsReceived : List Call → State → Turn → Type 0
+abbrev pub IsReceived : List Call → State → Input → Type 0
 IsReceived calls first one = by one.stream
   where
     by : Option Stream → Type 0

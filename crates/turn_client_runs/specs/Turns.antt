@@ -3,14 +3,14 @@ use Rattle.std.specs.Prelude.{List, [], ◌∷◌, ◌++◌, option_to_list}
 use Rattle.std.specs.List.{Contains}
 use Rattle.turn_client_api.specs.State.{State}
 use Rattle.turn_client_api.specs.Payloads.{Payload}
-use Rattle.turn_client_api.specs.Handled.{Turn, handled, payloads_by}
+use Rattle.turn_client_api.specs.Handled.{Input, handled, payloads_by}
 use Rattle.turn_client_api.specs.Streams.{payload_in, poll_recv_step}
 use Rattle.turn_client_api.specs.Steps.{packet_step, state_after}
 use Rattle.turn_client_api.specs.declared.call.Call.{Call}
 use Rattle.turn_client_api.specs.declared.call.Call.TheVariants.{Recv, PollRecv}
 
 -- all datagrams and frames that the calls process, in order, each with the state just before
-abbrev pub handled_in : State → List Call → List Turn
+abbrev pub handled_in : State → List Call → List Input
 handled_in s [] = []
 handled_in s (call ∷ calls) = handled call s ++ handled_in (state_after call s) calls
 
@@ -31,5 +31,5 @@ answered_in s [] = []
 answered_in s (call ∷ calls) = answered call s ++ answered_in (state_after call s) calls
 
 -- one of these inputs did it
-abbrev pub IsAmong : (Turn → Type 0) → List Turn → Type 0
-IsAmong Did turns = (one : Turn) × Contains turns one × Did one
+abbrev pub IsAmong : (Input → Type 0) → List Input → Type 0
+IsAmong Did turns = (one : Input) × Contains turns one × Did one

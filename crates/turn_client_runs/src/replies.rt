@@ -2,9 +2,9 @@
 
 ghost use Rattle.std.specs.Prelude.{List};
 ghost use Rattle.turn_client_api.specs.State.{State};
-ghost use Rattle.turn_client_api.specs.Handled.{Turn};
+ghost use Rattle.turn_client_api.specs.Handled.{Input};
 ghost use Rattle.turn_client_api.specs.declared.call.Call.{Call};
-ghost use Rattle.turn_client_runs.specs.Replies.{EachReply, EndsItsRequest, IsMadeBetween, IsMadeSince, IsMadeUntil, IsReplyTurn, MakesNewOnesIn};
+ghost use Rattle.turn_client_runs.specs.Replies.{EachReply, EndsItsRequest, IsMadeBetween, IsMadeSince, IsMadeUntil, IsReplyInput, MakesNewOnesIn};
 
 /// In a run a reply is accepted once (RFC 8489, section 6.3). Each that is accepted is to a request that is
 /// outstanding when the reply is processed and is no longer so after it. However many calls follow, the ID
@@ -15,7 +15,7 @@ ghost use Rattle.turn_client_runs.specs.Replies.{EachReply, EndsItsRequest, IsMa
 /// made a request.
 pub fn replies_count_once_in_runs()
     ensures ended { (s : State) (calls : List Call) → EachReply EndsItsRequest s calls }
-    ensures again { (s : State) (call : Call) (calls : List Call) (one : Turn) → IsReplyTurn one → IsMadeSince s call calls one }
+    ensures again { (s : State) (call : Call) (calls : List Call) (one : Input) → IsReplyInput one → IsMadeSince s call calls one }
     ensures copy { (s : State) (call : Call) → IsMadeBetween s call }
     ensures later_copy { (s : State) (call : Call) (calls : List Call) (last : Call) → IsMadeUntil s call calls last }
     ensures drawn { (s : State) (calls : List Call) → MakesNewOnesIn s calls }

@@ -4,7 +4,7 @@
 //! which are STUN messages and ChannelData messages, distinguished by their first two bits.
 //!
 //! The laws say what holds of frames wherever the stream is cut: `frames_are_unique`, `frames_are_found`,
-//! `calls_give_frames`, `turns_are_steps` and `same_for_any_cut`. Each is a function that does nothing,
+//! `calls_give_frames`, `calls_take_one_frame` and `same_for_any_cut`. Each is a function that does nothing,
 //! and ensures its law.
 
 mod buffer;
@@ -17,5 +17,5 @@ pub use buffer::TurnTcpBuffer;
 pub use counts::TcpCounts;
 pub use incoming::{IncomingTcp, StoredTcp};
 pub use laws::{
-    calls_give_frames, frames_are_found, frames_are_unique, same_for_any_cut, turns_are_steps,
+    calls_give_frames, frames_are_found, frames_are_unique, same_for_any_cut, calls_take_one_frame,
 };

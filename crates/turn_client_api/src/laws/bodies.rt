@@ -6,7 +6,7 @@ ghost use Rattle.turn_client_api.specs.Due.{least_due};
 ghost use Rattle.turn_client_api.specs.Calls.{free_number};
 ghost use Rattle.turn_client_api.specs.Poll.{lapsed, poll_step};
 ghost use Rattle.turn_client_api.specs.Streams.{frame_step, poll_recv_step, turn};
-ghost use Rattle.turn_client_api.specs.Handled.{poll_recv_turns};
+ghost use Rattle.turn_client_api.specs.Handled.{poll_recv_inputs};
 ghost use Rattle.turn_client_api.specs.LawsStreams.{IsDrained};
 ghost use Rattle.turn_client_api.specs.LawsBodies.{AreTakenUpTo, IsAsideFrom, IsLeastFree, TellsOfFailed, lapse_moments, most_failures, soonest};
 
@@ -48,13 +48,13 @@ pub fn least_free_number_is_bound()
 /// (RFC 8656, section 12.5).
 pub fn drained_streams_rest()
     ensures step { (now : ℕ) (s : State) → All IsDrained s.streams → poll_recv_step now s ≡ (None, s) }
-    ensures handled { (now : ℕ) (s : State) → All IsDrained s.streams → poll_recv_turns now s ≡ [] }
+    ensures handled { (now : ℕ) (s : State) → All IsDrained s.streams → poll_recv_inputs now s ≡ [] }
 {}
 
 /// Processing the next frame of a stream leaves each stream from another local address unchanged and in its
 /// place (RFC 6062, section 4.3: each data connection is a TCP connection of its own). So it makes none of
 /// them ready, and those that were not ready need not be checked again.
-pub fn turns_leave_other_streams()
+pub fn inputs_leave_other_streams()
     ensures turn { (stream : Stream) (now : ℕ) (s : State) → IsAsideFrom stream.local s (turn stream now s).1 }
     ensures frame { (stream : Stream) (frame : List ℕ) (now : ℕ) (s : State) → IsAsideFrom stream.local s (frame_step stream frame now s).1 }
 {}

@@ -5,7 +5,7 @@ ghost use Rattle.turn_client_api.specs.State.{State, Closed};
 ghost use Rattle.turn_client_api.specs.Due.{has_reply};
 ghost use Rattle.turn_client_api.specs.Poll.{poll_step};
 ghost use Rattle.turn_client_api.specs.Steps.{Call, Leaves};
-ghost use Rattle.turn_client_api.specs.LawsTurns.{IsBroughtBy};
+ghost use Rattle.turn_client_api.specs.LawsInputs.{IsBroughtBy};
 ghost use Rattle.turn_client_api.specs.LawsReplies.{IsHeeded};
 ghost use Rattle.turn_client_api.specs.LawsSteps.{StaysClosed, StaysPatient, KeepsRealm, CountsChallenge, GoesOn};
 ghost use Rattle.turn_client_api.specs.declared.poll.TurnPollRet.TheVariants as Do;

@@ -21,7 +21,7 @@ pub fn same_for_any_cut<S, O>()
 
 /// How `TurnTcpBuffer` relates to the law of cuts: while the bytes are frames, taking the next frame
 /// (`poll_recv`, or `front` and `pass`) is the next step, and else each byte is a step of its own.
-pub fn turns_are_steps<S, O>()
+pub fn calls_take_one_frame<S, O>()
     // A frame that is returned is processed, and then the rest.
     ensures frame { (mode : S → Mode) (handle : S → List ℕ → S × List O) (state : S) (bytes frame : List ℕ) → mode state ≡ Framed → (next_frame (framed bytes)).frame ≡ Some frame → drained (λ s. size_in (mode s)) handle state bytes ≡ behind (handle state frame).1 (drained (λ s. size_in (mode s)) handle (handle state frame).0 (next_frame (framed bytes)).after.bytes) }
     // Less than a frame stays buffered.

@@ -1,6 +1,6 @@
 use Rattle.turn_client_api.proofs.AnyStreamsLemmas.{message-alike}
 use Rattle.turn_client_api.proofs.FrameRestLemmas.{frame-bytes}
-use Rattle.turn_client_api.proofs.laws.turns.messages_leave_streams.Goals as goal
+use Rattle.turn_client_api.proofs.laws.inputs.messages_leave_streams.Goals as goal
 
 pub returns-clause-message : goal.returns-clause-message
 returns-clause-message c = message-alike

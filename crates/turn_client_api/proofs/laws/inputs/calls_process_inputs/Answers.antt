@@ -1,6 +1,6 @@
 use Rattle.turn_client_api.proofs.TurnChainLemmas.{calls-do}
 use Rattle.turn_client_api.proofs.TurnEndLemmas.{calls-end}
-use Rattle.turn_client_api.proofs.laws.turns.calls_are_turns.Goals as goal
+use Rattle.turn_client_api.proofs.laws.inputs.calls_process_inputs.Goals as goal
 
 pub returns-clause-found : goal.returns-clause-found
 returns-clause-found c = calls-do

@@ -1,5 +1,5 @@
 use Rattle.turn_types.proofs.StepLemmas.{framed-drained, waiting-drained, breaking-drained, byte-drained}
-use Rattle.turn_types.proofs.tcp.laws.turns_are_steps.Goals as goal
+use Rattle.turn_types.proofs.tcp.laws.calls_take_one_frame.Goals as goal
 
 pub returns-clause-frame : goal.returns-clause-frame
 returns-clause-frame g c = framed-drained

@@ -6,7 +6,7 @@ ghost use Rattle.turn_client_api.specs.State.{State, Stream};
 ghost use Rattle.turn_client_api.specs.Streams.{turn};
 ghost use Rattle.turn_client_api.specs.Handled.{taken};
 ghost use Rattle.turn_client_api.specs.Steps.{Call, EndsWithoutMemory};
-ghost use Rattle.turn_client_api.specs.LawsHandled.{DoesTurns, EndsInTurns, IgnoresBytes, IgnoresStreams, IsTurnOf, TakesTurns};
+ghost use Rattle.turn_client_api.specs.LawsHandled.{ProcessesInputs, EndsAmidInputs, IgnoresBytes, IgnoresStreams, IsInputOf, TakesInput};
 
 /// The effect of a message is independent of the streams: with others it has the same effect, and leaves
 /// those. The effect of a frame of any stream is independent of the buffered bytes.
@@ -17,14 +17,14 @@ pub fn messages_leave_streams()
 
 /// A step of a stream takes at most one frame (RFC 8656, section 12.5): the first one. It is processed in
 /// the state in which the stream holds nothing, and the bytes after it are put back.
-pub fn turns_are_frames()
-    ensures { (stream : Stream) (now : ℕ) (s : State) → IsTurnOf stream now s (taken false stream now s) (turn stream now s) }
+pub fn inputs_are_frames()
+    ensures { (stream : Stream) (now : ℕ) (s : State) → IsInputOf stream now s (taken false stream now s) (turn stream now s) }
 {}
 
 /// `recv` and `poll_recv` process their inputs one after the other, each in the state that the one before
 /// left, apart from the bytes of the streams; or the server closed a stream. If memory allocation fails,
 /// the call processed the first of these inputs and then ended the client.
-pub fn calls_are_turns()
-    ensures found { (call : Call) (s : State) → TakesTurns call → DoesTurns call s }
-    ensures none { (call : Call) (s t : State) → TakesTurns call → EndsWithoutMemory call s t → EndsInTurns call s t }
+pub fn calls_process_inputs()
+    ensures found { (call : Call) (s : State) → TakesInput call → ProcessesInputs call s }
+    ensures none { (call : Call) (s t : State) → TakesInput call → EndsWithoutMemory call s t → EndsAmidInputs call s t }
 {}

@@ -1,5 +1,5 @@
 use Rattle.turn_client_api.proofs.OtherStreamLemmas.{frame-aside, turn-aside}
-use Rattle.turn_client_api.proofs.laws.bodies.turns_leave_other_streams.Goals as goal
+use Rattle.turn_client_api.proofs.laws.bodies.inputs_leave_other_streams.Goals as goal
 
 pub returns-clause-turn : goal.returns-clause-turn
 returns-clause-turn c = turn-aside
