@@ -8,7 +8,7 @@ use Rattle.std.proofs.lemmas.Option.{same_Some}
 use Rattle.std.proofs.lemmas.Bool.{leb-true, ltb-true, false_from_ne_true}
 use Rattle.turn_types.specs.declared.family.AddressFamily.{AddressFamily}
 use Rattle.turn_client_api.specs.State.{State, Grant, Allocation, Permission, Channel, Connect, Offer, Connection, DataConnection, Relay, Pending, Active, Reserved, Purpose}
-use Rattle.turn_client_api.specs.Grants.{allocation_in, allocations, connection_in, failures_among, family_of, has_request, in_turn, is_connect, is_for, is_of, is_past, is_pending_channel, is_pending_permission, failure_of, unlisted, without}
+use Rattle.turn_client_api.specs.Grants.{allocation_in, allocations, connection_in, failures_among, family_of, has_request, in_sequence, is_connect, is_for, is_of, is_past, is_pending_channel, is_pending_permission, failure_of, unlisted, without}
 use Rattle.turn_client_api.specs.Poll.{connections_unbound, failed, goes, in_vain, is_lapsed_channel, is_lapsed_permission, is_over, is_unbound, lapsed, lapsed_allocation, lapsed_in, last_channel_lapsed, offers_in_vain, permissions_lapsed, refreshes_in_vain, set_free, unbound}
 use Rattle.turn_client_api.specs.LawsBodies.{lapse_of, lapse_moments}
 use Rattle.turn_client_api.specs.declared.event.TurnEvent.{TurnEvent}
@@ -59,9 +59,9 @@ abbrev Rest : List (State → State) → State → Type 0
 Rest [] s = ⊤
 Rest (step ∷ steps) s = (step s ≡ s) × Rest steps s
 
-in_turn-rest : (steps : List (State → State)) (s : State) → Rest steps s → in_turn steps s ≡ s
-in_turn-rest [] s h = refl
-in_turn-rest (step ∷ steps) s h = ap (in_turn steps) h.0 ∙ in_turn-rest steps s h.1
+in_sequence-rest : (steps : List (State → State)) (s : State) → Rest steps s → in_sequence steps s ≡ s
+in_sequence-rest [] s h = refl
+in_sequence-rest (step ∷ steps) s h = ap (in_sequence steps) h.0 ∙ in_sequence-rest steps s h.1
 
 fold-rest : {X : Type 0} (f : State → X → State) (xs : List X) (s : State) → ((x : X) → Has x xs → f s x ≡ s) → fold f s xs ≡ s
 fold-rest f [] s each = refl
@@ -170,7 +170,7 @@ module _ (now : ℕ) (s : State) (early : (g : Grant) → Has g s.grants → IsE
       ∷ []
 
   lapsed_in-none : lapsed_in family None [] now s ≡ s
-  lapsed_in-none = in_turn-rest steps s (
+  lapsed_in-none = in_sequence-rest steps s (
     vain-none family is_pending_channel s,
     (
       vain-none family is_pending_permission s,

@@ -10,7 +10,7 @@ use Rattle.turn_stun.specs.declared.transport.TransportType.{TransportType}
 use Rattle.turn_types.specs.declared.family.AddressFamily.{AddressFamily}
 use Rattle.turn_agent.specs.Agent.{timed_out_transaction}
 use Rattle.turn_client_api.specs.State.{State, DataOffer, Phase, New, Requesting, Authenticating, Allocated, Closed, Grant, Allocation, Permission, Channel, Connect, Offer, Connection, Relay, Pending, Active, Reserved, Purpose, agent_of}
-use Rattle.turn_client_api.specs.Grants.{allocations, failure_of, failures_among, family_of, in_turn, is_channel_of, is_connect, is_for_any, is_of, is_pending_channel, is_pending_permission, without}
+use Rattle.turn_client_api.specs.Grants.{allocations, failure_of, failures_among, family_of, in_sequence, is_channel_of, is_connect, is_for_any, is_of, is_pending_channel, is_pending_permission, without}
 use Rattle.turn_client_api.specs.Effect.{closed, ended, reserved}
 use Rattle.turn_client_api.specs.Due.{has_event, has_reply}
 use Rattle.turn_client_api.specs.Poll.{answer_by, answer_step, channel_lapsed, connections_unbound, failed, given_up_step, goes, in_vain, is_given_offer, is_lapsed_channel, is_listed_for_allocation, is_over, lapsed, lapsed_allocation, lapsed_in, last_channel_lapsed, next_offer, offer_step, offers_in_vain, permissions_lapsed, poll_step, refreshes_in_vain, set_free, timed_step, told, told_first, unbound, untold_in, given_up_purposes}
@@ -31,9 +31,9 @@ abbrev AllTell : List (State → State) → Type 0
 AllTell [] = ⊤
 AllTell (step ∷ steps) = ((s : State) → TellsOfFailed s (step s)) × AllTell steps
 
-in_turn-tells : (steps : List (State → State)) (s : State) → AllTell steps → TellsOfFailed s (in_turn steps s)
-in_turn-tells [] s all = tells-self s
-in_turn-tells (step ∷ steps) s all = tells-then s (step s) (in_turn steps (step s)) (all.0 s) (in_turn-tells steps (step s) all.1)
+in_sequence-tells : (steps : List (State → State)) (s : State) → AllTell steps → TellsOfFailed s (in_sequence steps s)
+in_sequence-tells [] s all = tells-self s
+in_sequence-tells (step ∷ steps) s all = tells-then s (step s) (in_sequence steps (step s)) (all.0 s) (in_sequence-tells steps (step s) all.1)
 
 -- ---- grants that can fail
 
@@ -208,7 +208,7 @@ module _ (family : AddressFamily) (purposes : List Purpose) where
   vain-all which none s = vain-tells which s none
 
   lapsed_in-tells : (given : Option ℕ) (now : ℕ) (s : State) → TellsOfFailed s (lapsed_in family given purposes now s)
-  lapsed_in-tells given now s = in_turn-tells steps s (
+  lapsed_in-tells given now s = in_sequence-tells steps s (
     vain-all is_pending_channel (λ number peer until. refl),
     (
       vain-all is_pending_permission (λ number peer until. refl),

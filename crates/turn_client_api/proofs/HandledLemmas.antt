@@ -12,8 +12,8 @@ use Rattle.turn_types.specs.Frames.{begins_no_frame, frame_len}
 use Rattle.turn_agent.specs.Agent.{same_address}
 use Rattle.turn_client_api.specs.State.{State, Mode, Control, Waiting, Bound, Broken, Stream}
 use Rattle.turn_client_api.specs.Payloads.{Payload, Outcome, Handled, Ignored, PeerData, PeerIcmp, datagram_step}
-use Rattle.turn_client_api.specs.Streams.{broken_at, framed_by, framed_turn, go_on, is_ready, most_turns, owned, payload_in, poll_recv_step, stream_at, turn, turn_of_first, turned, turns_until_payload, with_bytes}
-use Rattle.turn_client_api.specs.Receive.{first_turn, is_from_server, piece_step, place_kept, recv_step, stream_step, then_all}
+use Rattle.turn_client_api.specs.Streams.{broken_at, framed_by, framed_stream_step, go_on, is_ready, most_turns, owned, payload_in, poll_recv_step, stream_at, next_frame_step, first_ready_step, detached_frame_step, steps_until_payload, with_bytes}
+use Rattle.turn_client_api.specs.Receive.{first_frame_step, is_from_server, piece_step, place_kept, recv_step, stream_step, then_all}
 use Rattle.turn_client_api.specs.Steps.{Call, PollRecv, Recv, packet_step}
 use Rattle.turn_client_api.specs.Handled.{Input, fed, fed_taken, frame_taken, handled, is_front, processed, payloads, piece_inputs, poll_recv_inputs, recv_inputs, stream_inputs, taken, taken_first, taken_in, taken_of_len, then_taken, stream_input, input_payload, inputs_taken, unless_given}
 use Rattle.turn_client_api.specs.LawsPeers.{IsDeliveredByInput, IsLetInTurn, IsToldBy}
@@ -48,20 +48,20 @@ frame-AreOf : (is_lent : Bool) (stream : Stream) (now : ℕ) (t : State) (o : Op
 frame-AreOf is_lent stream now t None = handled-AreOf is_lent
 frame-AreOf is_lent stream now t (Some len) = one-AreOf (stream_input is_lent stream (take len stream.bytes) now t)
 
-framed-AreOf : (is_lent : Bool) (stream : Stream) (now : ℕ) (t : State) → AreOf (frame_taken is_lent stream now t) (given is_lent (framed_turn stream now t).0)
+framed-AreOf : (is_lent : Bool) (stream : Stream) (now : ℕ) (t : State) → AreOf (frame_taken is_lent stream now t) (given is_lent (framed_stream_step stream now t).0)
 framed-AreOf is_lent stream now t = by (begins_no_frame stream.bytes) (frame_len stream.bytes)
   where
     by : (b : Bool) (o : Option ℕ) → AreOf (cond b [] (taken_of_len is_lent stream now t o)) (given is_lent (cond {A = Outcome × State} b (Handled, broken_at stream.local t) (framed_by stream now t o)).0)
     by true o = handled-AreOf is_lent
     by false o = frame-AreOf is_lent stream now t o
 
-turned_in_mode : (m : Mode) (stream : Stream) (now : ℕ) (t : State) → AreOf (taken_in false (record stream { mode = m }) now t) (owned (turned (record stream { mode = m }) now t).0)
+turned_in_mode : (m : Mode) (stream : Stream) (now : ℕ) (t : State) → AreOf (taken_in false (record stream { mode = m }) now t) (owned (detached_frame_step (record stream { mode = m }) now t).0)
 turned_in_mode Control stream now t = framed-AreOf false (record stream { mode = Control }) now t
 turned_in_mode Waiting stream now t = framed-AreOf false (record stream { mode = Waiting }) now t
 turned_in_mode (Bound peer) stream now t = refl
 turned_in_mode Broken stream now t = refl
 
-turn-AreOf : (stream : Stream) (now : ℕ) (s : State) → AreOf (taken false stream now s) (owned (turn stream now s).0)
+turn-AreOf : (stream : Stream) (now : ℕ) (s : State) → AreOf (taken false stream now s) (owned (next_frame_step stream now s).0)
 turn-AreOf stream now s = turned_in_mode stream.mode stream now (with_bytes stream.local [] s)
 
 -- ---- all streams
@@ -76,14 +76,14 @@ go_on-Gives next later front (Handled, t) first more = payloads-append front (la
 go_on-Gives next later front (Ignored, t) first more = payloads-append front (later t) ∙ (ap (λ ps. ps ++ payloads (later t)) first ∙ more t)
 go_on-Gives next later front (PeerIcmp transport peer icmp, t) first more = payloads-append front (later t) ∙ (ap (λ ps. ps ++ payloads (later t)) first ∙ more t)
 
-turns-Gives : (n now : ℕ) (s : State) → Gives (inputs_taken n now s) (turns_until_payload n now s)
-unfolding turns_until_payload inputs_taken
+turns-Gives : (n now : ℕ) (s : State) → Gives (inputs_taken n now s) (steps_until_payload n now s)
+unfolding steps_until_payload inputs_taken
 turns-Gives zero now s = refl
 turns-Gives (suc n) now s = by (find is_ready s.streams) (λ t. turns-Gives n now t)
   where
-    by : (o : Option Stream) → ((t : State) → Gives (inputs_taken n now t) (turns_until_payload n now t)) → Gives (taken_first (inputs_taken n now) now s o) (turn_of_first (turns_until_payload n now) now s o)
+    by : (o : Option Stream) → ((t : State) → Gives (inputs_taken n now t) (steps_until_payload n now t)) → Gives (taken_first (inputs_taken n now) now s o) (first_ready_step (steps_until_payload n now) now s o)
     by None more = refl
-    by (Some stream) more = go_on-Gives (turns_until_payload n now) (inputs_taken n now) (taken false stream now s) (turn stream now s) (turn-AreOf stream now s) more
+    by (Some stream) more = go_on-Gives (steps_until_payload n now) (inputs_taken n now) (taken false stream now s) (next_frame_step stream now s) (turn-AreOf stream now s) more
 
 pub poll_recv-Gives : (now : ℕ) (s : State) → payloads (poll_recv_inputs now s) ≡ option_to_list (poll_recv_step now s).0
 poll_recv-Gives now s = turns-Gives (most_turns s) now s
@@ -110,10 +110,10 @@ kept-given : (waited : List ℕ) (o : Outcome) → given (is_front waited) o ≡
 kept-given [] o = refl
 kept-given (b ∷ bs) o = refl
 
-framed-fed : (stream : Stream) (piece : List ℕ) (now : ℕ) (t : State) → AreOf (frame_taken (is_front stream.bytes) (fed stream piece) now t) (place_kept stream.bytes (framed_turn (fed stream piece) now t).0)
+framed-fed : (stream : Stream) (piece : List ℕ) (now : ℕ) (t : State) → AreOf (frame_taken (is_front stream.bytes) (fed stream piece) now t) (place_kept stream.bytes (framed_stream_step (fed stream piece) now t).0)
 framed-fed stream piece now t =
     framed-AreOf (is_front stream.bytes) (fed stream piece) now t
-    ∙ ap (λ o. option_to_list (payload_in o)) (kept-given stream.bytes (framed_turn (fed stream piece) now t).0)
+    ∙ ap (λ o. option_to_list (payload_in o)) (kept-given stream.bytes (framed_stream_step (fed stream piece) now t).0)
 
 bound-AreOf : (peer : SocketAddr) (waited piece : List ℕ) (stream : Stream) (now : ℕ) (s : State) → AreOf (piece_inputs (record stream { mode = Bound peer; bytes = waited }) piece now s) (piece_step (record stream { mode = Bound peer; bytes = waited }) piece now s).0
 bound-AreOf peer [] piece stream now s = refl
@@ -122,7 +122,7 @@ bound-AreOf peer (b ∷ bs) piece stream now s = refl
 piece_in_mode : (m : Mode) (stream : Stream) (piece : List ℕ) (now : ℕ) (s : State) → AreOf (piece_inputs (record stream { mode = m }) piece now s) (piece_step (record stream { mode = m }) piece now s).0
 piece_in_mode Control stream piece now s =
     let u = record stream { mode = Control } in
-    then_all-AreOf now (fed_taken u piece now s) (first_turn u piece now s) (framed-fed u piece now (with_bytes stream.local [] s))
+    then_all-AreOf now (fed_taken u piece now s) (first_frame_step u piece now s) (framed-fed u piece now (with_bytes stream.local [] s))
 piece_in_mode Waiting stream piece now s = framed-fed (record stream { mode = Waiting }) piece now (with_bytes stream.local [] s)
 piece_in_mode (Bound peer) stream piece now s = bound-AreOf peer stream.bytes piece stream now s
 piece_in_mode Broken stream piece now s = by (same_address stream.local s.local)
@@ -218,7 +218,7 @@ tells-kept (b ∷ bs) turns (PeerData payload) tells = λ h. absurd h
 tells-kept (b ∷ bs) turns Handled tells = λ h. absurd h
 tells-kept (b ∷ bs) turns Ignored tells = λ h. absurd h
 
-framed-tells : (is_lent : Bool) (stream : Stream) (now : ℕ) (t : State) → Tells (frame_taken is_lent stream now t) (framed_turn stream now t).0
+framed-tells : (is_lent : Bool) (stream : Stream) (now : ℕ) (t : State) → Tells (frame_taken is_lent stream now t) (framed_stream_step stream now t).0
 framed-tells is_lent stream now t = by (begins_no_frame stream.bytes) (frame_len stream.bytes)
   where
     by : (b : Bool) (o : Option ℕ) → Tells (cond b [] (taken_of_len is_lent stream now t o)) (cond {A = Outcome × State} b (Handled, broken_at stream.local t) (framed_by stream now t o)).0
@@ -226,8 +226,8 @@ framed-tells is_lent stream now t = by (begins_no_frame stream.bytes) (frame_len
     by false None h = absurd h
     by false (Some len) h = (stream_input is_lent stream (take len stream.bytes) now t, inl refl, refl)
 
-fed-tells : (stream : Stream) (piece : List ℕ) (now : ℕ) (t : State) → Tells (frame_taken (is_front stream.bytes) (fed stream piece) now t) (place_kept stream.bytes (framed_turn (fed stream piece) now t).0)
-fed-tells stream piece now t = tells-kept stream.bytes _ (framed_turn (fed stream piece) now t).0 (framed-tells (is_front stream.bytes) (fed stream piece) now t)
+fed-tells : (stream : Stream) (piece : List ℕ) (now : ℕ) (t : State) → Tells (frame_taken (is_front stream.bytes) (fed stream piece) now t) (place_kept stream.bytes (framed_stream_step (fed stream piece) now t).0)
+fed-tells stream piece now t = tells-kept stream.bytes _ (framed_stream_step (fed stream piece) now t).0 (framed-tells (is_front stream.bytes) (fed stream piece) now t)
 
 -- what all streams return is no ICMP report
 no-icmp : (o : Option Payload) (p : Outcome) → (IsIcmp p → ⊥) → IsIcmp (option_map_or PeerData o p) → ⊥
@@ -243,7 +243,7 @@ then_all-tells now front (Ignored, t) first h = absurd (no-icmp (poll_recv_step 
 piece-tells : (m : Mode) (stream : Stream) (piece : List ℕ) (now : ℕ) (s : State) → Tells (piece_inputs (record stream { mode = m }) piece now s) (piece_step (record stream { mode = m }) piece now s).0
 piece-tells Control stream piece now s =
     let u = record stream { mode = Control } in
-    then_all-tells now (fed_taken u piece now s) (first_turn u piece now s) (fed-tells u piece now (with_bytes stream.local [] s))
+    then_all-tells now (fed_taken u piece now s) (first_frame_step u piece now s) (fed-tells u piece now (with_bytes stream.local [] s))
 piece-tells Waiting stream piece now s = fed-tells (record stream { mode = Waiting }) piece now (with_bytes stream.local [] s)
 piece-tells (Bound peer) stream piece now s = λ h. absurd h
 piece-tells Broken stream piece now s = by (same_address stream.local s.local)

@@ -8,11 +8,11 @@ use Rattle.turn_client_api.specs.State.{State, Mode, Control, Waiting, Bound, Br
 use Rattle.turn_client_api.specs.Effect.{closed}
 use Rattle.turn_client_api.specs.Payloads.{Payload, Outcome, Handled, Ignored, PeerData, PeerIcmp}
 use Rattle.turn_client_api.specs.Streams.{broken_at, is_ready, stream_at}
-use Rattle.turn_client_api.specs.Receive.{first_turn}
-use Rattle.turn_client_api.specs.Answers.{EndsAfterTurns, RecvEnds, before_others}
+use Rattle.turn_client_api.specs.Receive.{first_frame_step}
+use Rattle.turn_client_api.specs.Answers.{EndsAfterSteps, RecvEnds, before_others}
 use Rattle.turn_client_api.specs.Steps.{Call, EndsWithoutMemory, Leaves, state_after}
 use Rattle.turn_client_api.specs.Steps.{Delete, CreatePermission, BindChannel, TcpConnect, AllocatedTcpSocket, TcpClosed, SendTo, Recv, PollRecv, Poll, PollTransmit, PollEvent, RelayedAddresses, Permissions, HavePermission, ProtocolError}
-use Rattle.turn_client_api.proofs.RunKeepLemmas.{IsKept, first_turn-kept, turns-kept}
+use Rattle.turn_client_api.proofs.RunKeepLemmas.{IsKept, first_frame_step-kept, turns-kept}
 
 -- ---- before all streams are processed
 
@@ -25,7 +25,7 @@ behind (_, t) = Some t
 -- the control stream at this local address was processed once, or it is broken and nothing has changed
 abbrev pub IsBehind : SocketAddr → List ℕ → ℕ → State → State → Type 0
 IsBehind to piece now s u =
-    (stream : Stream) × (stream_at to s ≡ Some stream) × (((stream.mode ≡ Control) × (u ≡ (first_turn stream piece now s).1)) ⊎ (u ≡ s))
+    (stream : Stream) × (stream_at to s ≡ Some stream) × (((stream.mode ≡ Control) × (u ≡ (first_frame_step stream piece now s).1)) ⊎ (u ≡ s))
 
 behind-same : (p : Outcome × State) (u : State) → behind p ≡ Some u → u ≡ p.1
 unfolding behind
@@ -41,7 +41,7 @@ before-IsBehind to piece now s u e = by (stream_at to s) refl
     in_mode : (m : Mode) (stream : Stream) → stream_at to s ≡ Some (record stream { mode = m }) → IsBehind to piece now s u
     in_mode Control stream f =
         let first = record stream { mode = Control } in
-        (first, f, inl (refl, behind-same (first_turn first piece now s) u (rw f at e)))
+        (first, f, inl (refl, behind-same (first_frame_step first piece now s) u (rw f at e)))
     in_mode Broken stream f = (record stream { mode = Broken }, f, inr (at (same_address stream.local s.local) (rw f at e)))
       where
         at : (b : Bool) → cond b (Some s) None ≡ Some u → u ≡ s
@@ -60,7 +60,7 @@ module _ (R : State → State → Type 0) (k : IsKept R) (ends : (s : State) →
   closed-kept : (s t u : State) → R s t → u ≡ closed t → R s u
   closed-kept s t u kept e = subst (λ (x : State). R s x) (sym e) (k.trans s t (closed t) kept (ends t))
 
-  turns_end-kept : (now : ℕ) (s u : State) → EndsAfterTurns now s u → R s u
+  turns_end-kept : (now : ℕ) (s u : State) → EndsAfterSteps now s u → R s u
   turns_end-kept now s u (t, (n, led), broken) = by (find is_ready t.streams) broken
     where
       there : R s t
@@ -73,14 +73,14 @@ module _ (R : State → State → Type 0) (k : IsKept R) (ends : (s : State) →
           closed-kept s last u (k.trans s t last there (k.streams t last.streams)) e
 
   before-kept : (to : SocketAddr) (piece : List ℕ) (now : ℕ) (s u : State) → IsBehind to piece now s u → R s u
-  before-kept to piece now s u (stream, f, inl (mode, e)) = subst (λ (x : State). R s x) (sym e) (first_turn-kept R k stream piece now s)
+  before-kept to piece now s u (stream, f, inl (mode, e)) = subst (λ (x : State). R s x) (sym e) (first_frame_step-kept R k stream piece now s)
   before-kept to piece now s u (stream, f, inr e) = subst (λ (x : State). R s x) (sym e) (k.same s)
 
   recv_end-kept : (to : SocketAddr) (piece : List ℕ) (now : ℕ) (s t : State) → RecvEnds to piece now s t → R s t
   recv_end-kept to piece now s t (inl e) = closed-kept s (broken_at to s) t (k.streams s (broken_at to s).streams) e
   recv_end-kept to piece now s t (inr (over, some, later)) = by (before_others to piece now s) refl later
     where
-      by : (o : Option State) → before_others to piece now s ≡ o → IsSomeAnd o (λ u. EndsAfterTurns now u t) → R s t
+      by : (o : Option State) → before_others to piece now s ≡ o → IsSomeAnd o (λ u. EndsAfterSteps now u t) → R s t
       by None e none = absurd none
       by (Some u) e h = k.trans s u t (before-kept to piece now s u (before-IsBehind to piece now s u e)) (turns_end-kept now u t h)
 

@@ -8,7 +8,7 @@ use Rattle.turn_types.specs.declared.family.AddressFamily.{AddressFamily}
 use Rattle.turn_agent.specs.Agent.{due, first_sent, timed_out_transaction, resent, sent_again}
 use Rattle.turn_agent.specs.declared.transaction.Transaction.{Transaction}
 use Rattle.turn_client_api.specs.State.{State, DataOffer, Grant, Allocation, Permission, Channel, Connect, Offer, Connection, Relay, Pending, Active, Reserved, Purpose, ForAllocation, Phase, New, Requesting, Authenticating, Allocated, Closed, agent_of}
-use Rattle.turn_client_api.specs.Grants.{allocations, family_of, in_turn, is_connect, is_of, is_pending_channel, is_pending_permission, without}
+use Rattle.turn_client_api.specs.Grants.{allocations, family_of, in_sequence, is_connect, is_of, is_pending_channel, is_pending_permission, without}
 use Rattle.turn_client_api.specs.Requests.{first_allocate, fresh_id, request_for, to_server}
 use Rattle.turn_client_api.specs.Effect.{closed, ended}
 use Rattle.turn_client_api.specs.Due.{has_event, has_reply, is_paused}
@@ -43,9 +43,9 @@ abbrev AllFewer : List (State → State) → Type 0
 AllFewer [] = ⊤
 AllFewer (step ∷ steps) = ((s : State) → Fewer s (step s)) × AllFewer steps
 
-in_turn-fewer : (steps : List (State → State)) (s : State) → AllFewer steps → Fewer s (in_turn steps s)
-in_turn-fewer [] s all = fewer-same s
-in_turn-fewer (step ∷ steps) s all = fewer-then s (step s) (in_turn steps (step s)) (all.0 s) (in_turn-fewer steps (step s) all.1)
+in_sequence-fewer : (steps : List (State → State)) (s : State) → AllFewer steps → Fewer s (in_sequence steps s)
+in_sequence-fewer [] s all = fewer-same s
+in_sequence-fewer (step ∷ steps) s all = fewer-then s (step s) (in_sequence steps (step s)) (all.0 s) (in_sequence-fewer steps (step s) all.1)
 
 channel-fewer : (o : Option Grant) (s : State) → Fewer s (channel_lapsed o s)
 channel-fewer None s = fewer-same s
@@ -59,7 +59,7 @@ channel-fewer (Some (Offer offer)) s = fewer-same s
 channel-fewer (Some (Connection c)) s = fewer-same s
 
 lapsed_in-fewer : (family : AddressFamily) (given : Option ℕ) (purposes : List Purpose) (now : ℕ) (s : State) → Fewer s (lapsed_in family given purposes now s)
-lapsed_in-fewer family given purposes now s = in_turn-fewer steps s (
+lapsed_in-fewer family given purposes now s = in_sequence-fewer steps s (
   (λ t. adds-filter Never _ t.listed),
   (
     (λ t. adds-filter Never _ t.listed),

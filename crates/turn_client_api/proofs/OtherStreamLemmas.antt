@@ -11,7 +11,7 @@ use Rattle.turn_client_api.specs.Requests.{connection_bind_method}
 use Rattle.turn_client_api.specs.Judgement.{Judgement, Unrelated, Challenged, Fatal, LateResponse, DataIndication, ConnectionAttempt, SignedRequest, SignedSuccess, SignedError, bind_judgement, method_in}
 use Rattle.turn_client_api.specs.Connections.{bind_answered, bind_step, connection_at, with_mode}
 use Rattle.turn_client_api.specs.Payloads.{Outcome, Handled, Ignored, channel_sent, is_message, message_step}
-use Rattle.turn_client_api.specs.Streams.{broken_at, frame_step, framed_by, framed_turn, turn, turned, with_bytes}
+use Rattle.turn_client_api.specs.Streams.{broken_at, frame_step, framed_by, framed_stream_step, next_frame_step, detached_frame_step, with_bytes}
 use Rattle.turn_client_api.specs.LawsBodies.{IsAsideFrom}
 use Rattle.turn_client_api.proofs.AddressLemmas.{same_address-true}
 use Rattle.turn_client_api.proofs.HasLemmas.{has-found}
@@ -144,7 +144,7 @@ frame-aside stream frame now s = frame_in_mode stream.mode stream frame now s
 
 -- ---- a step
 
-framed-aside : (stream : Stream) (now : ℕ) (t : State) → IsAsideFrom stream.local t (framed_turn stream now t).1
+framed-aside : (stream : Stream) (now : ℕ) (t : State) → IsAsideFrom stream.local t (framed_stream_step stream now t).1
 framed-aside stream now t = by (begins_no_frame stream.bytes) (frame_len stream.bytes)
   where
     by : (b : Bool) (o : Option ℕ) → IsAsideFrom stream.local t (cond {A = Outcome × State} b (Handled, broken_at stream.local t) (framed_by stream now t o)).1
@@ -154,13 +154,13 @@ framed-aside stream now t = by (begins_no_frame stream.bytes) (frame_len stream.
         let u = (frame_step stream (take len stream.bytes) now t).1 in
         aside-then stream.local t u _ (frame-aside stream (take len stream.bytes) now t) (bytes-aside stream.local (drop len stream.bytes) u)
 
-turned_in_mode : (m : Mode) (stream : Stream) (now : ℕ) (t : State) → IsAsideFrom stream.local t (turned (record stream { mode = m }) now t).1
+turned_in_mode : (m : Mode) (stream : Stream) (now : ℕ) (t : State) → IsAsideFrom stream.local t (detached_frame_step (record stream { mode = m }) now t).1
 turned_in_mode Control stream now t = framed-aside (record stream { mode = Control }) now t
 turned_in_mode Waiting stream now t = framed-aside (record stream { mode = Waiting }) now t
 turned_in_mode (Bound peer) stream now t = same-aside stream.local t t refl
 turned_in_mode Broken stream now t = same-aside stream.local t t refl
 
-pub turn-aside : (stream : Stream) (now : ℕ) (s : State) → IsAsideFrom stream.local s (turn stream now s).1
+pub turn-aside : (stream : Stream) (now : ℕ) (s : State) → IsAsideFrom stream.local s (next_frame_step stream now s).1
 turn-aside stream now s =
     aside-then stream.local s (with_bytes stream.local [] s) _ (bytes-aside stream.local [] s)
     (turned_in_mode stream.mode stream now (with_bytes stream.local [] s))

@@ -6,7 +6,7 @@ use Rattle.turn_types.specs.Frames.{begins_no_frame, frame_len}
 use Rattle.turn_types.proofs.FrameLemmas.{frame_len-IsWhole}
 use Rattle.turn_types.proofs.SplitLemmas.{IsWhole-IsFrame}
 use Rattle.turn_client_api.specs.State.{State, Mode, Control, Waiting, Bound, Broken, Stream}
-use Rattle.turn_client_api.specs.Streams.{is_ready, most_turns, poll_recv_step, ready_len, turns_until_payload}
+use Rattle.turn_client_api.specs.Streams.{is_ready, most_turns, poll_recv_step, ready_len, steps_until_payload}
 use Rattle.turn_client_api.specs.Handled.{poll_recv_inputs, inputs_taken}
 use Rattle.turn_client_api.specs.LawsStreams.{HasNoFrame, IsDrained}
 use Rattle.turn_client_api.proofs.HasLemmas.{find-none, has-all}
@@ -33,8 +33,8 @@ drained-waits stream h = rw (waits-in stream.mode stream h) refl
 none-ready : (s : State) → All IsDrained s.streams → find is_ready s.streams ≡ None
 none-ready s all = find-none is_ready s.streams (λ stream h. drained-waits stream (has-all IsDrained stream s.streams all h))
 
-pub turns-rest : (n now : ℕ) (s : State) → find is_ready s.streams ≡ None → turns_until_payload n now s ≡ (None, s)
-unfolding turns_until_payload
+pub turns-rest : (n now : ℕ) (s : State) → find is_ready s.streams ≡ None → steps_until_payload n now s ≡ (None, s)
+unfolding steps_until_payload
 turns-rest zero now s e = refl
 turns-rest (suc n) now s e = rw e refl
 

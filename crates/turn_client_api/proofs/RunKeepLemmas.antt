@@ -10,8 +10,8 @@ use Rattle.turn_client_api.specs.State.{State, Mode, Control, Waiting, Bound, Br
 use Rattle.turn_client_api.specs.Grants.{same_transport}
 use Rattle.turn_client_api.specs.Connections.{bind_step}
 use Rattle.turn_client_api.specs.Payloads.{Payload, Outcome, Handled, Ignored, PeerData, PeerIcmp, channel_sent, datagram_step, is_channel_frame, is_message, message_step}
-use Rattle.turn_client_api.specs.Streams.{broken_at, control_frame_step, frame_step, framed_by, framed_turn, go_on, is_ready, most_turns, poll_recv_step, stream_at, turn, turned, turns_until_payload, turn_of_first, waiting_frame_step, with_bytes, without_stream}
-use Rattle.turn_client_api.specs.Receive.{connection_gone, first_turn, is_from_server, piece_step, recv_step, stream_step, tcp_closed_step, then_all}
+use Rattle.turn_client_api.specs.Streams.{broken_at, control_frame_step, frame_step, framed_by, framed_stream_step, go_on, is_ready, most_turns, poll_recv_step, stream_at, next_frame_step, detached_frame_step, steps_until_payload, first_ready_step, waiting_frame_step, with_bytes, without_stream}
+use Rattle.turn_client_api.specs.Receive.{connection_gone, first_frame_step, is_from_server, piece_step, recv_step, stream_step, tcp_closed_step, then_all}
 
 -- Of a relation between a state and a later one: each state is as itself, later is later again, streams
 -- do not count, and messages and the ends of connections keep it.
@@ -54,21 +54,21 @@ module _ (R : State → State → Type 0) (k : IsKept R) where
       let left = with_bytes stream.local (drop len stream.bytes) u in
       k.trans t u left (frame-kept stream (take len stream.bytes) now t) (k.streams u left.streams)
 
-  framed_turn-kept : (stream : Stream) (now : ℕ) (t : State) → R t (framed_turn stream now t).1
-  framed_turn-kept stream now t =
+  framed_stream_step-kept : (stream : Stream) (now : ℕ) (t : State) → R t (framed_stream_step stream now t).1
+  framed_stream_step-kept stream now t =
       kept-cond (begins_no_frame stream.bytes) t (Handled, broken_at stream.local t) (framed_by stream now t (frame_len stream.bytes))
       (k.streams t (broken_at stream.local t).streams) (framed_by-kept stream now t (frame_len stream.bytes))
 
-  turned_in_mode : (m : Mode) (stream : Stream) (now : ℕ) (t : State) → R t (turned (record stream { mode = m }) now t).1
-  turned_in_mode Control stream now t = framed_turn-kept (record stream { mode = Control }) now t
-  turned_in_mode Waiting stream now t = framed_turn-kept (record stream { mode = Waiting }) now t
+  turned_in_mode : (m : Mode) (stream : Stream) (now : ℕ) (t : State) → R t (detached_frame_step (record stream { mode = m }) now t).1
+  turned_in_mode Control stream now t = framed_stream_step-kept (record stream { mode = Control }) now t
+  turned_in_mode Waiting stream now t = framed_stream_step-kept (record stream { mode = Waiting }) now t
   turned_in_mode (Bound peer) stream now t = k.same t
   turned_in_mode Broken stream now t = k.same t
 
-  turn-kept : (stream : Stream) (now : ℕ) (s : State) → R s (turn stream now s).1
+  turn-kept : (stream : Stream) (now : ℕ) (s : State) → R s (next_frame_step stream now s).1
   turn-kept stream now s =
       let out = with_bytes stream.local [] s in
-      k.trans s out (turn stream now s).1 (k.streams s out.streams) (turned_in_mode stream.mode stream now out)
+      k.trans s out (next_frame_step stream now s).1 (k.streams s out.streams) (turned_in_mode stream.mode stream now out)
 
   go_on-kept : (next : State → Option Payload × State) (s : State) (p : Outcome × State) → R s p.1 → ((t : State) → R t (next t).1) → R s (go_on next p).1
   go_on-kept next s (PeerData payload, t) first more = first
@@ -76,14 +76,14 @@ module _ (R : State → State → Type 0) (k : IsKept R) where
   go_on-kept next s (Ignored, t) first more = k.trans s t (next t).1 first (more t)
   go_on-kept next s (PeerIcmp transport peer icmp, t) first more = k.trans s t (next t).1 first (more t)
 
-  pub turns-kept : (n now : ℕ) (s : State) → R s (turns_until_payload n now s).1
-  unfolding turns_until_payload
+  pub turns-kept : (n now : ℕ) (s : State) → R s (steps_until_payload n now s).1
+  unfolding steps_until_payload
   turns-kept zero now s = k.same s
   turns-kept (suc n) now s = by (find is_ready s.streams) (λ t. turns-kept n now t)
     where
-      by : (o : Option Stream) → ((t : State) → R t (turns_until_payload n now t).1) → R s (turn_of_first (turns_until_payload n now) now s o).1
+      by : (o : Option Stream) → ((t : State) → R t (steps_until_payload n now t).1) → R s (first_ready_step (steps_until_payload n now) now s o).1
       by None more = k.same s
-      by (Some stream) more = go_on-kept (turns_until_payload n now) s (turn stream now s) (turn-kept stream now s) more
+      by (Some stream) more = go_on-kept (steps_until_payload n now) s (next_frame_step stream now s) (turn-kept stream now s) more
 
   pub poll_recv-kept : (now : ℕ) (s : State) → R s (poll_recv_step now s).1
   poll_recv-kept now s = turns-kept (most_turns s) now s
@@ -94,12 +94,12 @@ module _ (R : State → State → Type 0) (k : IsKept R) where
   then_all-kept now s (Handled, t) first = k.trans s t (poll_recv_step now t).1 first (poll_recv-kept now t)
   then_all-kept now s (Ignored, t) first = k.trans s t (poll_recv_step now t).1 first (poll_recv-kept now t)
 
-  pub first_turn-kept : (stream : Stream) (piece : List ℕ) (now : ℕ) (s : State) → R s (first_turn stream piece now s).1
-  first_turn-kept stream piece now s = turn-kept (record stream { bytes = stream.bytes ++ piece }) now s
+  pub first_frame_step-kept : (stream : Stream) (piece : List ℕ) (now : ℕ) (s : State) → R s (first_frame_step stream piece now s).1
+  first_frame_step-kept stream piece now s = turn-kept (record stream { bytes = stream.bytes ++ piece }) now s
 
   piece_in_mode : (m : Mode) (stream : Stream) (piece : List ℕ) (now : ℕ) (s : State) → R s (piece_step (record stream { mode = m }) piece now s).1
-  piece_in_mode Control stream piece now s = then_all-kept now s (first_turn (record stream { mode = Control }) piece now s) (first_turn-kept (record stream { mode = Control }) piece now s)
-  piece_in_mode Waiting stream piece now s = first_turn-kept (record stream { mode = Waiting }) piece now s
+  piece_in_mode Control stream piece now s = then_all-kept now s (first_frame_step (record stream { mode = Control }) piece now s) (first_frame_step-kept (record stream { mode = Control }) piece now s)
+  piece_in_mode Waiting stream piece now s = first_frame_step-kept (record stream { mode = Waiting }) piece now s
   piece_in_mode (Bound peer) stream piece now s = k.streams s (with_bytes stream.local [] s).streams
   piece_in_mode Broken stream piece now s =
       kept-cond (same_address stream.local s.local) s (then_all now (Handled, s)) (Handled, s) (then_all-kept now s (Handled, s) (k.same s)) (k.same s)

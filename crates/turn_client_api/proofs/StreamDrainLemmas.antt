@@ -12,8 +12,8 @@ use Rattle.turn_types.proofs.SplitLemmas.{IsFrame-frame_len}
 use Rattle.turn_agent.specs.Agent.{same_address}
 use Rattle.turn_client_api.specs.State.{State, Mode, Control, Waiting, Bound, Broken, Stream}
 use Rattle.turn_client_api.specs.Payloads.{Payload, Outcome, Handled, Ignored, PeerData, PeerIcmp}
-use Rattle.turn_client_api.specs.Streams.{broken_at, frame_step, framed_by, framed_turn, go_on, is_ready, most_turns, poll_recv_step, ready_len, turn, turn_of_first, turns_until_payload, with_bytes}
-use Rattle.turn_client_api.specs.Receive.{first_turn, piece_step, then_all}
+use Rattle.turn_client_api.specs.Streams.{broken_at, frame_step, framed_by, framed_stream_step, go_on, is_ready, most_turns, poll_recv_step, ready_len, next_frame_step, first_ready_step, steps_until_payload, with_bytes}
+use Rattle.turn_client_api.specs.Receive.{first_frame_step, piece_step, then_all}
 use Rattle.turn_client_api.specs.LawsPeers.{IsNobodys}
 use Rattle.turn_client_api.specs.LawsStreams.{HasNoFrame, IsDrained}
 use Rattle.turn_client_api.proofs.StreamMessageLemmas.{Rebound, frame-rebound}
@@ -135,7 +135,7 @@ module _ (stream : Stream) (s : State) (found : find is_ready s.streams ≡ Some
       rw (is, ← map-map empty bind s.streams)
       (lighter-by rest (λ x. bind (empty x)) fill (later-Sets stream.local [] rest (λ x. bind (empty x)) fill bound (bytes_by-Sets stream.local rest)) fewer)
 
-framed-lighter : (stream : Stream) (now : ℕ) (s : State) → find is_ready s.streams ≡ Some stream → is_some (framed stream.bytes) ≡ true → weight (framed_turn stream now (with_bytes stream.local [] s)).1.streams < weight s.streams
+framed-lighter : (stream : Stream) (now : ℕ) (s : State) → find is_ready s.streams ≡ Some stream → is_some (framed stream.bytes) ≡ true → weight (framed_stream_step stream now (with_bytes stream.local [] s)).1.streams < weight s.streams
 unfolding framed
 framed-lighter stream now s found = by (begins_no_frame stream.bytes) (frame_len stream.bytes) refl
   where
@@ -152,7 +152,7 @@ framed-lighter stream now s found = by (begins_no_frame stream.bytes) (frame_len
         put_back-lighter stream s found (drop len stream.bytes) u (rw length-drop (omega (arith, is.least, some)))
         (frame-rebound stream (take len stream.bytes) now t)
 
-turned-lighter : (m : Mode) (stream : Stream) (now : ℕ) (s : State) → find is_ready s.streams ≡ Some (record stream { mode = m }) → weight (turn (record stream { mode = m }) now s).1.streams < weight s.streams
+turned-lighter : (m : Mode) (stream : Stream) (now : ℕ) (s : State) → find is_ready s.streams ≡ Some (record stream { mode = m }) → weight (next_frame_step (record stream { mode = m }) now s).1.streams < weight s.streams
 unfolding framed
 turned-lighter Control stream now s found =
     let u = record stream { mode = Control } in
@@ -163,7 +163,7 @@ turned-lighter Waiting stream now s found =
 turned-lighter (Bound peer) stream now s found = emptied-lighter (record stream { mode = Bound peer }) s found
 turned-lighter Broken stream now s found = emptied-lighter (record stream { mode = Broken }) s found
 
-pub turn-lighter : (stream : Stream) (now : ℕ) (s : State) → find is_ready s.streams ≡ Some stream → weight (turn stream now s).1.streams < weight s.streams
+pub turn-lighter : (stream : Stream) (now : ℕ) (s : State) → find is_ready s.streams ≡ Some stream → weight (next_frame_step stream now s).1.streams < weight s.streams
 turn-lighter stream now s found = turned-lighter stream.mode stream now s found
 
 -- ---- as many steps as there are bytes
@@ -180,23 +180,23 @@ none-ready now s empty None e = refl
 none-ready now s empty (Some stream) e = let less = turn-lighter stream now s e in absurd (omega (arith, empty, less))
 
 -- more steps than the streams' weight give the same
-pub turns-enough : (n m now : ℕ) (s : State) → weight s.streams ≤ n → weight s.streams ≤ m → turns_until_payload n now s ≡ turns_until_payload m now s
-unfolding turns_until_payload
+pub turns-enough : (n m now : ℕ) (s : State) → weight s.streams ≤ n → weight s.streams ≤ m → steps_until_payload n now s ≡ steps_until_payload m now s
+unfolding steps_until_payload
 turns-enough zero zero now s hn hm = refl
 turns-enough zero (suc m) now s hn hm = rw (none-ready now s hn _ refl) refl
 turns-enough (suc n) zero now s hn hm = rw (none-ready now s hm _ refl) refl
 turns-enough (suc n) (suc m) now s hn hm = by (find is_ready s.streams) refl (λ t p q. turns-enough n m now t p q)
   where
     Later : Type 0
-    Later = (t : State) → weight t.streams ≤ n → weight t.streams ≤ m → turns_until_payload n now t ≡ turns_until_payload m now t
+    Later = (t : State) → weight t.streams ≤ n → weight t.streams ≤ m → steps_until_payload n now t ≡ steps_until_payload m now t
 
-    by : (o : Option Stream) → find is_ready s.streams ≡ o → Later → turn_of_first (turns_until_payload n now) now s o ≡ turn_of_first (turns_until_payload m now) now s o
+    by : (o : Option Stream) → find is_ready s.streams ≡ o → Later → first_ready_step (steps_until_payload n now) now s o ≡ first_ready_step (steps_until_payload m now) now s o
     by None e more = refl
     by (Some stream) e more =
         let less = turn-lighter stream now s e in
-        go_on-same (turns_until_payload n now) (turns_until_payload m now) (turn stream now s) (more (turn stream now s).1 (omega (arith, less)) (omega (arith, less)))
+        go_on-same (steps_until_payload n now) (steps_until_payload m now) (next_frame_step stream now s) (more (next_frame_step stream now s).1 (omega (arith, less)) (omega (arith, less)))
 
-pub poll_recv-enough : (n now : ℕ) (s : State) → most_turns s ≤ n → turns_until_payload n now s ≡ poll_recv_step now s
+pub poll_recv-enough : (n now : ℕ) (s : State) → most_turns s ≤ n → steps_until_payload n now s ≡ poll_recv_step now s
 poll_recv-enough n now s h =
     let most = weight-le s.streams in
     turns-enough n (most_turns s) now s (omega (arith, most, h)) most
@@ -214,16 +214,16 @@ go_on-done next (Handled, t) done = done
 go_on-done next (Ignored, t) done = done
 go_on-done next (PeerIcmp transport peer icmp, t) done = done
 
-pub turns-done : (n now : ℕ) (s : State) → weight s.streams ≤ n → IsDone (turns_until_payload n now s)
-unfolding turns_until_payload
+pub turns-done : (n now : ℕ) (s : State) → weight s.streams ≤ n → IsDone (steps_until_payload n now s)
+unfolding steps_until_payload
 turns-done zero now s h = λ none. none-ready now s h _ refl
 turns-done (suc n) now s h = by (find is_ready s.streams) refl (λ t p. turns-done n now t p)
   where
-    by : (o : Option Stream) → find is_ready s.streams ≡ o → ((t : State) → weight t.streams ≤ n → IsDone (turns_until_payload n now t)) → IsDone (turn_of_first (turns_until_payload n now) now s o)
+    by : (o : Option Stream) → find is_ready s.streams ≡ o → ((t : State) → weight t.streams ≤ n → IsDone (steps_until_payload n now t)) → IsDone (first_ready_step (steps_until_payload n now) now s o)
     by None e more = λ none. e
     by (Some stream) e more =
         let less = turn-lighter stream now s e in
-        go_on-done (turns_until_payload n now) (turn stream now s) (more (turn stream now s).1 (omega (arith, less)))
+        go_on-done (steps_until_payload n now) (next_frame_step stream now s) (more (next_frame_step stream now s).1 (omega (arith, less)))
 
 -- ---- what is not ready
 
@@ -284,7 +284,7 @@ then_all-drained now (Ignored, t) h = by (poll_recv_step now t).0 refl h
     by (Some payload) e k = absurd k
 
 piece_in : (mode : Mode) (stream : Stream) (piece : List ℕ) (now : ℕ) (s : State) → mode ≡ Control → IsNobodys (piece_step (record stream { mode = mode }) piece now s).0 → All IsDrained (piece_step (record stream { mode = mode }) piece now s).1.streams
-piece_in Control stream piece now s e = then_all-drained now (first_turn (record stream { mode = Control }) piece now s)
+piece_in Control stream piece now s e = then_all-drained now (first_frame_step (record stream { mode = Control }) piece now s)
 piece_in Waiting stream piece now s e = cc
 piece_in (Bound peer) stream piece now s e = cc
 piece_in Broken stream piece now s e = cc

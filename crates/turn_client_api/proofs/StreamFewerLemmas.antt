@@ -7,7 +7,7 @@ use Rattle.std.specs.declared.net.socket_addr.SocketAddr.{SocketAddr}
 use Rattle.turn_agent.specs.Agent.{same_address}
 use Rattle.turn_client_api.specs.State.{State, Stream}
 use Rattle.turn_client_api.specs.Payloads.{Payload, Outcome, Handled, Ignored, PeerData, PeerIcmp}
-use Rattle.turn_client_api.specs.Streams.{go_on, is_ready, most_turns, poll_recv_step, turn, turn_of_first, turns_until_payload}
+use Rattle.turn_client_api.specs.Streams.{go_on, is_ready, most_turns, poll_recv_step, next_frame_step, first_ready_step, steps_until_payload}
 use Rattle.turn_client_api.specs.LawsStreams.{AreApart}
 use Rattle.turn_client_api.proofs.StreamApartLemmas.{IsNoneOf, differ-sym, ends}
 use Rattle.turn_client_api.proofs.StreamDrainLemmas.{turn-lighter}
@@ -39,15 +39,15 @@ go_on-less next n (Handled, t) first more = λ h. let less = more h in omega (ar
 go_on-less next n (Ignored, t) first more = λ h. let less = more h in omega (arith, first, less)
 go_on-less next n (PeerIcmp transport peer icmp, t) first more = λ h. let less = more h in omega (arith, first, less)
 
-pub turns-less : (n now : ℕ) (s : State) → IsLessThan (weight s.streams) (turns_until_payload n now s)
-unfolding turns_until_payload
+pub turns-less : (n now : ℕ) (s : State) → IsLessThan (weight s.streams) (steps_until_payload n now s)
+unfolding steps_until_payload
 turns-less zero now s = λ h. cc
 turns-less (suc n) now s = by (find is_ready s.streams) refl (λ t. turns-less n now t)
   where
-    by : (o : Option Stream) → find is_ready s.streams ≡ o → ((t : State) → IsLessThan (weight t.streams) (turns_until_payload n now t)) → IsLessThan (weight s.streams) (turn_of_first (turns_until_payload n now) now s o)
+    by : (o : Option Stream) → find is_ready s.streams ≡ o → ((t : State) → IsLessThan (weight t.streams) (steps_until_payload n now t)) → IsLessThan (weight s.streams) (first_ready_step (steps_until_payload n now) now s o)
     by None e more = λ h. cc
     by (Some stream) e more =
-        go_on-less (turns_until_payload n now) (weight s.streams) (turn stream now s) (turn-lighter stream now s e) (more (turn stream now s).1)
+        go_on-less (steps_until_payload n now) (weight s.streams) (next_frame_step stream now s) (turn-lighter stream now s e) (more (next_frame_step stream now s).1)
 
 pub poll_recv-fewer : (now : ℕ) (s : State) → AreApart s → IsSome (poll_recv_step now s).0 → most_turns (poll_recv_step now s).1 < most_turns s
 poll_recv-fewer now s apart some =

@@ -7,7 +7,7 @@ use Rattle.turn_client_api.specs.State.{State, Mode, Control, Waiting, Bound, Br
 use Rattle.turn_client_api.specs.Effect.{closed}
 use Rattle.turn_client_api.specs.Payloads.{Payload}
 use Rattle.turn_client_api.specs.Streams.{broken_at, is_ready}
-use Rattle.turn_client_api.specs.Answers.{EndsAfterTurns, RecvEnds, before_others}
+use Rattle.turn_client_api.specs.Answers.{EndsAfterSteps, RecvEnds, before_others}
 use Rattle.turn_client_api.specs.Steps.{Call, EndsWithoutMemory, Leaves, state_after}
 use Rattle.turn_client_api.specs.Steps.{Delete, CreatePermission, BindChannel, TcpConnect, AllocatedTcpSocket, TcpClosed, SendTo, Recv, PollRecv, Poll, PollTransmit, PollEvent, RelayedAddresses, Permissions, HavePermission, ProtocolError}
 use Rattle.turn_client_api.specs.LawsStreams.{AreApart}
@@ -15,7 +15,7 @@ use Rattle.turn_client_api.proofs.MemoryLemmas.{IsBehind, before-IsBehind}
 use Rattle.turn_client_api.proofs.StreamApartLemmas.{broken-apart, found-NotBroken}
 use Rattle.turn_client_api.proofs.StreamCallLemmas.{call-apart}
 use Rattle.turn_client_api.proofs.StreamDrainLemmas.{broken_by}
-use Rattle.turn_client_api.proofs.StreamStepLemmas.{StayApart, first_turn-apart, turns-apart}
+use Rattle.turn_client_api.proofs.StreamStepLemmas.{StayApart, first_frame_step-apart, turns-apart}
 
 -- what a state is equal to that keeps them distinct
 equal-apart : (s t u : State) → u ≡ t → StayApart s t → StayApart s u
@@ -25,7 +25,7 @@ broken_at-apart : (local : SocketAddr) (s : State) → StayApart s (broken_at lo
 unfolding broken_by
 broken_at-apart local s h = broken-apart local s.streams h
 
-turns_end-apart : (now : ℕ) (s u : State) → EndsAfterTurns now s u → StayApart s u
+turns_end-apart : (now : ℕ) (s u : State) → EndsAfterSteps now s u → StayApart s u
 turns_end-apart now s u (t, (n, led), broken) h = by (find is_ready t.streams) broken
   where
     by : (o : Option Stream) → IsSomeAnd o (λ stream. u ≡ closed (broken_at stream.local t)) → AreApart u
@@ -43,14 +43,14 @@ control-whole Broken e = λ f. cc
 before-apart : (to : SocketAddr) (piece : List ℕ) (now : ℕ) (s u : State) → IsBehind to piece now s u → StayApart s u
 before-apart to piece now s u (stream, f, inl (mode, e)) h =
     let whole = found-NotBroken (λ x. same_address x.local to) s.streams stream f (control-whole stream.mode mode) h.0 in
-    equal-apart s _ u e (first_turn-apart stream piece now s whole) h
+    equal-apart s _ u e (first_frame_step-apart stream piece now s whole) h
 before-apart to piece now s u (stream, f, inr e) h = equal-apart s s u e (λ k. k) h
 
 recv_end-apart : (to : SocketAddr) (piece : List ℕ) (now : ℕ) (s t : State) → RecvEnds to piece now s t → StayApart s t
 recv_end-apart to piece now s t (inl e) h = equal-apart s _ t e (broken_at-apart to s) h
 recv_end-apart to piece now s t (inr (over, some, later)) h = by (before_others to piece now s) refl later
   where
-    by : (o : Option State) → before_others to piece now s ≡ o → IsSomeAnd o (λ u. EndsAfterTurns now u t) → AreApart t
+    by : (o : Option State) → before_others to piece now s ≡ o → IsSomeAnd o (λ u. EndsAfterSteps now u t) → AreApart t
     by None e none = absurd none
     by (Some u) e end = turns_end-apart now u t end (before-apart to piece now s u (before-IsBehind to piece now s u e) h)
 

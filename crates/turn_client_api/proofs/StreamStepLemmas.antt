@@ -10,8 +10,8 @@ use Rattle.turn_client_api.specs.State.{State, Mode, Control, Waiting, Bound, Br
 use Rattle.turn_client_api.specs.Grants.{same_transport}
 use Rattle.turn_client_api.specs.Connections.{connection_at}
 use Rattle.turn_client_api.specs.Payloads.{Payload, Outcome, Handled, Ignored, PeerData, PeerIcmp, channel_sent, datagram_step, is_channel_frame, is_message, message_step}
-use Rattle.turn_client_api.specs.Streams.{broken_at, frame_step, framed_by, framed_turn, go_on, is_ready, most_turns, poll_recv_step, stream_at, turn, turned, turn_of_first, turns_until_payload, with_bytes}
-use Rattle.turn_client_api.specs.Receive.{connection_gone, first_turn, is_from_server, piece_step, recv_step, stream_step, tcp_closed_step, then_all}
+use Rattle.turn_client_api.specs.Streams.{broken_at, frame_step, framed_by, framed_stream_step, go_on, is_ready, most_turns, poll_recv_step, stream_at, next_frame_step, detached_frame_step, first_ready_step, steps_until_payload, with_bytes}
+use Rattle.turn_client_api.specs.Receive.{connection_gone, first_frame_step, is_from_server, piece_step, recv_step, stream_step, tcp_closed_step, then_all}
 use Rattle.turn_client_api.specs.LawsStreams.{AreApart}
 use Rattle.turn_client_api.proofs.StreamApartLemmas.{Apart, NotBroken, bound-NotBroken, bound-apart, broken-apart, bytes-apart, bytes-NotBroken, emptied-apart, filter-apart, found-NotBroken}
 use Rattle.turn_client_api.proofs.StreamDrainLemmas.{broken_by, bytes_by, found-ready, mode_by}
@@ -41,9 +41,9 @@ unfolding mode_by
 rebound-NotBroken local s t (inl same) whole = subst (NotBroken local) (sym same) whole
 rebound-NotBroken local s t (inr (other, peer, is)) whole = subst (NotBroken local) (sym is) (bound-NotBroken local other peer s.streams whole)
 
-framed_turn-apart : (stream : Stream) (now : ℕ) (t : State) → NotBroken stream.local t.streams → StayApart t (framed_turn stream now t).1
+framed_stream_step-apart : (stream : Stream) (now : ℕ) (t : State) → NotBroken stream.local t.streams → StayApart t (framed_stream_step stream now t).1
 unfolding bytes_by broken_by
-framed_turn-apart stream now t whole h = by (begins_no_frame stream.bytes) (frame_len stream.bytes)
+framed_stream_step-apart stream now t whole h = by (begins_no_frame stream.bytes) (frame_len stream.bytes)
   where
     by : (b : Bool) (o : Option ℕ) → AreApart (cond {A = Outcome × State} b (Handled, broken_at stream.local t) (framed_by stream now t o)).1
     by true o = broken-apart stream.local t.streams h
@@ -53,13 +53,13 @@ framed_turn-apart stream now t whole h = by (begins_no_frame stream.bytes) (fram
         let rebound = frame-rebound stream (take len stream.bytes) now t in
         bytes-apart stream.local (drop len stream.bytes) u.streams (rebound-NotBroken stream.local t u rebound whole) (rebound-apart t u rebound h)
 
-turned_in_mode : (m : Mode) (stream : Stream) (now : ℕ) (t : State) → NotBroken stream.local t.streams → StayApart t (turned (record stream { mode = m }) now t).1
-turned_in_mode Control stream now t whole h = framed_turn-apart (record stream { mode = Control }) now t whole h
-turned_in_mode Waiting stream now t whole h = framed_turn-apart (record stream { mode = Waiting }) now t whole h
+turned_in_mode : (m : Mode) (stream : Stream) (now : ℕ) (t : State) → NotBroken stream.local t.streams → StayApart t (detached_frame_step (record stream { mode = m }) now t).1
+turned_in_mode Control stream now t whole h = framed_stream_step-apart (record stream { mode = Control }) now t whole h
+turned_in_mode Waiting stream now t whole h = framed_stream_step-apart (record stream { mode = Waiting }) now t whole h
 turned_in_mode (Bound peer) stream now t whole h = h
 turned_in_mode Broken stream now t whole h = h
 
-turn-apart : (stream : Stream) (now : ℕ) (s : State) → NotBroken stream.local s.streams → StayApart s (turn stream now s).1
+turn-apart : (stream : Stream) (now : ℕ) (s : State) → NotBroken stream.local s.streams → StayApart s (next_frame_step stream now s).1
 unfolding bytes_by
 turn-apart stream now s whole h =
     let out = with_bytes stream.local [] s in
@@ -78,16 +78,16 @@ ready-whole Waiting stream e = λ f. cc
 ready-whole (Bound peer) stream e = λ f. cc
 ready-whole Broken stream e = cc
 
-pub turns-apart : (n now : ℕ) (s : State) → StayApart s (turns_until_payload n now s).1
-unfolding turns_until_payload
+pub turns-apart : (n now : ℕ) (s : State) → StayApart s (steps_until_payload n now s).1
+unfolding steps_until_payload
 turns-apart zero now s h = h
 turns-apart (suc n) now s h = by (find is_ready s.streams) refl (λ t. turns-apart n now t)
   where
-    by : (o : Option Stream) → find is_ready s.streams ≡ o → ((t : State) → StayApart t (turns_until_payload n now t).1) → AreApart (turn_of_first (turns_until_payload n now) now s o).1
+    by : (o : Option Stream) → find is_ready s.streams ≡ o → ((t : State) → StayApart t (steps_until_payload n now t).1) → AreApart (first_ready_step (steps_until_payload n now) now s o).1
     by None e more = h
     by (Some stream) e more =
         let whole = found-NotBroken is_ready s.streams stream e (ready-whole stream.mode stream (found-ready s.streams stream e)) h.0 in
-        go_on-apart (turns_until_payload n now) s (turn stream now s) (turn-apart stream now s whole h) more
+        go_on-apart (steps_until_payload n now) s (next_frame_step stream now s) (turn-apart stream now s whole h) more
 
 pub poll_recv-apart : (now : ℕ) (s : State) → StayApart s (poll_recv_step now s).1
 poll_recv-apart now s = turns-apart (most_turns s) now s
@@ -100,19 +100,19 @@ then_all-apart now (PeerIcmp transport peer icmp, t) h = h
 then_all-apart now (Handled, t) h = poll_recv-apart now t h
 then_all-apart now (Ignored, t) h = poll_recv-apart now t h
 
-pub first_turn-apart : (stream : Stream) (piece : List ℕ) (now : ℕ) (s : State) → NotBroken stream.local s.streams → StayApart s (first_turn stream piece now s).1
-first_turn-apart stream piece now s whole h = turn-apart (record stream { bytes = stream.bytes ++ piece }) now s whole h
+pub first_frame_step-apart : (stream : Stream) (piece : List ℕ) (now : ℕ) (s : State) → NotBroken stream.local s.streams → StayApart s (first_frame_step stream piece now s).1
+first_frame_step-apart stream piece now s whole h = turn-apart (record stream { bytes = stream.bytes ++ piece }) now s whole h
 
 piece_in_mode : (to : SocketAddr) (m : Mode) (stream : Stream) (piece : List ℕ) (now : ℕ) (s : State) → stream_at to s ≡ Some (record stream { mode = m }) → StayApart s (piece_step (record stream { mode = m }) piece now s).1
 unfolding bytes_by
 piece_in_mode to Control stream piece now s e h =
     let u = record stream { mode = Control } in
     let whole = found-NotBroken (λ x. same_address x.local to) s.streams u e (λ f. cc) h.0 in
-    then_all-apart now (first_turn u piece now s) (first_turn-apart u piece now s whole h)
+    then_all-apart now (first_frame_step u piece now s) (first_frame_step-apart u piece now s whole h)
 piece_in_mode to Waiting stream piece now s e h =
     let u = record stream { mode = Waiting } in
     let whole = found-NotBroken (λ x. same_address x.local to) s.streams u e (λ f. cc) h.0 in
-    first_turn-apart u piece now s whole h
+    first_frame_step-apart u piece now s whole h
 piece_in_mode to (Bound peer) stream piece now s e h = emptied-apart stream.local s.streams h
 piece_in_mode to Broken stream piece now s e h =
     apart-cond (same_address stream.local s.local) s (then_all now (Handled, s)) (Handled, s) (then_all-apart now (Handled, s)) (λ k. k) h

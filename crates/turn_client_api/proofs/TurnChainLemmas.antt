@@ -9,8 +9,8 @@ use Rattle.turn_types.specs.Frames.{begins_no_frame, frame_len}
 use Rattle.turn_agent.specs.Agent.{same_address}
 use Rattle.turn_client_api.specs.State.{State, Mode, Control, Waiting, Bound, Broken, Stream}
 use Rattle.turn_client_api.specs.Payloads.{Payload, Outcome, Handled, Ignored, PeerData, PeerIcmp, datagram_step}
-use Rattle.turn_client_api.specs.Streams.{broken_at, framed_by, framed_turn, go_on, is_ready, most_turns, payload_in, poll_recv_step, stream_at, turn, turn_of_first, turned, turns_until_payload, with_bytes, without_stream}
-use Rattle.turn_client_api.specs.Receive.{connection_gone, first_turn, is_from_server, piece_step, recv_step, stream_step, then_all}
+use Rattle.turn_client_api.specs.Streams.{broken_at, framed_by, framed_stream_step, go_on, is_ready, most_turns, payload_in, poll_recv_step, stream_at, next_frame_step, first_ready_step, detached_frame_step, steps_until_payload, with_bytes, without_stream}
+use Rattle.turn_client_api.specs.Receive.{connection_gone, first_frame_step, is_from_server, piece_step, recv_step, stream_step, then_all}
 use Rattle.turn_client_api.specs.Handled.{Input, fed, fed_taken, frame_taken, handled, is_front, processed, piece_inputs, poll_recv_inputs, recv_inputs, stream_inputs, taken, taken_first, taken_in, taken_of_len, then_taken, stream_input, inputs_taken, unless_given}
 use Rattle.turn_client_api.specs.Steps.{Call, packet_step, Delete, CreatePermission, BindChannel, TcpConnect, AllocatedTcpSocket, TcpClosed, SendTo, Recv, PollRecv, Poll, PollTransmit, PollEvent, RelayedAddresses, Permissions, HavePermission, ProtocolError}
 use Rattle.turn_client_api.specs.LawsHandled.{DiffersInStreams, ProcessesInputs, IsBoundAt, TakesInput, InputsLead}
@@ -84,7 +84,7 @@ leads-append (one ∷ front) later s t u (first, lead) second = (first, leads-ap
 one-leads : (one : Input) (s t : State) → DiffersInStreams s one.before → DiffersInStreams (processed one).1 t → InputsLead (one ∷ []) s t
 one-leads one s t first last = (first, last)
 
-framed-leads : (l : Bool) (stream : Stream) (now : ℕ) (t : State) → InputsLead (frame_taken l stream now t) t (framed_turn stream now t).1
+framed-leads : (l : Bool) (stream : Stream) (now : ℕ) (t : State) → InputsLead (frame_taken l stream now t) t (framed_stream_step stream now t).1
 framed-leads l stream now t = by (begins_no_frame stream.bytes) (frame_len stream.bytes)
   where
     by : (b : Bool) (o : Option ℕ) → InputsLead (cond b [] (taken_of_len l stream now t o)) t (cond {A = Outcome × State} b (Handled, broken_at stream.local t) (framed_by stream now t o)).1
@@ -94,16 +94,16 @@ framed-leads l stream now t = by (begins_no_frame stream.bytes) (frame_len strea
         let one = stream_input l stream (take len stream.bytes) now t in
         (differs-same t, bytes-differs stream.local (drop len stream.bytes) (processed one).1)
 
-turned_in_mode : (m : Mode) (l : Bool) (stream : Stream) (now : ℕ) (t : State) → InputsLead (taken_in l (record stream { mode = m }) now t) t (turned (record stream { mode = m }) now t).1
+turned_in_mode : (m : Mode) (l : Bool) (stream : Stream) (now : ℕ) (t : State) → InputsLead (taken_in l (record stream { mode = m }) now t) t (detached_frame_step (record stream { mode = m }) now t).1
 turned_in_mode Control l stream now t = framed-leads l (record stream { mode = Control }) now t
 turned_in_mode Waiting l stream now t = framed-leads l (record stream { mode = Waiting }) now t
 turned_in_mode (Bound peer) l stream now t = (differs-same t, differs-same t)
 turned_in_mode Broken l stream now t = differs-same t
 
-turn-leads : (l : Bool) (stream : Stream) (now : ℕ) (s : State) → InputsLead (taken l stream now s) s (turn stream now s).1
+turn-leads : (l : Bool) (stream : Stream) (now : ℕ) (s : State) → InputsLead (taken l stream now s) s (next_frame_step stream now s).1
 turn-leads l stream now s =
     let out = with_bytes stream.local [] s in
-    leads-before (taken_in l stream now out) s out (turn stream now s).1 (bytes-differs stream.local [] s) (turned_in_mode stream.mode l stream now out)
+    leads-before (taken_in l stream now out) s out (next_frame_step stream now s).1 (bytes-differs stream.local [] s) (turned_in_mode stream.mode l stream now out)
 
 -- ---- all streams
 
@@ -113,14 +113,14 @@ go_on-leads next later front s (Handled, t) first more = leads-append front (lat
 go_on-leads next later front s (Ignored, t) first more = leads-append front (later t) s t (next t).1 first (more t)
 go_on-leads next later front s (PeerIcmp transport peer icmp, t) first more = leads-append front (later t) s t (next t).1 first (more t)
 
-pub turns-lead : (n now : ℕ) (s : State) → InputsLead (inputs_taken n now s) s (turns_until_payload n now s).1
-unfolding turns_until_payload inputs_taken
+pub turns-lead : (n now : ℕ) (s : State) → InputsLead (inputs_taken n now s) s (steps_until_payload n now s).1
+unfolding steps_until_payload inputs_taken
 turns-lead zero now s = differs-same s
 turns-lead (suc n) now s = by (find is_ready s.streams) (λ t. turns-lead n now t)
   where
-    by : (o : Option Stream) → ((t : State) → InputsLead (inputs_taken n now t) t (turns_until_payload n now t).1) → InputsLead (taken_first (inputs_taken n now) now s o) s (turn_of_first (turns_until_payload n now) now s o).1
+    by : (o : Option Stream) → ((t : State) → InputsLead (inputs_taken n now t) t (steps_until_payload n now t).1) → InputsLead (taken_first (inputs_taken n now) now s o) s (first_ready_step (steps_until_payload n now) now s o).1
     by None more = differs-same s
-    by (Some stream) more = go_on-leads (turns_until_payload n now) (inputs_taken n now) (taken false stream now s) s (turn stream now s) (turn-leads false stream now s) more
+    by (Some stream) more = go_on-leads (steps_until_payload n now) (inputs_taken n now) (taken false stream now s) s (next_frame_step stream now s) (turn-leads false stream now s) more
 
 poll_recv-leads : (now : ℕ) (s : State) → InputsLead (poll_recv_inputs now s) s (poll_recv_step now s).1
 poll_recv-leads now s = turns-lead (most_turns s) now s
@@ -133,13 +133,13 @@ then_all-leads now front s (PeerIcmp transport peer icmp, t) first = leads-appen
 then_all-leads now front s (Handled, t) first = leads-append front (poll_recv_inputs now t) s t (poll_recv_step now t).1 first (poll_recv-leads now t)
 then_all-leads now front s (Ignored, t) first = leads-append front (poll_recv_inputs now t) s t (poll_recv_step now t).1 first (poll_recv-leads now t)
 
-pub fed-leads : (stream : Stream) (piece : List ℕ) (now : ℕ) (s : State) → InputsLead (fed_taken stream piece now s) s (first_turn stream piece now s).1
+pub fed-leads : (stream : Stream) (piece : List ℕ) (now : ℕ) (s : State) → InputsLead (fed_taken stream piece now s) s (first_frame_step stream piece now s).1
 fed-leads stream piece now s = turn-leads (is_front stream.bytes) (fed stream piece) now s
 
 piece_in_mode : (m : Mode) (stream : Stream) (piece : List ℕ) (now : ℕ) (s : State) → InputsLead (piece_inputs (record stream { mode = m }) piece now s) s (piece_step (record stream { mode = m }) piece now s).1
 piece_in_mode Control stream piece now s =
     let u = record stream { mode = Control } in
-    then_all-leads now (fed_taken u piece now s) s (first_turn u piece now s) (fed-leads u piece now s)
+    then_all-leads now (fed_taken u piece now s) s (first_frame_step u piece now s) (fed-leads u piece now s)
 piece_in_mode Waiting stream piece now s = fed-leads (record stream { mode = Waiting }) piece now s
 piece_in_mode (Bound peer) stream piece now s = fed-leads (record stream { mode = Bound peer }) piece now s
 piece_in_mode Broken stream piece now s = by (same_address stream.local s.local)

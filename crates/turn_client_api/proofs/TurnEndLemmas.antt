@@ -7,11 +7,11 @@ use Rattle.turn_stun.specs.declared.transport.TransportType.{TransportType}
 use Rattle.turn_stun.specs.declared.transport.TransportType.TheVariants.{Udp, Tcp}
 use Rattle.turn_agent.specs.Agent.{same_address}
 use Rattle.turn_client_api.specs.State.{State, Mode, Control, Waiting, Bound, Broken, Stream}
-use Rattle.turn_client_api.specs.Answers.{EndsAfterTurns, RecvEnds, before_others, takes_no_memory}
+use Rattle.turn_client_api.specs.Answers.{EndsAfterSteps, RecvEnds, before_others, takes_no_memory}
 use Rattle.turn_client_api.specs.Effect.{closed}
 use Rattle.turn_client_api.specs.Payloads.{Payload, Outcome, Handled, Ignored, PeerData, PeerIcmp}
-use Rattle.turn_client_api.specs.Streams.{broken_at, is_ready, most_turns, payload_in, stream_at, turn}
-use Rattle.turn_client_api.specs.Receive.{first_turn, is_from_server}
+use Rattle.turn_client_api.specs.Streams.{broken_at, is_ready, most_turns, payload_in, stream_at, next_frame_step}
+use Rattle.turn_client_api.specs.Receive.{first_frame_step, is_from_server}
 use Rattle.turn_client_api.specs.Handled.{Input, fed_taken, handled, piece_inputs, poll_recv_inputs, recv_inputs, stream_inputs, taken, taken_first, then_taken, inputs_taken, unless_given}
 use Rattle.turn_client_api.specs.Steps.{Call, EndsWithoutMemory, Delete, CreatePermission, BindChannel, TcpConnect, AllocatedTcpSocket, TcpClosed, SendTo, Recv, PollRecv, Poll, PollTransmit, PollEvent, RelayedAddresses, Permissions, HavePermission, ProtocolError}
 use Rattle.turn_client_api.specs.LawsHandled.{EndsAmidInputs, TakesInput, InputsLead}
@@ -47,15 +47,15 @@ taken-front (suc n) (suc m) now s h = by (find is_ready s.streams) refl (λ t le
     by None e more = ([], refl)
     by (Some stream) e more =
         let less = turn-lighter stream now s e in
-        let next = (turn stream now s).1 in
+        let next = (next_frame_step stream now s).1 in
         front-append (taken false stream now s) _ _
-        (front-given (payload_in (turn stream now s).0) (inputs_taken n now next) (inputs_taken m now next) (more next (omega (arith, less, h))))
+        (front-given (payload_in (next_frame_step stream now s).0) (inputs_taken n now next) (inputs_taken m now next) (more next (omega (arith, less, h))))
 
 -- the first of these inputs were processed, and the client has ended then
 abbrev Ends : List Input → State → State → Type 0
 Ends all s t = (front : List Input) × IsFrontOf front all × ((last : State) × InputsLead front s last × (t ≡ closed last))
 
-turns-end : (now : ℕ) (s t : State) → EndsAfterTurns now s t → Ends (poll_recv_inputs now s) s t
+turns-end : (now : ℕ) (s t : State) → EndsAfterSteps now s t → Ends (poll_recv_inputs now s) s t
 turns-end now s t (u, (n, led), broken) = by (find is_ready u.streams) broken
   where
     there : InputsLead (inputs_taken n now s) s u
@@ -77,7 +77,7 @@ ends-append first all s t u lead (front, is, (last, more, e)) = (first ++ front,
 
 -- the state in which all streams are processed, if these are
 abbrev EndsFrom : ℕ → State → Option State → Type 0
-EndsFrom now t o = IsSomeAnd o (λ u. EndsAfterTurns now u t)
+EndsFrom now t o = IsSomeAnd o (λ u. EndsAfterSteps now u t)
 
 control-end : (now : ℕ) (first : List Input) (s t : State) (p : Outcome × State) → InputsLead first s p.1 → EndsFrom now t (behind p) → Ends (first ++ then_taken now p) s t
 unfolding behind
@@ -90,7 +90,7 @@ piece_in_mode : (to : SocketAddr) (m : Mode) (stream : Stream) (piece : List ℕ
 unfolding behind
 piece_in_mode to Control stream piece now s t f end =
     let u = record stream { mode = Control } in
-    control-end now (fed_taken u piece now s) s t (first_turn u piece now s) (fed-leads u piece now s) (rw f at end)
+    control-end now (fed_taken u piece now s) s t (first_frame_step u piece now s) (fed-leads u piece now s) (rw f at end)
 piece_in_mode to Waiting stream piece now s t f end = absurd (rw f at end)
 piece_in_mode to (Bound peer) stream piece now s t f end = absurd (rw f at end)
 piece_in_mode to Broken stream piece now s t f end = by (same_address stream.local s.local) (rw f at end)

@@ -21,8 +21,8 @@ use Rattle.turn_client_api.specs.Effect.{closed}
 use Rattle.turn_client_api.specs.Payloads.{Payload, Outcome, is_channel_frame, is_message}
 use Rattle.turn_client_api.specs.Payloads as O
 use Rattle.turn_client_api.specs.Memory.{is_free_frame, packet_takes_memory}
-use Rattle.turn_client_api.specs.Streams.{broken_at, is_bound, is_ready, stream_at, turns_until_payload}
-use Rattle.turn_client_api.specs.Receive.{first_turn, is_from_server}
+use Rattle.turn_client_api.specs.Streams.{broken_at, is_bound, is_ready, stream_at, steps_until_payload}
+use Rattle.turn_client_api.specs.Receive.{first_frame_step, is_from_server}
 use Rattle.turn_client_api.specs.declared.receive.DataRangeOrOwned.{DataRangeOrOwned}
 use Rattle.turn_client_api.specs.declared.receive.DataRangeOrOwned.TheVariants as Data
 use Rattle.turn_client_api.specs.declared.receive.TurnPeerData.{TurnPeerData}
@@ -119,12 +119,12 @@ HandsBack transmit (Recv.PeerIcmp transport peer icmp_type icmp_code icmp_data) 
 
 -- so many steps without a payload lead from one state to the other
 abbrev pub LeadsTo : ℕ → State → State → Type 0
-LeadsTo now before s = (n : ℕ) × (turns_until_payload n now before ≡ (None, s))
+LeadsTo now before s = (n : ℕ) × (steps_until_payload n now before ≡ (None, s))
 
 -- After some steps without a payload a memory allocation for the next one failed: its stream is broken, and
 -- the client has ended, in the state that these steps left. If no stream is ready, no memory is allocated.
-abbrev pub EndsAfterTurns : ℕ → State → State → Type 0
-EndsAfterTurns now before s =
+abbrev pub EndsAfterSteps : ℕ → State → State → Type 0
+EndsAfterSteps now before s =
     (t : State) × LeadsTo now before t × IsSomeAnd (find is_ready t.streams) (λ stream. s ≡ closed (broken_at stream.local t))
 
 -- the state in which all streams are processed, if a piece of the control stream makes them ready
@@ -137,7 +137,7 @@ before_others to piece now s = option_and_then (λ stream. by stream stream.mode
     behind (_, t) = Some t
 
     by : Stream → Mode → Option State
-    by stream Control = behind (first_turn stream piece now s)
+    by stream Control = behind (first_frame_step stream piece now s)
     by stream Broken = if same_address stream.local s.local then Some s else None
     by stream _ = None
 
@@ -146,7 +146,7 @@ before_others to piece now s = option_and_then (λ stream. by stream stream.mode
 abbrev pub RecvEnds : SocketAddr → List ℕ → ℕ → State → State → Type 0
 RecvEnds to piece now was s =
     (s ≡ closed (broken_at to was))
-    ⊎ ((was.transport ≡ Tcp) × (piece ≢ []) × IsSomeAnd (before_others to piece now was) (λ t. EndsAfterTurns now t s))
+    ⊎ ((was.transport ≡ Tcp) × (piece ≢ []) × IsSomeAnd (before_others to piece now was) (λ t. EndsAfterSteps now t s))
 
 -- DATA indications and ChannelData messages allocate no memory over UDP, nor do bytes of a bound connection
 -- whose stream is empty; to record that such a connection has ended may allocate some

@@ -15,7 +15,7 @@ use Rattle.turn_types.specs.declared.family.AddressFamily.{AddressFamily}
 use Rattle.turn_agent.specs.Agent.{same_address}
 use Rattle.turn_client_api.specs.Config.{same_family}
 use Rattle.turn_client_api.specs.State.{State, Phase, Allocated, Closed, Grant, Permission, Channel, Connect, Connection, DataConnection, Relay, Progress, Pending, Active, Reserved, Origin, ServerRequest, ForRefresh, ForPermission, ForChannel, ForConnect, ForBind, Waiting, later_by}
-use Rattle.turn_client_api.specs.Grants.{allocations, allocation_for, connection_in, family_of, family_of_ip, in_turn, is_channel_of, is_past, is_permitted, offer_in, permission_for, same_transport, with_allocations, with_expired, with_grant, with_more_grants, without}
+use Rattle.turn_client_api.specs.Grants.{allocations, allocation_for, connection_in, family_of, family_of_ip, in_sequence, is_channel_of, is_past, is_permitted, offer_in, permission_for, same_transport, with_allocations, with_expired, with_grant, with_more_grants, without}
 use Rattle.turn_client_api.specs.Requests.{asked, connection_timed_out, drawn, fresh_id, lifetime_attribute, message_of, queued, refresh_method, request_for, requested, signed, to_server, accepted_reply, refused_reply, replied}
 use Rattle.turn_client_api.specs.Effect.{closed, fail_all}
 use Rattle.turn_client_api.specs.Retry.{bind_time}
@@ -131,7 +131,7 @@ abbrev pub bind_channel : ℕ → SocketAddr → ℕ → State → State
 bind_channel number peer now s =
     let text = request_for s (ForChannel number peer) (fresh_id s) in
     let ips = missing_permission peer s in
-    in_turn (
+    in_sequence (
     with_more_grants (Channel number peer Pending ∷ map (λ ip. Permission ip Pending) ips)
     ∷ asked (fresh_id s) text (ForChannel number peer ∷ map ForPermission ips) now
     ∷ queued true s.local text
@@ -198,7 +198,7 @@ with_stream local s = record s {
 
 -- the caller opened the connection: the server is to bind it
 abbrev pub socket_opened : ℕ → SocketAddr → SocketAddr → Origin → ℕ → State → State
-socket_opened id peer local origin now s = in_turn (
+socket_opened id peer local origin now s = in_sequence (
     offer_taken id peer
     ∷ answered_with (accepted_reply s) origin
     ∷ with_grant (Connection (record { local = local; peer = peer; deadline = Some (later_by bind_time now) }))
@@ -247,7 +247,7 @@ delete_text s = signed s (message_of refresh_method Request (lifetime_attribute 
 
 -- one REFRESH deletes all allocations; what is pending stays, and may still be granted
 abbrev pub deleted : ℕ → State → State
-deleted now s = in_turn (
+deleted now s = in_sequence (
     without is_granted_in
     ∷ all_expired now
     ∷ asked (fresh_id s) (delete_text s) (map (λ a. ForRefresh (family_of a.relayed) 0) (allocations s)) now

@@ -13,7 +13,7 @@ use Rattle.turn_types.specs.declared.family.AddressFamily.TheVariants.{IPV4, IPV
 use Rattle.turn_auth.specs.Challenge.{code_in}
 use Rattle.turn_agent.specs.Agent as A
 use Rattle.turn_client_api.specs.State.{State, Phase, Allocated, Closed, Grant, Allocation, Permission, Channel, Offer, Origin, OwnConnect, Progress, Pending, Active, Reserved, Purpose, ForAllocation, ForRefresh, ForPermission, ForChannel, ForConnect, later_by, seconds}
-use Rattle.turn_client_api.specs.Grants.{allocation_in, channel_at, first_in, in_turn, is_channel_of, is_connect_to, is_for_any, is_of, is_of_family, is_pending_permission, is_permission_of, permission_for, purposes_of, is_for_allocation, unlisted, without, with_allocations, with_grant, with_more_grants, jump, wait, failures_among}
+use Rattle.turn_client_api.specs.Grants.{allocation_in, channel_at, first_in, in_sequence, is_channel_of, is_connect_to, is_for_any, is_of, is_of_family, is_pending_permission, is_permission_of, permission_for, purposes_of, is_for_allocation, unlisted, without, with_allocations, with_grant, with_more_grants, jump, wait, failures_among}
 use Rattle.turn_client_api.specs.Requests.{relayed_kind, requested}
 use Rattle.turn_client_api.specs.Judgement.{lifetime_in, connection_id_in}
 use Rattle.turn_client_api.specs.declared.event.TurnEvent.TheVariants.{AllocationCreated, AllocationCreateFailed, PermissionCreated, PermissionCreateFailed, ChannelCreated, ChannelCreateFailed, TcpConnectFailed}
@@ -111,7 +111,7 @@ missing_families addresses s = filter (λ family. not (list_any (is_of_family fa
 
 -- the server allocated these addresses for so many seconds
 abbrev pub allocated : ℕ → List SocketAddr → ℕ → State → State
-allocated lifetime addresses now s = in_turn (
+allocated lifetime addresses now s = in_sequence (
     in_phase (phase_with addresses)
     ∷ without_families
     ∷ with_more_grants (map (new_allocation lifetime now) addresses)
@@ -224,14 +224,14 @@ permission_refused_too purposes s =
 -- One that was pending. The binding grants a permission too, if one was requested with it (RFC 8656,
 -- section 12.2), and a refusal removes it too.
 abbrev pub pending_channel_answered : ℕ → SocketAddr → ℕ → Bool → ℕ → State → State
-pending_channel_answered number peer id true now s = in_turn (
+pending_channel_answered number peer id true now s = in_sequence (
     listed_permissions_answered id true now
     ∷ without (is_channel_of number)
     ∷ with_grant (Channel number peer (Active (later_by channel_lifetime now)))
     ∷ wait (ChannelCreated s.config.allocation_transport peer ∷ [])
     ∷ []
     ) s
-pending_channel_answered number peer id false now s = in_turn (
+pending_channel_answered number peer id false now s = in_sequence (
     without (is_channel_of number)
     ∷ wait (ChannelCreateFailed s.config.allocation_transport peer ∷ [])
     ∷ permission_refused_too (purposes_of id s)

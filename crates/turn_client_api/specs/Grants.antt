@@ -185,8 +185,8 @@ is_listed id s = list_any (λ l. l.id == id) s.listed || list_any (is_of_request
 -- ---- grants are added and removed
 
 -- the changes in sequence, the first one first
-abbrev pub in_turn : List (State → State) → State → State
-in_turn steps s = fold (λ t step. step t) s steps
+abbrev pub in_sequence : List (State → State) → State → State
+in_sequence steps s = fold (λ t step. step t) s steps
 
 -- requests are no longer listed for grants of this kind
 abbrev pub unlisted : (Grant → Bool) → State → State

@@ -9,8 +9,8 @@ use Rattle.turn_types.specs.Frames.{begins_no_frame, frame_len}
 use Rattle.turn_agent.specs.Agent.{same_address}
 use Rattle.turn_client_api.specs.State.{State, Mode, Control, Waiting, Bound, Broken, Stream}
 use Rattle.turn_client_api.specs.Payloads.{Payload, Outcome, PeerData, PeerIcmp, datagram_step}
-use Rattle.turn_client_api.specs.Streams.{frame_step, is_ready, most_turns, owned, payload_in, stream_at, turn, with_bytes}
-use Rattle.turn_client_api.specs.Receive.{first_turn, is_from_server}
+use Rattle.turn_client_api.specs.Streams.{frame_step, is_ready, most_turns, owned, payload_in, stream_at, next_frame_step, with_bytes}
+use Rattle.turn_client_api.specs.Receive.{first_frame_step, is_from_server}
 use Rattle.turn_client_api.specs.Steps.{Call, Recv, PollRecv}
 
 -- an input: a datagram, or a frame of a stream that is taken out
@@ -78,7 +78,7 @@ unless_given None later = later
 abbrev pub taken_first : (State → List Input) → ℕ → State → Option Stream → List Input
 taken_first next now s None = []
 taken_first next now s (Some stream) =
-    taken false stream now s ++ unless_given (payload_in (turn stream now s).0) (next (turn stream now s).1)
+    taken false stream now s ++ unless_given (payload_in (next_frame_step stream now s).0) (next (next_frame_step stream now s).1)
 
 unfoldable pub inputs_taken : ℕ → ℕ → State → List Input
 inputs_taken zero now s = []
@@ -111,7 +111,7 @@ abbrev pub piece_inputs : Stream → List ℕ → ℕ → State → List Input
 piece_inputs stream piece now s = by stream.mode
   where
     by : Mode → List Input
-    by Control = fed_taken stream piece now s ++ then_taken now (first_turn stream piece now s)
+    by Control = fed_taken stream piece now s ++ then_taken now (first_frame_step stream piece now s)
     by Waiting = fed_taken stream piece now s
     by (Bound peer) = fed_taken stream piece now s
     by Broken = if same_address stream.local s.local then poll_recv_inputs now s else []

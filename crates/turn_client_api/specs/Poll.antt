@@ -6,7 +6,7 @@ use Rattle.std.specs.declared.net.socket_addr.SocketAddr.{SocketAddr}
 use Rattle.turn_types.specs.declared.family.AddressFamily.{AddressFamily}
 use Rattle.turn_agent.specs.Agent.{timed_out_transaction}
 use Rattle.turn_client_api.specs.State.{State, Phase, New, Requesting, Authenticating, Allocated, Closed, Grant, Allocation, Permission, Channel, Offer, Connection, Relay, DataOffer, Active, Reserved, Purpose, agent_of}
-use Rattle.turn_client_api.specs.Grants.{allocations, family_of, failures_among, first_in, connection_in, has_request, in_turn, is_connect, is_for_allocation, is_for_any, is_of, is_of_family, is_of_request, is_past, is_pending_channel, is_pending_permission, jump, purposes_of, unlisted, without}
+use Rattle.turn_client_api.specs.Grants.{allocations, family_of, failures_among, first_in, connection_in, has_request, in_sequence, is_connect, is_for_allocation, is_for_any, is_of, is_of_family, is_of_request, is_past, is_pending_channel, is_pending_permission, jump, purposes_of, unlisted, without}
 use Rattle.turn_client_api.specs.Effect.{closed, ended, reserved, without_families}
 use Rattle.turn_client_api.specs.Calls.{is_allocated}
 use Rattle.turn_client_api.specs.Due.{has_event, has_reply, next_wakeup}
@@ -92,7 +92,7 @@ set_free family now s = without (λ g. is_of family g && is_over now g) s
 
 -- all of this in an allocation that stays
 abbrev pub lapsed_in : AddressFamily → Option ℕ → List Purpose → ℕ → State → State
-lapsed_in family given purposes now s = in_turn (
+lapsed_in family given purposes now s = in_sequence (
     in_vain family purposes is_pending_channel
     ∷ in_vain family purposes is_pending_permission
     ∷ last_channel_lapsed family now

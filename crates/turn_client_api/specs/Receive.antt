@@ -10,7 +10,7 @@ use Rattle.turn_client_api.specs.State.{State, Mode, Control, Waiting, Bound, Br
 use Rattle.turn_client_api.specs.Grants.{is_connection_from, same_transport, without}
 use Rattle.turn_client_api.specs.Connections.{connection_at}
 use Rattle.turn_client_api.specs.Payloads.{Outcome, Handled, Ignored, PeerData, PeerIcmp, datagram_step}
-use Rattle.turn_client_api.specs.Streams.{all_of, owned, poll_recv_step, sent_by, stream_at, turn, with_bytes, without_stream}
+use Rattle.turn_client_api.specs.Streams.{all_of, owned, poll_recv_step, sent_by, stream_at, next_frame_step, with_bytes, without_stream}
 
 -- ---- a data connection ends
 
@@ -38,9 +38,9 @@ place_kept [] outcome = outcome
 place_kept waited outcome = owned outcome
 
 -- the piece is appended to the buffered bytes, and then a step of this stream follows
-abbrev pub first_turn : Stream → List ℕ → ℕ → State → Outcome × State
-first_turn stream piece now s =
-    let step = turn (record stream { bytes = stream.bytes ++ piece }) now s in
+abbrev pub first_frame_step : Stream → List ℕ → ℕ → State → Outcome × State
+first_frame_step stream piece now s =
+    let step = next_frame_step (record stream { bytes = stream.bytes ++ piece }) now s in
     (place_kept stream.bytes step.0, step.1)
 
 -- if no payload was found yet, all streams are processed as in `poll_recv`, and a payload replaces the
@@ -59,8 +59,8 @@ abbrev pub piece_step : Stream → List ℕ → ℕ → State → Outcome × Sta
 piece_step stream piece now s = by stream.mode
   where
     by : Mode → Outcome × State
-    by Control = then_all now (first_turn stream piece now s)
-    by Waiting = first_turn stream piece now s
+    by Control = then_all now (first_frame_step stream piece now s)
+    by Waiting = first_frame_step stream piece now s
     by (Bound peer) = (
       PeerData (sent_by peer (stream.bytes ++ piece) (whole_piece stream.bytes piece)),
       with_bytes stream.local [] s,

@@ -9,7 +9,7 @@ use Rattle.turn_client_api.specs.Receive.{recv_step, tcp_closed_step}
 use Rattle.turn_client_api.specs.Calls.{allocated_tcp_socket_step, bind_channel_step, create_permission_step, delete_step, protocol_error_step, send_to_step, tcp_connect_step}
 use Rattle.turn_client_api.specs.Poll.{poll_step}
 use Rattle.turn_client_api.specs.Transmit.{transmit_step}
-use Rattle.turn_client_api.specs.Answers.{EndsAfterTurns, RecvEnds, event_step, takes_no_memory}
+use Rattle.turn_client_api.specs.Answers.{EndsAfterSteps, RecvEnds, event_step, takes_no_memory}
 pub use Rattle.turn_client_api.specs.declared.call.Call.{Call}
 pub use Rattle.turn_client_api.specs.declared.call.Call.TheVariants.{Delete, CreatePermission, BindChannel, TcpConnect, AllocatedTcpSocket, TcpClosed, SendTo, Recv, PollRecv, Poll, PollTransmit, PollEvent, ProtocolError, RelayedAddresses, Permissions, HavePermission}
 
@@ -46,7 +46,7 @@ state_after_all s (call ∷ calls) = state_after_all (state_after call s) calls
 abbrev pub EndsWithoutMemory : Call → State → State → Type 0
 EndsWithoutMemory (Recv packet now) s t =
     (takes_no_memory packet.transport packet.from packet.to packet.payload s ≡ false) × RecvEnds packet.to packet.payload now s t
-EndsWithoutMemory (PollRecv now) s t = EndsAfterTurns now s t
+EndsWithoutMemory (PollRecv now) s t = EndsAfterSteps now s t
 EndsWithoutMemory (Poll now) s t = t ≡ closed s
 EndsWithoutMemory (PollTransmit now) s t = t ≡ closed s
 EndsWithoutMemory ProtocolError s t = t ≡ closed s

@@ -109,24 +109,24 @@ framed_by stream now t (Some len) =
 
 -- bytes that no frame begins with break the stream when they are processed (our choice: where the next
 -- frame begins can't be known)
-abbrev pub framed_turn : Stream → ℕ → State → Outcome × State
-framed_turn stream now t =
+abbrev pub framed_stream_step : Stream → ℕ → State → Outcome × State
+framed_stream_step stream now t =
     if begins_no_frame stream.bytes then (Handled, broken_at stream.local t)
     else framed_by stream now t (frame_len stream.bytes)
 
 -- a step of a stream that is taken out: in this state it holds nothing
-abbrev pub turned : Stream → ℕ → State → Outcome × State
-turned stream now t = by stream.mode
+abbrev pub detached_frame_step : Stream → ℕ → State → Outcome × State
+detached_frame_step stream now t = by stream.mode
   where
     by : Mode → Outcome × State
-    by Control = framed_turn stream now t
-    by Waiting = framed_turn stream now t
+    by Control = framed_stream_step stream now t
+    by Waiting = framed_stream_step stream now t
     by (Bound peer) = (PeerData (sent_by peer stream.bytes None), t)
     by Broken = (Handled, t)
 
 -- one frame of a stream, or all bytes of a bound one: they are taken out of the stream first
-abbrev pub turn : Stream → ℕ → State → Outcome × State
-turn stream now s = turned stream now (with_bytes stream.local [] s)
+abbrev pub next_frame_step : Stream → ℕ → State → Outcome × State
+next_frame_step stream now s = detached_frame_step stream now (with_bytes stream.local [] s)
 
 -- ---- all streams, in the order in which they were opened
 
@@ -137,15 +137,15 @@ go_on next (Handled, s) = next s
 go_on next (Ignored, s) = next s
 go_on next (PeerIcmp transport peer icmp, s) = next s
 
-abbrev pub turn_of_first : (State → Option Payload × State) → ℕ → State → Option Stream → Option Payload × State
-turn_of_first next now s None = (None, s)
-turn_of_first next now s (Some stream) = go_on next (turn stream now s)
+abbrev pub first_ready_step : (State → Option Payload × State) → ℕ → State → Option Stream → Option Payload × State
+first_ready_step next now s None = (None, s)
+first_ready_step next now s (Some stream) = go_on next (next_frame_step stream now s)
 
 -- so many steps, each of the first stream that is ready, or as many as there are until a payload; an ICMP
 -- report is dropped here
-unfoldable pub turns_until_payload : ℕ → ℕ → State → Option Payload × State
-turns_until_payload zero now s = (None, s)
-turns_until_payload (suc n) now s = turn_of_first (turns_until_payload n now) now s (find is_ready s.streams)
+unfoldable pub steps_until_payload : ℕ → ℕ → State → Option Payload × State
+steps_until_payload zero now s = (None, s)
+steps_until_payload (suc n) now s = first_ready_step (steps_until_payload n now) now s (find is_ready s.streams)
 
 -- each step takes a byte at least
 abbrev pub most_turns : State → ℕ
@@ -153,7 +153,7 @@ most_turns s = sum_by (λ stream. length stream.bytes) s.streams
 
 -- the next payload in the streams
 abbrev pub poll_recv_step : ℕ → State → Option Payload × State
-poll_recv_step now s = turns_until_payload (most_turns s) now s
+poll_recv_step now s = steps_until_payload (most_turns s) now s
 
 abbrev pub payload_in : Outcome → Option Payload
 payload_in (PeerData payload) = Some payload

@@ -12,7 +12,7 @@ ghost use Rattle.turn_client_api.specs.Streams.{HoldsLittle, poll_recv_step};
 ghost use Rattle.turn_client_api.specs.Poll.{poll_step};
 ghost use Rattle.turn_client_api.specs.Transmit.{next_transmit, transmit_step};
 ghost use Rattle.turn_client_api.specs.Alarm.{IsTimely};
-ghost use Rattle.turn_client_api.specs.Answers.{BindsChannel, Connects, CreatesPermission, Deletes, EndsAfterTurns, HandsBack, IsNoWay, IsSent, RecvEnds, TakesSocket, event_step, given_payload, outcome_of, takes_no_memory};
+ghost use Rattle.turn_client_api.specs.Answers.{BindsChannel, Connects, CreatesPermission, Deletes, EndsAfterSteps, HandsBack, IsNoWay, IsSent, RecvEnds, TakesSocket, event_step, given_payload, outcome_of, takes_no_memory};
 
 use crate::addresses::{PermissionAddressesIter, RelayedAddressesIter};
 use crate::error::{
@@ -261,7 +261,7 @@ pub trait TurnClientApi: Debug + Drop {
         // With no payload left, each stream waits for the rest of a frame.
         ensures little { IfOk result (λ given. IsNone given → All HoldsLittle (state self.new).streams) }
         ensures after { OnOk result (state self.new ≡ (poll_recv_step now (state self.old)).1) }
-        ensures no_memory { OnErr result (EndsAfterTurns now (state self.old) (state self.new)) };
+        ensures no_memory { OnErr result (EndsAfterSteps now (state self.old) (state self.new)) };
 
     /// Handles expired timers and returns what to do next: wait until a time, open or close a data
     /// connection, or nothing more.

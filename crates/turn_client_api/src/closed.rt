@@ -132,7 +132,7 @@ impl TurnClientApi for ClosedClient {
         Ok(TurnRecvRet::Ignored(transmit))
     }
 
-    #[tactic(auto, unfolding(crate::specs::Streams::turns_until_payload))]
+    #[tactic(auto, unfolding(crate::specs::Streams::steps_until_payload))]
     fn poll_recv(&mut self, _now: Instant) -> Result<Option<TurnPeerData<Vec<u8>>>, AllocError> {
         Ok(None)
     }

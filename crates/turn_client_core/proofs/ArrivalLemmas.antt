@@ -5,10 +5,10 @@ use Rattle.std.specs.Option.{option_map, option_map_or}
 use Rattle.std.specs.declared.net.socket_addr.SocketAddr.{SocketAddr}
 use Rattle.turn_stun.specs.declared.transport.TransportType.TheVariants.{Tcp}
 use Rattle.turn_agent.specs.Agent.{same_address}
-use Rattle.turn_client_api.specs.Answers.{EndsAfterTurns, RecvEnds, before_others}
+use Rattle.turn_client_api.specs.Answers.{EndsAfterSteps, RecvEnds, before_others}
 use Rattle.turn_client_api.specs.Effect.{closed}
 use Rattle.turn_client_api.specs.Payloads.{Outcome, Handled, Ignored, PeerData, PeerIcmp}
-use Rattle.turn_client_api.specs.Receive.{connection_gone, first_turn, piece_step}
+use Rattle.turn_client_api.specs.Receive.{connection_gone, first_frame_step, piece_step}
 use Rattle.turn_client_api.specs.State.{State}
 use Rattle.turn_client_api.specs.Streams.{broken_at, stream_at, with_bytes, without_stream}
 use Rattle.turn_client_api.specs.declared.state.Mode.{Mode}
@@ -16,7 +16,7 @@ use Rattle.turn_client_api.specs.declared.state.Mode.TheVariants.{Control, Waiti
 use Rattle.turn_client_api.specs.declared.state.Stream.{Stream}
 use Rattle.turn_client_api.proofs.AddressLemmas.{same_address-true}
 use Rattle.turn_client_api.proofs.MemoryLemmas.{behind}
-use Rattle.turn_client_core.specs.Turns.{EndsBehind, PieceEnds, broken_turned, fed_turned, is_broken, others_from, piece_at, piece_turned}
+use Rattle.turn_client_core.specs.StreamSteps.{EndsBehind, PieceEnds, broken_piece_step, fed_frame_step, is_broken, others_from, piece_at, whole_piece_step}
 use Rattle.turn_client_core.proofs.TurnLemmas.{emptied-broken}
 
 -- the stream that is found has this local address
@@ -35,14 +35,14 @@ stream_at-local local s stream e = found-local local s.streams stream e
 -- ---- a piece of a stream that is not broken
 
 turned-mode : (mode : Mode) (stream : Stream) (piece : List ℕ) (now : ℕ) (s : State) → is_broken mode ≡ false
-    → piece_step (record stream { mode = mode }) piece now s ≡ piece_turned (record stream { mode = mode }) piece now (with_bytes stream.local [] s)
+    → piece_step (record stream { mode = mode }) piece now s ≡ whole_piece_step (record stream { mode = mode }) piece now (with_bytes stream.local [] s)
 turned-mode Control stream piece now s whole = refl
 turned-mode Waiting stream piece now s whole = refl
 turned-mode (Bound peer) stream piece now s whole = refl
 turned-mode Broken stream piece now s whole = cc
 
 pub piece-turned : (to : SocketAddr) (stream : Stream) (piece : List ℕ) (now : ℕ) (s : State) → stream_at to s ≡ Some stream → 0 < length piece → is_broken stream.mode ≡ false
-    → piece_at to piece now s ≡ piece_turned stream piece now (with_bytes stream.local [] s)
+    → piece_at to piece now s ≡ whole_piece_step stream piece now (with_bytes stream.local [] s)
 piece-turned to stream [] now s e some whole = absurd (omega (arith, some))
 piece-turned to stream (b ∷ bs) now s e some whole = rw e (turned-mode stream.mode stream (b ∷ bs) now s whole)
 
@@ -64,11 +64,11 @@ behind-from (Handled, t) P h = h
 behind-from (Ignored, t) P h = h
 
 others-in : (to : SocketAddr) (mode : Mode) (stream : Stream) (piece : List ℕ) (now : ℕ) (was s : State) → stream_at to was ≡ Some (record stream { mode = mode }) → mode ≡ Control
-    → EndsBehind now (fed_turned (record stream { mode = mode }) piece now (with_bytes stream.local [] was)) s
-    → IsSomeAnd (before_others to piece now was) (λ t. EndsAfterTurns now t s)
+    → EndsBehind now (fed_frame_step (record stream { mode = mode }) piece now (with_bytes stream.local [] was)) s
+    → IsSomeAnd (before_others to piece now was) (λ t. EndsAfterSteps now t s)
 unfolding behind
 others-in to Control stream piece now was s e control ends =
-    rw e (behind-from (first_turn (record stream { mode = Control }) piece now was) (λ t. EndsAfterTurns now t s) ends)
+    rw e (behind-from (first_frame_step (record stream { mode = Control }) piece now was) (λ t. EndsAfterSteps now t s) ends)
 others-in to Waiting stream piece now was s e control ends = cc
 others-in to (Bound peer) stream piece now was s e control ends = cc
 others-in to Broken stream piece now was s e control ends = cc
@@ -83,7 +83,7 @@ piece-ends to stream piece now was s over e some (inr (control, ends)) =
 -- ---- a piece of a broken stream
 
 broken-mode : (mode : Mode) (to : SocketAddr) (stream : Stream) (piece : List ℕ) (now : ℕ) (s : State) → is_broken mode ≡ true → stream.local ≡ to
-    → piece_step (record stream { mode = mode }) piece now s ≡ broken_turned to now s
+    → piece_step (record stream { mode = mode }) piece now s ≡ broken_piece_step to now s
 broken-mode Broken to stream piece now s broken e = rw e refl
 broken-mode Control to stream piece now s broken e = cc
 broken-mode Waiting to stream piece now s broken e = cc
@@ -91,23 +91,23 @@ broken-mode (Bound peer) to stream piece now s broken e = cc
 
 -- it is dropped, or all other streams are processed
 pub piece-broken : (to : SocketAddr) (piece : List ℕ) (now : ℕ) (s : State) → option_map_or (λ (x : Stream). is_broken x.mode) (stream_at to s) false ≡ true → 0 < length piece
-    → piece_at to piece now s ≡ broken_turned to now s
+    → piece_at to piece now s ≡ broken_piece_step to now s
 piece-broken to [] now s e some = absurd (omega (arith, some))
 piece-broken to (b ∷ bs) now s e some = by (stream_at to s) refl e
   where
-    by : (o : Option Stream) → stream_at to s ≡ o → option_map_or (λ (x : Stream). is_broken x.mode) o false ≡ true → piece_at to (b ∷ bs) now s ≡ broken_turned to now s
+    by : (o : Option Stream) → stream_at to s ≡ o → option_map_or (λ (x : Stream). is_broken x.mode) o false ≡ true → piece_at to (b ∷ bs) now s ≡ broken_piece_step to now s
     by None f g = cc
     by (Some stream) f g = rw f (broken-mode stream.mode to stream (b ∷ bs) now s g (stream_at-local to s stream f))
 
 others-broken : (to : SocketAddr) (mode : Mode) (stream : Stream) (piece : List ℕ) (now : ℕ) (was s : State) → stream_at to was ≡ Some (record stream { mode = mode }) → is_broken mode ≡ true
-    → stream.local ≡ to → same_address to was.local ≡ true → EndsAfterTurns now was s → IsSomeAnd (before_others to piece now was) (λ t. EndsAfterTurns now t s)
+    → stream.local ≡ to → same_address to was.local ≡ true → EndsAfterSteps now was s → IsSomeAnd (before_others to piece now was) (λ t. EndsAfterSteps now t s)
 others-broken to Broken stream piece now was s e broken local here ends = rw (e, local, here) ends
 others-broken to Control stream piece now was s e broken local here ends = cc
 others-broken to Waiting stream piece now was s e broken local here ends = cc
 others-broken to (Bound peer) stream piece now was s e broken local here ends = cc
 
 pub broken-ends : (to : SocketAddr) (piece : List ℕ) (now : ℕ) (was s : State) → was.transport ≡ Tcp → option_map_or (λ (x : Stream). is_broken x.mode) (stream_at to was) false ≡ true → 0 < length piece
-    → (same_address to was.local ≡ true) × EndsAfterTurns now was s → RecvEnds to piece now was s
+    → (same_address to was.local ≡ true) × EndsAfterSteps now was s → RecvEnds to piece now was s
 broken-ends to piece now was s over e some (here, ends) = by (stream_at to was) refl e
   where
     by : (o : Option Stream) → stream_at to was ≡ o → option_map_or (λ (x : Stream). is_broken x.mode) o false ≡ true → RecvEnds to piece now was s

@@ -10,7 +10,7 @@ use Rattle.turn_types.proofs.FrameLemmas.{frame_len-IsWhole}
 use Rattle.turn_agent.specs.Agent.{same_address}
 use Rattle.turn_stun.specs.Message.{id_of}
 use Rattle.turn_auth.specs.LongTerm.{Challenge}
-use Rattle.turn_client_api.specs.Answers.{EndsAfterTurns, is_free_piece}
+use Rattle.turn_client_api.specs.Answers.{EndsAfterSteps, is_free_piece}
 use Rattle.turn_client_api.specs.Connections.{attempt_indicated, is_heeded}
 use Rattle.turn_client_api.specs.Grants.{purposes_of}
 use Rattle.turn_client_api.specs.Handled.{fed}
@@ -20,14 +20,14 @@ use Rattle.turn_client_api.specs.Memory.{challenge_takes_memory, frame_takes_mem
 use Rattle.turn_client_api.specs.Payloads.{Outcome, Handled, Ignored, PeerData, PeerIcmp, challenge_step, is_message, message_step}
 use Rattle.turn_client_api.specs.Retry.{most_challenges, retried}
 use Rattle.turn_client_api.specs.State.{State}
-use Rattle.turn_client_api.specs.Streams.{control_frame_step, framed_turn, is_bound, is_ready, stream_at, with_bytes}
+use Rattle.turn_client_api.specs.Streams.{control_frame_step, framed_stream_step, is_bound, is_ready, stream_at, with_bytes}
 use Rattle.turn_client_api.specs.declared.grant.Purpose.{Purpose}
 use Rattle.turn_client_api.specs.declared.state.Mode.{Mode}
 use Rattle.turn_client_api.specs.declared.state.Mode.TheVariants.{Control, Waiting, Bound, Broken}
 use Rattle.turn_client_api.specs.declared.state.Stream.{Stream}
 use Rattle.turn_client_api.proofs.StreamDrainLemmas.{ready-waits}
 use Rattle.turn_client_streams.specs.Buffered.{broken, front_of, passed, without_front}
-use Rattle.turn_client_core.specs.Turns.{EndsBehind, fed_turned, is_broken, piece_takes_none}
+use Rattle.turn_client_core.specs.StreamSteps.{EndsBehind, fed_frame_step, is_broken, piece_takes_none}
 use Rattle.turn_client_core.proofs.PieceLemmas.{front-begins, passed-local, passed-mode}
 use Rattle.turn_client_core.proofs.TurnLemmas.{framed-some, turns-none}
 
@@ -180,7 +180,7 @@ free-out piece s stream local free =
 
 -- ---- no step is left to end in
 
-pub rests-end : (now : ℕ) (s t : State) → find is_ready s.streams ≡ None → EndsAfterTurns now s t → ⊥
+pub rests-end : (now : ℕ) (s t : State) → find is_ready s.streams ≡ None → EndsAfterSteps now s t → ⊥
 rests-end now s t rest (u, (n, led), broken) =
     let same : s ≡ u = ap (λ p. p.1) (sym (turns-none n now s rest) ∙ led) in
     let none : find is_ready u.streams ≡ None = rw (sym same) rest in
@@ -266,24 +266,24 @@ free-rest piece t stream free = (free-is piece t stream free).rest
 
 -- then no stream is ready
 control-rests : (stream : Stream) (piece : List ℕ) (now : ℕ) (t : State) → frame_len piece ≡ Some (length piece) → find is_ready t.streams ≡ None → packet_takes_memory piece t ≡ false
-    → find is_ready (framed_turn (record stream { mode = Control; bytes = piece }) now t).1.streams ≡ None
+    → find is_ready (framed_stream_step (record stream { mode = Control; bytes = piece }) now t).1.streams ≡ None
 control-rests stream piece now t whole rest free =
     let u : Stream = record stream { mode = Control; bytes = piece } in
     let begins : begins_no_frame piece ≡ false = (frame_len-IsWhole piece (length piece) whole).begins in
     let front : Some piece ≡ front_of u = sym (ap (λ o. option_map (λ len. take len piece) o) whole ∙ ap Some (take-length piece)) in
     let left : passed u ≡ record u { bytes = [] } =
     ap (λ o. option_map_or (λ len. record u { bytes = drop len piece }) o u) whole ∙ ap (λ (bytes : List ℕ). record u { bytes = bytes }) (drop-length piece) in
-    let led : (framed_turn u now t).1 ≡ with_bytes stream.local [] t =
+    let led : (framed_stream_step u now t).1 ≡ with_bytes stream.local [] t =
     ap (λ p. p.1) (framed-some u piece now t begins front)
     ∙ (ap (λ (x : Stream). with_bytes x.local x.bytes (control_frame_step piece now t).1) left ∙ ap (with_bytes stream.local []) (control-stays piece now t free)) in
     subst (λ (x : State). find is_ready x.streams ≡ None) (sym led) (emptied-rest stream.local t rest)
 
-pub free-rests : (stream : Stream) (piece : List ℕ) (now : ℕ) (t : State) → stream.mode ≡ Control → is_free_frame piece t stream ≡ true → find is_ready (fed_turned stream piece now t).1.streams ≡ None
+pub free-rests : (stream : Stream) (piece : List ℕ) (now : ℕ) (t : State) → stream.mode ≡ Control → is_free_frame piece t stream ≡ true → find is_ready (fed_frame_step stream piece now t).1.streams ≡ None
 free-rests stream piece now t control free = let is = free-is piece t stream free in by stream.mode stream.bytes control is.waits is.whole is.rest is.takes
   where
     by : (mode : Mode) (bytes : List ℕ) → mode ≡ Control → bytes ≡ [] → frame_len piece ≡ Some (length piece) → find is_ready t.streams ≡ None
         → frame_takes_memory (record stream { mode = mode; bytes = bytes }) piece t ≡ false
-        → find is_ready (fed_turned (record stream { mode = mode; bytes = bytes }) piece now t).1.streams ≡ None
+        → find is_ready (fed_frame_step (record stream { mode = mode; bytes = bytes }) piece now t).1.streams ≡ None
     by Control [] m e whole rest takes = control-rests stream piece now t whole rest takes
     by Control (b ∷ bytes) m e whole rest takes = cc
     by Waiting bytes m e whole rest takes = cc

@@ -13,14 +13,14 @@ use Rattle.turn_types.proofs.FrameLemmas.{frame_len-IsWhole}
 use Rattle.turn_client_api.specs.Payloads.{Outcome, Handled, PeerData}
 use Rattle.turn_client_api.specs.Receive.{place_kept}
 use Rattle.turn_client_api.specs.State.{State}
-use Rattle.turn_client_api.specs.Streams.{frame_step, framed_turn, with_bytes}
+use Rattle.turn_client_api.specs.Streams.{frame_step, framed_stream_step, with_bytes}
 use Rattle.turn_client_api.specs.declared.state.Mode.TheVariants.{Control, Waiting}
 use Rattle.turn_client_api.specs.declared.state.Stream.{Stream}
 use Rattle.turn_client_streams.specs.Buffered.{broken, front_of, passed, without_front}
 use Rattle.turn_client_core.specs.Told.{IsPart, IsWithin, outcome_in}
 use Rattle.turn_client_core.specs.declared.told.Told.{Told}
 use Rattle.turn_client_core.specs.declared.told.Told.TheVariants as T
-use Rattle.turn_client_core.specs.Turns.{IsFront, came_with, given_as, left_by, part_at, put_or_broken}
+use Rattle.turn_client_core.specs.StreamSteps.{IsFront, came_with, given_as, left_by, part_at, put_or_broken}
 use Rattle.turn_client_core.proofs.TurnLemmas.{framed-none, framed-some}
 
 -- ---- a part of a part
@@ -125,7 +125,7 @@ frame-by : (s u : Stream) (frame : List ℕ) (now : ℕ) (t : State) → u.mode 
 frame-by s u frame now t mode local = rw (mode, local) refl
 
 pub fed-some : (s : Stream) (frame : List ℕ) (now : ℕ) (t : State) → Some frame ≡ front_of s
-    → framed_turn s now t ≡ ((frame_step (without_front s) frame now t).0, left_by (without_front s) (frame_step (without_front s) frame now t).1)
+    → framed_stream_step s now t ≡ ((frame_step (without_front s) frame now t).0, left_by (without_front s) (frame_step (without_front s) frame now t).1)
 fed-some s frame now t e =
     let begins = front-begins s frame e in
     let same : without_front s ≡ passed s = ap (λ b. cond b (broken s) (passed s)) begins in
@@ -133,7 +133,7 @@ fed-some s frame now t e =
     ∙ (ap (λ p. (p.0, with_bytes (passed s).local (passed s).bytes p.1)) (sym (frame-by s (passed s) frame now t (passed-mode s) (passed-local s)))
     ∙ ap (λ (u : Stream). ((frame_step u frame now t).0, left_by u (frame_step u frame now t).1)) (sym same))
 
-pub fed-none : (s : Stream) (now : ℕ) (t : State) → (s.mode ≡ Control) ⊎ (s.mode ≡ Waiting) → None ≡ front_of s → framed_turn s now t ≡ (Handled, put_or_broken (without_front s) t)
+pub fed-none : (s : Stream) (now : ℕ) (t : State) → (s.mode ≡ Control) ⊎ (s.mode ≡ Waiting) → None ≡ front_of s → framed_stream_step s now t ≡ (Handled, put_or_broken (without_front s) t)
 fed-none s now t framed e = by (begins_no_frame s.bytes) refl
   where
     waits : (s.mode ≡ Control) ⊎ (s.mode ≡ Waiting) → put_or_broken s t ≡ left_by s t
@@ -144,7 +144,7 @@ fed-none s now t framed e = by (begins_no_frame s.bytes) refl
     none None f = refl
     none (Some len) f = cc
 
-    by : (b : Bool) → begins_no_frame s.bytes ≡ b → framed_turn s now t ≡ (Handled, put_or_broken (without_front s) t)
+    by : (b : Bool) → begins_no_frame s.bytes ≡ b → framed_stream_step s now t ≡ (Handled, put_or_broken (without_front s) t)
     by true f = rw f refl
     by false f =
         let same : without_front s ≡ s = ap (λ b. cond b (broken s) (passed s)) f ∙ none (frame_len s.bytes) e in

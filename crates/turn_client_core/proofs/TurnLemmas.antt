@@ -8,17 +8,17 @@ use Rattle.turn_types.specs.Frames.{begins_no_frame, frame_len}
 use Rattle.turn_types.proofs.FrameLemmas.{frame_len-IsWhole}
 use Rattle.turn_types.proofs.SplitLemmas.{IsFrame-frame_len, IsWhole-IsFrame}
 use Rattle.turn_agent.specs.Agent.{same_address}
-use Rattle.turn_client_api.specs.Answers.{EndsAfterTurns, LeadsTo}
+use Rattle.turn_client_api.specs.Answers.{EndsAfterSteps, LeadsTo}
 use Rattle.turn_client_api.specs.Effect.{closed}
 use Rattle.turn_client_api.specs.State.{State}
 use Rattle.turn_client_api.specs.declared.state.Mode.TheVariants.{Broken}
 use Rattle.turn_client_api.specs.declared.state.Stream.{Stream}
 use Rattle.turn_client_api.specs.Payloads.{Payload, Outcome, Handled, Ignored, PeerData, PeerIcmp}
-use Rattle.turn_client_api.specs.Streams.{broken_at, frame_step, framed_by, framed_turn, go_on, is_ready, most_turns, poll_recv_step, put_back, turn, turn_of_first, turns_until_payload, with_bytes}
+use Rattle.turn_client_api.specs.Streams.{broken_at, frame_step, framed_by, framed_stream_step, go_on, is_ready, most_turns, poll_recv_step, put_back, next_frame_step, first_ready_step, steps_until_payload, with_bytes}
 use Rattle.turn_client_api.proofs.StreamDrainLemmas.{turn-lighter}
 use Rattle.turn_client_api.proofs.StreamWeightLemmas.{weight, weight-le}
 use Rattle.turn_client_streams.specs.Buffered.{front_of, passed}
-use Rattle.turn_client_core.specs.Turns.{given_by}
+use Rattle.turn_client_core.specs.StreamSteps.{given_by}
 
 -- ---- the first frame
 
@@ -45,14 +45,14 @@ framed_by-some s frame now t None e = cc
 framed_by-some s frame now t (Some len) e = let same : frame ≡ take len s.bytes = cc in rw same refl
 
 -- it is processed, and the bytes behind it are put back
-pub framed-some : (s : Stream) (frame : List ℕ) (now : ℕ) (t : State) → begins_no_frame s.bytes ≡ false → Some frame ≡ front_of s → framed_turn s now t ≡ put_back (passed s).local (passed s).bytes (frame_step s frame now t)
+pub framed-some : (s : Stream) (frame : List ℕ) (now : ℕ) (t : State) → begins_no_frame s.bytes ≡ false → Some frame ≡ front_of s → framed_stream_step s now t ≡ put_back (passed s).local (passed s).bytes (frame_step s frame now t)
 unfolding front_by passed_by
 framed-some s frame now t stuck e =
     ap (λ b. cond {A = Outcome × State} b (Handled, broken_at s.local t) (framed_by s now t (frame_len s.bytes))) stuck
     ∙ framed_by-some s frame now t (frame_len s.bytes) e
 
 -- there is none, and the stream waits for more bytes
-pub framed-none : (s : Stream) (now : ℕ) (t : State) → begins_no_frame s.bytes ≡ false → None ≡ front_of s → framed_turn s now t ≡ (Handled, with_bytes s.local s.bytes t)
+pub framed-none : (s : Stream) (now : ℕ) (t : State) → begins_no_frame s.bytes ≡ false → None ≡ front_of s → framed_stream_step s now t ≡ (Handled, with_bytes s.local s.bytes t)
 unfolding front_by
 framed-none s now t stuck e =
     ap (λ b. cond {A = Outcome × State} b (Handled, broken_at s.local t) (framed_by s now t (frame_len s.bytes))) stuck
@@ -77,69 +77,69 @@ given-some next (Ignored, t) given e = cc
 given-some next (PeerIcmp transport peer icmp, t) given e = cc
 
 -- a step first: the others are as if it had been made before
-pub turns-first : (n now : ℕ) (s : State) (stream : Stream) → find is_ready s.streams ≡ Some stream → turns_until_payload (suc n) now s ≡ go_on (turns_until_payload n now) (turn stream now s)
-unfolding turns_until_payload
-turns-first n now s stream e = ap (λ o. turn_of_first (turns_until_payload n now) now s o) e
+pub turns-first : (n now : ℕ) (s : State) (stream : Stream) → find is_ready s.streams ≡ Some stream → steps_until_payload (suc n) now s ≡ go_on (steps_until_payload n now) (next_frame_step stream now s)
+unfolding steps_until_payload
+turns-first n now s stream e = ap (λ o. first_ready_step (steps_until_payload n now) now s o) e
 
-pub turns-none : (n now : ℕ) (s : State) → find is_ready s.streams ≡ None → turns_until_payload n now s ≡ (None, s)
-unfolding turns_until_payload
+pub turns-none : (n now : ℕ) (s : State) → find is_ready s.streams ≡ None → steps_until_payload n now s ≡ (None, s)
+unfolding steps_until_payload
 turns-none zero now s e = refl
-turns-none (suc n) now s e = ap (λ o. turn_of_first (turns_until_payload n now) now s o) e
+turns-none (suc n) now s e = ap (λ o. first_ready_step (steps_until_payload n now) now s o) e
 
 -- one step more, after steps that gave nothing
-pub one-more : (n now : ℕ) (was s t : State) → turns_until_payload n now was ≡ (None, s) → turns_until_payload 1 now s ≡ (None, t) → turns_until_payload (suc n) now was ≡ (None, t)
-unfolding turns_until_payload
-one-more zero now was s t led last = let same : was ≡ s = ap (λ p. p.1) led in ap (turns_until_payload 1 now) same ∙ last
+pub one-more : (n now : ℕ) (was s t : State) → steps_until_payload n now was ≡ (None, s) → steps_until_payload 1 now s ≡ (None, t) → steps_until_payload (suc n) now was ≡ (None, t)
+unfolding steps_until_payload
+one-more zero now was s t led last = let same : was ≡ s = ap (λ p. p.1) led in ap (steps_until_payload 1 now) same ∙ last
 one-more (suc n) now was s t led last = by (find is_ready was.streams) refl (λ u. one-more n now u s t)
   where
     on : (p : Outcome × State)
-        → ((u : State) → turns_until_payload n now u ≡ (None, s) → turns_until_payload 1 now s ≡ (None, t) → turns_until_payload (suc n) now u ≡ (None, t))
-        → go_on (turns_until_payload n now) p ≡ (None, s)
-        → go_on (turns_until_payload (suc n) now) p ≡ (None, t)
+        → ((u : State) → steps_until_payload n now u ≡ (None, s) → steps_until_payload 1 now s ≡ (None, t) → steps_until_payload (suc n) now u ≡ (None, t))
+        → go_on (steps_until_payload n now) p ≡ (None, s)
+        → go_on (steps_until_payload (suc n) now) p ≡ (None, t)
     on (PeerData payload, u) more f = let clash : Some (record payload { place = None }) ≡ None = ap (λ p. p.0) f in cc
     on (Handled, u) more f = more u f last
     on (Ignored, u) more f = more u f last
     on (PeerIcmp transport peer icmp, u) more f = more u f last
 
     by : (o : Option Stream) → find is_ready was.streams ≡ o
-        → ((u : State) → turns_until_payload n now u ≡ (None, s) → turns_until_payload 1 now s ≡ (None, t) → turns_until_payload (suc n) now u ≡ (None, t))
-        → turn_of_first (turns_until_payload (suc n) now) now was (find is_ready was.streams) ≡ (None, t)
+        → ((u : State) → steps_until_payload n now u ≡ (None, s) → steps_until_payload 1 now s ≡ (None, t) → steps_until_payload (suc n) now u ≡ (None, t))
+        → first_ready_step (steps_until_payload (suc n) now) now was (find is_ready was.streams) ≡ (None, t)
     by None e more =
         let stays : was ≡ s = ap (λ p. p.1) (sym (turns-none (suc n) now was e) ∙ led) in
-        turns-none (suc (suc n)) now was e ∙ (sym (turns-none 1 now was e) ∙ (ap (turns_until_payload 1 now) stays ∙ last))
+        turns-none (suc (suc n)) now was e ∙ (sym (turns-none 1 now was e) ∙ (ap (steps_until_payload 1 now) stays ∙ last))
     by (Some stream) e more =
-        ap (λ o. turn_of_first (turns_until_payload (suc n) now) now was o) e
-        ∙ on (turn stream now was) more (sym (turns-first n now was stream e) ∙ led)
+        ap (λ o. first_ready_step (steps_until_payload (suc n) now) now was o) e
+        ∙ on (next_frame_step stream now was) more (sym (turns-first n now was stream e) ∙ led)
 
-pub leads-on : (now : ℕ) (was s : State) (stream : Stream) → find is_ready s.streams ≡ Some stream → given_by (turn stream now s).0 ≡ None → LeadsTo now was s → LeadsTo now was (turn stream now s).1
-unfolding turns_until_payload
+pub leads-on : (now : ℕ) (was s : State) (stream : Stream) → find is_ready s.streams ≡ Some stream → given_by (next_frame_step stream now s).0 ≡ None → LeadsTo now was s → LeadsTo now was (next_frame_step stream now s).1
+unfolding steps_until_payload
 leads-on now was s stream e none (n, led) =
-    (suc n, one-more n now was s (turn stream now s).1 led (turns-first 0 now s stream e ∙ given-none (turns_until_payload 0 now) (turn stream now s) none))
+    (suc n, one-more n now was s (next_frame_step stream now s).1 led (turns-first 0 now s stream e ∙ given-none (steps_until_payload 0 now) (next_frame_step stream now s) none))
 
 pub stays-led : (now : ℕ) (s : State) → LeadsTo now s s
-unfolding turns_until_payload
+unfolding steps_until_payload
 stays-led now s = (0, refl)
 
 -- enough steps are left to determine the result of all
 abbrev pub Rests : ℕ → State → State → Type 0
-Rests now was s = (k : ℕ) × (weight s.streams ≤ k) × (turns_until_payload k now s ≡ poll_recv_step now was)
+Rests now was s = (k : ℕ) × (weight s.streams ≤ k) × (steps_until_payload k now s ≡ poll_recv_step now was)
 
 pub first-Rests : (now : ℕ) (s : State) → Rests now s s
 first-Rests now s = (most_turns s, weight-le s.streams, refl)
 
-pub rests-on : (now : ℕ) (was s : State) (stream : Stream) → find is_ready s.streams ≡ Some stream → given_by (turn stream now s).0 ≡ None → Rests now was s → Rests now was (turn stream now s).1
+pub rests-on : (now : ℕ) (was s : State) (stream : Stream) → find is_ready s.streams ≡ Some stream → given_by (next_frame_step stream now s).0 ≡ None → Rests now was s → Rests now was (next_frame_step stream now s).1
 rests-on now was s stream e none (zero, least, same) = let less = turn-lighter stream now s e in absurd (omega (arith, less, least))
 rests-on now was s stream e none (suc k, least, same) =
     let less = turn-lighter stream now s e in
-    (k, omega (arith, less, least), sym (given-none (turns_until_payload k now) (turn stream now s) none) ∙ (sym (turns-first k now s stream e) ∙ same))
+    (k, omega (arith, less, least), sym (given-none (steps_until_payload k now) (next_frame_step stream now s) none) ∙ (sym (turns-first k now s stream e) ∙ same))
 
 pub rests-none : (now : ℕ) (was s : State) → find is_ready s.streams ≡ None → Rests now was s → poll_recv_step now was ≡ (None, s)
 rests-none now was s e (k, least, same) = sym same ∙ turns-none k now s e
 
-pub rests-some : (now : ℕ) (was s : State) (stream : Stream) (payload : Payload) → find is_ready s.streams ≡ Some stream → given_by (turn stream now s).0 ≡ Some payload → Rests now was s → poll_recv_step now was ≡ (Some payload, (turn stream now s).1)
+pub rests-some : (now : ℕ) (was s : State) (stream : Stream) (payload : Payload) → find is_ready s.streams ≡ Some stream → given_by (next_frame_step stream now s).0 ≡ Some payload → Rests now was s → poll_recv_step now was ≡ (Some payload, (next_frame_step stream now s).1)
 rests-some now was s stream payload e given (zero, least, same) = let less = turn-lighter stream now s e in absurd (omega (arith, less, least))
 rests-some now was s stream payload e given (suc k, least, same) =
-    sym same ∙ (turns-first k now s stream e ∙ given-some (turns_until_payload k now) (turn stream now s) payload given)
+    sym same ∙ (turns-first k now s stream e ∙ given-some (steps_until_payload k now) (next_frame_step stream now s) payload given)
 
 -- ---- a stream breaks
 
@@ -167,5 +167,5 @@ unfolding bytes_by broken_by
 emptied-broken local s = ap (λ (x : List Stream). record s { streams = x }) (broken-all local s.streams)
 
 -- the stream that was being processed is broken, and the client has ended
-pub ends : (now : ℕ) (was s t : State) (stream : Stream) → find is_ready s.streams ≡ Some stream → LeadsTo now was s → t ≡ closed (broken_at stream.local (with_bytes stream.local [] s)) → EndsAfterTurns now was t
+pub ends : (now : ℕ) (was s t : State) (stream : Stream) → find is_ready s.streams ≡ Some stream → LeadsTo now was s → t ≡ closed (broken_at stream.local (with_bytes stream.local [] s)) → EndsAfterSteps now was t
 ends now was s t stream e led is = (s, led, rw e (is ∙ ap closed (emptied-broken stream.local s)))

@@ -15,7 +15,7 @@ use Rattle.turn_client_api.specs.LawsOrder.{IsUngranted}
 use Rattle.turn_client_api.specs.LawsSteps.{GoesOn, rank}
 use Rattle.turn_client_api.specs.Payloads.{Payload, Outcome, Handled}
 use Rattle.turn_client_api.specs.Retry.{phase_after}
-use Rattle.turn_client_api.specs.Streams.{broken_at, framed_by, framed_turn}
+use Rattle.turn_client_api.specs.Streams.{broken_at, framed_by, framed_stream_step}
 use Rattle.turn_types.specs.Frames.{begins_no_frame, frame_len}
 use Rattle.turn_client_api.proofs.Edits.{KeepsAllEdits, KeepsEdits, aged-outlines, outline}
 use Rattle.turn_client_api.proofs.EditsOfMessages.{edits-IsKept, granted-with}
@@ -109,7 +109,7 @@ led-none now was s (n, led) h =
     (subst (λ (p : Option Payload × State). Stays was p.1) led (turns-kept Stays Stays-IsKept n now was)).0 h
 
 -- nor does a step of a stream of frames
-pub framed-none-before : (stream : Stream) (now : ℕ) (t : State) → HasNoneBefore t → HasNoneBefore (framed_turn stream now t).1
+pub framed-none-before : (stream : Stream) (now : ℕ) (t : State) → HasNoneBefore t → HasNoneBefore (framed_stream_step stream now t).1
 framed-none-before stream now t h = by (begins_no_frame stream.bytes) (frame_len stream.bytes)
   where
     by : (b : Bool) (o : Option ℕ) → HasNoneBefore (cond {A = Outcome × State} b (Handled, broken_at stream.local t) (framed_by stream now t o)).1

@@ -15,4 +15,4 @@ pub mod Replies
 pub mod Sending
 pub mod Sent
 pub mod Told
-pub mod Turns
+pub mod StreamSteps

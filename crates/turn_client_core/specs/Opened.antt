@@ -2,7 +2,7 @@
 use Rattle.std.specs.Prelude.{ℕ, List, [], ◌∷◌, ◌++◌, false, map, option_to_list, Option, Some, None}
 use Rattle.std.specs.declared.net.socket_addr.SocketAddr.{SocketAddr}
 use Rattle.turn_client_api.specs.Calls.{offer_taken, with_stream}
-use Rattle.turn_client_api.specs.Grants.{in_turn, with_grant}
+use Rattle.turn_client_api.specs.Grants.{in_sequence, with_grant}
 use Rattle.turn_client_api.specs.Requests.{fresh_id, requested, to_server}
 use Rattle.turn_client_api.specs.Retry.{bind_time}
 use Rattle.turn_client_api.specs.State.{State, later_by}
@@ -24,7 +24,7 @@ answer_to text _ = None
 
 -- the caller opened the connection, and the server gets this reply
 abbrev pub opened_with : Option (List ℕ) → ℕ → SocketAddr → SocketAddr → ℕ → State → State
-opened_with reply id peer local now s = in_turn (
+opened_with reply id peer local now s = in_sequence (
     offer_taken id peer
     ∷ with_reply reply
     ∷ with_grant (Connection (record { local = local; peer = peer; deadline = Some (later_by bind_time now) }))

@@ -2,7 +2,7 @@
 
 ghost use Rattle.std.specs.Prelude.{◌≡◌};
 ghost use Rattle.turn_client_api.specs.Answers.{given_payload};
-ghost use Rattle.turn_client_core.specs.Turns.{data_of};
+ghost use Rattle.turn_client_core.specs.StreamSteps.{data_of};
 
 use std::convert::AsSlice;
 use std::net::SocketAddr;

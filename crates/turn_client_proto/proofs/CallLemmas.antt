@@ -4,7 +4,7 @@ use Rattle.std.proofs.Common.{◌≡◌, ℕ, List, Option, Result, Ok, Err, OnE
 use Rattle.std.specs.declared.net.ip_addr.IpAddr.{IpAddr}
 use Rattle.std.specs.declared.net.socket_addr.SocketAddr.{SocketAddr}
 use Rattle.turn_stun.specs.declared.transport.TransportType.{TransportType}
-use Rattle.turn_client_api.specs.Answers.{BindsChannel, Connects, CreatesPermission, Deletes, TakesSocket, event_step, EndsAfterTurns}
+use Rattle.turn_client_api.specs.Answers.{BindsChannel, Connects, CreatesPermission, Deletes, TakesSocket, event_step, EndsAfterSteps}
 use Rattle.turn_client_api.specs.Calls.{allocated_tcp_socket_step, bind_channel_step, create_permission_step, delete_step, protocol_error_step, send_to_step, tcp_connect_step}
 use Rattle.turn_client_api.specs.Effect.{closed}
 use Rattle.turn_client_api.specs.Poll.{poll_step}
@@ -82,6 +82,6 @@ module _ {Kept : State → Type 0} (keeps : (call : Call) (s t : State) → Leav
     error-keeps (Ok x) e f = keeps Call.ProtocolError s t (inl e)
     error-keeps (Err x) e f = closed-keeps f
 
-    pub drain-keeps : (result : Result A E) (now : ℕ) → OnOk result (t ≡ (poll_recv_step now s).1) → OnErr result (EndsAfterTurns now s t) → Kept s → Kept t
+    pub drain-keeps : (result : Result A E) (now : ℕ) → OnOk result (t ≡ (poll_recv_step now s).1) → OnErr result (EndsAfterSteps now s t) → Kept s → Kept t
     drain-keeps (Ok x) now e ends = keeps (Call.PollRecv now) s t (inl e)
     drain-keeps (Err x) now e ends = keeps (Call.PollRecv now) s t (inr ends)

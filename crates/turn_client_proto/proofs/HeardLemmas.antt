@@ -11,7 +11,7 @@ use Rattle.turn_client_api.specs.declared.call.Call.{Call}
 use Rattle.turn_client_api.specs.declared.call.Call.TheVariants.{Delete, CreatePermission, BindChannel, TcpConnect, AllocatedTcpSocket, TcpClosed, SendTo, Recv, PollRecv, Poll, PollTransmit, PollEvent, ProtocolError, RelayedAddresses, Permissions, HavePermission}
 use Rattle.turn_client_api.proofs.HasLemmas.{Has, has-left, has-right}
 use Rattle.turn_client_api.proofs.StandLemmas.{contains-has, has-contains}
-use Rattle.turn_client_runs.specs.Turns.{IsAmong, answered, answered_in, handled_in}
+use Rattle.turn_client_runs.specs.Inputs.{IsAmong, answered, answered_in, handled_in}
 use Rattle.turn_client_api.proofs.HandledLemmas.{recv-IsToldBy}
 use Rattle.turn_client_api.specs.Handled.{Input, handled, processed}
 use Rattle.turn_client_api.specs.LawsPeers.{IsToldBy}

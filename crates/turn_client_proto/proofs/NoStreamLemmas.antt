@@ -5,13 +5,13 @@ use Rattle.std.specs.declared.net.socket_addr.SocketAddr.{SocketAddr}
 use Rattle.turn_agent.specs.Agent.{same_address}
 use Rattle.turn_stun.specs.declared.transport.TransportType.{TransportType}
 use Rattle.turn_stun.specs.declared.transport.TransportType.TheVariants.{Udp, Tcp}
-use Rattle.turn_client_api.specs.Answers.{EndsAfterTurns, RecvEnds}
+use Rattle.turn_client_api.specs.Answers.{EndsAfterSteps, RecvEnds}
 use Rattle.turn_client_api.specs.Effect.{closed}
 use Rattle.turn_client_api.specs.Payloads.{Ignored, Payload, channel_sent, datagram_step, is_channel_frame, is_message, message_step}
 use Rattle.turn_client_api.specs.Receive.{is_from_server, recv_step}
 use Rattle.turn_client_api.specs.State.{State}
 use Rattle.turn_client_api.specs.Steps.{EndsWithoutMemory, Leaves, state_after}
-use Rattle.turn_client_api.specs.Streams.{broken_at, most_turns, poll_recv_step, turns_until_payload}
+use Rattle.turn_client_api.specs.Streams.{broken_at, most_turns, poll_recv_step, steps_until_payload}
 use Rattle.turn_client_api.specs.declared.call.Call.{Call}
 use Rattle.turn_client_api.specs.declared.call.Call.TheVariants.{AllocatedTcpSocket, Delete, HavePermission, Permissions, Poll, PollEvent, PollRecv, PollTransmit, ProtocolError, Recv, RelayedAddresses, SendTo}
 use Rattle.turn_client_api.specs.declared.state.Stream.{Stream}
@@ -20,15 +20,15 @@ use Rattle.turn_client_api.proofs.StreamMessageLemmas.{Same, Same-KeepsEdits, me
 
 -- ---- nothing is read
 
-no-turns : (n now : ℕ) (s : State) → s.streams ≡ [] → turns_until_payload n now s ≡ (None, s)
-unfolding turns_until_payload
+no-turns : (n now : ℕ) (s : State) → s.streams ≡ [] → steps_until_payload n now s ≡ (None, s)
+unfolding steps_until_payload
 no-turns zero now s none = refl
 no-turns (suc n) now s none = rw none refl
 
 pub no-poll_recv : (now : ℕ) (s : State) → s.streams ≡ [] → poll_recv_step now s ≡ (None, s)
 no-poll_recv now s none = no-turns (most_turns s) now s none
 
-never-ends : (now : ℕ) (s t : State) → s.streams ≡ [] → EndsAfterTurns now s t → ⊥
+never-ends : (now : ℕ) (s t : State) → s.streams ≡ [] → EndsAfterSteps now s t → ⊥
 never-ends now s t none (u, (n, led), broken) =
     let same : u ≡ s = ap (λ (p : Option Payload × State). p.1) (sym led ∙ no-turns n now s none) in
     let empty : u.streams ≡ [] = ap (λ (x : State). x.streams) same ∙ none in

@@ -16,7 +16,7 @@ use Rattle.turn_client_api.specs.declared.state.Stream.{Stream}
 use Rattle.turn_client_api.proofs.AddressLemmas.{same_address-self}
 use Rattle.turn_client_api.proofs.InAllocation.{initial-IsHoused, leaves-IsHoused}
 use Rattle.turn_client_api.proofs.SendOrderLemmas.{initial-steady, leaves-steadies}
-use Rattle.turn_client_core.specs.Turns.{piece_at, piece_takes_none}
+use Rattle.turn_client_core.specs.StreamSteps.{piece_at, piece_takes_none}
 use Rattle.turn_client_proto.specs.OverTcp.{IsTcpClient}
 use Rattle.turn_client_proto.proofs.CarrierLemmas.{leaves-SameCarriers}
 

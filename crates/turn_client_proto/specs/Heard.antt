@@ -8,7 +8,7 @@ use Rattle.std.specs.declared.net.socket_addr.SocketAddr.{SocketAddr}
 use Rattle.turn_stun.specs.declared.transport.TransportType.{TransportType}
 use Rattle.turn_types.specs.declared.attribute.icmp_report.Icmp.{Icmp}
 use Rattle.turn_client_api.specs.Handled.{processed}
-use Rattle.turn_client_runs.specs.Turns.{IsAmong, handled_in}
+use Rattle.turn_client_runs.specs.Inputs.{IsAmong, handled_in}
 use Rattle.turn_client_api.specs.declared.call.Call.{Call}
 use Rattle.turn_client_runs.specs.Peers.{IsDeliveredIn, TellsOfPermitted}
 use Rattle.turn_client_proto.specs.Run.{peer_data, replies_of}

@@ -4,7 +4,7 @@ use Rattle.std.specs.Option.{option_map_or}
 use Rattle.turn_client_api.specs.State.{State}
 use Rattle.turn_client_api.specs.declared.state.Stream.{Stream}
 use Rattle.turn_client_api.specs.Payloads.{Payload, Outcome, Handled, Ignored, PeerData, PeerIcmp}
-use Rattle.turn_client_api.specs.Streams.{go_on, is_ready, most_turns, poll_recv_step, turn, turn_of_first, turns_until_payload}
+use Rattle.turn_client_api.specs.Streams.{go_on, is_ready, most_turns, poll_recv_step, next_frame_step, first_ready_step, steps_until_payload}
 use Rattle.turn_client_api.specs.Receive.{then_all}
 use Rattle.turn_client_api.proofs.RestingStreamLemmas.{turns-rest}
 use Rattle.turn_client_api.proofs.StreamDrainLemmas.{IsDone, turn-lighter, turns-done, turns-enough}
@@ -18,7 +18,7 @@ gives_then next p = (given_by p.0 ++ (next p.1).0, (next p.1).1)
 
 abbrev turn_by_turn : (State → List Payload × State) → ℕ → State → Option Stream → List Payload × State
 turn_by_turn next now s None = ([], s)
-turn_by_turn next now s (Some stream) = gives_then next (turn stream now s)
+turn_by_turn next now s (Some stream) = gives_then next (next_frame_step stream now s)
 
 -- so many steps, each of the first stream that is ready, or as many as there are
 unfoldable pub all_turns : ℕ → ℕ → State → List Payload × State
@@ -32,7 +32,7 @@ unfolding all_turns
 all-rest zero now s e = refl
 all-rest (suc n) now s e = rw e refl
 
-pub all-first : (n now : ℕ) (s : State) (stream : Stream) → find is_ready s.streams ≡ Some stream → all_turns (suc n) now s ≡ gives_then (all_turns n now) (turn stream now s)
+pub all-first : (n now : ℕ) (s : State) (stream : Stream) → find is_ready s.streams ≡ Some stream → all_turns (suc n) now s ≡ gives_then (all_turns n now) (next_frame_step stream now s)
 unfolding all_turns
 all-first n now s stream e = rw e refl
 
@@ -55,7 +55,7 @@ all-enough (suc n) (suc m) now s hn hm = by (find is_ready s.streams) refl (λ t
     by None e more = refl
     by (Some stream) e more =
         let less = turn-lighter stream now s e in
-        let p = turn stream now s in
+        let p = next_frame_step stream now s in
         ap (λ (q : List Payload × State). (given_by p.0 ++ q.0, q.1)) (more p.1 (omega (arith, less, hn)) (omega (arith, less, hm)))
 
 -- after as many no stream is ready
@@ -66,7 +66,7 @@ all-done (suc n) now s h = by (find is_ready s.streams) refl (λ t p. all-done n
   where
     by : (o : Option Stream) → find is_ready s.streams ≡ o → ((t : State) → weight t.streams ≤ n → find is_ready (all_turns n now t).1.streams ≡ None) → find is_ready (turn_by_turn (all_turns n now) now s o).1.streams ≡ None
     by None e more = e
-    by (Some stream) e more = let less = turn-lighter stream now s e in more (turn stream now s).1 (omega (arith, less, h))
+    by (Some stream) e more = let less = turn-lighter stream now s e in more (next_frame_step stream now s).1 (omega (arith, less, h))
 
 -- ---- one poll after the other
 
@@ -80,13 +80,13 @@ and_then-enough n now t h = by (poll_recv_step now t) (turns-less (most_turns t)
         ap (λ (p : List Payload × State). (q ∷ p.0, p.1)) (all-enough n (suc n) now u (omega (arith, lighter, h)) (omega (arith, lighter, h)))
 
 -- the first step of a poll
-poll-first : (now : ℕ) (s : State) (stream : Stream) → find is_ready s.streams ≡ Some stream → (k : ℕ) → most_turns s ≡ k → (m : ℕ) × (most_turns s ≡ suc m) × (poll_recv_step now s ≡ go_on (turns_until_payload m now) (turn stream now s))
-unfolding turns_until_payload
+poll-first : (now : ℕ) (s : State) (stream : Stream) → find is_ready s.streams ≡ Some stream → (k : ℕ) → most_turns s ≡ k → (m : ℕ) × (most_turns s ≡ suc m) × (poll_recv_step now s ≡ go_on (steps_until_payload m now) (next_frame_step stream now s))
+unfolding steps_until_payload
 poll-first now s stream e zero same =
     let less = turn-lighter stream now s e in
     let most = weight-le s.streams in
     absurd (omega (arith, less, most, same))
-poll-first now s stream e (suc m) same = (m, same, ap (λ k. turns_until_payload k now s) same ∙ rw e refl)
+poll-first now s stream e (suc m) same = (m, same, ap (λ k. steps_until_payload k now s) same ∙ rw e refl)
 
 pub all-poll : (n now : ℕ) (s : State) → weight s.streams ≤ n → all_turns n now s ≡ and_then (all_turns n now) (poll_recv_step now s)
 all-poll zero now s h =
@@ -100,13 +100,13 @@ all-poll (suc n) now s h = by (find is_ready s.streams) refl (λ t p. all-poll n
     Later : Type 0
     Later = (t : State) → weight t.streams ≤ n → all_turns n now t ≡ and_then (all_turns n now) (poll_recv_step now t)
 
-    on : (m : ℕ) (t : State) → weight t.streams ≤ n → weight t.streams ≤ m → Later → all_turns n now t ≡ and_then (all_turns (suc n) now) (turns_until_payload m now t)
+    on : (m : ℕ) (t : State) → weight t.streams ≤ n → weight t.streams ≤ m → Later → all_turns n now t ≡ and_then (all_turns (suc n) now) (steps_until_payload m now t)
     on m t few enough more =
         more t few
         ∙ (and_then-enough n now t few
         ∙ ap (and_then (all_turns (suc n) now)) (sym (turns-enough m (most_turns t) now t enough (weight-le t.streams))))
 
-    step : (m : ℕ) (p : Outcome × State) → weight p.1.streams ≤ n → weight p.1.streams ≤ m → Later → gives_then (all_turns n now) p ≡ and_then (all_turns (suc n) now) (go_on (turns_until_payload m now) p)
+    step : (m : ℕ) (p : Outcome × State) → weight p.1.streams ≤ n → weight p.1.streams ≤ m → Later → gives_then (all_turns n now) p ≡ and_then (all_turns (suc n) now) (go_on (steps_until_payload m now) p)
     step m (PeerData payload, t) few enough more = ap (λ (q : List Payload × State). (record payload { place = None } ∷ q.0, q.1)) (all-enough n (suc n) now t few (omega (arith, few)))
     step m (Handled, t) few enough more = on m t few enough more
     step m (Ignored, t) few enough more = on m t few enough more
@@ -116,12 +116,12 @@ all-poll (suc n) now s h = by (find is_ready s.streams) refl (λ t p. all-poll n
     by None e more = all-rest (suc n) now s e ∙ ap (and_then (all_turns (suc n) now)) (sym (turns-rest (most_turns s) now s e))
     by (Some stream) e more = first (poll-first now s stream e (most_turns s) refl)
       where
-        first : (m : ℕ) × (most_turns s ≡ suc m) × (poll_recv_step now s ≡ go_on (turns_until_payload m now) (turn stream now s)) → Goal
+        first : (m : ℕ) × (most_turns s ≡ suc m) × (poll_recv_step now s ≡ go_on (steps_until_payload m now) (next_frame_step stream now s)) → Goal
         first (m, same, is) =
             let less = turn-lighter stream now s e in
             let most = weight-le s.streams in
             all-first n now s stream e
-            ∙ (step m (turn stream now s) (omega (arith, less, h)) (omega (arith, less, most, same)) more
+            ∙ (step m (next_frame_step stream now s) (omega (arith, less, h)) (omega (arith, less, most, same)) more
             ∙ ap (and_then (all_turns (suc n) now)) (sym is))
 
 -- polled more often than the streams' weight, a client takes all steps
@@ -151,14 +151,14 @@ go_on-owned next (Handled, t) later = later
 go_on-owned next (Ignored, t) later = later
 go_on-owned next (PeerIcmp transport peer icmp, t) later = later
 
-turns-owned : (n now : ℕ) (s : State) → IsOwned (turns_until_payload n now s)
-unfolding turns_until_payload
+turns-owned : (n now : ℕ) (s : State) → IsOwned (steps_until_payload n now s)
+unfolding steps_until_payload
 turns-owned zero now s = tt
 turns-owned (suc n) now s = by (find is_ready s.streams) (λ t. turns-owned n now t)
   where
-    by : (o : Option Stream) → ((t : State) → IsOwned (turns_until_payload n now t)) → IsOwned (turn_of_first (turns_until_payload n now) now s o)
+    by : (o : Option Stream) → ((t : State) → IsOwned (steps_until_payload n now t)) → IsOwned (first_ready_step (steps_until_payload n now) now s o)
     by None later = tt
-    by (Some stream) later = go_on-owned (turns_until_payload n now) (turn stream now s) (later (turn stream now s).1)
+    by (Some stream) later = go_on-owned (steps_until_payload n now) (next_frame_step stream now s) (later (next_frame_step stream now s).1)
 
 -- what the piece returned, and what is polled then
 abbrev pub polled_out : ℕ → Outcome × State → List Payload × State

@@ -33,7 +33,7 @@ use Rattle.turn_client_api.proofs.StandLemmas as Stand
 use Rattle.turn_client_api.proofs.StandLemmas.{Covers, contains-has, covers-has, covers-left, covers-stood}
 use Rattle.turn_client_api.proofs.TurnBringLemmas.{IsBrought, leaves-bring}
 use Rattle.turn_client_runs.specs.Bound.{BoundConnectionsHaveSuccess, BoundStreamsHaveSuccess, HasConnectionSuccess, HasSuccess, IsAnswered, IsBoundSince, StreamsAreBoundBefore}
-use Rattle.turn_client_runs.specs.Turns.{IsAmong, handled_in}
+use Rattle.turn_client_runs.specs.Inputs.{IsAmong, handled_in}
 use Rattle.turn_client_runs.proofs.MadeLemmas.{waiting-made}
 use Rattle.turn_client_runs.proofs.RunLemmas.{run-did}
 use Rattle.turn_client_runs.proofs.TurnsOfRuns.{among-none, in_call, run-brings, takes-or}

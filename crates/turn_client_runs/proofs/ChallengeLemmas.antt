@@ -19,7 +19,7 @@ use Rattle.turn_client_api.proofs.TurnChainLemmas.{calls-do}
 use Rattle.turn_client_api.proofs.TurnLemmas.{brought}
 use Rattle.turn_client_runs.specs.Challenges.{CountsIt, IsChallengeInput, IsHeededAmong, IsPatient, answers_in, is_answer}
 use Rattle.turn_client_runs.specs.Holds.{Reaches}
-use Rattle.turn_client_runs.specs.Turns.{IsAmong, handled_in}
+use Rattle.turn_client_runs.specs.Inputs.{IsAmong, handled_in}
 use Rattle.turn_client_runs.proofs.HoldLemmas.{kept-behind}
 use Rattle.turn_client_runs.proofs.MadeLemmas.{control-made}
 use Rattle.turn_client_runs.proofs.TurnsOfRuns.{among-first, among-later, among-left, among-none, among-right, takes-or}

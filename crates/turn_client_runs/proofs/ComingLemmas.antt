@@ -15,8 +15,8 @@ use Rattle.turn_client_api.specs.declared.state.Mode.TheVariants.{Control, Waiti
 use Rattle.turn_client_api.specs.declared.state.Stream.{Stream}
 use Rattle.turn_client_api.specs.Handled.{Input, fed, fed_taken, frame_taken, handled, is_front, piece_inputs, poll_recv_inputs, recv_inputs, stream_inputs, taken, taken_first, taken_in, taken_of_len, then_taken, inputs_taken, unless_given}
 use Rattle.turn_client_api.specs.Payloads.{Payload, Outcome, Handled, Ignored, PeerData, PeerIcmp}
-use Rattle.turn_client_api.specs.Receive.{first_turn, is_from_server}
-use Rattle.turn_client_api.specs.Streams.{is_ready, most_turns, payload_in, stream_at, turn, with_bytes}
+use Rattle.turn_client_api.specs.Receive.{first_frame_step, is_from_server}
+use Rattle.turn_client_api.specs.Streams.{is_ready, most_turns, payload_in, stream_at, next_frame_step, with_bytes}
 use Rattle.turn_client_api.proofs.HasLemmas.{Has, has-append}
 use Rattle.turn_client_runs.specs.Granted.{ComesIn, IsInFront}
 
@@ -78,7 +78,7 @@ turns-frames (suc n) now s = by (find is_ready s.streams) (λ t. turns-frames n 
   where
     by : (o : Option Stream) → ((t : State) → AllFrames now (inputs_taken n now t)) → AllFrames now (taken_first (inputs_taken n now) now s o)
     by None more = no-frames now
-    by (Some stream) more = joined-frames now _ _ (taken-frames false stream now s) (unless-frames now (payload_in (turn stream now s).0) _ (more (turn stream now s).1))
+    by (Some stream) more = joined-frames now _ _ (taken-frames false stream now s) (unless-frames now (payload_in (next_frame_step stream now s).0) _ (more (next_frame_step stream now s).1))
 
 poll-frames : (now : ℕ) (s : State) → AllFrames now (poll_recv_inputs now s)
 poll-frames now s = turns-frames (most_turns s) now s
@@ -93,7 +93,7 @@ fed-frames : (stream : Stream) (piece : List ℕ) (now : ℕ) (s : State) → Al
 fed-frames stream piece now s = taken-frames (is_front stream.bytes) (fed stream piece) now s
 
 piece-frames : (m : Mode) (stream : Stream) (piece : List ℕ) (now : ℕ) (s : State) → AllFrames now (piece_inputs (record stream { mode = m }) piece now s)
-piece-frames Control stream piece now s = let u = record stream { mode = Control } in joined-frames now _ _ (fed-frames u piece now s) (then-frames now (first_turn u piece now s))
+piece-frames Control stream piece now s = let u = record stream { mode = Control } in joined-frames now _ _ (fed-frames u piece now s) (then-frames now (first_frame_step u piece now s))
 piece-frames Waiting stream piece now s = fed-frames (record stream { mode = Waiting }) piece now s
 piece-frames (Bound peer) stream piece now s = fed-frames (record stream { mode = Bound peer }) piece now s
 piece-frames Broken stream piece now s = if-frames now (same_address stream.local s.local) _ [] (poll-frames now s) (no-frames now)

@@ -12,7 +12,7 @@ use Rattle.turn_client_api.specs.declared.state.Mode.{Mode}
 use Rattle.turn_client_api.specs.declared.state.Mode.TheVariants.{Control, Waiting, Bound, Broken}
 use Rattle.turn_client_api.specs.declared.state.Stream.{Stream}
 use Rattle.turn_client_api.specs.Payloads.{Payload, Outcome, Handled}
-use Rattle.turn_client_api.specs.Streams.{broken_at, frame_step, is_ready, put_back, sent_by, stream_at, turn, turned, with_bytes}
+use Rattle.turn_client_api.specs.Streams.{broken_at, frame_step, is_ready, put_back, sent_by, stream_at, next_frame_step, detached_frame_step, with_bytes}
 use Rattle.turn_client_api.specs.LawsBodies.{IsAsideFrom}
 use Rattle.turn_client_api.proofs.FrameRestLemmas.{frame-bytes}
 use Rattle.turn_client_api.proofs.OtherStreamLemmas.{frame-aside}
@@ -62,14 +62,14 @@ module _ (a : SocketAddr) (now : ℕ) where
   out-alone stream bytes t alone at_a =
       ap (λ (l : SocketAddr). with_bytes l [] (with_bytes a bytes t)) at_a ∙ (bytes-twice a bytes [] t ∙ alone.empty)
 
-  turn-fed : (stream : Stream) (bytes : List ℕ) (t : State) → IsAlone a t → stream_at a t ≡ Some stream → turn (fed stream bytes) now (with_bytes a bytes t) ≡ turned (fed stream bytes) now t
-  turn-fed stream bytes t alone e = ap (turned (fed stream bytes) now) (out-alone stream bytes t alone (found-local a t stream e))
+  turn-fed : (stream : Stream) (bytes : List ℕ) (t : State) → IsAlone a t → stream_at a t ≡ Some stream → next_frame_step (fed stream bytes) now (with_bytes a bytes t) ≡ detached_frame_step (fed stream bytes) now t
+  turn-fed stream bytes t alone e = ap (detached_frame_step (fed stream bytes) now) (out-alone stream bytes t alone (found-local a t stream e))
 
   -- a stream that is not ready, while no other is
   waits-fed : (n : ℕ) (stream : Stream) (bytes : List ℕ) (t : State) → IsAlone a t → stream_at a t ≡ Some stream → is_ready (fed stream bytes) ≡ false → all_turns n now (with_bytes a bytes t) ≡ ([], with_bytes a bytes t)
   waits-fed n stream bytes t alone e waits = all-rest n now (with_bytes a bytes t) (fed-found a bytes t stream alone e ∙ rw waits refl)
 
-  pub ready-fed : (n : ℕ) (stream : Stream) (bytes : List ℕ) (t : State) → IsAlone a t → stream_at a t ≡ Some stream → is_ready (fed stream bytes) ≡ true → all_turns (suc n) now (with_bytes a bytes t) ≡ gives_then (all_turns n now) (turned (fed stream bytes) now t)
+  pub ready-fed : (n : ℕ) (stream : Stream) (bytes : List ℕ) (t : State) → IsAlone a t → stream_at a t ≡ Some stream → is_ready (fed stream bytes) ≡ true → all_turns (suc n) now (with_bytes a bytes t) ≡ gives_then (all_turns n now) (detached_frame_step (fed stream bytes) now t)
   ready-fed n stream bytes t alone e ready =
       all-first n now (with_bytes a bytes t) (fed stream bytes) (fed-found a bytes t stream alone e ∙ rw ready refl)
       ∙ ap (gives_then (all_turns n now)) (turn-fed stream bytes t alone e)
@@ -127,7 +127,7 @@ module _ (a : SocketAddr) (now : ℕ) where
     breaks n [] f = cc
     breaks n (b ∷ bytes) f =
         let u = broken_at a t in
-        let turned-is : turned (fed here (b ∷ bytes)) now t ≡ (Handled, u) = is.turns (record stream { bytes = b ∷ bytes }) now t ∙ rw f (ap (λ (l : SocketAddr). (Handled, broken_at l t)) local-is) in
+        let turned-is : detached_frame_step (fed here (b ∷ bytes)) now t ≡ (Handled, u) = is.turns (record stream { bytes = b ∷ bytes }) now t ∙ rw f (ap (λ (l : SocketAddr). (Handled, broken_at l t)) local-is) in
         agrees-by a c _ ([], u) _ (left u [])
         (ready-fed n here (b ∷ bytes) t alone e (readiness (b ∷ bytes) (Some (length (b ∷ bytes))) (rw f refl))
         ∙ (ap (gives_then (all_turns n now)) turned-is ∙ broken-rests n here t alone e))
@@ -157,7 +157,7 @@ module _ (a : SocketAddr) (now : ℕ) where
         let rest = drop k bytes in
         let p = frame_step here frame now t in
         let shorter : length rest < n = rw length-drop (omega (arith, w.least, w.within, few)) in
-        let turned-is : turned (fed here bytes) now t ≡ (p.0, with_bytes a rest p.1) =
+        let turned-is : detached_frame_step (fed here bytes) now t ≡ (p.0, with_bytes a rest p.1) =
         is.turns (record stream { bytes = bytes }) now t
         ∙ rw (g, f) (ap (put_back stream.local rest) (is.same stream bytes frame now t) ∙ ap (λ (l : SocketAddr). put_back l rest p) local-is) in
         let q = all_turns n now (with_bytes a rest p.1) in
@@ -182,11 +182,11 @@ module _ (a : SocketAddr) (now : ℕ) where
         by false f (Some k) g = gives n bytes k f g few later
 
     -- its own step is the first of all, and while it waits there is none
-    pub framed-first : (n : ℕ) (bytes : List ℕ) → gives_then (all_turns n now) (turned (fed here bytes) now t) ≡ all_turns (suc n) now (with_bytes a bytes t)
+    pub framed-first : (n : ℕ) (bytes : List ℕ) → gives_then (all_turns n now) (detached_frame_step (fed here bytes) now t) ≡ all_turns (suc n) now (with_bytes a bytes t)
     framed-first n bytes = by (begins_no_frame bytes) refl (frame_len bytes) refl
       where
         Goal : Type 0
-        Goal = gives_then (all_turns n now) (turned (fed here bytes) now t) ≡ all_turns (suc n) now (with_bytes a bytes t)
+        Goal = gives_then (all_turns n now) (detached_frame_step (fed here bytes) now t) ≡ all_turns (suc n) now (with_bytes a bytes t)
 
         ready : is_ready (fed here bytes) ≡ true → Goal
         ready r = sym (ready-fed n here bytes t alone e r)
@@ -196,7 +196,7 @@ module _ (a : SocketAddr) (now : ℕ) where
         by false f (Some k) g = ready (readiness bytes (Some k) (unless _ _ _ f ∙ g))
         by false f None g =
             let waits = readiness bytes None (unless _ _ _ f ∙ g) in
-            let turned-is : turned (fed here bytes) now t ≡ (Handled, with_bytes a bytes t) =
+            let turned-is : detached_frame_step (fed here bytes) now t ≡ (Handled, with_bytes a bytes t) =
             is.turns (record stream { bytes = bytes }) now t ∙ rw (g, f) (ap (λ (l : SocketAddr). (Handled, with_bytes l bytes t)) local-is) in
             ap (gives_then (all_turns n now)) turned-is
             ∙ (waits-fed n here bytes t alone e waits ∙ sym (waits-fed (suc n) here bytes t alone e waits))

@@ -11,7 +11,7 @@ use Rattle.turn_client_api.specs.declared.state.Mode.TheVariants.{Control, Waiti
 use Rattle.turn_client_api.specs.declared.state.Stream.{Stream}
 use Rattle.turn_client_api.specs.Connections.{bind_step}
 use Rattle.turn_client_api.specs.Payloads.{Outcome, Handled, Ignored, PeerData, PeerIcmp, channel_sent, is_message, message_step}
-use Rattle.turn_client_api.specs.Streams.{control_frame_step, frame_step, framed_turn, ready_len, stream_at, turned}
+use Rattle.turn_client_api.specs.Streams.{control_frame_step, frame_step, framed_stream_step, ready_len, stream_at, detached_frame_step}
 use Rattle.turn_client_api.proofs.StreamMessageLemmas.{Rebound, Same, frame-rebound, message-same}
 use Rattle.turn_client_runs.specs.Cut.{framed_step, given_by, meant, one_by_one, part_step}
 use Rattle.turn_client_runs.proofs.StreamAtLemmas.{find-mapped}
@@ -44,7 +44,7 @@ pub record IsFramed (c : Bool) (m : Mode) : Type 0 where
   pub suits : SuitsMode c m
   pub means : meant m ≡ T.Framed
   pub ready : (stream : Stream) (bytes : List ℕ) → ready_len (record stream { mode = m; bytes = bytes }) ≡ cond (begins_no_frame bytes) (Some (length bytes)) (frame_len bytes)
-  pub turns : (stream : Stream) (now : ℕ) (t : State) → turned (record stream { mode = m }) now t ≡ framed_turn (record stream { mode = m }) now t
+  pub turns : (stream : Stream) (now : ℕ) (t : State) → detached_frame_step (record stream { mode = m }) now t ≡ framed_stream_step (record stream { mode = m }) now t
   pub part : (stream : Stream) (part : List ℕ) (now : ℕ) (t : State) → part_step (record stream { mode = m }) part now t ≡ framed_step (record stream { mode = m }) part now t
   pub same : (stream : Stream) (bytes frame : List ℕ) (now : ℕ) (t : State) → frame_step (record stream { mode = m; bytes = bytes }) frame now t ≡ frame_step (record stream { mode = m }) frame now t
   pub counts : (stream : Stream) (frame : List ℕ) (now : ℕ) (t : State) → flat_map (one_by_one c) (given_by (frame_step (record stream { mode = m }) frame now t).0) ≡ given_by (frame_step (record stream { mode = m }) frame now t).0

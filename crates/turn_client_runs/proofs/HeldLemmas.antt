@@ -30,7 +30,7 @@ use Rattle.turn_client_api.proofs.Edits.{IgnoresAll, KeepsEdits}
 use Rattle.turn_client_api.proofs.EditsOfCalls.{delete-walk, quiet-walk, tcp_socket-walk}
 use Rattle.turn_client_api.proofs.TurnBringLemmas.{IsBrought, leaves-bring}
 use Rattle.turn_client_runs.specs.Held.{HeldFromChallenge, IsFirstAnswer, IsOfChallenge}
-use Rattle.turn_client_runs.specs.Turns.{IsAmong, handled_in}
+use Rattle.turn_client_runs.specs.Inputs.{IsAmong, handled_in}
 use Rattle.turn_client_runs.proofs.MadeLemmas.{control-made}
 use Rattle.turn_client_runs.proofs.RealmLemmas.{turns-after}
 use Rattle.turn_client_runs.proofs.TurnsOfRuns.{run-brings}

@@ -11,8 +11,8 @@ use Rattle.turn_types.specs.declared.attribute.icmp_report.Icmp.{Icmp}
 use Rattle.turn_agent.specs.Agent.{same_address}
 use Rattle.turn_client_api.specs.State.{State}
 use Rattle.turn_client_api.specs.Payloads.{Payload, Outcome, Handled, Ignored, PeerData, PeerIcmp}
-use Rattle.turn_client_api.specs.Streams.{is_ready, owned, payload_in, stream_at, turn, with_bytes}
-use Rattle.turn_client_api.specs.Receive.{first_turn, is_from_server}
+use Rattle.turn_client_api.specs.Streams.{is_ready, owned, payload_in, stream_at, next_frame_step, with_bytes}
+use Rattle.turn_client_api.specs.Receive.{first_frame_step, is_from_server}
 use Rattle.turn_client_api.specs.Handled.{Input, fed, fed_taken, frame_taken, handled, is_front, processed, payloads_by, piece_inputs, poll_recv_inputs, recv_inputs, stream_inputs, taken, taken_first, taken_in, taken_of_len, then_taken, stream_input, input_payload, inputs_taken, unless_given}
 use Rattle.turn_client_api.specs.LawsHandled.{IsBoundAt}
 use Rattle.turn_client_api.specs.LawsPeers.{IsLetInTurn, IsLetThrough, IsNobodys}
@@ -26,7 +26,7 @@ use Rattle.turn_client_api.proofs.HandledLemmas.{poll_recv-Gives, recv-AreOf, tu
 use Rattle.turn_client_api.proofs.HasLemmas.{Has, has-append, has-filter_map, has-found, map-has}
 use Rattle.turn_client_api.proofs.StandLemmas.{contains-has, has-contains}
 use Rattle.turn_client_runs.specs.Peers.{InputDelivers, IsOfLetIn, IsDeliveredIn, TellsOfPermitted}
-use Rattle.turn_client_runs.specs.Turns.{IsAmong, answered, answered_in, handled_in, payloads_in}
+use Rattle.turn_client_runs.specs.Inputs.{IsAmong, answered, answered_in, handled_in, payloads_in}
 use Rattle.turn_client_runs.proofs.TurnsOfRuns.{among-left, among-right, has-among}
 
 -- ---- the stream of an input is in the state just before it
@@ -100,9 +100,9 @@ turns-in (suc n) now s = by (find is_ready s.streams) refl (λ t. turns-in n now
     by : (o : Option Stream) → find is_ready s.streams ≡ o → ((t : State) → AreIn (inputs_taken n now t)) → AreIn (taken_first (inputs_taken n now) now s o)
     by None e more = none-in
     by (Some stream) e more =
-        let next = inputs_taken n now (turn stream now s).1 in
-        let o = payload_in (turn stream now s).0 in
-        append-in (taken false stream now s) (unless_given o next) (taken-in false stream now s (found-stands is_ready stream s e)) (unless-in o next (more (turn stream now s).1))
+        let next = inputs_taken n now (next_frame_step stream now s).1 in
+        let o = payload_in (next_frame_step stream now s).0 in
+        append-in (taken false stream now s) (unless_given o next) (taken-in false stream now s (found-stands is_ready stream s e)) (unless-in o next (more (next_frame_step stream now s).1))
 
 poll_recv-in : (now : ℕ) (s : State) → AreIn (poll_recv_inputs now s)
 poll_recv-in now s = turns-in _ now s
@@ -116,7 +116,7 @@ then-in now (Ignored, t) = poll_recv-in now t
 piece_in_mode : (m : Mode) (stream : Stream) (piece : List ℕ) (now : ℕ) (s : State) → Stands (record stream { mode = m }) s → AreIn (piece_inputs (record stream { mode = m }) piece now s)
 piece_in_mode Control stream piece now s stands =
     let u = record stream { mode = Control } in
-    append-in (fed_taken u piece now s) (then_taken now (first_turn u piece now s)) (taken-in (is_front u.bytes) (fed u piece) now s stands) (then-in now (first_turn u piece now s))
+    append-in (fed_taken u piece now s) (then_taken now (first_frame_step u piece now s)) (taken-in (is_front u.bytes) (fed u piece) now s stands) (then-in now (first_frame_step u piece now s))
 piece_in_mode Waiting stream piece now s stands = let u = record stream { mode = Waiting } in taken-in (is_front u.bytes) (fed u piece) now s stands
 piece_in_mode (Bound peer) stream piece now s stands = let u = record stream { mode = Bound peer } in taken-in (is_front u.bytes) (fed u piece) now s stands
 piece_in_mode Broken stream piece now s stands = by (same_address stream.local s.local)

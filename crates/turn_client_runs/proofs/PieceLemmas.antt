@@ -12,8 +12,8 @@ use Rattle.turn_client_api.specs.declared.state.Mode.{Mode}
 use Rattle.turn_client_api.specs.declared.state.Mode.TheVariants.{Control, Waiting, Bound, Broken}
 use Rattle.turn_client_api.specs.declared.state.Stream.{Stream}
 use Rattle.turn_client_api.specs.Payloads.{Payload, Outcome, Handled, Ignored, PeerData, PeerIcmp}
-use Rattle.turn_client_api.specs.Streams.{is_ready, sent_by, stream_at, turn, turned, with_bytes}
-use Rattle.turn_client_api.specs.Receive.{first_turn, place_kept, recv_step, stream_step, then_all}
+use Rattle.turn_client_api.specs.Streams.{is_ready, sent_by, stream_at, next_frame_step, detached_frame_step, with_bytes}
+use Rattle.turn_client_api.specs.Receive.{first_frame_step, place_kept, recv_step, stream_step, then_all}
 use Rattle.turn_client_api.specs.LawsStreams.{IsEmptyIfBroken}
 use Rattle.turn_client_api.proofs.AddressLemmas.{same_address-self}
 use Rattle.turn_client_api.proofs.HasLemmas.{has-all, has-found}
@@ -110,22 +110,22 @@ module _ (a : SocketAddr) (now : ℕ) (s : State) (quiet : IsQuiet s) where
 
   -- The result of the piece is one step of this stream, and then all that follow.
   abbrev GivesTurn : Stream → List ℕ → ℕ → Type 0
-  GivesTurn stream piece n = fed_piece a piece now s ≡ gives_then (all_turns n now) (turned (fed_with stream piece) now out)
+  GivesTurn stream piece n = fed_piece a piece now s ≡ gives_then (all_turns n now) (detached_frame_step (fed_with stream piece) now out)
 
-  turn-out : (stream : Stream) (piece : List ℕ) → stream_at a s ≡ Some stream → turn (fed_with stream piece) now s ≡ turned (fed_with stream piece) now out
-  turn-out stream piece e = ap (λ (l : SocketAddr). turned (fed_with stream piece) now (with_bytes l [] s)) (found-local a s stream e)
+  turn-out : (stream : Stream) (piece : List ℕ) → stream_at a s ≡ Some stream → next_frame_step (fed_with stream piece) now s ≡ detached_frame_step (fed_with stream piece) now out
+  turn-out stream piece e = ap (λ (l : SocketAddr). detached_frame_step (fed_with stream piece) now (with_bytes l [] s)) (found-local a s stream e)
 
   -- enough steps for what the first of them leaves
   abbrev enough : Stream → List ℕ → ℕ
-  enough stream piece = weight (turned (fed_with stream piece) now out).1.streams + length (stream.bytes ++ piece)
+  enough stream piece = weight (detached_frame_step (fed_with stream piece) now out).1.streams + length (stream.bytes ++ piece)
 
-  first-given : (stream : Stream) (piece : List ℕ) (n : ℕ) → stream_at a s ≡ Some stream → gives_then (all_turns n now) (first_turn stream piece now s) ≡ gives_then (all_turns n now) (turned (fed_with stream piece) now out)
+  first-given : (stream : Stream) (piece : List ℕ) (n : ℕ) → stream_at a s ≡ Some stream → gives_then (all_turns n now) (first_frame_step stream piece now s) ≡ gives_then (all_turns n now) (detached_frame_step (fed_with stream piece) now out)
   first-given stream piece n e =
-      let p = turn (fed_with stream piece) now s in
+      let p = next_frame_step (fed_with stream piece) now s in
       ap (λ (l : List Payload). (l ++ (all_turns n now p.1).0, (all_turns n now p.1).1)) (placed stream.bytes p.0)
       ∙ ap (gives_then (all_turns n now)) (turn-out stream piece e)
 
-  first-weight : (stream : Stream) (piece : List ℕ) → stream_at a s ≡ Some stream → weight (first_turn stream piece now s).1.streams ≤ enough stream piece
+  first-weight : (stream : Stream) (piece : List ℕ) → stream_at a s ≡ Some stream → weight (first_frame_step stream piece now s).1.streams ≤ enough stream piece
   first-weight stream piece e = rw (turn-out stream piece e) (omega arith)
 
   control-turn : (b : ℕ) (piece : List ℕ) (stream : Stream) → stream_at a s ≡ Some (record stream { mode = Control }) → GivesTurn (record stream { mode = Control }) (b ∷ piece) (enough (record stream { mode = Control }) (b ∷ piece))
@@ -133,14 +133,14 @@ module _ (a : SocketAddr) (now : ℕ) (s : State) (quiet : IsQuiet s) where
       let u = record stream { mode = Control } in
       let n = enough u (b ∷ piece) in
       ap (polled_out now) (recv-found a (b ∷ piece) now s u quiet.transport e)
-      ∙ (then_all-all n now (first_turn u (b ∷ piece) now s) (first-weight u (b ∷ piece) e) ∙ first-given u (b ∷ piece) n e)
+      ∙ (then_all-all n now (first_frame_step u (b ∷ piece) now s) (first-weight u (b ∷ piece) e) ∙ first-given u (b ∷ piece) n e)
 
   waiting-turn : (b : ℕ) (piece : List ℕ) (stream : Stream) → stream_at a s ≡ Some (record stream { mode = Waiting }) → GivesTurn (record stream { mode = Waiting }) (b ∷ piece) (enough (record stream { mode = Waiting }) (b ∷ piece))
   waiting-turn b piece stream e =
       let u = record stream { mode = Waiting } in
       let n = enough u (b ∷ piece) in
       ap (polled_out now) (recv-found a (b ∷ piece) now s u quiet.transport e)
-      ∙ (polled_out-all n now (first_turn u (b ∷ piece) now s) (first-weight u (b ∷ piece) e) ∙ first-given u (b ∷ piece) n e)
+      ∙ (polled_out-all n now (first_frame_step u (b ∷ piece) now s) (first-weight u (b ∷ piece) e) ∙ first-given u (b ∷ piece) n e)
 
   bound-turn : (b : ℕ) (piece : List ℕ) (stream : Stream) (peer : SocketAddr) → stream_at a s ≡ Some (record stream { mode = Bound peer }) → GivesTurn (record stream { mode = Bound peer }) (b ∷ piece) (enough (record stream { mode = Bound peer }) (b ∷ piece))
   bound-turn b piece stream peer e =
@@ -158,7 +158,7 @@ module _ (a : SocketAddr) (now : ℕ) (s : State) (quiet : IsQuiet s) where
   there-out c stream e unbroken suits = record { stream = record stream { bytes = [] }; found = out-found stream e; unbroken = unbroken; suits = suits }
 
   whole-agrees : (c : Bool) (stream : Stream) (piece : List ℕ) (n : ℕ) → stream_at a s ≡ Some stream → (stream.mode ≡ Broken → ⊥) → SuitsMode c stream.mode → length (stream.bytes ++ piece) < suc n → GivesTurn stream piece n
-      → gives_then (all_turns n now) (turned (fed_with stream piece) now out) ≡ all_turns (suc n) now (with_bytes a (stream.bytes ++ piece) out) → Agrees a c (fed_piece a piece now s) (whole a now out (bytes_at a s ++ piece))
+      → gives_then (all_turns n now) (detached_frame_step (fed_with stream piece) now out) ≡ all_turns (suc n) now (with_bytes a (stream.bytes ++ piece) out) → Agrees a c (fed_piece a piece now s) (whole a now out (bytes_at a s ++ piece))
   whole-agrees c stream piece n e unbroken suits few gives first =
       let all = turns-whole a now c (suc n) out (stream.bytes ++ piece) few out-is-alone (there-out c stream e unbroken suits) in
       let same : fed_piece a piece now s ≡ all_turns (suc n) now (with_bytes a (stream.bytes ++ piece) out) = gives ∙ first in

@@ -18,7 +18,7 @@ use Rattle.turn_client_api.proofs.HasLemmas.{Has, has-append}
 use Rattle.turn_client_api.proofs.PhasesGoOn.{bind-keeps, call-keeps, keeps-same, message-keeps}
 use Rattle.turn_client_api.proofs.StandLemmas.{contains-has}
 use Rattle.turn_client_api.proofs.TurnChainLemmas.{calls-do}
-use Rattle.turn_client_runs.specs.Turns.{handled_in}
+use Rattle.turn_client_runs.specs.Inputs.{handled_in}
 use Rattle.turn_client_runs.proofs.TurnsOfRuns.{takes-or}
 
 same-realm : (s : State) → KeepsRealm s s

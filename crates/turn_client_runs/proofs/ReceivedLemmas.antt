@@ -13,8 +13,8 @@ use Rattle.turn_client_api.specs.Connections.{connection_at}
 use Rattle.turn_client_api.specs.Grants.{is_connection_from, without}
 use Rattle.turn_client_api.specs.Handled.{Input, fed, fed_taken, frame_taken, is_front, piece_inputs, poll_recv_inputs, stream_inputs, taken, taken_first, taken_in, taken_of_len, then_taken, inputs_taken, unless_given}
 use Rattle.turn_client_api.specs.Payloads.{Payload, Outcome, Handled, Ignored, PeerData, PeerIcmp}
-use Rattle.turn_client_api.specs.Receive.{connection_gone, first_turn, piece_step, stream_step, then_all}
-use Rattle.turn_client_api.specs.Streams.{broken_at, frame_step, framed_by, framed_turn, go_on, is_ready, most_turns, payload_in, poll_recv_step, turn, turn_of_first, turned, turns_until_payload, with_bytes, without_stream}
+use Rattle.turn_client_api.specs.Receive.{connection_gone, first_frame_step, piece_step, stream_step, then_all}
+use Rattle.turn_client_api.specs.Streams.{broken_at, frame_step, framed_by, framed_stream_step, go_on, is_ready, most_turns, payload_in, poll_recv_step, next_frame_step, first_ready_step, detached_frame_step, steps_until_payload, with_bytes, without_stream}
 use Rattle.turn_client_runs.specs.Received.{unless_broken}
 use Rattle.turn_client_api.proofs.AddressLemmas.{same_address-true}
 use Rattle.turn_client_api.proofs.GrantOriginLemmas.{has-mapped}
@@ -84,20 +84,20 @@ module _ (Known : SocketAddr → List ℕ → Type 0) (none : (a : SocketAddr) �
       bytes-known stream.local (drop len stream.bytes) u (less stream.local len stream.bytes is)
       (all-others stream.local u.streams (rebound-known t u (frame-rebound stream (take len stream.bytes) now t) all))
 
-  front-known : (stream : Stream) (now : ℕ) (t : State) → Known stream.local stream.bytes → AllKnown t.streams → AllKnown (framed_turn stream now t).1.streams
+  front-known : (stream : Stream) (now : ℕ) (t : State) → Known stream.local stream.bytes → AllKnown t.streams → AllKnown (framed_stream_step stream now t).1.streams
   front-known stream now t is all = by (begins_no_frame stream.bytes)
     where
       by : (b : Bool) → AllKnown (cond {A = Outcome × State} b (Handled, broken_at stream.local t) (framed_by stream now t (frame_len stream.bytes))).1.streams
       by true = broken-known stream.local t all
       by false = framed-known stream now t is all (frame_len stream.bytes)
 
-  turned-known : (m : Mode) (stream : Stream) (now : ℕ) (t : State) → Known stream.local stream.bytes → AllKnown t.streams → AllKnown (turned (record stream { mode = m }) now t).1.streams
+  turned-known : (m : Mode) (stream : Stream) (now : ℕ) (t : State) → Known stream.local stream.bytes → AllKnown t.streams → AllKnown (detached_frame_step (record stream { mode = m }) now t).1.streams
   turned-known Control stream now t is all = front-known (record stream { mode = Control }) now t is all
   turned-known Waiting stream now t is all = front-known (record stream { mode = Waiting }) now t is all
   turned-known (Bound peer) stream now t is all = all
   turned-known Broken stream now t is all = all
 
-  turn-known : (stream : Stream) (now : ℕ) (s : State) → Known stream.local stream.bytes → OthersKnown stream.local s.streams → AllKnown (turn stream now s).1.streams
+  turn-known : (stream : Stream) (now : ℕ) (s : State) → Known stream.local stream.bytes → OthersKnown stream.local s.streams → AllKnown (next_frame_step stream now s).1.streams
   turn-known stream now s is others = turned-known stream.mode stream now (with_bytes stream.local [] s) is (bytes-known stream.local [] s (none stream.local) others)
 
   -- ---- the inputs of a call
@@ -157,17 +157,17 @@ module _ (Known : SocketAddr → List ℕ → Type 0) (none : (a : SocketAddr) �
   go_on-known next later front (Ignored, t) first more = let rest = more t first.1 in (joined-turns front (later t) first.0 rest.0, rest.1)
   go_on-known next later front (PeerIcmp transport peer icmp, t) first more = let rest = more t first.1 in (joined-turns front (later t) first.0 rest.0, rest.1)
 
-  turns-known : (n now : ℕ) (s : State) → AllKnown s.streams → Goes (inputs_taken n now s) (turns_until_payload n now s).1
-  unfolding inputs_taken turns_until_payload
+  turns-known : (n now : ℕ) (s : State) → AllKnown s.streams → Goes (inputs_taken n now s) (steps_until_payload n now s).1
+  unfolding inputs_taken steps_until_payload
   turns-known zero now s all = (no-turns, all)
   turns-known (suc n) now s all = by (find is_ready s.streams) refl (λ t known. turns-known n now t known)
     where
-      by : (o : Option Stream) → find is_ready s.streams ≡ o → ((t : State) → AllKnown t.streams → Goes (inputs_taken n now t) (turns_until_payload n now t).1)
-          → Goes (taken_first (inputs_taken n now) now s o) (turn_of_first (turns_until_payload n now) now s o).1
+      by : (o : Option Stream) → find is_ready s.streams ≡ o → ((t : State) → AllKnown t.streams → Goes (inputs_taken n now t) (steps_until_payload n now t).1)
+          → Goes (taken_first (inputs_taken n now) now s o) (first_ready_step (steps_until_payload n now) now s o).1
       by None e more = (no-turns, all)
       by (Some stream) e more =
           let is = all stream (has-found is_ready stream s.streams e).0 in
-          go_on-known (turns_until_payload n now) (inputs_taken n now) (taken false stream now s) (turn stream now s)
+          go_on-known (steps_until_payload n now) (inputs_taken n now) (taken false stream now s) (next_frame_step stream now s)
           (taken-turns false stream now s is, turn-known stream now s is (all-others stream.local s.streams all)) more
 
   pub poll-known : (now : ℕ) (s : State) → AllKnown s.streams → Goes (poll_recv_inputs now s) (poll_recv_step now s).1
@@ -181,7 +181,7 @@ module _ (Known : SocketAddr → List ℕ → Type 0) (none : (a : SocketAddr) �
   then-known now front (Handled, t) first = let rest = poll-known now t first.1 in (joined-turns front (poll_recv_inputs now t) first.0 rest.0, rest.1)
   then-known now front (Ignored, t) first = let rest = poll-known now t first.1 in (joined-turns front (poll_recv_inputs now t) first.0 rest.0, rest.1)
 
-  fed-known : (stream : Stream) (piece : List ℕ) (now : ℕ) (s : State) → Known stream.local (stream.bytes ++ piece) → OthersKnown stream.local s.streams → Goes (fed_taken stream piece now s) (first_turn stream piece now s).1
+  fed-known : (stream : Stream) (piece : List ℕ) (now : ℕ) (s : State) → Known stream.local (stream.bytes ++ piece) → OthersKnown stream.local s.streams → Goes (fed_taken stream piece now s) (first_frame_step stream piece now s).1
   fed-known stream piece now s is others = (taken-turns (is_front stream.bytes) (fed stream piece) now s is, turn-known (fed stream piece) now s is others)
 
   broken-turns : (b : Bool) (now : ℕ) (s : State) → AllKnown s.streams → Goes (cond b (poll_recv_inputs now s) []) (cond {A = Outcome × State} b (then_all now (Handled, s)) (Handled, s)).1
@@ -193,7 +193,7 @@ module _ (Known : SocketAddr → List ℕ → Type 0) (none : (a : SocketAddr) �
       → Goes (piece_inputs (record stream { mode = m }) piece now s) (piece_step (record stream { mode = m }) piece now s).1
   piece-known Control stream piece now s broken is others =
       let u = record stream { mode = Control } in
-      then-known now (fed_taken u piece now s) (first_turn u piece now s) (fed-known u piece now s is others)
+      then-known now (fed_taken u piece now s) (first_frame_step u piece now s) (fed-known u piece now s is others)
   piece-known Waiting stream piece now s broken is others = fed-known (record stream { mode = Waiting }) piece now s is others
   piece-known (Bound peer) stream piece now s broken is others =
       let u = record stream { mode = Bound peer } in

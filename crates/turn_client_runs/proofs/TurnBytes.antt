@@ -15,8 +15,8 @@ use Rattle.turn_client_api.specs.declared.state.Mode.{Mode}
 use Rattle.turn_client_api.specs.declared.state.Mode.TheVariants.{Control, Waiting, Bound, Broken}
 use Rattle.turn_client_api.specs.declared.state.Stream.{Stream}
 use Rattle.turn_client_api.specs.Payloads.{Payload, Outcome, Handled, Ignored, PeerData, PeerIcmp, channel_sent, datagram_step, is_channel_frame, is_message, message_step}
-use Rattle.turn_client_api.specs.Streams.{broken_at, frame_step, framed_by, framed_turn, go_on, is_ready, most_turns, payload_in, poll_recv_step, stream_at, turn, turn_of_first, turned, turns_until_payload, with_bytes, without_stream}
-use Rattle.turn_client_api.specs.Receive.{connection_gone, first_turn, is_from_server, piece_step, recv_step, stream_step, then_all}
+use Rattle.turn_client_api.specs.Streams.{broken_at, frame_step, framed_by, framed_stream_step, go_on, is_ready, most_turns, payload_in, poll_recv_step, stream_at, next_frame_step, first_ready_step, detached_frame_step, steps_until_payload, with_bytes, without_stream}
+use Rattle.turn_client_api.specs.Receive.{connection_gone, first_frame_step, is_from_server, piece_step, recv_step, stream_step, then_all}
 use Rattle.turn_client_api.specs.Connections.{connection_at}
 use Rattle.turn_client_api.specs.Handled.{Input, datagram_input, fed_taken, frame_taken, handled, is_front, piece_inputs, poll_recv_inputs, recv_inputs, stream_inputs, taken, taken_first, taken_in, taken_of_len, then_taken, inputs_taken, unless_given}
 use Rattle.turn_client_api.specs.LawsHandled.{TakesInput}
@@ -76,7 +76,7 @@ module _ (p : Stream → Bool) (stream : Stream) (s : State) (found : find p s.s
   abbrev TakesOut : List ℕ → List Input → Outcome × State → Type 0
   TakesOut bytes turns q = length turns + (weight q.1.streams + length stream.bytes) ≤ weight s.streams + length bytes
 
-  framed-takes : (l : Bool) (mode : Mode) (bytes : List ℕ) (now : ℕ) → (let u = record stream { mode = mode; bytes = bytes } in TakesOut bytes (frame_taken l u now out) (framed_turn u now out))
+  framed-takes : (l : Bool) (mode : Mode) (bytes : List ℕ) (now : ℕ) → (let u = record stream { mode = mode; bytes = bytes } in TakesOut bytes (frame_taken l u now out) (framed_stream_step u now out))
   framed-takes l mode bytes now = by (begins_no_frame bytes) (frame_len bytes) refl
     where
       u : Stream
@@ -92,13 +92,13 @@ module _ (p : Stream → Bool) (stream : Stream) (s : State) (found : find p s.s
           let behind = length-drop len bytes in
           omega (arith, less, behind, is.least, is.within)
 
-  turned-takes : (l : Bool) (mode : Mode) (bytes : List ℕ) (now : ℕ) → 0 < length bytes → (let u = record stream { mode = mode; bytes = bytes } in TakesOut bytes (taken_in l u now out) (turned u now out))
+  turned-takes : (l : Bool) (mode : Mode) (bytes : List ℕ) (now : ℕ) → 0 < length bytes → (let u = record stream { mode = mode; bytes = bytes } in TakesOut bytes (taken_in l u now out) (detached_frame_step u now out))
   turned-takes l Control bytes now some = framed-takes l Control bytes now
   turned-takes l Waiting bytes now some = framed-takes l Waiting bytes now
   turned-takes l (Bound peer) bytes now some = let less = emptied in omega (arith, less, some)
   turned-takes l Broken bytes now some = let less = emptied in omega (arith, less)
 
-  pub turn-takes : (l : Bool) (bytes : List ℕ) (now : ℕ) → 0 < length bytes → (let u = record stream { bytes = bytes } in TakesOut bytes (taken l u now s) (turn u now s))
+  pub turn-takes : (l : Bool) (bytes : List ℕ) (now : ℕ) → 0 < length bytes → (let u = record stream { bytes = bytes } in TakesOut bytes (taken l u now s) (next_frame_step u now s))
   turn-takes l bytes now some = turned-takes l stream.mode bytes now some
 
 -- ---- all streams
@@ -113,17 +113,17 @@ go_on-takes next later front s (Handled, t) first more = let sum = length-append
 go_on-takes next later front s (Ignored, t) first more = let sum = length-append front (later t) in omega (arith, sum, first, more)
 go_on-takes next later front s (PeerIcmp transport peer icmp, t) first more = let sum = length-append front (later t) in omega (arith, sum, first, more)
 
-turns-take : (n now : ℕ) (s : State) → Takes (inputs_taken n now s) s (turns_until_payload n now s).1
-unfolding turns_until_payload inputs_taken
+turns-take : (n now : ℕ) (s : State) → Takes (inputs_taken n now s) s (steps_until_payload n now s).1
+unfolding steps_until_payload inputs_taken
 turns-take zero now s = omega arith
 turns-take (suc n) now s = by (find is_ready s.streams) refl (λ t. turns-take n now t)
   where
-    by : (o : Option Stream) → find is_ready s.streams ≡ o → ((t : State) → Takes (inputs_taken n now t) t (turns_until_payload n now t).1) → Takes (taken_first (inputs_taken n now) now s o) s (turn_of_first (turns_until_payload n now) now s o).1
+    by : (o : Option Stream) → find is_ready s.streams ≡ o → ((t : State) → Takes (inputs_taken n now t) t (steps_until_payload n now t).1) → Takes (taken_first (inputs_taken n now) now s o) s (first_ready_step (steps_until_payload n now) now s o).1
     by None e more = omega arith
     by (Some stream) e more =
         let some = ready-waits stream.mode stream stream.bytes (found-ready s.streams stream e) in
         let takes = turn-takes is_ready stream s e false stream.bytes now some in
-        go_on-takes (turns_until_payload n now) (inputs_taken n now) (taken false stream now s) s (turn stream now s) (omega (arith, takes)) (more (turn stream now s).1)
+        go_on-takes (steps_until_payload n now) (inputs_taken n now) (taken false stream now s) s (next_frame_step stream now s) (omega (arith, takes)) (more (next_frame_step stream now s).1)
 
 poll-takes : (now : ℕ) (s : State) → Takes (poll_recv_inputs now s) s (poll_recv_step now s).1
 poll-takes now s = turns-take (most_turns s) now s
@@ -141,7 +141,7 @@ then_all-takes now piece front s (Handled, t) first = let sum = length-append fr
 then_all-takes now piece front s (Ignored, t) first = let sum = length-append front (poll_recv_inputs now t) in let more = poll-takes now t in omega (arith, sum, first, more)
 
 module _ (to : SocketAddr) (s : State) where
-  fed-takes : (stream : Stream) (piece : List ℕ) (now : ℕ) → stream_at to s ≡ Some stream → 0 < length piece → TakesOf piece (fed_taken stream piece now s) s (first_turn stream piece now s).1
+  fed-takes : (stream : Stream) (piece : List ℕ) (now : ℕ) → stream_at to s ≡ Some stream → 0 < length piece → TakesOf piece (fed_taken stream piece now s) s (first_frame_step stream piece now s).1
   fed-takes stream piece now found some =
       let all = length-append stream.bytes piece in
       let takes = turn-takes (λ x. same_address x.local to) stream s found (is_front stream.bytes) (stream.bytes ++ piece) now (omega (arith, all, some)) in
@@ -150,7 +150,7 @@ module _ (to : SocketAddr) (s : State) where
   piece-takes : (m : Mode) (stream : Stream) (piece : List ℕ) (now : ℕ) → stream_at to s ≡ Some (record stream { mode = m }) → 0 < length piece → TakesOf piece (piece_inputs (record stream { mode = m }) piece now s) s (piece_step (record stream { mode = m }) piece now s).1
   piece-takes Control stream piece now found some =
       let u = record stream { mode = Control } in
-      then_all-takes now piece (fed_taken u piece now s) s (first_turn u piece now s) (fed-takes u piece now found some)
+      then_all-takes now piece (fed_taken u piece now s) s (first_frame_step u piece now s) (fed-takes u piece now found some)
   piece-takes Waiting stream piece now found some = fed-takes (record stream { mode = Waiting }) piece now found some
   piece-takes (Bound peer) stream piece now found some = fed-takes (record stream { mode = Bound peer }) piece now found some
   piece-takes Broken stream piece now found some = by (same_address stream.local s.local)

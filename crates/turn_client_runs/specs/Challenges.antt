@@ -11,7 +11,7 @@ use Rattle.turn_client_api.specs.LawsHandled.{IsOverControl}
 use Rattle.turn_client_api.specs.LawsReplies.{IsHeeded}
 use Rattle.turn_client_api.specs.LawsSteps.{IsCounted}
 use Rattle.turn_client_api.specs.declared.call.Call.{Call}
-use Rattle.turn_client_runs.specs.Turns.{IsAmong, handled_in}
+use Rattle.turn_client_runs.specs.Inputs.{IsAmong, handled_in}
 
 -- no more challenges were answered than allowed
 abbrev pub IsPatient : State → Type 0

@@ -7,7 +7,7 @@ use Rattle.turn_client_api.specs.Payloads.{is_message}
 use Rattle.turn_client_api.specs.Handled.{Input, processed}
 use Rattle.turn_client_api.specs.LawsHandled.{IsOverControl}
 use Rattle.turn_client_api.specs.declared.call.Call.{Call}
-use Rattle.turn_client_runs.specs.Turns.{IsAmong, handled_in}
+use Rattle.turn_client_runs.specs.Inputs.{IsAmong, handled_in}
 use Rattle.turn_client_api.specs.Steps.{state_after_all}
 
 -- the input is this challenge, the first that is answered: nothing was held before it, and it is held after

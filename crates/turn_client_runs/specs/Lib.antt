@@ -11,4 +11,4 @@ pub mod Received
 pub mod Replies
 pub mod Short
 pub mod Sleeps
-pub mod Turns
+pub mod Inputs

@@ -11,7 +11,7 @@ use Rattle.turn_client_api.specs.LawsPeers.{HasChannel, HasPermission, IsIcmpAtt
 use Rattle.turn_client_api.specs.declared.call.Call.{Call}
 use Rattle.turn_client_api.specs.declared.state.Mode.TheVariants.{Bound}
 use Rattle.turn_client_api.specs.declared.state.Stream.{Stream}
-use Rattle.turn_client_runs.specs.Turns.{IsAmong, handled_in, payloads_in}
+use Rattle.turn_client_runs.specs.Inputs.{IsAmong, handled_in, payloads_in}
 
 -- the input is bytes of a stream that is bound to this peer, which is in the state just before
 abbrev pub IsOverBound : SocketAddr → Input → Type 0

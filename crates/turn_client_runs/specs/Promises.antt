@@ -19,7 +19,7 @@ use Rattle.turn_client_runs.specs.Held.{HeldFromChallenge}
 use Rattle.turn_client_runs.specs.Peers.{IcmpIsOfPermitted, ReceivesLetIn}
 use Rattle.turn_client_runs.specs.Received.{IsReceived}
 use Rattle.turn_client_runs.specs.Replies.{CountsOnce, EachReply, EndsItsRequest}
-use Rattle.turn_client_runs.specs.Turns.{handled_in}
+use Rattle.turn_client_runs.specs.Inputs.{handled_in}
 use Rattle.turn_client_api.specs.Steps.{state_after_all}
 
 -- it holds for the calls before the first one, and for all up to each of them

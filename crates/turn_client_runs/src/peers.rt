@@ -4,7 +4,7 @@ ghost use Rattle.std.specs.Prelude.{◌≡◌, List};
 ghost use Rattle.turn_client_api.specs.State.{State};
 ghost use Rattle.turn_client_api.specs.declared.call.Call.{Call};
 ghost use Rattle.turn_client_runs.specs.Peers.{IcmpIsOfPermitted, ReceivesLetIn};
-ghost use Rattle.turn_client_runs.specs.Turns.{answered_in, payloads_in};
+ghost use Rattle.turn_client_runs.specs.Inputs.{answered_in, payloads_in};
 
 /// Every payload of a run is of a permitted peer: in the state in which the input was processed, the peer's
 /// IP address had an active permission, the peer had an active channel, or the bytes are those of a stream

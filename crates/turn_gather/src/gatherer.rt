@@ -3,7 +3,7 @@
 ghost use Rattle.std.specs.Prelude.{◌≡◌, ◌≤◌, ◌^◌, [], true, length, option_map, IfOk, IsOk, OnErr, OnOk};
 ghost use Rattle.turn_stun.specs.declared.transport.TransportType.TheVariants.{Udp};
 ghost use Rattle.turn_client_api.specs.Alarm.{IsTimely};
-ghost use Rattle.turn_client_api.specs.Answers.{CreatesPermission, EndsAfterTurns, IsSent, RecvEnds, event_step, given_payload, takes_no_memory};
+ghost use Rattle.turn_client_api.specs.Answers.{CreatesPermission, EndsAfterSteps, IsSent, RecvEnds, event_step, given_payload, takes_no_memory};
 ghost use Rattle.turn_client_api.specs.Calls.{create_permission_step, relayed_addresses_of, send_to_step};
 ghost use Rattle.turn_client_api.specs.Effect.{closed};
 ghost use Rattle.turn_client_api.specs.Poll.{poll_step};
@@ -158,7 +158,7 @@ impl<C: TurnClientApi> Gatherer<C> {
         requires moment { now ≤ 2 ^ 62 }
         ensures answer { IfOk result (λ given. option_map gathered_of given ≡ polled now self.old) }
         ensures after { OnOk result (self.new.client ≡ (poll_recv_step now self.old.client).1) }
-        ensures no_memory { OnErr result (EndsAfterTurns now self.old.client self.new.client) }
+        ensures no_memory { OnErr result (EndsAfterSteps now self.old.client self.new.client) }
         ensures checked { self.new.checked ≡ self.old.checked }
     {
         match self.client.poll_recv(now)? {

@@ -3,7 +3,7 @@ use Rattle.std.specs.Prelude.{◌≡◌, ◌⊎◌, ℕ, ◌<◌, ◌≤◌, nat
 use Rattle.turn_stun.specs.declared.transport.Transmit.{Transmit}
 use Rattle.turn_client_api.specs.State.{State}
 use Rattle.turn_client_api.specs.Alarm.{IsSilent}
-use Rattle.turn_client_api.specs.Answers.{EndsAfterTurns, event_step}
+use Rattle.turn_client_api.specs.Answers.{EndsAfterSteps, event_step}
 use Rattle.turn_client_api.specs.Effect.{closed}
 use Rattle.turn_client_api.specs.Payloads.{Payload}
 use Rattle.turn_client_api.specs.Poll.{poll_step}
@@ -99,4 +99,4 @@ NothingPolled now (None, s) t = PollEnds now s t
 
 -- it failed in `poll_recv`, or in a call of the client after that
 abbrev pub NextEnds : ℕ → State → State → Type 0
-NextEnds now s t = EndsAfterTurns now s t ⊎ NothingPolled now (poll_recv_step now s) t
+NextEnds now s t = EndsAfterSteps now s t ⊎ NothingPolled now (poll_recv_step now s) t

@@ -5,7 +5,7 @@ ghost use Rattle.turn_client_api.specs.State.{State, Requesting, Stream};
 ghost use Rattle.turn_client_api.specs.Due.{least_due};
 ghost use Rattle.turn_client_api.specs.Calls.{free_number};
 ghost use Rattle.turn_client_api.specs.Poll.{lapsed, poll_step};
-ghost use Rattle.turn_client_api.specs.Streams.{frame_step, poll_recv_step, turn};
+ghost use Rattle.turn_client_api.specs.Streams.{frame_step, poll_recv_step, next_frame_step};
 ghost use Rattle.turn_client_api.specs.Handled.{poll_recv_inputs};
 ghost use Rattle.turn_client_api.specs.LawsStreams.{IsDrained};
 ghost use Rattle.turn_client_api.specs.LawsBodies.{AreTakenUpTo, IsAsideFrom, IsLeastFree, TellsOfFailed, lapse_moments, most_failures, soonest};
@@ -55,6 +55,6 @@ pub fn drained_streams_rest()
 /// place (RFC 6062, section 4.3: each data connection is a TCP connection of its own). So it makes none of
 /// them ready, and those that were not ready need not be checked again.
 pub fn inputs_leave_other_streams()
-    ensures turn { (stream : Stream) (now : ℕ) (s : State) → IsAsideFrom stream.local s (turn stream now s).1 }
+    ensures next_frame_step { (stream : Stream) (now : ℕ) (s : State) → IsAsideFrom stream.local s (next_frame_step stream now s).1 }
     ensures frame { (stream : Stream) (frame : List ℕ) (now : ℕ) (s : State) → IsAsideFrom stream.local s (frame_step stream frame now s).1 }
 {}

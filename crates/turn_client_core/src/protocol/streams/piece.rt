@@ -2,7 +2,7 @@
 
 ghost use Rattle.std.specs.Prelude.{◌≡◌, ◌≤◌, ◌<◌, ◌⊎◌, [], length, true, IfOk, IsOk, OnErr, OnOk, Some};
 ghost use Rattle.std.specs.Option.{option_map_or};
-ghost use Rattle.turn_client_api.specs.Answers.{EndsAfterTurns, HandsBack, IsPartOf, given_payload, outcome_of};
+ghost use Rattle.turn_client_api.specs.Answers.{EndsAfterSteps, HandsBack, IsPartOf, given_payload, outcome_of};
 ghost use Rattle.turn_client_api.specs.Effect.{closed};
 ghost use Rattle.turn_client_api.specs.LawsOrder.{IsUngranted};
 ghost use Rattle.turn_client_api.specs.Memory.{frame_takes_memory, is_free_frame};
@@ -11,8 +11,8 @@ ghost use Rattle.turn_client_api.specs.Payloads.{PeerData};
 ghost use Rattle.turn_client_api.specs.Receive.{then_all};
 ghost use Rattle.turn_client_api.specs.Streams.{broken_at, frame_step, is_bound, owned, poll_recv_step};
 ghost use Rattle.turn_client_api.specs.declared.state.Mode.TheVariants.{Control, Waiting};
-ghost use Rattle.turn_client_core.specs.Turns.{EndsBehind, IsFront, PieceEnds, bound_sent, came_with, fed_turned};
-ghost use Rattle.turn_client_core.specs.Turns.{given_as, left_by, part_at, piece_turned, put_or_broken};
+ghost use Rattle.turn_client_core.specs.StreamSteps.{EndsBehind, IsFront, PieceEnds, bound_sent, came_with, fed_frame_step};
+ghost use Rattle.turn_client_core.specs.StreamSteps.{given_as, left_by, part_at, whole_piece_step, put_or_broken};
 ghost use Rattle.turn_types.specs.Frames.{frame_len};
 ghost use Rattle.turn_types.specs.Incoming.{incoming_bytes};
 
@@ -36,7 +36,7 @@ impl TurnClientProtocol {
     /// If memory allocation fails, for the piece or for the bytes of other streams, which are processed
     /// after a piece of the control stream. The stream being processed is broken then, and the client
     /// has ended. Bytes of a bound stream with no buffered bytes allocate none.
-    pub(crate) fn turned_piece<T: AsSlice<u8> + Debug + Drop>(
+    pub(crate) fn process_piece<T: AsSlice<u8> + Debug + Drop>(
         &mut self,
         stream: BufferedStream,
         transmit: Transmit<T>,
@@ -44,9 +44,9 @@ impl TurnClientProtocol {
     ) -> Result<TurnRecvRet<T>, AllocError>
         requires some { 0 < length (T.items transmit.payload) }
         requires before { IsUngranted self.old.phase → self.old.grants ≡ [] }
-        ensures answer { IfOk result (λ given. outcome_of given ≡ (piece_turned stream (T.items transmit.payload) now self.old).0) }
+        ensures answer { IfOk result (λ given. outcome_of given ≡ (whole_piece_step stream (T.items transmit.payload) now self.old).0) }
         ensures hands_back { IfOk result (HandsBack transmit) }
-        ensures after { OnOk result (self.new ≡ (piece_turned stream (T.items transmit.payload) now self.old).1) }
+        ensures after { OnOk result (self.new ≡ (whole_piece_step stream (T.items transmit.payload) now self.old).1) }
         ensures no_memory { OnErr result (PieceEnds stream (T.items transmit.payload) now self.old self.new) }
         ensures free { is_bound stream.mode ≡ true → stream.bytes ≡ [] → IsOk result }
         ensures free_frame { is_free_frame (T.items transmit.payload) self.old stream ≡ true → IsOk result }
@@ -74,9 +74,9 @@ impl TurnClientProtocol {
         requires some { 0 < length (T.items transmit.payload) }
         requires control { stream.mode ≡ Control }
         requires before { IsUngranted self.old.phase → self.old.grants ≡ [] }
-        ensures answer { IfOk result (λ given. outcome_of given ≡ (then_all now (fed_turned stream (T.items transmit.payload) now self.old)).0) }
+        ensures answer { IfOk result (λ given. outcome_of given ≡ (then_all now (fed_frame_step stream (T.items transmit.payload) now self.old)).0) }
         ensures hands_back { IfOk result (HandsBack transmit) }
-        ensures after { OnOk result (self.new ≡ (then_all now (fed_turned stream (T.items transmit.payload) now self.old)).1) }
+        ensures after { OnOk result (self.new ≡ (then_all now (fed_frame_step stream (T.items transmit.payload) now self.old)).1) }
         ensures no_memory { OnErr result (PieceEnds stream (T.items transmit.payload) now self.old self.new) }
         ensures free { is_free_frame (T.items transmit.payload) self.old stream ≡ true → IsOk result }
     {
@@ -137,9 +137,9 @@ impl TurnClientProtocol {
         ensures answer { IfOk result (λ given. outcome_of given ≡ option_map_or PeerData (poll_recv_step now self.old).0 (outcome_of otherwise)) }
         ensures hands_back { (transmit : Transmit T) → HandsBack transmit otherwise → IfOk result (HandsBack transmit) }
         ensures after { OnOk result (self.new ≡ (poll_recv_step now self.old).1) }
-        ensures no_memory { OnErr result (EndsAfterTurns now self.old self.new) }
+        ensures no_memory { OnErr result (EndsAfterSteps now self.old self.new) }
     {
-        match self.turns(now)? {
+        match self.process_ready(now)? {
             Some(given) => Ok(TurnRecvRet::PeerData(given.into_data())),
             None => Ok(otherwise),
         }
@@ -159,14 +159,14 @@ impl TurnClientProtocol {
         requires some { 0 < length (T.items transmit.payload) }
         requires framed { (stream.mode ≡ Control) ⊎ (stream.mode ≡ Waiting) }
         requires before { self.old.phase ≡ Phase.Authenticating → self.old.grants ≡ [] }
-        ensures answer { IfOk result (λ given. outcome_of given ≡ (fed_turned stream (T.items transmit.payload) now self.old).0) }
+        ensures answer { IfOk result (λ given. outcome_of given ≡ (fed_frame_step stream (T.items transmit.payload) now self.old).0) }
         ensures hands_back { IfOk result (HandsBack transmit) }
-        ensures after { OnOk result (self.new ≡ (fed_turned stream (T.items transmit.payload) now self.old).1) }
+        ensures after { OnOk result (self.new ≡ (fed_frame_step stream (T.items transmit.payload) now self.old).1) }
         ensures no_memory { OnErr result (self.new ≡ closed (broken_at stream.local self.old)) }
         ensures free { is_free_frame (T.items transmit.payload) self.old stream ≡ true → IsOk result }
     {
         let local = stream.local();
-        match self.first_turn(stream, transmit, now) {
+        match self.first_frame_step(stream, transmit, now) {
             Ok(first) => Ok(first),
             Err(refusal) => {
                 self.end_at(local);
@@ -189,7 +189,7 @@ impl TurnClientProtocol {
     /// # Errors
     ///
     /// If memory allocation fails. Nothing changes then.
-    fn first_turn<T: AsSlice<u8> + Debug + Drop>(
+    fn first_frame_step<T: AsSlice<u8> + Debug + Drop>(
         &mut self,
         mut stream: BufferedStream,
         transmit: Transmit<T>,
@@ -198,9 +198,9 @@ impl TurnClientProtocol {
         requires some { 0 < length (T.items transmit.payload) }
         requires framed { (stream.mode ≡ Control) ⊎ (stream.mode ≡ Waiting) }
         requires before { self.old.phase ≡ Phase.Authenticating → self.old.grants ≡ [] }
-        ensures answer { IfOk result (λ given. outcome_of given ≡ (fed_turned stream (T.items transmit.payload) now self.old).0) }
+        ensures answer { IfOk result (λ given. outcome_of given ≡ (fed_frame_step stream (T.items transmit.payload) now self.old).0) }
         ensures hands_back { IfOk result (HandsBack transmit) }
-        ensures after { OnOk result (self.new ≡ (fed_turned stream (T.items transmit.payload) now self.old).1) }
+        ensures after { OnOk result (self.new ≡ (fed_frame_step stream (T.items transmit.payload) now self.old).1) }
         ensures err { OnErr result (self.new ≡ self.old) }
         ensures free { is_free_frame (T.items transmit.payload) self.old stream ≡ true → IsOk result }
     {

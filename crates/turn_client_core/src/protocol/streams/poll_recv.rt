@@ -1,12 +1,12 @@
 //! The next frames of a client's streams (RFC 8656, section 12.5; RFC 6062, section 4.3).
 
 ghost use Rattle.std.specs.Prelude.{◌≡◌, All, [], find, length, option_map, true, IfOk, IsNone, IsOk, None, OnErr, OnOk, Some};
-ghost use Rattle.turn_client_api.specs.Answers.{EndsAfterTurns, given_payload};
+ghost use Rattle.turn_client_api.specs.Answers.{EndsAfterSteps, given_payload};
 ghost use Rattle.turn_client_api.specs.LawsOrder.{IsUngranted};
 ghost use Rattle.turn_client_api.specs.Memory.{frame_takes_memory};
-ghost use Rattle.turn_client_api.specs.Streams.{HoldsLittle, broken_at, frame_step, framed_turn, is_ready, poll_recv_step, turned, with_bytes};
+ghost use Rattle.turn_client_api.specs.Streams.{HoldsLittle, broken_at, frame_step, framed_stream_step, is_ready, poll_recv_step, detached_frame_step, with_bytes};
 ghost use Rattle.turn_client_core.specs.Told.{IsPart, outcome_in};
-ghost use Rattle.turn_client_core.specs.Turns.{data_of, given_by};
+ghost use Rattle.turn_client_core.specs.StreamSteps.{data_of, given_by};
 ghost use Rattle.turn_client_streams.specs.Held.{taken_out};
 ghost use Rattle.turn_types.specs.Frames.{frame_len};
 
@@ -34,9 +34,9 @@ impl TurnClientProtocol {
         ensures answer { IfOk result (λ given. option_map given_payload given ≡ (poll_recv_step now self.old).0) }
         ensures little { IfOk result (λ given. IsNone given → All HoldsLittle self.new.streams) }
         ensures after { OnOk result (self.new ≡ (poll_recv_step now self.old).1) }
-        ensures no_memory { OnErr result (EndsAfterTurns now self.old self.new) }
+        ensures no_memory { OnErr result (EndsAfterSteps now self.old self.new) }
     {
-        match self.turns(now)? {
+        match self.process_ready(now)? {
             Some(given) => Ok(Some(given.into_data())),
             None => Ok(None),
         }
@@ -48,16 +48,16 @@ impl TurnClientProtocol {
     ///
     /// If memory allocation for the bytes of a stream fails. That stream is broken then, and the client
     /// has ended.
-    pub(crate) fn turns(&mut self, now: Instant) -> Result<Option<Received>, AllocError>
+    pub(crate) fn process_ready(&mut self, now: Instant) -> Result<Option<Received>, AllocError>
         requires before { IsUngranted self.old.phase → self.old.grants ≡ [] }
         ensures answer { IfOk result (λ given. option_map data_of given ≡ (poll_recv_step now self.old).0) }
         ensures little { IfOk result (λ given. IsNone given → All HoldsLittle self.new.streams) }
         ensures after { OnOk result (self.new ≡ (poll_recv_step now self.old).1) }
-        ensures no_memory { OnErr result (EndsAfterTurns now self.old self.new) }
+        ensures no_memory { OnErr result (EndsAfterSteps now self.old self.new) }
     {
         while let Some(stream) = self.take_ready() {
             let local = stream.local();
-            match self.turned(stream, now) {
+            match self.process_detached(stream, now) {
                 Ok(None) => {}
                 Ok(Some(given)) => return Ok(Some(given)),
                 Err(refusal) => {
@@ -99,19 +99,19 @@ impl TurnClientProtocol {
     /// # Errors
     ///
     /// If memory allocation fails. Nothing changes then.
-    fn turned(
+    fn process_detached(
         &mut self,
         stream: BufferedStream,
         now: Instant,
     ) -> Result<Option<Received>, AllocError>
         requires before { self.old.phase ≡ Phase.Authenticating → self.old.grants ≡ [] }
-        ensures answer { IfOk result (λ given. option_map data_of given ≡ given_by (turned stream now self.old).0) }
-        ensures after { OnOk result (self.new ≡ (turned stream now self.old).1) }
+        ensures answer { IfOk result (λ given. option_map data_of given ≡ given_by (detached_frame_step stream now self.old).0) }
+        ensures after { OnOk result (self.new ≡ (detached_frame_step stream now self.old).1) }
         ensures err { OnErr result (self.new ≡ self.old) }
     {
         match stream.mode() {
-            Mode::Control => self.framed_turn(stream, now),
-            Mode::Waiting => self.framed_turn(stream, now),
+            Mode::Control => self.framed_stream_step(stream, now),
+            Mode::Waiting => self.framed_stream_step(stream, now),
             Mode::Bound(peer) => Ok(Some(Received {
                 transport: TransportType::Tcp,
                 peer,
@@ -126,14 +126,14 @@ impl TurnClientProtocol {
     /// # Errors
     ///
     /// If memory allocation fails. Nothing changes then.
-    fn framed_turn(
+    fn framed_stream_step(
         &mut self,
         mut stream: BufferedStream,
         now: Instant,
     ) -> Result<Option<Received>, AllocError>
         requires before { self.old.phase ≡ Phase.Authenticating → self.old.grants ≡ [] }
-        ensures answer { IfOk result (λ given. option_map data_of given ≡ given_by (framed_turn stream now self.old).0) }
-        ensures after { OnOk result (self.new ≡ (framed_turn stream now self.old).1) }
+        ensures answer { IfOk result (λ given. option_map data_of given ≡ given_by (framed_stream_step stream now self.old).0) }
+        ensures after { OnOk result (self.new ≡ (framed_stream_step stream now self.old).1) }
         ensures err { OnErr result (self.new ≡ self.old) }
     {
         if stream.is_stuck() {

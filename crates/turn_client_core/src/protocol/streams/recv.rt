@@ -4,10 +4,10 @@ ghost use Rattle.std.specs.Prelude.{◌≡◌, ◌<◌, ℕ, [], false, true, le
 ghost use Rattle.std.specs.Option.{option_map_or};
 ghost use Rattle.turn_agent.specs.Agent.{same_address};
 ghost use Rattle.turn_stun.specs.declared.transport.TransportType.TheVariants.{Tcp};
-ghost use Rattle.turn_client_api.specs.Answers.{EndsAfterTurns, HandsBack, RecvEnds, outcome_of};
+ghost use Rattle.turn_client_api.specs.Answers.{EndsAfterSteps, HandsBack, RecvEnds, outcome_of};
 ghost use Rattle.turn_client_api.specs.LawsOrder.{IsUngranted};
 ghost use Rattle.turn_client_api.specs.Streams.{stream_at, without_stream};
-ghost use Rattle.turn_client_core.specs.Turns.{broken_turned, is_broken, piece_at, piece_takes_none};
+ghost use Rattle.turn_client_core.specs.StreamSteps.{broken_piece_step, is_broken, piece_at, piece_takes_none};
 ghost use Rattle.turn_client_streams.specs.Held.{taken_out};
 
 use crate::protocol::TurnClientProtocol;
@@ -131,10 +131,10 @@ impl TurnClientProtocol {
         now: Instant,
     ) -> Result<TurnRecvRet<T>, AllocError>
         requires before { IsUngranted self.old.phase → self.old.grants ≡ [] }
-        ensures answer { IfOk result (λ given. outcome_of given ≡ (broken_turned local now self.old).0) }
+        ensures answer { IfOk result (λ given. outcome_of given ≡ (broken_piece_step local now self.old).0) }
         ensures hands_back { (transmit : Transmit T) → IfOk result (HandsBack transmit) }
-        ensures after { OnOk result (self.new ≡ (broken_turned local now self.old).1) }
-        ensures no_memory { OnErr result ((same_address local self.old.local ≡ true) × EndsAfterTurns now self.old self.new) }
+        ensures after { OnOk result (self.new ≡ (broken_piece_step local now self.old).1) }
+        ensures no_memory { OnErr result ((same_address local self.old.local ≡ true) × EndsAfterSteps now self.old self.new) }
     {
         if local == self.local_addr() {
             return self.others(TurnRecvRet::Handled, now);
@@ -165,7 +165,7 @@ impl TurnClientProtocol {
         let Some(stream) = self.take_at(transmit.to) else {
             return Ok(TurnRecvRet::Ignored(transmit));
         };
-        self.turned_piece(stream, transmit, now)
+        self.process_piece(stream, transmit, now)
     }
 
     /// Takes out the stream at this local address.

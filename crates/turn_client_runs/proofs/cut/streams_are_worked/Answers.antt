@@ -2,46 +2,46 @@ use Rattle.std.proofs.Common.{refl}
 use Rattle.turn_stun.specs.Message.{attributes_from, fault_of}
 use Rattle.turn_stun.specs.Attributes.{seen_after}
 use Rattle.turn_types.specs.Cuts.{drained_at_most}
-use Rattle.turn_client_api.specs.Streams.{turns_until_payload}
+use Rattle.turn_client_api.specs.Streams.{steps_until_payload}
 use Rattle.turn_client_runs.specs.Cut.{fed_pieces, polled}
 use Rattle.turn_client_runs.proofs.cut.streams_are_worked.Goals as goal
 
 pub returns-clause-whole : goal.returns-clause-whole
-unfolding turns_until_payload fault_of attributes_from seen_after drained_at_most fed_pieces polled
+unfolding steps_until_payload fault_of attributes_from seen_after drained_at_most fed_pieces polled
 returns-clause-whole c = λ s. refl
 
 pub returns-clause-cut : goal.returns-clause-cut
-unfolding turns_until_payload fault_of attributes_from seen_after drained_at_most fed_pieces polled
+unfolding steps_until_payload fault_of attributes_from seen_after drained_at_most fed_pieces polled
 returns-clause-cut c = λ s. refl
 
 pub returns-clause-rest : goal.returns-clause-rest
-unfolding turns_until_payload fault_of attributes_from seen_after drained_at_most fed_pieces polled
+unfolding steps_until_payload fault_of attributes_from seen_after drained_at_most fed_pieces polled
 returns-clause-rest c = λ s. refl
 
 pub returns-clause-broken : goal.returns-clause-broken
-unfolding turns_until_payload fault_of attributes_from seen_after drained_at_most fed_pieces polled
+unfolding steps_until_payload fault_of attributes_from seen_after drained_at_most fed_pieces polled
 returns-clause-broken c = λ s. refl
 
 pub returns-clause-gone : goal.returns-clause-gone
-unfolding turns_until_payload fault_of attributes_from seen_after drained_at_most fed_pieces polled
+unfolding steps_until_payload fault_of attributes_from seen_after drained_at_most fed_pieces polled
 returns-clause-gone c = λ s. refl
 
 pub returns-clause-bound : goal.returns-clause-bound
-unfolding turns_until_payload fault_of attributes_from seen_after drained_at_most fed_pieces polled
+unfolding steps_until_payload fault_of attributes_from seen_after drained_at_most fed_pieces polled
 returns-clause-bound c = λ s. refl
 
 pub returns-clause-bytes : goal.returns-clause-bytes
-unfolding turns_until_payload fault_of attributes_from seen_after drained_at_most fed_pieces polled
+unfolding steps_until_payload fault_of attributes_from seen_after drained_at_most fed_pieces polled
 returns-clause-bytes c = λ s. refl
 
 pub returns-clause-bind : goal.returns-clause-bind
-unfolding turns_until_payload fault_of attributes_from seen_after drained_at_most fed_pieces polled
+unfolding steps_until_payload fault_of attributes_from seen_after drained_at_most fed_pieces polled
 returns-clause-bind c = λ byte text s e. rw e refl
 
 pub returns-clause-before : goal.returns-clause-before
-unfolding turns_until_payload fault_of attributes_from seen_after drained_at_most fed_pieces polled
+unfolding steps_until_payload fault_of attributes_from seen_after drained_at_most fed_pieces polled
 returns-clause-before c = λ byte text s e. rw e refl
 
 pub returns-clause-failed : goal.returns-clause-failed
-unfolding turns_until_payload fault_of attributes_from seen_after drained_at_most fed_pieces polled
+unfolding steps_until_payload fault_of attributes_from seen_after drained_at_most fed_pieces polled
 returns-clause-failed c = λ byte text s e. rw e refl

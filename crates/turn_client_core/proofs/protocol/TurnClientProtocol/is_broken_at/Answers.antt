@@ -2,7 +2,7 @@ use Rattle.std.proofs.Common.{◌≡◌, ◌∙◌, false, None, Some, ap}
 use Rattle.std.specs.Option.{option_map_or}
 use Rattle.turn_client_api.specs.Streams.{stream_at}
 use Rattle.turn_client_api.specs.declared.state.Stream.{Stream}
-use Rattle.turn_client_core.specs.Turns.{is_broken}
+use Rattle.turn_client_core.specs.StreamSteps.{is_broken}
 use Rattle.turn_client_core.specs.contracts.protocol.TurnClientProtocol.{the_view}
 use Rattle.turn_client_core.proofs.protocol.TurnClientProtocol.is_broken_at.Goals as goal
 

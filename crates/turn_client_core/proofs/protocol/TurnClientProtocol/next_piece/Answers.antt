@@ -3,7 +3,7 @@ use Rattle.std.specs.Prelude.{IfOk, OnOk}
 use Rattle.turn_client_api.specs.Answers.{outcome_of}
 use Rattle.turn_client_api.specs.Payloads.{Outcome}
 use Rattle.turn_client_api.specs.State.{State}
-use Rattle.turn_client_core.specs.Turns.{broken_turned, piece_at}
+use Rattle.turn_client_core.specs.StreamSteps.{broken_piece_step, piece_at}
 use Rattle.turn_client_core.proofs.ArrivalLemmas.{broken-ends, err-then, piece-broken}
 use Rattle.turn_client_core.proofs.FreePieceLemmas.{free-broken, rests-end}
 use Rattle.turn_client_core.proofs.ResultLemmas.{no-err}
@@ -12,7 +12,7 @@ use Rattle.turn_client_core.proofs.protocol.TurnClientProtocol.next_piece.Goals 
 pub returns-then-is_broken_at-clause-answer : goal.returns-then-is_broken_at-clause-answer
 returns-then-is_broken_at-clause-answer g c =
     let piece = g.T.AsSlice.items c.args.transmit.payload in
-    let same : piece_at c.args.transmit.to piece c.args.now c.args.self.now ≡ broken_turned c.args.transmit.to c.args.now c.args.self.now =
+    let same : piece_at c.args.transmit.to piece c.args.now c.args.self.now ≡ broken_piece_step c.args.transmit.to c.args.now c.args.self.now =
     piece-broken c.args.transmit.to piece c.args.now c.args.self.now (sym c.is_broken_at.ensures ∙ c.if-is_broken_at.true) c.requires.some in
     subst (λ (o : Outcome). IfOk c.broken_piece.result (λ given. outcome_of given ≡ o)) (sym (ap (λ p. p.0) same)) c.broken_piece.ensures.answer
 
@@ -22,7 +22,7 @@ returns-then-is_broken_at-clause-hands_back g c = c.broken_piece.ensures.hands_b
 pub returns-then-is_broken_at-clause-after : goal.returns-then-is_broken_at-clause-after
 returns-then-is_broken_at-clause-after g c =
     let piece = g.T.AsSlice.items c.args.transmit.payload in
-    let same : piece_at c.args.transmit.to piece c.args.now c.args.self.now ≡ broken_turned c.args.transmit.to c.args.now c.args.self.now =
+    let same : piece_at c.args.transmit.to piece c.args.now c.args.self.now ≡ broken_piece_step c.args.transmit.to c.args.now c.args.self.now =
     piece-broken c.args.transmit.to piece c.args.now c.args.self.now (sym c.is_broken_at.ensures ∙ c.if-is_broken_at.true) c.requires.some in
     subst (λ (u : State). OnOk c.broken_piece.result (c.broken_piece.new.self ≡ u)) (sym (ap (λ p. p.1) same)) c.broken_piece.ensures.after
 

@@ -8,7 +8,7 @@ use Rattle.turn_client_api.specs.State.{State}
 use Rattle.turn_client_api.specs.Streams.{stream_at, with_bytes}
 use Rattle.turn_client_api.specs.declared.state.Stream.{Stream}
 use Rattle.turn_client_streams.specs.Held.{taken_out}
-use Rattle.turn_client_core.specs.Turns.{PieceEnds, is_broken, piece_at, piece_turned}
+use Rattle.turn_client_core.specs.StreamSteps.{PieceEnds, is_broken, piece_at, whole_piece_step}
 use Rattle.turn_client_core.proofs.ArrivalLemmas.{err-then, piece-ends, piece-ignored, piece-turned}
 use Rattle.turn_client_core.proofs.FreePieceLemmas.{free-bound, free-either, free-out, free-waits}
 use Rattle.turn_client_core.proofs.protocol.TurnClientProtocol.whole_piece.Goals as goal
@@ -30,9 +30,9 @@ returns-clause-answer g c =
     let e : stream_at c.args.transmit.to was ≡ Some stream = sym c.take_at.ensures.stream ∙ c.in-Some.is in
     let whole : is_broken stream.mode ≡ false = sym (ap (λ (o : Option Stream). option_map_or (λ (x : Stream). is_broken x.mode) o false) e) ∙ c.requires.whole in
     let out : c.take_at.new.self ≡ with_bytes stream.local [] was = c.take_at.ensures.after ∙ ap (λ o. taken_out o was) c.in-Some.is in
-    let same : (piece_turned stream piece c.args.now c.take_at.new.self).0 ≡ (piece_at c.args.transmit.to piece c.args.now was).0 =
-    ap (λ (t : State). (piece_turned stream piece c.args.now t).0) out ∙ sym (ap (λ p. p.0) (piece-turned c.args.transmit.to stream piece c.args.now was e c.requires.some whole)) in
-    subst (λ (o : Outcome). IfOk c.turned_piece.result (λ given. outcome_of given ≡ o)) same c.turned_piece.ensures.answer
+    let same : (whole_piece_step stream piece c.args.now c.take_at.new.self).0 ≡ (piece_at c.args.transmit.to piece c.args.now was).0 =
+    ap (λ (t : State). (whole_piece_step stream piece c.args.now t).0) out ∙ sym (ap (λ p. p.0) (piece-turned c.args.transmit.to stream piece c.args.now was e c.requires.some whole)) in
+    subst (λ (o : Outcome). IfOk c.process_piece.result (λ given. outcome_of given ≡ o)) same c.process_piece.ensures.answer
 
 pub returns-clause-after : goal.returns-clause-after
 returns-clause-after g c =
@@ -42,9 +42,9 @@ returns-clause-after g c =
     let e : stream_at c.args.transmit.to was ≡ Some stream = sym c.take_at.ensures.stream ∙ c.in-Some.is in
     let whole : is_broken stream.mode ≡ false = sym (ap (λ (o : Option Stream). option_map_or (λ (x : Stream). is_broken x.mode) o false) e) ∙ c.requires.whole in
     let out : c.take_at.new.self ≡ with_bytes stream.local [] was = c.take_at.ensures.after ∙ ap (λ o. taken_out o was) c.in-Some.is in
-    let same : (piece_turned stream piece c.args.now c.take_at.new.self).1 ≡ (piece_at c.args.transmit.to piece c.args.now was).1 =
-    ap (λ (t : State). (piece_turned stream piece c.args.now t).1) out ∙ sym (ap (λ p. p.1) (piece-turned c.args.transmit.to stream piece c.args.now was e c.requires.some whole)) in
-    subst (λ (u : State). OnOk c.turned_piece.result (c.turned_piece.new.self ≡ u)) same c.turned_piece.ensures.after
+    let same : (whole_piece_step stream piece c.args.now c.take_at.new.self).1 ≡ (piece_at c.args.transmit.to piece c.args.now was).1 =
+    ap (λ (t : State). (whole_piece_step stream piece c.args.now t).1) out ∙ sym (ap (λ p. p.1) (piece-turned c.args.transmit.to stream piece c.args.now was e c.requires.some whole)) in
+    subst (λ (u : State). OnOk c.process_piece.result (c.process_piece.new.self ≡ u)) same c.process_piece.ensures.after
 
 pub returns-clause-no_memory : goal.returns-clause-no_memory
 returns-clause-no_memory g c = λ over.
@@ -53,8 +53,8 @@ returns-clause-no_memory g c = λ over.
     let was = c.args.self.now in
     let e : stream_at c.args.transmit.to was ≡ Some stream = sym c.take_at.ensures.stream ∙ c.in-Some.is in
     let out : c.take_at.new.self ≡ with_bytes stream.local [] was = c.take_at.ensures.after ∙ ap (λ o. taken_out o was) c.in-Some.is in
-    err-then c.turned_piece.result (piece-ends c.args.transmit.to stream piece c.args.now was c.turned_piece.new.self over e c.requires.some)
-    (subst (λ (t : State). OnErr c.turned_piece.result (PieceEnds stream piece c.args.now t c.turned_piece.new.self)) out c.turned_piece.ensures.no_memory)
+    err-then c.process_piece.result (piece-ends c.args.transmit.to stream piece c.args.now was c.process_piece.new.self over e c.requires.some)
+    (subst (λ (t : State). OnErr c.process_piece.result (PieceEnds stream piece c.args.now t c.process_piece.new.self)) out c.process_piece.ensures.no_memory)
 
 pub returns-clause-free : goal.returns-clause-free
 returns-clause-free g c = λ free. by (free-either c.args.transmit.to (g.T.AsSlice.items c.args.transmit.payload) c.args.self.now c.in-Some.stream (sym c.take_at.ensures.stream ∙ c.in-Some.is) free)
@@ -62,8 +62,8 @@ returns-clause-free g c = λ free. by (free-either c.args.transmit.to (g.T.AsSli
     piece : List ℕ
     piece = g.T.AsSlice.items c.args.transmit.payload
 
-    by : (is_free_piece piece c.in-Some.stream ≡ true) ⊎ (is_free_frame piece c.args.self.now c.in-Some.stream ≡ true) → IsOk c.turned_piece.result
-    by (inl bound) = c.turned_piece.ensures.free (free-bound piece c.in-Some.stream bound) (free-waits piece c.in-Some.stream bound)
+    by : (is_free_piece piece c.in-Some.stream ≡ true) ⊎ (is_free_frame piece c.args.self.now c.in-Some.stream ≡ true) → IsOk c.process_piece.result
+    by (inl bound) = c.process_piece.ensures.free (free-bound piece c.in-Some.stream bound) (free-waits piece c.in-Some.stream bound)
     by (inr frame) =
         let out : c.take_at.new.self ≡ with_bytes c.in-Some.stream.local [] c.args.self.now = c.take_at.ensures.after ∙ ap (λ o. taken_out o c.args.self.now) c.in-Some.is in
-        c.turned_piece.ensures.free_frame (subst (λ (t : State). is_free_frame piece t c.in-Some.stream ≡ true) (sym out) (free-out piece c.args.self.now c.in-Some.stream c.in-Some.stream.local frame))
+        c.process_piece.ensures.free_frame (subst (λ (t : State). is_free_frame piece t c.in-Some.stream ≡ true) (sym out) (free-out piece c.args.self.now c.in-Some.stream c.in-Some.stream.local frame))

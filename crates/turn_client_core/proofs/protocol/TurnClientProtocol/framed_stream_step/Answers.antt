@@ -1,6 +1,6 @@
 use Rattle.std.proofs.Common.{refl, sym, ap, ◌∙◌}
 use Rattle.turn_client_core.proofs.TurnLemmas.{framed-none, framed-some, front-whole}
-use Rattle.turn_client_core.proofs.protocol.TurnClientProtocol.framed_turn.Goals as goal
+use Rattle.turn_client_core.proofs.protocol.TurnClientProtocol.framed_stream_step.Goals as goal
 
 pub frame-requires-clause-whole : goal.frame-requires-clause-whole
 frame-requires-clause-whole c = front-whole c.args.stream c.in-Some.frame.now (rw c.in-Some.is at c.front.ensures.exact)

@@ -1,7 +1,7 @@
 use Rattle.turn_client_api.specs.Answers.{LeadsTo}
 use Rattle.turn_client_api.proofs.StreamWeightLemmas.{weight}
 use Rattle.turn_client_core.proofs.TurnLemmas.{Rests}
-use Rattle.turn_client_core.proofs.protocol.TurnClientProtocol.turns.Given as goal
+use Rattle.turn_client_core.proofs.protocol.TurnClientProtocol.process_ready.Given as goal
 
 abbrev pub invariant-loop-stream : goal.invariant-loop-stream
 invariant-loop-stream l = record {

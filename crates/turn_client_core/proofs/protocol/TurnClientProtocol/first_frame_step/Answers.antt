@@ -14,7 +14,7 @@ use Rattle.turn_client_core.proofs.FreePieceLemmas.{free-front, free-whole}
 use Rattle.turn_client_core.proofs.PieceLemmas.{comes-given, fed-some}
 use Rattle.turn_client_core.proofs.ResultLemmas.{no-err}
 use Rattle.turn_client_core.proofs.TurnLemmas.{front-whole}
-use Rattle.turn_client_core.proofs.protocol.TurnClientProtocol.first_turn.Goals as goal
+use Rattle.turn_client_core.proofs.protocol.TurnClientProtocol.first_frame_step.Goals as goal
 
 pub first_frame-requires-clause-whole : goal.first_frame-requires-clause-whole
 first_frame-requires-clause-whole g c =

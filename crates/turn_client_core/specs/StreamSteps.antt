@@ -7,13 +7,13 @@ use Rattle.turn_stun.specs.declared.transport.Transmit.{Transmit}
 use Rattle.turn_types.specs.declared.tcp.incoming.IncomingTcp.{IncomingTcp}
 use Rattle.turn_types.specs.declared.tcp.incoming.IncomingTcp.TheVariants.{CompleteMessage, CompleteChannel, StoredMessage, StoredChannel}
 use Rattle.turn_agent.specs.Agent.{same_address}
-use Rattle.turn_client_api.specs.Answers.{EndsAfterTurns, stream_takes_none}
+use Rattle.turn_client_api.specs.Answers.{EndsAfterSteps, stream_takes_none}
 use Rattle.turn_client_api.specs.Effect.{closed}
 use Rattle.turn_client_api.specs.Handled.{fed}
 use Rattle.turn_client_api.specs.Payloads.{Payload, Outcome, Handled, Ignored, PeerData, PeerIcmp}
 use Rattle.turn_client_api.specs.Receive.{place_kept, stream_step, then_all, whole_piece}
 use Rattle.turn_client_api.specs.State.{State}
-use Rattle.turn_client_api.specs.Streams.{broken_at, framed_turn, owned, payload_in, sent_by, stream_at, with_bytes}
+use Rattle.turn_client_api.specs.Streams.{broken_at, framed_stream_step, owned, payload_in, sent_by, stream_at, with_bytes}
 use Rattle.turn_client_api.specs.declared.state.Mode.{Mode}
 use Rattle.turn_client_api.specs.declared.state.Mode.TheVariants.{Control, Waiting, Bound, Broken}
 use Rattle.turn_client_api.specs.declared.state.Stream.{Stream}
@@ -73,17 +73,17 @@ put_or_broken stream t = by stream.mode
     by Broken = broken_at stream.local t
 
 -- the first frame of a stream of frames, which is taken out, after the piece was appended
-abbrev pub fed_turned : Stream → List ℕ → ℕ → State → Outcome × State
-fed_turned stream piece now t =
-    let step = framed_turn (fed stream piece) now t in (place_kept stream.bytes step.0, step.1)
+abbrev pub fed_frame_step : Stream → List ℕ → ℕ → State → Outcome × State
+fed_frame_step stream piece now t =
+    let step = framed_stream_step (fed stream piece) now t in (place_kept stream.bytes step.0, step.1)
 
 -- the effect of a piece of a stream that is taken out and not broken
-abbrev pub piece_turned : Stream → List ℕ → ℕ → State → Outcome × State
-piece_turned stream piece now t = by stream.mode
+abbrev pub whole_piece_step : Stream → List ℕ → ℕ → State → Outcome × State
+whole_piece_step stream piece now t = by stream.mode
   where
     by : Mode → Outcome × State
-    by Control = then_all now (fed_turned stream piece now t)
-    by Waiting = fed_turned stream piece now t
+    by Control = then_all now (fed_frame_step stream piece now t)
+    by Waiting = fed_frame_step stream piece now t
     by (Bound peer) = (PeerData (bound_sent peer stream.bytes piece), t)
     by Broken = (Handled, t)
 
@@ -95,13 +95,13 @@ others_from (Handled, t) = Some t
 others_from (Ignored, t) = Some t
 
 abbrev pub EndsBehind : ℕ → Outcome × State → State → Type 0
-EndsBehind now p s = IsSomeAnd (others_from p) (λ t. EndsAfterTurns now t s)
+EndsBehind now p s = IsSomeAnd (others_from p) (λ t. EndsAfterSteps now t s)
 
 -- memory allocation failed for the piece, or for bytes of other streams, which are processed after a piece of
 -- the control stream
 abbrev pub PieceEnds : Stream → List ℕ → ℕ → State → State → Type 0
 PieceEnds stream piece now t s =
-    (s ≡ closed (broken_at stream.local t)) ⊎ ((stream.mode ≡ Control) × EndsBehind now (fed_turned stream piece now t) s)
+    (s ≡ closed (broken_at stream.local t)) ⊎ ((stream.mode ≡ Control) × EndsBehind now (fed_frame_step stream piece now t) s)
 
 -- a piece for this local address
 abbrev pub piece_at : SocketAddr → List ℕ → ℕ → State → Outcome × State
@@ -114,8 +114,8 @@ is_broken (Bound peer) = false
 is_broken Broken = true
 
 -- bytes of a broken stream at this local address: all other streams are processed if it is the control stream
-abbrev pub broken_turned : SocketAddr → ℕ → State → Outcome × State
-broken_turned local now s = if same_address local s.local then then_all now (Handled, s) else (Handled, s)
+abbrev pub broken_piece_step : SocketAddr → ℕ → State → Outcome × State
+broken_piece_step local now s = if same_address local s.local then then_all now (Handled, s) else (Handled, s)
 
 -- for the stream at this local address it allocates no memory
 abbrev pub piece_takes_none : SocketAddr → List ℕ → State → Bool
