@@ -18,7 +18,7 @@ use Rattle.turn_client_api.specs.Retry.{phase_after}
 use Rattle.turn_client_api.specs.Handled.{Input, handled}
 use Rattle.turn_client_api.specs.Steps.{Call, Leaves}
 use Rattle.turn_client_api.specs.LawsAllocates.{AllocatesAsAsked, AllocatesInOrder, AsksForFamilies, HasConfiguredFamilies, IsAllocate, IsAllocationInput, IsAskedForFamilies}
-use Rattle.turn_client_api.specs.LawsGranted.{IsEndedNow, IsGrantInput, Stood}
+use Rattle.turn_client_api.specs.LawsGranted.{IsEndedNow, IsGrantInput, WasActive}
 use Rattle.turn_client_api.specs.LawsHandled.{IsDoneBy}
 use Rattle.turn_client_api.specs.LawsOrder.{IsUngranted}
 use Rattle.turn_client_api.proofs.Edits.{IsSpelled, IsUnlisted, KeepsAllEdits, KeepsEdits, MayAskFor, listing}
@@ -331,7 +331,7 @@ leaves-allocations call s t leaves h a there = by (leaves-grants call s t (Alloc
             let listed = purpose-with (id_of one.bytes) ForAllocation one.before (contains-has ForAllocation (purposes_of (id_of one.bytes) one.before) answers) in
             order.1 (id_of one.bytes) (has-contains (listing (id_of one.bytes) ForAllocation) one.before.listed listed) turn.grant.1.outstanding
 
-    by : Stood s (Allocation a) ⊎ IsEndedNow call s (Allocation a) ⊎ IsDoneBy (IsGrantInput (Allocation a)) call s → Stood s (Allocation a) ⊎ IsEndedNow call s (Allocation a) ⊎ IsDoneBy (IsAllocationInput a) call s
+    by : WasActive s (Allocation a) ⊎ IsEndedNow call s (Allocation a) ⊎ IsDoneBy (IsGrantInput (Allocation a)) call s → WasActive s (Allocation a) ⊎ IsEndedNow call s (Allocation a) ⊎ IsDoneBy (IsAllocationInput a) call s
     by (inl stood) = inl stood
     by (inr (inl ended)) = inr (inl ended)
     by (inr (inr (one, among, turn))) = inr (inr (one, among, turned one among turn))

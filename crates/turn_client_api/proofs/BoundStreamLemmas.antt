@@ -11,7 +11,7 @@ use Rattle.turn_client_api.specs.Receive.{connection_gone}
 use Rattle.turn_client_api.specs.Handled.{Input}
 use Rattle.turn_client_api.specs.Steps.{Call, Leaves, state_after, Delete, CreatePermission, BindChannel, TcpConnect, AllocatedTcpSocket, TcpClosed, SendTo, Recv, PollRecv, Poll, PollTransmit, PollEvent, RelayedAddresses, Permissions, HavePermission, ProtocolError}
 use Rattle.turn_client_api.specs.LawsBound.{IsBindInput, IsBoundBy, IsBoundConnection, IsConnectedBy}
-use Rattle.turn_client_api.specs.LawsGranted.{IsEndedNow, IsGrantedIn, Stood}
+use Rattle.turn_client_api.specs.LawsGranted.{IsEndedNow, IsGrantedIn, WasActive}
 use Rattle.turn_client_api.specs.LawsHandled.{IsBoundAt, IsDoneBy}
 use Rattle.turn_client_api.proofs.AddressLemmas.{same_address-true}
 use Rattle.turn_client_api.proofs.HasLemmas.{Has, has-append, has-filter}
@@ -110,7 +110,7 @@ module _ (local peer : SocketAddr) where
 pub leaves-connection : (call : Call) (s t : State) (c : DataConnection) → Leaves call s t → IsBoundConnection c t → IsConnectedBy c call s
 leaves-connection call s t c leaves (there, none) = by (leaves-grants call s t (Connection c) leaves there none)
   where
-    stood : Stood s (Connection c) → Contains s.grants (Connection c)
+    stood : WasActive s (Connection c) → Contains s.grants (Connection c)
     stood (Connection d, before, (same, h)) = subst (λ (x : DataConnection). Contains s.grants (Connection x)) same before
     stood (Allocation a, before, k) = absurd k
     stood (Permission ip Pending, before, k) = absurd k
@@ -140,7 +140,7 @@ leaves-connection call s t c leaves (there, none) = by (leaves-grants call s t (
     no_end (HavePermission transport to) e = e
     no_end ProtocolError e = e
 
-    by : Stood s (Connection c) ⊎ IsEndedNow call s (Connection c) ⊎ IsDoneBy (IsGrantedIn (Connection c)) call s → IsConnectedBy c call s
+    by : WasActive s (Connection c) ⊎ IsEndedNow call s (Connection c) ⊎ IsDoneBy (IsGrantedIn (Connection c)) call s → IsConnectedBy c call s
     by (inl was) = inl (stood was, none)
     by (inr (inl e)) = absurd (no_end call e)
     by (inr (inr did)) = inr did

@@ -9,7 +9,7 @@ use Rattle.turn_client_api.specs.State.{State, Grant, Allocation, Permission, Ch
 use Rattle.turn_client_api.specs.Grants.{purposes_of}
 use Rattle.turn_client_api.specs.Handled.{Input, handled}
 use Rattle.turn_client_api.specs.Steps.{Call, Leaves, Delete}
-use Rattle.turn_client_api.specs.LawsGranted.{GrantsToPeers, HasChannelCause, HasChannelTo, IsChannelInput, IsEndedNow, IsGivenFor, IsGrantInput, IsGrantedBy, IsKeptAs, Stood}
+use Rattle.turn_client_api.specs.LawsGranted.{GrantsToPeers, HasChannelCause, HasChannelTo, IsChannelInput, IsEndedNow, IsGivenFor, IsGrantInput, IsGrantedBy, IsSameGrant, WasActive}
 use Rattle.turn_client_api.specs.LawsHandled.{IsDoneBy}
 use Rattle.turn_client_api.specs.LawsNumbers.{HasDistinctNumbers}
 use Rattle.turn_client_api.specs.LawsStates.{HasGrantsAsked, HasItsGrant, is_asked_by}
@@ -20,7 +20,7 @@ use Rattle.turn_client_api.proofs.GrantEdits.{grants-KeepsAllEdits}
 use Rattle.turn_client_api.proofs.GrantedLemmas.{leaves-grants}
 use Rattle.turn_client_api.proofs.HasLemmas.{Has, has-all}
 use Rattle.turn_client_api.proofs.InAllocationLemmas.{any-has}
-use Rattle.turn_client_api.proofs.ListedGrants.{AllFounded, StayFounded, StayFounded-KeepsAllEdits, Founded}
+use Rattle.turn_client_api.proofs.ListedGrants.{AllHaveGrant, StayFounded, StayFounded-KeepsAllEdits, HasGrant}
 use Rattle.turn_client_api.proofs.NumberLemmas.{AreApart, numbers}
 use Rattle.turn_client_api.proofs.StandLemmas.{contains-has, has-contains}
 use Rattle.turn_client_api.proofs.TurnKeepLemmas.{before-kept}
@@ -69,8 +69,8 @@ one-peer number peer to was is (g ∷ gs) h (inl e) (inl f) = same (e ∙ sym f)
 -- ---- the channel that a request is for
 
 -- a channel of the number has the peer with which it was requested
-asked-peer : (number : ℕ) (peer to : SocketAddr) (s : State) → AllFounded s → AreApart s.grants → (l : Listing) → Has l s.listed → l.purpose ≡ ForChannel number peer → HasChannelTo number to s → to ≡ peer
-asked-peer number peer to s founded apart l listed asks (progress, there) = by (subst (Founded s.grants) asks (founded l listed))
+asked-peer : (number : ℕ) (peer to : SocketAddr) (s : State) → AllHaveGrant s → AreApart s.grants → (l : Listing) → Has l s.listed → l.purpose ≡ ForChannel number peer → HasChannelTo number to s → to ≡ peer
+asked-peer number peer to s founded apart l listed asks (progress, there) = by (subst (HasGrant s.grants) asks (founded l listed))
   where
     at : (g : Grant) → Has g s.grants → is_asked_by (ForChannel number peer) g ≡ true → to ≡ peer
     at (Channel other of was) here e =
@@ -83,12 +83,12 @@ asked-peer number peer to s founded apart l listed asks (progress, there) = by (
     at (Offer offer) here e = cc
     at (Connection c) here e = cc
 
-    by : Founded s.grants (ForChannel number peer) → to ≡ peer
+    by : HasGrant s.grants (ForChannel number peer) → to ≡ peer
     by (inl e) = cc
     by (inr some) = let (g, here, e) = any-has (is_asked_by (ForChannel number peer)) s.grants some in at g here e
 
 -- a success for the channel answers the request for its peer
-module _ (number : ℕ) (peer : SocketAddr) (expiry : ℕ) (message : List ℕ) (now : ℕ) (s : State) (founded : AllFounded s) (apart : AreApart s.grants) where
+module _ (number : ℕ) (peer : SocketAddr) (expiry : ℕ) (message : List ℕ) (now : ℕ) (s : State) (founded : AllHaveGrant s) (apart : AreApart s.grants) where
   is-asked : (p : Purpose) → Has p (purposes_of (id_of message) s) → IsGivenFor p message now s (Channel number peer (Active expiry)) → p ≡ ForChannel number peer
   is-asked (ForChannel other to) listed (named, ends, there) =
       let (l, here, asks) = purposes-listed (id_of message) s (ForChannel other to) listed in
@@ -100,7 +100,7 @@ module _ (number : ℕ) (peer : SocketAddr) (expiry : ℕ) (message : List ℕ) 
   is-asked (ForConnect to) listed given = absurd given
   is-asked (ForBind local to id) listed given = absurd given
 
-  by-grant : (was : Grant) (granted : IsGrantedBy message now s was) → IsKeptAs was (Channel number peer (Active expiry)) → granted.purpose ≡ ForChannel number peer
+  by-grant : (was : Grant) (granted : IsGrantedBy message now s was) → IsSameGrant was (Channel number peer (Active expiry)) → granted.purpose ≡ ForChannel number peer
   by-grant (Channel other to (Active end)) granted (a, b, c) =
       is-asked granted.purpose (contains-has granted.purpose (purposes_of (id_of message) s) granted.listed)
       (rw (sym a, sym b, sym c) granted.given)
@@ -122,7 +122,7 @@ leaves-channels call s t leaves asked distinct number peer expiry there = by (le
     channel : Grant
     channel = Channel number peer (Active expiry)
 
-    stood : (was : Grant) → Has was s.grants → IsKeptAs was channel → Has channel s.grants
+    stood : (was : Grant) → Has was s.grants → IsSameGrant was channel → Has channel s.grants
     stood (Channel other to (Active end)) here (a, b, c) = rw (sym a, sym b, sym c) here
     stood (Channel other to Pending) here kept = absurd kept
     stood (Channel other to (Reserved until)) here kept = absurd kept
@@ -144,7 +144,7 @@ leaves-channels call s t leaves asked distinct number peer expiry there = by (le
     never (Delete now) e = e
     never call e = e
 
-    by : Stood s channel ⊎ IsEndedNow call s channel ⊎ IsDoneBy (IsGrantInput channel) call s → HasChannelCause number peer expiry call s
+    by : WasActive s channel ⊎ IsEndedNow call s channel ⊎ IsDoneBy (IsGrantInput channel) call s → HasChannelCause number peer expiry call s
     by (inl (was, here, kept)) = inl (has-contains channel s.grants (stood was (contains-has was s.grants here) kept))
     by (inr (inl ended)) = absurd (never call ended)
     by (inr (inr (one, among, turn))) = inr (one, among, turned one among turn)

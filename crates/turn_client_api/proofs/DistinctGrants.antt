@@ -17,7 +17,7 @@ use Rattle.turn_client_api.specs.Retry.{phase_after}
 use Rattle.turn_client_api.specs.Calls.{is_offer_of, offer_taken, without_first}
 use Rattle.turn_client_api.specs.Steps.{Call, Leaves}
 use Rattle.turn_client_api.specs.LawsDoubles.{HasNoDoubles, is_double}
-use Rattle.turn_client_api.specs.LawsOrder.{IsSteady, IsUngranted}
+use Rattle.turn_client_api.specs.LawsOrder.{FitsPhase, IsUngranted}
 use Rattle.turn_client_api.proofs.HasLemmas.{Has}
 use Rattle.turn_client_api.proofs.InAllocationLemmas.{Room}
 use Rattle.turn_client_api.proofs.NumberLemmas.{none-filter}
@@ -96,43 +96,43 @@ empty-outline (h ∷ hs) e = cc
 
 -- ---- no grants before the server allocated, and none that are for the same
 
-pub record IsTidy (phase : Phase) (gs : List Grant) : Type 0 where
+pub record HasDistinctGrants (phase : Phase) (gs : List Grant) : Type 0 where
   pub none : IsUngranted phase → gs ≡ []
   pub single : AreSingle gs
 
 -- distinct grants stay so, and once the server allocated there are some
-abbrev StayTidy : State → State → Type 0
-StayTidy s t = (IsUngranted t.phase → IsUngranted s.phase) × (IsTidy s.phase s.grants → IsTidy t.phase t.grants)
+abbrev KeepsDistinctGrants : State → State → Type 0
+KeepsDistinctGrants s t = (IsUngranted t.phase → IsUngranted s.phase) × (HasDistinctGrants s.phase s.grants → HasDistinctGrants t.phase t.grants)
 
 granted : (p : Phase) → p ≡ Allocated → IsUngranted p → ⊥
 granted p e h = subst IsUngranted e h
 
 -- grants are removed
-fewer : (f : List Grant → List Grant) → f [] ≡ [] → ((gs : List Grant) → AreSingle gs → AreSingle (f gs)) → (p : Phase) (gs : List Grant) → IsTidy p gs → IsTidy p (f gs)
+fewer : (f : List Grant → List Grant) → f [] ≡ [] → ((gs : List Grant) → AreSingle gs → AreSingle (f gs)) → (p : Phase) (gs : List Grant) → HasDistinctGrants p gs → HasDistinctGrants p (f gs)
 fewer f empty single p gs h = record { none = λ u. ap f (h.none u) ∙ empty; single = single gs h.single }
 
-filtered : (which : Grant → Bool) (p : Phase) (gs : List Grant) → IsTidy p gs → IsTidy p (filter which gs)
+filtered : (which : Grant → Bool) (p : Phase) (gs : List Grant) → HasDistinctGrants p gs → HasDistinctGrants p (filter which gs)
 filtered which = fewer (filter which) refl (single-filter which)
 
-taken : (id : ℕ) (peer : SocketAddr) (p : Phase) (gs : List Grant) → IsTidy p gs → IsTidy p (without_first (is_offer_of id peer) gs)
+taken : (id : ℕ) (peer : SocketAddr) (p : Phase) (gs : List Grant) → HasDistinctGrants p gs → HasDistinctGrants p (without_first (is_offer_of id peer) gs)
 taken id peer = fewer (without_first (is_offer_of id peer)) refl (single-without_first (is_offer_of id peer))
 
 -- one is added
-more : (g : Grant) (p : Phase) (gs : List Grant) → (IsUngranted p → ⊥) → IsNew g gs → IsTidy p gs → IsTidy p (gs ++ g ∷ [])
+more : (g : Grant) (p : Phase) (gs : List Grant) → (IsUngranted p → ⊥) → IsNew g gs → HasDistinctGrants p gs → HasDistinctGrants p (gs ++ g ∷ [])
 more g p gs allocated new h = record { none = λ u. absurd (allocated u); single = single-last g gs new h.single }
 
 -- in place of others, where the server allocated
-replaced : (which : Grant → Bool) (g : Grant) → ((x : Grant) → is_double x g ≡ which x) → (s : State) → (IsTidy s.phase s.grants → IsUngranted s.phase → ⊥) → StayTidy s (with_grant g (without which s))
+replaced : (which : Grant → Bool) (g : Grant) → ((x : Grant) → is_double x g ≡ which x) → (s : State) → (HasDistinctGrants s.phase s.grants → IsUngranted s.phase → ⊥) → KeepsDistinctGrants s (with_grant g (without which s))
 replaced which g is s allocated = (λ u. u, λ h. more g s.phase (without which s).grants (allocated h) (none-IsNew which g is (without which s).grants (none-filter which s.grants)) (filtered (λ x. not (which x)) s.phase s.grants h))
 
 -- if a grant exists, the server allocated
-there-granted : (g : Grant) (s : State) → Has g s.grants → IsTidy s.phase s.grants → IsUngranted s.phase → ⊥
+there-granted : (g : Grant) (s : State) → Has g s.grants → HasDistinctGrants s.phase s.grants → IsUngranted s.phase → ⊥
 there-granted g s there h u = subst (λ (gs : List Grant). Has g gs) (h.none u) there
 
-room-granted : (family : AddressFamily) (s : State) → Room s.grants family → IsTidy s.phase s.grants → IsUngranted s.phase → ⊥
+room-granted : (family : AddressFamily) (s : State) → Room s.grants family → HasDistinctGrants s.phase s.grants → IsUngranted s.phase → ⊥
 room-granted family s (a, there, e) = there-granted (Allocation a) s there
 
-permission-granted : (ip : IpAddr) (progress : Progress) (s : State) → permission_for ip s ≡ Some progress → IsTidy s.phase s.grants → IsUngranted s.phase → ⊥
+permission-granted : (ip : IpAddr) (progress : Progress) (s : State) → permission_for ip s ≡ Some progress → HasDistinctGrants s.phase s.grants → IsUngranted s.phase → ⊥
 permission-granted ip progress s e h u =
     none-some progress (subst (λ (gs : List Grant). slice_get (filter_map (permission_progress ip) gs) 0 ≡ Some progress) (h.none u) e)
 
@@ -144,32 +144,32 @@ ungranted-after Allocated u = u
 ungranted-after Closed u = u
 
 allocates-tidy : (message : List ℕ) (lifetime now : ℕ) (s : State) → s.phase ≡ Authenticating
-    → StayTidy s (record s { phase = phase_with (taken_addresses s.families (relayed_in message)); grants = s.grants ++ map (new_allocation lifetime now) (taken_addresses s.families (relayed_in message)) })
+    → KeepsDistinctGrants s (record s { phase = phase_with (taken_addresses s.families (relayed_in message)); grants = s.grants ++ map (new_allocation lifetime now) (taken_addresses s.families (relayed_in message)) })
 allocates-tidy message lifetime now s e = (λ u. absurd (granted-with addresses u), λ h. record { none = λ u. absurd (granted-with addresses u); single = by h })
   where
     addresses : List SocketAddr
     addresses = taken_addresses s.families (relayed_in message)
 
-    by : IsTidy s.phase s.grants → AreSingle (s.grants ++ map (new_allocation lifetime now) addresses)
+    by : HasDistinctGrants s.phase s.grants → AreSingle (s.grants ++ map (new_allocation lifetime now) addresses)
     by h =
         let empty = h.none (subst IsUngranted (sym e) tt) in
         subst (λ (gs : List Grant). AreSingle (gs ++ map (new_allocation lifetime now) addresses)) (sym empty) (taken-single lifetime now s.families (relayed_in message))
 
 -- a client that begins
-begins-tidy : (now : ℕ) (s : State) → s.phase ≡ New → StayTidy s (record s { phase = Requesting; last_send = Some now })
+begins-tidy : (now : ℕ) (s : State) → s.phase ≡ New → KeepsDistinctGrants s (record s { phase = Requesting; last_send = Some now })
 begins-tidy now s e = (λ u. subst IsUngranted (sym e) tt, λ h. record { none = λ u. h.none (subst IsUngranted (sym e) tt); single = h.single })
 
-reshaped-tidy : (grants : List Grant) (s : State) → map outline grants ≡ map outline s.grants → StayTidy s (record s { grants = grants })
+reshaped-tidy : (grants : List Grant) (s : State) → map outline grants ≡ map outline s.grants → KeepsDistinctGrants s (record s { grants = grants })
 reshaped-tidy grants s e =
     (λ u. u, λ h. record { none = λ u. empty-outline grants (e ∙ ap (map outline) (h.none u)); single = single-outline s.grants grants e h.single })
 
 rebound-tidy : (number : ℕ) (peer : SocketAddr) (was progress : Progress) (s : State) → Has (Channel number peer was) s.grants
-    → StayTidy s (with_grant (Channel number peer progress) (without (is_channel_of number) s))
+    → KeepsDistinctGrants s (with_grant (Channel number peer progress) (without (is_channel_of number) s))
 rebound-tidy number peer was progress s there =
     replaced (is_channel_of number) (Channel number peer progress) (channel-which number peer progress) s (there-granted (Channel number peer was) s there)
 
-StayTidy-KeepsEdits : KeepsEdits StayTidy
-StayTidy-KeepsEdits = record {
+KeepsDistinctGrants-KeepsEdits : KeepsEdits KeepsDistinctGrants
+KeepsDistinctGrants-KeepsEdits = record {
   same = λ s. (λ u. u, λ h. h);
   trans = λ s t u first second. (λ x. first.0 (second.0 x), λ h. second.1 (first.1 h));
   aside = λ s t. (λ u. u, λ h. h);
@@ -202,9 +202,9 @@ StayTidy-KeepsEdits = record {
   reserves = λ number peer was until s there. rebound-tidy number peer was (Reserved until) s there;
 }
 
-StayTidy-KeepsAllEdits : KeepsAllEdits StayTidy
-StayTidy-KeepsAllEdits = record {
-  edits = StayTidy-KeepsEdits;
+KeepsDistinctGrants-KeepsAllEdits : KeepsAllEdits KeepsDistinctGrants
+KeepsDistinctGrants-KeepsAllEdits = record {
+  edits = KeepsDistinctGrants-KeepsEdits;
   reshapes = reshaped-tidy;
   rebinds = rebound-tidy;
   holds = λ message d s e. (λ u. u, λ h. h);
@@ -225,5 +225,5 @@ unfolding IsDistinct
 initial-single transport local remote config seed = tt
 
 -- even if memory allocation fails
-pub leaves-single : (call : Call) (s t : State) → Leaves call s t → IsSteady s → HasNoDoubles s → HasNoDoubles t
-leaves-single call s t leaves steady h = ((leaves-walk StayTidy StayTidy-KeepsAllEdits (λ s streams. (λ u. u, λ h. h)) call s t leaves).1 (record { none = steady.3; single = h })).single
+pub leaves-single : (call : Call) (s t : State) → Leaves call s t → FitsPhase s → HasNoDoubles s → HasNoDoubles t
+leaves-single call s t leaves steady h = ((leaves-walk KeepsDistinctGrants KeepsDistinctGrants-KeepsAllEdits (λ s streams. (λ u. u, λ h. h)) call s t leaves).1 (record { none = steady.3; single = h })).single

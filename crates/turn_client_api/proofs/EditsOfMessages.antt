@@ -113,15 +113,15 @@ begun-after Allocated begun = tt
 begun-after Closed begun = begun
 
 -- the message is for the client
-abbrev IsHeard : Judgement → Type 0
-IsHeard Unrelated = ⊥
-IsHeard _ = ⊤
+abbrev IsDelivered : Judgement → Type 0
+IsDelivered Unrelated = ⊥
+IsDelivered _ = ⊤
 
-judged-begun : (s : State) (message : List ℕ) (j : Judgement) → judgement_of s message ≡ j → IsHeard j → IsBegun s.phase
+judged-begun : (s : State) (message : List ℕ) (j : Judgement) → judgement_of s message ≡ j → IsDelivered j → IsBegun s.phase
 judged-begun s message j e heard = by s.phase refl
   where
     unheard : judgement_of s message ≡ Unrelated → ⊥
-    unheard f = subst IsHeard (sym e ∙ f) heard
+    unheard f = subst IsDelivered (sym e ∙ f) heard
 
     by : (p : Phase) → s.phase ≡ p → IsBegun p
     by New f = unheard (rw f refl)

@@ -18,18 +18,18 @@ use Rattle.turn_client_api.specs.Retry.{bind_time}
 use Rattle.turn_client_api.specs.Receive.{connection_gone}
 use Rattle.turn_client_api.proofs.Edits.{KeepsEdits, aged}
 use Rattle.turn_client_api.proofs.EditsOfReplies.{gone-walk}
-use Rattle.turn_client_api.specs.LawsGranted.{IsStanding, IsKeptAs}
+use Rattle.turn_client_api.specs.LawsGranted.{IsActiveGrant, IsSameGrant}
 use Rattle.turn_client_api.proofs.StandLemmas.{Leaves, Left, kept-same, kept-trans, leaves-same, leaves-trans, left-cons, left-filter, left-map, left-skip, left-trans, left-one, left-same}
 
 -- ---- data connections
 
-deadline-kept : (local : SocketAddr) (moment : ℕ) (g : Grant) → IsStanding (deadline_set local (Some moment) g) → IsKeptAs g (deadline_set local (Some moment) g)
+deadline-kept : (local : SocketAddr) (moment : ℕ) (g : Grant) → IsActiveGrant (deadline_set local (Some moment) g) → IsSameGrant g (deadline_set local (Some moment) g)
 deadline-kept local moment (Connection c) = by (same_address c.local local)
   where
     waits : Grant
     waits = Connection (record c { deadline = Some moment })
 
-    by : (b : Bool) → IsStanding (cond b waits (Connection c)) → IsKeptAs (Connection c) (cond b waits (Connection c))
+    by : (b : Bool) → IsActiveGrant (cond b waits (Connection c)) → IsSameGrant (Connection c) (cond b waits (Connection c))
     by true stands = absurd (none-some moment (sym stands))
     by false stands = kept-same (Connection c) stands
 deadline-kept local moment (Allocation a) = kept-same (Allocation a)
@@ -111,7 +111,7 @@ first-left which (g ∷ others) = by (which g) (first-left which others)
     by false later = left-cons g g others (without_first which others) (kept-same g) later
 
 -- whether a grant was reported does not count
-aged-stands : (g : Grant) → IsStanding (aged g) → IsStanding g
+aged-stands : (g : Grant) → IsActiveGrant (aged g) → IsActiveGrant g
 aged-stands (Allocation a) = λ h. h
 aged-stands (Permission ip progress) = λ h. h
 aged-stands (Channel number peer progress) = λ h. h
@@ -119,7 +119,7 @@ aged-stands (Connect peer) = λ h. h
 aged-stands (Offer offer) = λ h. h
 aged-stands (Connection c) = λ h. h
 
-stands-aged : (g : Grant) → IsStanding g → IsStanding (aged g)
+stands-aged : (g : Grant) → IsActiveGrant g → IsActiveGrant (aged g)
 stands-aged (Allocation a) = λ h. h
 stands-aged (Permission ip progress) = λ h. h
 stands-aged (Channel number peer progress) = λ h. h
@@ -127,7 +127,7 @@ stands-aged (Connect peer) = λ h. h
 stands-aged (Offer offer) = λ h. h
 stands-aged (Connection c) = λ h. h
 
-kept-aged : (g : Grant) → IsStanding g → IsKeptAs g (aged g)
+kept-aged : (g : Grant) → IsActiveGrant g → IsSameGrant g (aged g)
 kept-aged (Allocation a) = λ h. (refl, refl)
 kept-aged (Permission ip progress) = kept-same (Permission ip progress)
 kept-aged (Channel number peer progress) = kept-same (Channel number peer progress)
@@ -135,7 +135,7 @@ kept-aged (Connect peer) = λ h. absurd h
 kept-aged (Offer offer) = λ h. absurd h
 kept-aged (Connection c) = kept-same (Connection c)
 
-aged-kept : (g : Grant) → IsStanding g → IsKeptAs (aged g) g
+aged-kept : (g : Grant) → IsActiveGrant g → IsSameGrant (aged g) g
 aged-kept (Allocation a) = λ h. (refl, refl)
 aged-kept (Permission ip progress) = kept-same (Permission ip progress)
 aged-kept (Channel number peer progress) = kept-same (Channel number peer progress)
@@ -143,10 +143,10 @@ aged-kept (Connect peer) = λ h. absurd h
 aged-kept (Offer offer) = λ h. absurd h
 aged-kept (Connection c) = kept-same (Connection c)
 
-alike-kept : (g h : Grant) → aged h ≡ aged g → IsStanding h → IsKeptAs g h
+alike-kept : (g h : Grant) → aged h ≡ aged g → IsActiveGrant h → IsSameGrant g h
 alike-kept g h e stands =
-    let was : IsStanding (aged g) = subst IsStanding e (stands-aged h stands) in
-    let is : IsKeptAs (aged g) h = subst (λ (x : Grant). IsKeptAs x h) e (aged-kept h stands) in
+    let was : IsActiveGrant (aged g) = subst IsActiveGrant e (stands-aged h stands) in
+    let is : IsSameGrant (aged g) h = subst (λ (x : Grant). IsSameGrant x h) e (aged-kept h stands) in
     kept-trans g (aged g) h (kept-aged g (aged-stands g was)) is
 
 alike-left : (gs hs : List Grant) → map aged hs ≡ map aged gs → Left gs hs
@@ -184,7 +184,7 @@ Leaves-KeepsEdits = record {
   reserves = λ number peer was until s there. left-trans s.grants (without (is_channel_of number) s).grants _ (left-filter _ s.grants) (left-one (without (is_channel_of number) s).grants (Channel number peer (Reserved until)) (λ stands. stands));
 }
   where
-    unbound : (c : DataConnection) → IsSome c.deadline → IsStanding (Connection c) → ⊥
+    unbound : (c : DataConnection) → IsSome c.deadline → IsActiveGrant (Connection c) → ⊥
     unbound c waits none = by c.deadline waits none
       where
         by : (o : Option ℕ) → IsSome o → o ≡ None → ⊥

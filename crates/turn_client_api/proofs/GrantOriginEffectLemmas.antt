@@ -14,7 +14,7 @@ use Rattle.turn_client_api.specs.State.{State, Grant, Allocation, Permission, Ch
 use Rattle.turn_client_api.specs.Grants.{changed_allocation, channel_at, first_in, is_channel_of, is_connect_to, is_of_family, is_permission_of, permission_for, purposes_of, same_ip, unlisted, with_grant, without}
 use Rattle.turn_client_api.specs.Judgement.{connection_id_in, lifetime_in}
 use Rattle.turn_client_api.specs.Effect.{lasting, lasting_if, all_gone, allocation_mismatch, channel_answered, channel_lifetime, connect_answered, effect, has_code, challenges_reset, least_lifetime, permission_answered, permission_answered_for, permission_lifetime, permission_refused_too, listed_permissions_answered, prolonged, refreshed, reserved_time}
-use Rattle.turn_client_api.specs.LawsGranted.{HasChannelTo, IsStanding, IsKeptAs}
+use Rattle.turn_client_api.specs.LawsGranted.{HasChannelTo, IsActiveGrant, IsSameGrant}
 use Rattle.turn_client_api.proofs.HasLemmas.{Has}
 use Rattle.turn_client_api.proofs.StandLemmas.{has-contains, kept-same, left-filter}
 use Rattle.turn_client_api.proofs.GrantOriginLemmas.{ChannelsWithin, IsChannelIn, IsGivenOf, KeepsChannels, Takes, channels-append, channels-filter, channels-map, gives-left, gives-map, gives-one, gives-trans, takes-cond, takes-fold, takes-same, takes-trans, within-filter}
@@ -56,7 +56,7 @@ same-channel n number to peer p q grants e there =
 
 module _ (purposes : List Purpose) (message : List ℕ) (now : ℕ) (before : State) where
   abbrev Is : Grant → Grant → Type 0
-  Is was is = IsStanding is → IsKeptAs was is ⊎ IsGivenOf purposes message now before is
+  Is was is = IsActiveGrant is → IsSameGrant was is ⊎ IsGivenOf purposes message now before is
 
   abbrev Taken : State → State → Type 0
   Taken s t = Takes purposes message now before s t
@@ -87,12 +87,12 @@ module _ (purposes : List Purpose) (message : List ℕ) (now : ℕ) (before : St
   AreKnown s = ChannelsWithin before.grants s.grants
 
   -- a grant is added
-  more-takes : (one : Grant) (s t : State) → Taken s t → (IsStanding one → IsGivenOf purposes message now before one) → IsKnown one s → Taken s (with_grant one t)
+  more-takes : (one : Grant) (s t : State) → Taken s t → (IsActiveGrant one → IsGivenOf purposes message now before one) → IsKnown one s → Taken s (with_grant one t)
   more-takes one s t taken gives known =
       ((taken.0.0, channels-append s.grants t.grants one taken.0.1 known), gives-trans purposes message now before s.grants t.grants _ taken.1 (gives-one purposes message now before t.grants one gives))
 
   -- a grant replaces those that are removed
-  replaced-takes : (which : Grant → Bool) (one : Grant) (s : State) → (IsStanding one → IsGivenOf purposes message now before one) → IsKnown one s → Taken s (with_grant one (without which s))
+  replaced-takes : (which : Grant → Bool) (one : Grant) (s : State) → (IsActiveGrant one → IsGivenOf purposes message now before one) → IsKnown one s → Taken s (with_grant one (without which s))
   replaced-takes which one s gives known = more-takes one s (without which s) (without-takes which s) gives known
 
   -- what exists is extended, with nothing listed for it any more

@@ -3,7 +3,7 @@ use Rattle.std.proofs.Common.{◌≡◌, ℕ, Bool, true, false, cond, eqb, List
 use Rattle.std.specs.declared.net.socket_addr.SocketAddr.{SocketAddr}
 use Rattle.turn_client_api.specs.State.{State, Grant, Channel, Progress, Purpose, Listing}
 use Rattle.turn_client_api.specs.Grants.{purposes_of}
-use Rattle.turn_client_api.specs.LawsGranted.{IsStanding, IsKeptAs, IsGivenFor}
+use Rattle.turn_client_api.specs.LawsGranted.{IsActiveGrant, IsSameGrant, IsGivenFor}
 use Rattle.turn_client_api.proofs.HasLemmas.{Has, has-append, has-filter, filter-has, map-has}
 use Rattle.turn_client_api.proofs.StandLemmas.{Covers, Left, covers-has, kept-same, kept-stood, kept-trans}
 
@@ -15,11 +15,11 @@ pub record IsGivenOf (purposes : List Purpose) (message : List ℕ) (now : ℕ) 
 
 -- it grants what is kept as this grant
 abbrev pub IsGiven : List Purpose → List ℕ → ℕ → State → Grant → Type 0
-IsGiven purposes message now before g = (was : Grant) × IsGivenOf purposes message now before was × IsKeptAs was g
+IsGiven purposes message now before g = (was : Grant) × IsGivenOf purposes message now before was × IsSameGrant was g
 
 -- All that is active in the second list was so in the first, with the same expiry, or was granted.
 abbrev pub Gives : List Purpose → List ℕ → ℕ → State → List Grant → List Grant → Type 0
-Gives purposes message now before grants later = (g : Grant) → Has g later → IsStanding g → Covers grants g ⊎ IsGiven purposes message now before g
+Gives purposes message now before grants later = (g : Grant) → Has g later → IsActiveGrant g → Covers grants g ⊎ IsGiven purposes message now before g
 
 -- these requests were listed
 abbrev pub Within : List Listing → List Listing → Type 0
@@ -78,7 +78,7 @@ pub within-filter : (p : Listing → Bool) (listed : List Listing) → Within li
 within-filter p listed l there = (has-filter p l listed there).0
 
 module _ (purposes : List Purpose) (message : List ℕ) (now : ℕ) (before : State) where
-  given-kept : (g h : Grant) → IsKeptAs g h → IsGiven purposes message now before g → IsGiven purposes message now before h
+  given-kept : (g h : Grant) → IsSameGrant g h → IsGiven purposes message now before g → IsGiven purposes message now before h
   given-kept g h kept (was, given, k) = (was, given, kept-trans was g h k kept)
 
   -- what was granted is active
@@ -99,23 +99,23 @@ module _ (purposes : List Purpose) (message : List ℕ) (now : ℕ) (before : St
       by (inl covers) = gives-covers a b g first covers
       by (inr given) = inr given
 
-  pub gives-append : (grants more : List Grant) → ((g : Grant) → Has g more → IsStanding g → IsGivenOf purposes message now before g) → Gives purposes message now before grants (grants ++ more)
+  pub gives-append : (grants more : List Grant) → ((g : Grant) → Has g more → IsActiveGrant g → IsGivenOf purposes message now before g) → Gives purposes message now before grants (grants ++ more)
   gives-append grants more gives g there stands = by (has-append g grants more there)
     where
       by : Has g grants ⊎ Has g more → Covers grants g ⊎ IsGiven purposes message now before g
       by (inl here) = inl (covers-has grants g here stands)
       by (inr behind) = inr (g, gives g behind stands, kept-same g stands)
 
-  pub gives-one : (grants : List Grant) (one : Grant) → (IsStanding one → IsGivenOf purposes message now before one) → Gives purposes message now before grants (grants ++ one ∷ [])
+  pub gives-one : (grants : List Grant) (one : Grant) → (IsActiveGrant one → IsGivenOf purposes message now before one) → Gives purposes message now before grants (grants ++ one ∷ [])
   gives-one grants one gives = gives-append grants (one ∷ []) by
     where
-      by : (g : Grant) → Has g (one ∷ []) → IsStanding g → IsGivenOf purposes message now before g
+      by : (g : Grant) → Has g (one ∷ []) → IsActiveGrant g → IsGivenOf purposes message now before g
       by g (inl e) stands = rw e (gives (rw (sym e) stands))
       by g (inr h) stands = absurd h
 
   -- if the second is active, it is the first, or was granted
   abbrev Is : Grant → Grant → Type 0
-  Is was is = IsStanding is → IsKeptAs was is ⊎ IsGivenOf purposes message now before is
+  Is was is = IsActiveGrant is → IsSameGrant was is ⊎ IsGivenOf purposes message now before is
 
   pub gives-map : (f : Grant → Grant) (grants : List Grant) → ((g : Grant) → Has g grants → Is g (f g)) → Gives purposes message now before grants (map f grants)
   gives-map f grants keeps g there stands = by (has-mapped f g grants there)
@@ -123,7 +123,7 @@ module _ (purposes : List Purpose) (message : List ℕ) (now : ℕ) (before : St
       by : (x : Grant) × Has x grants × (g ≡ f x) → Covers grants g ⊎ IsGiven purposes message now before g
       by (x, earlier, e) = at (keeps x earlier (rw (sym e) stands))
         where
-          at : IsKeptAs x (f x) ⊎ IsGivenOf purposes message now before (f x) → Covers grants g ⊎ IsGiven purposes message now before g
+          at : IsSameGrant x (f x) ⊎ IsGivenOf purposes message now before (f x) → Covers grants g ⊎ IsGiven purposes message now before g
           at (inl kept) = inl (x, earlier, rw e kept)
           at (inr given) = inr (f x, given, rw e (kept-same (f x) (rw (sym e) stands)))
 

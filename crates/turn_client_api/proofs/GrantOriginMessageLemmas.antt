@@ -23,7 +23,7 @@ use Rattle.turn_client_api.specs.Effect.{allocate_granted, effect, ended, family
 use Rattle.turn_client_api.specs.Retry.{most_challenges, retried}
 use Rattle.turn_client_api.specs.Connections.{attempt_indicated, attempt_requested, is_connected, is_heeded}
 use Rattle.turn_client_api.specs.Payloads.{Outcome, Handled, Ignored, answered_purposes, challenge_step, is_answered, message_step, response_step, signed_step, wrong_step}
-use Rattle.turn_client_api.specs.LawsGranted.{IsGivenFor, IsGrant, IsStanding}
+use Rattle.turn_client_api.specs.LawsGranted.{IsGivenFor, IsGrant, IsActiveGrant}
 use Rattle.turn_client_api.proofs.HasLemmas.{Has, has-filter}
 use Rattle.turn_client_api.proofs.StandLemmas.{Covers, Leaves, Left, covers-left, has-contains, leaves-cond, leaves-same, left-one, left-same}
 use Rattle.turn_client_api.proofs.GrantOriginLemmas.{ChannelsWithin, Gives, IsGiven, IsGivenOf, Takes, gives-append, gives-covers, gives-left, has-mapped, purposes-within, takes-fold}
@@ -239,7 +239,7 @@ allocate-gives message now before s purposes same one = by (lifetime_in message)
     by None e = rw e (gives-left purposes message now before s.grants s.grants (left-same s.grants))
     by (Some n) e = rw e (gives-append purposes message now before s.grants (map (new_allocation n now) taken) new)
       where
-        new : (g : Grant) → Has g (map (new_allocation n now) taken) → IsStanding g → IsGivenOf purposes message now before g
+        new : (g : Grant) → Has g (map (new_allocation n now) taken) → IsActiveGrant g → IsGivenOf purposes message now before g
         new g there stands = at (has-mapped (new_allocation n now) g taken there)
           where
             given : (a : SocketAddr) → Has a taken → IsGivenFor ForAllocation message now before (new_allocation n now a)

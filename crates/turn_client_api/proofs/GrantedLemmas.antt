@@ -15,7 +15,7 @@ use Rattle.turn_client_api.specs.Handled.{Input}
 use Rattle.turn_client_api.specs.Payloads.{is_message, message_step}
 use Rattle.turn_client_api.specs.LawsHandled.{IsDoneBy, IsOverControl, TakesInput}
 use Rattle.turn_client_api.specs.LawsBound.{IsBindInput}
-use Rattle.turn_client_api.specs.LawsGranted.{HasCause, IsEndedNow, IsGivenFor, IsGrant, IsGrantInput, IsGrantedBy, IsGrantedIn, IsKeptAs, IsStanding, Stood}
+use Rattle.turn_client_api.specs.LawsGranted.{HasCause, IsEndedNow, IsGivenFor, IsGrant, IsGrantInput, IsGrantedBy, IsGrantedIn, IsSameGrant, IsActiveGrant, WasActive}
 use Rattle.turn_client_api.specs.Steps.{Call, state_after, Delete, CreatePermission, BindChannel, TcpConnect, AllocatedTcpSocket, TcpClosed, SendTo, Recv, PollRecv, Poll, PollTransmit, PollEvent, RelayedAddresses, Permissions, HavePermission, ProtocolError}
 use Rattle.turn_client_api.specs.Steps as S
 use Rattle.turn_client_api.proofs.HasLemmas.{Has, has-filter}
@@ -31,13 +31,13 @@ use Rattle.turn_client_api.proofs.TurnBringLemmas.{IsBrought, leaves-bring}
 -- ---- all of them
 
 -- what the caller deletes expires now
-delete-ends : (now : ℕ) (s : State) (g : Grant) → Has g (state_after (Delete now) s).grants → IsStanding g → Stood s g ⊎ IsEndedNow (Delete now) s g
+delete-ends : (now : ℕ) (s : State) (g : Grant) → Has g (state_after (Delete now) s).grants → IsActiveGrant g → WasActive s g ⊎ IsEndedNow (Delete now) s g
 delete-ends now s g = by (is_allocated s.phase)
   where
     all : Grant → Grant
     all = changed_allocation (λ a. true) (λ a. record a { expiry = now; is_expired = true })
 
-    at : (x : Grant) → Has x s.grants → IsStanding (all x) → Stood s (all x) ⊎ IsEndedNow (Delete now) s (all x)
+    at : (x : Grant) → Has x s.grants → IsActiveGrant (all x) → WasActive s (all x) ⊎ IsEndedNow (Delete now) s (all x)
     at (Allocation a) there stands = inr (refl, (a, has-contains (Allocation a) s.grants there, refl))
     at (Permission ip progress) there stands = inl (covers-stood s (Permission ip progress) (covers-has s.grants (Permission ip progress) there stands))
     at (Channel number peer progress) there stands = inl (covers-stood s (Channel number peer progress) (covers-has s.grants (Channel number peer progress) there stands))
@@ -45,11 +45,11 @@ delete-ends now s g = by (is_allocated s.phase)
     at (Offer offer) there stands = absurd stands
     at (Connection c) there stands = inl (covers-stood s (Connection c) (covers-has s.grants (Connection c) there stands))
 
-    by : (b : Bool) → Has g (cond {A = Result Unit DeleteError × State} b (Ok tt, deleted now s) (Err No.NoAllocation, s)).1.grants → IsStanding g → Stood s g ⊎ IsEndedNow (Delete now) s g
+    by : (b : Bool) → Has g (cond {A = Result Unit DeleteError × State} b (Ok tt, deleted now s) (Err No.NoAllocation, s)).1.grants → IsActiveGrant g → WasActive s g ⊎ IsEndedNow (Delete now) s g
     by false there stands = inl (covers-stood s g (covers-has s.grants g there stands))
     by true there stands = from (has-mapped all g (filter (λ g. not (is_granted_in g)) s.grants) there)
       where
-        from : (x : Grant) × Has x (filter (λ g. not (is_granted_in g)) s.grants) × (g ≡ all x) → Stood s g ⊎ IsEndedNow (Delete now) s g
+        from : (x : Grant) × Has x (filter (λ g. not (is_granted_in g)) s.grants) × (g ≡ all x) → WasActive s g ⊎ IsEndedNow (Delete now) s g
         from (x, before, e) = rw e (at x (has-filter (λ g. not (is_granted_in g)) x s.grants before).0 (rw (sym e) stands))
 
 -- ---- what the inputs of a call grant
@@ -65,7 +65,7 @@ control-grants g one over whole covers = by g (message-brings g one.bytes one.mo
     turn g grant = record { over = over; whole = whole; grant = grant }
 
     -- a connection is not
-    connection : (c : DataConnection) (was : Grant) → IsGrantedBy one.bytes one.moment one.before was → IsKeptAs was (Connection c) → ⊥
+    connection : (c : DataConnection) (was : Grant) → IsGrantedBy one.bytes one.moment one.before was → IsSameGrant was (Connection c) → ⊥
     connection c (Connection d) is kept = unlike is.purpose is.given
       where
         unlike : (p : Purpose) → IsGivenFor p one.bytes one.moment one.before (Connection d) → ⊥
@@ -110,7 +110,7 @@ deadline-has local g (Offer offer) e = inl e
 bind-covers : (one : Input) (stream : Stream) (g : Grant) (t : State) → one.stream ≡ Some stream → stream.mode ≡ Waiting → is_message one.bytes ≡ true → Binds stream.local one.bytes one.before t → Covers t.grants g → Covers one.before.grants g ⊎ IsGrantedIn g one
 bind-covers one stream g t of waits whole b (is, there, kept) = by (has-mapped (deadline_set b.c.local None) is one.before.grants (subst (Has is) b.grants there))
   where
-    bound : (c : DataConnection) (h : Grant) → c.local ≡ b.c.local → IsKeptAs (Connection c) h → IsGrantedIn h one
+    bound : (c : DataConnection) (h : Grant) → c.local ≡ b.c.local → IsSameGrant (Connection c) h → IsGrantedIn h one
     bound c (Connection d) at (same, none) =
         let ends : stream.local ≡ d.local = sym (found-local stream.local b.c _ b.found) ∙ (sym at ∙ ap (λ (x : DataConnection). x.local) same) in
         (b.c.peer, subst (λ (local : SocketAddr). IsBindInput local b.c.peer one) ends (binds-turn one stream t of waits whole b))
@@ -155,7 +155,7 @@ module _ (s : State) (g : Grant) where
   deleted-covers : (now : ℕ) → Covers (state_after (Delete now) s).grants g → Before (Delete now)
   deleted-covers now (is, there, kept) = by (delete-ends now s is there (kept-stood is g kept))
     where
-      ended : (h i : Grant) → IsEndedNow (Delete now) s h → IsKeptAs h i → IsEndedNow (Delete now) s i
+      ended : (h i : Grant) → IsEndedNow (Delete now) s h → IsSameGrant h i → IsEndedNow (Delete now) s i
       ended (Allocation a) (Allocation b) (e, (was, before, same)) (f, d) = (sym d ∙ e, (was, before, same ∙ f))
       ended (Allocation a) (Permission ip progress) e k = absurd k
       ended (Allocation a) (Channel number peer progress) e k = absurd k
@@ -168,10 +168,10 @@ module _ (s : State) (g : Grant) where
       ended (Offer offer) i e k = absurd e
       ended (Connection c) i e k = absurd e
 
-      stood : Stood s is → Before (Delete now)
+      stood : WasActive s is → Before (Delete now)
       stood (was, before, k) = inl (was, contains-has was s.grants before, kept-trans was is g k kept)
 
-      by : Stood s is ⊎ IsEndedNow (Delete now) s is → Before (Delete now)
+      by : WasActive s is ⊎ IsEndedNow (Delete now) s is → Before (Delete now)
       by (inl was) = stood was
       by (inr e) = inr (ended is g e kept)
 
@@ -183,10 +183,10 @@ module _ (s : State) (g : Grant) where
       left (AllocatedTcpSocket id tuple peer local now) (tcp_socket-walk Leaves Leaves-KeepsEdits (λ s streams. leaves-same s) id tuple peer local now s) covers
   call-grants call other covers = left call (quiet-walk Leaves Leaves-KeepsEdits call s tt) covers
 
-pub leaves-grants : (call : Call) (s t : State) (g : Grant) → S.Leaves call s t → Contains t.grants g → IsStanding g → HasCause call s g
+pub leaves-grants : (call : Call) (s t : State) (g : Grant) → S.Leaves call s t → Contains t.grants g → IsActiveGrant g → HasCause call s g
 leaves-grants call s t g leaves there stands =
     by (leaves-bring (λ u. Covers u.grants g) (IsGrantedIn g) (bringing g) (λ call s. IsEndedNow call s g) (λ call s. call-grants s g call) call s t leaves (covers-has t.grants g (contains-has g t.grants there) stands))
   where
-    by : Covers s.grants g ⊎ IsEndedNow call s g ⊎ IsDoneBy (IsGrantedIn g) call s → Stood s g ⊎ IsEndedNow call s g ⊎ IsDoneBy (IsGrantedIn g) call s
+    by : Covers s.grants g ⊎ IsEndedNow call s g ⊎ IsDoneBy (IsGrantedIn g) call s → WasActive s g ⊎ IsEndedNow call s g ⊎ IsDoneBy (IsGrantedIn g) call s
     by (inl covers) = inl (covers-stood s g covers)
     by (inr other) = inr other

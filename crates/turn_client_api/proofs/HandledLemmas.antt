@@ -16,10 +16,10 @@ use Rattle.turn_client_api.specs.Streams.{broken_at, framed_by, framed_stream_st
 use Rattle.turn_client_api.specs.Receive.{first_frame_step, is_from_server, piece_step, place_kept, recv_step, stream_step, then_all}
 use Rattle.turn_client_api.specs.Steps.{Call, PollRecv, Recv, packet_step}
 use Rattle.turn_client_api.specs.Handled.{Input, fed, fed_taken, frame_taken, handled, is_front, processed, payloads, piece_inputs, poll_recv_inputs, recv_inputs, stream_inputs, taken, taken_first, taken_in, taken_of_len, then_taken, stream_input, input_payload, inputs_taken, unless_given}
-use Rattle.turn_client_api.specs.LawsPeers.{IsDeliveredByInput, IsLetInTurn, IsToldBy}
+use Rattle.turn_client_api.specs.LawsPeers.{IsDeliveredByInput, IsPermittedInput, IsToldBy}
 use Rattle.turn_client_api.proofs.HasLemmas.{Has, has-filter_map, has-left}
 use Rattle.turn_client_api.proofs.StandLemmas.{has-contains}
-use Rattle.turn_client_api.proofs.PeerLemmas.{datagram-IsLetThrough, frame-IsLetIn}
+use Rattle.turn_client_api.proofs.PeerLemmas.{datagram-IsMessageFromPermitted, frame-IsFromPermitted}
 
 -- these inputs return what the outcome has, and no more
 abbrev AreOf : List Input → Outcome → Type 0
@@ -173,12 +173,12 @@ recv-AreOf packet now s = recv_over s.transport packet.transport packet.from pac
 
 -- ---- its sender
 
-pub turn-IsLetIn : (t : Input) → IsLetInTurn t
-turn-IsLetIn t = by t.stream t
+pub turn-IsFromPermitted : (t : Input) → IsPermittedInput t
+turn-IsFromPermitted t = by t.stream t
   where
-    by : (o : Option Stream) (t : Input) → IsLetInTurn (record t { stream = o })
-    by None t = datagram-IsLetThrough t.bytes t.moment t.before
-    by (Some stream) t = frame-IsLetIn stream t.bytes t.moment t.before
+    by : (o : Option Stream) (t : Input) → IsPermittedInput (record t { stream = o })
+    by None t = datagram-IsMessageFromPermitted t.bytes t.moment t.before
+    by (Some stream) t = frame-IsFromPermitted stream t.bytes t.moment t.before
 
 -- ---- the input that returns it
 
@@ -189,7 +189,7 @@ given-among turns (Some payload) e = has-filter_map input_payload payload turns 
 
 given-by : (call : Call) (s : State) (o : Option Payload) → IfSome o (λ payload. (one : Input) × Has one (handled call s) × (input_payload one ≡ Some payload)) → IsDeliveredByInput o call s
 given-by call s None h = tt
-given-by call s (Some payload) (one, there, gives) = (one, has-contains one (handled call s) there, (gives, turn-IsLetIn one))
+given-by call s (Some payload) (one, there, gives) = (one, has-contains one (handled call s) there, (gives, turn-IsFromPermitted one))
 
 pub recv-IsGivenBy : (packet : Transmit (List ℕ)) (now : ℕ) (s : State) → IsDeliveredByInput (payload_in (packet_step packet now s).0) (Recv packet now) s
 recv-IsGivenBy packet now s =
@@ -288,7 +288,7 @@ tells_over Tcp transport from to bytes now s = by (is_from_server transport from
     by false o h = absurd h
 
 told : (call : Call) (s : State) (o : Outcome) → Tells (handled call s) o → IsToldBy o call s
-told call s (PeerIcmp transport peer icmp) tells = let (one, there, is) = tells tt in (one, has-contains one (handled call s) there, (is, turn-IsLetIn one))
+told call s (PeerIcmp transport peer icmp) tells = let (one, there, is) = tells tt in (one, has-contains one (handled call s) there, (is, turn-IsFromPermitted one))
 told call s (PeerData payload) tells = tt
 told call s Handled tells = tt
 told call s Ignored tells = tt

@@ -10,13 +10,13 @@ use Rattle.turn_stun.specs.declared.transport.TransportType.{TransportType}
 use Rattle.turn_types.specs.declared.family.AddressFamily.{AddressFamily}
 use Rattle.turn_agent.specs.Agent.{same_address}
 use Rattle.turn_client_api.specs.Config.{Config, same_family}
-use Rattle.turn_client_api.specs.Alarm.{AllStandIn, StandsIn}
+use Rattle.turn_client_api.specs.Alarm.{AllHaveAllocation, HasAllocation}
 use Rattle.turn_client_api.specs.State.{State, initial, DataOffer, Grant, Allocation, Permission, Channel, Connect, Offer, Connection, Progress, Pending, Active, Reserved, Origin, OwnConnect, Purpose, ForAllocation, ForRefresh, ForPermission, ForChannel, ForConnect, ForBind, Listing}
 use Rattle.turn_client_api.specs.Grants.{family_of, family_of_grant, family_of_ip, is_channel_of, is_connect_to, is_for, is_of, is_permission_of, offer_in, permission_for, permission_progress, purposes_of, same_ip, with_grant, without}
 use Rattle.turn_client_api.specs.Effect.{new_allocation, relayed_in, taken_addresses}
 use Rattle.turn_client_api.specs.Calls.{is_offer_of, offer_origin, offer_taken}
 use Rattle.turn_client_api.specs.Steps.{Call, Leaves}
-use Rattle.turn_client_api.specs.LawsHoused.{asked_family, IsAskedIn, IsBacked, IsHoused}
+use Rattle.turn_client_api.specs.LawsGrantAllocations.{asked_family, IsAskedIn, ReplyHasAllocation, GrantsHaveAllocations}
 use Rattle.turn_client_api.specs.LawsStates.{is_asked_by}
 use Rattle.turn_client_api.proofs.AddressLemmas.{same_ip-true}
 use Rattle.turn_client_api.proofs.HasLemmas.{Has, all-has, has-all, has-filter, has-filter_map, has-right}
@@ -217,20 +217,20 @@ some-if : {X : Type 0} (P : X → Type 0) (o : Option X) → ((x : X) → o ≡ 
 some-if P None each = tt
 some-if P (Some x) each = each x refl
 
-IsHoused-housed : (s : State) → IsHoused s → Housed s.grants s.listed
-IsHoused-housed s (stand, back) = record { stands = λ g there. room-of (family_of_grant g) s (has-all (StandsIn s) g s.grants stand there); backed = backed }
+GrantsHaveAllocations-housed : (s : State) → GrantsHaveAllocations s → Housed s.grants s.listed
+GrantsHaveAllocations-housed s (stand, back) = record { stands = λ g there. room-of (family_of_grant g) s (has-all (HasAllocation s) g s.grants stand there); backed = backed }
   where
     backed : (l : Listing) → Has l s.listed → Backed s.grants l.purpose
     backed l there family e =
-        let asked = if-some (IsAskedIn s l.purpose) (asked_family l.purpose) family (has-all (IsBacked s) l s.listed back there) e in
+        let asked = if-some (IsAskedIn s l.purpose) (asked_family l.purpose) family (has-all (ReplyHasAllocation s) l s.listed back there) e in
         let (g, here, passes) = any-has (λ (x : Grant). is_for l.purpose x && is_of family x) s.grants asked in
         let (for, is) = and_parts (is_for l.purpose g) (is_of family g) passes in
         (g, here, for, same_family-true (family_of_grant g) family is)
 
-housed-IsHoused : (s : State) → Housed s.grants s.listed → IsHoused s
-housed-IsHoused s h = (
-  all-has (StandsIn s) s.grants (λ g there. of-room (family_of_grant g) s (h.stands g there)),
-  all-has (IsBacked s) s.listed (λ l there. some-if (IsAskedIn s l.purpose) (asked_family l.purpose) (backed l there)),
+housed-GrantsHaveAllocations : (s : State) → Housed s.grants s.listed → GrantsHaveAllocations s
+housed-GrantsHaveAllocations s h = (
+  all-has (HasAllocation s) s.grants (λ g there. of-room (family_of_grant g) s (h.stands g there)),
+  all-has (ReplyHasAllocation s) s.listed (λ l there. some-if (IsAskedIn s l.purpose) (asked_family l.purpose) (backed l there)),
 )
   where
     backed : (l : Listing) → Has l s.listed → (family : AddressFamily) → asked_family l.purpose ≡ Some family → IsAskedIn s l.purpose family
@@ -239,13 +239,13 @@ housed-IsHoused s h = (
         has-any (λ (x : Grant). is_for l.purpose x && is_of family x) g s.grants here
         (and_from (is_for l.purpose g) (is_of family g) for (same_family-self (family_of_grant g) family is))
 
-pub initial-IsHoused : (transport : TransportType) (local remote : SocketAddr) (config : Config) (seed : List ℕ) → IsHoused (initial transport local remote config seed)
-initial-IsHoused transport local remote config seed =
+pub initial-GrantsHaveAllocations : (transport : TransportType) (local remote : SocketAddr) (config : Config) (seed : List ℕ) → GrantsHaveAllocations (initial transport local remote config seed)
+initial-GrantsHaveAllocations transport local remote config seed =
     let s = initial transport local remote config seed in
-    housed-IsHoused s (record { stands = λ g none. absurd none; backed = λ l none. absurd none })
+    housed-GrantsHaveAllocations s (record { stands = λ g none. absurd none; backed = λ l none. absurd none })
 
-pub leaves-IsHoused : (call : Call) (s t : State) → Leaves call s t → IsHoused s → IsHoused t
-leaves-IsHoused call s t leaves h = housed-IsHoused t (leaves-walk Houses Houses-KeepsAllEdits (λ s streams h. h) call s t leaves (IsHoused-housed s h))
+pub leaves-GrantsHaveAllocations : (call : Call) (s t : State) → Leaves call s t → GrantsHaveAllocations s → GrantsHaveAllocations t
+leaves-GrantsHaveAllocations call s t leaves h = housed-GrantsHaveAllocations t (leaves-walk Houses Houses-KeepsAllEdits (λ s streams h. h) call s t leaves (GrantsHaveAllocations-housed s h))
 
-pub IsHoused-AllStandIn : (s : State) → IsHoused s → AllStandIn s
-IsHoused-AllStandIn s h = h.0
+pub GrantsHaveAllocations-AllHaveAllocation : (s : State) → GrantsHaveAllocations s → AllHaveAllocation s
+GrantsHaveAllocations-AllHaveAllocation s h = h.0

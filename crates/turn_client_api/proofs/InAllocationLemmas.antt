@@ -11,7 +11,7 @@ use Rattle.turn_client_api.specs.Config.{same_family}
 use Rattle.turn_client_api.specs.State.{State, Grant, Allocation, Permission, Channel, Connect, Offer, Connection, Relay, Pending, OwnConnect, Purpose, ForAllocation, ForRefresh, ForPermission, ForChannel, ForConnect, ForBind, Listing}
 use Rattle.turn_client_api.specs.Grants.{allocation_for, allocation_in, allocation_of, allocations, family_of, family_of_grant, family_of_ip, is_for, same_transport}
 use Rattle.turn_client_api.specs.Requests.{listings}
-use Rattle.turn_client_api.specs.LawsHoused.{asked_family}
+use Rattle.turn_client_api.specs.LawsGrantAllocations.{asked_family}
 use Rattle.turn_client_api.proofs.HasLemmas.{Has, has-left, has-append, has-filter, filter-has, map-has, filter_map-has, has-filter_map, has-found}
 
 -- ---- families and tests

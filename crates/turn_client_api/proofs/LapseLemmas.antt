@@ -8,7 +8,7 @@ use Rattle.std.specs.declared.net.socket_addr.SocketAddr.{SocketAddr}
 use Rattle.turn_types.specs.declared.family.AddressFamily.{AddressFamily}
 use Rattle.turn_types.specs.declared.family.AddressFamily.TheVariants.{IPV4, IPV6}
 use Rattle.turn_client_api.specs.Config.{same_family}
-use Rattle.turn_client_api.specs.Alarm.{StandsIn}
+use Rattle.turn_client_api.specs.Alarm.{HasAllocation}
 use Rattle.turn_client_api.specs.State.{State, DataOffer, Grant, Allocation, Permission, Channel, Connect, Offer, Connection, Relay, Pending, Active, Reserved, Purpose, agent_of, later_by}
 use Rattle.turn_client_api.specs.Grants.{allocations, allocation_in, allocation_of, family_of_grant, has_request, is_past, failures_among, family_of, is_channel_of, is_for_any, is_connect, is_of, is_pending_channel, is_pending_permission, jump, unlisted, without}
 use Rattle.turn_client_api.specs.Effect.{reserved, reserved_time}
@@ -365,7 +365,7 @@ allocation-alive given purposes now (b ∷ bs) s a (inl e) h used =
     stays-alive given purposes now s a (subst (λ x. Has (Allocation a) (lapsed_allocation given purposes now s x).grants) (sym e) there) used
 
 -- all that remains after time has passed without an event has not expired
-pub lapsed-alive : (given : Option ℕ) (now : ℕ) (s : State) → All (StandsIn s) s.grants → (lapsed given now s).events ≡ [] → (g : Grant) → Has g (lapsed given now s).grants → Alive now g
+pub lapsed-alive : (given : Option ℕ) (now : ℕ) (s : State) → All (HasAllocation s) s.grants → (lapsed given now s).events ≡ [] → (g : Grant) → Has g (lapsed given now s).grants → Alive now g
 lapsed-alive given now s stand none g h = by g h ((each-shrinks given purposes now (allocations s) s).grants g h)
   where
     purposes : List Purpose
@@ -379,7 +379,7 @@ lapsed-alive given now s stand none g h = by g h ((each-shrinks given purposes n
     turn g h there = of (allocation_of (family_of_grant g) s) refl
       where
         of : (o : Option Relay) → allocation_of (family_of_grant g) s ≡ o → Outlives now g
-        of None e = let no : false ≡ true = rw e at (has-all (StandsIn s) g s.grants stand there) in cc
+        of None e = let no : false ≡ true = rw e at (has-all (HasAllocation s) g s.grants stand there) in cc
         of (Some a) e =
             let found = has-found (λ a. same_family (family_of a.relayed) (family_of_grant g)) a (allocations s) e in
             outlives given purposes now (allocations s) s none a found.0 g h (same_family-swap _ _ found.1)

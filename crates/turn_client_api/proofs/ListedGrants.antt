@@ -35,18 +35,18 @@ asked-for (ForConnect peer) g e = e
 asked-for (ForBind local peer id) g e = e
 
 -- the request is an ALLOCATE, or is for one of these
-abbrev pub Founded : List Grant → Purpose → Type 0
-Founded gs p = (p ≡ ForAllocation) ⊎ (list_any (is_asked_by p) gs ≡ true)
+abbrev pub HasGrant : List Grant → Purpose → Type 0
+HasGrant gs p = (p ≡ ForAllocation) ⊎ (list_any (is_asked_by p) gs ≡ true)
 
-abbrev pub AllFounded : State → Type 0
-AllFounded s = (l : Listing) → Has l s.listed → Founded s.grants l.purpose
+abbrev pub AllHaveGrant : State → Type 0
+AllHaveGrant s = (l : Listing) → Has l s.listed → HasGrant s.grants l.purpose
 
 abbrev pub StayFounded : State → State → Type 0
-StayFounded s t = AllFounded s → AllFounded t
+StayFounded s t = AllHaveGrant s → AllHaveGrant t
 
 -- ---- grants are added
 
-founded-append : (gs hs : List Grant) (p : Purpose) → Founded gs p → Founded (gs ++ hs) p
+founded-append : (gs hs : List Grant) (p : Purpose) → HasGrant gs p → HasGrant (gs ++ hs) p
 founded-append gs hs p (inl e) = inl e
 founded-append gs hs p (inr there) = inr (list_any-append (is_asked_by p) gs hs ∙ or_left (list_any (is_asked_by p) gs) (list_any (is_asked_by p) hs) there)
 
@@ -71,14 +71,14 @@ without-founded which s h l there = by (h l kept.0)
     of g here for true e = absurd (not-both (gone l) (has-any (λ g. which g && is_for l.purpose g) g s.grants here (and_from (which g) (is_for l.purpose g) e (asked-for l.purpose g for))) kept.1)
     of g here for false e = has-any (is_asked_by l.purpose) g left (stays which g s.grants here e) for
 
-    by : Founded s.grants l.purpose → Founded left l.purpose
+    by : HasGrant s.grants l.purpose → HasGrant left l.purpose
     by (inl e) = inl e
     by (inr some) = let (g, here, for) = any-has (is_asked_by l.purpose) s.grants some in inr (of g here for (which g) refl)
 
 taken-founded : (id : ℕ) (peer : SocketAddr) (s : State) → StayFounded s (offer_taken id peer s)
 taken-founded id peer s h l there = by (h l there)
   where
-    by : Founded s.grants l.purpose → Founded (offer_taken id peer s).grants l.purpose
+    by : HasGrant s.grants l.purpose → HasGrant (offer_taken id peer s).grants l.purpose
     by (inl e) = inl e
     by (inr some) =
         let (g, here, for) = any-has (is_asked_by l.purpose) s.grants some in
@@ -126,28 +126,28 @@ any-outline p (g ∷ gs) = rw (asked-outline p g, any-outline p gs) refl
 reshaped-founded : (grants : List Grant) (s : State) → map outline grants ≡ map outline s.grants → StayFounded s (record s { grants = grants })
 reshaped-founded grants s e h l there = by (h l there)
   where
-    by : Founded s.grants l.purpose → Founded grants l.purpose
+    by : HasGrant s.grants l.purpose → HasGrant grants l.purpose
     by (inl is) = inl is
     by (inr some) = inr (sym (any-outline l.purpose grants) ∙ (ap (list_any (is_asked_by l.purpose)) e ∙ (any-outline l.purpose s.grants ∙ some)))
 
 -- ---- requests
 
-askable-founded : (s : State) (p : Purpose) → AllFounded s → IsAskable s p → Founded s.grants p
+askable-founded : (s : State) (p : Purpose) → AllHaveGrant s → IsAskable s p → HasGrant s.grants p
 askable-founded s p h (inl e) = inl e
 askable-founded s p h (inr (inl there)) = inr there
-askable-founded s p h (inr (inr (l, there, e))) = subst (Founded s.grants) e (h l there)
+askable-founded s p h (inr (inr (l, there, e))) = subst (HasGrant s.grants) e (h l there)
 
-asked-founded : (id : ℕ) (purposes : List Purpose) (s : State) → ((p : Purpose) → Has p purposes → IsAskable s p) → AllFounded s → (l : Listing) → Has l (s.listed ++ listings id purposes) → Founded s.grants l.purpose
+asked-founded : (id : ℕ) (purposes : List Purpose) (s : State) → ((p : Purpose) → Has p purposes → IsAskable s p) → AllHaveGrant s → (l : Listing) → Has l (s.listed ++ listings id purposes) → HasGrant s.grants l.purpose
 asked-founded id purposes s askable h l there = by (has-append l s.listed (listings id purposes) there)
   where
     made : Purpose → Listing
     made p = record { id = id; purpose = p }
 
-    by : Has l s.listed ⊎ Has l (listings id purposes) → Founded s.grants l.purpose
+    by : Has l s.listed ⊎ Has l (listings id purposes) → HasGrant s.grants l.purpose
     by (inl old) = h l old
     by (inr new) =
         let (p, here, e) = has-mapped made l purposes new in
-        subst (λ (x : Listing). Founded s.grants x.purpose) (sym e) (askable-founded s p h (askable p here))
+        subst (λ (x : Listing). HasGrant s.grants x.purpose) (sym e) (askable-founded s p h (askable p here))
 
 StayFounded-KeepsEdits : KeepsEdits StayFounded
 StayFounded-KeepsEdits = record {

@@ -18,7 +18,7 @@ use Rattle.turn_client_api.specs.Calls.{bind_channel, bind_channel_step, bound_b
 use Rattle.turn_client_api.specs.declared.error.BindChannelError.TheVariants as Bind
 use Rattle.turn_client_api.specs.Steps.{Call, CreatePermission, BindChannel, TcpConnect}
 use Rattle.turn_client_api.specs.LawsRequests.{AsksFor, IsListedAs, IsListedFor, IsMade, IsMadeAs, IsSentAgain}
-use Rattle.turn_client_api.specs.LawsGone.{IsTakenBy, bare}
+use Rattle.turn_client_api.specs.LawsGone.{IsTakenBy, grant_identity}
 use Rattle.turn_client_api.proofs.HasLemmas.{Has, has-right}
 use Rattle.turn_client_api.proofs.MoveLemmas.{Moves, Never, Settles, adds-more, adds-one, adds-same, adds-wider, by_test, loses-map, loses-more, loses-same, settles-moves, settles-same}
 use Rattle.turn_client_api.proofs.MoveMessageLemmas.{request_made, requested-made}
@@ -57,23 +57,23 @@ does-requested call purpose now s u asks (made, listed, lost) = (
 
 -- ---- calls that need an allocation
 
-expired-bare : (family : AddressFamily) (g : Grant) → bare g ≡ bare (changed_allocation (λ a. is_of_family family a.relayed) (λ a. record a { is_expired = true }) g)
-expired-bare family (Allocation a) = by (is_of_family family a.relayed)
+expired-grant_identity : (family : AddressFamily) (g : Grant) → grant_identity g ≡ grant_identity (changed_allocation (λ a. is_of_family family a.relayed) (λ a. record a { is_expired = true }) g)
+expired-grant_identity family (Allocation a) = by (is_of_family family a.relayed)
   where
-    by : (b : Bool) → bare (Allocation a) ≡ bare (cond b (Allocation (record a { is_expired = true })) (Allocation a))
+    by : (b : Bool) → grant_identity (Allocation a) ≡ grant_identity (cond b (Allocation (record a { is_expired = true })) (Allocation a))
     by true = refl
     by false = refl
-expired-bare family (Permission ip progress) = refl
-expired-bare family (Channel number peer progress) = refl
-expired-bare family (Connect peer) = refl
-expired-bare family (Offer offer) = refl
-expired-bare family (Connection c) = refl
+expired-grant_identity family (Permission ip progress) = refl
+expired-grant_identity family (Channel number peer progress) = refl
+expired-grant_identity family (Connect peer) = refl
+expired-grant_identity family (Offer offer) = refl
+expired-grant_identity family (Connection c) = refl
 
 does-in : {E : Type 0} (call : Call) (o : Option Relay) (ip : IpAddr) (now : ℕ) (refusal : E) (s : State) (otherwise : Result Unit E × State) → Does call s otherwise.1 → Does call s (in_allocation o ip now refusal s otherwise).1
 does-in call None ip now refusal s otherwise k = does-same call s
 does-in call (Some a) ip now refusal s otherwise k =
     by_test (Does call s) (is_past now a) _ otherwise
-    (does-settled call s (with_expired (family_of_ip ip) s) (adds-same Never s.transactions, adds-same Never s.listed, loses-map _ _ s.grants (expired-bare (family_of_ip ip))))
+    (does-settled call s (with_expired (family_of_ip ip) s) (adds-same Never s.transactions, adds-same Never s.listed, loses-map _ _ s.grants (expired-grant_identity (family_of_ip ip))))
     k
 
 with_grant-settles : (Taken : Grant → Type 0) (g : Grant) (s : State) → Settles Taken s (with_grant g s)

@@ -2,7 +2,7 @@
 use Rattle.std.proofs.Common.{◌≡◌, ◌⊎◌, Bool, true, false, not, cond, List, [], ◌∷◌, ◌++◌, map, filter, refl, sym, subst, ◌∙◌, inl, inr}
 use Rattle.turn_agent.specs.declared.transaction.Transaction.{Transaction}
 use Rattle.turn_client_api.specs.State.{State, Grant, Listing}
-use Rattle.turn_client_api.specs.LawsGone.{bare}
+use Rattle.turn_client_api.specs.LawsGone.{grant_identity}
 use Rattle.turn_client_api.proofs.HasLemmas.{Has, filter-has, has-append, has-filter, has-left, map-has}
 
 -- ---- lists
@@ -13,7 +13,7 @@ Adds {X} Came xs ys = (x : X) → Has x ys → Has x xs ⊎ Came x
 
 -- whatever its progress
 abbrev pub Remains : Grant → List Grant → Type 0
-Remains g gs = (is : Grant) × Has is gs × (bare g ≡ bare is)
+Remains g gs = (is : Grant) × Has is gs × (grant_identity g ≡ grant_identity is)
 
 -- what existed before exists later, or was removed
 abbrev pub Loses : (Grant → Type 0) → List Grant → List Grant → Type 0
@@ -65,12 +65,12 @@ loses-same Taken gs g h = inl (remains-here g gs h)
 
 -- the progress of a grant does not count
 abbrev pub IsOfBare : (Grant → Type 0) → Type 0
-IsOfBare Taken = (g is : Grant) → bare g ≡ bare is → Taken is → Taken g
+IsOfBare Taken = (g is : Grant) → grant_identity g ≡ grant_identity is → Taken is → Taken g
 
 pub loses-then : (Taken : Grant → Type 0) → IsOfBare Taken → (gs hs is : List Grant) → Loses Taken gs hs → Loses Taken hs is → Loses Taken gs is
 loses-then Taken whole gs hs later first second g h = by (first g h)
   where
-    at : (k : Grant) → bare g ≡ bare k → Remains k later ⊎ Taken k → Remains g later ⊎ Taken g
+    at : (k : Grant) → grant_identity g ≡ grant_identity k → Remains k later ⊎ Taken k → Remains g later ⊎ Taken g
     at k same (inl (is, there, e)) = inl (is, there, same ∙ e)
     at k same (inr taken) = inr (whole g k same taken)
 
@@ -92,7 +92,7 @@ loses-more Taken gs hs more first g h = by (first g h)
     by (inl (k, there, same)) = inl (k, has-left k hs more there, same)
     by (inr taken) = inr taken
 
-pub loses-map : (Taken : Grant → Type 0) (f : Grant → Grant) (gs : List Grant) → ((g : Grant) → bare g ≡ bare (f g)) → Loses Taken gs (map f gs)
+pub loses-map : (Taken : Grant → Type 0) (f : Grant → Grant) (gs : List Grant) → ((g : Grant) → grant_identity g ≡ grant_identity (f g)) → Loses Taken gs (map f gs)
 loses-map Taken f gs same g h = inl (f g, map-has f g gs h, same g)
 
 pub loses-wider : (Taken Other : Grant → Type 0) (gs hs : List Grant) → ((g : Grant) → Taken g → Other g) → Loses Taken gs hs → Loses Other gs hs

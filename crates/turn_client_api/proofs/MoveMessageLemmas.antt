@@ -27,7 +27,7 @@ use Rattle.turn_client_api.specs.Payloads.{Outcome, Handled, Ignored, challenge_
 use Rattle.turn_client_api.specs.Streams.{frame_step}
 use Rattle.turn_client_api.specs.LawsReplies.{IsAccepted}
 use Rattle.turn_client_api.specs.LawsRequests.{IsAnswer, IsListedAgain, IsMade, IsMadeAgain}
-use Rattle.turn_client_api.specs.LawsGone.{GivesBack, IsOverItself, IsTakenByReply, IsRemovedByInput, bare}
+use Rattle.turn_client_api.specs.LawsGone.{GivesBack, IsOverItself, IsTakenByReply, IsRemovedByInput, grant_identity}
 use Rattle.turn_client_api.proofs.AddressLemmas.{same_address-true}
 use Rattle.turn_client_api.proofs.EditsOfMessages.{found-has, retried-has}
 use Rattle.turn_client_api.proofs.HasLemmas.{Has, has-found, has-right}
@@ -246,17 +246,17 @@ message-turns message now s = by (judgement_of s message) refl
 
 -- ---- connections that wait to be bound
 
-deadline-bare : (local : SocketAddr) (deadline : Option ℕ) (g : Grant) → bare g ≡ bare (deadline_set local deadline g)
-deadline-bare local deadline (Connection c) = by (same_address c.local local)
+deadline-grant_identity : (local : SocketAddr) (deadline : Option ℕ) (g : Grant) → grant_identity g ≡ grant_identity (deadline_set local deadline g)
+deadline-grant_identity local deadline (Connection c) = by (same_address c.local local)
   where
-    by : (b : Bool) → bare (Connection c) ≡ bare (cond b (Connection (record c { deadline = deadline })) (Connection c))
+    by : (b : Bool) → grant_identity (Connection c) ≡ grant_identity (cond b (Connection (record c { deadline = deadline })) (Connection c))
     by true = refl
     by false = refl
-deadline-bare local deadline (Allocation a) = refl
-deadline-bare local deadline (Permission ip progress) = refl
-deadline-bare local deadline (Channel number peer progress) = refl
-deadline-bare local deadline (Connect peer) = refl
-deadline-bare local deadline (Offer offer) = refl
+deadline-grant_identity local deadline (Allocation a) = refl
+deadline-grant_identity local deadline (Permission ip progress) = refl
+deadline-grant_identity local deadline (Channel number peer progress) = refl
+deadline-grant_identity local deadline (Connect peer) = refl
+deadline-grant_identity local deadline (Offer offer) = refl
 
 again-turns : (c : DataConnection) (message : List ℕ) (d : Challenge) (now : ℕ) (s : State) → Turns (λ g. is_connection_from c.local g ≡ true) message now s (bind_again c (id_of message) d now s)
 again-turns c message d now s = by (find (is_bind_of c.local) (purposes_of (id_of message) s)) refl
@@ -273,7 +273,7 @@ again-turns c message d now s = by (find (is_bind_of c.local) (purposes_of (id_o
         rw e (
           adds-one _ s.transactions s.transactions (request_made purpose now s u) (adds-same _ s.transactions) (made-again message now s t purpose answers made),
           adds-more _ s.listed u.listed (listings (fresh_id s) (purpose ∷ [])) (adds-filter _ _ s.listed) (listed-again message now s t purpose answers made (purpose ∷ []) (only purpose answers)),
-          loses-map _ (deadline_set c.local _) s.grants (deadline-bare c.local _),
+          loses-map _ (deadline_set c.local _) s.grants (deadline-grant_identity c.local _),
         )
       where
         only : (purpose : Purpose) → Has purpose (purposes_of (id_of message) s) → (p : Purpose) → Has p (purpose ∷ []) → Has p (purposes_of (id_of message) s)
@@ -293,7 +293,7 @@ answered-turns c message now s = by (bind_judgement s c.local message) refl
     by : (j : Judgement) → bind_judgement s c.local message ≡ j → Turns Taken message now s (bind_answered c message now s)
     by (Challenged d) e = rw e (again-turns c message d now s)
     by SignedSuccess e = rw e (turns-settled Taken message now s (bound c (ended (id_of message) s))
-        (adds-filter Never _ s.transactions, adds-filter Never _ s.listed, loses-map Taken (deadline_set c.local None) s.grants (deadline-bare c.local None)))
+        (adds-filter Never _ s.transactions, adds-filter Never _ s.listed, loses-map Taken (deadline_set c.local None) s.grants (deadline-grant_identity c.local None)))
     by SignedError e = rw e (turns-settled Taken message now s (not_bound c (ended (id_of message) s))
         (adds-filter Never _ s.transactions, adds-filter Never _ s.listed, loses-filter Taken (is_connection_from c.local) s.grants (λ g e. e)))
     by Unrelated e = rw e unbound

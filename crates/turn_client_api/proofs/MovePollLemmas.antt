@@ -17,7 +17,7 @@ use Rattle.turn_client_api.specs.Transmit.{idle_step, queue_step, refreshes_in, 
 use Rattle.turn_client_api.specs.Steps.{Call, Poll, PollTransmit}
 use Rattle.turn_client_api.specs.LawsBodies.{lapse_moments}
 use Rattle.turn_client_api.specs.LawsRequests.{AsksFor, IsMade}
-use Rattle.turn_client_api.specs.LawsGone.{IsTakenBy, IsTimeUp, bare}
+use Rattle.turn_client_api.specs.LawsGone.{IsTakenBy, IsTimeUp, grant_identity}
 use Rattle.turn_client_api.proofs.EarlyLapseLemmas.{lapsed-none}
 use Rattle.turn_client_api.proofs.HasLemmas.{Has, all-has, has-found, has-right}
 use Rattle.turn_client_api.proofs.LapseLemmas.{lapsed-shrinks}
@@ -197,20 +197,20 @@ pub told-loses : (Taken : Grant → Type 0) (family : AddressFamily) (gs : List 
 told-loses Taken family [] g h = absurd h
 told-loses Taken family (x ∷ gs) g h = by (is_some (untold_in family x)) h (told-loses Taken family gs g)
   where
-    told-bare : (g : Grant) → bare g ≡ bare (told g)
-    told-bare (Offer offer) = refl
-    told-bare (Allocation a) = refl
-    told-bare (Permission ip progress) = refl
-    told-bare (Channel number peer progress) = refl
-    told-bare (Connect peer) = refl
-    told-bare (Connection c) = refl
+    told-grant_identity : (g : Grant) → grant_identity g ≡ grant_identity (told g)
+    told-grant_identity (Offer offer) = refl
+    told-grant_identity (Allocation a) = refl
+    told-grant_identity (Permission ip progress) = refl
+    told-grant_identity (Channel number peer progress) = refl
+    told-grant_identity (Connect peer) = refl
+    told-grant_identity (Connection c) = refl
 
     further : Remains g (told_first family gs) ⊎ Taken g → Remains g (x ∷ told_first family gs) ⊎ Taken g
     further (inl (is, there, same)) = inl (is, inr there, same)
     further (inr taken) = inr taken
 
     by : (b : Bool) → Has g (x ∷ gs) → (Has g gs → Remains g (told_first family gs) ⊎ Taken g) → Remains g (cond b (told x ∷ gs) (x ∷ told_first family gs)) ⊎ Taken g
-    by true (inl is) later = inl (told x, inl refl, rw is (told-bare x))
+    by true (inl is) later = inl (told x, inl refl, rw is (told-grant_identity x))
     by true (inr there) later = inl (g, inr there, refl)
     by false (inl is) later = inl (g, inl is, refl)
     by false (inr there) later = further (later there)

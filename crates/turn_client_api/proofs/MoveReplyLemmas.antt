@@ -11,7 +11,7 @@ use Rattle.turn_client_api.specs.Grants.{changed_allocation, channel_at, first_i
 use Rattle.turn_client_api.specs.Judgement.{connection_id_in, lifetime_in}
 use Rattle.turn_client_api.specs.Effect.{all_gone, allocation_mismatch, channel_answered, connect_answered, effect, ended, given_back, has_code, is_asked_permission, lasting, lasting_if, least_lifetime, listed_permissions_answered, pending_channel_answered, permission_answered, permission_answered_for, prolonged, refreshed, renewed}
 use Rattle.turn_client_api.specs.Payloads.{answered_purposes, response_step}
-use Rattle.turn_client_api.specs.LawsGone.{GivesBack, bare}
+use Rattle.turn_client_api.specs.LawsGone.{GivesBack, grant_identity}
 use Rattle.turn_client_api.proofs.GrantOriginLemmas.{has-mapped}
 use Rattle.turn_client_api.proofs.HasLemmas.{Has, filter-has, has-filter, map-has}
 use Rattle.turn_client_api.proofs.MoveLemmas.{Adds, IsOfBare, Never, Settles, adds-filter, adds-same, loses-filter, loses-map, loses-more, loses-same, on_test, settles-same, settles-then}
@@ -22,22 +22,22 @@ IsFor all g = (p : Purpose) × Has p all × ((is_for p g ≡ true) ⊎ GivesBack
 
 -- ---- what a request is for does not depend on the progress of that
 
-is_for-bare : (p : Purpose) (g : Grant) → is_for p (bare g) ≡ is_for p g
-is_for-bare ForAllocation (Allocation a) = refl
-is_for-bare ForAllocation g = refl
-is_for-bare (ForRefresh family lifetime) (Allocation a) = refl
-is_for-bare (ForRefresh family lifetime) g = refl
-is_for-bare (ForPermission ip) (Allocation a) = refl
-is_for-bare (ForPermission ip) g = refl
-is_for-bare (ForChannel number peer) (Allocation a) = refl
-is_for-bare (ForChannel number peer) g = refl
-is_for-bare (ForConnect peer) (Allocation a) = refl
-is_for-bare (ForConnect peer) g = refl
-is_for-bare (ForBind local peer id) (Allocation a) = refl
-is_for-bare (ForBind local peer id) g = refl
+is_for-grant_identity : (p : Purpose) (g : Grant) → is_for p (grant_identity g) ≡ is_for p g
+is_for-grant_identity ForAllocation (Allocation a) = refl
+is_for-grant_identity ForAllocation g = refl
+is_for-grant_identity (ForRefresh family lifetime) (Allocation a) = refl
+is_for-grant_identity (ForRefresh family lifetime) g = refl
+is_for-grant_identity (ForPermission ip) (Allocation a) = refl
+is_for-grant_identity (ForPermission ip) g = refl
+is_for-grant_identity (ForChannel number peer) (Allocation a) = refl
+is_for-grant_identity (ForChannel number peer) g = refl
+is_for-grant_identity (ForConnect peer) (Allocation a) = refl
+is_for-grant_identity (ForConnect peer) g = refl
+is_for-grant_identity (ForBind local peer id) (Allocation a) = refl
+is_for-grant_identity (ForBind local peer id) g = refl
 
-pub is_for-whole : (p : Purpose) (g is : Grant) → bare g ≡ bare is → is_for p is ≡ true → is_for p g ≡ true
-is_for-whole p g is same h = sym (is_for-bare p g) ∙ (ap (is_for p) same ∙ (is_for-bare p is ∙ h))
+pub is_for-whole : (p : Purpose) (g is : Grant) → grant_identity g ≡ grant_identity is → is_for p is ≡ true → is_for p g ≡ true
+is_for-whole p g is same h = sym (is_for-grant_identity p g) ∙ (ap (is_for p) same ∙ (is_for-grant_identity p is ∙ h))
 
 pub IsFor-whole : (all : List Purpose) → IsOfBare (IsFor all)
 IsFor-whole all g is same (p, there, inl h) = (p, there, inl (is_for-whole p g is same h))
@@ -62,36 +62,36 @@ purposes-stay id s t within p there = by (has-mapped (λ (l : Listing). l.purpos
 
 -- ---- of the purposes of a request
 
-lasting-bare : (expiry : ℕ) (g : Grant) → bare g ≡ bare (lasting expiry g)
-lasting-bare expiry (Permission ip (Active was)) = refl
-lasting-bare expiry (Permission ip Pending) = refl
-lasting-bare expiry (Permission ip (Reserved until)) = refl
-lasting-bare expiry (Channel number peer (Active was)) = refl
-lasting-bare expiry (Channel number peer Pending) = refl
-lasting-bare expiry (Channel number peer (Reserved until)) = refl
-lasting-bare expiry (Allocation a) = refl
-lasting-bare expiry (Connect peer) = refl
-lasting-bare expiry (Offer offer) = refl
-lasting-bare expiry (Connection c) = refl
+lasting-grant_identity : (expiry : ℕ) (g : Grant) → grant_identity g ≡ grant_identity (lasting expiry g)
+lasting-grant_identity expiry (Permission ip (Active was)) = refl
+lasting-grant_identity expiry (Permission ip Pending) = refl
+lasting-grant_identity expiry (Permission ip (Reserved until)) = refl
+lasting-grant_identity expiry (Channel number peer (Active was)) = refl
+lasting-grant_identity expiry (Channel number peer Pending) = refl
+lasting-grant_identity expiry (Channel number peer (Reserved until)) = refl
+lasting-grant_identity expiry (Allocation a) = refl
+lasting-grant_identity expiry (Connect peer) = refl
+lasting-grant_identity expiry (Offer offer) = refl
+lasting-grant_identity expiry (Connection c) = refl
 
-renewed-bare : (which : Grant → Bool) (expiry : ℕ) (g : Grant) → bare g ≡ bare (lasting_if which expiry g)
-renewed-bare which expiry g = by (which g)
+renewed-grant_identity : (which : Grant → Bool) (expiry : ℕ) (g : Grant) → grant_identity g ≡ grant_identity (lasting_if which expiry g)
+renewed-grant_identity which expiry g = by (which g)
   where
-    by : (b : Bool) → bare g ≡ bare (cond b (lasting expiry g) g)
-    by true = lasting-bare expiry g
+    by : (b : Bool) → grant_identity g ≡ grant_identity (cond b (lasting expiry g) g)
+    by true = lasting-grant_identity expiry g
     by false = refl
 
-prolonged-bare : (which : Relay → Bool) (lasts : ℕ) (g : Grant) → bare g ≡ bare (changed_allocation which (λ a. record a { expiry = lasts }) g)
-prolonged-bare which lasts (Allocation a) = by (which a)
+prolonged-grant_identity : (which : Relay → Bool) (lasts : ℕ) (g : Grant) → grant_identity g ≡ grant_identity (changed_allocation which (λ a. record a { expiry = lasts }) g)
+prolonged-grant_identity which lasts (Allocation a) = by (which a)
   where
-    by : (b : Bool) → bare (Allocation a) ≡ bare (cond b (Allocation (record a { expiry = lasts })) (Allocation a))
+    by : (b : Bool) → grant_identity (Allocation a) ≡ grant_identity (cond b (Allocation (record a { expiry = lasts })) (Allocation a))
     by true = refl
     by false = refl
-prolonged-bare which lasts (Permission ip progress) = refl
-prolonged-bare which lasts (Channel number peer progress) = refl
-prolonged-bare which lasts (Connect peer) = refl
-prolonged-bare which lasts (Offer offer) = refl
-prolonged-bare which lasts (Connection c) = refl
+prolonged-grant_identity which lasts (Permission ip progress) = refl
+prolonged-grant_identity which lasts (Channel number peer progress) = refl
+prolonged-grant_identity which lasts (Connect peer) = refl
+prolonged-grant_identity which lasts (Offer offer) = refl
+prolonged-grant_identity which lasts (Connection c) = refl
 
 module _ (all : List Purpose) where
   -- a signed reply may do this
@@ -115,7 +115,7 @@ module _ (all : List Purpose) where
 
   fits-unlisted : (which other : Grant → Bool) (expiry : ℕ) (s : State) → Fits s (renewed which expiry (unlisted other s))
   fits-unlisted which other expiry s =
-      (adds-same Never s.transactions, adds-filter Never _ s.listed, loses-map (IsFor all) (lasting_if which expiry) s.grants (renewed-bare which expiry))
+      (adds-same Never s.transactions, adds-filter Never _ s.listed, loses-map (IsFor all) (lasting_if which expiry) s.grants (renewed-grant_identity which expiry))
 
   of-one : (p : Purpose) → Has p all → (g : Grant) → is_for p g ≡ true → IsFor all g
   of-one p h g e = (p, h, inl e)
@@ -203,7 +203,7 @@ module _ (all : List Purpose) where
   prolonged-fits : (family : AddressFamily) (granted now : ℕ) (s : State) → Fits s (prolonged family granted now s)
   prolonged-fits family granted now s =
       on_test (Fits s) (leb least_lifetime granted) _ s
-      (adds-same Never s.transactions, adds-filter Never _ s.listed, loses-map (IsFor all) _ s.grants (prolonged-bare _ _))
+      (adds-same Never s.transactions, adds-filter Never _ s.listed, loses-map (IsFor all) _ s.grants (prolonged-grant_identity _ _))
       (fits-same s)
 
   refreshed-fits : (family : AddressFamily) (lifetime : ℕ) (is_granted : Bool) (message : List ℕ) (now : ℕ) (s : State) → Has (ForRefresh family lifetime) all → Fits s (refreshed family lifetime is_granted message now s)

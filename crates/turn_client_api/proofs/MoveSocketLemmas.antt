@@ -21,7 +21,7 @@ use Rattle.turn_client_api.specs.Calls.{active_channel, allocated_tcp_socket_ste
 use Rattle.turn_client_api.specs.declared.poll.Socket5Tuple.{Socket5Tuple}
 use Rattle.turn_client_api.specs.Steps.{Call, Delete, AllocatedTcpSocket, TcpClosed, SendTo, ProtocolError}
 use Rattle.turn_client_api.specs.LawsRequests.{IsMade}
-use Rattle.turn_client_api.specs.LawsGone.{IsTakenBy, bare}
+use Rattle.turn_client_api.specs.LawsGone.{IsTakenBy, grant_identity}
 use Rattle.turn_client_api.proofs.HasLemmas.{Has, has-right}
 use Rattle.turn_client_api.proofs.MoveLemmas.{Loses, Never, Remains, Settles, adds-filter, adds-more, adds-one, adds-same, by_test, loses-filter, loses-map, loses-more, loses-same, on_test, remains-here, settles-same}
 use Rattle.turn_client_api.proofs.MoveCallLemmas.{Does, ListedAt, MadeAt, does-same, does-settled}
@@ -140,13 +140,13 @@ module _ (id : ℕ) (tuple : Socket5Tuple) (peer : SocketAddr) (now : ℕ) (s : 
 
 -- ---- allocations are deleted
 
-all-bare : (now : ℕ) (g : Grant) → bare g ≡ bare (changed_allocation (λ a. true) (λ a. record a { expiry = now; is_expired = true }) g)
-all-bare now (Allocation a) = refl
-all-bare now (Permission ip progress) = refl
-all-bare now (Channel number peer progress) = refl
-all-bare now (Connect peer) = refl
-all-bare now (Offer offer) = refl
-all-bare now (Connection c) = refl
+all-grant_identity : (now : ℕ) (g : Grant) → grant_identity g ≡ grant_identity (changed_allocation (λ a. true) (λ a. record a { expiry = now; is_expired = true }) g)
+all-grant_identity now (Allocation a) = refl
+all-grant_identity now (Permission ip progress) = refl
+all-grant_identity now (Channel number peer progress) = refl
+all-grant_identity now (Connect peer) = refl
+all-grant_identity now (Offer offer) = refl
+all-grant_identity now (Connection c) = refl
 
 module _ (now : ℕ) (s : State) where
   left : List Grant
@@ -158,7 +158,7 @@ module _ (now : ℕ) (s : State) where
   expired-loses g h = by (loses-filter (IsTakenBy (Delete now) s) is_granted_in s.grants (λ g e. e) g h)
     where
       by : Remains g left ⊎ (is_granted_in g ≡ true) → Remains g (map (changed_allocation (λ a. true) (λ a. record a { expiry = now; is_expired = true })) left) ⊎ (is_granted_in g ≡ true)
-      by (inl (is, there, same)) = inl (further (loses-map Never (changed_allocation (λ a. true) (λ a. record a { expiry = now; is_expired = true })) left (all-bare now) is there))
+      by (inl (is, there, same)) = inl (further (loses-map Never (changed_allocation (λ a. true) (λ a. record a { expiry = now; is_expired = true })) left (all-grant_identity now) is there))
         where
           further : Remains is (map (changed_allocation (λ a. true) (λ a. record a { expiry = now; is_expired = true })) left) ⊎ ⊥ → Remains g (map (changed_allocation (λ a. true) (λ a. record a { expiry = now; is_expired = true })) left)
           further (inl (last, here, e)) = (last, here, same ∙ e)

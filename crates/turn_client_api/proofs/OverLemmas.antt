@@ -15,7 +15,7 @@ use Rattle.turn_client_api.specs.Due.{has_event, has_reply}
 use Rattle.turn_client_api.specs.Poll.{answer_by, answer_step, channel_lapsed, connections_unbound, given_up_purposes, given_up_step, goes, in_vain, is_given_offer, is_lapsed_channel, is_lapsed_permission, is_listed_for_allocation, is_over, is_unbound, lapsed, lapsed_allocation, lapsed_in, last_channel_lapsed, next_offer, offer_step, offers_in_vain, permissions_lapsed, poll_step, timed_step}
 use Rattle.turn_client_api.specs.Steps.{Leaves, Poll}
 use Rattle.turn_client_api.specs.LawsNumbers.{HasDistinctNumbers, number_of_channel}
-use Rattle.turn_client_api.specs.LawsGone.{IsGivenUp, IsOver, IsPastWith, IsSpent, IsStillThere, bare}
+use Rattle.turn_client_api.specs.LawsGone.{IsGivenUp, IsOver, IsPastWith, HasExpiredOrFailed, IsStillThere, grant_identity}
 use Rattle.turn_client_api.proofs.HasLemmas.{Has, filter-has, has-append, has-filter, has-filter_map, has-found, has-left, has-right}
 use Rattle.turn_client_api.proofs.InAllocationLemmas.{same_family-true}
 use Rattle.turn_client_api.proofs.LapseLemmas.{has-unreversed}
@@ -60,9 +60,9 @@ Ages g is =
     (is ≡ g)
     ⊎ ((n : ℕ) × (peer : SocketAddr) × (expiry : ℕ) × (g ≡ Channel n peer (Active expiry)) × (is ≡ Channel n peer (Reserved (later_by reserved_time expiry))))
 
-ages-bare : (g is : Grant) → Ages g is → bare g ≡ bare is
-ages-bare g is (inl e) = rw e refl
-ages-bare g is (inr (n, peer, expiry, e, f)) = rw (e, f) refl
+ages-grant_identity : (g is : Grant) → Ages g is → grant_identity g ≡ grant_identity is
+ages-grant_identity g is (inl e) = rw e refl
+ages-grant_identity g is (inr (n, peer, expiry, e, f)) = rw (e, f) refl
 
 ages-family : (g is : Grant) → Ages g is → family_of_grant is ≡ family_of_grant g
 ages-family g is (inl e) = rw e refl
@@ -84,7 +84,7 @@ channel-of n (Connection c) e = cc
 module _ (now : ℕ) (s : State) (apart : HasDistinctNumbers s) where
   -- it has expired
   abbrev Over : Grant → Type 0
-  Over g = IsSpent now s g ⊎ IsPastWith now s g
+  Over g = HasExpiredOrFailed now s g ⊎ IsPastWith now s g
 
   -- from the grants of the state these remain, and those that do not have expired
   record Traces (gs : List Grant) : Type 0 where
@@ -226,15 +226,15 @@ module _ (now : ℕ) (s : State) (apart : HasDistinctNumbers s) where
 
     -- a kind of grant that is pending, and that is removed when its request times out
     abbrev IsVain : (Grant → Bool) → Type 0
-    IsVain which = (is : Grant) → which is ≡ true → (IsGivenUp now s is → IsSpent now s is) × ((n : ℕ) (peer : SocketAddr) (until : ℕ) → is ≡ Channel n peer (Reserved until) → ⊥)
+    IsVain which = (is : Grant) → which is ≡ true → (IsGivenUp now s is → HasExpiredOrFailed now s is) × ((n : ℕ) (peer : SocketAddr) (until : ℕ) → is ≡ Channel n peer (Reserved until) → ⊥)
 
     vain-over : (family : AddressFamily) (which : Grant → Bool) → IsVain which → TakesOver (λ g. is_of family g && which g && is_for_any purposes g)
     vain-over family which vain g is ages e =
         let (first, for) = and_parts (is_of family is && which is) (is_for_any purposes is) e in
         by ages (vain is (and_parts (is_of family is) (which is) first).1) (asked-vain is for)
       where
-        by : Ages g is → (IsGivenUp now s is → IsSpent now s is) × ((n : ℕ) (peer : SocketAddr) (until : ℕ) → is ≡ Channel n peer (Reserved until) → ⊥) → IsGivenUp now s is → Over g
-        by (inl same) (spent, free) up = inl (subst (IsSpent now s) same (spent up))
+        by : Ages g is → (IsGivenUp now s is → HasExpiredOrFailed now s is) × ((n : ℕ) (peer : SocketAddr) (until : ℕ) → is ≡ Channel n peer (Reserved until) → ⊥) → IsGivenUp now s is → Over g
+        by (inl same) (spent, free) up = inl (subst (HasExpiredOrFailed now s) same (spent up))
         by (inr (n, peer, expiry, e, f)) (spent, free) up = absurd (free n peer (later_by reserved_time expiry) f)
 
     channel-vain : IsVain is_pending_channel
@@ -269,7 +269,7 @@ module _ (now : ℕ) (s : State) (apart : HasDistinctNumbers s) where
     unbound-over : (family : AddressFamily) → TakesOver (λ g. is_of family g && is_unbound purposes now g)
     unbound-over family g is ages passes = by is ages (and_parts (is_of family is) (is_unbound purposes now is) passes).1
       where
-        spent : (c : DataConnection) (o : Option ℕ) → c.deadline ≡ o → option_map_or (λ deadline. leb deadline now || is_for_any purposes (Connection c)) o false ≡ true → IsSpent now s (Connection c)
+        spent : (c : DataConnection) (o : Option ℕ) → c.deadline ≡ o → option_map_or (λ deadline. leb deadline now || is_for_any purposes (Connection c)) o false ≡ true → HasExpiredOrFailed now s (Connection c)
         spent c None f unbound = cc
         spent c (Some deadline) f unbound = (deadline, f, at (leb deadline now) refl unbound)
           where
@@ -278,7 +278,7 @@ module _ (now : ℕ) (s : State) (apart : HasDistinctNumbers s) where
             at false h unbound = inr (asked-vain (Connection c) unbound)
 
         by : (is : Grant) → Ages g is → is_unbound purposes now is ≡ true → Over g
-        by (Connection c) (inl same) unbound = inl (subst (IsSpent now s) same (spent c c.deadline refl unbound))
+        by (Connection c) (inl same) unbound = inl (subst (HasExpiredOrFailed now s) same (spent c c.deadline refl unbound))
         by (Connection c) (inr (n, peer, expiry, e, f)) unbound = cc
         by (Channel n peer progress) a unbound = cc
         by (Permission ip progress) a unbound = cc
@@ -290,7 +290,7 @@ module _ (now : ℕ) (s : State) (apart : HasDistinctNumbers s) where
     offer-over : (family : AddressFamily) → TakesOver (λ g. is_of family g && is_given_offer given g)
     offer-over family g is ages passes = by is ages (and_parts (is_of family is) (is_given_offer given is) passes).1
       where
-        up : (offer : DataOffer) (o : Option Transaction) → timed_out_transaction (agent_of s) now ≡ o → is_given_offer (option_map_or (λ (t : Transaction). Some t.id) o None) (Offer offer) ≡ true → IsSpent now s (Offer offer)
+        up : (offer : DataOffer) (o : Option Transaction) → timed_out_transaction (agent_of s) now ≡ o → is_given_offer (option_map_or (λ (t : Transaction). Some t.id) o None) (Offer offer) ≡ true → HasExpiredOrFailed now s (Offer offer)
         up offer (Some t) f of = (t, f, of)
         up offer None f of = cc
 
@@ -299,7 +299,7 @@ module _ (now : ℕ) (s : State) (apart : HasDistinctNumbers s) where
         no is None none of = cc
 
         by : (is : Grant) → Ages g is → is_given_offer given is ≡ true → Over g
-        by (Offer offer) (inl same) of = inl (subst (IsSpent now s) same (up offer x e of))
+        by (Offer offer) (inl same) of = inl (subst (HasExpiredOrFailed now s) same (up offer x e of))
         by (Offer offer) (inr (n, peer, expiry, e, f)) of = cc
         by (Channel n peer progress) a of = absurd (no (Channel n peer progress) x (λ id. refl) of)
         by (Permission ip progress) a of = absurd (no (Permission ip progress) x (λ id. refl) of)
@@ -368,7 +368,7 @@ module _ (now : ℕ) (s : State) (apart : HasDistinctNumbers s) where
   traces-spare gs phase t g there = by (t.left g there)
     where
       by : ((is : Grant) × Has is gs × Ages g is) ⊎ Over g → Remains g gs ⊎ IsOver now s g
-      by (inl (is, here, ages)) = inl (is, here, ages-bare g is ages)
+      by (inl (is, here, ages)) = inl (is, here, ages-grant_identity g is ages)
       by (inr over) = inr (phase, over)
 
   answer-grants : (given : Option ℕ) (t : State) → (answer_step given now t).1.grants ≡ t.grants

@@ -34,7 +34,7 @@ use Rattle.turn_client_api.specs.Connections.{attempt_requested, bind_step}
 use Rattle.turn_client_api.specs.Payloads.{Handled, Ignored, PeerData, PeerIcmp, outcome_for, signed_step, challenge_step, answered_purposes}
 use Rattle.turn_client_api.specs.Payloads.{Outcome, data_indicated, data_of, channel_sent, message_step, datagram_step, is_message, is_channel_frame}
 use Rattle.turn_client_api.specs.Streams.{frame_step, control_frame_step, waiting_frame_step}
-use Rattle.turn_client_api.specs.LawsPeers.{IsIndicated, IsLetThrough, IsLetIn, IsNobodys}
+use Rattle.turn_client_api.specs.LawsPeers.{IsIndicated, IsMessageFromPermitted, IsFromPermitted, HasNoPeer}
 use Rattle.turn_client_api.proofs.AddressLemmas.{same_ip-true}
 
 pub Contains-here : {X : Type 0} (x : X) (xs : List X) → Contains (x ∷ xs) x
@@ -91,28 +91,28 @@ channel-in number peer (Connection c ∷ gs) h = later-channel number peer (Conn
 
 -- ---- replies and challenges return no data of a peer
 
-nobodys : (bytes : List ℕ) (s : State) (outcome : Outcome) → IsNobodys outcome → IsLetThrough bytes s outcome
+nobodys : (bytes : List ℕ) (s : State) (outcome : Outcome) → HasNoPeer outcome → IsMessageFromPermitted bytes s outcome
 nobodys bytes s Handled is = tt
 nobodys bytes s Ignored is = tt
 nobodys bytes s (PeerData payload) is = absurd is
 nobodys bytes s (PeerIcmp transport peer icmp) is = absurd is
 
-handled-if : (b : Bool) (t u : State) → IsNobodys (cond {A = Outcome × State} b (Handled, t) (Ignored, u)).0
+handled-if : (b : Bool) (t u : State) → HasNoPeer (cond {A = Outcome × State} b (Handled, t) (Ignored, u)).0
 handled-if true t u = tt
 handled-if false t u = tt
 
-outcome_for-nobodys : (message : List ℕ) (purposes : List Purpose) → IsNobodys (outcome_for message purposes)
+outcome_for-nobodys : (message : List ℕ) (purposes : List Purpose) → HasNoPeer (outcome_for message purposes)
 outcome_for-nobodys message (purpose ∷ others) = tt
 outcome_for-nobodys message [] = by (eqb (method_in message) refresh_method)
   where
-    by : (b : Bool) → IsNobodys (cond b Handled Ignored)
+    by : (b : Bool) → HasNoPeer (cond b Handled Ignored)
     by true = tt
     by false = tt
 
-signed_step-nobodys : (is_granted : Bool) (message : List ℕ) (now : ℕ) (s : State) → IsNobodys (signed_step is_granted message now s).0
+signed_step-nobodys : (is_granted : Bool) (message : List ℕ) (now : ℕ) (s : State) → HasNoPeer (signed_step is_granted message now s).0
 signed_step-nobodys is_granted message now s = by s.phase refl is_granted
   where
-    by : (p : Phase) → s.phase ≡ p → (g : Bool) → IsNobodys (signed_step g message now s).0
+    by : (p : Phase) → s.phase ≡ p → (g : Bool) → HasNoPeer (signed_step g message now s).0
     by Authenticating e true = rw e tt
     by Authenticating e false = rw e tt
     by New e g = rw e (outcome_for-nobodys message (answered_purposes message s))
@@ -120,15 +120,15 @@ signed_step-nobodys is_granted message now s = by s.phase refl is_granted
     by Allocated e g = rw e (outcome_for-nobodys message (answered_purposes message s))
     by Closed e g = rw e (outcome_for-nobodys message (answered_purposes message s))
 
-challenge_step-nobodys : (message : List ℕ) (challenge : Challenge) (now : ℕ) (s : State) → IsNobodys (challenge_step message challenge now s).0
+challenge_step-nobodys : (message : List ℕ) (challenge : Challenge) (now : ℕ) (s : State) → HasNoPeer (challenge_step message challenge now s).0
 challenge_step-nobodys message challenge now s = by (ltb s.challenges most_challenges) refl (retried (purposes_of (id_of message) s)) refl
   where
-    by : (b : Bool) → ltb s.challenges most_challenges ≡ b → (o : Option Purpose) → retried (purposes_of (id_of message) s) ≡ o → IsNobodys (challenge_step message challenge now s).0
+    by : (b : Bool) → ltb s.challenges most_challenges ≡ b → (o : Option Purpose) → retried (purposes_of (id_of message) s) ≡ o → HasNoPeer (challenge_step message challenge now s).0
     by false e o f = rw e tt
     by true e None f = rw (e, f) tt
     by true e (Some purpose) f = rw (e, f) tt
 
-attempt-nobodys : (o : Option State) (s : State) → IsNobodys (option_map_or {T = State} {U = Outcome × State} (λ t. (Handled, t)) o (Ignored, s)).0
+attempt-nobodys : (o : Option State) (s : State) → HasNoPeer (option_map_or {T = State} {U = Outcome × State} (λ t. (Handled, t)) o (Ignored, s)).0
 attempt-nobodys None s = tt
 attempt-nobodys (Some t) s = tt
 
@@ -195,74 +195,74 @@ DataIndication-indication s message = by s.phase refl
     by Allocated e = rw e (λ h. (refl, allocated-indication s message h))
     by Closed e = rw e (λ h. cc)
 
-indicated-IsLetThrough : (message : List ℕ) (s : State) → s.phase ≡ Allocated → is_data_indication message ≡ true → IsLetThrough message s (data_indicated s message)
-indicated-IsLetThrough message s phase is =
+indicated-IsMessageFromPermitted : (message : List ℕ) (s : State) → s.phase ≡ Allocated → is_data_indication message ≡ true → IsMessageFromPermitted message s (data_indicated s message)
+indicated-IsMessageFromPermitted message s phase is =
     by (has_unknown message) refl (last_peer_in message) refl (last_in data_kind message) refl (last_icmp_in message) refl
   where
-    by_permission : (peer : SocketAddr) → has_unknown message ≡ false → last_peer_in message ≡ Some peer → (o : Outcome) → (IsIndicated message peer s → IsLetThrough message s o) → (b : Bool) → is_permitted (socket_ip peer) s ≡ b → IsLetThrough message s (cond b o Ignored)
+    by_permission : (peer : SocketAddr) → has_unknown message ≡ false → last_peer_in message ≡ Some peer → (o : Outcome) → (IsIndicated message peer s → IsMessageFromPermitted message s o) → (b : Bool) → is_permitted (socket_ip peer) s ≡ b → IsMessageFromPermitted message s (cond b o Ignored)
     by_permission peer known named o then false e = tt
     by_permission peer known named o then true e =
         then (record { phase = phase; indication = is; known = known; named = named; permitted = permitted-in (socket_ip peer) s.grants e })
 
-    by : (b : Bool) → has_unknown message ≡ b → (p : Option SocketAddr) → last_peer_in message ≡ p → (a : Option Attribute) → last_in data_kind message ≡ a → (i : Option Icmp) → last_icmp_in message ≡ i → IsLetThrough message s (data_indicated s message)
+    by : (b : Bool) → has_unknown message ≡ b → (p : Option SocketAddr) → last_peer_in message ≡ p → (a : Option Attribute) → last_in data_kind message ≡ a → (i : Option Icmp) → last_icmp_in message ≡ i → IsMessageFromPermitted message s (data_indicated s message)
     by true e p f a g i h = rw e tt
     by false e None f a g i h = rw (e, f) tt
     by false e (Some peer) f None g None h = rw (e, f, g, h) tt
     by false e (Some peer) f None g (Some icmp) h = rw (e, f, g, h) (by_permission peer e f (PeerIcmp s.config.allocation_transport peer icmp) (λ is. (is, (g, h, refl))) (is_permitted (socket_ip peer) s) refl)
     by false e (Some peer) f (Some a) g i h = rw (e, f, g) (by_permission peer e f (data_of s peer a.offset a.value) (λ is. inl (is, (a, g, refl))) (is_permitted (socket_ip peer) s) refl)
 
-message-IsLetThrough : (message : List ℕ) (now : ℕ) (s : State) → IsLetThrough message s (message_step message now s).0
-message-IsLetThrough message now s = by (judgement_of s message) refl
+message-IsMessageFromPermitted : (message : List ℕ) (now : ℕ) (s : State) → IsMessageFromPermitted message s (message_step message now s).0
+message-IsMessageFromPermitted message now s = by (judgement_of s message) refl
   where
-    by : (j : Judgement) → judgement_of s message ≡ j → IsLetThrough message s (message_step message now s).0
+    by : (j : Judgement) → judgement_of s message ≡ j → IsMessageFromPermitted message s (message_step message now s).0
     by Unrelated e = rw e tt
     by (Challenged challenge) e = rw e (nobodys message s _ (challenge_step-nobodys message challenge now s))
     by Fatal e = rw e tt
     by LateResponse e = rw e tt
-    by DataIndication e = let (phase, is) = DataIndication-indication s message e in rw e (indicated-IsLetThrough message s phase is)
+    by DataIndication e = let (phase, is) = DataIndication-indication s message e in rw e (indicated-IsMessageFromPermitted message s phase is)
     by ConnectionAttempt e = rw e (nobodys message s _ (attempt-nobodys (attempt_indicated message s) s))
     by SignedRequest e = rw e (nobodys message s _ (handled-if (eqb (method_in message) connection_attempt_method) (attempt_requested message s) s))
     by SignedSuccess e = rw e (nobodys message s _ (signed_step-nobodys true message now s))
     by SignedError e = rw e (nobodys message s _ (signed_step-nobodys false message now s))
 
-channel_sent-IsLetThrough : (frame : List ℕ) (s : State) → IsLetThrough frame s (channel_sent s frame)
-channel_sent-IsLetThrough frame s = by (first_in (channel_peer (channel_data_at frame).id) s) refl
+channel_sent-IsMessageFromPermitted : (frame : List ℕ) (s : State) → IsMessageFromPermitted frame s (channel_sent s frame)
+channel_sent-IsMessageFromPermitted frame s = by (first_in (channel_peer (channel_data_at frame).id) s) refl
   where
-    by : (o : Option SocketAddr) → first_in (channel_peer (channel_data_at frame).id) s ≡ o → IsLetThrough frame s (channel_sent s frame)
+    by : (o : Option SocketAddr) → first_in (channel_peer (channel_data_at frame).id) s ≡ o → IsMessageFromPermitted frame s (channel_sent s frame)
     by None e = rw e tt
     by (Some peer) e = rw e (inr (channel-in (channel_data_at frame).id peer s.grants e, refl))
 
-pub datagram-IsLetThrough : (bytes : List ℕ) (now : ℕ) (s : State) → IsLetThrough bytes s (datagram_step bytes now s).0
-datagram-IsLetThrough bytes now s = by (is_message bytes) (is_channel_frame bytes)
+pub datagram-IsMessageFromPermitted : (bytes : List ℕ) (now : ℕ) (s : State) → IsMessageFromPermitted bytes s (datagram_step bytes now s).0
+datagram-IsMessageFromPermitted bytes now s = by (is_message bytes) (is_channel_frame bytes)
   where
-    by : (b c : Bool) → IsLetThrough bytes s (cond {A = Outcome × State} b (message_step bytes now s) (cond c (channel_sent s bytes, s) (Ignored, s))).0
-    by true c = message-IsLetThrough bytes now s
-    by false true = channel_sent-IsLetThrough bytes s
+    by : (b c : Bool) → IsMessageFromPermitted bytes s (cond {A = Outcome × State} b (message_step bytes now s) (cond c (channel_sent s bytes, s) (Ignored, s))).0
+    by true c = message-IsMessageFromPermitted bytes now s
+    by false true = channel_sent-IsMessageFromPermitted bytes s
     by false false = tt
 
 -- ---- frames
 
-control-IsLetThrough : (frame : List ℕ) (now : ℕ) (s : State) → IsLetThrough frame s (control_frame_step frame now s).0
-control-IsLetThrough frame now s = by (begins_message frame) (is_message frame)
+control-IsMessageFromPermitted : (frame : List ℕ) (now : ℕ) (s : State) → IsMessageFromPermitted frame s (control_frame_step frame now s).0
+control-IsMessageFromPermitted frame now s = by (begins_message frame) (is_message frame)
   where
-    by : (b c : Bool) → IsLetThrough frame s (cond {A = Outcome × State} (not b) (channel_sent s frame, s) (cond c (message_step frame now s) (Handled, s))).0
-    by false c = channel_sent-IsLetThrough frame s
-    by true true = message-IsLetThrough frame now s
+    by : (b c : Bool) → IsMessageFromPermitted frame s (cond {A = Outcome × State} (not b) (channel_sent s frame, s) (cond c (message_step frame now s) (Handled, s))).0
+    by false c = channel_sent-IsMessageFromPermitted frame s
+    by true true = message-IsMessageFromPermitted frame now s
     by true false = tt
 
-waiting-nobodys : (local : SocketAddr) (frame : List ℕ) (now : ℕ) (s : State) → IsNobodys (waiting_frame_step local frame now s).0
+waiting-nobodys : (local : SocketAddr) (frame : List ℕ) (now : ℕ) (s : State) → HasNoPeer (waiting_frame_step local frame now s).0
 waiting-nobodys local frame now s = by (begins_message frame) (is_message frame)
   where
-    by : (b c : Bool) → IsNobodys (cond {A = Outcome × State} (not b) (Ignored, s) (cond c (Handled, bind_step local frame now s) (Handled, s))).0
+    by : (b c : Bool) → HasNoPeer (cond {A = Outcome × State} (not b) (Ignored, s) (cond c (Handled, bind_step local frame now s) (Handled, s))).0
     by false c = tt
     by true true = tt
     by true false = tt
 
-pub frame-IsLetIn : (stream : Stream) (frame : List ℕ) (now : ℕ) (s : State) → IsLetIn stream.mode frame s (frame_step stream frame now s).0
-frame-IsLetIn stream frame now s = by stream.mode refl
+pub frame-IsFromPermitted : (stream : Stream) (frame : List ℕ) (now : ℕ) (s : State) → IsFromPermitted stream.mode frame s (frame_step stream frame now s).0
+frame-IsFromPermitted stream frame now s = by stream.mode refl
   where
-    by : (m : Mode) → stream.mode ≡ m → IsLetIn stream.mode frame s (frame_step stream frame now s).0
-    by Control e = rw e (control-IsLetThrough frame now s)
+    by : (m : Mode) → stream.mode ≡ m → IsFromPermitted stream.mode frame s (frame_step stream frame now s).0
+    by Control e = rw e (control-IsMessageFromPermitted frame now s)
     by Waiting e = rw e (waiting-nobodys stream.local frame now s)
     by (Bound peer) e = rw e refl
     by Broken e = rw e tt

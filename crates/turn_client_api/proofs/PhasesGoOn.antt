@@ -21,7 +21,7 @@ use Rattle.turn_client_api.specs.Payloads.{challenge_step, message_step}
 use Rattle.turn_client_api.specs.Poll.{poll_step, timed_step}
 use Rattle.turn_client_api.specs.Retry.{most_challenges, phase_after, retried}
 use Rattle.turn_client_api.specs.Steps.{Call, Leaves, state_after}
-use Rattle.turn_client_api.specs.LawsSteps.{GoesOn, IsCounted, KeepsRealm, StaysClosed, StaysPatient, rank}
+use Rattle.turn_client_api.specs.LawsSteps.{GoesOn, IsCounted, KeepsRealm, StaysClosed, KeepsChallengeLimit, rank}
 use Rattle.turn_client_api.specs.declared.event.TurnEvent.{TurnEvent}
 use Rattle.turn_client_api.specs.declared.poll.TurnPollRet.TheVariants as Do
 use Rattle.turn_client_api.proofs.Edits.{KeepsAllEdits, KeepsEdits}
@@ -29,7 +29,7 @@ use Rattle.turn_client_api.proofs.EditsOfMessages.{edits-IsKept}
 use Rattle.turn_client_api.proofs.EditsOfCalls.{calls-walk, leaves-walk}
 
 abbrev pub Keeps : State → State → Type 0
-Keeps s t = StaysClosed s t × StaysPatient s t × KeepsRealm s t × GoesOn s t
+Keeps s t = StaysClosed s t × KeepsChallengeLimit s t × KeepsRealm s t × GoesOn s t
 
 pub rank-le : (p : Phase) → rank p ≤ 4
 rank-le New = omega arith

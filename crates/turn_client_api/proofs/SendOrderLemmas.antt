@@ -14,10 +14,10 @@ use Rattle.turn_client_api.specs.Effect.{new_allocation, phase_with, relayed_in,
 use Rattle.turn_client_api.specs.Retry.{phase_after}
 use Rattle.turn_client_api.specs.Calls.{is_offer_of, without_first}
 use Rattle.turn_client_api.specs.Due.{has_queued_request}
-use Rattle.turn_client_api.specs.Alarm.{IsOrderly}
+use Rattle.turn_client_api.specs.Alarm.{FitsPhaseForPoll}
 use Rattle.turn_client_api.specs.Steps.{Call, Leaves}
 use Rattle.turn_client_api.specs.LawsSteps.{GoesOn, rank}
-use Rattle.turn_client_api.specs.LawsOrder.{IsSteady, IsUngranted}
+use Rattle.turn_client_api.specs.LawsOrder.{FitsPhase, IsUngranted}
 use Rattle.turn_client_api.proofs.HasLemmas.{Has}
 use Rattle.turn_client_api.proofs.InAllocationLemmas.{any-has, has-any}
 use Rattle.turn_client_api.proofs.Edits.{KeepsAllEdits, KeepsEdits, aged-outlines, outline}
@@ -26,10 +26,10 @@ use Rattle.turn_client_api.proofs.PhasesGoOn.{Keeps, Keeps-KeepsAllEdits, Keeps-
 
 -- what is kept, by a client that goes on
 abbrev Steadies : State → State → Type 0
-Steadies s t = (IsSteady s → IsSteady t) × Keeps s t
+Steadies s t = (FitsPhase s → FitsPhase t) × Keeps s t
 
 -- once something was sent, all holds after an allocation
-well : (p : Phase) (s : State) → 3 ≤ rank p → IsSome s.last_send → IsSteady (record s { phase = p })
+well : (p : Phase) (s : State) → 3 ≤ rank p → IsSome s.last_send → FitsPhase (record s { phase = p })
 well New s far sent = absurd (omega arith)
 well Requesting s far sent = absurd (omega arith)
 well Authenticating s far sent = absurd (omega arith)
@@ -56,7 +56,7 @@ rank-granted Closed far ungranted = ungranted
 stays-granted : (s t : State) → GoesOn s t → (IsUngranted s.phase → ⊥) → IsUngranted t.phase → ⊥
 stays-granted s t on granted = rank-granted t.phase (omega (arith, granted-rank s.phase granted, on.0))
 
-counts-steady : (p : Phase) (challenges : ℕ) (s : State) → IsSteady (record s { phase = p }) → IsSteady (record s { phase = phase_after p; challenges = challenges })
+counts-steady : (p : Phase) (challenges : ℕ) (s : State) → FitsPhase (record s { phase = p }) → FitsPhase (record s { phase = phase_after p; challenges = challenges })
 counts-steady New challenges s h = h
 counts-steady Requesting challenges s h = (λ e. cc, λ b. h.1 tt, h.2, λ u. h.3 tt)
 counts-steady Authenticating challenges s h = h
@@ -126,19 +126,19 @@ Steadies-KeepsAllEdits = record {
 
 -- ---- all of them
 
-pub initial-steady : (transport : TransportType) (local remote : SocketAddr) (config : Config) (seed : List ℕ) → IsSteady (initial transport local remote config seed)
+pub initial-steady : (transport : TransportType) (local remote : SocketAddr) (config : Config) (seed : List ℕ) → FitsPhase (initial transport local remote config seed)
 initial-steady transport local remote config seed = (λ e. (refl, refl, refl), λ b. absurd b, λ q. cc, λ u. refl)
 
 -- even if memory allocation fails
-pub leaves-steadies : (call : Call) (s t : State) → Leaves call s t → IsSteady s → IsSteady t
+pub leaves-steadies : (call : Call) (s t : State) → Leaves call s t → FitsPhase s → FitsPhase t
 leaves-steadies call s t leaves = (leaves-walk Steadies Steadies-KeepsAllEdits (λ s streams. (λ h. h, keeps-same s)) call s t leaves).0
 
-orderly_in : (p : Phase) (s : State) → IsSteady (record s { phase = p }) → IsOrderly (record s { phase = p })
+orderly_in : (p : Phase) (s : State) → FitsPhase (record s { phase = p }) → FitsPhaseForPoll (record s { phase = p })
 orderly_in New s steady = record { nothing_sent = λ e. (steady.0 e).0; sent_before = λ n q. steady.2 q; no_grants = λ b. absurd b }
 orderly_in Requesting s steady = record { nothing_sent = λ e. cc; sent_before = λ n q. steady.2 q; no_grants = λ b. steady.3 tt }
 orderly_in Authenticating s steady = record { nothing_sent = λ e. cc; sent_before = λ n q. steady.2 q; no_grants = λ b. steady.3 tt }
 orderly_in Allocated s steady = record { nothing_sent = λ e. cc; sent_before = λ n q. steady.2 q; no_grants = λ b. absurd b }
 orderly_in Closed s steady = record { nothing_sent = λ e. cc; sent_before = λ n q. steady.2 q; no_grants = λ b. absurd b }
 
-pub steady-IsOrderly : (s : State) → IsSteady s → IsOrderly s
-steady-IsOrderly s = orderly_in s.phase s
+pub steady-FitsPhaseForPoll : (s : State) → FitsPhase s → FitsPhaseForPoll s
+steady-FitsPhaseForPoll s = orderly_in s.phase s

@@ -4,7 +4,7 @@ use Rattle.std.specs.List.{Contains}
 use Rattle.std.specs.declared.net.ip_addr.IpAddr.{IpAddr}
 use Rattle.std.specs.declared.net.socket_addr.SocketAddr.{SocketAddr}
 use Rattle.turn_client_api.specs.State.{State, Grant, Allocation, Permission, Channel, Connect, Offer, Connection, DataConnection, Relay, Pending, Active, Reserved}
-use Rattle.turn_client_api.specs.LawsGranted.{IsStanding, IsKeptAs, Stood}
+use Rattle.turn_client_api.specs.LawsGranted.{IsActiveGrant, IsSameGrant, WasActive}
 use Rattle.turn_client_api.proofs.HasLemmas.{Has, has-append, has-filter}
 use Rattle.turn_client_api.proofs.PeerLemmas.{Contains-here, Contains-later}
 
@@ -23,7 +23,7 @@ contains-has x (y ∷ xs) (suc k, within, is) = inr (contains-has x xs (k, omega
 -- ---- one grant
 
 -- a grant that is active is kept as itself
-pub kept-same : (g : Grant) → IsStanding g → IsKeptAs g g
+pub kept-same : (g : Grant) → IsActiveGrant g → IsSameGrant g g
 kept-same (Allocation a) h = (refl, refl)
 kept-same (Permission ip (Active expiry)) h = (refl, refl)
 kept-same (Permission ip Pending) h = absurd h
@@ -36,7 +36,7 @@ kept-same (Offer offer) h = absurd h
 kept-same (Connection c) h = (refl, h)
 
 -- what is kept was active
-pub kept-stood : (g h : Grant) → IsKeptAs g h → IsStanding g
+pub kept-stood : (g h : Grant) → IsSameGrant g h → IsActiveGrant g
 kept-stood (Allocation a) h k = tt
 kept-stood (Permission ip (Active expiry)) h k = tt
 kept-stood (Permission ip Pending) h k = absurd k
@@ -53,7 +53,7 @@ kept-stood (Connection c) (Channel number peer progress) k = absurd k
 kept-stood (Connection c) (Connect peer) k = absurd k
 kept-stood (Connection c) (Offer offer) k = absurd k
 
-allocation-kept : (a b : Relay) (i : Grant) → IsKeptAs (Allocation a) (Allocation b) → IsKeptAs (Allocation b) i → IsKeptAs (Allocation a) i
+allocation-kept : (a b : Relay) (i : Grant) → IsSameGrant (Allocation a) (Allocation b) → IsSameGrant (Allocation b) i → IsSameGrant (Allocation a) i
 allocation-kept a b (Allocation c) (e, d) (f, l) = (e ∙ f, d ∙ l)
 allocation-kept a b (Permission ip progress) k l = absurd l
 allocation-kept a b (Channel number peer progress) k l = absurd l
@@ -61,7 +61,7 @@ allocation-kept a b (Connect peer) k l = absurd l
 allocation-kept a b (Offer offer) k l = absurd l
 allocation-kept a b (Connection c) k l = absurd l
 
-permission-kept : (a b : IpAddr) (m n : ℕ) (i : Grant) → (a ≡ b) × (m ≡ n) → IsKeptAs (Permission b (Active n)) i → IsKeptAs (Permission a (Active m)) i
+permission-kept : (a b : IpAddr) (m n : ℕ) (i : Grant) → (a ≡ b) × (m ≡ n) → IsSameGrant (Permission b (Active n)) i → IsSameGrant (Permission a (Active m)) i
 permission-kept a b m n (Permission ip (Active expiry)) (e, d) (f, l) = (e ∙ f, d ∙ l)
 permission-kept a b m n (Permission ip Pending) k l = absurd l
 permission-kept a b m n (Permission ip (Reserved until)) k l = absurd l
@@ -71,7 +71,7 @@ permission-kept a b m n (Connect peer) k l = absurd l
 permission-kept a b m n (Offer offer) k l = absurd l
 permission-kept a b m n (Connection c) k l = absurd l
 
-channel-kept : (a b : ℕ) (p q : SocketAddr) (m n : ℕ) (i : Grant) → (a ≡ b) × (p ≡ q) × (m ≡ n) → IsKeptAs (Channel b q (Active n)) i → IsKeptAs (Channel a p (Active m)) i
+channel-kept : (a b : ℕ) (p q : SocketAddr) (m n : ℕ) (i : Grant) → (a ≡ b) × (p ≡ q) × (m ≡ n) → IsSameGrant (Channel b q (Active n)) i → IsSameGrant (Channel a p (Active m)) i
 channel-kept a b p q m n (Channel number peer (Active expiry)) (e, f, d) (g, h, l) = (e ∙ g, f ∙ h, d ∙ l)
 channel-kept a b p q m n (Channel number peer Pending) k l = absurd l
 channel-kept a b p q m n (Channel number peer (Reserved until)) k l = absurd l
@@ -81,7 +81,7 @@ channel-kept a b p q m n (Connect peer) k l = absurd l
 channel-kept a b p q m n (Offer offer) k l = absurd l
 channel-kept a b p q m n (Connection c) k l = absurd l
 
-connection-kept : (c d : DataConnection) (i : Grant) → IsKeptAs (Connection c) (Connection d) → IsKeptAs (Connection d) i → IsKeptAs (Connection c) i
+connection-kept : (c d : DataConnection) (i : Grant) → IsSameGrant (Connection c) (Connection d) → IsSameGrant (Connection d) i → IsSameGrant (Connection c) i
 connection-kept c d (Connection f) (e, none) (g, later) = (e ∙ g, none)
 connection-kept c d (Allocation a) k l = absurd l
 connection-kept c d (Permission ip progress) k l = absurd l
@@ -89,7 +89,7 @@ connection-kept c d (Channel number peer progress) k l = absurd l
 connection-kept c d (Connect peer) k l = absurd l
 connection-kept c d (Offer offer) k l = absurd l
 
-pub kept-trans : (g h i : Grant) → IsKeptAs g h → IsKeptAs h i → IsKeptAs g i
+pub kept-trans : (g h i : Grant) → IsSameGrant g h → IsSameGrant h i → IsSameGrant g i
 kept-trans (Allocation a) (Allocation b) i k l = allocation-kept a b i k l
 kept-trans (Allocation a) (Permission ip progress) i k l = absurd k
 kept-trans (Allocation a) (Channel number peer progress) i k l = absurd k
@@ -129,17 +129,17 @@ kept-trans (Connection c) (Offer offer) i k l = absurd k
 
 -- a grant of the list is kept as this one
 abbrev pub Covers : List Grant → Grant → Type 0
-Covers grants g = (is : Grant) × Has is grants × IsKeptAs is g
+Covers grants g = (is : Grant) × Has is grants × IsSameGrant is g
 
-pub covers-stood : (s : State) (g : Grant) → Covers s.grants g → Stood s g
+pub covers-stood : (s : State) (g : Grant) → Covers s.grants g → WasActive s g
 covers-stood s g (is, there, kept) = (is, has-contains is s.grants there, kept)
 
-pub covers-has : (grants : List Grant) (g : Grant) → Has g grants → IsStanding g → Covers grants g
+pub covers-has : (grants : List Grant) (g : Grant) → Has g grants → IsActiveGrant g → Covers grants g
 covers-has grants g there stands = (g, there, kept-same g stands)
 
 -- All that is active in the second list was so in the first, with no earlier expiry there.
 abbrev pub Left : List Grant → List Grant → Type 0
-Left grants later = (g : Grant) → Has g later → IsStanding g → Covers grants g
+Left grants later = (g : Grant) → Has g later → IsActiveGrant g → Covers grants g
 
 pub covers-left : (grants later : List Grant) (g : Grant) → Left grants later → Covers later g → Covers grants g
 covers-left grants later g left (is, there, kept) = by (left is there (kept-stood is g kept))
@@ -158,7 +158,7 @@ left-filter p grants g there stands = covers-has grants g (has-filter p g grants
 
 -- none of these is active
 abbrev pub IsIdle : List Grant → Type 0
-IsIdle grants = (g : Grant) → Has g grants → IsStanding g → ⊥
+IsIdle grants = (g : Grant) → Has g grants → IsActiveGrant g → ⊥
 
 pub left-append : (grants more : List Grant) → IsIdle more → Left grants (grants ++ more)
 left-append grants more idle g there stands = by (has-append g grants more there)
@@ -168,7 +168,7 @@ left-append grants more idle g there stands = by (has-append g grants more there
     by (inr behind) = absurd (idle g behind stands)
 
 -- one more that is not active
-pub left-one : (grants : List Grant) (one : Grant) → (IsStanding one → ⊥) → Left grants (grants ++ one ∷ [])
+pub left-one : (grants : List Grant) (one : Grant) → (IsActiveGrant one → ⊥) → Left grants (grants ++ one ∷ [])
 left-one grants one idle = left-append grants (one ∷ []) by
   where
     by : IsIdle (one ∷ [])
@@ -179,7 +179,7 @@ covers-later : (g h : Grant) (grants : List Grant) → Covers grants g → Cover
 covers-later g h grants (is, there, kept) = (is, inr there, kept)
 
 -- each is changed in a way that makes nothing active, nor extends it
-pub left-map : (f : Grant → Grant) → ((g : Grant) → IsStanding (f g) → IsKeptAs g (f g)) → (grants : List Grant) → Left grants (map f grants)
+pub left-map : (f : Grant → Grant) → ((g : Grant) → IsActiveGrant (f g) → IsSameGrant g (f g)) → (grants : List Grant) → Left grants (map f grants)
 left-map f keeps [] g there stands = absurd there
 left-map f keeps (x ∷ grants) g (inl e) stands = (x, inl refl, rw e (keeps x (rw (sym e) stands)))
 left-map f keeps (x ∷ grants) g (inr there) stands = covers-later g x grants (left-map f keeps grants g there stands)
@@ -189,7 +189,7 @@ pub left-skip : (x : Grant) (grants later : List Grant) → Left grants later �
 left-skip x grants later left g there stands = covers-later g x grants (left g there stands)
 
 -- the first grant is changed so too
-pub left-cons : (x y : Grant) (grants later : List Grant) → (IsStanding y → IsKeptAs x y) → Left grants later → Left (x ∷ grants) (y ∷ later)
+pub left-cons : (x y : Grant) (grants later : List Grant) → (IsActiveGrant y → IsSameGrant x y) → Left grants later → Left (x ∷ grants) (y ∷ later)
 left-cons x y grants later keeps left g (inl e) stands = (x, inl refl, rw e (keeps (rw (sym e) stands)))
 left-cons x y grants later keeps left g (inr there) stands = left-skip x grants later left g there stands
 

@@ -14,8 +14,8 @@ use Rattle.turn_client_api.specs.State.{State, Mode, Control, Waiting, Bound, Br
 use Rattle.turn_client_api.specs.Payloads.{Payload, Outcome, Handled, Ignored, PeerData, PeerIcmp}
 use Rattle.turn_client_api.specs.Streams.{broken_at, frame_step, framed_by, framed_stream_step, go_on, is_ready, most_turns, poll_recv_step, ready_len, next_frame_step, first_ready_step, steps_until_payload, with_bytes}
 use Rattle.turn_client_api.specs.Receive.{first_frame_step, piece_step, then_all}
-use Rattle.turn_client_api.specs.LawsPeers.{IsNobodys}
-use Rattle.turn_client_api.specs.LawsStreams.{HasNoFrame, IsDrained}
+use Rattle.turn_client_api.specs.LawsPeers.{HasNoPeer}
+use Rattle.turn_client_api.specs.LawsStreams.{HasNoFrame, NeedsMoreBytes}
 use Rattle.turn_client_api.proofs.StreamMessageLemmas.{Rebound, frame-rebound}
 use Rattle.turn_client_api.proofs.StreamWeightLemmas.{KeepsHeld, Sets, kept-Sets, later-Sets, weight, weight-le, weight-less}
 
@@ -244,7 +244,7 @@ framed-HasNoFrame bytes e = ((framed-none bytes e).0, by)
         let clash : None ≡ Some (length frame) = sym (framed-none bytes e).1 ∙ found in
         cc
 
-drained-in : (mode : Mode) (stream : Stream) → ready_len (record stream { mode = mode }) ≡ None → IsDrained (record stream { mode = mode })
+drained-in : (mode : Mode) (stream : Stream) → ready_len (record stream { mode = mode }) ≡ None → NeedsMoreBytes (record stream { mode = mode })
 unfolding framed
 drained-in Control stream e = framed-HasNoFrame stream.bytes e
 drained-in Waiting stream e = framed-HasNoFrame stream.bytes e
@@ -255,39 +255,39 @@ drained-in (Bound peer) stream e = by stream.bytes e
     by [] f = refl
     by (b ∷ bytes) f = cc
 
-all-drained : (xs : List Stream) → find is_ready xs ≡ None → All IsDrained xs
-all-drained [] e = All-nil IsDrained
+all-drained : (xs : List Stream) → find is_ready xs ≡ None → All NeedsMoreBytes xs
+all-drained [] e = All-nil NeedsMoreBytes
 all-drained (x ∷ xs) e = by (ready_len x) refl (all-drained xs) e
   where
-    by : (o : Option ℕ) → ready_len x ≡ o → (find is_ready xs ≡ None → All IsDrained xs) → cond (is_some o) (Some x) (find is_ready xs) ≡ None → All IsDrained (x ∷ xs)
-    by None f later g = All-cons IsDrained x xs (drained-in x.mode x f) (later g)
+    by : (o : Option ℕ) → ready_len x ≡ o → (find is_ready xs ≡ None → All NeedsMoreBytes xs) → cond (is_some o) (Some x) (find is_ready xs) ≡ None → All NeedsMoreBytes (x ∷ xs)
+    by None f later g = All-cons NeedsMoreBytes x xs (drained-in x.mode x f) (later g)
     by (Some len) f later g = cc
 
-pub poll_recv-drained : (now : ℕ) (s : State) → (poll_recv_step now s).0 ≡ None → All IsDrained (poll_recv_step now s).1.streams
+pub poll_recv-drained : (now : ℕ) (s : State) → (poll_recv_step now s).0 ≡ None → All NeedsMoreBytes (poll_recv_step now s).1.streams
 poll_recv-drained now s none =
     all-drained (poll_recv_step now s).1.streams (turns-done (most_turns s) now s (weight-le s.streams) none)
 
 -- ---- a piece of the control stream
 
-then_all-drained : (now : ℕ) (p : Outcome × State) → IsNobodys (then_all now p).0 → All IsDrained (then_all now p).1.streams
+then_all-drained : (now : ℕ) (p : Outcome × State) → HasNoPeer (then_all now p).0 → All NeedsMoreBytes (then_all now p).1.streams
 then_all-drained now (PeerData payload, t) h = absurd h
 then_all-drained now (PeerIcmp transport peer icmp, t) h = absurd h
 then_all-drained now (Handled, t) h = by (poll_recv_step now t).0 refl h
   where
-    by : (o : Option Payload) → (poll_recv_step now t).0 ≡ o → IsNobodys (option_map_or PeerData o Handled) → All IsDrained (poll_recv_step now t).1.streams
+    by : (o : Option Payload) → (poll_recv_step now t).0 ≡ o → HasNoPeer (option_map_or PeerData o Handled) → All NeedsMoreBytes (poll_recv_step now t).1.streams
     by None e k = poll_recv-drained now t e
     by (Some payload) e k = absurd k
 then_all-drained now (Ignored, t) h = by (poll_recv_step now t).0 refl h
   where
-    by : (o : Option Payload) → (poll_recv_step now t).0 ≡ o → IsNobodys (option_map_or PeerData o Ignored) → All IsDrained (poll_recv_step now t).1.streams
+    by : (o : Option Payload) → (poll_recv_step now t).0 ≡ o → HasNoPeer (option_map_or PeerData o Ignored) → All NeedsMoreBytes (poll_recv_step now t).1.streams
     by None e k = poll_recv-drained now t e
     by (Some payload) e k = absurd k
 
-piece_in : (mode : Mode) (stream : Stream) (piece : List ℕ) (now : ℕ) (s : State) → mode ≡ Control → IsNobodys (piece_step (record stream { mode = mode }) piece now s).0 → All IsDrained (piece_step (record stream { mode = mode }) piece now s).1.streams
+piece_in : (mode : Mode) (stream : Stream) (piece : List ℕ) (now : ℕ) (s : State) → mode ≡ Control → HasNoPeer (piece_step (record stream { mode = mode }) piece now s).0 → All NeedsMoreBytes (piece_step (record stream { mode = mode }) piece now s).1.streams
 piece_in Control stream piece now s e = then_all-drained now (first_frame_step (record stream { mode = Control }) piece now s)
 piece_in Waiting stream piece now s e = cc
 piece_in (Bound peer) stream piece now s e = cc
 piece_in Broken stream piece now s e = cc
 
-pub piece-drained : (stream : Stream) (piece : List ℕ) (now : ℕ) (s : State) → stream.mode ≡ Control → IsNobodys (piece_step stream piece now s).0 → All IsDrained (piece_step stream piece now s).1.streams
+pub piece-drained : (stream : Stream) (piece : List ℕ) (now : ℕ) (s : State) → stream.mode ≡ Control → HasNoPeer (piece_step stream piece now s).0 → All NeedsMoreBytes (piece_step stream piece now s).1.streams
 piece-drained stream = piece_in stream.mode stream

@@ -9,7 +9,7 @@ use Rattle.turn_types.specs.Frames.{begins_message, begins_no_frame, frame_len, 
 use Rattle.turn_types.proofs.FrameLemmas.{frame_len-IsWhole}
 use Rattle.turn_types.proofs.SplitLemmas.{IsWhole-IsFrame}
 use Rattle.turn_client_api.specs.State.{Mode, Control, Waiting, Bound, Broken, Stream}
-use Rattle.turn_client_api.specs.LawsStreams.{HasNoFrame, IsDrained}
+use Rattle.turn_client_api.specs.LawsStreams.{HasNoFrame, NeedsMoreBytes}
 
 u16-most : (bytes : List ℕ) → 3 < length bytes → All (λ b. b < 256) bytes → u16_at bytes 2 ≤ 65535
 u16-most bytes there h = omega (arith, h 2 0 (omega (arith, there)), h 3 0 there)
@@ -43,11 +43,11 @@ no_frame-short bytes h are = by (ltb 3 (length bytes)) refl
     by true e = omega (arith, size, size-by (begins_message bytes) (u16_at bytes 2) (u16-most bytes (ltb-true 3 (length bytes) e) are))
     by false e = omega (arith, ltb-false 3 (length bytes) e)
 
-short_in : (mode : Mode) (stream : Stream) → IsDrained (record stream { mode = mode }) → mode ≢ Broken → All (λ b. b < 256) stream.bytes → length stream.bytes < 65555
+short_in : (mode : Mode) (stream : Stream) → NeedsMoreBytes (record stream { mode = mode }) → mode ≢ Broken → All (λ b. b < 256) stream.bytes → length stream.bytes < 65555
 short_in Control stream h not_broken are = no_frame-short stream.bytes h are
 short_in Waiting stream h not_broken are = no_frame-short stream.bytes h are
 short_in (Bound peer) stream h not_broken are = rw h (omega arith)
 short_in Broken stream h not_broken are = absurd (not_broken refl)
 
-pub drained-short : (stream : Stream) → IsDrained stream → stream.mode ≢ Broken → All (λ b. b < 256) stream.bytes → length stream.bytes < 65555
+pub drained-short : (stream : Stream) → NeedsMoreBytes stream → stream.mode ≢ Broken → All (λ b. b < 256) stream.bytes → length stream.bytes < 65555
 drained-short stream = short_in stream.mode stream

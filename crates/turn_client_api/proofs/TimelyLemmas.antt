@@ -14,7 +14,7 @@ use Rattle.turn_client_api.specs.Effect.{closed, ended}
 use Rattle.turn_client_api.specs.Calls.{is_allocated}
 use Rattle.turn_client_api.specs.Due.{has_event, has_reply, is_new, least_due, next_wakeup}
 use Rattle.turn_client_api.specs.Poll.{answer_by, answer_step, given_up_step, is_listed_for_allocation, lapsed, next_offer, offer_step, poll_step, timed_step}
-use Rattle.turn_client_api.specs.Alarm.{AllStandIn, IsBeforeGrants, IsBusy, IsOrderly, IsSilent, IsTimely}
+use Rattle.turn_client_api.specs.Alarm.{AllHaveAllocation, IsBeforeGrants, IsBusy, FitsPhaseForPoll, IsSilent, IsTimely}
 use Rattle.turn_client_api.specs.declared.event.TurnEvent.{TurnEvent}
 use Rattle.turn_client_api.specs.declared.poll.TurnPollRet.{TurnPollRet}
 use Rattle.turn_client_api.specs.declared.poll.TurnPollRet.TheVariants as Do
@@ -171,7 +171,7 @@ replies-same s t same no_reply = rw same no_reply
 old-phase : (p q : Phase) → q ≡ p → p ≢ New → q ≢ New
 old-phase p q e old new = old (sym e ∙ new)
 
-given-timely : (now : ℕ) (s : State) → IsOrderly s → now ≤ 2 ^ 62 → has_reply s ≡ false → next_offer s ≡ None → (x : Transaction) → timed_out_transaction (agent_of s) now ≡ Some x → (p : Phase) → s.phase ≡ p → Timely now s (timed_step p (Some x.id) now (ended x.id s))
+given-timely : (now : ℕ) (s : State) → FitsPhaseForPoll s → now ≤ 2 ^ 62 → has_reply s ≡ false → next_offer s ≡ None → (x : Transaction) → timed_out_transaction (agent_of s) now ≡ Some x → (p : Phase) → s.phase ≡ p → Timely now s (timed_step p (Some x.id) now (ended x.id s))
 given-timely now s orderly range no_reply no_offer x given p e = by p e
   where
     u : State
@@ -207,7 +207,7 @@ given-timely now s orderly range no_reply no_offer x given p e = by p e
         allocated_new : Allocated ≡ New → ⊥
         allocated_new f = cc
 
-none-timely : (now : ℕ) (s : State) → IsOrderly s → AllStandIn s → now ≤ 2 ^ 62 → has_reply s ≡ false → next_offer s ≡ None → timed_out_transaction (agent_of s) now ≡ None → (p : Phase) → s.phase ≡ p → Timely now s (timed_step p None now s)
+none-timely : (now : ℕ) (s : State) → FitsPhaseForPoll s → AllHaveAllocation s → now ≤ 2 ^ 62 → has_reply s ≡ false → next_offer s ≡ None → timed_out_transaction (agent_of s) now ≡ None → (p : Phase) → s.phase ≡ p → Timely now s (timed_step p None now s)
 none-timely now s orderly stand range no_reply no_offer none p e = by p e
   where
     wrong : false ≡ true → ⊥
@@ -255,7 +255,7 @@ none-timely now s orderly stand range no_reply no_offer none p e = by p e
         allocated_new f = cc
 
 -- what `poll` returns is timely, whatever the times before
-pub poll-timely : (now : ℕ) (s : State) → IsOrderly s → AllStandIn s → now ≤ 2 ^ 62 → IsTimely (poll_step now s).0 now s (poll_step now s).1
+pub poll-timely : (now : ℕ) (s : State) → FitsPhaseForPoll s → AllHaveAllocation s → now ≤ 2 ^ 62 → IsTimely (poll_step now s).0 now s (poll_step now s).1
 poll-timely now s orderly stand range = events (has_event s) (has_reply s) refl refl
   where
     given : has_reply s ≡ false → next_offer s ≡ None → (o : Option Transaction) → timed_out_transaction (agent_of s) now ≡ o → Timely now s (given_up_step now s)

@@ -51,16 +51,16 @@ IsBeforeGrants Authenticating = ⊤
 IsBeforeGrants _ = ⊥
 
 -- each grant has an allocation, for which it was made
-abbrev pub StandsIn : State → Grant → Type 0
-StandsIn s g = is_some (allocation_of (family_of_grant g) s) ≡ true
+abbrev pub HasAllocation : State → Grant → Type 0
+HasAllocation s g = is_some (allocation_of (family_of_grant g) s) ≡ true
 
-abbrev pub AllStandIn : State → Type 0
-AllStandIn s = All (StandsIn s) s.grants
+abbrev pub AllHaveAllocation : State → Type 0
+AllHaveAllocation s = All (HasAllocation s) s.grants
 
 -- What holds for every client that `poll` is called on. The pause begins with the first packet: in `New`
 -- none was sent, and later a request is queued only after one was sent. No grant exists before the server
 -- allocated.
-pub record IsOrderly (s : State) : Type 0 where
+pub record FitsPhaseForPoll (s : State) : Type 0 where
   pub nothing_sent : s.phase ≡ New → s.last_send ≡ None
   pub sent_before : s.phase ≢ New → has_queued_request s ≡ true → IsSome s.last_send
   pub no_grants : IsBeforeGrants s.phase → s.grants ≡ []

@@ -10,7 +10,7 @@ use Rattle.turn_client_api.specs.Config.{Config}
 use Rattle.turn_client_api.specs.State.{State, Allocation, Listing, Relay, ForAllocation}
 use Rattle.turn_client_api.specs.Requests.{first_allocate, request_for}
 use Rattle.turn_client_api.specs.Handled.{Input}
-use Rattle.turn_client_api.specs.LawsGranted.{IsEndedNow, IsGrantInput, Stood}
+use Rattle.turn_client_api.specs.LawsGranted.{IsEndedNow, IsGrantInput, WasActive}
 use Rattle.turn_client_api.specs.LawsHandled.{IsDoneBy}
 use Rattle.turn_client_api.specs.LawsOrder.{IsUngranted}
 use Rattle.turn_client_api.specs.Steps.{Call}
@@ -65,4 +65,4 @@ IsAllocationInput a one =
 abbrev pub AllocatesAsAsked : Call → State → State → Type 0
 AllocatesAsAsked call s t =
     (a : Relay) → Contains t.grants (Allocation a)
-    → Stood s (Allocation a) ⊎ IsEndedNow call s (Allocation a) ⊎ IsDoneBy (IsAllocationInput a) call s
+    → WasActive s (Allocation a) ⊎ IsEndedNow call s (Allocation a) ⊎ IsDoneBy (IsAllocationInput a) call s

@@ -16,17 +16,17 @@ use Rattle.turn_client_api.specs.LawsReplies.{IsAccepted}
 use Rattle.turn_client_api.specs.LawsRequests.{IsAnswer}
 
 -- the grant without what may change of it: its progress, its times, and whether it was reported
-abbrev pub bare : Grant → Grant
-bare (Allocation a) = Allocation (record { relayed = a.relayed; first_lifetime = 0; expiry = 0; is_expired = false })
-bare (Permission ip progress) = Permission ip Pending
-bare (Channel number peer progress) = Channel number peer Pending
-bare (Connect peer) = Connect peer
-bare (Offer offer) = Offer (record offer { is_told = false })
-bare (Connection c) = Connection (record c { deadline = None })
+abbrev pub grant_identity : Grant → Grant
+grant_identity (Allocation a) = Allocation (record { relayed = a.relayed; first_lifetime = 0; expiry = 0; is_expired = false })
+grant_identity (Permission ip progress) = Permission ip Pending
+grant_identity (Channel number peer progress) = Channel number peer Pending
+grant_identity (Connect peer) = Connect peer
+grant_identity (Offer offer) = Offer (record offer { is_told = false })
+grant_identity (Connection c) = Connection (record c { deadline = None })
 
 -- it exists, whatever its progress
 abbrev pub IsStillThere : State → Grant → Type 0
-IsStillThere s g = (is : Grant) × Contains s.grants is × (bare g ≡ bare is)
+IsStillThere s g = (is : Grant) × Contains s.grants is × (grant_identity g ≡ grant_identity is)
 
 -- ---- by a message
 
@@ -68,18 +68,18 @@ IsGivenUp now s g =
 
 -- It has expired, or the request for it timed out. A channel that expires is reserved for a while and
 -- exists so long, and an offer is removed with the server's request for it.
-abbrev pub IsSpent : ℕ → State → Grant → Type 0
-IsSpent now s (Permission ip (Active expiry)) = expiry ≤ now
-IsSpent now s (Permission ip Pending) = IsGivenUp now s (Permission ip Pending)
-IsSpent now s (Channel number peer (Active expiry)) = later_by reserved_time expiry < now
-IsSpent now s (Channel number peer (Reserved until)) = until < now
-IsSpent now s (Channel number peer Pending) = IsGivenUp now s (Channel number peer Pending)
-IsSpent now s (Connect peer) = IsGivenUp now s (Connect peer)
-IsSpent now s (Offer offer) =
+abbrev pub HasExpiredOrFailed : ℕ → State → Grant → Type 0
+HasExpiredOrFailed now s (Permission ip (Active expiry)) = expiry ≤ now
+HasExpiredOrFailed now s (Permission ip Pending) = IsGivenUp now s (Permission ip Pending)
+HasExpiredOrFailed now s (Channel number peer (Active expiry)) = later_by reserved_time expiry < now
+HasExpiredOrFailed now s (Channel number peer (Reserved until)) = until < now
+HasExpiredOrFailed now s (Channel number peer Pending) = IsGivenUp now s (Channel number peer Pending)
+HasExpiredOrFailed now s (Connect peer) = IsGivenUp now s (Connect peer)
+HasExpiredOrFailed now s (Offer offer) =
     (x : Transaction) × (timed_out_transaction (agent_of s) now ≡ Some x) × (is_of_request x.id (Offer offer) ≡ true)
-IsSpent now s (Connection c) =
+HasExpiredOrFailed now s (Connection c) =
     (deadline : ℕ) × (c.deadline ≡ Some deadline) × ((deadline ≤ now) ⊎ IsGivenUp now s (Connection c))
-IsSpent now s _ = ⊥
+HasExpiredOrFailed now s _ = ⊥
 
 -- an allocation whose expiry has passed is removed with all grants in it
 abbrev pub IsPastWith : ℕ → State → Grant → Type 0
@@ -88,7 +88,7 @@ IsPastWith now s g =
 
 -- the grant has expired, or its allocation
 abbrev pub IsOver : ℕ → State → Grant → Type 0
-IsOver now s g = (s.phase ≡ Allocated) × (IsSpent now s g ⊎ IsPastWith now s g)
+IsOver now s g = (s.phase ≡ Allocated) × (HasExpiredOrFailed now s g ⊎ IsPastWith now s g)
 
 -- it exists after the `poll`, or has expired
 abbrev pub IsThereOrOver : ℕ → State → State → Grant → Type 0

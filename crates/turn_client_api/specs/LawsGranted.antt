@@ -19,24 +19,24 @@ use Rattle.turn_client_api.specs.LawsInputs.{Deed}
 use Rattle.turn_client_api.specs.Steps.{Call, Delete}
 
 -- what the server granted: an allocation, an active permission or channel, and a connection that is bound
-abbrev pub IsStanding : Grant → Type 0
-IsStanding (Allocation a) = ⊤
-IsStanding (Permission ip (Active expiry)) = ⊤
-IsStanding (Channel number peer (Active expiry)) = ⊤
-IsStanding (Connection c) = c.deadline ≡ None
-IsStanding _ = ⊥
+abbrev pub IsActiveGrant : Grant → Type 0
+IsActiveGrant (Allocation a) = ⊤
+IsActiveGrant (Permission ip (Active expiry)) = ⊤
+IsActiveGrant (Channel number peer (Active expiry)) = ⊤
+IsActiveGrant (Connection c) = c.deadline ≡ None
+IsActiveGrant _ = ⊥
 
 -- the second is the first, granted, with the same expiry
-abbrev pub IsKeptAs : Grant → Grant → Type 0
-IsKeptAs (Allocation was) (Allocation is) = (was.relayed ≡ is.relayed) × (was.expiry ≡ is.expiry)
-IsKeptAs (Permission ip (Active was)) (Permission other (Active is)) = (ip ≡ other) × (was ≡ is)
-IsKeptAs (Channel number peer (Active was)) (Channel other to (Active is)) = (number ≡ other) × (peer ≡ to) × (was ≡ is)
-IsKeptAs (Connection was) (Connection is) = (was ≡ is) × (was.deadline ≡ None)
-IsKeptAs _ _ = ⊥
+abbrev pub IsSameGrant : Grant → Grant → Type 0
+IsSameGrant (Allocation was) (Allocation is) = (was.relayed ≡ is.relayed) × (was.expiry ≡ is.expiry)
+IsSameGrant (Permission ip (Active was)) (Permission other (Active is)) = (ip ≡ other) × (was ≡ is)
+IsSameGrant (Channel number peer (Active was)) (Channel other to (Active is)) = (number ≡ other) × (peer ≡ to) × (was ≡ is)
+IsSameGrant (Connection was) (Connection is) = (was ≡ is) × (was.deadline ≡ None)
+IsSameGrant _ _ = ⊥
 
 -- it was active already, with this expiry
-abbrev pub Stood : State → Grant → Type 0
-Stood s g = (was : Grant) × Contains s.grants was × IsKeptAs was g
+abbrev pub WasActive : State → Grant → Type 0
+WasActive s g = (was : Grant) × Contains s.grants was × IsSameGrant was g
 
 -- there is a channel of this number, which is for this peer
 abbrev pub HasChannelTo : ℕ → SocketAddr → State → Type 0
@@ -70,7 +70,7 @@ pub record IsGrantedBy (message : List ℕ) (now : ℕ) (s : State) (g : Grant) 
 
 -- the message granted it, with this expiry
 abbrev pub IsGrant : Grant → Deed
-IsGrant g message now s = (was : Grant) × IsGrantedBy message now s was × IsKeptAs was g
+IsGrant g message now s = (was : Grant) × IsGrantedBy message now s was × IsSameGrant was g
 
 -- The input is a whole message, a datagram or a frame of the control connection, which granted it.
 pub record IsGrantInput (g : Grant) (one : Input) : Type 0 where
@@ -91,7 +91,7 @@ IsEndedNow _ s _ = ⊥
 
 -- why the grant is active after the call: it was before, it is deleted now, or an input granted it
 abbrev pub HasCause : Call → State → Grant → Type 0
-HasCause call s g = Stood s g ⊎ IsEndedNow call s g ⊎ IsDoneBy (IsGrantedIn g) call s
+HasCause call s g = WasActive s g ⊎ IsEndedNow call s g ⊎ IsDoneBy (IsGrantedIn g) call s
 
 -- ---- a channel's peer
 

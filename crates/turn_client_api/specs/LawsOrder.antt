@@ -15,11 +15,11 @@ IsUngranted Allocated = ⊥
 IsUngranted Closed = ⊥
 IsUngranted _ = ⊤
 
--- More than `IsOrderly`, which it implies: each call keeps it. A new client has sent nothing, and has
+-- More than `FitsPhaseForPoll`, which it implies: each call keeps it. A new client has sent nothing, and has
 -- nothing to send or to await. One that has begun has sent a packet, and so has one that has a request to
 -- send.
-abbrev pub IsSteady : State → Type 0
-IsSteady s =
+abbrev pub FitsPhase : State → Type 0
+FitsPhase s =
     (s.phase ≡ New → (s.last_send ≡ None) × (s.queue ≡ []) × (s.transactions ≡ []))
     × (IsBegun s.phase → IsSome s.last_send)
     × (has_queued_request s ≡ true → IsSome s.last_send)

@@ -51,40 +51,40 @@ IsIcmpAttribute bytes s transport icmp =
 
 -- What a whole message or ChannelData message returns came from a permitted peer: in a DATA indication, or
 -- over its channel.
-abbrev pub IsLetThrough : List ℕ → State → Outcome → Type 0
-IsLetThrough bytes s (PeerData payload) =
+abbrev pub IsMessageFromPermitted : List ℕ → State → Outcome → Type 0
+IsMessageFromPermitted bytes s (PeerData payload) =
     (IsIndicated bytes payload.peer s × IsDataAttribute bytes s payload)
     ⊎ (HasChannel (channel_data_at bytes).id payload.peer s × IsChannelPayload bytes s payload)
-IsLetThrough bytes s (PeerIcmp transport peer icmp) = IsIndicated bytes peer s × IsIcmpAttribute bytes s transport icmp
-IsLetThrough bytes s Handled = ⊤
-IsLetThrough bytes s Ignored = ⊤
+IsMessageFromPermitted bytes s (PeerIcmp transport peer icmp) = IsIndicated bytes peer s × IsIcmpAttribute bytes s transport icmp
+IsMessageFromPermitted bytes s Handled = ⊤
+IsMessageFromPermitted bytes s Ignored = ⊤
 
 -- nothing came from a peer
-abbrev pub IsNobodys : Outcome → Type 0
-IsNobodys Handled = ⊤
-IsNobodys Ignored = ⊤
-IsNobodys _ = ⊥
+abbrev pub HasNoPeer : Outcome → Type 0
+HasNoPeer Handled = ⊤
+HasNoPeer Ignored = ⊤
+HasNoPeer _ = ⊥
 
 -- What a frame of a stream returns, by the mode of the stream: a bound one returns all its bytes, over TCP,
 -- as its peer's.
-abbrev pub IsLetIn : Mode → List ℕ → State → Outcome → Type 0
-IsLetIn Control frame s outcome = IsLetThrough frame s outcome
-IsLetIn Waiting frame s outcome = IsNobodys outcome
-IsLetIn (Bound peer) frame s outcome = outcome ≡ PeerData (sent_by peer frame (all_of frame))
-IsLetIn Broken frame s outcome = IsNobodys outcome
+abbrev pub IsFromPermitted : Mode → List ℕ → State → Outcome → Type 0
+IsFromPermitted Control frame s outcome = IsMessageFromPermitted frame s outcome
+IsFromPermitted Waiting frame s outcome = HasNoPeer outcome
+IsFromPermitted (Bound peer) frame s outcome = outcome ≡ PeerData (sent_by peer frame (all_of frame))
+IsFromPermitted Broken frame s outcome = HasNoPeer outcome
 
 -- an input that a call processes returns only data of peers that are permitted in the state in which it is
 -- processed
-abbrev pub IsLetInTurn : Input → Type 0
-IsLetInTurn t = by t.stream
+abbrev pub IsPermittedInput : Input → Type 0
+IsPermittedInput t = by t.stream
   where
     by : Option Stream → Type 0
-    by None = IsLetThrough t.bytes t.before (processed t).0
-    by (Some stream) = IsLetIn stream.mode t.bytes t.before (processed t).0
+    by None = IsMessageFromPermitted t.bytes t.before (processed t).0
+    by (Some stream) = IsFromPermitted stream.mode t.bytes t.before (processed t).0
 
 -- an input of the call returns the payload, at its place in what the caller passed in, or owned
 abbrev pub IsGivenBy : Payload → Call → State → Type 0
-IsGivenBy payload call s = IsDoneBy (λ one. (input_payload one ≡ Some payload) × IsLetInTurn one) call s
+IsGivenBy payload call s = IsDoneBy (λ one. (input_payload one ≡ Some payload) × IsPermittedInput one) call s
 
 -- if the call returns a payload, an input returns it
 abbrev pub IsDeliveredByInput : Option Payload → Call → State → Type 0
@@ -93,5 +93,5 @@ IsDeliveredByInput o call s = IfSome o (λ payload. IsGivenBy payload call s)
 -- if it returns an ICMP report, an input of the call returns that
 abbrev pub IsToldBy : Outcome → Call → State → Type 0
 IsToldBy (PeerIcmp transport peer icmp) call s =
-    IsDoneBy (λ one. ((processed one).0 ≡ PeerIcmp transport peer icmp) × IsLetInTurn one) call s
+    IsDoneBy (λ one. ((processed one).0 ≡ PeerIcmp transport peer icmp) × IsPermittedInput one) call s
 IsToldBy _ call s = ⊤

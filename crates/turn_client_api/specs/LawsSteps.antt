@@ -11,8 +11,8 @@ abbrev pub StaysClosed : State → State → Type 0
 StaysClosed s t = s.phase ≡ Closed → t.phase ≡ Closed
 
 -- no more challenges are answered than allowed
-abbrev pub StaysPatient : State → State → Type 0
-StaysPatient s t = s.challenges ≤ most_challenges → t.challenges ≤ most_challenges
+abbrev pub KeepsChallengeLimit : State → State → Type 0
+KeepsChallengeLimit s t = s.challenges ≤ most_challenges → t.challenges ≤ most_challenges
 
 -- realm and algorithm, once held, stay
 abbrev pub KeepsRealm : State → State → Type 0

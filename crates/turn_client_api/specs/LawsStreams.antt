@@ -5,7 +5,7 @@ use Rattle.turn_types.specs.Frames.{IsFrame, begins_no_frame}
 use Rattle.turn_agent.specs.Agent.{same_address}
 use Rattle.turn_client_api.specs.State.{State, Mode, Control, Waiting, Bound, Broken, Stream}
 use Rattle.turn_client_api.specs.Payloads.{Outcome}
-use Rattle.turn_client_api.specs.LawsPeers.{IsNobodys}
+use Rattle.turn_client_api.specs.LawsPeers.{HasNoPeer}
 
 -- no whole frame comes first, nor a byte that no frame begins with
 abbrev pub HasNoFrame : List ℕ → Type 0
@@ -13,8 +13,8 @@ HasNoFrame bytes =
     (begins_no_frame bytes ≡ false) × ((frame more : List ℕ) → bytes ≡ frame ++ more → ¬ IsFrame frame)
 
 -- nothing of the stream is processed before more of it is received
-abbrev pub IsDrained : Stream → Type 0
-IsDrained stream = by stream.mode
+abbrev pub NeedsMoreBytes : Stream → Type 0
+NeedsMoreBytes stream = by stream.mode
   where
     by : Mode → Type 0
     by Control = HasNoFrame stream.bytes
@@ -24,7 +24,7 @@ IsDrained stream = by stream.mode
 
 -- if no data of a peer is returned, no stream is left with something to process
 abbrev pub DrainsOrGives : Outcome × State → Type 0
-DrainsOrGives r = IsNobodys r.0 → All IsDrained r.1.streams
+DrainsOrGives r = HasNoPeer r.0 → All NeedsMoreBytes r.1.streams
 
 -- where the stream is broken, it holds nothing
 abbrev pub IsEmptyIfBroken : Stream → Type 0

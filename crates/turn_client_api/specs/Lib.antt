@@ -18,7 +18,7 @@ pub mod LawsDoubles
 pub mod LawsGone
 pub mod LawsGranted
 pub mod LawsHandled
-pub mod LawsHoused
+pub mod LawsGrantAllocations
 pub mod LawsLapses
 pub mod LawsMessages
 pub mod LawsNumbers

@@ -8,7 +8,7 @@ mod bound;
 mod doubles;
 mod gone;
 mod granted;
-mod housed;
+mod grant_allocations;
 mod ids;
 mod lapses;
 mod messages;
@@ -39,7 +39,7 @@ pub use bound::only_a_signed_success_binds;
 pub use doubles::grants_are_distinct;
 pub use gone::grants_go_by_kind;
 pub use granted::only_a_signed_success_grants;
-pub use housed::grants_stand_in_allocations;
+pub use grant_allocations::grants_have_allocations;
 pub use ids::drawn_ids_are_free;
 pub use lapses::grants_lapse;
 pub use messages::{
@@ -47,9 +47,9 @@ pub use messages::{
     refreshes_are_answered,
 };
 pub use numbers::numbers_are_distinct;
-pub use order::clients_stay_in_order;
+pub use order::clients_fit_their_phase;
 pub use payloads::payloads_are_answered;
-pub use peers::only_let_in;
+pub use peers::only_permitted;
 pub use pieces::{connections_are_bound, datagrams_are_judged, pieces_are_cut};
 pub use purposes::requests_have_two_purposes;
 pub use replies::{ids_are_drawn, replies_count_once};

@@ -15,15 +15,15 @@ use Rattle.turn_client_api.specs.Grants.{channel_peer, first_in, is_permitted}
 use Rattle.turn_client_api.specs.Judgement.{has_unknown, last_icmp_in, last_in, last_peer_in}
 use Rattle.turn_client_api.specs.Payloads.{Ignored, channel_sent, data_indicated}
 use Rattle.turn_client_api.specs.State.{State}
-use Rattle.turn_client_core.specs.Indication.{let_in, value_place}
+use Rattle.turn_client_core.specs.Indication.{if_permitted, value_place}
 use Rattle.turn_client_core.specs.Told.{outcome_in}
 use Rattle.turn_client_core.specs.declared.told.Told.{Told}
 use Rattle.turn_client_core.specs.declared.told.Told.TheVariants as T
 
 module _ (s : State) (message : List ℕ) where
-  outcome-let_in : (is_permitted : Bool) (told : Told) → outcome_in message (let_in is_permitted told) ≡ (if is_permitted then outcome_in message told else Ignored)
-  outcome-let_in true told = refl
-  outcome-let_in false told = refl
+  outcome-if_permitted : (is_permitted : Bool) (told : Told) → outcome_in message (if_permitted is_permitted told) ≡ (if is_permitted then outcome_in message told else Ignored)
+  outcome-if_permitted true told = refl
+  outcome-if_permitted false told = refl
 
   pub unknown-is : has_unknown message ≡ true → Ignored ≡ data_indicated s message
   unknown-is unknown = rw unknown refl
@@ -35,25 +35,25 @@ module _ (s : State) (message : List ℕ) where
     abbrev permitted : Bool
     permitted = is_permitted (socket_ip peer) s
 
-    data_at : (a : Attribute) → last_in data_kind message ≡ Some a → HoldsValue message a → outcome_in message (let_in permitted (T.PeerData s.config.allocation_transport peer (value_place a))) ≡ data_indicated s message
-    data_at a data_is holds = outcome-let_in permitted (T.PeerData s.config.allocation_transport peer (value_place a)) ∙ rw (known, peer_is, data_is, holds) refl
+    data_at : (a : Attribute) → last_in data_kind message ≡ Some a → HoldsValue message a → outcome_in message (if_permitted permitted (T.PeerData s.config.allocation_transport peer (value_place a))) ≡ data_indicated s message
+    data_at a data_is holds = outcome-if_permitted permitted (T.PeerData s.config.allocation_transport peer (value_place a)) ∙ rw (known, peer_is, data_is, holds) refl
 
-    pub data-is : (found : Option Attribute) (place : Range ℕ) → found ≡ last_in data_kind message → IfSome (last_in data_kind message) (HoldsValue message) → option_map value_place found ≡ Some place → outcome_in message (let_in permitted (T.PeerData s.config.allocation_transport peer place)) ≡ data_indicated s message
+    pub data-is : (found : Option Attribute) (place : Range ℕ) → found ≡ last_in data_kind message → IfSome (last_in data_kind message) (HoldsValue message) → option_map value_place found ≡ Some place → outcome_in message (if_permitted permitted (T.PeerData s.config.allocation_transport peer place)) ≡ data_indicated s message
     data-is None place is holds e = cc
     data-is (Some a) place is holds e =
         let here : HoldsValue message a = subst (λ found. IfSome found (HoldsValue message)) (sym is) holds in
         let p : value_place a ≡ place = cc in
-        subst (λ place. outcome_in message (let_in permitted (T.PeerData s.config.allocation_transport peer place)) ≡ data_indicated s message) p (data_at a (sym is) here)
+        subst (λ place. outcome_in message (if_permitted permitted (T.PeerData s.config.allocation_transport peer place)) ≡ data_indicated s message) p (data_at a (sym is) here)
 
     no_data : (found : Option Attribute) → found ≡ last_in data_kind message → option_map value_place found ≡ None → last_in data_kind message ≡ None
     no_data None is e = sym is
     no_data (Some a) is e = cc
 
-    icmp_at : (icmp : Option Icmp) → last_in data_kind message ≡ None → icmp ≡ last_icmp_in message → outcome_in message (option_map_or (λ icmp. let_in permitted (T.PeerIcmp s.config.allocation_transport peer icmp)) icmp T.Ignored) ≡ data_indicated s message
+    icmp_at : (icmp : Option Icmp) → last_in data_kind message ≡ None → icmp ≡ last_icmp_in message → outcome_in message (option_map_or (λ icmp. if_permitted permitted (T.PeerIcmp s.config.allocation_transport peer icmp)) icmp T.Ignored) ≡ data_indicated s message
     icmp_at None none is = rw (known, peer_is, none, ← is) refl
-    icmp_at (Some icmp) none is = outcome-let_in permitted (T.PeerIcmp s.config.allocation_transport peer icmp) ∙ rw (known, peer_is, none, ← is) refl
+    icmp_at (Some icmp) none is = outcome-if_permitted permitted (T.PeerIcmp s.config.allocation_transport peer icmp) ∙ rw (known, peer_is, none, ← is) refl
 
-    pub icmp-is : (icmp : Option Icmp) (found : Option Attribute) → found ≡ last_in data_kind message → option_map value_place found ≡ None → icmp ≡ last_icmp_in message → outcome_in message (option_map_or (λ icmp. let_in permitted (T.PeerIcmp s.config.allocation_transport peer icmp)) icmp T.Ignored) ≡ data_indicated s message
+    pub icmp-is : (icmp : Option Icmp) (found : Option Attribute) → found ≡ last_in data_kind message → option_map value_place found ≡ None → icmp ≡ last_icmp_in message → outcome_in message (option_map_or (λ icmp. if_permitted permitted (T.PeerIcmp s.config.allocation_transport peer icmp)) icmp T.Ignored) ≡ data_indicated s message
     icmp-is icmp found is e = icmp_at icmp (no_data found is e)
 
 -- ---- ChannelData messages

@@ -16,10 +16,10 @@ abbrev pub value_place : Attribute → Range ℕ
 value_place a = record { start = a.offset + 4; end = a.offset + 4 + length a.value }
 
 -- the result, if its peer is permitted
-abbrev pub let_in : Bool → Told → Told
-let_in is_permitted told = if is_permitted then told else Ignored
+abbrev pub if_permitted : Bool → Told → Told
+if_permitted is_permitted told = if is_permitted then told else Ignored
 
 -- an ICMP error of this peer, if one was reported
 abbrev pub icmp_of_peer : SocketAddr → Option Icmp → State → Told
 icmp_of_peer peer icmp s =
-    option_map_or (λ icmp. let_in (is_permitted (socket_ip peer) s) (PeerIcmp s.config.allocation_transport peer icmp)) icmp Ignored
+    option_map_or (λ icmp. if_permitted (is_permitted (socket_ip peer) s) (PeerIcmp s.config.allocation_transport peer icmp)) icmp Ignored

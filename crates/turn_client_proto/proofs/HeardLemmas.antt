@@ -22,7 +22,7 @@ use Rattle.turn_stun.specs.declared.transport.Transmit.{Transmit}
 use Rattle.turn_stun.specs.declared.transport.TransportType.{TransportType}
 use Rattle.turn_types.specs.declared.attribute.icmp_report.Icmp.{Icmp}
 use Rattle.turn_client_runs.proofs.PeerLemmas.{all-answered, received, tells-permitted}
-use Rattle.turn_client_proto.specs.Heard.{GivesLetIn, IsHeard}
+use Rattle.turn_client_proto.specs.Delivered.{AnswersOnlyPermitted, IsDelivered}
 use Rattle.turn_client_proto.specs.Run.{peer_data, poll_recv_reply, recv_reply, reply_of, replies_of}
 use Rattle.turn_client_proto.specs.declared.runs.reply.PeerData.{PeerData}
 use Rattle.turn_client_proto.specs.declared.runs.reply.Reply.{Reply}
@@ -72,10 +72,10 @@ run-gives given s (call ∷ calls) (inr later) = by (run-gives given (state_afte
     by (payload, same, there) = (payload, same, has-right payload (answered call s) (answered_in (state_after call s) calls) there)
 
 -- data that a run returns came from a permitted peer
-gives-data : (s : State) (calls : List Call) (given : PeerData) → Contains (replies_of s calls) (Replies.PeerData given) → IsHeard given s calls
+gives-data : (s : State) (calls : List Call) (given : PeerData) → Contains (replies_of s calls) (Replies.PeerData given) → IsDelivered given s calls
 gives-data s calls given there = by (run-gives given s calls (contains-has (Replies.PeerData given) (replies_of s calls) there))
   where
-    by : IsOf given (answered_in s calls) → IsHeard given s calls
+    by : IsOf given (answered_in s calls) → IsDelivered given s calls
     by (payload, same, among) =
         (payload, same, received payload s calls (subst (λ (l : List Payload). Contains l payload) (sym (all-answered s calls)) (has-contains payload (answered_in s calls) among)))
 
@@ -138,7 +138,7 @@ module _ (transport : TransportType) (peer : SocketAddr) (icmp : Icmp) where
   run-tells s (call ∷ calls) (inl e) = among-left Did (handled call s) (handled_in (state_after call s) calls) (call-tells call s e)
   run-tells s (call ∷ calls) (inr later) = among-right Did (handled call s) (handled_in (state_after call s) calls) (run-tells (state_after call s) calls later)
 
-pub gives-let-in : (s : State) (calls : List Call) → GivesLetIn s calls
+pub gives-let-in : (s : State) (calls : List Call) → AnswersOnlyPermitted s calls
 gives-let-in s calls = (
   gives-data s calls,
   λ transport peer icmp there.

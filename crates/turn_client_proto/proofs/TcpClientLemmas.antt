@@ -14,7 +14,7 @@ use Rattle.turn_client_api.specs.Streams.{stream_at}
 use Rattle.turn_client_api.specs.declared.call.Call.{Call}
 use Rattle.turn_client_api.specs.declared.state.Stream.{Stream}
 use Rattle.turn_client_api.proofs.AddressLemmas.{same_address-self}
-use Rattle.turn_client_api.proofs.InAllocation.{initial-IsHoused, leaves-IsHoused}
+use Rattle.turn_client_api.proofs.InAllocation.{initial-GrantsHaveAllocations, leaves-GrantsHaveAllocations}
 use Rattle.turn_client_api.proofs.SendOrderLemmas.{initial-steady, leaves-steadies}
 use Rattle.turn_client_core.specs.StreamSteps.{piece_at, piece_takes_none}
 use Rattle.turn_client_proto.specs.OverTcp.{IsTcpClient}
@@ -24,7 +24,7 @@ new-client : (local remote : SocketAddr) (config : Config) (seed : List ℕ) →
 new-client local remote config seed = record {
   carrier = refl;
   steady = initial-steady Tcp local remote config seed;
-  housed = initial-IsHoused Tcp local remote config seed;
+  housed = initial-GrantsHaveAllocations Tcp local remote config seed;
 }
 
 pub initial-IsTcpClient : (s : State) (local remote : SocketAddr) (config : Config) (seed : List ℕ) → s ≡ initial Tcp local remote config seed → IsTcpClient s
@@ -34,7 +34,7 @@ pub leaves-IsTcpClient : (call : Call) (s t : State) → Leaves call s t → IsT
 leaves-IsTcpClient call s t leaves h = record {
   carrier = (leaves-SameCarriers call s t leaves).0 ∙ h.carrier;
   steady = leaves-steadies call s t leaves h.steady;
-  housed = leaves-IsHoused call s t leaves h.housed;
+  housed = leaves-GrantsHaveAllocations call s t leaves h.housed;
 }
 
 -- ---- a piece of a stream

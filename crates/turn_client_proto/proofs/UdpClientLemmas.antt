@@ -10,7 +10,7 @@ use Rattle.turn_client_api.specs.State.{State, initial}
 use Rattle.turn_client_api.specs.Steps.{Leaves}
 use Rattle.turn_client_api.specs.declared.call.Call.{Call}
 use Rattle.turn_client_api.proofs.AddressLemmas.{same_address-self}
-use Rattle.turn_client_api.proofs.InAllocation.{initial-IsHoused, leaves-IsHoused}
+use Rattle.turn_client_api.proofs.InAllocation.{initial-GrantsHaveAllocations, leaves-GrantsHaveAllocations}
 use Rattle.turn_client_api.proofs.SendOrderLemmas.{initial-steady, leaves-steadies}
 use Rattle.turn_client_proto.specs.OverUdp.{IsUdpClient}
 use Rattle.turn_client_proto.proofs.CarrierLemmas.{leaves-SameCarriers}
@@ -22,7 +22,7 @@ new-client local remote config seed relays = record {
   relays = relays;
   no_streams = refl;
   steady = initial-steady Udp local remote config seed;
-  housed = initial-IsHoused Udp local remote config seed;
+  housed = initial-GrantsHaveAllocations Udp local remote config seed;
 }
 
 pub initial-IsUdpClient : (s : State) (local remote : SocketAddr) (config : Config) (seed : List ℕ) → config.allocation_transport ≡ Udp → s ≡ initial Udp local remote config seed → IsUdpClient s
@@ -36,7 +36,7 @@ leaves-IsUdpClient call s t leaves h =
       relays = same.1 ∙ h.relays;
       no_streams = leaves-no_streams call s t leaves h.carrier h.relays h.no_streams;
       steady = leaves-steadies call s t leaves h.steady;
-      housed = leaves-IsHoused call s t leaves h.housed;
+      housed = leaves-GrantsHaveAllocations call s t leaves h.housed;
     }
 
 -- ---- a datagram

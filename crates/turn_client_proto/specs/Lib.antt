@@ -1,5 +1,5 @@
 pub mod Client
-pub mod Heard
+pub mod Delivered
 pub mod OverTcp
 pub mod OverUdp
 pub mod Run

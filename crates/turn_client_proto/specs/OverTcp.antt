@@ -1,12 +1,12 @@
 -- What holds for every client over TCP.
 use Rattle.std.specs.Prelude.{◌≡◌}
 use Rattle.turn_stun.specs.declared.transport.TransportType.TheVariants.{Tcp}
-use Rattle.turn_client_api.specs.LawsHoused.{IsHoused}
-use Rattle.turn_client_api.specs.LawsOrder.{IsSteady}
+use Rattle.turn_client_api.specs.LawsGrantAllocations.{GrantsHaveAllocations}
+use Rattle.turn_client_api.specs.LawsOrder.{FitsPhase}
 use Rattle.turn_client_api.specs.State.{State}
 
 -- It may have streams, whatever its allocations relay over. The rest holds for every client.
 pub record IsTcpClient (s : State) : Type 0 where
   pub carrier : s.transport ≡ Tcp
-  pub steady : IsSteady s
-  pub housed : IsHoused s
+  pub steady : FitsPhase s
+  pub housed : GrantsHaveAllocations s

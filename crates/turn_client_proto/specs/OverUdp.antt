@@ -1,8 +1,8 @@
 -- What holds for every client over UDP, and what it returns for a datagram.
 use Rattle.std.specs.Prelude.{◌≡◌, ◌≤◌, ℕ, List, [], length, ⊤}
 use Rattle.turn_stun.specs.declared.transport.TransportType.TheVariants.{Udp}
-use Rattle.turn_client_api.specs.LawsHoused.{IsHoused}
-use Rattle.turn_client_api.specs.LawsOrder.{IsSteady}
+use Rattle.turn_client_api.specs.LawsGrantAllocations.{GrantsHaveAllocations}
+use Rattle.turn_client_api.specs.LawsOrder.{FitsPhase}
 use Rattle.turn_client_api.specs.State.{State}
 use Rattle.turn_client_core.specs.declared.told.Told.{Told}
 use Rattle.turn_client_core.specs.declared.told.Told.TheVariants as T
@@ -13,6 +13,6 @@ pub record IsUdpClient (s : State) : Type 0 where
   pub carrier : s.transport ≡ Udp
   pub relays : s.config.allocation_transport ≡ Udp
   pub no_streams : s.streams ≡ []
-  pub steady : IsSteady s
-  pub housed : IsHoused s
+  pub steady : FitsPhase s
+  pub housed : GrantsHaveAllocations s
 

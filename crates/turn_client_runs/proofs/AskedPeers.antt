@@ -23,7 +23,7 @@ use Rattle.turn_client_api.proofs.EditsOfMessages.{edits-IsKept, purposes-listed
 use Rattle.turn_client_api.proofs.GrantEdits.{grants-KeepsAllEdits}
 use Rattle.turn_client_api.proofs.HasLemmas.{Has, has-all}
 use Rattle.turn_client_api.proofs.InAllocationLemmas.{any-has}
-use Rattle.turn_client_api.proofs.ListedGrants.{AllFounded, StayFounded, StayFounded-KeepsAllEdits, Founded}
+use Rattle.turn_client_api.proofs.ListedGrants.{AllHaveGrant, StayFounded, StayFounded-KeepsAllEdits, HasGrant}
 use Rattle.turn_client_api.proofs.NumberLemmas.{AreApart, numbers}
 use Rattle.turn_client_api.proofs.StandLemmas.{contains-has}
 use Rattle.turn_client_api.proofs.TurnKeepLemmas.{before-kept}
@@ -72,8 +72,8 @@ one-peer number peer to was is (g ∷ gs) h (inl e) (inl f) = same (e ∙ sym f)
 -- ---- the channel that a request is for
 
 -- a channel of the number has the peer with which it was requested
-asked-peer : (number : ℕ) (peer to : SocketAddr) (s : State) → AllFounded s → AreApart s.grants → (l : Listing) → Has l s.listed → l.purpose ≡ ForChannel number peer → HasChannelTo number to s → to ≡ peer
-asked-peer number peer to s founded apart l listed asks (progress, there) = by (subst (Founded s.grants) asks (founded l listed))
+asked-peer : (number : ℕ) (peer to : SocketAddr) (s : State) → AllHaveGrant s → AreApart s.grants → (l : Listing) → Has l s.listed → l.purpose ≡ ForChannel number peer → HasChannelTo number to s → to ≡ peer
+asked-peer number peer to s founded apart l listed asks (progress, there) = by (subst (HasGrant s.grants) asks (founded l listed))
   where
     at : (g : Grant) → Has g s.grants → is_asked_by (ForChannel number peer) g ≡ true → to ≡ peer
     at (Channel other of was) here e =
@@ -86,7 +86,7 @@ asked-peer number peer to s founded apart l listed asks (progress, there) = by (
     at (Offer offer) here e = cc
     at (Connection c) here e = cc
 
-    by : Founded s.grants (ForChannel number peer) → to ≡ peer
+    by : HasGrant s.grants (ForChannel number peer) → to ≡ peer
     by (inl e) = cc
     by (inr some) = let (g, here, e) = any-has (is_asked_by (ForChannel number peer)) s.grants some in at g here e
 

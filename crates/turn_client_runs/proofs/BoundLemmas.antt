@@ -13,7 +13,7 @@ use Rattle.turn_client_api.specs.Connections.{bind_answered, bind_step, connecti
 use Rattle.turn_client_api.specs.Payloads.{is_message}
 use Rattle.turn_client_api.specs.Handled.{Input, handled, processed}
 use Rattle.turn_client_api.specs.LawsBound.{IsBindInput, IsBoundConnection, IsConnectedBy, IsConnecting}
-use Rattle.turn_client_api.specs.LawsGranted.{Stood}
+use Rattle.turn_client_api.specs.LawsGranted.{WasActive}
 use Rattle.turn_client_api.specs.LawsHandled.{IsBoundAt, IsDoneBy, IsOverControl, IsOverWaiting, TakesInput}
 use Rattle.turn_client_api.specs.LawsReplies.{IsAccepted, IsNotAwaited}
 use Rattle.turn_client_api.specs.Steps.{state_after, state_after_all}
@@ -219,7 +219,7 @@ module _ (c : DataConnection) where
   open-bound : (s : State) → IsOpen s → IsBoundConnection c s
   open-bound s stands = by (covers-stood s (Connection c) stands)
     where
-      by : Stood s (Connection c) → IsBoundConnection c s
+      by : WasActive s (Connection c) → IsBoundConnection c s
       by (Connection d, before, (same, none)) = (subst (λ (x : DataConnection). Contains s.grants (Connection x)) same before, subst (λ (x : DataConnection). x.deadline ≡ None) same none)
       by (Allocation a, before, k) = absurd k
       by (Permission ip Pending, before, k) = absurd k

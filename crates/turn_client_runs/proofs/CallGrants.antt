@@ -10,7 +10,7 @@ use Rattle.turn_client_api.specs.declared.grant.Grant.TheVariants.{Allocation, P
 use Rattle.turn_client_api.specs.declared.grant.Relay.{Relay}
 use Rattle.turn_client_api.specs.Calls.{delete_step, is_allocated}
 use Rattle.turn_client_api.specs.Handled.{Input, handled}
-use Rattle.turn_client_api.specs.LawsGranted.{IsEndedNow, IsGrantedIn, IsKeptAs, Stood}
+use Rattle.turn_client_api.specs.LawsGranted.{IsEndedNow, IsGrantedIn, IsSameGrant, WasActive}
 use Rattle.turn_client_api.specs.LawsHandled.{IsDoneBy, TakesInput}
 use Rattle.turn_client_api.specs.Steps.{state_after}
 use Rattle.turn_client_api.proofs.GrantedLemmas.{leaves-grants}
@@ -53,7 +53,7 @@ pub same-allocation : (a b : Relay) → Allocation a ≡ Allocation b → a ≡ 
 same-allocation a b e = cc
 
 -- what is kept as the grant ended with it
-ended-kept : (call : Call) (s : State) (is g : Grant) → IsKeptAs is g → IsEndedBy call s is → IsEndedBy call s g
+ended-kept : (call : Call) (s : State) (is g : Grant) → IsSameGrant is g → IsEndedBy call s is → IsEndedBy call s g
 ended-kept call s is g kept (a, now, what, how, ends, was) = by (kept-alike is g kept)
   where
     by : AreAllocations is g ⊎ (is ≡ g) → IsEndedBy call s g
@@ -109,7 +109,7 @@ module _ (g : Grant) where
   quiet-grants : (call : Call) (s : State) → (TakesInput call → ⊥) → Covers (state_after call s).grants g → Covers s.grants g ⊎ IsEndedBy call s g
   quiet-grants call s other (is, there, kept) = by (leaves-grants call s (state_after call s) is (inl refl) (has-contains is (state_after call s).grants there) (kept-stood is g kept))
     where
-      by : Stood s is ⊎ IsEndedNow call s is ⊎ IsDoneBy (IsGrantedIn is) call s → Covers s.grants g ⊎ IsEndedBy call s g
+      by : WasActive s is ⊎ IsEndedNow call s is ⊎ IsDoneBy (IsGrantedIn is) call s → Covers s.grants g ⊎ IsEndedBy call s g
       by (inl (was, before, k)) = inl (was, contains-has was s.grants before, kept-trans was is g k kept)
       by (inr (inl ended)) = inr (ended-kept call s is g kept (ended-how call s is ended))
       by (inr (inr done)) = absurd (none-done (IsGrantedIn is) call s other done)
@@ -118,14 +118,14 @@ module _ (g : Grant) where
   abbrev pub IsCaused : Call → State → Type 0
   IsCaused call s = IsEndedBy call s g ⊎ IsDoneBy (Granting g) call s
 
-  stood-covers : (s : State) → Stood s g → Covers s.grants g
+  stood-covers : (s : State) → WasActive s g → Covers s.grants g
   stood-covers s (was, there, kept) = (was, contains-has was s.grants there, kept)
 
-  pub call-causes : (call : Call) (s : State) → Stood (state_after call s) g → Stood s g ⊎ IsCaused call s
+  pub call-causes : (call : Call) (s : State) → WasActive (state_after call s) g → WasActive s g ⊎ IsCaused call s
   call-causes call s stood =
       by (leaves-bring (λ u. Covers u.grants g) (Granting g) (granting-brought g) (λ call s. IsEndedBy call s g) quiet-grants call s (state_after call s) (inl refl) (stood-covers (state_after call s) stood))
     where
-      by : Covers s.grants g ⊎ IsEndedBy call s g ⊎ IsDoneBy (Granting g) call s → Stood s g ⊎ IsCaused call s
+      by : Covers s.grants g ⊎ IsEndedBy call s g ⊎ IsDoneBy (Granting g) call s → WasActive s g ⊎ IsCaused call s
       by (inl covers) = inl (covers-stood s g covers)
       by (inr cause) = inr cause
 

@@ -17,7 +17,7 @@ use Rattle.turn_client_api.proofs.PhasesGoOn.{challenge-IsCounted, leaves-keeps}
 use Rattle.turn_client_api.proofs.TurnBringLemmas.{turn-brings}
 use Rattle.turn_client_api.proofs.TurnChainLemmas.{calls-do}
 use Rattle.turn_client_api.proofs.TurnLemmas.{brought}
-use Rattle.turn_client_runs.specs.Challenges.{CountsIt, IsChallengeInput, IsHeededAmong, IsPatient, answers_in, is_answer}
+use Rattle.turn_client_runs.specs.Challenges.{CountsIt, IsChallengeInput, IsHeededAmong, IsWithinChallengeLimit, answers_in, is_answer}
 use Rattle.turn_client_runs.specs.Holds.{Reaches}
 use Rattle.turn_client_runs.specs.Inputs.{IsAmong, handled_in}
 use Rattle.turn_client_runs.proofs.HoldLemmas.{kept-behind}
@@ -41,10 +41,10 @@ realm-stays s (call ∷ calls) t (u, leaves, more) = λ c held. by c (realm-stay
 
 -- ---- how many are answered
 
-pub initial-patient : HoldsAtFirst IsPatient
+pub initial-patient : HoldsAtFirst IsWithinChallengeLimit
 initial-patient transport local remote config seed = omega arith
 
-pub leaves-patient : StaysInCalls IsPatient
+pub leaves-patient : StaysInCalls IsWithinChallengeLimit
 leaves-patient call s t leaves = (leaves-keeps call s t leaves).1
 
 pub challenge-counts : (one : Input) → IsChallengeInput one → CountsIt one
@@ -140,11 +140,11 @@ run-counts s (call ∷ calls) = by (call-counts call s) (run-counts (state_after
     by (inr among) rest = inr (among-left IsHeededIn turns more among)
     by (inl first) (inr among) = inr (among-right IsHeededIn turns more among)
 
-pub few-answered : (s : State) (calls : List Call) → IsPatient s → (answers_in (handled_in s calls) ≤ most_challenges) ⊎ IsHeededAmong (handled_in s calls)
+pub few-answered : (s : State) (calls : List Call) → IsWithinChallengeLimit s → (answers_in (handled_in s calls) ≤ most_challenges) ⊎ IsHeededAmong (handled_in s calls)
 few-answered s calls patient = by (run-counts s calls)
   where
-    last : IsPatient (state_after_all s calls)
-    last = kept-behind IsPatient leaves-patient s calls patient
+    last : IsWithinChallengeLimit (state_after_all s calls)
+    last = kept-behind IsWithinChallengeLimit leaves-patient s calls patient
 
     by : Counts s (state_after_all s calls) (handled_in s calls) → (answers_in (handled_in s calls) ≤ most_challenges) ⊎ IsHeededAmong (handled_in s calls)
     by (inl counts) = inl (omega (arith, counts, last))

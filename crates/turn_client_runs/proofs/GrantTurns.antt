@@ -25,7 +25,7 @@ use Rattle.turn_client_api.specs.Connections.{bind_answered, bind_step, deadline
 use Rattle.turn_client_api.specs.Handled.{Input, processed}
 use Rattle.turn_client_api.specs.Judgement.{Fatal, SignedSuccess, Unrelated, answers_one, bind_judgement, challenge_in, challenged_or, class_in, judgement_of, requesting_judgement}
 use Rattle.turn_client_api.specs.LawsBound.{IsBindInput}
-use Rattle.turn_client_api.specs.LawsGranted.{IsGivenFor, IsGrant, IsGrantedBy, IsKeptAs}
+use Rattle.turn_client_api.specs.LawsGranted.{IsGivenFor, IsGrant, IsGrantedBy, IsSameGrant}
 use Rattle.turn_client_api.specs.LawsHandled.{IsOverControl}
 use Rattle.turn_client_api.specs.LawsReplies.{IsAccepted, IsAwaited, IsNotAwaited}
 use Rattle.turn_client_api.specs.Payloads.{is_message, message_step}
@@ -47,7 +47,7 @@ use Rattle.turn_client_runs.proofs.AnsweredTurns.{made-control, made-waiting, su
 abbrev pub AreAllocations : Grant → Grant → Type 0
 AreAllocations was g = (a b : Relay) × (was ≡ Allocation a) × (g ≡ Allocation b) × (a.relayed ≡ b.relayed) × (a.expiry ≡ b.expiry)
 
-pub kept-alike : (was g : Grant) → IsKeptAs was g → AreAllocations was g ⊎ (was ≡ g)
+pub kept-alike : (was g : Grant) → IsSameGrant was g → AreAllocations was g ⊎ (was ≡ g)
 kept-alike (Allocation a) (Allocation b) k = inl (a, b, refl, refl, k.0, k.1)
 kept-alike (Allocation a) (Permission other progress) k = absurd k
 kept-alike (Allocation a) (Channel other to progress) k = absurd k
@@ -84,7 +84,7 @@ kept-alike (Connection c) (Connect to) k = absurd k
 kept-alike (Connection c) (Offer offer) k = absurd k
 
 -- what is granted for a purpose is granted as what it is kept as
-given-kept : (p : Purpose) (was g : Grant) (message : List ℕ) (now : ℕ) (s : State) → IsKeptAs was g → IsGivenFor p message now s was → IsGivenFor p message now s g
+given-kept : (p : Purpose) (was g : Grant) (message : List ℕ) (now : ℕ) (s : State) → IsSameGrant was g → IsGivenFor p message now s was → IsGivenFor p message now s g
 given-kept p was g message now s kept given = by (kept-alike was g kept)
   where
     same : (q : Purpose) (a b : Relay) → a.relayed ≡ b.relayed → a.expiry ≡ b.expiry → IsGivenFor q message now s (Allocation a) → IsGivenFor q message now s (Allocation b)
@@ -209,7 +209,7 @@ module _ (one : Input) (stream : Stream) (of : one.stream ≡ Some stream) (wait
   }
 
   -- the connection is the one from the local address over which the message was received
-  bound-granting : (b : Binds stream.local one.bytes one.before (bind_step stream.local one.bytes one.moment one.before)) → one.before.phase ≡ Allocated → (g : Grant) (c : DataConnection) → c.local ≡ b.c.local → IsKeptAs (Connection c) g → Granting g one
+  bound-granting : (b : Binds stream.local one.bytes one.before (bind_step stream.local one.bytes one.moment one.before)) → one.before.phase ≡ Allocated → (g : Grant) (c : DataConnection) → c.local ≡ b.c.local → IsSameGrant (Connection c) g → Granting g one
   bound-granting b phase (Connection d) c at (same, none) =
       let here : c.local ≡ stream.local = at ∙ found-local stream.local b.c _ b.found in
       let turn = binds-turn one stream (bind_step stream.local one.bytes one.moment one.before) of waits whole b in

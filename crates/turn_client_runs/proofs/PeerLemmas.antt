@@ -15,17 +15,17 @@ use Rattle.turn_client_api.specs.Streams.{is_ready, owned, payload_in, stream_at
 use Rattle.turn_client_api.specs.Receive.{first_frame_step, is_from_server}
 use Rattle.turn_client_api.specs.Handled.{Input, fed, fed_taken, frame_taken, handled, is_front, processed, payloads_by, piece_inputs, poll_recv_inputs, recv_inputs, stream_inputs, taken, taken_first, taken_in, taken_of_len, then_taken, stream_input, input_payload, inputs_taken, unless_given}
 use Rattle.turn_client_api.specs.LawsHandled.{IsBoundAt}
-use Rattle.turn_client_api.specs.LawsPeers.{IsLetInTurn, IsLetThrough, IsNobodys}
+use Rattle.turn_client_api.specs.LawsPeers.{IsPermittedInput, IsMessageFromPermitted, HasNoPeer}
 use Rattle.turn_client_api.specs.Steps.{state_after}
 use Rattle.turn_client_api.specs.declared.call.Call.{Call}
 use Rattle.turn_client_api.specs.declared.call.Call.TheVariants.{Recv, PollRecv}
 use Rattle.turn_client_api.specs.declared.state.Mode.{Mode}
 use Rattle.turn_client_api.specs.declared.state.Mode.TheVariants.{Control, Waiting, Bound, Broken}
 use Rattle.turn_client_api.specs.declared.state.Stream.{Stream}
-use Rattle.turn_client_api.proofs.HandledLemmas.{poll_recv-Gives, recv-AreOf, turn-IsLetIn}
+use Rattle.turn_client_api.proofs.HandledLemmas.{poll_recv-Gives, recv-AreOf, turn-IsFromPermitted}
 use Rattle.turn_client_api.proofs.HasLemmas.{Has, has-append, has-filter_map, has-found, map-has}
 use Rattle.turn_client_api.proofs.StandLemmas.{contains-has, has-contains}
-use Rattle.turn_client_runs.specs.Peers.{InputDelivers, IsOfLetIn, IsDeliveredIn, TellsOfPermitted}
+use Rattle.turn_client_runs.specs.Peers.{InputDelivers, IsPeerPermitted, IsDeliveredIn, TellsOfPermitted}
 use Rattle.turn_client_runs.specs.Inputs.{IsAmong, answered, answered_in, handled_in, payloads_in}
 use Rattle.turn_client_runs.proofs.TurnsOfRuns.{among-left, among-right, has-among}
 
@@ -189,10 +189,10 @@ module _ (payload : Payload) where
   no_icmp false transport peer icmp e = cc
 
   -- a whole message or a ChannelData message
-  through : (one : Input) (o : Outcome) → IsLetThrough one.bytes one.before o → Gives one.is_lent o → IsOfLetIn payload.peer one
-  through one (PeerData p) exact gives = subst (λ (peer : SocketAddr). IsOfLetIn peer one) (peer-same one.is_lent p payload gives) (by exact)
+  through : (one : Input) (o : Outcome) → IsMessageFromPermitted one.bytes one.before o → Gives one.is_lent o → IsPeerPermitted payload.peer one
+  through one (PeerData p) exact gives = subst (λ (peer : SocketAddr). IsPeerPermitted peer one) (peer-same one.is_lent p payload gives) (by exact)
     where
-      by : IsLetThrough one.bytes one.before (PeerData p) → IsOfLetIn p.peer one
+      by : IsMessageFromPermitted one.bytes one.before (PeerData p) → IsPeerPermitted p.peer one
       by (inl (indicated, is)) = inl indicated.permitted
       by (inr (channel, is)) = inr (inl (_, channel))
   through one Handled exact gives = absurd (nothing one.is_lent (inl gives))
@@ -200,13 +200,13 @@ module _ (payload : Payload) where
   through one (PeerIcmp transport peer icmp) exact gives = absurd (no_icmp one.is_lent transport peer icmp gives)
 
   -- what no peer sent is no payload
-  nobody : (one : Input) (o : Outcome) → IsNobodys o → Gives one.is_lent o → IsOfLetIn payload.peer one
+  nobody : (one : Input) (o : Outcome) → HasNoPeer o → Gives one.is_lent o → IsPeerPermitted payload.peer one
   nobody one (PeerData p) none gives = absurd none
   nobody one Handled none gives = absurd (nothing one.is_lent (inl gives))
   nobody one Ignored none gives = absurd (nothing one.is_lent (inr gives))
   nobody one (PeerIcmp transport peer icmp) none gives = absurd none
 
-  stream_in_mode : (m : Mode) (stream : Stream) (t : Input) → input_payload (record t { stream = Some (record stream { mode = m }) }) ≡ Some payload → IsLetInTurn (record t { stream = Some (record stream { mode = m }) }) → IsIn (record t { stream = Some (record stream { mode = m }) }) → IsOfLetIn payload.peer (record t { stream = Some (record stream { mode = m }) })
+  stream_in_mode : (m : Mode) (stream : Stream) (t : Input) → input_payload (record t { stream = Some (record stream { mode = m }) }) ≡ Some payload → IsPermittedInput (record t { stream = Some (record stream { mode = m }) }) → IsIn (record t { stream = Some (record stream { mode = m }) }) → IsPeerPermitted payload.peer (record t { stream = Some (record stream { mode = m }) })
   stream_in_mode Control stream t gives exact is = let one = record t { stream = Some (record stream { mode = Control }) } in through one (processed one).0 exact gives
   stream_in_mode Waiting stream t gives exact is = let one = record t { stream = Some (record stream { mode = Waiting }) } in nobody one (processed one).0 exact gives
   stream_in_mode Broken stream t gives exact is = let one = record t { stream = Some (record stream { mode = Broken }) } in nobody one (processed one).0 exact gives
@@ -214,15 +214,15 @@ module _ (payload : Payload) where
       let u = record stream { mode = Bound peer } in
       let one = record t { stream = Some u } in
       let same : peer ≡ payload.peer = peer-same t.is_lent _ payload gives in
-      subst (λ (x : SocketAddr). IsOfLetIn x one) same (inr (inr (u, refl, refl, bound (is u refl))))
+      subst (λ (x : SocketAddr). IsPeerPermitted x one) same (inr (inr (u, refl, refl, bound (is u refl))))
     where
       bound : Stands (record stream { mode = Bound peer }) t.before → IsBoundAt stream.local peer t.before
       bound (x, there, at, mode) = (x, there, at, mode)
 
-  let-in : (one : Input) → input_payload one ≡ Some payload → IsLetInTurn one → IsIn one → IsOfLetIn payload.peer one
+  let-in : (one : Input) → input_payload one ≡ Some payload → IsPermittedInput one → IsIn one → IsPeerPermitted payload.peer one
   let-in one = by one.stream one
     where
-      by : (o : Option Stream) (t : Input) → input_payload (record t { stream = o }) ≡ Some payload → IsLetInTurn (record t { stream = o }) → IsIn (record t { stream = o }) → IsOfLetIn payload.peer (record t { stream = o })
+      by : (o : Option Stream) (t : Input) → input_payload (record t { stream = o }) ≡ Some payload → IsPermittedInput (record t { stream = o }) → IsIn (record t { stream = o }) → IsPeerPermitted payload.peer (record t { stream = o })
       by None t gives exact is = let one = record t { stream = None } in through one (processed one).0 exact gives
       by (Some stream) t gives exact is = stream_in_mode stream.mode stream t gives exact is
 
@@ -233,7 +233,7 @@ module _ (payload : Payload) where
     where
       by : (one : Input) × Has one (handled call s) × (input_payload one ≡ Some payload) → IsAmong (InputDelivers payload) (handled call s)
       by (one, among, gives) =
-          let exact = turn-IsLetIn one in
+          let exact = turn-IsFromPermitted one in
           has-among (InputDelivers payload) (handled call s) (one, among, record { given = gives; exact = exact; let_in = let-in one gives exact (call-in call s one among) })
 
   pub received : (s : State) (calls : List Call) → Contains (payloads_in s calls) payload → IsDeliveredIn payload s calls
@@ -260,27 +260,27 @@ all-answered s (call ∷ calls) = rw (call-answered call s, all-answered (state_
 
 -- ---- ICMP reports
 
-tells-through : (one : Input) (o : Outcome) → (processed one).0 ≡ o → IsLetThrough one.bytes one.before o → TellsOfPermitted one
+tells-through : (one : Input) (o : Outcome) → (processed one).0 ≡ o → IsMessageFromPermitted one.bytes one.before o → TellsOfPermitted one
 tells-through one (PeerIcmp transport peer icmp) e (indicated, is) = rw e (indicated, is)
 tells-through one (PeerData payload) e exact = rw e tt
 tells-through one Handled e exact = rw e tt
 tells-through one Ignored e exact = rw e tt
 
-tells-nothing : (one : Input) (o : Outcome) → (processed one).0 ≡ o → IsNobodys o → TellsOfPermitted one
+tells-nothing : (one : Input) (o : Outcome) → (processed one).0 ≡ o → HasNoPeer o → TellsOfPermitted one
 tells-nothing one (PeerIcmp transport peer icmp) e none = absurd none
 tells-nothing one (PeerData payload) e none = absurd none
 tells-nothing one Handled e none = rw e tt
 tells-nothing one Ignored e none = rw e tt
 
-tells_in_mode : (m : Mode) (stream : Stream) (t : Input) → IsLetInTurn (record t { stream = Some (record stream { mode = m }) }) → TellsOfPermitted (record t { stream = Some (record stream { mode = m }) })
+tells_in_mode : (m : Mode) (stream : Stream) (t : Input) → IsPermittedInput (record t { stream = Some (record stream { mode = m }) }) → TellsOfPermitted (record t { stream = Some (record stream { mode = m }) })
 tells_in_mode Control stream t exact = let one = record t { stream = Some (record stream { mode = Control }) } in tells-through one (processed one).0 refl exact
 tells_in_mode Waiting stream t exact = let one = record t { stream = Some (record stream { mode = Waiting }) } in tells-nothing one (processed one).0 refl exact
 tells_in_mode (Bound peer) stream t exact = tt
 tells_in_mode Broken stream t exact = tt
 
 pub tells-permitted : (one : Input) → TellsOfPermitted one
-tells-permitted one = by one.stream one (turn-IsLetIn one)
+tells-permitted one = by one.stream one (turn-IsFromPermitted one)
   where
-    by : (o : Option Stream) (t : Input) → IsLetInTurn (record t { stream = o }) → TellsOfPermitted (record t { stream = o })
+    by : (o : Option Stream) (t : Input) → IsPermittedInput (record t { stream = o }) → TellsOfPermitted (record t { stream = o })
     by None t exact = let u = record t { stream = None } in tells-through u (processed u).0 refl exact
     by (Some stream) t exact = tells_in_mode stream.mode stream t exact

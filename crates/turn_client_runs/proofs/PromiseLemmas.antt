@@ -7,8 +7,8 @@ use Rattle.turn_client_api.specs.State.{State, initial}
 use Rattle.turn_client_api.specs.LawsNumbers.{HasDistinctNumbers}
 use Rattle.turn_client_api.specs.declared.call.Call.{Call}
 use Rattle.turn_client_api.proofs.DistinctNumbers.{initial-numbers, leaves-apart}
-use Rattle.turn_client_runs.specs.Challenges.{IsPatient}
-use Rattle.turn_client_runs.specs.Promises.{AfterEach, BoundHaveSuccess, CutsAgree, FewAreAnswered, GrantsHaveReplies, HearsLetIn, NumbersAreDistinct, RealmIsAnswered, RealmStays, RepliesCountOnce}
+use Rattle.turn_client_runs.specs.Challenges.{IsWithinChallengeLimit}
+use Rattle.turn_client_runs.specs.Promises.{AfterEach, BoundHaveSuccess, CutsAgree, FewAreAnswered, GrantsHaveReplies, DeliversOnlyPermitted, NumbersAreDistinct, RealmIsAnswered, RealmStays, RepliesCountOnce}
 use Rattle.turn_client_runs.specs.Replies.{CountsOnce}
 use Rattle.turn_client_runs.specs.Cut.{IsQuiet}
 use Rattle.turn_client_api.specs.Streams.{poll_recv_step}
@@ -59,7 +59,7 @@ module _ (transport : TransportType) (local remote : SocketAddr) (config : Confi
     streams-are-bound-before transport local remote config seed earlier,
   )
 
-  pub run-hears : HearsLetIn first calls
+  pub run-hears : DeliversOnlyPermitted first calls
   run-hears = (
     λ earlier middle later e. (λ payload. received payload (state_after_all first earlier) middle, λ one there. tells-permitted one),
     λ earlier call later one e there.
@@ -73,8 +73,8 @@ module _ (transport : TransportType) (local remote : SocketAddr) (config : Confi
   pub run-few : FewAreAnswered first calls
   run-few earlier middle later e = (patient, few-answered (state_after_all first earlier) middle patient, λ one there. challenge-counts one)
     where
-      patient : IsPatient (state_after_all first earlier)
-      patient = holds-found IsPatient leaves-patient initial-patient transport local remote config seed earlier
+      patient : IsWithinChallengeLimit (state_after_all first earlier)
+      patient = holds-found IsWithinChallengeLimit leaves-patient initial-patient transport local remote config seed earlier
 
   pub run-realm : RealmStays first calls
   run-realm earlier middle later e = (

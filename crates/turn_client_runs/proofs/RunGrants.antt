@@ -19,11 +19,11 @@ use Rattle.turn_client_api.specs.Calls.{delete_step}
 use Rattle.turn_client_api.specs.Grants.{purposes_of}
 use Rattle.turn_client_api.specs.Handled.{Input, handled}
 use Rattle.turn_client_api.specs.LawsAllocates.{AllocatesInOrder}
-use Rattle.turn_client_api.specs.LawsGranted.{HasChannelTo, IsKeptAs, IsStanding, Stood}
+use Rattle.turn_client_api.specs.LawsGranted.{HasChannelTo, IsSameGrant, IsActiveGrant, WasActive}
 use Rattle.turn_client_api.specs.LawsHandled.{IsDoneBy}
 use Rattle.turn_client_api.specs.LawsGone.{GivesBack}
 use Rattle.turn_client_api.specs.LawsNumbers.{HasDistinctNumbers}
-use Rattle.turn_client_api.specs.LawsOrder.{IsSteady}
+use Rattle.turn_client_api.specs.LawsOrder.{FitsPhase}
 use Rattle.turn_client_api.specs.LawsStates.{HasGrantsAsked}
 use Rattle.turn_client_api.specs.Steps.{state_after, state_after_all}
 use Rattle.turn_client_api.proofs.AllocateFamilies.{initial-AllocatesInOrder, leaves-AllocatesInOrder}
@@ -51,7 +51,7 @@ module _ (one : Input) where
   abbrev Asked : Purpose → Type 0
   Asked p = (number : ℕ) (peer to : SocketAddr) → p ≡ ForChannel number peer → HasChannelTo number to one.before → to ≡ peer
 
-  given-in : (g : Grant) (p : Purpose) → IsStanding g → Asked p → IsGivenAt one p g → IsGivenIn one p g
+  given-in : (g : Grant) (p : Purpose) → IsActiveGrant g → Asked p → IsGivenAt one p g → IsGivenIn one p g
   given-in (Allocation a) ForAllocation stands peers h = h
   given-in (Allocation a) (ForRefresh family lifetime) stands peers h = h
   given-in (Allocation a) (ForPermission ip) stands peers h = absurd h
@@ -83,7 +83,7 @@ module _ (one : Input) where
   given-in (Connect to) p stands peers h = absurd stands
   given-in (Offer offer) p stands peers h = absurd stands
 
-  granting : (g : Grant) → IsStanding g → HasAskedPeers one → AllocatesInOrder one.before × Signs one.before → (is : Granting g one) → IsGranting g is.purpose one
+  granting : (g : Grant) → IsActiveGrant g → HasAskedPeers one → AllocatesInOrder one.before × Signs one.before → (is : Granting g one) → IsGranting g is.purpose one
   granting g stands asked order is = record {
     over = is.over;
     whole = is.accepting.whole;
@@ -103,7 +103,7 @@ module _ (one : Input) where
 
 -- what every client keeps about channels, and about what an ALLOCATE requests and how
 abbrev Keeps : State → Type 0
-Keeps s = HasGrantsAsked s × HasDistinctNumbers s × AllocatesInOrder s × IsSteady s × Signs s
+Keeps s = HasGrantsAsked s × HasDistinctNumbers s × AllocatesInOrder s × FitsPhase s × Signs s
 
 call-keeps : (call : Call) (s : State) → Keeps s → Keeps (state_after call s)
 call-keeps call s (asked, distinct, order, steady, signs) = (
@@ -118,7 +118,7 @@ call-keeps call s (asked, distinct, order, steady, signs) = (
 abbrev IsDoneFor : (Purpose → Input → Type 0) → Call → State → Type 0
 IsDoneFor Did call s = (one : Input) × Contains (handled call s) one × ((p : Purpose) × Did p one)
 
-granted-in : (g : Grant) (call : Call) (s : State) → IsStanding g → Keeps s → IsDoneBy (Granting g) call s → IsDoneFor (IsGranting g) call s
+granted-in : (g : Grant) (call : Call) (s : State) → IsActiveGrant g → Keeps s → IsDoneBy (Granting g) call s → IsDoneFor (IsGranting g) call s
 granted-in g call s stands (asked, distinct, order, steady, signs) (one, among, is) =
     (one, among, (is.purpose, granting one g stands (turns-ask-peers call s asked distinct one among) (turns-signed call s (order, signs) one among) is))
 
@@ -133,14 +133,14 @@ Causes g call s = IsAcceptedEnd g call s ⊎ IsDoneFor (IsGranting g) call s
 same-moment : (n m : ℕ) → Delete n ≡ Delete m → n ≡ m
 same-moment n m e = cc
 
-call-grants : (g : Grant) → IsStanding g → (call : Call) (s : State) → Keeps s → Stood (state_after call s) g → Stood s g ⊎ Causes g call s
+call-grants : (g : Grant) → IsActiveGrant g → (call : Call) (s : State) → Keeps s → WasActive (state_after call s) g → WasActive s g ⊎ Causes g call s
 call-grants g stands call s keeps stood = by (call-causes g call s stood)
   where
-    deleted : (now : ℕ) → call ≡ Delete now → IsEndedBy call s g → ((delete_step now s).0 ≡ Ok tt) ⊎ ((delete_step now s).1 ≡ s) → Stood s g ⊎ Causes g call s
+    deleted : (now : ℕ) → call ≡ Delete now → IsEndedBy call s g → ((delete_step now s).0 ≡ Ok tt) ⊎ ((delete_step now s).1 ≡ s) → WasActive s g ⊎ Causes g call s
     deleted now how ended (inl accepted) = inr (inl (ended, λ other e. subst (λ (n : ℕ). (delete_step n s).0 ≡ Ok tt) (same-moment now other (sym how ∙ e)) accepted))
-    deleted now how ended (inr same) = inl (subst (λ (t : State). Stood t g) (ap (λ (c : Call). state_after c s) how ∙ same) stood)
+    deleted now how ended (inr same) = inl (subst (λ (t : State). WasActive t g) (ap (λ (c : Call). state_after c s) how ∙ same) stood)
 
-    by : Stood s g ⊎ IsCaused g call s → Stood s g ⊎ Causes g call s
+    by : WasActive s g ⊎ IsCaused g call s → WasActive s g ⊎ Causes g call s
     by (inl was) = inl was
     by (inr (inl ended)) = let (a, now, what, how, ends, was) = ended in deleted now how ended (delete-accepted now s)
     by (inr (inr done)) = inr (inr (granted-in g call s stands keeps done))
@@ -149,10 +149,10 @@ call-grants g stands call s keeps stood = by (call-causes g call s stood)
 call-allocates : (relayed : SocketAddr) (call : Call) (s : State) → Keeps s → IsRelayed relayed (state_after call s) → IsRelayed relayed s ⊎ IsDoneFor (GrantsAddress relayed) call s
 call-allocates relayed call s keeps (a, there, e) = by (call-grants (Allocation a) tt call s keeps (Allocation a, there, (refl, refl)))
   where
-    by : Stood s (Allocation a) ⊎ Causes (Allocation a) call s → IsRelayed relayed s ⊎ IsDoneFor (GrantsAddress relayed) call s
+    by : WasActive s (Allocation a) ⊎ Causes (Allocation a) call s → IsRelayed relayed s ⊎ IsDoneFor (GrantsAddress relayed) call s
     by (inl (was, before, kept)) = inl (stood was before kept)
       where
-        stood : (was : Grant) → Contains s.grants was → IsKeptAs was (Allocation a) → IsRelayed relayed s
+        stood : (was : Grant) → Contains s.grants was → IsSameGrant was (Allocation a) → IsRelayed relayed s
         stood (Allocation b) before (same, ends) = (b, before, same ∙ e)
         stood (Permission ip Pending) before k = absurd k
         stood (Permission ip (Active expiry)) before k = absurd k
@@ -242,16 +242,16 @@ module _ (first : State) (empty : first.grants ≡ []) (unlisted : first.listed 
       answered-in first unlisted hold calls (GrantsAddress relayed) (address-answers relayed) (IsRelayed relayed)
       (run-did (IsRelayed relayed) (IsDoneFor (GrantsAddress relayed)) Keeps call-keeps (call-allocates relayed) calls first keeps (λ is. nothing (Allocation is.0) is.1) h)
 
-  run-caused : (g : Grant) → IsStanding g → (calls : List Call) → Stood (state_after_all first calls) g → IsDoneLast (Causes g) (λ s. Stood s g) calls first
-  run-caused g stands calls h = run-did (λ s. Stood s g) (Causes g) Keeps call-keeps (call-grants g stands) calls first keeps (λ was. nothing was.0 was.1) h
+  run-caused : (g : Grant) → IsActiveGrant g → (calls : List Call) → WasActive (state_after_all first calls) g → IsDoneLast (Causes g) (λ s. WasActive s g) calls first
+  run-caused g stands calls h = run-did (λ s. WasActive s g) (Causes g) Keeps call-keeps (call-grants g stands) calls first keeps (λ was. nothing was.0 was.1) h
 
   -- the last cause was an input, or a `delete`
-  run-turned : (g : Grant) (calls : List Call) (is : IsDoneLast (Causes g) (λ s. Stood s g) calls first) → IsDoneFor (IsGranting g) is.call (state_after_all first is.earlier) → IsGranted g calls first
+  run-turned : (g : Grant) (calls : List Call) (is : IsDoneLast (Causes g) (λ s. WasActive s g) calls first) → IsDoneFor (IsGranting g) is.call (state_after_all first is.earlier) → IsGranted g calls first
   run-turned g calls is done =
-      answered-in first unlisted hold calls (IsGranting g) (granting-answers g) (λ s. Stood s g)
+      answered-in first unlisted hold calls (IsGranting g) (granting-answers g) (λ s. WasActive s g)
       (record { earlier = is.earlier; call = is.call; later = is.later; split = is.split; did = done; holds = is.holds })
 
-  run-gave : (a : Relay) (calls : List Call) (is : IsDoneLast (Causes (Allocation a)) (λ s. Stood s (Allocation a)) calls first) → IsAcceptedEnd (Allocation a) is.call (state_after_all first is.earlier) → IsGivenBack a calls first
+  run-gave : (a : Relay) (calls : List Call) (is : IsDoneLast (Causes (Allocation a)) (λ s. WasActive s (Allocation a)) calls first) → IsAcceptedEnd (Allocation a) is.call (state_after_all first is.earlier) → IsGivenBack a calls first
   run-gave a calls is ((b, now, what, how, ends, was), accepted) = record {
     earlier = is.earlier;
     now = now;
@@ -260,7 +260,7 @@ module _ (first : State) (empty : first.grants ≡ []) (unlisted : first.listed 
     accepted = accepted now how;
     ends = ap (λ (x : Relay). x.expiry) same ∙ ends;
     allocated = run-allocates a.relayed is.earlier (subst (λ (x : Relay). IsRelayed x.relayed (state_after_all first is.earlier)) (sym same) was);
-    stands = subst (λ (c : Call). HoldsThrough (λ s. Stood s (Allocation a)) is.later (state_after c (state_after_all first is.earlier))) how is.holds;
+    stands = subst (λ (c : Call). HoldsThrough (λ s. WasActive s (Allocation a)) is.later (state_after c (state_after_all first is.earlier))) how is.holds;
   }
     where
       same : a ≡ b
@@ -269,17 +269,17 @@ module _ (first : State) (empty : first.grants ≡ []) (unlisted : first.listed 
   no-end : (g : Grant) (call : Call) (s : State) → ((a : Relay) → g ≡ Allocation a → ⊥) → IsAcceptedEnd g call s → ⊥
   no-end g call s other ((a, now, what, how, ends, was), accepted) = other a what
 
-  run-grants : (calls : List Call) (g : Grant) → IsStanding g → Contains (state_after_all first calls).grants g → HasReply g calls first
+  run-grants : (calls : List Call) (g : Grant) → IsActiveGrant g → Contains (state_after_all first calls).grants g → HasReply g calls first
   run-grants calls g stands there = by g (run-caused g stands calls (covers-stood (state_after_all first calls) g (covers-has (state_after_all first calls).grants g (contains-has g (state_after_all first calls).grants there) stands)))
     where
-      turned : (h : Grant) (is : IsDoneLast (Causes h) (λ s. Stood s h) calls first) → ((a : Relay) → h ≡ Allocation a → ⊥) → IsGranted h calls first
+      turned : (h : Grant) (is : IsDoneLast (Causes h) (λ s. WasActive s h) calls first) → ((a : Relay) → h ≡ Allocation a → ⊥) → IsGranted h calls first
       turned h is other = at is.did
         where
           at : Causes h is.call (state_after_all first is.earlier) → IsGranted h calls first
           at (inl end) = absurd (no-end h is.call (state_after_all first is.earlier) other end)
           at (inr done) = run-turned h calls is done
 
-      by : (h : Grant) → IsDoneLast (Causes h) (λ s. Stood s h) calls first → HasReply h calls first
+      by : (h : Grant) → IsDoneLast (Causes h) (λ s. WasActive s h) calls first → HasReply h calls first
       by (Allocation a) is = at is.did
         where
           at : Causes (Allocation a) is.call (state_after_all first is.earlier) → HasReply (Allocation a) calls first
@@ -296,6 +296,6 @@ first-hold Udp local remote config seed x absent = absurd absent
 first-hold Tcp local remote config seed x (inl e) = rw e refl
 first-hold Tcp local remote config seed x (inr absent) = absurd absent
 
-pub grants-have-replies : (transport : TransportType) (local remote : SocketAddr) (config : Config) (seed : List ℕ) (calls : List Call) (g : Grant) → IsStanding g → Contains (state_after_all (initial transport local remote config seed) calls).grants g → HasReply g calls (initial transport local remote config seed)
+pub grants-have-replies : (transport : TransportType) (local remote : SocketAddr) (config : Config) (seed : List ℕ) (calls : List Call) (g : Grant) → IsActiveGrant g → Contains (state_after_all (initial transport local remote config seed) calls).grants g → HasReply g calls (initial transport local remote config seed)
 grants-have-replies transport local remote config seed =
     run-grants (initial transport local remote config seed) refl refl (first-hold transport local remote config seed) (initial-HasGrantsAsked transport local remote config seed, initial-numbers transport local remote config seed, initial-AllocatesInOrder transport local remote config seed, initial-steady transport local remote config seed, refl)

@@ -6,7 +6,7 @@ use Rattle.std.specs.declared.net.socket_addr.SocketAddr.{SocketAddr}
 use Rattle.std.proofs.lemmas.List.Elements.{All-contains, All-tail}
 use Rattle.turn_stun.specs.declared.transport.TransportType.{TransportType}
 use Rattle.turn_client_api.specs.Config.{Config}
-use Rattle.turn_client_api.specs.LawsStreams.{AreApart, IsDrained, IsEmptyIfBroken}
+use Rattle.turn_client_api.specs.LawsStreams.{AreApart, NeedsMoreBytes, IsEmptyIfBroken}
 use Rattle.turn_client_api.specs.State.{State, initial}
 use Rattle.turn_client_api.specs.Streams.{poll_recv_step}
 use Rattle.turn_client_api.specs.declared.call.Call.{Call}
@@ -45,8 +45,8 @@ streams-short transport local remote config seed calls earlier now later e none 
     apart : AreApart t
     apart = call-apart (PollRecv now) s (calls-keep AreApart call-apart earlier first (initial-apart transport local remote config seed))
 
-    drained : IsDrained stream
-    drained = All-contains IsDrained t.streams stream (poll_recv-drained now s none) there
+    drained : NeedsMoreBytes stream
+    drained = All-contains NeedsMoreBytes t.streams stream (poll_recv-drained now s none) there
 
     held : All (λ b. b < 256) stream.bytes
     held =

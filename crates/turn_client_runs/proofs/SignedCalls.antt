@@ -20,7 +20,7 @@ use Rattle.turn_client_api.specs.declared.state.Phase.TheVariants.{New, Requesti
 use Rattle.turn_client_api.specs.Calls.{allocated_tcp_socket_step, bind_channel_step, create_permission_step, delete_step, is_allocated, is_control, tcp_connect_step}
 use Rattle.turn_client_api.specs.Grants.{allocation_for, same_transport}
 use Rattle.turn_client_api.specs.LawsAllocates.{AllocatesInOrder}
-use Rattle.turn_client_api.specs.LawsOrder.{IsSteady, IsUngranted}
+use Rattle.turn_client_api.specs.LawsOrder.{FitsPhase, IsUngranted}
 use Rattle.turn_client_api.specs.LawsRequests.{AsksFor, IsMadeAs, IsRequestOf, IsSentAgain}
 use Rattle.turn_client_api.specs.LawsSteps.{rank}
 use Rattle.turn_client_api.specs.Requests.{fresh_id, request_for}
@@ -76,7 +76,7 @@ idle-socket id tuple peer local now s u empty =
     let is : (allocated_tcp_socket_step id tuple peer local now s).1 ≡ s = rw (unallocated s.phase u, none) refl in
     is
 
-idle-signs : (call : Call) (s : State) → IsIdle call s → IsSteady s → Signs s → Signs (state_after call s)
+idle-signs : (call : Call) (s : State) → IsIdle call s → FitsPhase s → Signs s → Signs (state_after call s)
 idle-signs call s idle steady h = by s.phase refl
   where
     t : State
@@ -143,7 +143,7 @@ transmit-asks now s x (inl (was, there, e)) =
 transmit-asks now s x (inr (purpose, at, (same, inl (new, first)), (made, e))) = inr (inl (new, ap (λ (y : Transaction). y.id) e))
 transmit-asks now s x (inr (purpose, at, (same, inr (allocated, due)), made)) = inr (inr allocated)
 
-module _ (call : Call) (s : State) (quiet : IsQuiet call) (asks : AsksSo call s) (steady : IsSteady s) (h : Signs s) where
+module _ (call : Call) (s : State) (quiet : IsQuiet call) (asks : AsksSo call s) (steady : FitsPhase s) (h : Signs s) where
   abbrev t : State
   t = state_after call s
 
@@ -218,7 +218,7 @@ asks-nothing : (call : Call) (s : State) (x : Transaction) → (IsSentAgain call
 asks-nothing call s x again never (inl is) = absurd (again is)
 asks-nothing call s x again never (inr (purpose, at, asks, made)) = absurd (never purpose at asks)
 
-pub call-signs : (call : Call) (s : State) → AllocatesInOrder s → IsSteady s → Signs s → Signs (state_after call s)
+pub call-signs : (call : Call) (s : State) → AllocatesInOrder s → FitsPhase s → Signs s → Signs (state_after call s)
 call-signs (Recv packet now) s order steady h = (recv-kept StaySigned StaySigned-IsKept packet.transport packet.from packet.to packet.payload now s (order, h)).1
 call-signs (PollRecv now) s order steady h = (poll_recv-kept StaySigned StaySigned-IsKept now s (order, h)).1
 call-signs (Delete now) s order steady h = idle-signs (Delete now) s (idle-delete now s) steady h

@@ -5,36 +5,36 @@ use Rattle.turn_client_api.specs.State.{State, initial}
 use Rattle.turn_client_api.specs.Steps.{state_after}
 use Rattle.turn_client_api.specs.declared.call.Call.{Call}
 use Rattle.turn_client_api.specs.declared.call.Call.TheVariants.{Poll}
-use Rattle.turn_client_api.specs.LawsOrder.{IsSteady}
-use Rattle.turn_client_api.specs.LawsHoused.{IsHoused}
-use Rattle.turn_client_api.proofs.SendOrderLemmas.{initial-steady, leaves-steadies, steady-IsOrderly}
-use Rattle.turn_client_api.proofs.InAllocation.{IsHoused-AllStandIn, initial-IsHoused, leaves-IsHoused}
+use Rattle.turn_client_api.specs.LawsOrder.{FitsPhase}
+use Rattle.turn_client_api.specs.LawsGrantAllocations.{GrantsHaveAllocations}
+use Rattle.turn_client_api.proofs.SendOrderLemmas.{initial-steady, leaves-steadies, steady-FitsPhaseForPoll}
+use Rattle.turn_client_api.proofs.InAllocation.{GrantsHaveAllocations-AllHaveAllocation, initial-GrantsHaveAllocations, leaves-GrantsHaveAllocations}
 use Rattle.turn_client_api.proofs.TimelyLemmas.{poll-timely}
 use Rattle.turn_client_runs.specs.Holds.{HoldsInAnyRun, HoldsOfRuns}
 use Rattle.turn_client_runs.specs.Sleeps.{IsPolledInTime, SleepsInTime, SleepsThroughNothing, TellsTimely, TellsTimelyNext}
 use Rattle.turn_client_runs.proofs.HoldLemmas.{holds-any}
 
 -- what a call of a client whose state fits its phase returns is timely
-tells-timely : (s : State) (call : Call) → IsSteady s → IsHoused s → IsPolledInTime call → TellsTimely s call
-tells-timely s (Poll now) steady housed c = poll-timely now s (steady-IsOrderly s steady) (IsHoused-AllStandIn s housed) c
+tells-timely : (s : State) (call : Call) → FitsPhase s → GrantsHaveAllocations s → IsPolledInTime call → TellsTimely s call
+tells-timely s (Poll now) steady housed c = poll-timely now s (steady-FitsPhaseForPoll s steady) (GrantsHaveAllocations-AllHaveAllocation s housed) c
 tells-timely s _ steady housed c = tt
 
 -- such a client misses no deadline, whatever is called
-sleeps-through-nothing : (s : State) (calls : List Call) → IsSteady s → IsHoused s → All IsPolledInTime calls → SleepsThroughNothing s calls
+sleeps-through-nothing : (s : State) (calls : List Call) → FitsPhase s → GrantsHaveAllocations s → All IsPolledInTime calls → SleepsThroughNothing s calls
 sleeps-through-nothing s [] steady housed all = tt
 sleeps-through-nothing s (call ∷ calls) steady housed all = (
   tells-timely s call steady housed (all 0 call (omega arith)),
-  sleeps-through-nothing (state_after call s) calls (leaves-steadies call s (state_after call s) (inl refl) steady) (leaves-IsHoused call s (state_after call s) (inl refl) housed) (λ k d less. all (suc k) d (omega (arith, less))),
+  sleeps-through-nothing (state_after call s) calls (leaves-steadies call s (state_after call s) (inl refl) steady) (leaves-GrantsHaveAllocations call s (state_after call s) (inl refl) housed) (λ k d less. all (suc k) d (omega (arith, less))),
 )
 
 -- nor does a new client
 pub run-sleeps : HoldsOfRuns SleepsInTime
 run-sleeps transport local remote config seed calls all =
-    sleeps-through-nothing (initial transport local remote config seed) calls (initial-steady transport local remote config seed) (initial-IsHoused transport local remote config seed) all
+    sleeps-through-nothing (initial transport local remote config seed) calls (initial-steady transport local remote config seed) (initial-GrantsHaveAllocations transport local remote config seed) all
 
 -- nor one for which some memory allocations failed
 pub any-tells : HoldsInAnyRun TellsTimelyNext
 any-tells transport local remote config seed calls t reaches now early =
     tells-timely t (Poll now)
-    (holds-any IsSteady leaves-steadies initial-steady transport local remote config seed calls t reaches)
-    (holds-any IsHoused leaves-IsHoused initial-IsHoused transport local remote config seed calls t reaches) early
+    (holds-any FitsPhase leaves-steadies initial-steady transport local remote config seed calls t reaches)
+    (holds-any GrantsHaveAllocations leaves-GrantsHaveAllocations initial-GrantsHaveAllocations transport local remote config seed calls t reaches) early

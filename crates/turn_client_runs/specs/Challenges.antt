@@ -14,8 +14,8 @@ use Rattle.turn_client_api.specs.declared.call.Call.{Call}
 use Rattle.turn_client_runs.specs.Inputs.{IsAmong, handled_in}
 
 -- no more challenges were answered than allowed
-abbrev pub IsPatient : State → Type 0
-IsPatient s = s.challenges ≤ most_challenges
+abbrev pub IsWithinChallengeLimit : State → Type 0
+IsWithinChallengeLimit s = s.challenges ≤ most_challenges
 
 -- the input is a challenge over the control connection
 pub record IsChallengeInput (one : Input) : Type 0 where

@@ -28,7 +28,7 @@ use Rattle.turn_client_api.specs.Payloads.{is_message}
 use Rattle.turn_client_api.specs.Handled.{Input, handled, processed}
 use Rattle.turn_client_api.specs.Steps.{state_after, state_after_all}
 use Rattle.turn_client_api.specs.LawsAllocates.{IsAskedForFamilies}
-use Rattle.turn_client_api.specs.LawsGranted.{Stood}
+use Rattle.turn_client_api.specs.LawsGranted.{WasActive}
 use Rattle.turn_client_api.specs.LawsHandled.{IsDoneBy, IsOverControl, IsOverWaiting}
 use Rattle.turn_client_api.specs.LawsReplies.{IsAwaited, IsNotAwaited}
 use Rattle.turn_client_api.specs.LawsRequests.{AsksFor, IsListedFor, IsMade}
@@ -186,7 +186,7 @@ pub record IsAnsweredIn (Did : Purpose → Input → Type 0) (P : State → Type
 -- An input of one of these calls granted it with the expiry that it has, and no later call removed it or
 -- gave it another expiry.
 abbrev pub IsGranted : Grant → List Call → State → Type 0
-IsGranted g calls first = IsAnsweredIn (IsGranting g) (λ s. Stood s g) calls first
+IsGranted g calls first = IsAnsweredIn (IsGranting g) (λ s. WasActive s g) calls first
 
 -- ---- allocations
 
@@ -211,7 +211,7 @@ pub record IsGivenBack (a : Relay) (calls : List Call) (first : State) : Type 0 
   pub accepted : (delete_step now (state_after_all first earlier)).0 ≡ Ok tt
   pub ends : a.expiry ≡ now
   pub allocated : IsAllocated a.relayed earlier first
-  pub stands : HoldsThrough (λ s. Stood s (Allocation a)) later (state_after (Delete now) (state_after_all first earlier))
+  pub stands : HoldsThrough (λ s. WasActive s (Allocation a)) later (state_after (Delete now) (state_after_all first earlier))
 
 -- ---- all grants
 

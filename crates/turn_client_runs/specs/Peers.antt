@@ -7,7 +7,7 @@ use Rattle.turn_client_api.specs.State.{State}
 use Rattle.turn_client_api.specs.Payloads.{Payload, Outcome, PeerIcmp}
 use Rattle.turn_client_api.specs.Handled.{Input, processed, input_payload}
 use Rattle.turn_client_api.specs.LawsHandled.{IsBoundAt}
-use Rattle.turn_client_api.specs.LawsPeers.{HasChannel, HasPermission, IsIcmpAttribute, IsIndicated, IsLetInTurn}
+use Rattle.turn_client_api.specs.LawsPeers.{HasChannel, HasPermission, IsIcmpAttribute, IsIndicated, IsPermittedInput}
 use Rattle.turn_client_api.specs.declared.call.Call.{Call}
 use Rattle.turn_client_api.specs.declared.state.Mode.TheVariants.{Bound}
 use Rattle.turn_client_api.specs.declared.state.Stream.{Stream}
@@ -19,8 +19,8 @@ IsOverBound peer one = (stream : Stream) × (one.stream ≡ Some stream) × (str
 
 -- When the input was processed, the peer was permitted: its IP address had an active permission, it had an
 -- active channel, or its data connection was bound (RFC 8656, sections 9 and 12; RFC 6062, section 4.3).
-abbrev pub IsOfLetIn : SocketAddr → Input → Type 0
-IsOfLetIn peer one =
+abbrev pub IsPeerPermitted : SocketAddr → Input → Type 0
+IsPeerPermitted peer one =
     HasPermission (socket_ip peer) one.before
     ⊎ ((number : ℕ) × HasChannel number peer one.before)
     ⊎ IsOverBound peer one
@@ -29,16 +29,16 @@ IsOfLetIn peer one =
 -- peer
 pub record InputDelivers (payload : Payload) (one : Input) : Type 0 where
   pub given : input_payload one ≡ Some payload
-  pub exact : IsLetInTurn one
-  pub let_in : IsOfLetIn payload.peer one
+  pub exact : IsPermittedInput one
+  pub let_in : IsPeerPermitted payload.peer one
 
 -- an input of the run returned it
 abbrev pub IsDeliveredIn : Payload → State → List Call → Type 0
 IsDeliveredIn payload s calls = IsAmong (InputDelivers payload) (handled_in s calls)
 
 -- each payload that a call of the run returns, an input of the run returned
-abbrev pub ReceivesLetIn : State → List Call → Type 0
-ReceivesLetIn s calls = (payload : Payload) → Contains (payloads_in s calls) payload → IsDeliveredIn payload s calls
+abbrev pub ReceivesOnlyPermitted : State → List Call → Type 0
+ReceivesOnlyPermitted s calls = (payload : Payload) → Contains (payloads_in s calls) payload → IsDeliveredIn payload s calls
 
 -- an ICMP report of an input is about a peer whose IP address has an active permission
 abbrev pub TellsOfPermitted : Input → Type 0

@@ -5,18 +5,18 @@ use Rattle.std.specs.declared.net.socket_addr.SocketAddr.{SocketAddr}
 use Rattle.turn_stun.specs.declared.transport.TransportType.TheVariants.{Tcp}
 use Rattle.turn_client_api.specs.State.{State}
 use Rattle.turn_client_api.specs.Handled.{Input, handled}
-use Rattle.turn_client_api.specs.LawsGranted.{IsStanding}
+use Rattle.turn_client_api.specs.LawsGranted.{IsActiveGrant}
 use Rattle.turn_client_api.specs.LawsNumbers.{HasDistinctNumbers}
 use Rattle.turn_client_api.specs.LawsSteps.{KeepsRealm}
 use Rattle.turn_client_api.specs.Streams.{poll_recv_step}
 use Rattle.turn_client_api.specs.declared.call.Call.{Call}
 use Rattle.turn_client_api.specs.declared.grant.Grant.{Grant}
 use Rattle.turn_client_runs.specs.Bound.{BoundConnectionsHaveSuccess, BoundStreamsHaveSuccess, StreamsAreBoundBefore}
-use Rattle.turn_client_runs.specs.Challenges.{AnswersFew, CountsAll, IsPatient}
+use Rattle.turn_client_runs.specs.Challenges.{AnswersFew, CountsAll, IsWithinChallengeLimit}
 use Rattle.turn_client_runs.specs.Cut.{ArePieces, given_in_run, joined, whole_of}
 use Rattle.turn_client_runs.specs.Granted.{ComesIn, HasReply}
 use Rattle.turn_client_runs.specs.Held.{HeldFromChallenge}
-use Rattle.turn_client_runs.specs.Peers.{IcmpIsOfPermitted, ReceivesLetIn}
+use Rattle.turn_client_runs.specs.Peers.{IcmpIsOfPermitted, ReceivesOnlyPermitted}
 use Rattle.turn_client_runs.specs.Received.{IsReceived}
 use Rattle.turn_client_runs.specs.Replies.{CountsOnce, EachReply, EndsItsRequest}
 use Rattle.turn_client_runs.specs.Inputs.{handled_in}
@@ -34,7 +34,7 @@ InEachPart Q first calls =
 -- each active grant has its signed reply to an own request
 abbrev pub GrantsHaveReplies : State → List Call → Type 0
 GrantsHaveReplies first calls =
-    (g : Grant) → IsStanding g → Contains (state_after_all first calls).grants g → HasReply g calls first
+    (g : Grant) → IsActiveGrant g → Contains (state_after_all first calls).grants g → HasReply g calls first
 
 -- no channel number names two peers
 abbrev pub NumbersAreDistinct : State → List Call → Type 0
@@ -54,9 +54,9 @@ TurnsCameIn first calls =
     → Contains (handled call (state_after_all first earlier)) one → ComesIn call one × IsReceived (earlier ++ call ∷ []) first one
 
 -- each payload is of a permitted peer, and an ICMP report is about a permitted one
-abbrev pub HearsLetIn : State → List Call → Type 0
-HearsLetIn first calls =
-    InEachPart (λ s middle. ReceivesLetIn s middle × IcmpIsOfPermitted s middle) first calls × TurnsCameIn first calls
+abbrev pub DeliversOnlyPermitted : State → List Call → Type 0
+DeliversOnlyPermitted first calls =
+    InEachPart (λ s middle. ReceivesOnlyPermitted s middle × IcmpIsOfPermitted s middle) first calls × TurnsCameIn first calls
 
 -- a reply is accepted once
 abbrev pub RepliesCountOnce : State → List Call → Type 0
@@ -65,7 +65,7 @@ RepliesCountOnce first calls =
 
 -- at most nine challenges are answered between two signed replies
 abbrev pub FewAreAnswered : State → List Call → Type 0
-FewAreAnswered = InEachPart (λ s middle. IsPatient s × AnswersFew s middle × CountsAll s middle)
+FewAreAnswered = InEachPart (λ s middle. IsWithinChallengeLimit s × AnswersFew s middle × CountsAll s middle)
 
 -- realm and algorithm, once held, never change
 abbrev pub RealmStays : State → List Call → Type 0

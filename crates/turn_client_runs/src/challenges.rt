@@ -4,7 +4,7 @@ ghost use Rattle.std.specs.Prelude.{List};
 ghost use Rattle.turn_client_api.specs.State.{State};
 ghost use Rattle.turn_client_api.specs.LawsSteps.{KeepsRealm};
 ghost use Rattle.turn_client_api.specs.declared.call.Call.{Call};
-ghost use Rattle.turn_client_runs.specs.Challenges.{AnswersFew, CountsAll, IsPatient};
+ghost use Rattle.turn_client_runs.specs.Challenges.{AnswersFew, CountsAll, IsWithinChallengeLimit};
 ghost use Rattle.turn_client_runs.specs.Holds.{HoldsInAnyRun, HoldsInRuns, Reaches};
 
 /// At most nine challenges are answered in sequence, except those to a CONNECTION_BIND (our choice: RFC
@@ -13,10 +13,10 @@ ghost use Rattle.turn_client_runs.specs.Holds.{HoldsInAnyRun, HoldsInRuns, Reach
 /// a run on, further calls answer at most nine, unless the server accepts a request among them: then a
 /// signed reply to an outstanding request is received, and challenges are counted anew.
 pub fn few_challenges_are_answered()
-    ensures found { HoldsInRuns IsPatient }
-    ensures any { HoldsInAnyRun IsPatient }
+    ensures found { HoldsInRuns IsWithinChallengeLimit }
+    ensures any { HoldsInAnyRun IsWithinChallengeLimit }
     ensures each { (s : State) (calls : List Call) → CountsAll s calls }
-    ensures few { (s : State) (calls : List Call) → IsPatient s → AnswersFew s calls }
+    ensures few { (s : State) (calls : List Call) → IsWithinChallengeLimit s → AnswersFew s calls }
 {}
 
 /// Realm and algorithm, once held, never change, whatever is called after that, even if some memory

@@ -1,6 +1,6 @@
 //! What the server granted in a run.
 
-ghost use Rattle.turn_client_api.specs.LawsGranted.{IsStanding};
+ghost use Rattle.turn_client_api.specs.LawsGranted.{IsActiveGrant};
 ghost use Rattle.turn_client_runs.specs.Granted.{HaveReplies};
 
 /// After any list of calls, each allocation (one that is marked as expired too), active permission, active
@@ -27,5 +27,5 @@ ghost use Rattle.turn_client_runs.specs.Granted.{HaveReplies};
 /// The request was the client's own: an earlier call made it, or an earlier input of the same call, as one
 /// for the grant, or for a channel whose peer has the IP address of a permission.
 pub fn grants_have_replies()
-    ensures { HaveReplies IsStanding }
+    ensures { HaveReplies IsActiveGrant }
 {}

@@ -32,7 +32,7 @@ pub use cut::{
 };
 pub use granted::grants_have_replies;
 pub use numbers::numbers_stay_distinct;
-pub use peers::only_let_in_is_received;
+pub use peers::only_permitted_is_received;
 pub use promises::runs_keep_their_promises;
 pub use replies::replies_count_once_in_runs;
 pub use sleeps::runs_sleep_through_nothing;

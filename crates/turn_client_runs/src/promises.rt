@@ -1,7 +1,7 @@
 //! All that runs keep, as `turn_client_proto::replay` carries it.
 
 ghost use Rattle.turn_client_runs.specs.Holds.{HoldsOfRuns};
-ghost use Rattle.turn_client_runs.specs.Promises.{AfterEach, BoundHaveSuccess, CutsAgree, FewAreAnswered, GrantsHaveReplies, HearsLetIn, NumbersAreDistinct, RealmIsAnswered, RealmStays, RepliesCountOnce};
+ghost use Rattle.turn_client_runs.specs.Promises.{AfterEach, BoundHaveSuccess, CutsAgree, FewAreAnswered, GrantsHaveReplies, DeliversOnlyPermitted, NumbersAreDistinct, RealmIsAnswered, RealmStays, RepliesCountOnce};
 ghost use Rattle.turn_client_runs.specs.Short.{StreamsAreShort};
 
 /// What a run of a new client keeps, whatever its configuration, its seed and its calls, if no memory
@@ -15,7 +15,7 @@ pub fn runs_keep_their_promises()
     ensures granted { HoldsOfRuns (AfterEach GrantsHaveReplies) }
     ensures numbers { HoldsOfRuns (AfterEach NumbersAreDistinct) }
     ensures bound { HoldsOfRuns (AfterEach BoundHaveSuccess) }
-    ensures heard { HoldsOfRuns HearsLetIn }
+    ensures heard { HoldsOfRuns DeliversOnlyPermitted }
     ensures counted { HoldsOfRuns RepliesCountOnce }
     ensures challenges { HoldsOfRuns FewAreAnswered }
     ensures realm { HoldsOfRuns RealmStays }

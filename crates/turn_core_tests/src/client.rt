@@ -1,7 +1,7 @@
 //! A client whose caller keeps the requirements of each call.
 
 ghost use Rattle.std.specs.Prelude.{◌≤◌, ◌^◌};
-ghost use Rattle.turn_client_api.specs.LawsOrder.{IsSteady};
+ghost use Rattle.turn_client_api.specs.LawsOrder.{FitsPhase};
 
 use std::alloc::AllocError;
 use std::marker::Model;
@@ -27,20 +27,20 @@ pub(crate) struct Client {
 }
 
 impl Model for Client {
-    ghost use Rattle.turn_client_api.specs.LawsOrder.{IsSteady};
+    ghost use Rattle.turn_client_api.specs.LawsOrder.{FitsPhase};
     ghost use Rattle.turn_client_api.specs.State.{State};
 
     ghost Value = { State };
 
     ghost view = { λ client. client.core };
 
-    ghost invariant = { λ client. IsSteady client.core };
+    ghost invariant = { λ client. FitsPhase client.core };
 }
 
 impl Client {
     /// A new client that requests this transport between the server and peers.
     pub(crate) fn new(core: TurnClientProtocol, relays: TransportType) -> Client
-        requires { IsSteady core }
+        requires { FitsPhase core }
     {
         Client { core, relays }
     }

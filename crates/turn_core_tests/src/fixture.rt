@@ -1,7 +1,7 @@
 //! A new client, and its server.
 
 ghost use Rattle.std.specs.Prelude.{◌≡◌, ◌≤◌, ◌*◌, ◌^◌, IfOk};
-ghost use Rattle.turn_client_api.specs.LawsOrder.{IsSteady};
+ghost use Rattle.turn_client_api.specs.LawsOrder.{FitsPhase};
 
 use std::alloc::Global;
 use std::net::{IpAddr, Ipv4Addr, SocketAddr};
@@ -101,7 +101,7 @@ pub(crate) fn client_for(
     alloc: Global,
     setup: Setup,
 ) -> Result<TurnClientProtocol, CredentialsError>
-    ensures { IfOk result (λ client. IsSteady client) }
+    ensures { IfOk result (λ client. FitsPhase client) }
 {
     let config = config_for(alloc, setup)?;
     match TurnClientProtocol::new(alloc, setup.transport, local(), server(), config, [0; 32]) {

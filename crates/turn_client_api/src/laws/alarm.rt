@@ -3,7 +3,7 @@
 ghost use Rattle.std.specs.Prelude.{ℕ, ◌≤◌, ◌^◌};
 ghost use Rattle.turn_client_api.specs.State.{State};
 ghost use Rattle.turn_client_api.specs.Poll.{poll_step};
-ghost use Rattle.turn_client_api.specs.Alarm.{AllStandIn, IsOrderly, IsTimely};
+ghost use Rattle.turn_client_api.specs.Alarm.{AllHaveAllocation, FitsPhaseForPoll, IsTimely};
 
 /// A caller that sleeps until the time that `poll` returns misses no deadline: if it is later than now,
 /// then before it `poll_transmit` returns no packet and changes nothing, no transaction ends, no event,
@@ -11,5 +11,5 @@ ghost use Rattle.turn_client_api.specs.Alarm.{AllStandIn, IsOrderly, IsTimely};
 /// If it is not later, an event is pending, a packet is due, or this call timed a transaction out. That
 /// holds whatever the times of earlier calls were (our choice: RFC 8489, section 6.2, has timers).
 pub fn sleeps_through_nothing()
-    ensures { (now : ℕ) (s : State) → IsOrderly s → AllStandIn s → now ≤ 2 ^ 62 → IsTimely (poll_step now s).0 now s (poll_step now s).1 }
+    ensures { (now : ℕ) (s : State) → FitsPhaseForPoll s → AllHaveAllocation s → now ≤ 2 ^ 62 → IsTimely (poll_step now s).0 now s (poll_step now s).1 }
 {}

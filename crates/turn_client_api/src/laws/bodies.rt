@@ -7,7 +7,7 @@ ghost use Rattle.turn_client_api.specs.Calls.{free_number};
 ghost use Rattle.turn_client_api.specs.Poll.{lapsed, poll_step};
 ghost use Rattle.turn_client_api.specs.Streams.{frame_step, poll_recv_step, next_frame_step};
 ghost use Rattle.turn_client_api.specs.Handled.{poll_recv_inputs};
-ghost use Rattle.turn_client_api.specs.LawsStreams.{IsDrained};
+ghost use Rattle.turn_client_api.specs.LawsStreams.{NeedsMoreBytes};
 ghost use Rattle.turn_client_api.specs.LawsBodies.{AreTakenUpTo, IsAsideFrom, IsLeastFree, TellsOfFailed, lapse_moments, most_failures, soonest};
 
 /// Before the earliest time at which a grant expires, time changes nothing unless a transaction timed out.
@@ -47,8 +47,8 @@ pub fn least_free_number_is_bound()
 /// If each stream waits for more bytes, `poll_recv` processes nothing, returns nothing and changes nothing
 /// (RFC 8656, section 12.5).
 pub fn drained_streams_rest()
-    ensures step { (now : ℕ) (s : State) → All IsDrained s.streams → poll_recv_step now s ≡ (None, s) }
-    ensures handled { (now : ℕ) (s : State) → All IsDrained s.streams → poll_recv_inputs now s ≡ [] }
+    ensures step { (now : ℕ) (s : State) → All NeedsMoreBytes s.streams → poll_recv_step now s ≡ (None, s) }
+    ensures handled { (now : ℕ) (s : State) → All NeedsMoreBytes s.streams → poll_recv_inputs now s ≡ [] }
 {}
 
 /// Processing the next frame of a stream leaves each stream from another local address unchanged and in its

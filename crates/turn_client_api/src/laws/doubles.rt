@@ -2,7 +2,7 @@
 
 ghost use Rattle.turn_client_api.specs.State.{State};
 ghost use Rattle.turn_client_api.specs.Steps.{Call, Leaves};
-ghost use Rattle.turn_client_api.specs.LawsOrder.{IsSteady};
+ghost use Rattle.turn_client_api.specs.LawsOrder.{FitsPhase};
 ghost use Rattle.turn_client_api.specs.LawsDoubles.{HasNoDoubles};
 ghost use Rattle.turn_client_api.specs.LawsStates.{HoldsAtFirst};
 
@@ -12,5 +12,5 @@ ghost use Rattle.turn_client_api.specs.LawsStates.{HoldsAtFirst};
 /// every call, even if memory allocation fails.
 pub fn grants_are_distinct()
     ensures initial { HoldsAtFirst HasNoDoubles }
-    ensures kept { (call : Call) (s t : State) → Leaves call s t → IsSteady s → HasNoDoubles s → HasNoDoubles t }
+    ensures kept { (call : Call) (s t : State) → Leaves call s t → FitsPhase s → HasNoDoubles s → HasNoDoubles t }
 {}

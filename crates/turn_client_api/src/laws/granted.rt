@@ -3,7 +3,7 @@
 ghost use Rattle.std.specs.List.{Contains};
 ghost use Rattle.turn_client_api.specs.State.{State, Grant};
 ghost use Rattle.turn_client_api.specs.Steps.{Call, Leaves};
-ghost use Rattle.turn_client_api.specs.LawsGranted.{GrantsToPeers, HasCause, IsStanding};
+ghost use Rattle.turn_client_api.specs.LawsGranted.{GrantsToPeers, HasCause, IsActiveGrant};
 ghost use Rattle.turn_client_api.specs.LawsNumbers.{HasDistinctNumbers};
 ghost use Rattle.turn_client_api.specs.LawsStates.{HasGrantsAsked};
 
@@ -19,6 +19,6 @@ ghost use Rattle.turn_client_api.specs.LawsStates.{HasGrantsAsked};
 /// that is answered, since each pending request has its grant and no two channels have one number
 /// (`listings_have_grants`, `numbers_are_distinct`).
 pub fn only_a_signed_success_grants()
-    ensures cause { (call : Call) (s t : State) (g : Grant) → Leaves call s t → Contains t.grants g → IsStanding g → HasCause call s g }
+    ensures cause { (call : Call) (s t : State) (g : Grant) → Leaves call s t → Contains t.grants g → IsActiveGrant g → HasCause call s g }
     ensures channel { (call : Call) (s t : State) → Leaves call s t → HasGrantsAsked s → HasDistinctNumbers s → GrantsToPeers call s t }
 {}

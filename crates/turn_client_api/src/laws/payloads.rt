@@ -6,7 +6,7 @@ ghost use Rattle.turn_client_api.specs.State.{State};
 ghost use Rattle.turn_client_api.specs.Streams.{payload_in, poll_recv_step};
 ghost use Rattle.turn_client_api.specs.Steps.{Recv, PollRecv, packet_step};
 ghost use Rattle.turn_client_api.specs.Handled.{Input, payloads_by};
-ghost use Rattle.turn_client_api.specs.LawsPeers.{IsLetInTurn};
+ghost use Rattle.turn_client_api.specs.LawsPeers.{IsPermittedInput};
 
 /// `recv` and `poll_recv` return the payloads of the inputs that they process and no others: of a datagram,
 /// of a DATA indication or a ChannelData message in a stream, and of the bytes of a bound stream (RFC 8656,
@@ -15,5 +15,5 @@ ghost use Rattle.turn_client_api.specs.LawsPeers.{IsLetInTurn};
 pub fn payloads_are_answered()
     ensures recv { (packet : Transmit (List ℕ)) (now : ℕ) (s : State) → payloads_by (Recv packet now) s ≡ option_to_list (payload_in (packet_step packet now s).0) }
     ensures poll_recv { (now : ℕ) (s : State) → payloads_by (PollRecv now) s ≡ option_to_list (poll_recv_step now s).0 }
-    ensures let_in { (t : Input) → IsLetInTurn t }
+    ensures let_in { (t : Input) → IsPermittedInput t }
 {}

@@ -7,7 +7,7 @@ ghost use Rattle.turn_client_api.specs.Poll.{poll_step};
 ghost use Rattle.turn_client_api.specs.Steps.{Call, Leaves};
 ghost use Rattle.turn_client_api.specs.LawsInputs.{IsBroughtBy};
 ghost use Rattle.turn_client_api.specs.LawsReplies.{IsHeeded};
-ghost use Rattle.turn_client_api.specs.LawsSteps.{StaysClosed, StaysPatient, KeepsRealm, CountsChallenge, GoesOn};
+ghost use Rattle.turn_client_api.specs.LawsSteps.{StaysClosed, KeepsChallengeLimit, KeepsRealm, CountsChallenge, GoesOn};
 ghost use Rattle.turn_client_api.specs.declared.poll.TurnPollRet.TheVariants as Do;
 
 /// A client that has ended stays ended after every call, even if memory allocation fails. Once no event and
@@ -22,7 +22,7 @@ pub fn stays_closed()
 /// the call processes, a signed reply to an outstanding request that answers something that this was made
 /// for.
 pub fn challenges_are_counted()
-    ensures stays { (call : Call) (s t : State) → Leaves call s t → StaysPatient s t }
+    ensures stays { (call : Call) (s t : State) → Leaves call s t → KeepsChallengeLimit s t }
     ensures each { (message : List ℕ) (now : ℕ) (s : State) → CountsChallenge message now s }
     ensures falls { (call : Call) (s t : State) → Leaves call s t → t.challenges < s.challenges → IsBroughtBy IsHeeded call s }
 {}

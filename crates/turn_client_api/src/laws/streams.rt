@@ -4,7 +4,7 @@ ghost use Rattle.std.specs.Prelude.{◌≡◌, ◌≢◌, ℕ, ◌<◌, ◌≤�
 ghost use Rattle.turn_client_api.specs.State.{State, Stream, Control, Broken};
 ghost use Rattle.turn_client_api.specs.Streams.{most_turns, poll_recv_step, steps_until_payload};
 ghost use Rattle.turn_client_api.specs.Receive.{piece_step};
-ghost use Rattle.turn_client_api.specs.LawsStreams.{AreApart, DrainsOrGives, IsDrained};
+ghost use Rattle.turn_client_api.specs.LawsStreams.{AreApart, DrainsOrGives, NeedsMoreBytes};
 ghost use Rattle.turn_client_api.specs.LawsStates.{HoldsAtFirst, StaysInCalls};
 
 /// `poll_recv` leaves nothing that it could process (RFC 8656, section 12.5): if it returns no payload, no
@@ -14,9 +14,9 @@ ghost use Rattle.turn_client_api.specs.LawsStates.{HoldsAtFirst, StaysInCalls};
 /// payload the streams of a client, which have distinct local addresses, hold fewer bytes: a caller that
 /// polls until nothing is returned comes to an end.
 pub fn streams_are_drained()
-    ensures drained { (now : ℕ) (s : State) → (poll_recv_step now s).0 ≡ None → All IsDrained (poll_recv_step now s).1.streams }
+    ensures drained { (now : ℕ) (s : State) → (poll_recv_step now s).0 ≡ None → All NeedsMoreBytes (poll_recv_step now s).1.streams }
     ensures piece { (stream : Stream) (piece : List ℕ) (now : ℕ) (s : State) → stream.mode ≡ Control → DrainsOrGives (piece_step stream piece now s) }
-    ensures short { (stream : Stream) → IsDrained stream → stream.mode ≢ Broken → All (λ b. b < 256) stream.bytes → length stream.bytes < 65555 }
+    ensures short { (stream : Stream) → NeedsMoreBytes stream → stream.mode ≢ Broken → All (λ b. b < 256) stream.bytes → length stream.bytes < 65555 }
     ensures enough { (n now : ℕ) (s : State) → most_turns s ≤ n → steps_until_payload n now s ≡ poll_recv_step now s }
     ensures fewer { (now : ℕ) (s : State) → AreApart s → IsSome (poll_recv_step now s).0 → most_turns (poll_recv_step now s).1 < most_turns s }
 {}

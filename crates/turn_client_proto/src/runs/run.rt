@@ -3,10 +3,10 @@
 ghost use Rattle.std.specs.Prelude.{◌≡◌, All, IfOk, OnOk};
 ghost use Rattle.turn_client_api.specs.State.{initial};
 ghost use Rattle.turn_client_proto.specs.Client.{state_of};
-ghost use Rattle.turn_client_runs.specs.Promises.{AfterEach, BoundHaveSuccess, CutsAgree, FewAreAnswered, GrantsHaveReplies, HearsLetIn, InEachPart, NumbersAreDistinct, RealmIsAnswered, RealmStays, RepliesCountOnce};
+ghost use Rattle.turn_client_runs.specs.Promises.{AfterEach, BoundHaveSuccess, CutsAgree, FewAreAnswered, GrantsHaveReplies, DeliversOnlyPermitted, InEachPart, NumbersAreDistinct, RealmIsAnswered, RealmStays, RepliesCountOnce};
 ghost use Rattle.turn_client_runs.specs.Short.{StreamsAreShort};
 ghost use Rattle.turn_client_runs.specs.Sleeps.{SleepsThroughNothing};
-ghost use Rattle.turn_client_proto.specs.Heard.{GivesLetIn};
+ghost use Rattle.turn_client_proto.specs.Delivered.{AnswersOnlyPermitted};
 ghost use Rattle.turn_client_proto.specs.Run.{IsCallable, replies_of, run};
 ghost use Rattle.turn_client_api.specs.Steps.{state_after_all};
 
@@ -78,8 +78,8 @@ pub fn replay(
     ensures granted { AfterEach GrantsHaveReplies (initial transport local remote config seed) calls.now }
     ensures numbers { AfterEach NumbersAreDistinct (initial transport local remote config seed) calls.now }
     ensures bound { AfterEach BoundHaveSuccess (initial transport local remote config seed) calls.now }
-    ensures given { InEachPart GivesLetIn (initial transport local remote config seed) calls.now }
-    ensures heard { HearsLetIn (initial transport local remote config seed) calls.now }
+    ensures given { InEachPart AnswersOnlyPermitted (initial transport local remote config seed) calls.now }
+    ensures heard { DeliversOnlyPermitted (initial transport local remote config seed) calls.now }
     ensures counted { RepliesCountOnce (initial transport local remote config seed) calls.now }
     ensures challenges { FewAreAnswered (initial transport local remote config seed) calls.now }
     ensures realm { RealmStays (initial transport local remote config seed) calls.now }

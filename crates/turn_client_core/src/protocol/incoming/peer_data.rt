@@ -4,7 +4,7 @@ ghost use Rattle.std.specs.Prelude.{◌≡◌, ◌≤◌, ◌+◌, length};
 ghost use Rattle.std.specs.Net.Socket.{socket_ip};
 ghost use Rattle.turn_client_api.specs.Grants.{is_permitted};
 ghost use Rattle.turn_client_api.specs.Payloads.{channel_sent, data_indicated};
-ghost use Rattle.turn_client_core.specs.Indication.{icmp_of_peer, let_in};
+ghost use Rattle.turn_client_core.specs.Indication.{icmp_of_peer, if_permitted};
 ghost use Rattle.turn_client_core.specs.Told.{IsPart, outcome_in};
 ghost use Rattle.turn_types.specs.Channel.{channel_data_at};
 
@@ -33,7 +33,7 @@ impl TurnClientProtocol {
         };
         match found.data_place(message.as_bytes()) {
             Some(place) => {
-                self.let_in(peer, Told::PeerData(self.ledger.transport(), peer, place))
+                self.if_permitted(peer, Told::PeerData(self.ledger.transport(), peer, place))
             }
             None => self.icmp_indicated(peer, &found.icmp(message.transaction_id())),
         }
@@ -45,7 +45,7 @@ impl TurnClientProtocol {
     {
         match icmp {
             Some(icmp) => {
-                self.let_in(peer, Told::PeerIcmp(self.ledger.transport(), peer, *icmp))
+                self.if_permitted(peer, Told::PeerIcmp(self.ledger.transport(), peer, *icmp))
             }
             None => Told::Ignored,
         }
@@ -67,8 +67,8 @@ impl TurnClientProtocol {
 
     /// This result of an input from the peer, if the peer's IP address has an active permission, or
     /// else `Ignored`.
-    fn let_in(&self, peer: SocketAddr, told: Told) -> Told
-        ensures { result ≡ let_in (is_permitted (socket_ip peer) self.now) told }
+    fn if_permitted(&self, peer: SocketAddr, told: Told) -> Told
+        ensures { result ≡ if_permitted (is_permitted (socket_ip peer) self.now) told }
     {
         if self.is_permitted(peer.ip()) {
             return told;

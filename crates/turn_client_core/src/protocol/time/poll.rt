@@ -2,8 +2,8 @@
 
 ghost use Rattle.std.specs.Prelude.{◌≡◌, ◌≤◌, ◌^◌, ◌++◌, drop, option_to_list, Some};
 ghost use Rattle.turn_client_api.specs.Alarm.{IsTimely};
-ghost use Rattle.turn_client_api.specs.LawsHoused.{IsHoused};
-ghost use Rattle.turn_client_api.specs.LawsOrder.{IsSteady};
+ghost use Rattle.turn_client_api.specs.LawsGrantAllocations.{GrantsHaveAllocations};
+ghost use Rattle.turn_client_api.specs.LawsOrder.{FitsPhase};
 ghost use Rattle.turn_client_api.specs.Poll.{answer_step, given_up_step, lapsed, next_offer, is_listed_for_allocation, offer_step, poll_step, timed_step};
 ghost use Rattle.turn_client_core.specs.Polled.{is_let_go, unallocated};
 
@@ -20,7 +20,7 @@ impl TurnClientProtocol {
         requires moment { now ≤ 2 ^ 62 }
         ensures answer { result ≡ (poll_step now self.old).0 }
         ensures after { self.new ≡ (poll_step now self.old).1 }
-        ensures alarm { IsSteady self.old → IsHoused self.old → IsTimely result now self.old self.new }
+        ensures alarm { FitsPhase self.old → GrantsHaveAllocations self.old → IsTimely result now self.old self.new }
     {
         self.poll_next(now)
     }

@@ -1,4 +1,4 @@
-use Rattle.turn_client_api.proofs.HandledLemmas.{poll_recv-Gives, recv-AreOf, turn-IsLetIn}
+use Rattle.turn_client_api.proofs.HandledLemmas.{poll_recv-Gives, recv-AreOf, turn-IsFromPermitted}
 use Rattle.turn_client_api.proofs.laws.payloads.payloads_are_answered.Goals as goal
 
 pub returns-clause-recv : goal.returns-clause-recv
@@ -8,4 +8,4 @@ pub returns-clause-poll_recv : goal.returns-clause-poll_recv
 returns-clause-poll_recv c = poll_recv-Gives
 
 pub returns-clause-let_in : goal.returns-clause-let_in
-returns-clause-let_in c = turn-IsLetIn
+returns-clause-let_in c = turn-IsFromPermitted

@@ -15,7 +15,7 @@ returns-in-Some-data_place-clause-outcome c =
     ap (option_and_then (λ a. xor_addr a.value (id_of c.args.message.now))) (sym c.of-found.ensures.peer)
     ∙ (ap (λ id. option_and_then (λ a. xor_addr a.value id) (option_map placed c.of-found.result.peer)) (sym c.transaction_id.ensures)
     ∙ (sym c.peer.ensures ∙ c.in-Some.is)) in
-    rw (c.let_in.ensures, c.transport.ensures, ← c.self.view_is) (data-is (the_view c.self.inside) c.args.message.now c.in-Some.peer known peer
+    rw (c.if_permitted.ensures, c.transport.ensures, ← c.self.view_is) (data-is (the_view c.self.inside) c.args.message.now c.in-Some.peer known peer
     (option_map placed c.of-found.result.«data») c.in-Some-data_place.place c.of-found.ensures.payload c.of-found.ensures.value
     (sym c.data_place.ensures ∙ c.in-Some-data_place.is))
 

@@ -2,7 +2,7 @@ use Rattle.std.proofs.Common.{subst, sym}
 use Rattle.turn_client_api.specs.Alarm.{IsTimely}
 use Rattle.turn_client_api.specs.State.{State}
 use Rattle.turn_client_api.specs.declared.poll.TurnPollRet.{TurnPollRet}
-use Rattle.turn_client_api.proofs.SendOrderLemmas.{steady-IsOrderly}
+use Rattle.turn_client_api.proofs.SendOrderLemmas.{steady-FitsPhaseForPoll}
 use Rattle.turn_client_api.proofs.TimelyLemmas.{poll-timely}
 use Rattle.turn_client_core.proofs.protocol.TurnClientProtocol.poll.Goals as goal
 
@@ -10,4 +10,4 @@ pub returns-clause-alarm : goal.returns-clause-alarm
 returns-clause-alarm c = λ steady housed.
     let s = c.args.self.now in
     subst (λ (r : TurnPollRet × State). IsTimely r.0 c.args.now s r.1) (sym c.poll_next.ensures)
-    (poll-timely c.args.now s (steady-IsOrderly s steady) housed.0 c.requires.moment)
+    (poll-timely c.args.now s (steady-FitsPhaseForPoll s steady) housed.0 c.requires.moment)

@@ -4,7 +4,7 @@ use Rattle.std.specs.List.{list_any}
 use Rattle.turn_types.specs.declared.family.AddressFamily.{AddressFamily}
 use Rattle.turn_client_api.specs.State.{State, Purpose, ForChannel, ForConnect, Listing}
 use Rattle.turn_client_api.specs.Grants.{family_of, is_for, is_of}
-use Rattle.turn_client_api.specs.Alarm.{AllStandIn}
+use Rattle.turn_client_api.specs.Alarm.{AllHaveAllocation}
 
 -- the family of the peer that a channel or a connection is requested for
 abbrev pub asked_family : Purpose → Option AddressFamily
@@ -18,9 +18,9 @@ IsAskedIn s purpose family = list_any (λ g. is_for purpose g && is_of family g)
 
 -- The reply to a request for a channel or a connection may add a grant: one of its peer's family exists
 -- already.
-abbrev pub IsBacked : State → Listing → Type 0
-IsBacked s l = IfSome (asked_family l.purpose) (IsAskedIn s l.purpose)
+abbrev pub ReplyHasAllocation : State → Listing → Type 0
+ReplyHasAllocation s l = IfSome (asked_family l.purpose) (IsAskedIn s l.purpose)
 
 -- Each grant has an allocation, and so does what a reply may add.
-abbrev pub IsHoused : State → Type 0
-IsHoused s = AllStandIn s × All (IsBacked s) s.listed
+abbrev pub GrantsHaveAllocations : State → Type 0
+GrantsHaveAllocations s = AllHaveAllocation s × All (ReplyHasAllocation s) s.listed

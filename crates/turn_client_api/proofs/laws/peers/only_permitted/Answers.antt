@@ -1,12 +1,12 @@
 use Rattle.turn_client_api.proofs.HandledLemmas.{poll_recv-IsGivenBy, recv-IsGivenBy, recv-IsToldBy}
-use Rattle.turn_client_api.proofs.PeerLemmas.{datagram-IsLetThrough, frame-IsLetIn}
-use Rattle.turn_client_api.proofs.laws.peers.only_let_in.Goals as goal
+use Rattle.turn_client_api.proofs.PeerLemmas.{datagram-IsMessageFromPermitted, frame-IsFromPermitted}
+use Rattle.turn_client_api.proofs.laws.peers.only_permitted.Goals as goal
 
 pub returns-clause-datagram : goal.returns-clause-datagram
-returns-clause-datagram c = datagram-IsLetThrough
+returns-clause-datagram c = datagram-IsMessageFromPermitted
 
 pub returns-clause-frame : goal.returns-clause-frame
-returns-clause-frame c = frame-IsLetIn
+returns-clause-frame c = frame-IsFromPermitted
 
 pub returns-clause-poll_recv : goal.returns-clause-poll_recv
 returns-clause-poll_recv c = poll_recv-IsGivenBy

@@ -1,5 +1,5 @@
 use Rattle.turn_client_runs.proofs.PeerLemmas.{all-answered, received, tells-permitted}
-use Rattle.turn_client_runs.proofs.peers.only_let_in_is_received.Goals as goal
+use Rattle.turn_client_runs.proofs.peers.only_permitted_is_received.Goals as goal
 
 pub returns-clause-let_in : goal.returns-clause-let_in
 returns-clause-let_in c = λ s calls payload. received payload s calls

@@ -1,5 +1,5 @@
-use Rattle.turn_client_api.proofs.SendOrderLemmas.{initial-steady, leaves-steadies, steady-IsOrderly}
-use Rattle.turn_client_api.proofs.laws.order.clients_stay_in_order.Goals as goal
+use Rattle.turn_client_api.proofs.SendOrderLemmas.{initial-steady, leaves-steadies, steady-FitsPhaseForPoll}
+use Rattle.turn_client_api.proofs.laws.order.clients_fit_their_phase.Goals as goal
 
 pub returns-clause-initial : goal.returns-clause-initial
 returns-clause-initial c = initial-steady
@@ -8,4 +8,4 @@ pub returns-clause-kept : goal.returns-clause-kept
 returns-clause-kept c = leaves-steadies
 
 pub returns-clause-orderly : goal.returns-clause-orderly
-returns-clause-orderly c = steady-IsOrderly
+returns-clause-orderly c = steady-FitsPhaseForPoll

@@ -16,8 +16,8 @@ use Rattle.turn_client_proto.specs.declared.runs.reply.PeerData.{PeerData}
 use Rattle.turn_client_proto.specs.declared.runs.reply.Reply.TheVariants as Replies
 
 -- it is the payload of an input of the calls, whose peer was permitted when the input was processed
-abbrev pub IsHeard : PeerData → State → List Call → Type 0
-IsHeard given s calls = (payload : Payload) × (peer_data payload ≡ given) × IsDeliveredIn payload s calls
+abbrev pub IsDelivered : PeerData → State → List Call → Type 0
+IsDelivered given s calls = (payload : Payload) × (peer_data payload ≡ given) × IsDeliveredIn payload s calls
 
 -- one of the inputs gave this ICMP report, for a permitted peer
 abbrev pub IsTold : TransportType → SocketAddr → Icmp → State → List Call → Type 0
@@ -25,8 +25,8 @@ IsTold transport peer icmp s calls =
     IsAmong (λ one. ((processed one).0 ≡ PeerIcmp transport peer icmp) × TellsOfPermitted one) (handled_in s calls)
 
 -- so is all data of peers among the replies to the calls, and every ICMP report
-abbrev pub GivesLetIn : State → List Call → Type 0
-GivesLetIn s calls =
-    ((given : PeerData) → Contains (replies_of s calls) (Replies.PeerData given) → IsHeard given s calls)
+abbrev pub AnswersOnlyPermitted : State → List Call → Type 0
+AnswersOnlyPermitted s calls =
+    ((given : PeerData) → Contains (replies_of s calls) (Replies.PeerData given) → IsDelivered given s calls)
     × ((transport : TransportType) (peer : SocketAddr) (icmp : Icmp)
     → Contains (replies_of s calls) (Replies.PeerIcmp transport peer icmp.icmp_type icmp.code icmp.«data») → IsTold transport peer icmp s calls)
