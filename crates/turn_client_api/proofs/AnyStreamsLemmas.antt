@@ -11,7 +11,7 @@ use Rattle.turn_types.specs.declared.family.AddressFamily.{AddressFamily}
 use Rattle.turn_auth.specs.LongTerm.{Challenge}
 use Rattle.turn_client_api.specs.State.{State, Stream, Progress, Pending, Active, Reserved, Phase, New, Requesting, Authenticating, Allocated, Closed}
 use Rattle.turn_client_api.specs.State.{Purpose, ForAllocation, ForRefresh, ForPermission, ForChannel, ForConnect, ForBind}
-use Rattle.turn_client_api.specs.Grants.{allocation_for, channel_at, first_in, permission_for, purposes_of}
+use Rattle.turn_client_api.specs.Grants.{find_allocation_to, channel_at, first_in, permission_state, purposes_of}
 use Rattle.turn_client_api.specs.Requests.{connection_attempt_method, fresh_id}
 use Rattle.turn_client_api.specs.Judgement.{Judgement, Unrelated, Challenged, Fatal, LateResponse, DataIndication, ConnectionAttempt, SignedRequest, SignedSuccess, SignedError, judgement_of, connection_id_in}
 use Rattle.turn_client_api.specs.Judgement.{lifetime_in, method_in, peer_in}
@@ -45,9 +45,9 @@ module _ (x : List Stream) where
   -- ---- effects
 
   permission-alike : (ip : IpAddr) (is_granted : Bool) (now : ℕ) (s : State) → permission_answered ip is_granted now (with_streams x s) ≡ with_streams x (permission_answered ip is_granted now s)
-  permission-alike ip is_granted now s = by (permission_for ip s) refl is_granted
+  permission-alike ip is_granted now s = by (permission_state ip s) refl is_granted
     where
-      by : (o : Option Progress) → permission_for ip s ≡ o → (g : Bool) → permission_answered ip g now (with_streams x s) ≡ with_streams x (permission_answered ip g now s)
+      by : (o : Option Progress) → permission_state ip s ≡ o → (g : Bool) → permission_answered ip g now (with_streams x s) ≡ with_streams x (permission_answered ip g now s)
       by None e g = rw e refl
       by (Some Pending) e true = rw e refl
       by (Some Pending) e false = rw e refl
@@ -55,16 +55,16 @@ module _ (x : List Stream) where
       by (Some (Active expiry)) e false = rw e refl
       by (Some (Reserved until)) e g = rw e refl
 
-  permission_for-alike : (is_granted : Bool) (now : ℕ) (t : State) (p : Purpose) → permission_answered_for is_granted now (with_streams x t) p ≡ with_streams x (permission_answered_for is_granted now t p)
-  permission_for-alike is_granted now t (ForPermission ip) = permission-alike ip is_granted now t
-  permission_for-alike is_granted now t ForAllocation = refl
-  permission_for-alike is_granted now t (ForRefresh family lifetime) = refl
-  permission_for-alike is_granted now t (ForChannel number peer) = refl
-  permission_for-alike is_granted now t (ForConnect peer) = refl
-  permission_for-alike is_granted now t (ForBind local peer id) = refl
+  permission_state-alike : (is_granted : Bool) (now : ℕ) (t : State) (p : Purpose) → permission_answered_for is_granted now (with_streams x t) p ≡ with_streams x (permission_answered_for is_granted now t p)
+  permission_state-alike is_granted now t (ForPermission ip) = permission-alike ip is_granted now t
+  permission_state-alike is_granted now t ForAllocation = refl
+  permission_state-alike is_granted now t (ForRefresh family lifetime) = refl
+  permission_state-alike is_granted now t (ForChannel number peer) = refl
+  permission_state-alike is_granted now t (ForConnect peer) = refl
+  permission_state-alike is_granted now t (ForBind local peer id) = refl
 
   permissions-alike : (id : ℕ) (is_granted : Bool) (now : ℕ) (s : State) → listed_permissions_answered id is_granted now (with_streams x s) ≡ with_streams x (listed_permissions_answered id is_granted now s)
-  permissions-alike id is_granted now s = alike-fold (permission_answered_for is_granted now) (permission_for-alike is_granted now) (purposes_of id s) s
+  permissions-alike id is_granted now s = alike-fold (permission_answered_for is_granted now) (permission_state-alike is_granted now) (purposes_of id s) s
 
   channel-alike : (number id : ℕ) (is_granted : Bool) (now : ℕ) (s : State) → channel_answered number id is_granted now (with_streams x s) ≡ with_streams x (channel_answered number id is_granted now s)
   channel-alike number id is_granted now s = by (first_in (channel_at number) s) refl is_granted
@@ -145,7 +145,7 @@ module _ (x : List Stream) where
       by : (i : Option ℕ) → connection_id_in message ≡ i → (p : Option SocketAddr) → peer_in message ≡ p → attempt_requested message (with_streams x s) ≡ with_streams x (attempt_requested message s)
       by (Some id) e (Some peer) f =
           rw (e, f)
-          (alike-cond (not (is_some (allocation_for Tcp (socket_ip peer) s))) _ _ _ _ refl
+          (alike-cond (not (is_some (find_allocation_to Tcp (socket_ip peer) s))) _ _ _ _ refl
           (alike-cond (is_connected peer s) _ _ _ _ refl refl))
       by (Some id) e None f = rw (e, f) refl
       by None e p f = rw e refl

@@ -11,7 +11,7 @@ use Rattle.turn_types.specs.declared.family.AddressFamily.{AddressFamily}
 use Rattle.turn_types.specs.declared.family.AddressFamily.TheVariants.{IPV4, IPV6}
 use Rattle.turn_client_api.specs.Config.{Config, same_family}
 use Rattle.turn_client_api.specs.State.{State, initial, Phase, New, Requesting, Authenticating, Allocated, Closed, Grant, Allocation, Permission, Channel, Connect, Offer, Connection, Progress, Pending, Active, Reserved}
-use Rattle.turn_client_api.specs.Grants.{family_of, is_channel_of, is_connect_to, is_connection_from, is_of, is_of_family, is_permission_of, permission_for, permission_progress, with_grant, without}
+use Rattle.turn_client_api.specs.Grants.{family_of, is_channel_of, is_connect_to, is_connection_from, is_of, is_of_family, is_permission_of, permission_state, permission_progress, with_grant, without}
 use Rattle.turn_client_api.specs.Effect.{new_allocation, phase_with, relayed_in, taken_addresses}
 use Rattle.turn_client_api.specs.Retry.{phase_after}
 use Rattle.turn_client_api.specs.Calls.{is_offer_of, offer_taken, without_first}
@@ -132,7 +132,7 @@ there-granted g s there h u = subst (λ (gs : List Grant). Has g gs) (h.none u) 
 room-granted : (family : AddressFamily) (s : State) → Room s.grants family → HasDistinctGrants s.phase s.grants → IsUngranted s.phase → ⊥
 room-granted family s (a, there, e) = there-granted (Allocation a) s there
 
-permission-granted : (ip : IpAddr) (progress : Progress) (s : State) → permission_for ip s ≡ Some progress → HasDistinctGrants s.phase s.grants → IsUngranted s.phase → ⊥
+permission-granted : (ip : IpAddr) (progress : Progress) (s : State) → permission_state ip s ≡ Some progress → HasDistinctGrants s.phase s.grants → IsUngranted s.phase → ⊥
 permission-granted ip progress s e h u =
     none-some progress (subst (λ (gs : List Grant). slice_get (filter_map (permission_progress ip) gs) 0 ≡ Some progress) (h.none u) e)
 

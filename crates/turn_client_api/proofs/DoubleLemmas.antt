@@ -7,7 +7,7 @@ use Rattle.std.specs.declared.net.ip_addr.IpAddr.{IpAddr}
 use Rattle.std.specs.declared.net.socket_addr.SocketAddr.{SocketAddr}
 use Rattle.turn_agent.specs.Agent.{same_address}
 use Rattle.turn_client_api.specs.State.{Grant, Allocation, Permission, Channel, Connect, Offer, Connection, Progress, DataConnection, DataOffer, Relay}
-use Rattle.turn_client_api.specs.Grants.{connection_in, is_channel_of, is_connect_to, is_connection_from, is_permission_of, permission_progress, same_ip}
+use Rattle.turn_client_api.specs.Grants.{as_connection, is_channel_of, is_connect_to, is_connection_from, is_permission_of, permission_progress, same_ip}
 use Rattle.turn_client_api.specs.Calls.{without_first}
 use Rattle.turn_client_api.specs.LawsDoubles.{is_double}
 
@@ -222,11 +222,11 @@ no-permission ip (Connect peer ∷ gs) none = no-permission ip gs none
 no-permission ip (Offer offer ∷ gs) none = no-permission ip gs none
 no-permission ip (Connection c ∷ gs) none = no-permission ip gs none
 
-pub no-connection : (local : SocketAddr) (gs : List Grant) → is_some (find (λ c. same_address c.local local) (filter_map connection_in gs)) ≡ false → list_any (is_connection_from local) gs ≡ false
+pub no-connection : (local : SocketAddr) (gs : List Grant) → is_some (find (λ c. same_address c.local local) (filter_map as_connection gs)) ≡ false → list_any (is_connection_from local) gs ≡ false
 no-connection local [] none = refl
 no-connection local (Connection c ∷ gs) none = by (same_address c.local local) refl (no-connection local gs)
   where
-    by : (b : Bool) → same_address c.local local ≡ b → (is_some (find (λ c. same_address c.local local) (filter_map connection_in gs)) ≡ false → list_any (is_connection_from local) gs ≡ false) → list_any (is_connection_from local) (Connection c ∷ gs) ≡ false
+    by : (b : Bool) → same_address c.local local ≡ b → (is_some (find (λ c. same_address c.local local) (filter_map as_connection gs)) ≡ false → list_any (is_connection_from local) gs ≡ false) → list_any (is_connection_from local) (Connection c ∷ gs) ≡ false
     by true e later = let no : true ≡ false = rw e at none in cc
     by false e later = rw e (later (rw e at none))
 no-connection local (Allocation a ∷ gs) none = no-connection local gs none

@@ -8,7 +8,7 @@ use Rattle.std.proofs.lemmas.Option.{same_Some}
 use Rattle.std.proofs.lemmas.Bool.{leb-true, ltb-true, false_from_ne_true}
 use Rattle.turn_types.specs.declared.family.AddressFamily.{AddressFamily}
 use Rattle.turn_client_api.specs.State.{State, Grant, Allocation, Permission, Channel, Connect, Offer, Connection, DataConnection, Relay, Pending, Active, Reserved, Purpose}
-use Rattle.turn_client_api.specs.Grants.{allocation_in, allocations, connection_in, failures_among, family_of, has_request, in_sequence, is_connect, is_for, is_of, is_past, is_pending_channel, is_pending_permission, failure_of, unlisted, without}
+use Rattle.turn_client_api.specs.Grants.{as_allocation, allocations, as_connection, failures_among, family_of, has_request, in_sequence, is_connect, is_for, is_of, is_past, is_pending_channel, is_pending_permission, failure_of, unlisted, without}
 use Rattle.turn_client_api.specs.Poll.{connections_unbound, failed, goes, in_vain, is_lapsed_channel, is_lapsed_permission, is_over, is_unbound, lapsed, lapsed_allocation, lapsed_in, last_channel_lapsed, offers_in_vain, permissions_lapsed, refreshes_in_vain, set_free, unbound}
 use Rattle.turn_client_api.specs.LawsBodies.{lapse_of, lapse_moments}
 use Rattle.turn_client_api.specs.declared.event.TurnEvent.{TurnEvent}
@@ -48,7 +48,7 @@ failed-none which s none =
 
 unbound-none : (which : Grant → Bool) (s : State) → PassesNone which s.grants → unbound which s ≡ s
 unbound-none which s none =
-    ap (λ (gs : List Grant). record (failed which s) { closes = s.closes ++ map (λ (c : DataConnection). c.local) (filter_map connection_in gs) }) (filter-none which s.grants none)
+    ap (λ (gs : List Grant). record (failed which s) { closes = s.closes ++ map (λ (c : DataConnection). c.local) (filter_map as_connection gs) }) (filter-none which s.grants none)
     ∙ (ap (λ ls. record (failed which s) { closes = ls }) (append-nil s.closes)
     ∙ failed-none which s none)
 
@@ -202,7 +202,7 @@ lapsed-none now s all = fold-rest (lapsed_allocation None [] now) (allocations s
     early : (g : Grant) → Has g s.grants → IsEarly now s g
     early g h moment e = has-all (λ m. now < m) moment (lapse_moments s) all (filter_map-has (lapse_of s) g moment s.grants h e)
 
-    is-allocation : (g : Grant) (a : Relay) → allocation_in g ≡ Some a → IsEarly now s g → IsEarly now s (Allocation a)
+    is-allocation : (g : Grant) (a : Relay) → as_allocation g ≡ Some a → IsEarly now s g → IsEarly now s (Allocation a)
     is-allocation (Allocation b) a e is = rw (← same_Some b a e) is
     is-allocation (Permission ip progress) a e is = cc
     is-allocation (Channel number peer progress) a e is = cc
@@ -212,5 +212,5 @@ lapsed-none now s all = fold-rest (lapsed_allocation None [] now) (allocations s
 
     by : (a : Relay) → Has a (allocations s) → lapsed_allocation None [] now s a ≡ s
     by a h =
-        let (g, there, is) = has-filter_map allocation_in a s.grants h in
+        let (g, there, is) = has-filter_map as_allocation a s.grants h in
         rw (early-stays now s a (is-allocation g a is (early g there))) (lapsed_in-none now s early (family_of a.relayed))

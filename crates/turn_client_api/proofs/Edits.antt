@@ -10,7 +10,7 @@ use Rattle.turn_types.specs.declared.family.AddressFamily.TheVariants.{IPV6}
 use Rattle.turn_auth.specs.LongTerm.{Challenge}
 use Rattle.turn_agent.specs.Agent.{resent}
 use Rattle.turn_client_api.specs.State.{State, New, Requesting, Authenticating, Allocated, Closed, Grant, Allocation, Permission, Channel, Connect, Offer, Connection, DataConnection, Relay, Progress, Pending, Active, Reserved, Origin, OwnConnect, ServerIndication, Purpose, ForAllocation, ForConnect, Listing, Queued, Stream}
-use Rattle.turn_client_api.specs.Grants.{family_of, family_of_ip, is_channel_of, is_connect_to, is_connection_from, is_of, is_permission_of, permission_for, purposes_of, with_grant, without}
+use Rattle.turn_client_api.specs.Grants.{family_of, family_of_ip, is_channel_of, is_connect_to, is_connection_from, is_of, is_permission_of, permission_state, purposes_of, with_grant, without}
 use Rattle.turn_client_api.specs.Requests.{asked, first_allocate, request_for}
 use Rattle.turn_client_api.specs.Judgement.{challenge_in}
 use Rattle.turn_client_api.specs.Effect.{challenges_reset, ended, new_allocation, phase_with, relayed_in, taken_addresses, with_offer}
@@ -161,7 +161,7 @@ pub record KeepsHeeded (Heeded : Type 0) (R : State → State → Type 0) : Type
       → let addresses = taken_addresses s.families (relayed_in message) in
       R s (record s { phase = phase_with addresses; grants = s.grants ++ map (new_allocation lifetime now) addresses })
   -- what was requested is granted
-  pub permits : (ip : IpAddr) (expiry : ℕ) (s : State) → permission_for ip s ≡ Some Pending
+  pub permits : (ip : IpAddr) (expiry : ℕ) (s : State) → permission_state ip s ≡ Some Pending
       → R s (with_grant (Permission ip (Active expiry)) (without (is_permission_of ip) s))
   -- this follows from a request that was listed when its reply was received, and no allocation was removed
   -- since

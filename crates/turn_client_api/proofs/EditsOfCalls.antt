@@ -13,11 +13,11 @@ use Rattle.turn_stun.specs.declared.transport.TransportType.{TransportType}
 use Rattle.turn_stun.specs.declared.transport.TransportType.TheVariants.{Udp, Tcp}
 use Rattle.turn_agent.specs.Agent.{same_address}
 use Rattle.turn_client_api.specs.State.{State, Phase, New, Requesting, Authenticating, Allocated, Closed, Grant, Allocation, Permission, Channel, Connect, Offer, Connection, DataConnection, Relay, Progress, Pending, Origin, OwnConnect, ServerRequest, ServerIndication, Purpose, ForAllocation, ForRefresh, ForPermission, ForChannel, ForConnect, ForBind, Queued, later_by}
-use Rattle.turn_client_api.specs.Grants.{allocation_for, allocation_in, allocations, changed_allocation, connection_in, family_of, family_of_ip, is_past, is_permission_of, is_permitted, permission_for, same_transport, with_expired, with_grant, with_more_grants, without}
+use Rattle.turn_client_api.specs.Grants.{find_allocation_to, as_allocation, allocations, changed_allocation, as_connection, family_of, family_of_ip, is_past, is_permission_of, has_active_permission, permission_state, same_transport, with_expired, with_grant, with_more_grants, without}
 use Rattle.turn_client_api.specs.Requests.{accepted_reply, asked, fresh_id, replied, request_for, requested}
 use Rattle.turn_client_api.specs.Retry.{bind_time}
 use Rattle.turn_client_api.specs.Connections.{connection_at, is_connected, is_connecting}
-use Rattle.turn_client_api.specs.Calls.{active_channel, all_expired, allocated_tcp_socket_step, bind_channel, bind_channel_step, bound_by, bound_to, channel_numbers, channel_step, channels_to, connect_step, create_permission_step, delete_step, delete_text, deleted, free_number, has_permission, in_allocation, is_allocated, is_closed, is_control, is_granted_in, is_in_progress, is_local_taken, is_number_taken, offer_origin, offer_taken, on_channel, on_connection, permission_step, protocol_error_step, reserved_from, send_over, send_to_step, socket_opened, socket_refused, socket_step, tcp_connect_step, with_stream}
+use Rattle.turn_client_api.specs.Calls.{active_channel, all_expired, allocated_tcp_socket_step, bind_channel, bind_channel_step, bound_by, bound_to, channel_numbers, channel_step, channels_to, connect_step, create_permission_step, delete_step, delete_text, deleted, free_number, can_send_to, in_allocation, is_allocated, is_closed, is_control, is_granted_in, is_in_progress, is_local_taken, is_number_taken, offer_origin, offer_taken, on_channel, on_connection, permission_step, protocol_error_step, reserved_from, send_over, send_to_step, socket_opened, socket_refused, socket_step, tcp_connect_step, with_stream}
 use Rattle.turn_client_api.specs.declared.poll.Socket5Tuple.{Socket5Tuple}
 use Rattle.turn_client_api.specs.declared.error.BindChannelError.TheVariants as Bind
 use Rattle.turn_client_api.specs.Receive.{tcp_closed_step}
@@ -58,7 +58,7 @@ for-last p g s is = for-there p g (with_grant g s) (has-right g s.grants (g ∷ 
 delete-askable : (now : ℕ) (s : State) (p : Purpose) → Has p (map (λ (a : Relay). ForRefresh (family_of a.relayed) 0) (allocations s)) → IsAskable (all_expired now (without is_granted_in s)) p
 delete-askable now s p there =
     let (a, listed, e) = has-mapped (λ (a : Relay). ForRefresh (family_of a.relayed) 0) p (allocations s) there in
-    let (g, here, reads) = has-filter_map allocation_in a s.grants listed in
+    let (g, here, reads) = has-filter_map as_allocation a s.grants listed in
     of a e g reads here
   where
     t : State
@@ -67,7 +67,7 @@ delete-askable now s p there =
     expire : Grant → Grant
     expire = changed_allocation (λ a. true) (λ a. record a { expiry = now; is_expired = true })
 
-    of : (a : Relay) → p ≡ ForRefresh (family_of a.relayed) 0 → (g : Grant) → allocation_in g ≡ Some a → Has g s.grants → IsAskable t p
+    of : (a : Relay) → p ≡ ForRefresh (family_of a.relayed) 0 → (g : Grant) → as_allocation g ≡ Some a → Has g s.grants → IsAskable t p
     of a e (Allocation b) reads here =
         let kept = filter-has (λ g. not (is_granted_in g)) (Allocation b) s.grants here refl in
         let same : b ≡ a = same_Some b a reads in
@@ -126,21 +126,21 @@ module _ (R : State → State → Type 0) (k : KeepsEdits R) where
   delete-walk expires now s = either R k (is_allocated s.phase) s (Ok tt, deleted now s) _ (λ e. deleted-walk expires now s (is_allocated-true s.phase e)) (λ e. k.same s)
 
   permission-walk : (transport : TransportType) (ip : IpAddr) (now : ℕ) (s : State) → R s (create_permission_step transport ip now s).1
-  permission-walk transport ip now s = allocation-walk (allocation_for transport ip s) ip now _ s (permission_step ip now s) by
+  permission-walk transport ip now s = allocation-walk (find_allocation_to transport ip s) ip now _ s (permission_step ip now s) by
     where
       t : State
       t = with_grant (Permission ip Pending) s
 
-      by : is_some (allocation_for transport ip s) ≡ true → R s (permission_step ip now s).1
+      by : is_some (find_allocation_to transport ip s) ≡ true → R s (permission_step ip now s).1
       by room =
-          either R k (is_some (permission_for ip s)) s _ _ (λ e. k.same s)
+          either R k (is_some (permission_state ip s)) s _ _ (λ e. k.same s)
           (λ none. either R k (not (is_allocated s.phase)) s _ _ (λ e. k.same s)
           (λ there. then s t _ (k.permission ip s (is_allocated-true s.phase (not-false (is_allocated s.phase) there)) (allocation-room transport ip s room) (no-permission ip s.grants none))
           (requested-walk R k (fresh_id s) (ForPermission ip) now t (allocated-begun s.phase (not-false (is_allocated s.phase) there)) (for-last (ForPermission ip) (Permission ip Pending) s (same_ip-same ip)) (spelled-else (fresh_id s) (request_for t (ForPermission ip) (fresh_id s)) (ForPermission ip) t (is_allocated-true s.phase (not-false (is_allocated s.phase) there)) (λ f. cc)))))
 
   -- the requested number is free
   bind_channel-walk : (number : ℕ) (peer : SocketAddr) (now : ℕ) (s : State) → s.phase ≡ Allocated → Room s.grants (family_of peer) → free_number s ≡ Some number → R s (bind_channel number peer now s)
-  bind_channel-walk number peer now s there room free = by (permission_for (socket_ip peer) s) refl
+  bind_channel-walk number peer now s there room free = by (permission_state (socket_ip peer) s) refl
     where
       begun : IsBegun s.phase
       begun = rw there tt
@@ -190,7 +190,7 @@ module _ (R : State → State → Type 0) (k : KeepsEdits R) where
       both-other p (inr (inl e)) f = let no : ForPermission ip ≡ ForAllocation = sym e ∙ f in cc
       both-other p (inr (inr none)) f = absurd none
 
-      by : (o : Option Progress) → permission_for ip s ≡ o → R s (bind_channel number peer now s)
+      by : (o : Option Progress) → permission_state ip s ≡ o → R s (bind_channel number peer now s)
       by None e =
           let c = asked (fresh_id s) text (ForChannel number peer ∷ ForPermission ip ∷ []) now b in
           rw e (then s b _ (both (no-permission ip s.grants (rw e refl))) (then b c _ (k.asks (fresh_id s) text (ForChannel number peer ∷ ForPermission ip ∷ []) now b begun of_both (inl (there, both-other))) (k.queues (bind_channel number peer now s).queue c begun)))
@@ -212,19 +212,19 @@ module _ (R : State → State → Type 0) (k : KeepsEdits R) where
 
   bind-walk : (transport : TransportType) (peer : SocketAddr) (now : ℕ) (s : State) → R s (bind_channel_step transport peer now s).1
   bind-walk transport peer now s =
-      allocation-walk (allocation_for transport (socket_ip peer) s) (socket_ip peer) now _ s (channel_step peer now s)
+      allocation-walk (find_allocation_to transport (socket_ip peer) s) (socket_ip peer) now _ s (channel_step peer now s)
       (λ room. channel-walk peer now s (allocation-room transport (socket_ip peer) s room))
 
   connect-walk : (peer : SocketAddr) (now : ℕ) (s : State) → R s (tcp_connect_step peer now s).1
-  connect-walk peer now s = allocation-walk (allocation_for Tcp (socket_ip peer) s) (socket_ip peer) now _ s (connect_step peer now s) by
+  connect-walk peer now s = allocation-walk (find_allocation_to Tcp (socket_ip peer) s) (socket_ip peer) now _ s (connect_step peer now s) by
     where
       t : State
       t = with_grant (Connect peer) s
 
-      by : is_some (allocation_for Tcp (socket_ip peer) s) ≡ true → R s (connect_step peer now s).1
+      by : is_some (find_allocation_to Tcp (socket_ip peer) s) ≡ true → R s (connect_step peer now s).1
       by room =
           either R k (not (is_allocated s.phase)) s _ _ (λ e. k.same s)
-          (λ there. either R k (not (is_permitted (socket_ip peer) s)) s _ _ (λ e. k.same s)
+          (λ there. either R k (not (has_active_permission (socket_ip peer) s)) s _ _ (λ e. k.same s)
           (λ permitted. either R k (is_connected peer s || is_connecting peer s) s _ _ (λ e. k.same s)
           (λ free. then s t _ (k.connect peer s (is_allocated-true s.phase (not-false (is_allocated s.phase) there)) (allocation-room Tcp (socket_ip peer) s room) (or_parts (is_connected peer s) (is_connecting peer s) free).1)
           (requested-walk R k (fresh_id s) (ForConnect peer) now t (allocated-begun s.phase (not-false (is_allocated s.phase) there)) (for-last (ForConnect peer) (Connect peer) s (same_address-self peer)) (spelled-else (fresh_id s) (request_for t (ForConnect peer) (fresh_id s)) (ForConnect peer) t (is_allocated-true s.phase (not-false (is_allocated s.phase) there)) (λ f. cc))))))
@@ -289,12 +289,12 @@ module _ (R : State → State → Type 0) (k : KeepsEdits R) where
   connection_data-walk None bytes s = k.same s
 
   over-walk : (transport : TransportType) (peer : SocketAddr) (bytes : List ℕ) (now : ℕ) (s : State) → R s (send_over transport peer bytes now s).1
-  over-walk Tcp peer bytes now s = connection_data-walk (find (bound_to peer) (filter_map connection_in s.grants)) bytes s
+  over-walk Tcp peer bytes now s = connection_data-walk (find (bound_to peer) (filter_map as_connection s.grants)) bytes s
   over-walk Udp peer bytes now s = channel_data-walk (filter_map (active_channel peer) s.grants) peer bytes now s
 
   send-walk : (transport : TransportType) (peer : SocketAddr) (bytes : List ℕ) (now : ℕ) (s : State) → R s (send_to_step transport peer bytes now s).1
   send-walk transport peer bytes now s =
-      either R k (has_permission transport (socket_ip peer) s) s (send_over transport peer bytes now s) _ (λ e. over-walk transport peer bytes now s) (λ e. k.same s)
+      either R k (can_send_to transport (socket_ip peer) s) s (send_over transport peer bytes now s) _ (λ e. over-walk transport peer bytes now s) (λ e. k.same s)
 
   tcp_closed-walk : (local remote : SocketAddr) (s : State) → R s (tcp_closed_step local remote s)
   tcp_closed-walk local remote s = one-of R k (same_transport s.transport Tcp && same_address remote s.remote) s _ s (gone-walk R k local s) (k.same s)

@@ -13,7 +13,7 @@ use Rattle.turn_types.specs.declared.family.AddressFamily.TheVariants.{IPV4, IPV
 use Rattle.turn_auth.specs.LongTerm.{Challenge}
 use Rattle.turn_agent.specs.Agent.{same_address}
 use Rattle.turn_client_api.specs.State.{State, Phase, New, Requesting, Authenticating, Allocated, Closed, Grant, Allocation, Permission, Channel, Connect, Offer, Connection, DataConnection, ServerIndication, ServerRequest, Purpose, ForAllocation, ForRefresh, ForPermission, ForChannel, ForConnect, ForBind, Listing, Bound, later_by}
-use Rattle.turn_client_api.specs.Grants.{allocation_for, connection_in, is_connection_from, is_permitted, purposes_of, unlisted, wait}
+use Rattle.turn_client_api.specs.Grants.{find_allocation_to, as_connection, is_connection_from, has_active_permission, purposes_of, unlisted, wait}
 use Rattle.turn_client_api.specs.Requests.{asked, bad_request, connection_already_exists, connection_attempt_method, connection_bind_method, fresh_id, refused_reply, replied, request_for, requested}
 use Rattle.turn_client_api.specs.Judgement.{Judgement, Unrelated, Challenged, Fatal, LateResponse, DataIndication, ConnectionAttempt, SignedRequest, SignedSuccess, SignedError, answers_one, challenge_in, challenged_or, judgement_of, bind_judgement, is_bind_of, connection_id_in, lifetime_in, method_in, peer_in}
 use Rattle.turn_client_api.specs.Effect.{allocate_denied, allocate_granted, allocated, closed, ended, fail_all, family_not_supported, has_code, in_phase, phase_with, relayed_in, taken_addresses, with_offer}
@@ -63,10 +63,10 @@ bind-other c p e f = let no : is_bind_of c.local ForAllocation ≡ true = subst 
 -- the connection at this local address exists
 connection-there : (local : SocketAddr) (c : DataConnection) (s : State) → connection_at local s ≡ Some c → Has (Connection c) s.grants
 connection-there local c s e =
-    let (g, there, reads) = has-filter_map connection_in c s.grants (has-found (λ (d : DataConnection). same_address d.local local) c (filter_map connection_in s.grants) e).0 in
+    let (g, there, reads) = has-filter_map as_connection c s.grants (has-found (λ (d : DataConnection). same_address d.local local) c (filter_map as_connection s.grants) e).0 in
     of g reads there
   where
-    of : (g : Grant) → connection_in g ≡ Some c → Has g s.grants → Has (Connection c) s.grants
+    of : (g : Grant) → as_connection g ≡ Some c → Has g s.grants → Has (Connection c) s.grants
     of (Connection d) reads there = rw (sym (same_Some d c reads)) there
     of (Allocation a) reads there = absurd (none-some c reads)
     of (Permission ip p) reads there = absurd (none-some c reads)
@@ -248,12 +248,12 @@ module _ (Heeded : Type 0) (R : State → State → Type 0) (k : KeepsHeeded Hee
       answers : (text : List ℕ) → R s (replied text s)
       answers text = k.edits.queues (replied text s).queue s begun
 
-      room : (id : ℕ) (peer : SocketAddr) (b : Bool) → is_some (allocation_for Tcp (socket_ip peer) s) ≡ b → (refused taken : State) → R s refused → R s taken → R s (cond (not b) refused (cond (is_connected peer s) taken (with_offer id peer (ServerRequest (id_of message)) s)))
+      room : (id : ℕ) (peer : SocketAddr) (b : Bool) → is_some (find_allocation_to Tcp (socket_ip peer) s) ≡ b → (refused taken : State) → R s refused → R s taken → R s (cond (not b) refused (cond (is_connected peer s) taken (with_offer id peer (ServerRequest (id_of message)) s)))
       room id peer false e refused taken p q = p
       room id peer true e refused taken p q = one-of R k.edits (is_connected peer s) s taken _ q (k.offers id peer (ServerRequest (id_of message)) s (allocation-room Tcp (socket_ip peer) s e) (λ f. cc))
 
       by : (i : Option ℕ) → connection_id_in message ≡ i → (p : Option SocketAddr) → peer_in message ≡ p → R s (attempt_requested message s)
-      by (Some id) e (Some peer) f = rw (e, f) (room id peer (is_some (allocation_for Tcp (socket_ip peer) s)) refl _ _ (answers (refused_reply bad_request (codes "Bad Request") s (id_of message))) (answers (refused_reply connection_already_exists (codes "Connection Already Exists") s (id_of message))))
+      by (Some id) e (Some peer) f = rw (e, f) (room id peer (is_some (find_allocation_to Tcp (socket_ip peer) s)) refl _ _ (answers (refused_reply bad_request (codes "Bad Request") s (id_of message))) (answers (refused_reply connection_already_exists (codes "Connection Already Exists") s (id_of message))))
       by (Some id) e None f = rw (e, f) (answers (refused_reply bad_request (codes "Bad Request") s (id_of message)))
       by None e p f = rw e (answers (refused_reply bad_request (codes "Bad Request") s (id_of message)))
 
@@ -261,7 +261,7 @@ module _ (Heeded : Type 0) (R : State → State → Type 0) (k : KeepsHeeded Hee
   heeded-walk id peer s e =
       let few = and_parts _ (ltb (length (filter is_indicated s.grants)) most_indicated) e in
       let free = and_parts _ (not (is_connected peer s || is_connecting peer s)) few.0 in
-      let let_in = and_parts (is_some (allocation_for Tcp (socket_ip peer) s)) (is_permitted (socket_ip peer) s) free.0 in
+      let let_in = and_parts (is_some (find_allocation_to Tcp (socket_ip peer) s)) (has_active_permission (socket_ip peer) s) free.0 in
       k.offers id peer ServerIndication s (allocation-room Tcp (socket_ip peer) s let_in.0) (λ f. ltb-true (length (filter is_indicated s.grants)) most_indicated few.1)
 
   indicated-walk : (message : List ℕ) (s : State) → IfSome (attempt_indicated message s) (R s)

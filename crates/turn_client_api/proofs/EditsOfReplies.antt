@@ -9,7 +9,7 @@ use Rattle.std.specs.declared.net.socket_addr.SocketAddr.{SocketAddr}
 use Rattle.turn_types.specs.declared.family.AddressFamily.{AddressFamily}
 use Rattle.turn_agent.specs.Agent.{same_address}
 use Rattle.turn_client_api.specs.State.{State, Allocated, Grant, Allocation, Permission, Channel, Connect, Offer, Connection, Relay, Progress, Pending, Active, Reserved, Purpose, ForAllocation, ForRefresh, ForPermission, ForChannel, ForConnect, ForBind, Listing, later_by, seconds}
-use Rattle.turn_client_api.specs.Grants.{allocation_in, changed_allocation, channel_at, first_in, is_channel_of, is_connect_to, is_connection_from, is_for_allocation, is_of, is_of_family, is_permission_of, permission_for, purposes_of, unlisted, with_allocations, without, with_expired}
+use Rattle.turn_client_api.specs.Grants.{as_allocation, changed_allocation, channel_at, first_in, is_channel_of, is_connect_to, is_connection_from, is_for_allocation, is_of, is_of_family, is_permission_of, permission_state, purposes_of, unlisted, with_allocations, without, with_expired}
 use Rattle.turn_client_api.specs.Judgement.{connection_id_in, lifetime_in}
 use Rattle.turn_client_api.specs.Connections.{connection_at, deadline_set, with_deadline}
 use Rattle.turn_client_api.specs.Effect.{active_channel_answered, active_permission_answered, all_gone, allocation_mismatch, challenges_reset, channel_answered, channel_lifetime, closed, connect_answered, effect, fail_all, has_code, is_asked_permission, lasting, lasting_if, least_lifetime, listed_permissions_answered, pending_channel_answered, pending_permission_answered, permission_answered, permission_answered_for, permission_lifetime, prolonged, refreshed, renewed, reserved}
@@ -134,9 +134,9 @@ module _ (number : ℕ) (peer : SocketAddr) (progress : Progress) where
   without-stays ip s there = filter-has (λ g. not (is_permission_of ip g)) (Channel number peer progress) s.grants there refl
 
   answered-stays : (ip : IpAddr) (is_granted : Bool) (now : ℕ) (s : State) → Stays s (permission_answered ip is_granted now s)
-  answered-stays ip is_granted now s = by (permission_for ip s) refl is_granted
+  answered-stays ip is_granted now s = by (permission_state ip s) refl is_granted
     where
-      by : (o : Option Progress) → permission_for ip s ≡ o → (g : Bool) → Stays s (permission_answered ip g now s)
+      by : (o : Option Progress) → permission_state ip s ≡ o → (g : Bool) → Stays s (permission_answered ip g now s)
       by None e g = rw e (λ there. there)
       by (Some Pending) e true = rw e (λ there. has-left (Channel number peer progress) (without (is_permission_of ip) s).grants _ (without-stays ip s there))
       by (Some Pending) e false = rw e (without-stays ip s)
@@ -261,12 +261,12 @@ module _ (Heeded : Type 0) (R : State → State → Type 0) (k : KeepsHeeded Hee
   deadline-walk local deadline s = k.reshapes (with_deadline local deadline s).grants s (alike-map outline (deadline_set local deadline) (deadline-outline local deadline) s.grants)
 
   permission-walk : (ip : IpAddr) (is_granted : Bool) (now : ℕ) (s : State) → R s (permission_answered ip is_granted now s)
-  permission-walk ip is_granted now s = by (permission_for ip s) refl is_granted
+  permission-walk ip is_granted now s = by (permission_state ip s) refl is_granted
     where
       gone : (t : State) → R s (record (without (is_permission_of ip) s) { ids = t.ids; events = t.events; closes = t.closes })
       gone t = removed R k.edits (is_permission_of ip) (λ a. refl) s t
 
-      by : (o : Option Progress) → permission_for ip s ≡ o → (g : Bool) → R s (permission_answered ip g now s)
+      by : (o : Option Progress) → permission_state ip s ≡ o → (g : Bool) → R s (permission_answered ip g now s)
       by None e g = rw e (k.edits.same s)
       by (Some Pending) e true = rw e (k.edits.trans s _ _ (k.permits ip (later_by permission_lifetime now) s e) (k.edits.aside _ (pending_permission_answered ip true now s)))
       by (Some Pending) e false = rw e (gone (pending_permission_answered ip false now s))
@@ -274,20 +274,20 @@ module _ (Heeded : Type 0) (R : State → State → Type 0) (k : KeepsHeeded Hee
       by (Some (Active expiry)) e false = rw e (gone (active_permission_answered ip false now s))
       by (Some (Reserved until)) e g = rw e (k.edits.same s)
 
-  permission_for-walk : (is_granted : Bool) (now : ℕ) (t : State) (p : Purpose) → R t (permission_answered_for is_granted now t p)
-  permission_for-walk is_granted now t (ForPermission ip) = permission-walk ip is_granted now t
-  permission_for-walk is_granted now t ForAllocation = k.edits.same t
-  permission_for-walk is_granted now t (ForRefresh family lifetime) = k.edits.same t
-  permission_for-walk is_granted now t (ForChannel number peer) = k.edits.same t
-  permission_for-walk is_granted now t (ForConnect peer) = k.edits.same t
-  permission_for-walk is_granted now t (ForBind local peer id) = k.edits.same t
+  permission_state-walk : (is_granted : Bool) (now : ℕ) (t : State) (p : Purpose) → R t (permission_answered_for is_granted now t p)
+  permission_state-walk is_granted now t (ForPermission ip) = permission-walk ip is_granted now t
+  permission_state-walk is_granted now t ForAllocation = k.edits.same t
+  permission_state-walk is_granted now t (ForRefresh family lifetime) = k.edits.same t
+  permission_state-walk is_granted now t (ForChannel number peer) = k.edits.same t
+  permission_state-walk is_granted now t (ForConnect peer) = k.edits.same t
+  permission_state-walk is_granted now t (ForBind local peer id) = k.edits.same t
 
   pending_channel-walk : (number : ℕ) (peer : SocketAddr) (id : ℕ) (is_granted : Bool) (now : ℕ) (s : State) → Has (Channel number peer Pending) s.grants → R s (pending_channel_answered number peer id is_granted now s)
   pending_channel-walk number peer id true now s there =
       let t = listed_permissions_answered id true now s in
       let later = all-stay number peer Pending true now (purposes_of id s) s there in
       let bound = k.rebinds number peer Pending (Active (later_by channel_lifetime now)) t later in
-      k.edits.trans s t _ (each R k.edits (permission_answered_for true now) (permission_for-walk true now) (purposes_of id s) s)
+      k.edits.trans s t _ (each R k.edits (permission_answered_for true now) (permission_state-walk true now) (purposes_of id s) s)
       (k.edits.trans t _ _ bound (k.edits.aside _ (pending_channel_answered number peer id true now s)))
   pending_channel-walk number peer id false now s there =
       let end = pending_channel_answered number peer id false now s in
@@ -311,7 +311,7 @@ module _ (Heeded : Type 0) (R : State → State → Type 0) (k : KeepsHeeded Hee
   prolonged-walk heeded family lifetime now s = one-of R k.edits (leb least_lifetime lifetime) s _ s longer (k.edits.same s)
     where
       t : State
-      t = unlisted (λ g. is_some (allocation_in g) && is_of family g) s
+      t = unlisted (λ g. is_some (as_allocation g) && is_of family g) s
 
       u : State
       u = with_allocations (λ a. is_of_family family a.relayed) (λ a. record a { expiry = later_by (seconds lifetime) now }) t

@@ -11,7 +11,7 @@ use Rattle.std.specs.declared.net.socket_addr.SocketAddr.{SocketAddr}
 use Rattle.std.proofs.lemmas.Bool.{eqb-true, leb-true}
 use Rattle.turn_types.specs.declared.family.AddressFamily.{AddressFamily}
 use Rattle.turn_client_api.specs.State.{State, Grant, Allocation, Permission, Channel, Connect, Offer, Connection, DataOffer, Progress, Pending, Active, Reserved, Purpose, ForAllocation, ForRefresh, ForPermission, ForChannel, ForConnect, ForBind, OwnConnect, later_by, seconds}
-use Rattle.turn_client_api.specs.Grants.{changed_allocation, channel_at, first_in, is_channel_of, is_connect_to, is_of_family, is_permission_of, permission_for, purposes_of, same_ip, unlisted, with_grant, without}
+use Rattle.turn_client_api.specs.Grants.{changed_allocation, channel_at, first_in, is_channel_of, is_connect_to, is_of_family, is_permission_of, permission_state, purposes_of, same_ip, unlisted, with_grant, without}
 use Rattle.turn_client_api.specs.Judgement.{connection_id_in, lifetime_in}
 use Rattle.turn_client_api.specs.Effect.{lasting, lasting_if, all_gone, allocation_mismatch, channel_answered, channel_lifetime, connect_answered, effect, has_code, challenges_reset, least_lifetime, permission_answered, permission_answered_for, permission_lifetime, permission_refused_too, listed_permissions_answered, prolonged, refreshed, reserved_time}
 use Rattle.turn_client_api.specs.LawsGranted.{HasChannelTo, IsActiveGrant, IsSameGrant}
@@ -160,9 +160,9 @@ module _ (purposes : List Purpose) (message : List ℕ) (now : ℕ) (before : St
       by true (Connection c) f = cc
 
   permission-takes : (ip : IpAddr) (is_granted : Bool) (s : State) → Names is_granted (ForPermission ip) → Taken s (permission_answered ip is_granted now s)
-  permission-takes ip is_granted s = by (permission_for ip s) refl is_granted
+  permission-takes ip is_granted s = by (permission_state ip s) refl is_granted
     where
-      by : (o : Option Progress) → permission_for ip s ≡ o → (g : Bool) → Names g (ForPermission ip) → Taken s (permission_answered ip g now s)
+      by : (o : Option Progress) → permission_state ip s ≡ o → (g : Bool) → Names g (ForPermission ip) → Taken s (permission_answered ip g now s)
       by None e g one = rw e (same s)
       by (Some Pending) e true one =
           rw e (replaced-takes (is_permission_of ip) (Permission ip (Active (later_by permission_lifetime now))) s
@@ -173,18 +173,18 @@ module _ (purposes : List Purpose) (message : List ℕ) (now : ℕ) (before : St
       by (Some (Active expiry)) e false one = rw e (without-takes (is_permission_of ip) s)
       by (Some (Reserved until)) e g one = rw e (same s)
 
-  permission_for-takes : (is_granted : Bool) (t : State) (p : Purpose) → Names is_granted p → Taken t (permission_answered_for is_granted now t p)
-  permission_for-takes is_granted t (ForPermission ip) one = permission-takes ip is_granted t one
-  permission_for-takes is_granted t ForAllocation one = same t
-  permission_for-takes is_granted t (ForRefresh family lifetime) one = same t
-  permission_for-takes is_granted t (ForChannel number peer) one = same t
-  permission_for-takes is_granted t (ForConnect peer) one = same t
-  permission_for-takes is_granted t (ForBind local peer id) one = same t
+  permission_state-takes : (is_granted : Bool) (t : State) (p : Purpose) → Names is_granted p → Taken t (permission_answered_for is_granted now t p)
+  permission_state-takes is_granted t (ForPermission ip) one = permission-takes ip is_granted t one
+  permission_state-takes is_granted t ForAllocation one = same t
+  permission_state-takes is_granted t (ForRefresh family lifetime) one = same t
+  permission_state-takes is_granted t (ForChannel number peer) one = same t
+  permission_state-takes is_granted t (ForConnect peer) one = same t
+  permission_state-takes is_granted t (ForBind local peer id) one = same t
 
   permissions-takes : (id : ℕ) (is_granted : Bool) (s : State) → NamesAll is_granted id s → Taken s (listed_permissions_answered id is_granted now s)
   permissions-takes id is_granted s all =
       takes-fold purposes message now before (permission_answered_for is_granted now) s (purposes_of id s)
-      (λ t p within there. permission_for-takes is_granted t p (λ granted. all granted p there))
+      (λ t p within there. permission_state-takes is_granted t p (λ granted. all granted p there))
       (purposes_of id s) (λ p there. there) s (λ l there. there, λ number peer h. h)
 
   channel-takes : (number : ℕ) (asked : SocketAddr) (id : ℕ) (is_granted : Bool) (s : State) → AreKnown s → Names is_granted (ForChannel number asked) → NamesAll is_granted id s → Taken s (channel_answered number id is_granted now s)

@@ -16,7 +16,7 @@ use Rattle.turn_auth.specs.declared.validation.Validation.{Validation}
 use Rattle.turn_auth.specs.declared.validation.Validation.TheVariants.{Validated, ResendRequest, Refused}
 use Rattle.turn_agent.specs.Agent.{is_outstanding, is_response}
 use Rattle.turn_client_api.specs.State.{State, Phase, New, Requesting, Authenticating, Allocated, Closed, Grant, Offer, Origin, ServerRequest, ServerIndication, Purpose, ForAllocation, ForRefresh, ForPermission, ForChannel, ForConnect, ForBind, auth_of}
-use Rattle.turn_client_api.specs.Grants.{allocation_for, is_for_allocation, is_of_family, purposes_of}
+use Rattle.turn_client_api.specs.Grants.{find_allocation_to, is_for_allocation, is_of_family, purposes_of}
 use Rattle.turn_client_api.specs.Requests.{connection_attempt_method, data_method}
 use Rattle.turn_client_api.specs.Judgement.{Judgement, Unrelated, Challenged, Fatal, LateResponse, DataIndication, ConnectionAttempt, SignedRequest, SignedSuccess, SignedError, judgement_of, by_class, challenged_or, challenge_in, answers_one, answers_allocate, authenticating_judgement, allocated_judgement, requesting_judgement, indication_judgement, class_in, connection_id_in, lifetime_in, method_in, peer_in}
 use Rattle.turn_client_api.specs.Effect.{allocate_granted, effect, ended, family_not_supported, has_code, new_allocation, relayed_in, taken_addresses, with_offer}
@@ -291,7 +291,7 @@ requested-leaves message s = by (connection_id_in message) refl (peer_in message
   where
     by : (i : Option ℕ) → connection_id_in message ≡ i → (p : Option SocketAddr) → peer_in message ≡ p → Leaves s (attempt_requested message s)
     by (Some id) e (Some peer) f =
-        rw (e, f) (leaves-cond (not (is_some (allocation_for Tcp (socket_ip peer) s))) s _ _ (leaves-same s)
+        rw (e, f) (leaves-cond (not (is_some (find_allocation_to Tcp (socket_ip peer) s))) s _ _ (leaves-same s)
         (leaves-cond (is_connected peer s) s _ _ (leaves-same s) (offer-leaves id peer (ServerRequest (id_of message)) s)))
     by (Some id) e None f = rw (e, f) (leaves-same s)
     by None e p f = rw e (leaves-same s)

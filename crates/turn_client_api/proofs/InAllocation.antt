@@ -12,7 +12,7 @@ use Rattle.turn_agent.specs.Agent.{same_address}
 use Rattle.turn_client_api.specs.Config.{Config, same_family}
 use Rattle.turn_client_api.specs.Alarm.{AllHaveAllocation, HasAllocation}
 use Rattle.turn_client_api.specs.State.{State, initial, DataOffer, Grant, Allocation, Permission, Channel, Connect, Offer, Connection, Progress, Pending, Active, Reserved, Origin, OwnConnect, Purpose, ForAllocation, ForRefresh, ForPermission, ForChannel, ForConnect, ForBind, Listing}
-use Rattle.turn_client_api.specs.Grants.{family_of, family_of_grant, family_of_ip, is_channel_of, is_connect_to, is_for, is_of, is_permission_of, offer_in, permission_for, permission_progress, purposes_of, same_ip, with_grant, without}
+use Rattle.turn_client_api.specs.Grants.{family_of, family_of_grant, family_of_ip, is_channel_of, is_connect_to, is_for, is_of, is_permission_of, as_offer, permission_state, permission_progress, purposes_of, same_ip, with_grant, without}
 use Rattle.turn_client_api.specs.Effect.{new_allocation, relayed_in, taken_addresses}
 use Rattle.turn_client_api.specs.Calls.{is_offer_of, offer_origin, offer_taken}
 use Rattle.turn_client_api.specs.Steps.{Call, Leaves}
@@ -61,9 +61,9 @@ same_address-family (V6 a) (V4 b) e = cc
 
 -- an offer that exists has an allocation
 offer-room : (id : ℕ) (peer : SocketAddr) (origin : Origin) (s : State) → offer_origin id peer s ≡ Some origin → Housed s.grants s.listed → Room s.grants (family_of peer)
-offer-room id peer origin s e h = by (slice_get (filter_map offer_in (filter (is_offer_of id peer) s.grants)) 0) refl
+offer-room id peer origin s e h = by (slice_get (filter_map as_offer (filter (is_offer_of id peer) s.grants)) 0) refl
   where
-    of : (offer : DataOffer) (g : Grant) → offer_in g ≡ Some offer → is_offer_of id peer g ≡ true → Room s.grants (family_of_grant g) → Room s.grants (family_of peer)
+    of : (offer : DataOffer) (g : Grant) → as_offer g ≡ Some offer → is_offer_of id peer g ≡ true → Room s.grants (family_of_grant g) → Room s.grants (family_of peer)
     of offer (Offer other) reads is room =
         subst (λ (f : AddressFamily). Room s.grants f) (same_address-family other.peer peer (and_parts (eqb other.connection_id id) (same_address other.peer peer) is).1) room
     of offer (Allocation a) reads is room = cc
@@ -72,15 +72,15 @@ offer-room id peer origin s e h = by (slice_get (filter_map offer_in (filter (is
     of offer (Connect to) reads is room = cc
     of offer (Connection c) reads is room = cc
 
-    by : (o : Option DataOffer) → slice_get (filter_map offer_in (filter (is_offer_of id peer) s.grants)) 0 ≡ o → Room s.grants (family_of peer)
+    by : (o : Option DataOffer) → slice_get (filter_map as_offer (filter (is_offer_of id peer) s.grants)) 0 ≡ o → Room s.grants (family_of peer)
     by None f = absurd (none-some origin (rw f at e))
     by (Some offer) f =
-        let (g, there, reads) = has-filter_map offer_in offer (filter (is_offer_of id peer) s.grants) (first-has offer _ f) in
+        let (g, there, reads) = has-filter_map as_offer offer (filter (is_offer_of id peer) s.grants) (first-has offer _ f) in
         let (was, is) = has-filter (is_offer_of id peer) g s.grants there in
         of offer g reads is (h.stands g was)
 
 -- a permission that exists has an allocation
-permission-room : (ip : IpAddr) (p : Progress) (s : State) → permission_for ip s ≡ Some p → Housed s.grants s.listed → Room s.grants (family_of_ip ip)
+permission-room : (ip : IpAddr) (p : Progress) (s : State) → permission_state ip s ≡ Some p → Housed s.grants s.listed → Room s.grants (family_of_ip ip)
 permission-room ip p s e h =
     let (g, there, reads) = has-filter_map (permission_progress ip) p s.grants (first-has p (filter_map (permission_progress ip) s.grants) e) in
     of g reads (h.stands g there)

@@ -9,7 +9,7 @@ use Rattle.turn_types.specs.declared.family.AddressFamily.{AddressFamily}
 use Rattle.turn_types.specs.declared.family.AddressFamily.TheVariants.{IPV4, IPV6}
 use Rattle.turn_client_api.specs.Config.{same_family}
 use Rattle.turn_client_api.specs.State.{State, Grant, Allocation, Permission, Channel, Connect, Offer, Connection, Relay, Pending, OwnConnect, Purpose, ForAllocation, ForRefresh, ForPermission, ForChannel, ForConnect, ForBind, Listing}
-use Rattle.turn_client_api.specs.Grants.{allocation_for, allocation_in, allocation_of, allocations, family_of, family_of_grant, family_of_ip, is_for, same_transport}
+use Rattle.turn_client_api.specs.Grants.{find_allocation_to, as_allocation, find_allocation, allocations, family_of, family_of_grant, family_of_ip, is_for, same_transport}
 use Rattle.turn_client_api.specs.Requests.{listings}
 use Rattle.turn_client_api.specs.LawsGrantAllocations.{asked_family}
 use Rattle.turn_client_api.proofs.HasLemmas.{Has, has-left, has-append, has-filter, filter-has, map-has, filter_map-has, has-filter_map, has-found}
@@ -68,17 +68,17 @@ pub record Housed (gs : List Grant) (ls : List Listing) : Type 0 where
 abbrev pub Houses : State → State → Type 0
 Houses s t = Housed s.grants s.listed → Housed t.grants t.listed
 
-pub room-of : (family : AddressFamily) (s : State) → is_some (allocation_of family s) ≡ true → Room s.grants family
-room-of family s = by (allocation_of family s) refl
+pub room-of : (family : AddressFamily) (s : State) → is_some (find_allocation family s) ≡ true → Room s.grants family
+room-of family s = by (find_allocation family s) refl
   where
-    by : (o : Option Relay) → allocation_of family s ≡ o → is_some o ≡ true → Room s.grants family
+    by : (o : Option Relay) → find_allocation family s ≡ o → is_some o ≡ true → Room s.grants family
     by None e h = cc
     by (Some a) e h =
         let f = has-found (λ (r : Relay). same_family (family_of r.relayed) family) a (allocations s) e in
-        let (g, there, is) = has-filter_map allocation_in a s.grants f.0 in
+        let (g, there, is) = has-filter_map as_allocation a s.grants f.0 in
         (a, subst (λ (x : Grant). Has x s.grants) (the g is) there, same_family-true (family_of a.relayed) family f.1)
       where
-        the : (g : Grant) → allocation_in g ≡ Some a → g ≡ Allocation a
+        the : (g : Grant) → as_allocation g ≡ Some a → g ≡ Allocation a
         the (Allocation b) e = cc
         the (Permission ip progress) e = cc
         the (Channel number peer progress) e = cc
@@ -87,8 +87,8 @@ room-of family s = by (allocation_of family s) refl
         the (Connection c) e = cc
 
 -- an allocation that relays to this address
-pub allocation-room : (transport : TransportType) (ip : IpAddr) (s : State) → is_some (allocation_for transport ip s) ≡ true → Room s.grants (family_of_ip ip)
-allocation-room transport ip s e = room-of (family_of_ip ip) s (by (same_transport transport s.config.allocation_transport) (allocation_of (family_of_ip ip) s) e)
+pub allocation-room : (transport : TransportType) (ip : IpAddr) (s : State) → is_some (find_allocation_to transport ip s) ≡ true → Room s.grants (family_of_ip ip)
+allocation-room transport ip s e = room-of (family_of_ip ip) s (by (same_transport transport s.config.allocation_transport) (find_allocation (family_of_ip ip) s) e)
   where
     by : (b : Bool) (o : Option Relay) → is_some (cond b o None) ≡ true → is_some o ≡ true
     by true o e = e
@@ -103,10 +103,10 @@ find-some p x (y ∷ xs) (inr h) passes = by (p y) refl (find-some p x xs h pass
     by true here later = rw here refl
     by false fails later = rw fails later
 
-pub of-room : (family : AddressFamily) (s : State) → Room s.grants family → is_some (allocation_of family s) ≡ true
+pub of-room : (family : AddressFamily) (s : State) → Room s.grants family → is_some (find_allocation family s) ≡ true
 of-room family s (a, there, is) =
     find-some (λ (r : Relay). same_family (family_of r.relayed) family) a (allocations s)
-    (filter_map-has allocation_in (Allocation a) a s.grants there refl) (same_family-self (family_of a.relayed) family is)
+    (filter_map-has as_allocation (Allocation a) a s.grants there refl) (same_family-self (family_of a.relayed) family is)
 
 -- ---- grants that stay
 

@@ -10,7 +10,7 @@ use Rattle.turn_types.specs.declared.family.AddressFamily.TheVariants.{IPV4, IPV
 use Rattle.turn_client_api.specs.Config.{same_family}
 use Rattle.turn_client_api.specs.Alarm.{HasAllocation}
 use Rattle.turn_client_api.specs.State.{State, DataOffer, Grant, Allocation, Permission, Channel, Connect, Offer, Connection, Relay, Pending, Active, Reserved, Purpose, agent_of, later_by}
-use Rattle.turn_client_api.specs.Grants.{allocations, allocation_in, allocation_of, family_of_grant, has_request, is_past, failures_among, family_of, is_channel_of, is_for_any, is_connect, is_of, is_pending_channel, is_pending_permission, jump, unlisted, without}
+use Rattle.turn_client_api.specs.Grants.{allocations, as_allocation, find_allocation, family_of_grant, has_request, is_past, failures_among, family_of, is_channel_of, is_for_any, is_connect, is_of, is_pending_channel, is_pending_permission, jump, unlisted, without}
 use Rattle.turn_client_api.specs.Effect.{reserved, reserved_time}
 use Rattle.turn_client_api.specs.Calls.{is_allocated}
 use Rattle.turn_client_api.specs.Poll.{first_untold, given_up_purposes, next_offer, untold_in, channel_lapsed, connections_unbound, in_vain, last_channel_lapsed, offers_in_vain, permissions_lapsed, refreshes_in_vain, set_free, failed, goes, is_lapsed_channel, is_lapsed_permission, is_unbound, lapsed, lapsed_allocation, lapsed_in, unbound}
@@ -376,9 +376,9 @@ lapsed-alive given now s stand none g h = by g h ((each-shrinks given purposes n
 
     -- its allocation was processed
     turn : (g : Grant) → Has g t.grants → Has g s.grants → Outlives now g
-    turn g h there = of (allocation_of (family_of_grant g) s) refl
+    turn g h there = of (find_allocation (family_of_grant g) s) refl
       where
-        of : (o : Option Relay) → allocation_of (family_of_grant g) s ≡ o → Outlives now g
+        of : (o : Option Relay) → find_allocation (family_of_grant g) s ≡ o → Outlives now g
         of None e = let no : false ≡ true = rw e at (has-all (HasAllocation s) g s.grants stand there) in cc
         of (Some a) e =
             let found = has-found (λ a. same_family (family_of a.relayed) (family_of_grant g)) a (allocations s) e in
@@ -390,7 +390,7 @@ lapsed-alive given now s stand none g h = by g h ((each-shrinks given purposes n
 
     by : (g : Grant) → Has g t.grants → Has g s.grants ⊎ IsReserved g → Alive now g
     by (Allocation a) h (inl there) =
-        allocation-alive given purposes now (allocations s) s a (filter_map-has allocation_in (Allocation a) a s.grants there refl) h
+        allocation-alive given purposes now (allocations s) s a (filter_map-has as_allocation (Allocation a) a s.grants there refl) h
     by (Allocation a) h (inr is) = absurd is
     by (Permission ip progress) h o = other (Permission ip progress) h o
     by (Channel number peer progress) h o = other (Channel number peer progress) h o
@@ -433,7 +433,7 @@ lapsed-no_offer s t shrinks none = by (is_allocated t.phase) refl
     is_offer family (Offer o) offer e is = is
     is_offer family (Connection c) offer e is = is
 
-    is_allocation : (g : Grant) (a : Relay) → allocation_in g ≡ Some a → IsReserved g → ⊥
+    is_allocation : (g : Grant) (a : Relay) → as_allocation g ≡ Some a → IsReserved g → ⊥
     is_allocation (Channel number peer (Reserved until)) a e is = none-some a e
     is_allocation (Channel number peer Pending) a e is = is
     is_allocation (Channel number peer (Active expiry)) a e is = is
@@ -447,8 +447,8 @@ lapsed-no_offer s t shrinks none = by (is_allocated t.phase) refl
     before : (x : DataOffer) → Has x (offers t) → (y : DataOffer) × Has y (offers s)
     before x h =
         let (a, inside, gives) = has-filter_map (λ (a : Relay). first_untold (family_of a.relayed) t) x (allocations t) h in
-        let relay = has-filter_map allocation_in a t.grants inside in
-        let relay_before = filter_map-has allocation_in relay.0 a s.grants (back s t shrinks relay.0 (is_allocation relay.0 a relay.2) relay.1) relay.2 in
+        let relay = has-filter_map as_allocation a t.grants inside in
+        let relay_before = filter_map-has as_allocation relay.0 a s.grants (back s t shrinks relay.0 (is_allocation relay.0 a relay.2) relay.1) relay.2 in
         let family = family_of a.relayed in
         let grant = has-filter_map (untold_in family) x t.grants (first-has (filter_map (untold_in family) t.grants) x gives) in
         let there = back s t shrinks grant.0 (is_offer family grant.0 x grant.2) grant.1 in

@@ -11,7 +11,7 @@ use Rattle.turn_types.specs.declared.family.AddressFamily.{AddressFamily}
 use Rattle.turn_agent.specs.Agent.{first_sent}
 use Rattle.turn_agent.specs.declared.transaction.Transaction.{Transaction}
 use Rattle.turn_client_api.specs.State.{State, Grant, Allocation, Permission, Channel, Connect, Offer, Connection, Relay, Listing, Pending, Purpose, ForPermission, ForChannel, ForConnect}
-use Rattle.turn_client_api.specs.Grants.{allocation_for, changed_allocation, family_of_ip, is_of_family, is_past, is_permitted, permission_for, with_expired, with_grant}
+use Rattle.turn_client_api.specs.Grants.{find_allocation_to, changed_allocation, family_of_ip, is_of_family, is_past, has_active_permission, permission_state, with_expired, with_grant}
 use Rattle.turn_client_api.specs.Requests.{fresh_id, listings, request_for, requested}
 use Rattle.turn_client_api.specs.Connections.{is_connected, is_connecting}
 use Rattle.turn_client_api.specs.Calls.{bind_channel, bind_channel_step, bound_by, channel_step, channels_to, connect_step, create_permission_step, free_number, in_allocation, is_allocated, is_in_progress, missing_permission, permission_step, reserved_from, tcp_connect_step}
@@ -81,8 +81,8 @@ with_grant-settles Taken g s = (adds-same Never s.transactions, adds-same Never 
 
 pub permission-does : (transport : TransportType) (ip : IpAddr) (now : ℕ) (s : State) → Does (CreatePermission transport ip now) s (create_permission_step transport ip now s).1
 permission-does transport ip now s =
-    does-in call (allocation_for transport ip s) ip now _ s (permission_step ip now s)
-    (by_test (Does call s) (is_some (permission_for ip s)) _ _ (does-same call s)
+    does-in call (find_allocation_to transport ip s) ip now _ s (permission_step ip now s)
+    (by_test (Does call s) (is_some (permission_state ip s)) _ _ (does-same call s)
     (by_test (Does call s) (not (is_allocated s.phase)) _ _ (does-same call s)
     (does-requested call (ForPermission ip) now s (with_grant (Permission ip Pending) s) (refl, refl) (with_grant-settles _ (Permission ip Pending) s))))
   where
@@ -91,9 +91,9 @@ permission-does transport ip now s =
 
 pub connect-does : (peer : SocketAddr) (now : ℕ) (s : State) → Does (TcpConnect peer now) s (tcp_connect_step peer now s).1
 connect-does peer now s =
-    does-in call (allocation_for Tcp (socket_ip peer) s) (socket_ip peer) now _ s (connect_step peer now s)
+    does-in call (find_allocation_to Tcp (socket_ip peer) s) (socket_ip peer) now _ s (connect_step peer now s)
     (by_test (Does call s) (not (is_allocated s.phase)) _ _ (does-same call s)
-    (by_test (Does call s) (not (is_permitted (socket_ip peer) s)) _ _ (does-same call s)
+    (by_test (Does call s) (not (has_active_permission (socket_ip peer) s)) _ _ (does-same call s)
     (by_test (Does call s) (is_connected peer s || is_connecting peer s) _ _ (does-same call s)
     (does-requested call (ForConnect peer) now s (with_grant (Connect peer) s) (refl, refl) (with_grant-settles _ (Connect peer) s)))))
   where
@@ -149,7 +149,7 @@ module _ (transport : TransportType) (peer : SocketAddr) (now : ℕ) (s : State)
       listed l there = by (has-mapped (λ (p : Purpose). record { id = fresh_id s; purpose = p }) l (purpose ∷ map ForPermission (missing_permission peer s)) there)
         where
           by : (p : Purpose) × Has p (purpose ∷ map ForPermission (missing_permission peer s)) × (l ≡ record { id = fresh_id s; purpose = p }) → ListedAt binding s t l
-          by (p, h, e) = rw e (purpose, now, asks, listed-with number (missing_permission peer s) (is_none (permission_for (socket_ip peer) s)) refl p h, (made, refl))
+          by (p, h, e) = rw e (purpose, now, asks, listed-with number (missing_permission peer s) (is_none (permission_state (socket_ip peer) s)) refl p h, (made, refl))
 
   bound_by-does : (l : List ℕ) (b : Bool) (o : Option ℕ) → free_number s ≡ o → Does binding s (bound_by peer now s l b o).1
   bound_by-does (until ∷ others) b o e = does-same binding s
@@ -159,7 +159,7 @@ module _ (transport : TransportType) (peer : SocketAddr) (now : ℕ) (s : State)
 
   pub channel-does : Does binding s (bind_channel_step transport peer now s).1
   channel-does =
-      does-in binding (allocation_for transport (socket_ip peer) s) (socket_ip peer) now _ s (channel_step peer now s)
+      does-in binding (find_allocation_to transport (socket_ip peer) s) (socket_ip peer) now _ s (channel_step peer now s)
       (by_test (Does binding s) (list_any is_in_progress (channels_to peer s)) (Err Bind.AlreadyExists, s)
       (bound_by peer now s (filter_map (reserved_from now) (channels_to peer s)) (is_allocated s.phase) (free_number s)) (does-same binding s)
       (bound_by-does (filter_map (reserved_from now) (channels_to peer s)) (is_allocated s.phase) (free_number s) refl))

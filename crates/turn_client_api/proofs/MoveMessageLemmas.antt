@@ -17,7 +17,7 @@ use Rattle.turn_agent.specs.Agent.{first_sent, is_response, same_address}
 use Rattle.turn_agent.specs.declared.transaction.Transaction.{Transaction}
 use Rattle.turn_client_api.specs.State.{State, Grant, Allocation, Permission, Channel, Connect, Offer, Connection, DataConnection, Listing, Mode, Control, Waiting, Bound, Broken, Stream, Purpose, ForAllocation, ForRefresh, ForPermission, ForChannel, ForConnect, ForBind, Phase, New, Requesting, Authenticating, Allocated, Closed, later_by}
 use Rattle.turn_client_api.specs.Handled.{Input, processed}
-use Rattle.turn_client_api.specs.Grants.{allocation_for, connection_in, is_connection_from, is_for, is_for_allocation, purposes_of, unlisted, wait}
+use Rattle.turn_client_api.specs.Grants.{find_allocation_to, as_connection, is_connection_from, is_for, is_for_allocation, purposes_of, unlisted, wait}
 use Rattle.turn_client_api.specs.Requests.{connection_attempt_method, connection_bind_method, fresh_id, listings, request_for, requested}
 use Rattle.turn_client_api.specs.Judgement.{Judgement, Unrelated, Challenged, Fatal, LateResponse, DataIndication, ConnectionAttempt, SignedRequest, SignedSuccess, SignedError, answers_allocate, authenticating_judgement, bind_judgement, class_in, connection_id_in, is_bind_of, judgement_of, lifetime_in, method_in, peer_in}
 use Rattle.turn_client_api.specs.Effect.{allocate_denied, allocate_granted, ended, family_not_supported, has_code, in_phase}
@@ -202,7 +202,7 @@ requested-turns Taken message now s = turns-settled Taken message now s _ (by (c
     by : (i : Option ℕ) → connection_id_in message ≡ i → (p : Option SocketAddr) → peer_in message ≡ p → Settles Taken s (attempt_requested message s)
     by (Some id) e (Some peer) f =
         rw (e, f)
-        (on_test (Settles Taken s) (not (is_some (allocation_for Tcp (socket_ip peer) s))) _ _ same
+        (on_test (Settles Taken s) (not (is_some (find_allocation_to Tcp (socket_ip peer) s))) _ _ same
         (on_test (Settles Taken s) (is_connected peer s) _ _ same
         (adds-same Never s.transactions, adds-same Never s.listed, loses-more Taken s.grants s.grants _ (loses-same Taken s.grants))))
     by (Some id) e None f = rw (e, f) same
@@ -322,7 +322,7 @@ bind_in_phase Allocated local message now s = by (connection_at local s) refl
     by : (o : Option DataConnection) → connection_at local s ≡ o → Claim (bind_step local message now u)
     by None e = rw e (turns-same _ message now u)
     by (Some c) e =
-        let found = has-found (λ (d : DataConnection). same_address d.local local) c (filter_map connection_in s.grants) e in
+        let found = has-found (λ (d : DataConnection). same_address d.local local) c (filter_map as_connection s.grants) e in
         rw e (on_test Claim (eqb (method_in message) connection_bind_method) (bind_answered c message now u) u (about c (same_address-true c.local local found.1)) (turns-same _ message now u))
 
 bind-turns : (local : SocketAddr) (message : List ℕ) (now : ℕ) (s : State) → Turns (λ g. is_connection_from local g ≡ true) message now s (bind_step local message now s)

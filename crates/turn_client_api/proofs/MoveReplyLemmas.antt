@@ -7,7 +7,7 @@ use Rattle.std.specs.declared.net.socket_addr.SocketAddr.{SocketAddr}
 use Rattle.turn_stun.specs.Message.{id_of}
 use Rattle.turn_types.specs.declared.family.AddressFamily.{AddressFamily}
 use Rattle.turn_client_api.specs.State.{State, Grant, Allocation, Permission, Channel, Connect, Offer, Connection, Relay, Progress, Pending, Active, Reserved, Listing, Purpose, ForAllocation, ForRefresh, ForPermission, ForChannel, ForConnect, ForBind}
-use Rattle.turn_client_api.specs.Grants.{changed_allocation, channel_at, first_in, is_channel_of, is_connect_to, is_for, is_for_any, is_permission_of, permission_for, purposes_of, unlisted, without}
+use Rattle.turn_client_api.specs.Grants.{changed_allocation, channel_at, first_in, is_channel_of, is_connect_to, is_for, is_for_any, is_permission_of, permission_state, purposes_of, unlisted, without}
 use Rattle.turn_client_api.specs.Judgement.{connection_id_in, lifetime_in}
 use Rattle.turn_client_api.specs.Effect.{all_gone, allocation_mismatch, channel_answered, connect_answered, effect, ended, given_back, has_code, is_asked_permission, lasting, lasting_if, least_lifetime, listed_permissions_answered, pending_channel_answered, permission_answered, permission_answered_for, prolonged, refreshed, renewed}
 use Rattle.turn_client_api.specs.Payloads.{answered_purposes, response_step}
@@ -121,12 +121,12 @@ module _ (all : List Purpose) where
   of-one p h g e = (p, h, inl e)
 
   permission-fits : (ip : IpAddr) (is_granted : Bool) (now : ℕ) (s : State) → Has (ForPermission ip) all → Fits s (permission_answered ip is_granted now s)
-  permission-fits ip is_granted now s h = by (permission_for ip s) refl is_granted
+  permission-fits ip is_granted now s h = by (permission_state ip s) refl is_granted
     where
       takes : (g : Grant) → is_permission_of ip g ≡ true → IsFor all g
       takes g e = of-one (ForPermission ip) h g e
 
-      by : (o : Option Progress) → permission_for ip s ≡ o → (g : Bool) → Fits s (permission_answered ip g now s)
+      by : (o : Option Progress) → permission_state ip s ≡ o → (g : Bool) → Fits s (permission_answered ip g now s)
       by None e g = rw e (fits-same s)
       by (Some Pending) e true = rw e (fits-instead (is_permission_of ip) _ s takes)
       by (Some Pending) e false = rw e (fits-without (is_permission_of ip) s takes)
@@ -134,13 +134,13 @@ module _ (all : List Purpose) where
       by (Some (Active expiry)) e false = rw e (fits-without (is_permission_of ip) s takes)
       by (Some (Reserved until)) e g = rw e (fits-same s)
 
-  permission_for-fits : (is_granted : Bool) (now : ℕ) (s : State) (p : Purpose) → Has p all → Fits s (permission_answered_for is_granted now s p)
-  permission_for-fits is_granted now s (ForPermission ip) h = permission-fits ip is_granted now s h
-  permission_for-fits is_granted now s ForAllocation h = fits-same s
-  permission_for-fits is_granted now s (ForRefresh family lifetime) h = fits-same s
-  permission_for-fits is_granted now s (ForChannel number peer) h = fits-same s
-  permission_for-fits is_granted now s (ForConnect peer) h = fits-same s
-  permission_for-fits is_granted now s (ForBind local peer id) h = fits-same s
+  permission_state-fits : (is_granted : Bool) (now : ℕ) (s : State) (p : Purpose) → Has p all → Fits s (permission_answered_for is_granted now s p)
+  permission_state-fits is_granted now s (ForPermission ip) h = permission-fits ip is_granted now s h
+  permission_state-fits is_granted now s ForAllocation h = fits-same s
+  permission_state-fits is_granted now s (ForRefresh family lifetime) h = fits-same s
+  permission_state-fits is_granted now s (ForChannel number peer) h = fits-same s
+  permission_state-fits is_granted now s (ForConnect peer) h = fits-same s
+  permission_state-fits is_granted now s (ForBind local peer id) h = fits-same s
 
   -- one purpose after the other
   fits-fold : (f : State → Purpose → State) (start : State) → ((t : State) (p : Purpose) → Fits start t → Has p all → Fits t (f t p)) → (some : List Purpose) → ((p : Purpose) → Has p some → Has p all) → (t : State) → Fits start t → Fits start (fold f t some)
@@ -154,7 +154,7 @@ module _ (all : List Purpose) where
 
   permissions-fit : (id : ℕ) (is_granted : Bool) (now : ℕ) (s : State) → AreOf id s → Fits s (listed_permissions_answered id is_granted now s)
   permissions-fit id is_granted now s are =
-      fits-fold (permission_answered_for is_granted now) s (λ t p fits h. permission_for-fits is_granted now t p h) (purposes_of id s) are s (fits-same s)
+      fits-fold (permission_answered_for is_granted now) s (λ t p fits h. permission_state-fits is_granted now t p h) (purposes_of id s) are s (fits-same s)
 
   -- what is for any of some is for one of them
   any-IsFor : (some : List Purpose) (g : Grant) → ((p : Purpose) → Has p some → Has p all) → is_for_any some g ≡ true → IsFor all g

@@ -11,13 +11,13 @@ use Rattle.turn_types.specs.declared.family.AddressFamily.TheVariants.{IPV4}
 use Rattle.turn_agent.specs.Agent.{first_sent, same_address}
 use Rattle.turn_agent.specs.declared.transaction.Transaction.{Transaction}
 use Rattle.turn_client_api.specs.State.{State, Grant, Allocation, Permission, Channel, Connect, Offer, Connection, DataConnection, Listing, Origin, OwnConnect, ServerRequest, ServerIndication, Purpose, ForRefresh, ForBind, Relay, later_by}
-use Rattle.turn_client_api.specs.Grants.{allocations, changed_allocation, connection_in, family_of, is_connection_from, same_transport, with_grant}
+use Rattle.turn_client_api.specs.Grants.{allocations, changed_allocation, as_connection, family_of, is_connection_from, same_transport, with_grant}
 use Rattle.turn_client_api.specs.Requests.{accepted_reply, fresh_id, listings, request_for, requested}
 use Rattle.turn_client_api.specs.Retry.{bind_time}
 use Rattle.turn_client_api.specs.Connections.{connection_at}
 use Rattle.turn_client_api.specs.Receive.{connection_gone, tcp_closed_step}
 use Rattle.turn_client_api.specs.Streams.{without_stream}
-use Rattle.turn_client_api.specs.Calls.{active_channel, allocated_tcp_socket_step, answered_with, bound_to, delete_step, delete_text, deleted, has_permission, is_allocated, is_closed, is_control, is_granted_in, is_local_taken, is_offer_of, offer_origin, offer_taken, on_channel, on_connection, protocol_error_step, send_over, send_to_step, socket_opened, socket_refused, socket_step, with_stream, without_first}
+use Rattle.turn_client_api.specs.Calls.{active_channel, allocated_tcp_socket_step, answered_with, bound_to, delete_step, delete_text, deleted, can_send_to, is_allocated, is_closed, is_control, is_granted_in, is_local_taken, is_offer_of, offer_origin, offer_taken, on_channel, on_connection, protocol_error_step, send_over, send_to_step, socket_opened, socket_refused, socket_step, with_stream, without_first}
 use Rattle.turn_client_api.specs.declared.poll.Socket5Tuple.{Socket5Tuple}
 use Rattle.turn_client_api.specs.Steps.{Call, Delete, AllocatedTcpSocket, TcpClosed, SendTo, ProtocolError}
 use Rattle.turn_client_api.specs.LawsRequests.{IsMade}
@@ -213,13 +213,13 @@ connection_data-does call (Some c) bytes s = does-same call s
 connection_data-does call None bytes s = does-same call s
 
 over-does : (call : Call) (transport : TransportType) (peer : SocketAddr) (bytes : List ℕ) (now : ℕ) (s : State) → Does call s (send_over transport peer bytes now s).1
-over-does call Tcp peer bytes now s = connection_data-does call (find (bound_to peer) (filter_map connection_in s.grants)) bytes s
+over-does call Tcp peer bytes now s = connection_data-does call (find (bound_to peer) (filter_map as_connection s.grants)) bytes s
 over-does call Udp peer bytes now s = channel_data-does call (filter_map (active_channel peer) s.grants) peer bytes now s
 
 pub send-does : (transport : TransportType) (peer : SocketAddr) (bytes : List ℕ) (now : ℕ) (s : State) → Does (SendTo transport peer bytes now) s (send_to_step transport peer bytes now s).1
 send-does transport peer bytes now s =
     let call = SendTo transport peer bytes now in
-    by_test (Does call s) (has_permission transport (socket_ip peer) s) (send_over transport peer bytes now s) _ (over-does call transport peer bytes now s) (does-same call s)
+    by_test (Does call s) (can_send_to transport (socket_ip peer) s) (send_over transport peer bytes now s) _ (over-does call transport peer bytes now s) (does-same call s)
 
 pub error-does : (s : State) → Does ProtocolError s (protocol_error_step s)
 error-does s =

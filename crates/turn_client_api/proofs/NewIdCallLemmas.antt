@@ -13,11 +13,11 @@ use Rattle.turn_agent.specs.Agent.{due, timed_out_transaction, is_outstanding, s
 use Rattle.turn_agent.specs.declared.transaction.Transaction.{Transaction}
 use Rattle.turn_client_api.specs.State.{State, Phase, New, Requesting, Authenticating, Allocated, Closed, agent_of}
 use Rattle.turn_client_api.specs.State.{Grant, Allocation, Permission, Channel, Connect, Offer, Connection, DataConnection, Relay, Purpose, Pending, Active, Reserved, Origin, OwnConnect, ServerRequest, ServerIndication}
-use Rattle.turn_client_api.specs.Grants.{allocation_for, allocations, connection_in, family_of, is_of, is_past, is_pending_channel, is_pending_permission, is_permitted, permission_for, same_transport}
+use Rattle.turn_client_api.specs.Grants.{find_allocation_to, allocations, as_connection, family_of, is_of, is_past, is_pending_channel, is_pending_permission, has_active_permission, permission_state, same_transport}
 use Rattle.turn_client_api.specs.Requests.{fresh_id}
 use Rattle.turn_client_api.specs.Effect.{closed, ended}
 use Rattle.turn_client_api.specs.Connections.{connection_at, is_connected, is_connecting}
-use Rattle.turn_client_api.specs.Calls.{bound_by, active_channel, allocated_tcp_socket_step, bind_channel_step, bound_to, channel_step, channels_to, connect_step, create_permission_step, delete_step, free_number, has_permission, in_allocation, is_allocated, is_closed, is_control, is_in_progress, is_local_taken, offer_origin, on_channel, on_connection, permission_step, protocol_error_step, reserved_from, send_over, send_to_step, socket_opened, socket_refused, socket_step, tcp_connect_step}
+use Rattle.turn_client_api.specs.Calls.{bound_by, active_channel, allocated_tcp_socket_step, bind_channel_step, bound_to, channel_step, channels_to, connect_step, create_permission_step, delete_step, free_number, can_send_to, in_allocation, is_allocated, is_closed, is_control, is_in_progress, is_local_taken, offer_origin, on_channel, on_connection, permission_step, protocol_error_step, reserved_from, send_over, send_to_step, socket_opened, socket_refused, socket_step, tcp_connect_step}
 use Rattle.turn_client_api.specs.declared.poll.Socket5Tuple.{Socket5Tuple}
 use Rattle.turn_client_api.specs.declared.error.BindChannelError.TheVariants as Bind
 use Rattle.turn_client_api.specs.Due.{has_event, has_reply, is_paused}
@@ -123,8 +123,8 @@ module _ (id : ℕ) where
 
   permission-draws : (transport : TransportType) (ip : IpAddr) (now : ℕ) (s : State) → Draws id s (create_permission_step transport ip now s).1
   permission-draws transport ip now s =
-      allocation-draws (allocation_for transport ip s) ip now _ s (permission_step ip now s)
-      (either (is_some (permission_for ip s)) s _ _ (draws-same id s) (either (not (is_allocated s.phase)) s _ _ (draws-same id s) (draws-more id s _ refl)))
+      allocation-draws (find_allocation_to transport ip s) ip now _ s (permission_step ip now s)
+      (either (is_some (permission_state ip s)) s _ _ (draws-same id s) (either (not (is_allocated s.phase)) s _ _ (draws-same id s) (draws-more id s _ refl)))
 
   channel-draws : (peer : SocketAddr) (now : ℕ) (s : State) → Draws id s (channel_step peer now s).1
   channel-draws peer now s =
@@ -134,13 +134,13 @@ module _ (id : ℕ) where
 
   bind_channel-draws : (transport : TransportType) (peer : SocketAddr) (now : ℕ) (s : State) → Draws id s (bind_channel_step transport peer now s).1
   bind_channel-draws transport peer now s =
-      allocation-draws (allocation_for transport (socket_ip peer) s) (socket_ip peer) now _ s (channel_step peer now s) (channel-draws peer now s)
+      allocation-draws (find_allocation_to transport (socket_ip peer) s) (socket_ip peer) now _ s (channel_step peer now s) (channel-draws peer now s)
 
   connect-draws : (peer : SocketAddr) (now : ℕ) (s : State) → Draws id s (tcp_connect_step peer now s).1
   connect-draws peer now s =
-      allocation-draws (allocation_for Tcp (socket_ip peer) s) (socket_ip peer) now _ s (connect_step peer now s)
+      allocation-draws (find_allocation_to Tcp (socket_ip peer) s) (socket_ip peer) now _ s (connect_step peer now s)
       (either (not (is_allocated s.phase)) s _ _ (draws-same id s)
-      (either (not (is_permitted (socket_ip peer) s)) s _ _ (draws-same id s)
+      (either (not (has_active_permission (socket_ip peer) s)) s _ _ (draws-same id s)
       (either (is_connected peer s || is_connecting peer s) s _ _ (draws-same id s) (draws-more id s _ refl))))
 
   opened-draws : (offer : ℕ) (peer local : SocketAddr) (origin : Origin) (now : ℕ) (s : State) → Draws id s (socket_opened offer peer local origin now s)
@@ -171,12 +171,12 @@ module _ (id : ℕ) where
   connection_data-draws None bytes s = draws-same id s
 
   over-draws : (transport : TransportType) (peer : SocketAddr) (bytes : List ℕ) (now : ℕ) (s : State) → Draws id s (send_over transport peer bytes now s).1
-  over-draws Tcp peer bytes now s = connection_data-draws (find (bound_to peer) (filter_map connection_in s.grants)) bytes s
+  over-draws Tcp peer bytes now s = connection_data-draws (find (bound_to peer) (filter_map as_connection s.grants)) bytes s
   over-draws Udp peer bytes now s = channel_data-draws (filter_map (active_channel peer) s.grants) peer bytes now s
 
   send-draws : (transport : TransportType) (peer : SocketAddr) (bytes : List ℕ) (now : ℕ) (s : State) → Draws id s (send_to_step transport peer bytes now s).1
   send-draws transport peer bytes now s =
-      either (has_permission transport (socket_ip peer) s) s (send_over transport peer bytes now s) _ (over-draws transport peer bytes now s) (draws-same id s)
+      either (can_send_to transport (socket_ip peer) s) s (send_over transport peer bytes now s) _ (over-draws transport peer bytes now s) (draws-same id s)
 
   -- ---- what the client does by itself
 

@@ -15,7 +15,7 @@ use Rattle.turn_agent.specs.Agent.{is_outstanding}
 use Rattle.turn_agent.specs.TransactionIds.{next_id}
 use Rattle.turn_agent.proofs.AgentLemmas.{find-passes}
 use Rattle.turn_client_api.specs.State.{State, Grant, Allocation, Permission, Channel, Connect, Offer, Connection, Origin, OwnConnect, ServerRequest, ServerIndication}
-use Rattle.turn_client_api.specs.Grants.{is_of_request, offer_in}
+use Rattle.turn_client_api.specs.Grants.{is_of_request, as_offer}
 use Rattle.turn_client_api.specs.Requests.{counted_up, fresh_id, is_taken, most_taken}
 
 -- ---- candidates
@@ -79,7 +79,7 @@ request_in (ServerRequest id) = Some id
 request_in _ = None
 
 offered_id : Grant → Option ℕ
-offered_id grant = option_and_then (λ offer. request_in offer.origin) (offer_in grant)
+offered_id grant = option_and_then (λ offer. request_in offer.origin) (as_offer grant)
 
 taken_ids : State → List ℕ
 taken_ids s = map (λ t. t.id) s.transactions ++ map (λ l. l.id) s.listed ++ filter_map offered_id s.grants

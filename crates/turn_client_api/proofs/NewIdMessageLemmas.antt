@@ -14,7 +14,7 @@ use Rattle.turn_agent.specs.Agent.{is_outstanding, resent}
 use Rattle.turn_agent.specs.Agent as A
 use Rattle.turn_agent.specs.declared.transaction.Transaction.{Transaction}
 use Rattle.turn_client_api.specs.State.{State, DataConnection, Progress, Pending, Active, Reserved, Purpose, ForAllocation, ForRefresh, ForPermission, ForChannel, ForConnect, ForBind, Phase, New, Requesting, Authenticating, Allocated, Closed}
-use Rattle.turn_client_api.specs.Grants.{allocation_for, channel_at, first_in, permission_for, purposes_of}
+use Rattle.turn_client_api.specs.Grants.{find_allocation_to, channel_at, first_in, permission_state, purposes_of}
 use Rattle.turn_client_api.specs.Requests.{connection_attempt_method, connection_bind_method, fresh_id}
 use Rattle.turn_client_api.specs.Judgement.{Judgement, Unrelated, Challenged, Fatal, LateResponse, DataIndication, ConnectionAttempt, SignedRequest, SignedSuccess, SignedError, bind_judgement, connection_id_in, is_bind_of, judgement_of, lifetime_in, method_in, peer_in}
 use Rattle.turn_client_api.specs.Effect.{allocate_denied, allocate_granted, allocation_mismatch, channel_answered, connect_answered, effect, ended, family_not_supported, has_code, least_lifetime, permission_answered, permission_answered_for, listed_permissions_answered, prolonged, refreshed}
@@ -70,9 +70,9 @@ asks-cond true s t u k l = k
 asks-cond false s t u k l = l
 
 permission-asks : (ip : IpAddr) (is_granted : Bool) (now : ℕ) (s : State) → AsksNothing s (permission_answered ip is_granted now s)
-permission-asks ip is_granted now s = by (permission_for ip s) refl is_granted
+permission-asks ip is_granted now s = by (permission_state ip s) refl is_granted
   where
-    by : (o : Option Progress) → permission_for ip s ≡ o → (g : Bool) → AsksNothing s (permission_answered ip g now s)
+    by : (o : Option Progress) → permission_state ip s ≡ o → (g : Bool) → AsksNothing s (permission_answered ip g now s)
     by None e g = rw e refl
     by (Some Pending) e true = rw e refl
     by (Some Pending) e false = rw e refl
@@ -80,16 +80,16 @@ permission-asks ip is_granted now s = by (permission_for ip s) refl is_granted
     by (Some (Active expiry)) e false = rw e refl
     by (Some (Reserved until)) e g = rw e refl
 
-permission_for-asks : (is_granted : Bool) (now : ℕ) (t : State) (p : Purpose) → AsksNothing t (permission_answered_for is_granted now t p)
-permission_for-asks is_granted now t (ForPermission ip) = permission-asks ip is_granted now t
-permission_for-asks is_granted now t ForAllocation = refl
-permission_for-asks is_granted now t (ForRefresh family lifetime) = refl
-permission_for-asks is_granted now t (ForChannel number peer) = refl
-permission_for-asks is_granted now t (ForConnect peer) = refl
-permission_for-asks is_granted now t (ForBind local peer id) = refl
+permission_state-asks : (is_granted : Bool) (now : ℕ) (t : State) (p : Purpose) → AsksNothing t (permission_answered_for is_granted now t p)
+permission_state-asks is_granted now t (ForPermission ip) = permission-asks ip is_granted now t
+permission_state-asks is_granted now t ForAllocation = refl
+permission_state-asks is_granted now t (ForRefresh family lifetime) = refl
+permission_state-asks is_granted now t (ForChannel number peer) = refl
+permission_state-asks is_granted now t (ForConnect peer) = refl
+permission_state-asks is_granted now t (ForBind local peer id) = refl
 
 permissions-asks : (id : ℕ) (is_granted : Bool) (now : ℕ) (s : State) → AsksNothing s (listed_permissions_answered id is_granted now s)
-permissions-asks id is_granted now s = asks-fold (permission_answered_for is_granted now) (permission_for-asks is_granted now) (purposes_of id s) s
+permissions-asks id is_granted now s = asks-fold (permission_answered_for is_granted now) (permission_state-asks is_granted now) (purposes_of id s) s
 
 channel-asks : (number id : ℕ) (is_granted : Bool) (now : ℕ) (s : State) → AsksNothing s (channel_answered number id is_granted now s)
 channel-asks number id is_granted now s = by (first_in (channel_at number) s) refl is_granted
@@ -214,7 +214,7 @@ requested-asks : (message : List ℕ) (s : State) → AsksNothing s (attempt_req
 requested-asks message s = by (connection_id_in message) refl (peer_in message) refl
   where
     by : (i : Option ℕ) → connection_id_in message ≡ i → (p : Option SocketAddr) → peer_in message ≡ p → AsksNothing s (attempt_requested message s)
-    by (Some id) e (Some peer) f = rw (e, f) (asks-cond (not (is_some (allocation_for Tcp (socket_ip peer) s))) s _ _ refl (asks-cond (is_connected peer s) s _ _ refl refl))
+    by (Some id) e (Some peer) f = rw (e, f) (asks-cond (not (is_some (find_allocation_to Tcp (socket_ip peer) s))) s _ _ refl (asks-cond (is_connected peer s) s _ _ refl refl))
     by (Some id) e None f = rw (e, f) refl
     by None e p f = rw e refl
 

@@ -6,7 +6,7 @@ use Rattle.turn_stun.specs.Message.{id_of}
 use Rattle.turn_types.specs.Frames.{begins_message, begins_no_frame, frame_len}
 use Rattle.turn_agent.specs.Agent.{same_address}
 use Rattle.turn_client_api.specs.State.{State, DataConnection, Mode, Control, Waiting, Bound, Broken, Stream, Phase, New, Requesting, Authenticating, Allocated, Closed}
-use Rattle.turn_client_api.specs.Grants.{connection_in}
+use Rattle.turn_client_api.specs.Grants.{as_connection}
 use Rattle.turn_client_api.specs.Requests.{connection_bind_method}
 use Rattle.turn_client_api.specs.Judgement.{Judgement, Unrelated, Challenged, Fatal, LateResponse, DataIndication, ConnectionAttempt, SignedRequest, SignedSuccess, SignedError, bind_judgement, method_in}
 use Rattle.turn_client_api.specs.Connections.{bind_answered, bind_step, connection_at, with_mode}
@@ -121,7 +121,7 @@ bind_in_phase Allocated local message now s = by (connection_at local s) refl
     by : (o : Option DataConnection) → connection_at local s ≡ o → IsAsideFrom local u (bind_step local message now u)
     by None e = rw e (same-aside local u u refl)
     by (Some c) e =
-        let found = has-found (λ (d : DataConnection). same_address d.local local) c (filter_map connection_in s.grants) e in
+        let found = has-found (λ (d : DataConnection). same_address d.local local) c (filter_map as_connection s.grants) e in
         rw e (test (eqb (method_in message) connection_bind_method) c (same_address-true c.local local found.1))
 
 bind-aside : (local : SocketAddr) (message : List ℕ) (now : ℕ) (s : State) → IsAsideFrom local s (bind_step local message now s)

@@ -9,7 +9,7 @@ use Rattle.turn_types.specs.declared.family.AddressFamily.{AddressFamily}
 use Rattle.turn_agent.specs.Agent.{timed_out_transaction}
 use Rattle.turn_agent.specs.declared.transaction.Transaction.{Transaction}
 use Rattle.turn_client_api.specs.State.{State, DataOffer, Grant, Allocation, Permission, Channel, Connect, Offer, Connection, DataConnection, Relay, Progress, Pending, Active, Reserved, Purpose, Phase, New, Requesting, Authenticating, Allocated, Closed, agent_of, later_by}
-use Rattle.turn_client_api.specs.Grants.{allocation_in, allocations, family_of, family_of_grant, is_channel_of, is_connect, is_for_any, is_of, is_of_request, is_pending_channel, is_pending_permission}
+use Rattle.turn_client_api.specs.Grants.{as_allocation, allocations, family_of, family_of_grant, is_channel_of, is_connect, is_for_any, is_of, is_of_request, is_pending_channel, is_pending_permission}
 use Rattle.turn_client_api.specs.Effect.{closed, ended, reserved_time}
 use Rattle.turn_client_api.specs.Due.{has_event, has_reply}
 use Rattle.turn_client_api.specs.Poll.{answer_by, answer_step, channel_lapsed, connections_unbound, given_up_purposes, given_up_step, goes, in_vain, is_given_offer, is_lapsed_channel, is_lapsed_permission, is_listed_for_allocation, is_over, is_unbound, lapsed, lapsed_allocation, lapsed_in, last_channel_lapsed, next_offer, offer_step, offers_in_vain, permissions_lapsed, poll_step, timed_step}
@@ -341,9 +341,9 @@ module _ (now : ℕ) (s : State) (apart : HasDistinctNumbers s) where
         all-trace relays (λ b here. there b (inr here)) (lapsed_allocation given purposes now t a) (allocation-traces a (there a (inl refl)) t traces)
 
     allocation-there : (a : Relay) → Has a (allocations s) → Has (Allocation a) s.grants
-    allocation-there a here = let (g, there, reads) = has-filter_map allocation_in a s.grants here in of g reads there
+    allocation-there a here = let (g, there, reads) = has-filter_map as_allocation a s.grants here in of g reads there
       where
-        of : (g : Grant) → allocation_in g ≡ Some a → Has g s.grants → Has (Allocation a) s.grants
+        of : (g : Grant) → as_allocation g ≡ Some a → Has g s.grants → Has (Allocation a) s.grants
         of (Allocation b) reads there = rw (sym (same_Some b a reads)) there
         of (Permission ip progress) reads there = absurd (none-some a reads)
         of (Channel n peer progress) reads there = absurd (none-some a reads)

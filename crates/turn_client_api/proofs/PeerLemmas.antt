@@ -18,7 +18,7 @@ use Rattle.turn_auth.specs.declared.validation.Validation.{Validation}
 use Rattle.turn_auth.specs.declared.validation.Validation.TheVariants.{Validated, ResendRequest, Refused}
 use Rattle.turn_auth.specs.LongTerm.{Challenge}
 use Rattle.turn_client_api.specs.State.{State, Phase, New, Requesting, Authenticating, Allocated, Closed, Grant, Allocation, Permission, Channel, Connect, Offer, Connection, Progress, Pending, Active, Reserved, Mode, Control, Waiting, Bound, Broken, Stream, Purpose}
-use Rattle.turn_client_api.specs.Grants.{channel_peer, first_in, is_permitted, permission_progress, is_active, same_ip, purposes_of}
+use Rattle.turn_client_api.specs.Grants.{channel_peer, first_in, has_active_permission, permission_progress, is_active, same_ip, purposes_of}
 use Rattle.turn_client_api.specs.Judgement.{Judgement, Unrelated, Challenged, Fatal, LateResponse, DataIndication, ConnectionAttempt, SignedRequest, SignedSuccess, SignedError, judgement_of, has_unknown, last_in, last_peer_in, last_icmp_in}
 use Rattle.turn_client_api.specs.Answers.{is_data_indication}
 use Rattle.turn_client_api.specs.Connections.{attempt_indicated}
@@ -199,7 +199,7 @@ indicated-IsMessageFromPermitted : (message : List ℕ) (s : State) → s.phase 
 indicated-IsMessageFromPermitted message s phase is =
     by (has_unknown message) refl (last_peer_in message) refl (last_in data_kind message) refl (last_icmp_in message) refl
   where
-    by_permission : (peer : SocketAddr) → has_unknown message ≡ false → last_peer_in message ≡ Some peer → (o : Outcome) → (IsIndicated message peer s → IsMessageFromPermitted message s o) → (b : Bool) → is_permitted (socket_ip peer) s ≡ b → IsMessageFromPermitted message s (cond b o Ignored)
+    by_permission : (peer : SocketAddr) → has_unknown message ≡ false → last_peer_in message ≡ Some peer → (o : Outcome) → (IsIndicated message peer s → IsMessageFromPermitted message s o) → (b : Bool) → has_active_permission (socket_ip peer) s ≡ b → IsMessageFromPermitted message s (cond b o Ignored)
     by_permission peer known named o then false e = tt
     by_permission peer known named o then true e =
         then (record { phase = phase; indication = is; known = known; named = named; permitted = permitted-in (socket_ip peer) s.grants e })
@@ -208,8 +208,8 @@ indicated-IsMessageFromPermitted message s phase is =
     by true e p f a g i h = rw e tt
     by false e None f a g i h = rw (e, f) tt
     by false e (Some peer) f None g None h = rw (e, f, g, h) tt
-    by false e (Some peer) f None g (Some icmp) h = rw (e, f, g, h) (by_permission peer e f (PeerIcmp s.config.allocation_transport peer icmp) (λ is. (is, (g, h, refl))) (is_permitted (socket_ip peer) s) refl)
-    by false e (Some peer) f (Some a) g i h = rw (e, f, g) (by_permission peer e f (data_of s peer a.offset a.value) (λ is. inl (is, (a, g, refl))) (is_permitted (socket_ip peer) s) refl)
+    by false e (Some peer) f None g (Some icmp) h = rw (e, f, g, h) (by_permission peer e f (PeerIcmp s.config.allocation_transport peer icmp) (λ is. (is, (g, h, refl))) (has_active_permission (socket_ip peer) s) refl)
+    by false e (Some peer) f (Some a) g i h = rw (e, f, g) (by_permission peer e f (data_of s peer a.offset a.value) (λ is. inl (is, (a, g, refl))) (has_active_permission (socket_ip peer) s) refl)
 
 message-IsMessageFromPermitted : (message : List ℕ) (now : ℕ) (s : State) → IsMessageFromPermitted message s (message_step message now s).0
 message-IsMessageFromPermitted message now s = by (judgement_of s message) refl

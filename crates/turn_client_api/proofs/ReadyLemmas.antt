@@ -14,7 +14,7 @@ use Rattle.turn_types.specs.declared.family.AddressFamily.{AddressFamily}
 use Rattle.turn_types.specs.declared.family.AddressFamily.TheVariants.{IPV4, IPV6}
 use Rattle.turn_client_api.specs.Config.{same_family}
 use Rattle.turn_client_api.specs.State.{State, Purpose, ForRefresh, ForPermission, ForChannel, Phase, New, Requesting, Authenticating, Allocated, Closed, Grant, Allocation, Permission, Channel, Connect, Offer, Connection, Relay, Pending, Active, Reserved, Queued, agent_of, greatest_moment}
-use Rattle.turn_client_api.specs.Grants.{allocations, allocation_in, allocation_of, family_of, family_of_grant, family_of_ip, has_request, is_of}
+use Rattle.turn_client_api.specs.Grants.{allocations, as_allocation, find_allocation, family_of, family_of_grant, family_of_ip, has_request, is_of}
 use Rattle.turn_client_api.specs.Requests.{asked_lifetime}
 use Rattle.turn_client_api.specs.Due.{due_moments, end_of, is_refreshable, has_queued_request, has_reply, is_paused, least_due, pause_end, refresh_of, refresh_time, refresh_time_by_kind}
 use Rattle.turn_client_api.specs.Poll.{next_offer}
@@ -328,15 +328,15 @@ refresh-busy now t ready g h due = by g h due
     Sends = IsSome (refresh_step now t).0
 
     -- of a permission or channel, its allocation is in use and has not expired
-    within : (g : Grant) → Has g t.grants → is_refresh_due now t g ≡ true → (rank : ℕ) → Has rank (0 ∷ 1 ∷ 2 ∷ []) → is_ranked rank g ≡ true → (p : Purpose) → refresh_purpose now g ≡ Some p → (o : Option Relay) → allocation_of (family_of_grant g) t ≡ o → option_map_or (λ a. not a.is_expired) o false ≡ true → Sends
+    within : (g : Grant) → Has g t.grants → is_refresh_due now t g ≡ true → (rank : ℕ) → Has rank (0 ∷ 1 ∷ 2 ∷ []) → is_ranked rank g ≡ true → (p : Purpose) → refresh_purpose now g ≡ Some p → (o : Option Relay) → find_allocation (family_of_grant g) t ≡ o → option_map_or (λ a. not a.is_expired) o false ≡ true → Sends
     within g h due rank ranked is p gives None e used = let no : false ≡ true = used in cc
     within g h due rank ranked is p gives (Some a) e used =
         let found = has-found (λ a. same_family (family_of a.relayed) (family_of_grant g)) a (allocations t) e in
-        let there = has-filter_map allocation_in a t.grants found.0 in
+        let there = has-filter_map as_allocation a t.grants found.0 in
         let alive : now < a.expiry = lives a there (not-true _ used) in
         refreshed-once now t g a rank p h found.0 (omega (arith, alive)) (same_family-swap _ _ found.1) ranked is due gives
       where
-        lives : (a : Relay) → ((x : Grant) × Has x t.grants × (allocation_in x ≡ Some a)) → a.is_expired ≡ false → now < a.expiry
+        lives : (a : Relay) → ((x : Grant) × Has x t.grants × (as_allocation x ≡ Some a)) → a.is_expired ≡ false → now < a.expiry
         lives a (Allocation b, inside, same) used =
             let equal : b ≡ a = same_Some b a same in
             rw equal at (ready.alive (Allocation b) inside) used
@@ -349,11 +349,11 @@ refresh-busy now t ready g h due = by g h due
     by : (g : Grant) → Has g t.grants → is_refresh_due now t g ≡ true → Sends
     by (Allocation a) h due =
         let alive : now < a.expiry = ready.alive (Allocation a) h (not-true a.is_expired (used-due now t (Allocation a) due)) in
-        refreshed-once now t (Allocation a) a 0 (ForRefresh (family_of a.relayed) asked_lifetime) h (filter_map-has allocation_in (Allocation a) a t.grants h refl) (omega (arith, alive)) (same_family-self (family_of a.relayed)) (inl refl) refl due (rw (le-leb now a.expiry (omega (arith, alive))) refl)
+        refreshed-once now t (Allocation a) a 0 (ForRefresh (family_of a.relayed) asked_lifetime) h (filter_map-has as_allocation (Allocation a) a t.grants h refl) (omega (arith, alive)) (same_family-self (family_of a.relayed)) (inl refl) refl due (rw (le-leb now a.expiry (omega (arith, alive))) refl)
     by (Permission ip (Active expiry)) h due =
-        within (Permission ip (Active expiry)) h due 2 (inr (inr (inl refl))) refl (ForPermission ip) (rw (lt-ltb now expiry (ready.alive (Permission ip (Active expiry)) h)) refl) (allocation_of (family_of_ip ip) t) refl (used-due now t (Permission ip (Active expiry)) due)
+        within (Permission ip (Active expiry)) h due 2 (inr (inr (inl refl))) refl (ForPermission ip) (rw (lt-ltb now expiry (ready.alive (Permission ip (Active expiry)) h)) refl) (find_allocation (family_of_ip ip) t) refl (used-due now t (Permission ip (Active expiry)) due)
     by (Channel number peer (Active expiry)) h due =
-        within (Channel number peer (Active expiry)) h due 1 (inr (inl refl)) refl (ForChannel number peer) (rw (lt-ltb now expiry (ready.alive (Channel number peer (Active expiry)) h)) refl) (allocation_of (family_of peer) t) refl (used-due now t (Channel number peer (Active expiry)) due)
+        within (Channel number peer (Active expiry)) h due 1 (inr (inl refl)) refl (ForChannel number peer) (rw (lt-ltb now expiry (ready.alive (Channel number peer (Active expiry)) h)) refl) (find_allocation (family_of peer) t) refl (used-due now t (Channel number peer (Active expiry)) due)
     by (Permission ip Pending) h due = absurd (untimed now t (Permission ip Pending) refl due)
     by (Permission ip (Reserved until)) h due = absurd (untimed now t (Permission ip (Reserved until)) refl due)
     by (Channel number peer Pending) h due = absurd (untimed now t (Channel number peer Pending) refl due)

@@ -5,7 +5,7 @@ use Rattle.std.specs.declared.net.socket_addr.SocketAddr.{SocketAddr}
 use Rattle.turn_stun.specs.declared.transport.TransportType.{TransportType}
 use Rattle.turn_types.specs.declared.family.AddressFamily.{AddressFamily}
 use Rattle.turn_client_api.specs.State.{Grant}
-use Rattle.turn_client_api.specs.Grants.{allocation_in}
+use Rattle.turn_client_api.specs.Grants.{as_allocation}
 use Rattle.turn_client_api.specs.Calls.{permitted_in}
 use Rattle.turn_client_api.specs.declared.addresses.RelayedAddressesIter.{RelayedAddressesIter}
 use Rattle.turn_client_api.specs.declared.addresses.PermissionAddressesIter.{PermissionAddressesIter}
@@ -13,7 +13,7 @@ use Rattle.turn_client_api.specs.declared.addresses.PermissionAddressesIter.{Per
 -- the relayed addresses of the allocations that are not expired, with their transport
 abbrev pub relayed_in_use : TransportType → List Grant → List (TransportType × SocketAddr)
 relayed_in_use transport grants =
-    map (λ a. (transport, a.relayed)) (filter (λ a. not a.is_expired) (filter_map allocation_in grants))
+    map (λ a. (transport, a.relayed)) (filter (λ a. not a.is_expired) (filter_map as_allocation grants))
 
 -- the IP addresses of a family that have a permission
 abbrev pub permitted_in_use : AddressFamily → List Grant → List IpAddr

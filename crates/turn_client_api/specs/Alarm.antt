@@ -3,7 +3,7 @@ use Rattle.std.specs.Prelude.{◌≡◌, ◌≢◌, ◌⊎◌, ℕ, ◌<◌, ◌
 use Rattle.turn_agent.specs.Agent.{timed_out_transaction, is_outstanding}
 use Rattle.turn_agent.specs.declared.transaction.Transaction.{Transaction}
 use Rattle.turn_client_api.specs.State.{State, Phase, New, Requesting, Authenticating, Grant, Allocation, Permission, Channel, Connection, Active, agent_of}
-use Rattle.turn_client_api.specs.Grants.{allocation_of, family_of_grant}
+use Rattle.turn_client_api.specs.Grants.{find_allocation, family_of_grant}
 use Rattle.turn_client_api.specs.Due.{has_queued_request}
 use Rattle.turn_client_api.specs.Poll.{next_offer}
 use Rattle.turn_client_api.specs.Transmit.{next_transmit, transmit_step}
@@ -52,7 +52,7 @@ IsBeforeGrants _ = ⊥
 
 -- each grant has an allocation, for which it was made
 abbrev pub HasAllocation : State → Grant → Type 0
-HasAllocation s g = is_some (allocation_of (family_of_grant g) s) ≡ true
+HasAllocation s g = is_some (find_allocation (family_of_grant g) s) ≡ true
 
 abbrev pub AllHaveAllocation : State → Type 0
 AllHaveAllocation s = All (HasAllocation s) s.grants

@@ -15,7 +15,7 @@ use Rattle.turn_types.specs.declared.family.AddressFamily.{AddressFamily}
 use Rattle.turn_agent.specs.Agent.{same_address}
 use Rattle.turn_client_api.specs.Config.{same_family}
 use Rattle.turn_client_api.specs.State.{State, Phase, Allocated, Closed, Grant, Permission, Channel, Connect, Connection, DataConnection, Relay, Progress, Pending, Active, Reserved, Origin, ServerRequest, ForRefresh, ForPermission, ForChannel, ForConnect, ForBind, Waiting, later_by}
-use Rattle.turn_client_api.specs.Grants.{allocations, allocation_for, connection_in, family_of, family_of_ip, in_sequence, is_channel_of, is_past, is_permitted, offer_in, permission_for, same_transport, with_allocations, with_expired, with_grant, with_more_grants, without}
+use Rattle.turn_client_api.specs.Grants.{allocations, find_allocation_to, as_connection, family_of, family_of_ip, in_sequence, is_channel_of, is_past, has_active_permission, as_offer, permission_state, same_transport, with_allocations, with_expired, with_grant, with_more_grants, without}
 use Rattle.turn_client_api.specs.Requests.{asked, connection_timed_out, drawn, fresh_id, lifetime_attribute, message_of, queued, refresh_method, request_for, requested, signed, to_server, accepted_reply, refused_reply, replied}
 use Rattle.turn_client_api.specs.Effect.{closed, fail_all}
 use Rattle.turn_client_api.specs.Retry.{bind_time}
@@ -67,9 +67,9 @@ abbrev pub permissions_of : TransportType → SocketAddr → State → List IpAd
 permissions_of transport relayed s =
     if is_in_use transport relayed s then filter_map (permitted_in (family_of relayed)) s.grants else []
 
-abbrev pub has_permission : TransportType → IpAddr → State → Bool
-has_permission transport ip s =
-    option_map_or (λ a. not a.is_expired && is_permitted ip s) (allocation_for transport ip s) false
+abbrev pub can_send_to : TransportType → IpAddr → State → Bool
+can_send_to transport ip s =
+    option_map_or (λ a. not a.is_expired && has_active_permission ip s) (find_allocation_to transport ip s) false
 
 -- ---- an allocation that can be used now
 
@@ -84,13 +84,13 @@ in_allocation None ip now refusal s otherwise = (Err refusal, s)
 
 abbrev pub permission_step : IpAddr → ℕ → State → Result Unit CreatePermissionError × State
 permission_step ip now s =
-    if is_some (permission_for ip s) then (Err Create.AlreadyExists, s)
+    if is_some (permission_state ip s) then (Err Create.AlreadyExists, s)
     else (if not (is_allocated s.phase) then (Err Create.NoAllocation, s)
     else (Ok tt, requested (fresh_id s) (ForPermission ip) now (with_grant (Permission ip Pending) s)))
 
 abbrev pub create_permission_step : TransportType → IpAddr → ℕ → State → Result Unit CreatePermissionError × State
 create_permission_step transport ip now s =
-    in_allocation (allocation_for transport ip s) ip now Create.NoAllocation s (permission_step ip now s)
+    in_allocation (find_allocation_to transport ip s) ip now Create.NoAllocation s (permission_step ip now s)
 
 -- ---- channels (RFC 8656, section 12)
 
@@ -125,7 +125,7 @@ free_number s = find (λ number. not (is_number_taken number s)) channel_numbers
 
 -- a binding requests a permission too if none is active or pending (RFC 8656, section 12.1)
 abbrev pub missing_permission : SocketAddr → State → List IpAddr
-missing_permission peer s = if is_none (permission_for (socket_ip peer) s) then socket_ip peer ∷ [] else []
+missing_permission peer s = if is_none (permission_state (socket_ip peer) s) then socket_ip peer ∷ [] else []
 
 abbrev pub bind_channel : ℕ → SocketAddr → ℕ → State → State
 bind_channel number peer now s =
@@ -153,29 +153,29 @@ channel_step peer now s =
 
 abbrev pub bind_channel_step : TransportType → SocketAddr → ℕ → State → Result Unit BindChannelError × State
 bind_channel_step transport peer now s =
-    in_allocation (allocation_for transport (socket_ip peer) s) (socket_ip peer) now Bind.NoAllocation s (channel_step peer now s)
+    in_allocation (find_allocation_to transport (socket_ip peer) s) (socket_ip peer) now Bind.NoAllocation s (channel_step peer now s)
 
 -- ---- data connections (RFC 6062, sections 4.3 and 4.4)
 
 abbrev pub connect_step : SocketAddr → ℕ → State → Result Unit TcpConnectError × State
 connect_step peer now s =
     if not (is_allocated s.phase) then (Err Join.NoAllocation, s)
-    else (if not (is_permitted (socket_ip peer) s) then (Err Join.NoPermission, s)
+    else (if not (has_active_permission (socket_ip peer) s) then (Err Join.NoPermission, s)
     else (if is_connected peer s || is_connecting peer s then (Err Join.AlreadyExists, s)
     else (Ok tt, requested (fresh_id s) (ForConnect peer) now (with_grant (Connect peer) s))))
 
 abbrev pub tcp_connect_step : SocketAddr → ℕ → State → Result Unit TcpConnectError × State
 tcp_connect_step peer now s =
-    in_allocation (allocation_for Tcp (socket_ip peer) s) (socket_ip peer) now Join.NoAllocation s (connect_step peer now s)
+    in_allocation (find_allocation_to Tcp (socket_ip peer) s) (socket_ip peer) now Join.NoAllocation s (connect_step peer now s)
 
 -- the offer of this connection ID and this peer
 abbrev pub is_offer_of : ℕ → SocketAddr → Grant → Bool
 is_offer_of id peer grant =
-    option_map_or (λ offer. (offer.connection_id == id) && same_address offer.peer peer) (offer_in grant) false
+    option_map_or (λ offer. (offer.connection_id == id) && same_address offer.peer peer) (as_offer grant) false
 
 -- the origin of the offer, if there is one
 abbrev pub offer_origin : ℕ → SocketAddr → State → Option Origin
-offer_origin id peer s = option_map (λ offer. offer.origin) (slice_get (filter_map offer_in (filter (is_offer_of id peer) s.grants)) 0)
+offer_origin id peer s = option_map (λ offer. offer.origin) (slice_get (filter_map as_offer (filter (is_offer_of id peer) s.grants)) 0)
 
 -- the first of these grants is removed
 abbrev pub without_first : (Grant → Bool) → List Grant → List Grant
@@ -287,12 +287,12 @@ on_channel ((number, expiry) ∷ others) peer bytes now s =
     if nat_le now expiry then (Ok (to_server s s.local (channel_frame number bytes)), s) else as_indication peer bytes s
 
 abbrev pub send_over : TransportType → SocketAddr → List ℕ → ℕ → State → Result (Transmit (List ℕ)) SendError × State
-send_over Tcp peer bytes now s = on_connection (find (bound_to peer) (filter_map connection_in s.grants)) bytes s
+send_over Tcp peer bytes now s = on_connection (find (bound_to peer) (filter_map as_connection s.grants)) bytes s
 send_over Udp peer bytes now s = on_channel (filter_map (active_channel peer) s.grants) peer bytes now s
 
 abbrev pub send_to_step : TransportType → SocketAddr → List ℕ → ℕ → State → Result (Transmit (List ℕ)) SendError × State
 send_to_step transport peer bytes now s =
-    if has_permission transport (socket_ip peer) s then send_over transport peer bytes now s else (Err Send.NoPermission, s)
+    if can_send_to transport (socket_ip peer) s then send_over transport peer bytes now s else (Err Send.NoPermission, s)
 
 -- a packet can carry this data to a peer if the server relays over UDP
 abbrev pub FitsDatagram : TransportType → List ℕ → Type 0

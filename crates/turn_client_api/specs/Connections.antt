@@ -9,7 +9,7 @@ use Rattle.turn_auth.specs.LongTerm.{Challenge}
 use Rattle.turn_agent.specs.Agent.{same_address}
 use Rattle.turn_client_api.specs.State.{State, Phase, Allocated, Grant, Offer, Connection, DataConnection, Origin, ServerRequest, ServerIndication, Mode, Bound, Stream, Purpose, later_by}
 use Rattle.std.specs.Option.{option_map_or}
-use Rattle.turn_client_api.specs.Grants.{allocation_for, connection_in, is_connect_to, is_connection_from, is_permitted, offer_in, purposes_of, unlisted, without, wait}
+use Rattle.turn_client_api.specs.Grants.{find_allocation_to, as_connection, is_connect_to, is_connection_from, has_active_permission, as_offer, purposes_of, unlisted, without, wait}
 use Rattle.turn_client_api.specs.Requests.{bad_request, connection_already_exists, fresh_id, requested, refused_reply, replied, connection_bind_method}
 use Rattle.turn_client_api.specs.Judgement.{Judgement, Challenged, SignedSuccess, SignedError, bind_judgement, is_bind_of, connection_id_in, peer_in, method_in}
 use Rattle.turn_client_api.specs.Effect.{ended, with_offer}
@@ -33,7 +33,7 @@ is_connecting peer s = list_any (is_connect_to peer) s.grants
 
 -- the connection from this local address
 abbrev pub connection_at : SocketAddr → State → Option DataConnection
-connection_at local s = find (λ c. same_address c.local local) (filter_map connection_in s.grants)
+connection_at local s = find (λ c. same_address c.local local) (filter_map as_connection s.grants)
 
 -- ---- the server requests one, since a peer connected to the relayed address (RFC 6062, section 4.4)
 
@@ -46,7 +46,7 @@ attempt_requested message s = by (connection_id_in message) (peer_in message)
 
     by : Option ℕ → Option SocketAddr → State
     by (Some connection_id) (Some peer) =
-        if not (is_some (allocation_for Tcp (socket_ip peer) s)) then refused bad_request (codes "Bad Request")
+        if not (is_some (find_allocation_to Tcp (socket_ip peer) s)) then refused bad_request (codes "Bad Request")
         else (if is_connected peer s then refused connection_already_exists (codes "Connection Already Exists")
         else with_offer connection_id peer (ServerRequest (id_of message)) s)
     by _ _ = refused bad_request (codes "Bad Request")
@@ -56,7 +56,7 @@ abbrev pub most_indicated : ℕ
 most_indicated = 64
 
 abbrev pub is_indicated : Grant → Bool
-is_indicated grant = option_map_or (λ offer. by offer.origin) (offer_in grant) false
+is_indicated grant = option_map_or (λ offer. by offer.origin) (as_offer grant) false
   where
     by : Origin → Bool
     by ServerIndication = true
@@ -66,7 +66,7 @@ is_indicated grant = option_map_or (λ offer. by offer.origin) (offer_in grant) 
 -- no other connection to it exists or is pending.
 abbrev pub is_heeded : SocketAddr → State → Bool
 is_heeded peer s =
-    is_some (allocation_for Tcp (socket_ip peer) s) && is_permitted (socket_ip peer) s
+    is_some (find_allocation_to Tcp (socket_ip peer) s) && has_active_permission (socket_ip peer) s
     && not (is_connected peer s || is_connecting peer s)
     && nat_lt (length (filter is_indicated s.grants)) most_indicated
 

@@ -4,7 +4,7 @@ use Rattle.std.specs.Option.{option_map_or}
 use Rattle.std.specs.List.{list_any}
 use Rattle.turn_agent.specs.Agent.{next_moment}
 use Rattle.turn_client_api.specs.State.{State, Phase, New, Grant, Allocation, Permission, Channel, Connection, Relay, Active, agent_of, greatest_moment, later_by, seconds}
-use Rattle.turn_client_api.specs.Grants.{allocation_of, family_of_grant, has_request}
+use Rattle.turn_client_api.specs.Grants.{find_allocation, family_of_grant, has_request}
 use Rattle.turn_client_api.specs.Calls.{is_allocated}
 
 -- ---- numbers of ours
@@ -49,7 +49,7 @@ refresh_time_of a =
 -- an expired allocation is refreshed no more, nor are the grants in it
 abbrev pub is_refreshable : Grant → State → Bool
 is_refreshable (Allocation a) s = not a.is_expired
-is_refreshable grant s = option_map_or (λ a. not a.is_expired) (allocation_of (family_of_grant grant) s) false
+is_refreshable grant s = option_map_or (λ a. not a.is_expired) (find_allocation (family_of_grant grant) s) false
 
 -- when a grant of its kind is refreshed, if ever
 abbrev pub refresh_time_by_kind : Grant → Option ℕ

@@ -13,7 +13,7 @@ use Rattle.turn_types.specs.declared.family.AddressFamily.TheVariants.{IPV4, IPV
 use Rattle.turn_auth.specs.Challenge.{code_in}
 use Rattle.turn_agent.specs.Agent as A
 use Rattle.turn_client_api.specs.State.{State, Phase, Allocated, Closed, Grant, Allocation, Permission, Channel, Offer, Origin, OwnConnect, Progress, Pending, Active, Reserved, Purpose, ForAllocation, ForRefresh, ForPermission, ForChannel, ForConnect, later_by, seconds}
-use Rattle.turn_client_api.specs.Grants.{allocation_in, channel_at, first_in, in_sequence, is_channel_of, is_connect_to, is_for_any, is_of, is_of_family, is_pending_permission, is_permission_of, permission_for, purposes_of, is_for_allocation, unlisted, without, with_allocations, with_grant, with_more_grants, jump, wait, failures_among}
+use Rattle.turn_client_api.specs.Grants.{as_allocation, channel_at, first_in, in_sequence, is_channel_of, is_connect_to, is_for_any, is_of, is_of_family, is_pending_permission, is_permission_of, permission_state, purposes_of, is_for_allocation, unlisted, without, with_allocations, with_grant, with_more_grants, jump, wait, failures_among}
 use Rattle.turn_client_api.specs.Requests.{relayed_kind, requested}
 use Rattle.turn_client_api.specs.Judgement.{lifetime_in, connection_id_in}
 use Rattle.turn_client_api.specs.declared.event.TurnEvent.TheVariants.{AllocationCreated, AllocationCreateFailed, PermissionCreated, PermissionCreateFailed, ChannelCreated, ChannelCreateFailed, TcpConnectFailed}
@@ -148,7 +148,7 @@ abbrev pub prolonged : AddressFamily → ℕ → ℕ → State → State
 prolonged family lifetime now s =
     if nat_le least_lifetime lifetime
     then challenges_reset (with_allocations (λ a. is_of_family family a.relayed) (λ a. record a { expiry = later_by (seconds lifetime) now })
-    (unlisted (λ g. is_some (allocation_in g) && is_of family g) s))
+    (unlisted (λ g. is_some (as_allocation g) && is_of family g) s))
     else s
 
 -- a lifetime of so many seconds was requested
@@ -189,7 +189,7 @@ active_permission_answered ip false now s =
     jump (PermissionCreateFailed s.config.allocation_transport ip ∷ []) (without (is_permission_of ip) s)
 
 abbrev pub permission_answered : IpAddr → Bool → ℕ → State → State
-permission_answered ip is_granted now s = by (permission_for ip s)
+permission_answered ip is_granted now s = by (permission_state ip s)
   where
     by : Option Progress → State
     by (Some Pending) = pending_permission_answered ip is_granted now s

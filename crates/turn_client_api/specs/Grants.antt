@@ -39,21 +39,21 @@ family_of address = family_of_ip (socket_ip address)
 
 -- ---- allocations
 
-abbrev pub allocation_in : Grant → Option Relay
-allocation_in (Allocation a) = Some a
-allocation_in _ = None
+abbrev pub as_allocation : Grant → Option Relay
+as_allocation (Allocation a) = Some a
+as_allocation _ = None
 
 -- in the order in which the server granted them
 abbrev pub allocations : State → List Relay
-allocations s = filter_map allocation_in s.grants
+allocations s = filter_map as_allocation s.grants
 
-abbrev pub allocation_of : AddressFamily → State → Option Relay
-allocation_of family s = find (λ a. same_family (family_of a.relayed) family) (allocations s)
+abbrev pub find_allocation : AddressFamily → State → Option Relay
+find_allocation family s = find (λ a. same_family (family_of a.relayed) family) (allocations s)
 
 -- the allocation that relays over this transport to this IP address, expired or not
-abbrev pub allocation_for : TransportType → IpAddr → State → Option Relay
-allocation_for transport ip s =
-    if same_transport transport s.config.allocation_transport then allocation_of (family_of_ip ip) s else None
+abbrev pub find_allocation_to : TransportType → IpAddr → State → Option Relay
+find_allocation_to transport ip s =
+    if same_transport transport s.config.allocation_transport then find_allocation (family_of_ip ip) s else None
 
 -- the expiry of an allocation is now or has passed
 abbrev pub is_past : ℕ → Relay → Bool
@@ -85,16 +85,16 @@ permission_progress ip (Permission other progress) = if same_ip other ip then So
 permission_progress ip _ = None
 
 -- the progress of the permission for this IP address
-abbrev pub permission_for : IpAddr → State → Option Progress
-permission_for ip s = first_in (permission_progress ip) s
+abbrev pub permission_state : IpAddr → State → Option Progress
+permission_state ip s = first_in (permission_progress ip) s
 
 abbrev pub is_active : Option Progress → Bool
 is_active (Some (Active expiry)) = true
 is_active _ = false
 
 -- this IP address is permitted
-abbrev pub is_permitted : IpAddr → State → Bool
-is_permitted ip s = is_active (permission_for ip s)
+abbrev pub has_active_permission : IpAddr → State → Bool
+has_active_permission ip s = is_active (permission_state ip s)
 
 -- the peer of the channel of this number, and its progress
 abbrev pub channel_at : ℕ → Grant → Option (SocketAddr × Progress)
@@ -128,13 +128,13 @@ abbrev pub is_connection_from : SocketAddr → Grant → Bool
 is_connection_from local (Connection c) = same_address c.local local
 is_connection_from local _ = false
 
-abbrev pub connection_in : Grant → Option DataConnection
-connection_in (Connection c) = Some c
-connection_in _ = None
+abbrev pub as_connection : Grant → Option DataConnection
+as_connection (Connection c) = Some c
+as_connection _ = None
 
-abbrev pub offer_in : Grant → Option DataOffer
-offer_in (Offer offer) = Some offer
-offer_in _ = None
+abbrev pub as_offer : Grant → Option DataOffer
+as_offer (Offer offer) = Some offer
+as_offer _ = None
 
 abbrev pub is_pending_permission : Grant → Bool
 is_pending_permission (Permission ip Pending) = true
@@ -176,7 +176,7 @@ is_request id (ServerRequest request) = request == id
 is_request id _ = false
 
 abbrev pub is_of_request : ℕ → Grant → Bool
-is_of_request id grant = option_map_or (λ offer. is_request id offer.origin) (offer_in grant) false
+is_of_request id grant = option_map_or (λ offer. is_request id offer.origin) (as_offer grant) false
 
 -- a request of the client, or one of the server that is to be answered, has this ID
 abbrev pub is_listed : ℕ → State → Bool

@@ -11,7 +11,7 @@ use Rattle.turn_types.specs.Send.{data_kind}
 use Rattle.turn_types.specs.declared.attribute.icmp_report.Icmp.{Icmp}
 use Rattle.turn_auth.specs.LongTerm.{Challenge}
 use Rattle.turn_client_api.specs.State.{State, Phase, Requesting, Authenticating, Purpose, ForBind}
-use Rattle.turn_client_api.specs.Grants.{channel_peer, first_in, is_permitted, purposes_of}
+use Rattle.turn_client_api.specs.Grants.{channel_peer, first_in, has_active_permission, purposes_of}
 use Rattle.turn_client_api.specs.Requests.{fresh_id, method_for, refresh_method, connection_attempt_method}
 use Rattle.turn_client_api.specs.Judgement.{Judgement, Unrelated, Challenged, Fatal, LateResponse, DataIndication, ConnectionAttempt, SignedRequest, SignedSuccess, SignedError, judgement_of, method_in, has_unknown, last_in, last_peer_in, last_icmp_in}
 use Rattle.turn_client_api.specs.Effect.{allocate_granted, allocate_denied, effect, ended, closed, fail_all}
@@ -49,9 +49,9 @@ abbrev pub data_indicated : State → List ℕ → Outcome
 data_indicated s message = if has_unknown message then Ignored else by (last_peer_in message) (last_in data_kind message) (last_icmp_in message)
   where
     by : Option SocketAddr → Option Attribute → Option Icmp → Outcome
-    by (Some peer) (Some a) _ = if is_permitted (socket_ip peer) s then data_of s peer a.offset a.value else Ignored
+    by (Some peer) (Some a) _ = if has_active_permission (socket_ip peer) s then data_of s peer a.offset a.value else Ignored
     by (Some peer) None (Some icmp) =
-        if is_permitted (socket_ip peer) s then PeerIcmp s.config.allocation_transport peer icmp else Ignored
+        if has_active_permission (socket_ip peer) s then PeerIcmp s.config.allocation_transport peer icmp else Ignored
     by _ _ _ = Ignored
 
 -- a ChannelData message of an active channel, in any phase (RFC 8656, section 12.6)

@@ -6,7 +6,7 @@ use Rattle.std.specs.declared.net.socket_addr.SocketAddr.{SocketAddr}
 use Rattle.turn_types.specs.declared.family.AddressFamily.{AddressFamily}
 use Rattle.turn_agent.specs.Agent.{timed_out_transaction}
 use Rattle.turn_client_api.specs.State.{State, Phase, New, Requesting, Authenticating, Allocated, Closed, Grant, Allocation, Permission, Channel, Offer, Connection, Relay, DataOffer, Active, Reserved, Purpose, agent_of}
-use Rattle.turn_client_api.specs.Grants.{allocations, family_of, failures_among, first_in, connection_in, has_request, in_sequence, is_connect, is_for_allocation, is_for_any, is_of, is_of_family, is_of_request, is_past, is_pending_channel, is_pending_permission, jump, purposes_of, unlisted, without}
+use Rattle.turn_client_api.specs.Grants.{allocations, family_of, failures_among, first_in, as_connection, has_request, in_sequence, is_connect, is_for_allocation, is_for_any, is_of, is_of_family, is_of_request, is_past, is_pending_channel, is_pending_permission, jump, purposes_of, unlisted, without}
 use Rattle.turn_client_api.specs.Effect.{closed, ended, reserved, without_families}
 use Rattle.turn_client_api.specs.Calls.{is_allocated}
 use Rattle.turn_client_api.specs.Due.{has_event, has_reply, next_wakeup}
@@ -59,7 +59,7 @@ channel_lapsed _ s = s
 -- connections that are not bound are to be closed, after all others
 abbrev pub unbound : (Grant → Bool) → State → State
 unbound which s = record (failed which s) {
-  closes = s.closes ++ map (λ c. c.local) (filter_map connection_in (filter which s.grants));
+  closes = s.closes ++ map (λ c. c.local) (filter_map as_connection (filter which s.grants));
 }
 
 abbrev pub is_given_offer : Option ℕ → Grant → Bool

@@ -6,7 +6,7 @@ ghost use Rattle.turn_stun.specs.declared.transport.TransportType.TheVariants.{U
 ghost use Rattle.turn_client_api.specs.State.{State, Requesting};
 ghost use Rattle.turn_client_api.specs.Addresses.{relayed_left, permitted_left};
 ghost use Rattle.turn_client_api.specs.Effect.{closed};
-ghost use Rattle.turn_client_api.specs.Calls.{allocated_tcp_socket_step, bind_channel_step, create_permission_step, delete_step, has_permission, permissions_of, protocol_error_step, relayed_addresses_of, send_to_step, tcp_connect_step};
+ghost use Rattle.turn_client_api.specs.Calls.{allocated_tcp_socket_step, bind_channel_step, create_permission_step, delete_step, can_send_to, permissions_of, protocol_error_step, relayed_addresses_of, send_to_step, tcp_connect_step};
 ghost use Rattle.turn_client_api.specs.Receive.{recv_step, tcp_closed_step};
 ghost use Rattle.turn_client_api.specs.Streams.{HoldsLittle, poll_recv_step};
 ghost use Rattle.turn_client_api.specs.Poll.{poll_step};
@@ -121,7 +121,7 @@ pub trait TurnClientApi: Debug + Drop {
     /// Whether this peer IP address has an active permission. Expired allocations are skipped; the
     /// expiry of the permission is not checked.
     fn have_permission(&self, transport: TransportType, to: IpAddr) -> bool
-        ensures { result ≡ has_permission transport to (state self.now) };
+        ensures { result ≡ can_send_to transport to (state self.now) };
 
     /// Requests a channel to this peer: queues a CHANNEL_BIND (RFC 8656, section 12.1). If no
     /// permission for the peer is active or pending, one is requested with it.

@@ -11,7 +11,7 @@ use Rattle.turn_stun.specs.Number.{u16_at}
 use Rattle.turn_types.specs.Channel.{Channel, channel_data_at as channel_frame_at}
 use Rattle.turn_types.specs.Send.{data_kind}
 use Rattle.turn_types.specs.declared.attribute.icmp_report.Icmp.{Icmp}
-use Rattle.turn_client_api.specs.Grants.{channel_peer, first_in, is_permitted}
+use Rattle.turn_client_api.specs.Grants.{channel_peer, first_in, has_active_permission}
 use Rattle.turn_client_api.specs.Judgement.{has_unknown, last_icmp_in, last_in, last_peer_in}
 use Rattle.turn_client_api.specs.Payloads.{Ignored, channel_sent, data_indicated}
 use Rattle.turn_client_api.specs.State.{State}
@@ -21,7 +21,7 @@ use Rattle.turn_client_core.specs.declared.told.Told.{Told}
 use Rattle.turn_client_core.specs.declared.told.Told.TheVariants as T
 
 module _ (s : State) (message : List ℕ) where
-  outcome-if_permitted : (is_permitted : Bool) (told : Told) → outcome_in message (if_permitted is_permitted told) ≡ (if is_permitted then outcome_in message told else Ignored)
+  outcome-if_permitted : (has_active_permission : Bool) (told : Told) → outcome_in message (if_permitted has_active_permission told) ≡ (if has_active_permission then outcome_in message told else Ignored)
   outcome-if_permitted true told = refl
   outcome-if_permitted false told = refl
 
@@ -33,7 +33,7 @@ module _ (s : State) (message : List ℕ) where
 
   module _ (peer : SocketAddr) (known : has_unknown message ≡ false) (peer_is : last_peer_in message ≡ Some peer) where
     abbrev permitted : Bool
-    permitted = is_permitted (socket_ip peer) s
+    permitted = has_active_permission (socket_ip peer) s
 
     data_at : (a : Attribute) → last_in data_kind message ≡ Some a → HoldsValue message a → outcome_in message (if_permitted permitted (T.PeerData s.config.allocation_transport peer (value_place a))) ≡ data_indicated s message
     data_at a data_is holds = outcome-if_permitted permitted (T.PeerData s.config.allocation_transport peer (value_place a)) ∙ rw (known, peer_is, data_is, holds) refl

@@ -6,7 +6,7 @@ use Rattle.std.specs.declared.net.socket_addr.SocketAddr.{SocketAddr}
 use Rattle.std.specs.declared.ops.Range.{Range}
 use Rattle.turn_stun.specs.Message.{Attribute}
 use Rattle.turn_types.specs.declared.attribute.icmp_report.Icmp.{Icmp}
-use Rattle.turn_client_api.specs.Grants.{is_permitted}
+use Rattle.turn_client_api.specs.Grants.{has_active_permission}
 use Rattle.turn_client_api.specs.State.{State}
 use Rattle.turn_client_core.specs.declared.told.Told.{Told}
 use Rattle.turn_client_core.specs.declared.told.Told.TheVariants.{Ignored, PeerIcmp}
@@ -17,9 +17,9 @@ value_place a = record { start = a.offset + 4; end = a.offset + 4 + length a.val
 
 -- the result, if its peer is permitted
 abbrev pub if_permitted : Bool → Told → Told
-if_permitted is_permitted told = if is_permitted then told else Ignored
+if_permitted has_active_permission told = if has_active_permission then told else Ignored
 
 -- an ICMP error of this peer, if one was reported
 abbrev pub icmp_of_peer : SocketAddr → Option Icmp → State → Told
 icmp_of_peer peer icmp s =
-    option_map_or (λ icmp. if_permitted (is_permitted (socket_ip peer) s) (PeerIcmp s.config.allocation_transport peer icmp)) icmp Ignored
+    option_map_or (λ icmp. if_permitted (has_active_permission (socket_ip peer) s) (PeerIcmp s.config.allocation_transport peer icmp)) icmp Ignored

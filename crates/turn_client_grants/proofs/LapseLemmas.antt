@@ -5,7 +5,7 @@ use Rattle.std.specs.List.{list_all, list_any}
 use Rattle.std.specs.declared.net.socket_addr.SocketAddr.{SocketAddr}
 use Rattle.turn_types.specs.declared.family.AddressFamily.{AddressFamily}
 use Rattle.turn_types.specs.declared.family.AddressFamily.TheVariants.{IPV4, IPV6}
-use Rattle.turn_client_api.specs.Grants.{allocation_in, connection_in, family_of, is_channel_of, is_of}
+use Rattle.turn_client_api.specs.Grants.{as_allocation, as_connection, family_of, is_channel_of, is_of}
 use Rattle.turn_client_api.specs.declared.grant.DataConnection.{DataConnection}
 use Rattle.turn_client_api.specs.declared.grant.Grant.{Grant}
 use Rattle.turn_client_api.specs.declared.grant.Grant.TheVariants.{Allocation, Permission, Channel, Connect, Offer, Connection}
@@ -27,13 +27,13 @@ use Rattle.turn_client_grants.specs.declared.which.Which.{Which}
 
 -- ---- closes
 
-pub closes-are : (which : Which) (grants : List Grant) → filter_map (close_in which) grants ≡ map (λ (c : DataConnection). c.local) (filter_map connection_in (filter (holds which) grants))
+pub closes-are : (which : Which) (grants : List Grant) → filter_map (close_in which) grants ≡ map (λ (c : DataConnection). c.local) (filter_map as_connection (filter (holds which) grants))
 unfolding close_in
 closes-are which [] = refl
-closes-are which (g ∷ others) = by (holds which g) (connection_in g) refl refl (closes-are which others)
+closes-are which (g ∷ others) = by (holds which g) (as_connection g) refl refl (closes-are which others)
   where
-    by : (b : Bool) (found : Option DataConnection) → holds which g ≡ b → connection_in g ≡ found → filter_map (close_in which) others ≡ map (λ (c : DataConnection). c.local) (filter_map connection_in (filter (holds which) others))
-        → filter_map (close_in which) (g ∷ others) ≡ map (λ (c : DataConnection). c.local) (filter_map connection_in (filter (holds which) (g ∷ others)))
+    by : (b : Bool) (found : Option DataConnection) → holds which g ≡ b → as_connection g ≡ found → filter_map (close_in which) others ≡ map (λ (c : DataConnection). c.local) (filter_map as_connection (filter (holds which) others))
+        → filter_map (close_in which) (g ∷ others) ≡ map (λ (c : DataConnection). c.local) (filter_map as_connection (filter (holds which) (g ∷ others)))
     by true None e f rest = rw (e, f) rest
     by true (Some c) e f rest = rw (e, f, rest) refl
     by false found e f rest = rw e rest
@@ -41,9 +41,9 @@ closes-are which (g ∷ others) = by (holds which g) (connection_in g) refl refl
 pub closes-left : (which : Which) (grants : List Grant) → length (filter_map (close_in which) grants) + closes_aside (filter (λ g. not (holds which g)) grants) ≤ closes_aside grants
 unfolding close_in
 closes-left which [] = omega arith
-closes-left which (g ∷ others) = by (holds which g) (connection_in g) refl refl (closes-left which others)
+closes-left which (g ∷ others) = by (holds which g) (as_connection g) refl refl (closes-left which others)
   where
-    by : (b : Bool) (found : Option DataConnection) → holds which g ≡ b → connection_in g ≡ found
+    by : (b : Bool) (found : Option DataConnection) → holds which g ≡ b → as_connection g ≡ found
         → length (filter_map (close_in which) others) + closes_aside (filter (λ g. not (holds which g)) others) ≤ closes_aside others
         → length (filter_map (close_in which) (g ∷ others)) + closes_aside (filter (λ g. not (holds which g)) (g ∷ others)) ≤ closes_aside (g ∷ others)
     by true None e f rest = rw (e, f) rest
@@ -53,12 +53,12 @@ closes-left which (g ∷ others) = by (holds which g) (connection_in g) refl ref
 
 -- ---- the allocations
 
-count-of : (grants : List Grant) → length (filter_map allocation_in grants) ≡ length (filter (is_allocation_of IPV4) grants) + length (filter (is_allocation_of IPV6) grants)
+count-of : (grants : List Grant) → length (filter_map as_allocation grants) ≡ length (filter (is_allocation_of IPV4) grants) + length (filter (is_allocation_of IPV6) grants)
 count-of [] = refl
 count-of (Allocation a ∷ others) = by (family_of a.relayed) refl (count-of others)
   where
-    by : (family : AddressFamily) → family_of a.relayed ≡ family → length (filter_map allocation_in others) ≡ length (filter (is_allocation_of IPV4) others) + length (filter (is_allocation_of IPV6) others)
-        → length (filter_map allocation_in (Allocation a ∷ others)) ≡ length (filter (is_allocation_of IPV4) (Allocation a ∷ others)) + length (filter (is_allocation_of IPV6) (Allocation a ∷ others))
+    by : (family : AddressFamily) → family_of a.relayed ≡ family → length (filter_map as_allocation others) ≡ length (filter (is_allocation_of IPV4) others) + length (filter (is_allocation_of IPV6) others)
+        → length (filter_map as_allocation (Allocation a ∷ others)) ≡ length (filter (is_allocation_of IPV4) (Allocation a ∷ others)) + length (filter (is_allocation_of IPV6) (Allocation a ∷ others))
     by IPV4 e rest = rw e (omega (arith, rest))
     by IPV6 e rest = rw e (omega (arith, rest))
 count-of (Permission ip progress ∷ others) = count-of others
@@ -75,8 +75,8 @@ two-of (a ∷ b ∷ c ∷ others) few = let no : ⊥ = omega (arith, few) in abs
 
 -- at most two allocations, the one of each family
 pub both-allocations : (grants : List Grant) → ((family : AddressFamily) → length (filter (is_allocation_of family) grants) ≤ 1)
-    → filter_map allocation_in grants ≡ option_to_list (slice_get (filter_map allocation_in grants) 0) ++ option_to_list (slice_get (filter_map allocation_in grants) 1)
-both-allocations grants few = two-of (filter_map allocation_in grants) (omega (arith, count-of grants, few IPV4, few IPV6))
+    → filter_map as_allocation grants ≡ option_to_list (slice_get (filter_map as_allocation grants) 0) ++ option_to_list (slice_get (filter_map as_allocation grants) 1)
+both-allocations grants few = two-of (filter_map as_allocation grants) (omega (arith, count-of grants, few IPV4, few IPV6))
 
 -- ---- whether an allocation is removed
 

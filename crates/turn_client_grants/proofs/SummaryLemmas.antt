@@ -8,7 +8,7 @@ use Rattle.std.proofs.lemmas.Grind.{fold-append}
 use Rattle.std.proofs.lemmas.List.Elements.{All-cons, All-nil}
 use Rattle.turn_types.specs.declared.family.AddressFamily.{AddressFamily}
 use Rattle.turn_client_api.specs.Due.{end_of, refresh_time}
-use Rattle.turn_client_api.specs.Grants.{allocation_in, family_of, is_of, is_of_family, is_of_request, is_request}
+use Rattle.turn_client_api.specs.Grants.{as_allocation, family_of, is_of, is_of_family, is_of_request, is_request}
 use Rattle.turn_client_api.specs.LawsBodies.{lapse_of, lapse_moments}
 use Rattle.turn_client_api.specs.Poll.{first_untold, untold_in}
 use Rattle.turn_client_api.specs.State.{State, greatest_moment}
@@ -189,7 +189,7 @@ flat-mapped p f (g ∷ gs) = by (f g) (flat-mapped p f gs)
     by None rest = rest
     by (Some x) rest = ap (λ (xs : List ℕ). max p x ∷ xs) rest
 
-flat-relays : (now : ℕ) (gs : List Grant) → flat_map (relay_end_in now) gs ≡ relay_ends now (filter_map allocation_in gs)
+flat-relays : (now : ℕ) (gs : List Grant) → flat_map (relay_end_in now) gs ≡ relay_ends now (filter_map as_allocation gs)
 flat-relays now [] = refl
 flat-relays now (Allocation a ∷ gs) = ap (λ (xs : List ℕ). relay_end_in now (Allocation a) ++ xs) (flat-relays now gs)
 flat-relays now (Permission ip progress ∷ gs) = flat-relays now gs
@@ -209,7 +209,7 @@ relay_ends-both now (Some a) (Some b) = by (nat_lt now a.expiry)
 
 -- from the expiries of all but the allocations, the two allocations, and the first refresh
 pub soonest-is : (now pause moment : ℕ) (s : State) (first second : Option Relay) → moment ≤ greatest_moment → pause ≤ greatest_moment
-    → filter_map allocation_in s.grants ≡ option_to_list first ++ option_to_list second
+    → filter_map as_allocation s.grants ≡ option_to_list first ++ option_to_list second
     → min (fold min (fold min (min moment (fold min greatest_moment (filter_map end_in s.grants))) (relay_ends now (option_to_list first))) (relay_ends now (option_to_list second)))
     (max pause (fold min greatest_moment (filter_map (refresh_time s) s.grants)))
     ≡ fold min moment (all_moments now pause s)

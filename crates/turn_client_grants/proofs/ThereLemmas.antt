@@ -10,7 +10,7 @@ use Rattle.turn_agent.specs.Agent.{same_address}
 use Rattle.turn_stun.specs.declared.transport.TransportType.TheVariants.{Udp}
 use Rattle.turn_auth.specs.declared.feature.Feature.TheVariants.{Disabled}
 use Rattle.turn_client_api.specs.Effect.{lasting, lasting_if, permission_answered, permission_answered_for}
-use Rattle.turn_client_api.specs.Grants.{channel_at, is_channel_of, is_permission_of, permission_for, permission_progress}
+use Rattle.turn_client_api.specs.Grants.{channel_at, is_channel_of, is_permission_of, permission_state, permission_progress}
 use Rattle.turn_client_api.specs.State.{State, initial}
 use Rattle.turn_client_api.specs.declared.grant.DataConnection.{DataConnection}
 use Rattle.turn_client_api.specs.declared.grant.Grant.{Grant}
@@ -139,7 +139,7 @@ renewed-channel p of expiry which g = by (which g) refl
 
 channels-stay : (p : Grant → Bool) → OfChannels p → (ip : IpAddr) (is_granted : Bool) (now : ℕ) (s : State)
     → list_any p (permission_answered ip is_granted now s).grants ≡ list_any p s.grants
-channels-stay p of ip is_granted now s = by (permission_for ip s) is_granted refl
+channels-stay p of ip is_granted now s = by (permission_state ip s) is_granted refl
   where
     left : list_any p (filter (λ g. not (is_permission_of ip g)) s.grants) ≡ list_any p s.grants
     left = any-filtered p (λ g. not (is_permission_of ip g)) (of.apart ip) s.grants
@@ -148,7 +148,7 @@ channels-stay p of ip is_granted now s = by (permission_for ip s) is_granted ref
     none-more true = refl
     none-more false = refl
 
-    by : (found : Option Progress) (b : Bool) → permission_for ip s ≡ found → list_any p (permission_answered ip b now s).grants ≡ list_any p s.grants
+    by : (found : Option Progress) (b : Bool) → permission_state ip s ≡ found → list_any p (permission_answered ip b now s).grants ≡ list_any p s.grants
     by None b e = rw e refl
     by (Some Pending) true e = rw (e, list_any-append p, left, of.other ip) (none-more (list_any p s.grants))
     by (Some Pending) false e = rw e left

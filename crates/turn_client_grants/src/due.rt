@@ -5,11 +5,11 @@ ghost use Rattle.std.specs.Prelude.{◌≡◌, ◌-◌, false, flat_map, fold, m
 ghost use Rattle.turn_client_api.specs.Due.{end_of, is_refreshable, refresh_time, refresh_time_by_kind, refresh_time_of};
 ghost use Rattle.turn_client_api.specs.State.{State};
 ghost use Rattle.turn_client_grants.specs.Due.{moments_of};
-ghost use Rattle.turn_client_grants.specs.Lists.{allocation_among, with_lists};
+ghost use Rattle.turn_client_grants.specs.Lists.{find_allocation_in, with_lists};
 
 use crate::kind::{family_of, family_of_ip};
 use crate::listed::has_request;
-use crate::reads::allocation_of;
+use crate::reads::find_allocation;
 use turn_client_api::{Grant, Listing, Progress, Relay};
 use turn_stun::instant::Instant;
 use turn_types::AddressFamily;
@@ -41,9 +41,9 @@ fn refresh_time_of(relay: &Relay) -> Instant
 
 /// Whether there is an allocation of this family that is not expired.
 fn is_family_in_use(grants: &[Grant], family: AddressFamily) -> bool
-    ensures { result ≡ option_map_or (λ a. not a.is_expired) (allocation_among family grants.now) false }
+    ensures { result ≡ option_map_or (λ a. not a.is_expired) (find_allocation_in family grants.now) false }
 {
-    match allocation_of(grants, family) {
+    match find_allocation(grants, family) {
         Some(relay) => !relay.is_expired,
         None => false,
     }

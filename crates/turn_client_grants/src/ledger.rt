@@ -3,7 +3,7 @@
 ghost use Rattle.std.specs.List.{list_any};
 ghost use Rattle.std.specs.Prelude.{◌≡◌, ◌≤◌, ◌<◌, ◌+◌, ◌&&◌, ◌∷◌, ◌++◌, [], true, OnOk};
 ghost use Rattle.turn_client_api.specs.Effect.{renewed};
-ghost use Rattle.turn_client_api.specs.Grants.{allocation_for, failures_among, jump, unlisted, wait, with_grant, without};
+ghost use Rattle.turn_client_api.specs.Grants.{find_allocation_to, failures_among, jump, unlisted, wait, with_grant, without};
 ghost use Rattle.turn_client_api.specs.Poll.{failed};
 ghost use Rattle.turn_client_api.specs.State.{State};
 ghost use Rattle.turn_client_grants.specs.Keys.{is_found_by};
@@ -94,12 +94,12 @@ impl GrantLedger {
     }
 
     /// The allocation that relays over this transport to this IP address, expired or not.
-    pub fn allocation_for(&self, transport: TransportType, ip: IpAddr) -> Option<Relay>
-        ensures { (s : State) → result ≡ allocation_for transport ip (on self.now s) }
+    pub fn find_allocation_to(&self, transport: TransportType, ip: IpAddr) -> Option<Relay>
+        ensures { (s : State) → result ≡ find_allocation_to transport ip (on self.now s) }
     {
         let is_relayed = is_same_transport(transport, self.transport);
         if is_relayed {
-            return self.table.allocation_of(family_of_ip(ip));
+            return self.table.find_allocation(family_of_ip(ip));
         }
         None
     }

@@ -11,7 +11,7 @@ ghost use Rattle.turn_client_grants.specs.Summary.{IsSummary, end_in, is_request
 
 use crate::due::{least, refresh_time};
 use crate::listed::has_request;
-use crate::reads::allocation_at;
+use crate::reads::nth_allocation;
 use turn_client_api::{Grant, Listing, Origin, Progress, Relay};
 use turn_stun::instant::Instant;
 
@@ -45,8 +45,8 @@ pub struct Summary {
 pub(crate) fn summary_of(grants: &[Grant], listed: &[Listing]) -> Summary
     ensures { IsSummary result grants.now listed.now }
 {
-    let first = allocation_at(grants, 0);
-    let second = allocation_at(grants, 1);
+    let first = nth_allocation(grants, 0);
+    let second = nth_allocation(grants, 1);
     let end = next_end(grants);
     let lapse = next_lapse(grants, listed);
     let refresh = next_refresh(grants, listed);

@@ -11,7 +11,7 @@ ghost use Rattle.std.specs.List.{list_all, list_any};
 ghost use Rattle.std.specs.VecDeque.{deque_capacity, deque_len};
 ghost use Rattle.turn_client_api.specs.Calls.{is_offer_of, without_first};
 ghost use Rattle.turn_client_api.specs.Effect.{new_allocation};
-ghost use Rattle.turn_client_api.specs.Grants.{allocation_in, is_for_allocation};
+ghost use Rattle.turn_client_api.specs.Grants.{as_allocation, is_for_allocation};
 ghost use Rattle.turn_client_api.specs.Poll.{told_first};
 ghost use Rattle.turn_client_api.specs.Requests.{listings};
 ghost use Rattle.turn_client_grants.specs.Failures.{close_in, failure_in};
@@ -267,7 +267,7 @@ impl GrantTable {
     /// Replaces these grants by one grant, which is no allocation, after all others.
     pub(crate) fn replace(&mut self, which: &Which, grant: &Grant)
         requires numbered { is_numbered grant.now ≡ true }
-        requires apart { allocation_in grant.now ≡ None }
+        requires apart { as_allocation grant.now ≡ None }
         requires there { list_any (holds which.now) self.old.grants ≡ true }
         // By each key that finds the new grant, one of these is found.
         requires keyed { (k : Key) → is_found_by k grant.now ≡ true → list_any (λ g. holds which.now g && is_found_by k g) self.old.grants ≡ true }

@@ -8,7 +8,7 @@ use Rattle.turn_client_api.specs.State.{State, initial}
 use Rattle.turn_client_api.specs.Payloads.{Outcome, Payload}
 use Rattle.turn_client_api.specs.Payloads as O
 use Rattle.turn_client_api.specs.Streams.{poll_recv_step}
-use Rattle.turn_client_api.specs.Calls.{allocated_tcp_socket_step, bind_channel_step, create_permission_step, delete_step, has_permission, permissions_of, relayed_addresses_of, send_to_step, tcp_connect_step, FitsDatagram}
+use Rattle.turn_client_api.specs.Calls.{allocated_tcp_socket_step, bind_channel_step, create_permission_step, delete_step, can_send_to, permissions_of, relayed_addresses_of, send_to_step, tcp_connect_step, FitsDatagram}
 use Rattle.turn_client_api.specs.Poll.{poll_step}
 use Rattle.turn_client_api.specs.Transmit.{transmit_step}
 use Rattle.turn_client_api.specs.Answers.{event_step}
@@ -55,7 +55,7 @@ reply_of PollEvent s = Replies.Event (event_step s).0
 reply_of ProtocolError s = Replies.Done
 reply_of RelayedAddresses s = Replies.RelayedAddresses (relayed_addresses_of s)
 reply_of (Permissions transport relayed) s = Replies.Permissions (permissions_of transport relayed s)
-reply_of (HavePermission transport to) s = Replies.HavePermission (has_permission transport to s)
+reply_of (HavePermission transport to) s = Replies.HavePermission (can_send_to transport to s)
 
 -- the reply, and the client after it
 abbrev pub step : State → Call → Reply × State

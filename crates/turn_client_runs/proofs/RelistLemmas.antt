@@ -26,7 +26,7 @@ use Rattle.turn_client_api.specs.declared.state.Mode.TheVariants.{Control, Waiti
 use Rattle.turn_client_api.specs.declared.state.Stream.{Stream}
 use Rattle.turn_client_api.specs.Connections.{attempt_indicated, attempt_requested, bind_again, bind_answered, bind_step, connection_at, is_connected, is_heeded, not_bound}
 use Rattle.turn_client_api.specs.Effect.{allocate_denied, allocate_granted, closed, ended, fail_all, family_not_supported, has_code, in_phase}
-use Rattle.turn_client_api.specs.Grants.{allocation_for, is_connection_from, is_for_allocation, purposes_of, unlisted, wait}
+use Rattle.turn_client_api.specs.Grants.{find_allocation_to, is_connection_from, is_for_allocation, purposes_of, unlisted, wait}
 use Rattle.turn_client_api.specs.Handled.{Input, processed}
 use Rattle.turn_client_api.specs.Judgement.{Judgement, Unrelated, Challenged, Fatal, LateResponse, DataIndication, ConnectionAttempt, SignedRequest, SignedSuccess, SignedError, bind_judgement, connection_id_in, is_bind_of, judgement_of, lifetime_in, method_in, peer_in}
 use Rattle.turn_client_api.specs.LawsRequests.{IsMade}
@@ -144,7 +144,7 @@ requested-listed message s = by (connection_id_in message) refl (peer_in message
   where
     by : (i : Option ℕ) → connection_id_in message ≡ i → (p : Option SocketAddr) → peer_in message ≡ p → (attempt_requested message s).listed ≡ s.listed
     by (Some id) e (Some peer) f =
-        rw (e, f) (on_test (λ t. t.listed ≡ s.listed) (not (is_some (allocation_for Tcp (socket_ip peer) s))) _ _ refl (on_test (λ t. t.listed ≡ s.listed) (is_connected peer s) _ _ refl refl))
+        rw (e, f) (on_test (λ t. t.listed ≡ s.listed) (not (is_some (find_allocation_to Tcp (socket_ip peer) s))) _ _ refl (on_test (λ t. t.listed ≡ s.listed) (is_connected peer s) _ _ refl refl))
     by (Some id) e None f = rw (e, f) refl
     by None e p f = rw e refl
 

@@ -18,7 +18,7 @@ use Rattle.turn_client_api.specs.declared.poll.Socket5Tuple.{Socket5Tuple}
 use Rattle.turn_client_api.specs.declared.state.Phase.{Phase}
 use Rattle.turn_client_api.specs.declared.state.Phase.TheVariants.{New, Requesting, Authenticating, Allocated, Closed}
 use Rattle.turn_client_api.specs.Calls.{allocated_tcp_socket_step, bind_channel_step, create_permission_step, delete_step, is_allocated, is_control, tcp_connect_step}
-use Rattle.turn_client_api.specs.Grants.{allocation_for, same_transport}
+use Rattle.turn_client_api.specs.Grants.{find_allocation_to, same_transport}
 use Rattle.turn_client_api.specs.LawsAllocates.{AllocatesInOrder}
 use Rattle.turn_client_api.specs.LawsOrder.{FitsPhase, IsUngranted}
 use Rattle.turn_client_api.specs.LawsRequests.{AsksFor, IsMadeAs, IsRequestOf, IsSentAgain}
@@ -47,7 +47,7 @@ unallocated Authenticating u = refl
 unallocated Allocated u = absurd u
 unallocated Closed u = absurd u
 
-no-allocation : (transport : TransportType) (ip : IpAddr) (s : State) → s.grants ≡ [] → allocation_for transport ip s ≡ None
+no-allocation : (transport : TransportType) (ip : IpAddr) (s : State) → s.grants ≡ [] → find_allocation_to transport ip s ≡ None
 no-allocation transport ip s e = rw e (none (same_transport transport s.config.allocation_transport))
   where
     none : (b : Bool) → cond {A = Option Relay} b None None ≡ None

@@ -8,7 +8,7 @@ use Rattle.turn_client_api.specs.State.{State}
 use Rattle.turn_client_api.specs.declared.grant.Grant.{Grant}
 use Rattle.turn_client_api.specs.declared.grant.Grant.TheVariants.{Allocation, Permission, Channel, Connect, Offer, Connection}
 use Rattle.turn_client_api.specs.declared.grant.Relay.{Relay}
-use Rattle.turn_client_api.specs.Grants.{allocation_in, allocations, family_of}
+use Rattle.turn_client_api.specs.Grants.{as_allocation, allocations, family_of}
 use Rattle.turn_client_api.specs.LawsDoubles.{HasNoDoubles}
 use Rattle.turn_client_api.proofs.DoubleLemmas.{AreSingle, IsSingle}
 
@@ -16,13 +16,13 @@ use Rattle.turn_client_api.proofs.DoubleLemmas.{AreSingle, IsSingle}
 of_family : AddressFamily → List Relay → ℕ
 of_family family relays = length (filter (λ a. same_family (family_of a.relayed) family) relays)
 
-none-double : (family : AddressFamily) (a : Relay) → family_of a.relayed ≡ family → (gs : List Grant) → IsSingle (Allocation a) gs → of_family family (filter_map allocation_in gs) ≡ 0
+none-double : (family : AddressFamily) (a : Relay) → family_of a.relayed ≡ family → (gs : List Grant) → IsSingle (Allocation a) gs → of_family family (filter_map as_allocation gs) ≡ 0
 unfolding of_family
 none-double family a e [] all = refl
 none-double family a e (Allocation b ∷ gs) all = by family e (family_of b.relayed) refl (none-double family a e gs all.1)
   where
     None : AddressFamily → List Grant → Type 0
-    None f list = length (filter (λ x. same_family (family_of x.relayed) f) (filter_map allocation_in list)) ≡ 0
+    None f list = length (filter (λ x. same_family (family_of x.relayed) f) (filter_map as_allocation list)) ≡ 0
 
     by : (f : AddressFamily) → family_of a.relayed ≡ f → (g : AddressFamily) → family_of b.relayed ≡ g → None f gs → None f (Allocation b ∷ gs)
     by IPV4 h IPV4 g later = let no : true ≡ false = rw (h, g) at all.0 in cc
@@ -35,13 +35,13 @@ none-double family a e (Connect peer ∷ gs) all = none-double family a e gs all
 none-double family a e (Offer offer ∷ gs) all = none-double family a e gs all.1
 none-double family a e (Connection c ∷ gs) all = none-double family a e gs all.1
 
-one-of_family : (family : AddressFamily) (gs : List Grant) → AreSingle gs → of_family family (filter_map allocation_in gs) ≤ 1
+one-of_family : (family : AddressFamily) (gs : List Grant) → AreSingle gs → of_family family (filter_map as_allocation gs) ≤ 1
 unfolding of_family IsDistinct
 one-of_family family [] h = omega arith
 one-of_family family (Allocation a ∷ gs) h = by family (family_of a.relayed) refl (one-of_family family gs h.1)
   where
     Few : AddressFamily → List Grant → Type 0
-    Few f list = length (filter (λ x. same_family (family_of x.relayed) f) (filter_map allocation_in list)) ≤ 1
+    Few f list = length (filter (λ x. same_family (family_of x.relayed) f) (filter_map as_allocation list)) ≤ 1
 
     by : (f g : AddressFamily) → family_of a.relayed ≡ g → Few f gs → Few f (Allocation a ∷ gs)
     by IPV4 IPV4 e later = let none = none-double IPV4 a e gs h.0 in rw e (omega (arith, none))

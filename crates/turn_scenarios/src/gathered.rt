@@ -132,7 +132,7 @@ fn is_checked(answer: Result<(), GatherError>, want: &Want<'_>) -> bool {
     }
 }
 
-fn is_permitted(answer: Result<(), CreatePermissionError>, want: &Want<'_>) -> bool {
+fn has_active_permission(answer: Result<(), CreatePermissionError>, want: &Want<'_>) -> bool {
     match answer {
         Err(CreatePermissionError::AlreadyExists) => matches!(want, Want::AlreadyExists),
         _ => false,
@@ -205,7 +205,7 @@ fn holds<C: TurnClientApi>(
         }
         Ask::Permit(place) => {
             let answer = gatherer.create_permission(TransportType::Udp, place.ip(), at(NOW));
-            Ok(is_permitted(answer, want))
+            Ok(has_active_permission(answer, want))
         }
         Ask::Greet(place) => Ok(greets(gatherer, place.address(), want)),
         Ask::Event => Ok(gatherer.poll_event().is_none() && matches!(want, Want::Nothing)),
@@ -329,7 +329,7 @@ fn is_wanted(reply: &GatherReply, want: &Want<'_>) -> bool {
         }
         GatherReply::Dropped => matches!(want, Want::Dropped),
         GatherReply::NoPayload => matches!(want, Want::Nothing),
-        GatherReply::CreatePermission(answer) => is_permitted(*answer, want),
+        GatherReply::CreatePermission(answer) => has_active_permission(*answer, want),
         GatherReply::SendTo(Ok(packet)) => is_packet(packet.payload.as_bytes().len(), want),
         GatherReply::SendTo(Err(refusal)) => is_refused(*refusal, want),
         GatherReply::Poll(_) => false,

@@ -273,7 +273,7 @@ fn drops_frames<C: TurnClientApi>(client: &mut C, end: End) -> bool {
 /// Whether the client has ended, and has reported what is active, and this stream is broken, if any is.
 fn has_ended<C: TurnClientApi>(client: &mut C, broken: Option<End>, was_told: bool) -> bool {
     let is_told = tells_permission(client, was_told);
-    let is_permitted = client.have_permission(TransportType::Tcp, PEER.ip());
+    let has_active_permission = client.have_permission(TransportType::Tcp, PEER.ip());
     let is_closed = matches!(client.poll(at(300)), Ok(TurnPollRet::Closed));
     let is_refused = matches!(
         client.create_permission(TransportType::Tcp, RELAYED.ip(), at(300)),
@@ -283,7 +283,7 @@ fn has_ended<C: TurnClientApi>(client: &mut C, broken: Option<End>, was_told: bo
         Some(end) => drops_frames(client, end),
         None => !drops_frames(client, End::Control),
     };
-    is_told == is_permitted && is_closed && is_refused && is_broken
+    is_told == has_active_permission && is_closed && is_refused && is_broken
 }
 
 /// Whether each step has the expected result, on a second try at the latest, or leaves a client that has ended.

@@ -37,7 +37,7 @@ impl GrantLedger {
         ensures state { (s : State) → on self.new s ≡ permission_answered ip is_granted now (on self.old s) }
         ensures room { SameRoomBut 0 3 self.old self.new }
     {
-        let Some(progress) = self.table.permission_for(ip) else {
+        let Some(progress) = self.table.permission_state(ip) else {
             return;
         };
         match progress {

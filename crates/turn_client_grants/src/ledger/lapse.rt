@@ -56,8 +56,8 @@ impl GrantLedger {
         ensures room { SameRoomBut 0 0 self.old self.new }
     {
         let purposes = self.given_up_purposes(&given);
-        let first = self.table.allocation_at(0);
-        let second = self.table.allocation_at(1);
+        let first = self.table.nth_allocation(0);
+        let second = self.table.nth_allocation(1);
         self.lapse_one(&first, &given, &purposes, now);
         self.lapse_one(&second, &given, &purposes, now);
     }

@@ -6,7 +6,7 @@ ghost use Rattle.turn_agent.specs.Agent.{same_address};
 ghost use Rattle.turn_client_api.specs.Addresses.{permitted_left, permitted_in_use, relayed_left, relayed_in_use};
 ghost use Rattle.turn_client_api.specs.Calls.{active_channel, bound_to, channels_to, free_number, is_in_progress, offer_origin, reserved_from};
 ghost use Rattle.turn_client_api.specs.Connections.{is_connected, is_indicated};
-ghost use Rattle.turn_client_api.specs.Grants.{allocation_of, allocations, channel_at, channel_peer, allocation_in, connection_in, first_in, is_channel_of, is_connect_to, is_for, is_of, is_of_family, is_listed, is_permitted, permission_progress, purposes_of};
+ghost use Rattle.turn_client_api.specs.Grants.{find_allocation, allocations, channel_at, channel_peer, as_allocation, as_connection, first_in, is_channel_of, is_connect_to, is_for, is_of, is_of_family, is_listed, has_active_permission, permission_progress, purposes_of};
 ghost use Rattle.turn_client_api.specs.Judgement.{is_bind_of};
 ghost use Rattle.turn_client_api.specs.Poll.{is_lapsed_channel, next_offer};
 ghost use Rattle.turn_client_api.specs.State.{State};
@@ -41,8 +41,8 @@ const FEW: usize = 8;
 
 impl GrantTable {
     /// The allocation of this family, whether or not it is expired.
-    pub fn allocation_of(&self, family: AddressFamily) -> Option<Relay>
-        ensures { (s : State) → result ≡ allocation_of family (with_table self.now s) }
+    pub fn find_allocation(&self, family: AddressFamily) -> Option<Relay>
+        ensures { (s : State) → result ≡ find_allocation family (with_table self.now s) }
     {
         match relay_of(&self.summary.first, family) {
             Some(relay) => Some(relay),
@@ -52,20 +52,20 @@ impl GrantTable {
 
     /// The allocation at this place, 0 or 1, in the order in which the server granted them. There are at
     /// most two, one of each address family.
-    pub fn allocation_at(&self, place: usize) -> Option<Relay>
-        ensures found { result ≡ slice_get (filter_map allocation_in self.now.grants) place }
-        ensures both { filter_map allocation_in self.now.grants ≡ both_of (filter_map allocation_in self.now.grants) }
+    pub fn nth_allocation(&self, place: usize) -> Option<Relay>
+        ensures found { result ≡ slice_get (filter_map as_allocation self.now.grants) place }
+        ensures both { filter_map as_allocation self.now.grants ≡ both_of (filter_map as_allocation self.now.grants) }
     {
         match place {
             0 => self.summary.first,
             1 => self.summary.second,
-            _ => reads::allocation_at(self.grants.as_slice(), place),
+            _ => reads::nth_allocation(self.grants.as_slice(), place),
         }
     }
 
     /// Whether an allocation that is not expired has this relayed address.
     pub fn has_relayed(&self, relayed: SocketAddr) -> bool
-        ensures { result ≡ list_any (λ a. same_address a.relayed relayed) (filter (λ a. not a.is_expired) (filter_map allocation_in self.now.grants)) }
+        ensures { result ≡ list_any (λ a. same_address a.relayed relayed) (filter (λ a. not a.is_expired) (filter_map as_allocation self.now.grants)) }
     {
         reads::has_relayed(self.grants.as_slice(), relayed)
     }
@@ -109,11 +109,11 @@ impl GrantTable {
     }
 
     /// The progress of the permission for this IP address.
-    pub fn permission_for(&self, ip: IpAddr) -> Option<Progress>
+    pub fn permission_state(&self, ip: IpAddr) -> Option<Progress>
         ensures { result ≡ first_among (permission_progress ip) self.now.grants }
     {
         if self.grants.len() <= FEW {
-            return reads::permission_for(self.grants.as_slice(), ip);
+            return reads::permission_state(self.grants.as_slice(), ip);
         }
         let key = Key::Ip(ip);
         match self.found.get(&key) {
@@ -123,10 +123,10 @@ impl GrantTable {
     }
 
     /// Whether this IP address is permitted: it has an active permission (RFC 8656, section 9).
-    pub fn is_permitted(&self, ip: IpAddr) -> bool
-        ensures { (s : State) → result ≡ is_permitted ip (with_table self.now s) }
+    pub fn has_active_permission(&self, ip: IpAddr) -> bool
+        ensures { (s : State) → result ≡ has_active_permission ip (with_table self.now s) }
     {
-        match self.permission_for(ip) {
+        match self.permission_state(ip) {
             Some(Progress::Active(_)) => true,
             Some(Progress::Pending | Progress::Reserved(_)) | None => false,
         }
@@ -217,14 +217,14 @@ impl GrantTable {
 
     /// The data connection from this local address.
     pub fn connection_at(&self, local: SocketAddr) -> Option<DataConnection>
-        ensures { result ≡ find (λ c. same_address c.local local) (filter_map connection_in self.now.grants) }
+        ensures { result ≡ find (λ c. same_address c.local local) (filter_map as_connection self.now.grants) }
     {
         connections::connection_at(self.grants.as_slice(), local)
     }
 
     /// The first data connection to the peer that is bound (RFC 6062, section 4.3).
     pub fn bound_connection(&self, peer: SocketAddr) -> Option<DataConnection>
-        ensures { result ≡ find (bound_to peer) (filter_map connection_in self.now.grants) }
+        ensures { result ≡ find (bound_to peer) (filter_map as_connection self.now.grants) }
     {
         connections::bound_connection(self.grants.as_slice(), peer)
     }

@@ -1,7 +1,7 @@
 //! The allocation in which a call requests something.
 
 ghost use Rattle.std.specs.Prelude.{◌≡◌};
-ghost use Rattle.turn_client_api.specs.Grants.{allocation_for, family_of_ip, with_expired};
+ghost use Rattle.turn_client_api.specs.Grants.{find_allocation_to, family_of_ip, with_expired};
 
 use crate::protocol::TurnClientProtocol;
 use std::net::IpAddr;
@@ -11,10 +11,10 @@ use turn_stun::transport::TransportType;
 
 impl TurnClientProtocol {
     /// The allocation that relays over this transport to this IP address, expired or not.
-    pub(crate) fn allocation_for(&self, transport: TransportType, ip: IpAddr) -> Option<Relay>
-        ensures { result ≡ allocation_for transport ip self.now }
+    pub(crate) fn find_allocation_to(&self, transport: TransportType, ip: IpAddr) -> Option<Relay>
+        ensures { result ≡ find_allocation_to transport ip self.now }
     {
-        self.ledger.allocation_for(transport, ip)
+        self.ledger.find_allocation_to(transport, ip)
     }
 
     /// Marks the allocation that relays to this IP address as expired, so that it is no longer used for

@@ -33,7 +33,7 @@ impl TurnClientProtocol {
         ensures step { BindsChannel result self.old self.new (bind_channel_step transport peer_addr now self.old) }
     {
         let ip = peer_addr.ip();
-        let Some(relay) = self.allocation_for(transport, ip) else {
+        let Some(relay) = self.find_allocation_to(transport, ip) else {
             return Err(BindChannelError::NoAllocation);
         };
         if relay.expiry <= now {
@@ -80,7 +80,7 @@ impl TurnClientProtocol {
     {
         let channel = Purpose::ForChannel(number, peer);
         let grant = Grant::Channel(number, peer, Progress::Pending);
-        if self.permission_for(peer.ip()).is_some() {
+        if self.permission_state(peer.ip()).is_some() {
             return self.ask(&channel, &Purposes::one(channel), &[grant], now);
         }
         let permission = Grant::Permission(peer.ip(), Progress::Pending);

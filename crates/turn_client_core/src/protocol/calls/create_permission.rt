@@ -28,7 +28,7 @@ impl TurnClientProtocol {
     ) -> Result<(), CreatePermissionError>
         ensures step { CreatesPermission result self.old self.new (create_permission_step transport peer_addr now self.old) }
     {
-        let Some(relay) = self.allocation_for(transport, peer_addr) else {
+        let Some(relay) = self.find_allocation_to(transport, peer_addr) else {
             return Err(CreatePermissionError::NoAllocation);
         };
         if relay.expiry <= now {
@@ -42,7 +42,7 @@ impl TurnClientProtocol {
     fn ask_permission(&mut self, ip: IpAddr, now: Instant) -> Result<(), CreatePermissionError>
         ensures step { CreatesPermission result self.old self.new (permission_step ip now self.old) }
     {
-        if self.permission_for(ip).is_some() {
+        if self.permission_state(ip).is_some() {
             return Err(CreatePermissionError::AlreadyExists);
         }
         if !self.is_allocated() {

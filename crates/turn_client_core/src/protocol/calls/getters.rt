@@ -3,9 +3,9 @@
 ghost use Rattle.std.specs.List.{list_any};
 ghost use Rattle.std.specs.Prelude.{◌≡◌, ◌&&◌, ◌||◌, false, filter_map, nat_le, nat_lt, slice_get, true, IfSome};
 ghost use Rattle.turn_client_api.specs.Addresses.{permitted_left, relayed_left};
-ghost use Rattle.turn_client_api.specs.Calls.{channels_to, free_number, has_permission, is_in_progress, is_number_taken, permissions_of, relayed_addresses_of, reserved_from};
+ghost use Rattle.turn_client_api.specs.Calls.{channels_to, free_number, can_send_to, is_in_progress, is_number_taken, permissions_of, relayed_addresses_of, reserved_from};
 ghost use Rattle.turn_client_api.specs.Connections.{is_connected, is_connecting};
-ghost use Rattle.turn_client_api.specs.Grants.{is_permitted, permission_for};
+ghost use Rattle.turn_client_api.specs.Grants.{has_active_permission, permission_state};
 
 use crate::protocol::TurnClientProtocol;
 use std::net::{IpAddr, SocketAddr};
@@ -59,25 +59,25 @@ impl TurnClientProtocol {
     /// Whether this peer IP address has an active permission. Expired allocations are skipped; the
     /// expiry of the permission is not checked.
     pub fn have_permission(&self, transport: TransportType, to: IpAddr) -> bool
-        ensures { result ≡ has_permission transport to self.now }
+        ensures { result ≡ can_send_to transport to self.now }
     {
-        self.ledger.has_permission(transport, to)
+        self.ledger.can_send_to(transport, to)
     }
 }
 
 impl TurnClientProtocol {
     /// The progress of the permission for this IP address, or none if there is no such permission.
-    pub(crate) fn permission_for(&self, ip: IpAddr) -> Option<Progress>
-        ensures { result ≡ permission_for ip self.now }
+    pub(crate) fn permission_state(&self, ip: IpAddr) -> Option<Progress>
+        ensures { result ≡ permission_state ip self.now }
     {
-        self.ledger.table().permission_for(ip)
+        self.ledger.table().permission_state(ip)
     }
 
     /// Whether this IP address has an active permission.
-    pub(crate) fn is_permitted(&self, ip: IpAddr) -> bool
-        ensures { result ≡ is_permitted ip self.now }
+    pub(crate) fn has_active_permission(&self, ip: IpAddr) -> bool
+        ensures { result ≡ has_active_permission ip self.now }
     {
-        match self.permission_for(ip) {
+        match self.permission_state(ip) {
             Some(progress) => matches!(progress, Progress::Active(_)),
             None => false,
         }

@@ -4,7 +4,7 @@ ghost use Rattle.std.specs.Prelude.{◌≡◌, ◌≤◌, ◌&&◌, Err, Ok, Som
 ghost use Rattle.turn_client_api.specs.Answers.{IsNoWay, IsSent};
 ghost use Rattle.turn_client_api.specs.Calls.{active_channel, as_indication, bound_to, on_channel, on_connection, send_to_step};
 ghost use Rattle.turn_client_api.specs.Delayed.{delayed_send_bytes};
-ghost use Rattle.turn_client_api.specs.Grants.{connection_in};
+ghost use Rattle.turn_client_api.specs.Grants.{as_connection};
 ghost use Rattle.turn_client_api.specs.Requests.{drawn, to_server};
 ghost use Rattle.turn_client_core.specs.Sent.{in_frame, number_by};
 ghost use Rattle.turn_stun.specs.declared.transport.TransportType.TheVariants.{Udp};
@@ -118,7 +118,7 @@ impl TurnClientProtocol {
         data: T,
     ) -> Result<Option<TransmitBuild<DelayedMessageOrChannelSend<T>>>, SendError>
         ensures named { IfErr result IsNoWay }
-        ensures answer { IsSent result (on_connection (find (bound_to to) (filter_map connection_in self.now.grants)) (T.items «data») self.now).0 }
+        ensures answer { IsSent result (on_connection (find (bound_to to) (filter_map as_connection self.now.grants)) (T.items «data») self.now).0 }
     {
         match self.bound_connection(to) {
             Some(connection) => Ok(Some(TransmitBuild::new(
@@ -133,7 +133,7 @@ impl TurnClientProtocol {
 
     /// The first data connection that is bound to the peer.
     fn bound_connection(&self, peer: SocketAddr) -> Option<DataConnection>
-        ensures { result ≡ find (bound_to peer) (filter_map connection_in self.now.grants) }
+        ensures { result ≡ find (bound_to peer) (filter_map as_connection self.now.grants) }
     {
         self.ledger.table().bound_connection(peer)
     }

@@ -27,7 +27,7 @@ impl TurnClientProtocol {
         ensures step { Connects result self.old self.new (tcp_connect_step peer_addr now self.old) }
     {
         let ip = peer_addr.ip();
-        let Some(relay) = self.allocation_for(TransportType::Tcp, ip) else {
+        let Some(relay) = self.find_allocation_to(TransportType::Tcp, ip) else {
             return Err(TcpConnectError::NoAllocation);
         };
         if relay.expiry <= now {
@@ -44,7 +44,7 @@ impl TurnClientProtocol {
         if !self.is_allocated() {
             return Err(TcpConnectError::NoAllocation);
         }
-        if !self.is_permitted(peer.ip()) {
+        if !self.has_active_permission(peer.ip()) {
             return Err(TcpConnectError::NoPermission);
         }
         if self.has_connection(peer) {

@@ -42,7 +42,7 @@ impl TurnClientProtocol {
         let Some(peer) = peer_in(message) else {
             return self.refuse_attempt(AttemptRefusal::BadRequest, id);
         };
-        let relay = self.allocation_for(TransportType::Tcp, peer.ip());
+        let relay = self.find_allocation_to(TransportType::Tcp, peer.ip());
         if relay.is_none() {
             return self.refuse_attempt(AttemptRefusal::BadRequest, id);
         }
@@ -84,10 +84,10 @@ impl TurnClientProtocol {
     fn is_heeded(&self, peer: SocketAddr) -> bool
         ensures { result ≡ is_heeded peer self.now }
     {
-        if self.allocation_for(TransportType::Tcp, peer.ip()).is_none() {
+        if self.find_allocation_to(TransportType::Tcp, peer.ip()).is_none() {
             return false;
         }
-        if !self.is_permitted(peer.ip()) {
+        if !self.has_active_permission(peer.ip()) {
             return false;
         }
         if self.is_connected(peer) {

@@ -2,7 +2,7 @@
 
 ghost use Rattle.std.specs.Prelude.{◌≡◌, ◌≤◌, ◌+◌, length};
 ghost use Rattle.std.specs.Net.Socket.{socket_ip};
-ghost use Rattle.turn_client_api.specs.Grants.{is_permitted};
+ghost use Rattle.turn_client_api.specs.Grants.{has_active_permission};
 ghost use Rattle.turn_client_api.specs.Payloads.{channel_sent, data_indicated};
 ghost use Rattle.turn_client_core.specs.Indication.{icmp_of_peer, if_permitted};
 ghost use Rattle.turn_client_core.specs.Told.{IsPart, outcome_in};
@@ -68,9 +68,9 @@ impl TurnClientProtocol {
     /// This result of an input from the peer, if the peer's IP address has an active permission, or
     /// else `Ignored`.
     fn if_permitted(&self, peer: SocketAddr, told: Told) -> Told
-        ensures { result ≡ if_permitted (is_permitted (socket_ip peer) self.now) told }
+        ensures { result ≡ if_permitted (has_active_permission (socket_ip peer) self.now) told }
     {
-        if self.is_permitted(peer.ip()) {
+        if self.has_active_permission(peer.ip()) {
             return told;
         }
         Told::Ignored

@@ -193,6 +193,6 @@ impl TurnClientProtocol {
     fn is_let_go(&self) -> bool
         ensures { result ≡ is_let_go self.now }
     {
-        self.phase == Phase::Allocated && self.ledger.table().allocation_at(0).is_none()
+        self.phase == Phase::Allocated && self.ledger.table().nth_allocation(0).is_none()
     }
 }

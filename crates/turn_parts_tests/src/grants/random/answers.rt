@@ -20,7 +20,7 @@ pub(crate) fn allocation(
     let relayed = address(draw.n % 8);
     let lifetime = u32::from(draw.m).saturating_mul(10);
     ledger.reserve(1, 0, 3)?;
-    if ledger.table().allocation_of(family_of(relayed)).is_some() {
+    if ledger.table().find_allocation(family_of(relayed)).is_some() {
         return Ok(());
     }
     let families = [AddressFamily::IPV4, AddressFamily::IPV6];

@@ -15,7 +15,7 @@ pub(crate) fn permission(
     let ip = address(draw.n % 8).ip();
     let request = id(draw.m);
     ledger.reserve(1, 2, 0)?;
-    if ledger.table().permission_for(ip).is_some() {
+    if ledger.table().permission_state(ip).is_some() {
         return Ok(());
     }
     if ledger.table().is_asked(request) {
@@ -70,7 +70,7 @@ pub(crate) fn channel_with_permission(
     if ledger.table().has_channel(peer) {
         return Ok(());
     }
-    if ledger.table().permission_for(ip).is_some() {
+    if ledger.table().permission_state(ip).is_some() {
         return Ok(());
     }
     if ledger.table().is_asked(request) {

@@ -36,10 +36,10 @@ fn allocations(rt: &impl Abort, ledger: &GrantLedger, plain: &Plain, draw: &Draw
         ledger.has_relayed(TRANSPORT, relayed),
         plain.has_relayed(n),
     );
-    same(rt, table.allocation_of(family(n)), plain.relay(n));
+    same(rt, table.find_allocation(family(n)), plain.relay(n));
     let first = plain.first_allocation().map(|row| row.relay());
-    same(rt, table.allocation_at(0), first);
-    let permission = table.permission_for(relayed.ip());
+    same(rt, table.nth_allocation(0), first);
+    let permission = table.permission_state(relayed.ip());
     same(rt, permission, plain.permission(n));
 }
 

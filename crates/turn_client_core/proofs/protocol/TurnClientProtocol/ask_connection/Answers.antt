@@ -3,7 +3,7 @@ use Rattle.std.specs.Net.Socket.{socket_ip}
 use Rattle.std.specs.Prelude.{◌||◌}
 use Rattle.turn_client_api.specs.Calls.{is_allocated}
 use Rattle.turn_client_api.specs.Connections.{is_connected, is_connecting}
-use Rattle.turn_client_api.specs.Grants.{is_permitted}
+use Rattle.turn_client_api.specs.Grants.{has_active_permission}
 use Rattle.turn_client_core.proofs.CallLemmas.{connected-is}
 use Rattle.turn_client_core.proofs.protocol.TurnClientProtocol.ask_connection.Goals as goal
 
@@ -12,7 +12,7 @@ returns-then-has_connection c =
     let s = c.args.self.now in
     let peer = c.args.peer in
     let allocated : is_allocated s.phase ≡ true = search rules in
-    let permitted : is_permitted (socket_ip peer) s ≡ true = search rules in
+    let permitted : has_active_permission (socket_ip peer) s ≡ true = search rules in
     let connected : (is_connected peer s || is_connecting peer s) ≡ true = search rules in
     let said = connected-is peer c.args.now s allocated permitted connected in
     record { step = (ap (λ p. p.0) (sym said), ap (λ p. p.1) (sym said)) }

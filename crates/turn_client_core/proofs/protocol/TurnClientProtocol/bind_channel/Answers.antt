@@ -2,7 +2,7 @@ use Rattle.std.proofs.Common.{◌≡◌, ◌∙◌, rules, true, Some, ap, sym}
 use Rattle.std.specs.Net.Socket.{socket_ip}
 use Rattle.std.specs.Prelude.{nat_le}
 use Rattle.turn_client_api.specs.Calls.{channel_step}
-use Rattle.turn_client_api.specs.Grants.{allocation_for, with_expired, family_of_ip}
+use Rattle.turn_client_api.specs.Grants.{find_allocation_to, with_expired, family_of_ip}
 use Rattle.turn_client_api.specs.declared.error.BindChannelError.TheVariants as Refusal
 use Rattle.turn_client_core.proofs.CallLemmas.{past-is}
 use Rattle.turn_client_core.proofs.protocol.TurnClientProtocol.bind_channel.Goals as goal
@@ -11,8 +11,8 @@ pub returns-then-le : goal.returns-then-le
 returns-then-le c =
     let s = c.args.self.now in
     let peer = c.args.peer_addr in
-    let found : allocation_for c.args.transport (socket_ip peer) s ≡ Some c.in-Some.relay = search rules in
+    let found : find_allocation_to c.args.transport (socket_ip peer) s ≡ Some c.in-Some.relay = search rules in
     let past : nat_le c.in-Some.relay.expiry c.args.now ≡ true = search rules in
     let expired : c.expire.new.self ≡ with_expired (family_of_ip (socket_ip peer)) s = search rules in
-    let said = past-is (allocation_for c.args.transport (socket_ip peer) s) c.in-Some.relay (socket_ip peer) c.args.now Refusal.NoAllocation s (channel_step peer c.args.now s) found past in
+    let said = past-is (find_allocation_to c.args.transport (socket_ip peer) s) c.in-Some.relay (socket_ip peer) c.args.now Refusal.NoAllocation s (channel_step peer c.args.now s) found past in
     record { step = (ap (λ p. p.0) (sym said), expired ∙ ap (λ p. p.1) (sym said)) }

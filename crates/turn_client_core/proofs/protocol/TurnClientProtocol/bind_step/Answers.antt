@@ -1,10 +1,10 @@
 use Rattle.std.proofs.Common.{◌∙◌, sym}
 use Rattle.std.specs.Prelude.{filter_map}
-use Rattle.turn_client_api.specs.Grants.{connection_in}
+use Rattle.turn_client_api.specs.Grants.{as_connection}
 use Rattle.turn_client_grants.proofs.ThereLemmas.{own-end}
 use Rattle.turn_client_core.proofs.protocol.TurnClientProtocol.bind_step.Goals as goal
 
 pub bind_answered-requires : goal.bind_answered-requires
 bind_answered-requires c = record {
-  there = own-end c.args.local (filter_map connection_in c.args.self.now.grants) c.in-Some.connection (sym c.connection_at.ensures ∙ c.in-Some.is);
+  there = own-end c.args.local (filter_map as_connection c.args.self.now.grants) c.in-Some.connection (sym c.connection_at.ensures ∙ c.in-Some.is);
 }

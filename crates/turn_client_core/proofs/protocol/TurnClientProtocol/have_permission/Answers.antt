@@ -2,4 +2,4 @@ use Rattle.turn_client_core.specs.contracts.protocol.TurnClientProtocol.{the_vie
 use Rattle.turn_client_core.proofs.protocol.TurnClientProtocol.have_permission.Goals as goal
 
 pub returns : goal.returns
-returns c = rw (← c.self.view_is) (c.has_permission.ensures (the_view c.self.inside))
+returns c = rw (← c.self.view_is) (c.can_send_to.ensures (the_view c.self.inside))

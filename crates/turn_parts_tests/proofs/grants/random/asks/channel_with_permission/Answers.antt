@@ -13,7 +13,7 @@ ask-requires-clause-new c =
     let unbound : list_any is_in_progress (filter_map (progress_to peer) c.reserve.new.self.grants) ≡ false =
     rw c.table.ensures.grants at (sym (c.has_channel.ensures (someone peer)) ∙ c.if-has_channel.false) in
     let none : first_among (permission_progress c.ip-ip.result) c.reserve.new.self.grants ≡ None =
-    rw c.table-2.ensures.grants at (sym c.permission_for.ensures ∙ absent c.permission_for.result (sym c.is_some.ensures ∙ c.if-is_some.false)) in
+    rw c.table-2.ensures.grants at (sym c.permission_state.ensures ∙ absent c.permission_state.result (sym c.is_some.ensures ∙ c.if-is_some.false)) in
     let free : list_any (is_channel_of c.in-Some.number) c.reserve.new.self.grants ≡ false =
     rw (c.in-Some.is, c.table-4.ensures.grants) at c.free_number.ensures.free in
     rw (free, unbound, none) refl
