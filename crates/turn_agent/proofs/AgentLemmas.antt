@@ -14,7 +14,7 @@ use Rattle.turn_stun.specs.declared.transport.Transmit.{Transmit}
 use Rattle.turn_stun.specs.Message.{type_of, id_of}
 use Rattle.turn_stun.specs.MessageType.{class_of, IsResponse}
 use Rattle.turn_agent.specs.Schedule.{Timers, resends_of}
-use Rattle.turn_agent.specs.Agent.{Agent, AreDistinct, sent_again, answers, same_address, is_outstanding, is_response, handle_step, agent_poll_step, agent_transmit_step, due, timed_out_transaction, is_due, is_given_up, next_moment, earliest, transaction_removed, IsSilentAt, IsSoonest, IsQuietUntil}
+use Rattle.turn_agent.specs.Agent.{Agent, AreDistinct, sent_again, answers, same_address, is_outstanding, is_response, handle_step, agent_poll_step, agent_transmit_step, due, timed_out_transaction, is_due, is_timed_out, transaction_timeout, earliest, transaction_removed, IsSilentAt, IsSoonest, IsQuietUntil}
 use Rattle.turn_agent.specs.declared.agent.StunAgentPollRet.{StunAgentPollRet}
 use Rattle.turn_agent.specs.declared.agent.StunAgentPollRet.TheVariants.{TransactionTimedOut, WaitUntil}
 use Rattle.turn_agent.specs.declared.transaction.Transaction.{Transaction}
@@ -139,11 +139,11 @@ handle_step-ended a message from i t is at taken =
 
 -- those before the place were passed: none of them times out, and `least` takes them into account
 pub record IsScanned (timers : Timers) (transport : TransportType) (now : ℕ) (ts : List Transaction) (i least : ℕ) : Type 0 where
-  pub none : find (is_given_up timers transport now) (drop i ts) ≡ find (is_given_up timers transport now) ts
-  pub rest : fold min least (map (next_moment timers transport) (drop i ts)) ≡ fold min (2 ^ 63 - 1) (map (next_moment timers transport) ts)
+  pub none : find (is_timed_out timers transport now) (drop i ts) ≡ find (is_timed_out timers transport now) ts
+  pub rest : fold min least (map (transaction_timeout timers transport) (drop i ts)) ≡ fold min (2 ^ 63 - 1) (map (transaction_timeout timers transport) ts)
 
 -- the one at the place is the first that times out
-pub IsScanned-found : (timers : Timers) (transport : TransportType) (now : ℕ) (ts : List Transaction) (i least : ℕ) (d : Transaction) → IsScanned timers transport now ts i least → i < length ts → is_given_up timers transport now (get_or ts i d) ≡ true → find (is_given_up timers transport now) ts ≡ slice_get ts i
+pub IsScanned-found : (timers : Timers) (transport : TransportType) (now : ℕ) (ts : List Transaction) (i least : ℕ) (d : Transaction) → IsScanned timers transport now ts i least → i < length ts → is_timed_out timers transport now (get_or ts i d) ≡ true → find (is_timed_out timers transport now) ts ≡ slice_get ts i
 IsScanned-found timers transport now ts i least d is within over =
     let front : drop i ts ≡ get_or ts i d ∷ drop (i + 1) ts = rw add-one (drop-cons ts i d within) in
     let none = rw front at is.none in
@@ -167,31 +167,31 @@ find-before next p moment waits start (t ∷ ts) before =
     let here = waits t (omega (arith, before, fold_min-le (min start (next t)) (map next ts), min-le_right start (next t))) in
     rw here (find-before next p moment waits (min start (next t)) ts before)
 
-pub IsSilentAt-before : (a : Agent) (moment : ℕ) → moment < fold min (2 ^ 63 - 1) (map (next_moment a.timers a.transport) a.transactions) → IsSilentAt a moment
+pub IsSilentAt-before : (a : Agent) (moment : ℕ) → moment < fold min (2 ^ 63 - 1) (map (transaction_timeout a.timers a.transport) a.transactions) → IsSilentAt a moment
 IsSilentAt-before a moment before =
-    let next = next_moment a.timers a.transport in
+    let next = transaction_timeout a.timers a.transport in
     let none_due = find-before next (is_due a.timers a.transport moment) moment (λ t later. and_right _ _ (lt-leb (next t) moment later)) (2 ^ 63 - 1) a.transactions before in
-    let none_over = find-before next (is_given_up a.timers a.transport moment) moment (λ t later. and_right _ _ (lt-leb (next t) moment later)) (2 ^ 63 - 1) a.transactions before in
+    let none_over = find-before next (is_timed_out a.timers a.transport moment) moment (λ t later. and_right _ _ (lt-leb (next t) moment later)) (2 ^ 63 - 1) a.transactions before in
     record { sends_nothing = rw none_due refl; gives_nothing_up = none_over }
 
 -- what is neither due nor timed out waits further
-waits_on : (timers : Timers) (transport : TransportType) (now : ℕ) (t : Transaction) → is_due timers transport now t ≡ false → is_given_up timers transport now t ≡ false → now < next_moment timers transport t
-waits_on timers transport now t not_due not_over = by (leb (next_moment timers transport t) now) refl
+waits_on : (timers : Timers) (transport : TransportType) (now : ℕ) (t : Transaction) → is_due timers transport now t ≡ false → is_timed_out timers transport now t ≡ false → now < transaction_timeout timers transport t
+waits_on timers transport now t not_due not_over = by (leb (transaction_timeout timers transport t) now) refl
   where
-    by : (b : Bool) → leb (next_moment timers transport t) now ≡ b → now < next_moment timers transport t
-    by false later = leb-false (next_moment timers transport t) now later
+    by : (b : Bool) → leb (transaction_timeout timers transport t) now ≡ b → now < transaction_timeout timers transport t
+    by false later = leb-false (transaction_timeout timers transport t) now later
     by true past =
         let more : ltb t.resends (resends_of timers transport) ≡ false = and_false_left _ _ past not_due in
         let last : leb (resends_of timers transport) t.resends ≡ false = and_false_left _ _ past not_over in
         absurd (omega (arith, ltb-false _ _ more, leb-false _ _ last))
 
 -- if a wait is over and nothing times out, a request is due
-pub some_due : (timers : Timers) (transport : TransportType) (now start : ℕ) (ts : List Transaction) → find (is_given_up timers transport now) ts ≡ None → now < start → fold min start (map (next_moment timers transport) ts) ≤ now → IsSome (find (is_due timers transport now) ts)
+pub some_due : (timers : Timers) (transport : TransportType) (now start : ℕ) (ts : List Transaction) → find (is_timed_out timers transport now) ts ≡ None → now < start → fold min start (map (transaction_timeout timers transport) ts) ≤ now → IsSome (find (is_due timers transport now) ts)
 some_due timers transport now start [] none below past = absurd (omega arith)
 some_due timers transport now start (t ∷ ts) none below past =
-    by (some_due timers transport now (min start (next_moment timers transport t)) ts) (is_given_up timers transport now t) refl (is_due timers transport now t) refl
+    by (some_due timers transport now (min start (transaction_timeout timers transport t)) ts) (is_timed_out timers transport now t) refl (is_due timers transport now t) refl
   where
-    by : (find (is_given_up timers transport now) ts ≡ None → now < min start (next_moment timers transport t) → fold min (min start (next_moment timers transport t)) (map (next_moment timers transport) ts) ≤ now → IsSome (find (is_due timers transport now) ts)) → (over : Bool) → is_given_up timers transport now t ≡ over → (is : Bool) → is_due timers transport now t ≡ is → IsSome (find (is_due timers transport now) (t ∷ ts))
+    by : (find (is_timed_out timers transport now) ts ≡ None → now < min start (transaction_timeout timers transport t) → fold min (min start (transaction_timeout timers transport t)) (map (transaction_timeout timers transport) ts) ≤ now → IsSome (find (is_due timers transport now) ts)) → (over : Bool) → is_timed_out timers transport now t ≡ over → (is : Bool) → is_due timers transport now t ≡ is → IsSome (find (is_due timers transport now) (t ∷ ts))
     by later true over b is = absurd (none-some t (sym (rw over at none)))
     by later false over true is = rw is refl
     by later false over false is =
@@ -217,7 +217,7 @@ pub is_due-counted : (timers : Timers) (transport : TransportType) (now : ℕ) (
 is_due-counted timers transport now ts i d at =
     let first = position-IsFirst (is_due timers transport now) ts i at in
     let passes = find-passes (is_due timers transport now) ts (get_or ts i d) (first.found d) in
-    ltb-true (get_or ts i d).resends (resends_of timers transport) (and_parts (ltb (get_or ts i d).resends (resends_of timers transport)) (leb (next_moment timers transport (get_or ts i d)) now) passes).0
+    ltb-true (get_or ts i d).resends (resends_of timers transport) (and_parts (ltb (get_or ts i d).resends (resends_of timers transport)) (leb (transaction_timeout timers transport (get_or ts i d)) now) passes).0
 
 -- ---- the time that is kept
 
@@ -233,7 +233,7 @@ poll_step-quiet a now soonest quiet =
 
 pub due-quiet : (a : Agent) (now soonest : ℕ) → IsQuietUntil a now soonest → due a now ≡ None
 due-quiet a now soonest quiet =
-    let next = next_moment a.timers a.transport in
+    let next = transaction_timeout a.timers a.transport in
     find-before next (is_due a.timers a.transport now) now (λ t later. and_right _ _ (lt-leb (next t) now later)) (2 ^ 63 - 1) a.transactions (rw (← quiet.1.1) quiet.0)
 
 min_assoc : (a b c : ℕ) → min (min a b) c ≡ min a (min b c)
@@ -247,4 +247,4 @@ fold_min-min a b (m ∷ moments) = rw (min_assoc a b m) (fold_min-min a (min b m
 pub earliest-known : (a : Agent) (moment soonest : ℕ) → IsSoonest a.timers a.transport a.transactions (Some soonest) → moment < 2 ^ 63 → min moment soonest ≡ earliest a moment
 earliest-known a moment soonest known range =
     let start : min moment (2 ^ 63 - 1) ≡ moment = min-eq_left (omega (arith, range)) in
-    rw known.1 (sym (fold_min-min moment (2 ^ 63 - 1) (map (next_moment a.timers a.transport) a.transactions)) ∙ rw start refl)
+    rw known.1 (sym (fold_min-min moment (2 ^ 63 - 1) (map (transaction_timeout a.timers a.transport) a.transactions)) ∙ rw start refl)

@@ -7,7 +7,7 @@ use Rattle.std.proofs.lemmas.Bool.{or_parts, ltb-true, lt-ltb, and_right, lt-leb
 use Rattle.std.proofs.lemmas.List.{length-append, length-set, take-append-le, take-set-le}
 use Rattle.std.proofs.lemmas.List.Folds.{list_any_more}
 use Rattle.turn_stun.specs.declared.transport.TransportType.{TransportType}
-use Rattle.turn_agent.specs.Agent.{is_due, next_moment}
+use Rattle.turn_agent.specs.Agent.{is_due, transaction_timeout}
 use Rattle.turn_agent.specs.Front.{IsFront, front_at, no_front}
 use Rattle.turn_agent.specs.Schedule.{Timers, resends_of}
 use Rattle.turn_agent.specs.declared.front.Front.{Front}
@@ -65,9 +65,9 @@ IsPassed-last timers transport now ts place until d is within last =
     IsPassed-more timers transport now ts place until until d is within (omega arith) (λ m before. rw last refl) (rw last refl)
 
 -- one that waits
-pub IsPassed-waiting : (timers : Timers) (transport : TransportType) (now : ℕ) (ts : List Transaction) (place until : ℕ) (d : Transaction) → IsPassed timers transport now ts place until → place < length ts → now < next_moment timers transport (get_or ts place d) → IsPassed timers transport now ts (place + 1) (min until (next_moment timers transport (get_or ts place d)))
+pub IsPassed-waiting : (timers : Timers) (transport : TransportType) (now : ℕ) (ts : List Transaction) (place until : ℕ) (d : Transaction) → IsPassed timers transport now ts place until → place < length ts → now < transaction_timeout timers transport (get_or ts place d) → IsPassed timers transport now ts (place + 1) (min until (transaction_timeout timers transport (get_or ts place d)))
 IsPassed-waiting timers transport now ts place until d is within later =
-    let next = next_moment timers transport (get_or ts place d) in
+    let next = transaction_timeout timers transport (get_or ts place d) in
     IsPassed-more timers transport now ts place until (min until next) d is within (min-le_left until next)
     (λ m before. and_right _ _ (lt-leb next m (omega (arith, before, min-le_right until next))))
     (and_right _ _ (lt-leb next now later))

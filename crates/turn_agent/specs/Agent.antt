@@ -36,18 +36,18 @@ abbrev pub sent_again : ℕ → Transaction → Transaction
 sent_again now t = record t { resends = t.resends + 1; last_send = now }
 
 -- when the wait after its last send is over; the greatest time is 2^63 - 1
-abbrev pub next_moment : Timers → TransportType → Transaction → ℕ
-next_moment timers transport t = min (t.last_send + wait_at timers transport t.resends) (2 ^ 63 - 1)
+abbrev pub transaction_timeout : Timers → TransportType → Transaction → ℕ
+transaction_timeout timers transport t = min (t.last_send + wait_at timers transport t.resends) (2 ^ 63 - 1)
 
 -- that wait is over, and the request is to be retransmitted
 abbrev pub is_due : Timers → TransportType → ℕ → Transaction → Bool
 is_due timers transport now t =
-    nat_lt t.resends (resends_of timers transport) && nat_le (next_moment timers transport t) now
+    nat_lt t.resends (resends_of timers transport) && nat_le (transaction_timeout timers transport t) now
 
 -- that wait is over, and it was the last one
-abbrev pub is_given_up : Timers → TransportType → ℕ → Transaction → Bool
-is_given_up timers transport now t =
-    nat_le (resends_of timers transport) t.resends && nat_le (next_moment timers transport t) now
+abbrev pub is_timed_out : Timers → TransportType → ℕ → Transaction → Bool
+is_timed_out timers transport now t =
+    nat_le (resends_of timers transport) t.resends && nat_le (transaction_timeout timers transport t) now
 
 -- whether a request with this ID awaits its response
 abbrev pub is_outstanding : ℕ → List Transaction → Bool
@@ -89,18 +89,18 @@ due a now = find (is_due a.timers a.transport now) a.transactions
 
 -- the transaction that times out next: the oldest one whose last wait is over
 abbrev pub timed_out_transaction : Agent → ℕ → Option Transaction
-timed_out_transaction a now = find (is_given_up a.timers a.transport now) a.transactions
+timed_out_transaction a now = find (is_timed_out a.timers a.transport now) a.transactions
 
 -- the earliest time at which a wait is over, or 9999 s from now if nothing is outstanding (our
 -- choice)
 abbrev pub next_timeout : Agent → ℕ → ℕ
 next_timeout a now =
     if length a.transactions == 0 then min (now + 9_999_000_000_000) (2 ^ 63 - 1)
-    else fold min (2 ^ 63 - 1) (map (next_moment a.timers a.transport) a.transactions)
+    else fold min (2 ^ 63 - 1) (map (transaction_timeout a.timers a.transport) a.transactions)
 
 -- the earlier of this time and the earliest time at which a wait is over
 abbrev pub earliest : Agent → ℕ → ℕ
-earliest a moment = fold min moment (map (next_moment a.timers a.transport) a.transactions)
+earliest a moment = fold min moment (map (transaction_timeout a.timers a.transport) a.transactions)
 
 -- the agent without the transaction with this ID
 abbrev pub transaction_removed : ℕ → Agent → Agent
@@ -179,10 +179,10 @@ IsEnded (TransactionTimedOut id) a = is_outstanding id a.transactions ≡ false
 -- which a wait is over
 abbrev pub IsProgress : Timers → TransportType → ℕ → List Transaction → Progress → Type 0
 IsProgress timers transport now ts (Over place) =
-    (place < length ts) × (find (is_given_up timers transport now) ts ≡ slice_get ts place)
+    (place < length ts) × (find (is_timed_out timers transport now) ts ≡ slice_get ts place)
 IsProgress timers transport now ts (Waiting moment) =
-    (find (is_given_up timers transport now) ts ≡ None) × (0 < length ts)
-    × (moment ≡ fold min (2 ^ 63 - 1) (map (next_moment timers transport) ts))
+    (find (is_timed_out timers transport now) ts ≡ None) × (0 < length ts)
+    × (moment ≡ fold min (2 ^ 63 - 1) (map (transaction_timeout timers transport) ts))
 IsProgress timers transport now ts Idle = ts ≡ []
 
 -- ---- the time that is kept
@@ -191,7 +191,7 @@ IsProgress timers transport now ts Idle = ts ≡ []
 abbrev pub IsSoonest : Timers → TransportType → List Transaction → Option ℕ → Type 0
 IsSoonest timers transport ts None = Unit {0}
 IsSoonest timers transport ts (Some moment) =
-    (0 < length ts) × (moment ≡ fold min (2 ^ 63 - 1) (map (next_moment timers transport) ts))
+    (0 < length ts) × (moment ≡ fold min (2 ^ 63 - 1) (map (transaction_timeout timers transport) ts))
 
 -- it is that time, and in the future
 abbrev pub IsQuietUntil : Agent → ℕ → ℕ → Type 0

@@ -74,7 +74,7 @@ pub(crate) fn first_due(
     for place in start.count..transactions.len() {
         let transaction = &transactions[place];
         if transaction.resends < resends {
-            let next = transaction.next_moment(schedule);
+            let next = transaction.transaction_timeout(schedule);
             if next <= now {
                 let count = place;
                 return (Some(place), Front { count, until });

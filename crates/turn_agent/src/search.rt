@@ -2,7 +2,7 @@
 
 ghost use Rattle.std.specs.Prelude.{◌≡◌, ◌==◌, fold, map, min};
 ghost use Rattle.std.specs.List.{position};
-ghost use Rattle.turn_agent.specs.Agent.{answers, is_outstanding, next_moment, IsProgress, IsSoonest};
+ghost use Rattle.turn_agent.specs.Agent.{answers, is_outstanding, transaction_timeout, IsProgress, IsSoonest};
 
 use crate::schedule::Schedule;
 use crate::transaction::Transaction;
@@ -61,7 +61,7 @@ pub(crate) fn progress_of(
     let resends = schedule.resends();
     let mut least = Instant::from_nanos(u64::MAX);
     for (place, transaction) in transactions.iter().enumerate() {
-        let next = transaction.next_moment(schedule);
+        let next = transaction.transaction_timeout(schedule);
         if next <= now && resends <= transaction.resends {
             return Progress::Over(place);
         }
@@ -76,11 +76,11 @@ pub(crate) fn least_with(
     transactions: &[Transaction],
     schedule: &Schedule,
 ) -> Instant
-    ensures { result ≡ fold min moment (map (next_moment schedule.now.timers schedule.now.transport) transactions.now) }
+    ensures { result ≡ fold min moment (map (transaction_timeout schedule.now.timers schedule.now.transport) transactions.now) }
 {
     let mut least = moment;
     for transaction in transactions {
-        least = least.min(transaction.next_moment(schedule));
+        least = least.min(transaction.transaction_timeout(schedule));
     }
     least
 }

@@ -1,7 +1,7 @@
 //! Requests that await their responses.
 
 ghost use Rattle.std.specs.Prelude.{◌≡◌, ◌+◌, ◌^◌, ◌<◌, IfOk, OnErr};
-ghost use Rattle.turn_agent.specs.Agent.{next_moment, sent_again};
+ghost use Rattle.turn_agent.specs.Agent.{transaction_timeout, sent_again};
 
 use crate::schedule::Schedule;
 use std::alloc::{AllocError, Global};
@@ -29,8 +29,8 @@ pub struct Transaction {
 
 impl Transaction {
     /// When the request is retransmitted or times out.
-    pub(crate) fn next_moment(&self, schedule: &Schedule) -> Instant
-        ensures { result ≡ next_moment schedule.now.timers schedule.now.transport self.now }
+    pub(crate) fn transaction_timeout(&self, schedule: &Schedule) -> Instant
+        ensures { result ≡ transaction_timeout schedule.now.timers schedule.now.transport self.now }
     {
         schedule.end_of_wait(self.last_send, self.resends)
     }

@@ -15,9 +15,9 @@ use Rattle.turn_client_api.specs.Grants.{find_allocation_to, channel_at, first_i
 use Rattle.turn_client_api.specs.Requests.{connection_attempt_method, fresh_id}
 use Rattle.turn_client_api.specs.Judgement.{Judgement, Unrelated, Challenged, Fatal, LateResponse, DataIndication, ConnectionAttempt, SignedRequest, SignedSuccess, SignedError, judgement_of, connection_id_in}
 use Rattle.turn_client_api.specs.Judgement.{lifetime_in, method_in, peer_in}
-use Rattle.turn_client_api.specs.Effect.{allocate_denied, allocate_granted, allocation_mismatch, channel_answered, connect_answered, effect, ended, family_not_supported, has_code, least_lifetime}
+use Rattle.turn_client_api.specs.Effect.{allocate_denied, allocate_granted, allocation_mismatch, channel_answered, connect_answered, effect, ended, family_not_supported, has_code, min_lifetime}
 use Rattle.turn_client_api.specs.Effect.{permission_answered, permission_answered_for, listed_permissions_answered, prolonged, refreshed}
-use Rattle.turn_client_api.specs.Retry.{most_challenges, retried}
+use Rattle.turn_client_api.specs.Retry.{max_challenges, retried}
 use Rattle.turn_client_api.specs.Connections.{attempt_indicated, attempt_requested, is_connected, is_heeded}
 use Rattle.turn_client_api.specs.Payloads.{Outcome, Handled, Ignored, answered_purposes, challenge_step, message_step, response_step, signed_step, wrong_step}
 
@@ -89,7 +89,7 @@ module _ (x : List Stream) where
     where
       by : (o : Option ℕ) → option_map_or (λ granted. prolonged family granted now (with_streams x s)) o (with_streams x s) ≡ with_streams x (option_map_or (λ granted. prolonged family granted now s) o s)
       by None = refl
-      by (Some granted) = alike-cond (leb least_lifetime granted) _ _ _ _ refl refl
+      by (Some granted) = alike-cond (leb min_lifetime granted) _ _ _ _ refl refl
 
   effect-alike : (id : ℕ) (is_granted : Bool) (message : List ℕ) (now : ℕ) (s : State) (p : Purpose) → effect id is_granted message now (with_streams x s) p ≡ with_streams x (effect id is_granted message now s p)
   effect-alike id is_granted message now s (ForRefresh family lifetime) = refreshed-alike family lifetime is_granted message now s
@@ -102,9 +102,9 @@ module _ (x : List Stream) where
   -- ---- over the control connection
 
   challenge-alike : (message : List ℕ) (d : Challenge) (now : ℕ) (s : State) → challenge_step message d now (with_streams x s) ≡ both_with x (challenge_step message d now s)
-  challenge-alike message d now s = by (ltb s.challenges most_challenges) refl (retried (purposes_of (id_of message) s)) refl
+  challenge-alike message d now s = by (ltb s.challenges max_challenges) refl (retried (purposes_of (id_of message) s)) refl
     where
-      by : (b : Bool) → ltb s.challenges most_challenges ≡ b → (o : Option Purpose) → retried (purposes_of (id_of message) s) ≡ o → challenge_step message d now (with_streams x s) ≡ both_with x (challenge_step message d now s)
+      by : (b : Bool) → ltb s.challenges max_challenges ≡ b → (o : Option Purpose) → retried (purposes_of (id_of message) s) ≡ o → challenge_step message d now (with_streams x s) ≡ both_with x (challenge_step message d now s)
       by false e o f = rw e refl
       by true e None f = rw (e, f) refl
       by true e (Some purpose) f = rw (e, f) refl

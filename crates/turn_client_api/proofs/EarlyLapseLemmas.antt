@@ -9,8 +9,8 @@ use Rattle.std.proofs.lemmas.Bool.{leb-true, ltb-true, false_from_ne_true}
 use Rattle.turn_types.specs.declared.family.AddressFamily.{AddressFamily}
 use Rattle.turn_client_api.specs.State.{State, Grant, Allocation, Permission, Channel, Connect, Offer, Connection, DataConnection, Relay, Pending, Active, Reserved, Purpose}
 use Rattle.turn_client_api.specs.Grants.{as_allocation, allocations, as_connection, failures_among, family_of, has_request, in_sequence, is_connect, is_for, is_of, is_past, is_pending_channel, is_pending_permission, failure_of, unlisted, without}
-use Rattle.turn_client_api.specs.Poll.{connections_unbound, failed, goes, in_vain, is_lapsed_channel, is_lapsed_permission, is_over, is_unbound, lapsed, lapsed_allocation, lapsed_in, last_channel_lapsed, offers_in_vain, permissions_lapsed, refreshes_in_vain, set_free, unbound}
-use Rattle.turn_client_api.specs.LawsBodies.{lapse_of, lapse_moments}
+use Rattle.turn_client_api.specs.Poll.{connections_unbound, failed, allocation_expires, failed_by_timeout, is_lapsed_channel, is_lapsed_permission, is_over, is_unbound, lapsed, lapsed_allocation, lapsed_in, last_channel_lapsed, offers_timed_out, permissions_lapsed, refreshes_timed_out, set_free, unbound}
+use Rattle.turn_client_api.specs.LawsBodies.{lapse_of, expiry_times}
 use Rattle.turn_client_api.specs.declared.event.TurnEvent.{TurnEvent}
 use Rattle.turn_client_api.proofs.HasLemmas.{Has, filter-none, filter_map-has, find-none, has-all, has-filter_map}
 use Rattle.turn_client_api.proofs.LapseLemmas.{has-unreversed}
@@ -140,14 +140,14 @@ stays-by past true true early = and_then-false past false refl
 stays-by past true false early = rw (early refl) refl
 stays-by past false asked early = rw (early refl) refl
 
-early-stays : (now : ℕ) (s : State) (a : Relay) → IsEarly now s (Allocation a) → goes [] now s a ≡ false
+early-stays : (now : ℕ) (s : State) (a : Relay) → IsEarly now s (Allocation a) → allocation_expires [] now s a ≡ false
 early-stays now s a early =
     stays-by (is_past now a) a.is_expired (has_request (Allocation a) s)
     (λ e. late-le a.expiry now (early a.expiry (lapse-else (a.is_expired && has_request (Allocation a) s) a.expiry e)))
 
 -- ---- nothing timed out
 
-vain-none : (family : AddressFamily) (which : Grant → Bool) (s : State) → in_vain family [] which s ≡ s
+vain-none : (family : AddressFamily) (which : Grant → Bool) (s : State) → failed_by_timeout family [] which s ≡ s
 vain-none family which s = failed-none _ s (λ g h. and-false (is_of family g) (which g))
 
 module _ (now : ℕ) (s : State) (early : (g : Grant) → Has g s.grants → IsEarly now s g) (family : AddressFamily) where
@@ -158,14 +158,14 @@ module _ (now : ℕ) (s : State) (early : (g : Grant) → Has g s.grants → IsE
 
   abbrev steps : List (State → State)
   steps =
-      in_vain family [] is_pending_channel
-      ∷ in_vain family [] is_pending_permission
+      failed_by_timeout family [] is_pending_channel
+      ∷ failed_by_timeout family [] is_pending_permission
       ∷ last_channel_lapsed family now
       ∷ permissions_lapsed family now
-      ∷ in_vain family [] is_connect
+      ∷ failed_by_timeout family [] is_connect
       ∷ connections_unbound family [] now
-      ∷ offers_in_vain family None
-      ∷ refreshes_in_vain family []
+      ∷ offers_timed_out family None
+      ∷ refreshes_timed_out family []
       ∷ set_free family now
       ∷ []
 
@@ -196,11 +196,11 @@ module _ (now : ℕ) (s : State) (early : (g : Grant) → Has g s.grants → IsE
     ),
   )
 
-pub lapsed-none : (now : ℕ) (s : State) → All (λ moment. now < moment) (lapse_moments s) → lapsed None now s ≡ s
+pub lapsed-none : (now : ℕ) (s : State) → All (λ moment. now < moment) (expiry_times s) → lapsed None now s ≡ s
 lapsed-none now s all = fold-rest (lapsed_allocation None [] now) (allocations s) s by
   where
     early : (g : Grant) → Has g s.grants → IsEarly now s g
-    early g h moment e = has-all (λ m. now < m) moment (lapse_moments s) all (filter_map-has (lapse_of s) g moment s.grants h e)
+    early g h moment e = has-all (λ m. now < m) moment (expiry_times s) all (filter_map-has (lapse_of s) g moment s.grants h e)
 
     is-allocation : (g : Grant) (a : Relay) → as_allocation g ≡ Some a → IsEarly now s g → IsEarly now s (Allocation a)
     is-allocation (Allocation b) a e is = rw (← same_Some b a e) is

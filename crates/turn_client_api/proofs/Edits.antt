@@ -14,9 +14,9 @@ use Rattle.turn_client_api.specs.Grants.{family_of, family_of_ip, is_channel_of,
 use Rattle.turn_client_api.specs.Requests.{asked, first_allocate, request_for}
 use Rattle.turn_client_api.specs.Judgement.{challenge_in}
 use Rattle.turn_client_api.specs.Effect.{challenges_reset, ended, new_allocation, phase_with, relayed_in, taken_addresses, with_offer}
-use Rattle.turn_client_api.specs.Retry.{most_challenges, phase_after, with_held}
+use Rattle.turn_client_api.specs.Retry.{max_challenges, phase_after, with_held}
 use Rattle.turn_client_api.specs.Calls.{channel_numbers, offer_origin, offer_taken}
-use Rattle.turn_client_api.specs.Connections.{is_connecting, is_indicated, most_indicated}
+use Rattle.turn_client_api.specs.Connections.{is_connecting, is_indicated, max_indicated}
 use Rattle.turn_client_api.specs.Transmit.{sent}
 use Rattle.turn_client_api.specs.LawsOrder.{IsBegun, IsUngranted}
 use Rattle.turn_client_api.specs.LawsStates.{is_asked_by}
@@ -152,7 +152,7 @@ pub record KeepsHeeded (Heeded : Type 0) (R : State → State → Type 0) : Type
       → R s (with_grant (Channel number peer progress) (without (is_channel_of number) s))
   -- challenges
   pub holds : (message : List ℕ) (d : Challenge) (s : State) → challenge_in s message ≡ Some d → R s (with_held d s)
-  pub counts : (s : State) → IsSome s.held → s.challenges < most_challenges → R s (record s { phase = phase_after s.phase; challenges = s.challenges + 1 })
+  pub counts : (s : State) → IsSome s.held → s.challenges < max_challenges → R s (record s { phase = phase_after s.phase; challenges = s.challenges + 1 })
   pub resets : Heeded → (s : State) → R s (challenges_reset s)
   -- all grants are removed
   pub empties : (s : State) → R s (without (λ g. true) s)
@@ -169,7 +169,7 @@ pub record KeepsHeeded (Heeded : Type 0) (R : State → State → Type 0) : Type
       → R s (with_offer connection_id peer OwnConnect (without (is_connect_to peer) t))
   -- the server requests a connection
   pub offers : (id : ℕ) (peer : SocketAddr) (origin : Origin) (s : State) → Room s.grants (family_of peer)
-      → (origin ≡ ServerIndication → length (filter is_indicated s.grants) < most_indicated) → R s (with_offer id peer origin s)
+      → (origin ≡ ServerIndication → length (filter is_indicated s.grants) < max_indicated) → R s (with_offer id peer origin s)
 
 -- streams do not count
 abbrev pub IgnoresAll : (State → State → Type 0) → Type 0

@@ -17,8 +17,8 @@ use Rattle.turn_client_api.specs.Grants.{find_allocation_to, as_connection, is_c
 use Rattle.turn_client_api.specs.Requests.{asked, bad_request, connection_already_exists, connection_attempt_method, connection_bind_method, fresh_id, refused_reply, replied, request_for, requested}
 use Rattle.turn_client_api.specs.Judgement.{Judgement, Unrelated, Challenged, Fatal, LateResponse, DataIndication, ConnectionAttempt, SignedRequest, SignedSuccess, SignedError, answers_one, challenge_in, challenged_or, judgement_of, bind_judgement, is_bind_of, connection_id_in, lifetime_in, method_in, peer_in}
 use Rattle.turn_client_api.specs.Effect.{allocate_denied, allocate_granted, allocated, closed, ended, fail_all, family_not_supported, has_code, in_phase, phase_with, relayed_in, taken_addresses, with_offer}
-use Rattle.turn_client_api.specs.Retry.{bind_time, first_or, is_allocate_or_connect, is_channel_bind, is_create_permission, is_refresh, most_challenges, phase_after, retried, state_after_retry, with_held}
-use Rattle.turn_client_api.specs.Connections.{attempt_indicated, attempt_requested, bind_again, bind_answered, bind_step, bound, connection_at, is_connected, is_connecting, is_heeded, is_indicated, most_indicated, not_bound, with_deadline, with_mode}
+use Rattle.turn_client_api.specs.Retry.{bind_time, first_or, is_allocate_or_connect, is_channel_bind, is_create_permission, is_refresh, max_challenges, phase_after, retried, state_after_retry, with_held}
+use Rattle.turn_client_api.specs.Connections.{attempt_indicated, attempt_requested, bind_again, bind_answered, bind_step, bound, connection_at, is_connected, is_connecting, is_heeded, is_indicated, max_indicated, not_bound, with_deadline, with_mode}
 use Rattle.turn_client_api.specs.Payloads.{Outcome, Handled, Ignored, answered_purposes, challenge_step, is_answered, message_step, response_step, signed_step, wrong_step}
 use Rattle.turn_client_api.specs.declared.event.TurnEvent.TheVariants.{AllocationCreateFailed}
 use Rattle.turn_client_api.specs.LawsReplies.{IsAccepted, IsHeeded}
@@ -141,7 +141,7 @@ module _ (Heeded : Type 0) (R : State → State → Type 0) (k : KeepsHeeded Hee
   then : (s t u : State) → R s t → R t u → R s u
   then s t u = k.edits.trans s t u
 
-  retry-walk : (s : State) (message : List ℕ) (id : ℕ) (purpose : Purpose) (d : Challenge) (now : ℕ) → IsBegun s.phase → challenge_in s message ≡ Some d → ltb s.challenges most_challenges ≡ true → Has purpose (purposes_of id s) → R s (state_after_retry s id purpose d now)
+  retry-walk : (s : State) (message : List ℕ) (id : ℕ) (purpose : Purpose) (d : Challenge) (now : ℕ) → IsBegun s.phase → challenge_in s message ≡ Some d → ltb s.challenges max_challenges ≡ true → Has purpose (purposes_of id s) → R s (state_after_retry s id purpose d now)
   retry-walk s message id purpose d now begun e few answers =
       let a = with_held d s in
       let b = ended id a in
@@ -151,13 +151,13 @@ module _ (Heeded : Type 0) (R : State → State → Type 0) (k : KeepsHeeded Hee
       let f = asked (fresh_id s) text (purposes_of id s) now c in
       then s a end (k.holds message d s e)
       (then a b end (k.edits.finishes id a)
-      (then b c end (k.counts b refl (ltb-true s.challenges most_challenges few))
+      (then b c end (k.counts b refl (ltb-true s.challenges max_challenges few))
       (then c f end (k.edits.asks (fresh_id s) text (purposes_of id s) now c (begun-after s.phase begun) (λ p there. inr (inr (purposes-listed id s p there))) (inr (inr (purposes-listed id s, (purpose, answers, refl))))) (k.edits.queues end.queue f (begun-after s.phase begun)))))
 
   challenge-walk : (message : List ℕ) (d : Challenge) (now : ℕ) (s : State) → IsBegun s.phase → challenge_in s message ≡ Some d → R s (challenge_step message d now s).1
-  challenge-walk message d now s begun e = by (ltb s.challenges most_challenges) refl (retried (purposes_of (id_of message) s)) refl
+  challenge-walk message d now s begun e = by (ltb s.challenges max_challenges) refl (retried (purposes_of (id_of message) s)) refl
     where
-      by : (b : Bool) → ltb s.challenges most_challenges ≡ b → (o : Option Purpose) → retried (purposes_of (id_of message) s) ≡ o → R s (challenge_step message d now s).1
+      by : (b : Bool) → ltb s.challenges max_challenges ≡ b → (o : Option Purpose) → retried (purposes_of (id_of message) s) ≡ o → R s (challenge_step message d now s).1
       by false f o g = rw f (fail-walk R k.edits s)
       by true f None g = rw (f, g) (k.edits.same s)
       by true f (Some purpose) g = rw (f, g) (retry-walk s message (id_of message) purpose d now begun e f (retried-has (purposes_of (id_of message) s) purpose g))
@@ -259,10 +259,10 @@ module _ (Heeded : Type 0) (R : State → State → Type 0) (k : KeepsHeeded Hee
 
   heeded-walk : (id : ℕ) (peer : SocketAddr) (s : State) → is_heeded peer s ≡ true → R s (with_offer id peer ServerIndication s)
   heeded-walk id peer s e =
-      let few = and_parts _ (ltb (length (filter is_indicated s.grants)) most_indicated) e in
+      let few = and_parts _ (ltb (length (filter is_indicated s.grants)) max_indicated) e in
       let free = and_parts _ (not (is_connected peer s || is_connecting peer s)) few.0 in
       let let_in = and_parts (is_some (find_allocation_to Tcp (socket_ip peer) s)) (has_active_permission (socket_ip peer) s) free.0 in
-      k.offers id peer ServerIndication s (allocation-room Tcp (socket_ip peer) s let_in.0) (λ f. ltb-true (length (filter is_indicated s.grants)) most_indicated few.1)
+      k.offers id peer ServerIndication s (allocation-room Tcp (socket_ip peer) s let_in.0) (λ f. ltb-true (length (filter is_indicated s.grants)) max_indicated few.1)
 
   indicated-walk : (message : List ℕ) (s : State) → IfSome (attempt_indicated message s) (R s)
   indicated-walk message s = by (connection_id_in message) refl (peer_in message) refl

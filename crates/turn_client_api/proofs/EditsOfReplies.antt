@@ -12,7 +12,7 @@ use Rattle.turn_client_api.specs.State.{State, Allocated, Grant, Allocation, Per
 use Rattle.turn_client_api.specs.Grants.{as_allocation, changed_allocation, channel_at, first_in, is_channel_of, is_connect_to, is_connection_from, is_for_allocation, is_of, is_of_family, is_permission_of, permission_state, purposes_of, unlisted, with_allocations, without, with_expired}
 use Rattle.turn_client_api.specs.Judgement.{connection_id_in, lifetime_in}
 use Rattle.turn_client_api.specs.Connections.{connection_at, deadline_set, with_deadline}
-use Rattle.turn_client_api.specs.Effect.{active_channel_answered, active_permission_answered, all_gone, allocation_mismatch, challenges_reset, channel_answered, channel_lifetime, closed, connect_answered, effect, fail_all, has_code, is_asked_permission, lasting, lasting_if, least_lifetime, listed_permissions_answered, pending_channel_answered, pending_permission_answered, permission_answered, permission_answered_for, permission_lifetime, prolonged, refreshed, renewed, reserved}
+use Rattle.turn_client_api.specs.Effect.{active_channel_answered, active_permission_answered, all_gone, allocation_mismatch, challenges_reset, channel_answered, channel_lifetime, closed, connect_answered, effect, fail_all, has_code, is_asked_permission, lasting, lasting_if, min_lifetime, listed_permissions_answered, pending_channel_answered, pending_permission_answered, permission_answered, permission_answered_for, permission_lifetime, prolonged, refreshed, renewed, reserved}
 use Rattle.turn_client_api.specs.Receive.{connection_gone}
 use Rattle.turn_client_api.specs.Requests.{asked, channel_bind_method, connect_method, create_permission_method, refresh_method, request_for, requested}
 use Rattle.turn_client_api.specs.Payloads.{is_answered}
@@ -308,7 +308,7 @@ module _ (Heeded : Type 0) (R : State → State → Type 0) (k : KeepsHeeded Hee
       by (Some (peer, Reserved until)) e g = rw e (k.edits.same s)
 
   prolonged-walk : Heeded → (family : AddressFamily) (lifetime now : ℕ) (s : State) → R s (prolonged family lifetime now s)
-  prolonged-walk heeded family lifetime now s = one-of R k.edits (leb least_lifetime lifetime) s _ s longer (k.edits.same s)
+  prolonged-walk heeded family lifetime now s = one-of R k.edits (leb min_lifetime lifetime) s _ s longer (k.edits.same s)
     where
       t : State
       t = unlisted (λ g. is_some (as_allocation g) && is_of family g) s

@@ -13,7 +13,7 @@ use Rattle.turn_client_api.specs.Grants.{allocations, family_of, is_connect, is_
 use Rattle.turn_client_api.specs.Requests.{asked, asked_lifetime, first_allocate, fresh_id, request_for}
 use Rattle.turn_client_api.specs.Effect.{closed, ended, reserved}
 use Rattle.turn_client_api.specs.Due.{has_event, has_reply, is_paused}
-use Rattle.turn_client_api.specs.Poll.{answer_step, channel_lapsed, connections_unbound, given_up_purposes, given_up_step, goes, in_vain, is_given_offer, is_lapsed_channel, is_lapsed_permission, is_listed_for_allocation, is_over, is_unbound, lapsed, lapsed_allocation, lapsed_in, last_channel_lapsed, next_offer, offer_step, offers_in_vain, permissions_lapsed, poll_step, refreshes_in_vain, silent_step, timed_step}
+use Rattle.turn_client_api.specs.Poll.{answer_step, channel_lapsed, connections_unbound, timed_out_purposes, timed_out_step, allocation_expires, failed_by_timeout, is_timed_out_offer, is_lapsed_channel, is_lapsed_permission, is_listed_for_allocation, is_over, is_unbound, lapsed, lapsed_allocation, lapsed_in, last_channel_lapsed, next_offer, offer_step, offers_timed_out, permissions_lapsed, poll_step, refreshes_timed_out, silent_step, timed_step}
 use Rattle.turn_client_api.specs.Transmit.{idle_step, is_due_in, queue_step, refresh_purpose, refreshes_in, refreshes_of_rank, sent, transmit_step}
 use Rattle.turn_client_api.specs.Transmit as T
 use Rattle.turn_client_api.specs.LawsStates.{is_asked_by}
@@ -105,7 +105,7 @@ has-unreplied q (first ∷ queue) there = by first.is_request there (has-unrepli
 
 -- ---- as time passes
 
-no-given : (given : Option ℕ) → SparesAllocations (is_given_offer given)
+no-given : (given : Option ℕ) → SparesAllocations (is_timed_out_offer given)
 no-given None a = refl
 no-given (Some id) a = refl
 
@@ -113,9 +113,9 @@ module _ (R : State → State → Type 0) (k : KeepsEdits R) where
   then : (s t u : State) → R s t → R t u → R s u
   then s t u = k.trans s t u
 
-  vain-walk : (family : AddressFamily) (purposes : List Purpose) (which : Grant → Bool) (s : State) → SparesAllocations which → R s (in_vain family purposes which s)
+  vain-walk : (family : AddressFamily) (purposes : List Purpose) (which : Grant → Bool) (s : State) → SparesAllocations which → R s (failed_by_timeout family purposes which s)
   vain-walk family purposes which s spares =
-      let end = in_vain family purposes which s in
+      let end = failed_by_timeout family purposes which s in
       removed R k (λ g. is_of family g && which g && is_for_any purposes g) (λ a. and_left (is_of family (Allocation a) && which (Allocation a)) _ (and_right (is_of family (Allocation a)) (which (Allocation a)) (spares a))) s end
 
   channel_lapsed-walk : (o : Option Grant) (s : State) → ((g : Grant) → o ≡ Some g → Has g s.grants) → R s (channel_lapsed o s)
@@ -135,14 +135,14 @@ module _ (R : State → State → Type 0) (k : KeepsEdits R) where
   -- in sequence, in the order of `lapsed_in`
   lapsed_in-walk : (family : AddressFamily) (given : Option ℕ) (purposes : List Purpose) (now : ℕ) (s : State) → R s (lapsed_in family given purposes now s)
   lapsed_in-walk family given purposes now s =
-      let a = in_vain family purposes is_pending_channel s in
-      let b = in_vain family purposes is_pending_permission a in
+      let a = failed_by_timeout family purposes is_pending_channel s in
+      let b = failed_by_timeout family purposes is_pending_permission a in
       let c = last_channel_lapsed family now b in
       let d = permissions_lapsed family now c in
-      let e = in_vain family purposes is_connect d in
+      let e = failed_by_timeout family purposes is_connect d in
       let f = connections_unbound family purposes now e in
-      let g = offers_in_vain family given f in
-      let h = refreshes_in_vain family purposes g in
+      let g = offers_timed_out family given f in
+      let h = refreshes_timed_out family purposes g in
       let end = lapsed_in family given purposes now s in
       let lapses = λ (x : Grant). is_of family x && is_lapsed_channel now x in
       then s a end (vain-walk family purposes is_pending_channel s (λ r. refl))
@@ -151,17 +151,17 @@ module _ (R : State → State → Type 0) (k : KeepsEdits R) where
       (then c d end (removed R k (λ x. is_of family x && is_lapsed_permission now x) (spares-kind family (is_lapsed_permission now) (λ r. refl)) c d)
       (then d e end (vain-walk family purposes is_connect d (λ r. refl))
       (then e f end (removed R k (λ x. is_of family x && is_unbound purposes now x) (spares-kind family (is_unbound purposes now) (λ r. refl)) e f)
-      (then f g end (removed R k (λ x. is_of family x && is_given_offer given x) (spares-kind family (is_given_offer given) (no-given given)) f g)
+      (then f g end (removed R k (λ x. is_of family x && is_timed_out_offer given x) (spares-kind family (is_timed_out_offer given) (no-given given)) f g)
       (then g h end (unlisted-walk R k _ g) (k.removes _ h (spares-kind family (is_over now) (λ r. refl))))))))))
 
   lapsed-walk : (given : Option ℕ) (now : ℕ) (s : State) → R s (lapsed given now s)
   lapsed-walk given now s = each R k (lapsed_allocation given purposes now) by (allocations s) s
     where
       purposes : List Purpose
-      purposes = given_up_purposes given s
+      purposes = timed_out_purposes given s
 
       by : (t : State) (a : Relay) → R t (lapsed_allocation given purposes now t a)
-      by t a = one-of R k (goes purposes now t a) t _ _ (k.removes_family (family_of a.relayed) t) (lapsed_in-walk (family_of a.relayed) given purposes now t)
+      by t a = one-of R k (allocation_expires purposes now t a) t _ _ (k.removes_family (family_of a.relayed) t) (lapsed_in-walk (family_of a.relayed) given purposes now t)
 
   answer_by : (closes : List SocketAddr) (p : Phase) (given : Option ℕ) (now : ℕ) (s : State) → R (record s { closes = closes; phase = p }) (answer_step given now (record s { closes = closes; phase = p })).1
   answer_by (local ∷ others) p given now s = k.aside (record s { closes = local ∷ others; phase = p }) (record s { closes = others })
@@ -202,7 +202,7 @@ module _ (R : State → State → Type 0) (k : KeepsEdits R) where
       then u (lapsed given now u) (answer_step given now (lapsed given now u)).1 (lapsed-walk given now u) (answer-walk given now (lapsed given now u))
   timed_in_phase Closed given now s = k.same (record s { phase = Closed })
 
-  given_up-walk : (now : ℕ) (s : State) → R s (given_up_step now s).1
+  given_up-walk : (now : ℕ) (s : State) → R s (timed_out_step now s).1
   given_up-walk now s =
       found R k (λ (t : Transaction). timed_step s.phase (Some t.id) now (ended t.id s)) (timed_out_transaction (agent_of s) now) s (timed_step s.phase None now s)
       (λ t e. then s (ended t.id s) _ (k.finishes t.id s) (timed_in_phase s.phase (Some t.id) now (ended t.id s))) (timed_in_phase s.phase None now s)
@@ -210,7 +210,7 @@ module _ (R : State → State → Type 0) (k : KeepsEdits R) where
   pub poll-walk : (now : ℕ) (s : State) → R s (poll_step now s).1
   poll-walk now s =
       either R k (has_event s || has_reply s) s _ _ (λ e. k.same s)
-      (λ e. found R k (λ offer. offer_step offer s) (next_offer s) s (given_up_step now s)
+      (λ e. found R k (λ offer. offer_step offer s) (next_offer s) s (timed_out_step now s)
       (λ offer is. k.ages (offer_step offer s).1.grants s (told-alike (family_of offer.peer) s.grants)) (given_up-walk now s))
 
   -- ---- what is sent

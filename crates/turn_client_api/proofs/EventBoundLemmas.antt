@@ -13,8 +13,8 @@ use Rattle.turn_client_api.specs.State.{State, DataOffer, Phase, New, Requesting
 use Rattle.turn_client_api.specs.Grants.{allocations, failure_of, failures_among, family_of, in_sequence, is_channel_of, is_connect, is_for_any, is_of, is_pending_channel, is_pending_permission, without}
 use Rattle.turn_client_api.specs.Effect.{closed, ended, reserved}
 use Rattle.turn_client_api.specs.Due.{has_event, has_reply}
-use Rattle.turn_client_api.specs.Poll.{answer_by, answer_step, channel_lapsed, connections_unbound, failed, given_up_step, goes, in_vain, is_given_offer, is_lapsed_channel, is_listed_for_allocation, is_over, lapsed, lapsed_allocation, lapsed_in, last_channel_lapsed, next_offer, offer_step, offers_in_vain, permissions_lapsed, poll_step, refreshes_in_vain, set_free, timed_step, told, told_first, unbound, untold_in, given_up_purposes}
-use Rattle.turn_client_api.specs.LawsBodies.{TellsOfFailed, can_fail, most_failures}
+use Rattle.turn_client_api.specs.Poll.{answer_by, answer_step, channel_lapsed, connections_unbound, failed, timed_out_step, allocation_expires, failed_by_timeout, is_timed_out_offer, is_lapsed_channel, is_listed_for_allocation, is_over, lapsed, lapsed_allocation, lapsed_in, last_channel_lapsed, next_offer, offer_step, offers_timed_out, permissions_lapsed, poll_step, refreshes_timed_out, set_free, timed_step, told, told_first, unbound, untold_in, timed_out_purposes}
+use Rattle.turn_client_api.specs.LawsBodies.{TellsOfFailed, can_fail, max_failures}
 use Rattle.turn_client_api.specs.declared.event.TurnEvent.{TurnEvent}
 use Rattle.turn_client_api.specs.declared.event.TurnEvent.TheVariants.{AllocationCreateFailed}
 use Rattle.turn_client_api.proofs.HasLemmas.{Has, has-found}
@@ -184,7 +184,7 @@ and-none-between false b = refl
 -- ---- an allocation
 
 module _ (family : AddressFamily) (purposes : List Purpose) where
-  vain-tells : (which : Grant → Bool) (s : State) → ((number : ℕ) (peer : SocketAddr) (until : ℕ) → which (Channel number peer (Reserved until)) ≡ false) → TellsOfFailed s (in_vain family purposes which s)
+  vain-tells : (which : Grant → Bool) (s : State) → ((number : ℕ) (peer : SocketAddr) (until : ℕ) → which (Channel number peer (Reserved until)) ≡ false) → TellsOfFailed s (failed_by_timeout family purposes which s)
   vain-tells which s none =
       failed-tells _ s (spared _ (λ number peer until. by number peer until (is_of family (Channel number peer (Reserved until))) (is_for_any purposes (Channel number peer (Reserved until)))))
     where
@@ -197,14 +197,14 @@ module _ (family : AddressFamily) (purposes : List Purpose) where
   connections-tell : (now : ℕ) (s : State) → TellsOfFailed s (connections_unbound family purposes now s)
   connections-tell now s = unbound-tells _ s (spared _ (λ number peer until. and-none (is_of family (Channel number peer (Reserved until)))))
 
-  offers-tell : (given : Option ℕ) (s : State) → TellsOfFailed s (offers_in_vain family given s)
+  offers-tell : (given : Option ℕ) (s : State) → TellsOfFailed s (offers_timed_out family given s)
   offers-tell given s = failed-tells _ s (spared _ (λ number peer until. by number peer until given))
     where
-      by : (number : ℕ) (peer : SocketAddr) (until : ℕ) (o : Option ℕ) → (is_of family (Channel number peer (Reserved until)) && is_given_offer o (Channel number peer (Reserved until))) ≡ false
+      by : (number : ℕ) (peer : SocketAddr) (until : ℕ) (o : Option ℕ) → (is_of family (Channel number peer (Reserved until)) && is_timed_out_offer o (Channel number peer (Reserved until))) ≡ false
       by number peer until None = and-none (is_of family (Channel number peer (Reserved until)))
       by number peer until (Some id) = and-none (is_of family (Channel number peer (Reserved until)))
 
-  vain-all : (which : Grant → Bool) → ((number : ℕ) (peer : SocketAddr) (until : ℕ) → which (Channel number peer (Reserved until)) ≡ false) → (s : State) → TellsOfFailed s (in_vain family purposes which s)
+  vain-all : (which : Grant → Bool) → ((number : ℕ) (peer : SocketAddr) (until : ℕ) → which (Channel number peer (Reserved until)) ≡ false) → (s : State) → TellsOfFailed s (failed_by_timeout family purposes which s)
   vain-all which none s = vain-tells which s none
 
   lapsed_in-tells : (given : Option ℕ) (now : ℕ) (s : State) → TellsOfFailed s (lapsed_in family given purposes now s)
@@ -236,19 +236,19 @@ module _ (family : AddressFamily) (purposes : List Purpose) where
     where
       steps : List (State → State)
       steps =
-          in_vain family purposes is_pending_channel
-          ∷ in_vain family purposes is_pending_permission
+          failed_by_timeout family purposes is_pending_channel
+          ∷ failed_by_timeout family purposes is_pending_permission
           ∷ last_channel_lapsed family now
           ∷ permissions_lapsed family now
-          ∷ in_vain family purposes is_connect
+          ∷ failed_by_timeout family purposes is_connect
           ∷ connections_unbound family purposes now
-          ∷ offers_in_vain family given
-          ∷ refreshes_in_vain family purposes
+          ∷ offers_timed_out family given
+          ∷ refreshes_timed_out family purposes
           ∷ set_free family now
           ∷ []
 
 allocation-tells : (given : Option ℕ) (purposes : List Purpose) (now : ℕ) (s : State) (a : Relay) → TellsOfFailed s (lapsed_allocation given purposes now s a)
-allocation-tells given purposes now s a = by (goes purposes now s a)
+allocation-tells given purposes now s a = by (allocation_expires purposes now s a)
   where
     by : (b : Bool) → TellsOfFailed s (cond b (without (is_of (family_of a.relayed)) s) (lapsed_in (family_of a.relayed) given purposes now s))
     by true = without-tells (is_of (family_of a.relayed)) s
@@ -261,7 +261,7 @@ each-tells given purposes now (a ∷ relays) s =
     tells-then s t (fold (lapsed_allocation given purposes now) t relays) (allocation-tells given purposes now s a) (each-tells given purposes now relays t)
 
 lapsed-tells : (given : Option ℕ) (now : ℕ) (s : State) → TellsOfFailed s (lapsed given now s)
-lapsed-tells given now s = each-tells given (given_up_purposes given s) now (allocations s) s
+lapsed-tells given now s = each-tells given (timed_out_purposes given s) now (allocations s) s
 
 -- ---- poll
 
@@ -322,7 +322,7 @@ offer-tells offer s = let same = told-can_fail (family_of offer.peer) s.grants i
 pub poll-tells : (now : ℕ) (s : State) → s.phase ≢ Requesting → TellsOfFailed s (poll_step now s).1
 poll-tells now s other =
     by_test (TellsOfFailed s) (has_event s || has_reply s) _ _ (tells-self s)
-    (by_found (TellsOfFailed s) (λ offer. offer_step offer s) (next_offer s) (given_up_step now s) (λ offer. offer-tells offer s)
+    (by_found (TellsOfFailed s) (λ offer. offer_step offer s) (next_offer s) (timed_out_step now s) (λ offer. offer-tells offer s)
     (by_found (TellsOfFailed s) (λ t. timed_step s.phase (Some t.id) now (ended t.id s)) (timed_out_transaction (agent_of s) now) (timed_step s.phase None now s)
     (λ t. timed-tells s.phase (Some t.id) now (ended t.id s) other) (timed-tells s.phase None now s other)))
 
@@ -361,11 +361,11 @@ timed-families Closed given now s e = cc
 pub poll-tells_families : (now : ℕ) (s : State) → s.phase ≡ Requesting → TellsOfFamilies s (poll_step now s).1
 poll-tells_families now s e =
     by_test (TellsOfFamilies s) (has_event s || has_reply s) _ _ (omega arith)
-    (by_found (TellsOfFamilies s) (λ offer. offer_step offer s) (next_offer s) (given_up_step now s) (λ offer. omega arith)
+    (by_found (TellsOfFamilies s) (λ offer. offer_step offer s) (next_offer s) (timed_out_step now s) (λ offer. omega arith)
     (by_found (TellsOfFamilies s) (λ t. timed_step s.phase (Some t.id) now (ended t.id s)) (timed_out_transaction (agent_of s) now) (timed_step s.phase None now s)
     (λ t. timed-families s.phase (Some t.id) now (ended t.id s) e) (timed-families s.phase None now s e)))
 
-pub most-failures : (s : State) → most_failures s ≤ length s.grants
+pub most-failures : (s : State) → max_failures s ≤ length s.grants
 most-failures s = by s.grants
   where
     by : (gs : List Grant) → length (filter can_fail gs) ≤ length gs

@@ -8,7 +8,7 @@ use Rattle.turn_client_api.specs.State.{State, Grant, Permission, Channel, Conne
 use Rattle.turn_client_api.specs.Grants.{is_channel_of, is_connect_to, is_connection_from, is_of, is_permission_of, without}
 use Rattle.turn_client_api.specs.Effect.{new_allocation, relayed_in, taken_addresses}
 use Rattle.turn_client_api.specs.Calls.{channel_numbers, is_offer_of, offer_taken, without_first}
-use Rattle.turn_client_api.specs.Connections.{is_indicated, most_indicated}
+use Rattle.turn_client_api.specs.Connections.{is_indicated, max_indicated}
 use Rattle.turn_client_api.proofs.HasLemmas.{Has}
 use Rattle.turn_client_api.proofs.NumberLemmas.{none-filter}
 use Rattle.turn_client_api.proofs.DoubleLemmas.{none-without_first}
@@ -25,7 +25,7 @@ pub record KeepsGrants (P : List Grant → Type 0) : Type 0 where
   pub channel : (number : ℕ) (peer : SocketAddr) (gs : List Grant) → list_any (is_channel_of number) gs ≡ false → Has number channel_numbers → P gs → P (gs ++ Channel number peer Pending ∷ [])
   pub connect : (peer : SocketAddr) (gs : List Grant) → list_any (is_connect_to peer) gs ≡ false → P gs → P (gs ++ Connect peer ∷ [])
   pub connection : (c : DataConnection) (gs : List Grant) → list_any (is_connection_from c.local) gs ≡ false → P gs → P (gs ++ Connection c ∷ [])
-  pub offers : (offer : DataOffer) (gs : List Grant) → (offer.origin ≡ ServerIndication → length (filter is_indicated gs) < most_indicated) → P gs → P (gs ++ Offer offer ∷ [])
+  pub offers : (offer : DataOffer) (gs : List Grant) → (offer.origin ≡ ServerIndication → length (filter is_indicated gs) < max_indicated) → P gs → P (gs ++ Offer offer ∷ [])
   -- a channel takes the place of those of its number
   pub rebinds : (number : ℕ) (peer : SocketAddr) (was progress : Progress) (gs : List Grant) → Has (Channel number peer was) gs → P gs
       → P (filter (λ g. not (is_channel_of number g)) gs ++ Channel number peer progress ∷ [])

@@ -13,7 +13,7 @@ use Rattle.turn_types.specs.declared.family.AddressFamily.{AddressFamily}
 use Rattle.turn_client_api.specs.State.{State, Grant, Allocation, Permission, Channel, Connect, Offer, Connection, DataOffer, Progress, Pending, Active, Reserved, Purpose, ForAllocation, ForRefresh, ForPermission, ForChannel, ForConnect, ForBind, OwnConnect, later_by, seconds}
 use Rattle.turn_client_api.specs.Grants.{changed_allocation, channel_at, first_in, is_channel_of, is_connect_to, is_of_family, is_permission_of, permission_state, purposes_of, same_ip, unlisted, with_grant, without}
 use Rattle.turn_client_api.specs.Judgement.{connection_id_in, lifetime_in}
-use Rattle.turn_client_api.specs.Effect.{lasting, lasting_if, all_gone, allocation_mismatch, channel_answered, channel_lifetime, connect_answered, effect, has_code, challenges_reset, least_lifetime, permission_answered, permission_answered_for, permission_lifetime, permission_refused_too, listed_permissions_answered, prolonged, refreshed, reserved_time}
+use Rattle.turn_client_api.specs.Effect.{lasting, lasting_if, all_gone, allocation_mismatch, channel_answered, channel_lifetime, connect_answered, effect, has_code, challenges_reset, min_lifetime, permission_answered, permission_answered_for, permission_lifetime, permission_refused_too, listed_permissions_answered, prolonged, refreshed, reserved_time}
 use Rattle.turn_client_api.specs.LawsGranted.{HasChannelTo, IsActiveGrant, IsSameGrant}
 use Rattle.turn_client_api.proofs.HasLemmas.{Has}
 use Rattle.turn_client_api.proofs.StandLemmas.{has-contains, kept-same, left-filter}
@@ -237,7 +237,7 @@ module _ (purposes : List Purpose) (message : List ℕ) (now : ℕ) (before : St
 
   -- a lifetime of so many seconds was requested and is granted
   abbrev Lengthens : AddressFamily → ℕ → ℕ → Type 0
-  Lengthens family lifetime n = Has (ForRefresh family lifetime) purposes × (1 ≤ lifetime) × (lifetime_in message ≡ Some n) × (least_lifetime ≤ n)
+  Lengthens family lifetime n = Has (ForRefresh family lifetime) purposes × (1 ≤ lifetime) × (lifetime_in message ≡ Some n) × (min_lifetime ≤ n)
 
   -- an allocation of this family is granted anew
   allocation_lasts : (family : AddressFamily) (lifetime n : ℕ) → Lengthens family lifetime n → (g : Grant) → Is g (prolonged_by family n g)
@@ -262,12 +262,12 @@ module _ (purposes : List Purpose) (message : List ℕ) (now : ℕ) (before : St
 
       longer : Has (ForRefresh family lifetime) purposes → 1 ≤ lifetime → (o : Option ℕ) → lifetime_in message ≡ o → Taken s (option_map_or (λ granted. prolonged family granted now s) o s)
       longer one asked None said = same s
-      longer one asked (Some n) said = at (leb least_lifetime n) refl
+      longer one asked (Some n) said = at (leb min_lifetime n) refl
         where
-          at : (b : Bool) → leb least_lifetime n ≡ b → Taken s (prolonged family n now s)
+          at : (b : Bool) → leb min_lifetime n ≡ b → Taken s (prolonged family n now s)
           at false e = rw e (same s)
           at true e =
-              let lengthens : Lengthens family lifetime n = (one, asked, said, leb-true least_lifetime n e) in
+              let lengthens : Lengthens family lifetime n = (one, asked, said, leb-true min_lifetime n e) in
               rw e (lasting-takes _ (prolonged_by family n) s (prolonged-channels family n) (λ g there. allocation_lasts family lifetime n lengthens g))
 
       by : (b : Bool) → eqb lifetime 0 ≡ b → (g : Bool) → Names g (ForRefresh family lifetime) → Taken s (refreshed family lifetime g message now s)

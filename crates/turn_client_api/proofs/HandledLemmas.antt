@@ -12,7 +12,7 @@ use Rattle.turn_types.specs.Frames.{begins_no_frame, frame_len}
 use Rattle.turn_agent.specs.Agent.{same_address}
 use Rattle.turn_client_api.specs.State.{State, Mode, Control, Waiting, Bound, Broken, Stream}
 use Rattle.turn_client_api.specs.Payloads.{Payload, Outcome, Handled, Ignored, PeerData, PeerIcmp, datagram_step}
-use Rattle.turn_client_api.specs.Streams.{broken_at, framed_by, framed_stream_step, go_on, is_ready, most_turns, owned, payload_in, poll_recv_step, stream_at, next_frame_step, first_ready_step, detached_frame_step, steps_until_payload, with_bytes}
+use Rattle.turn_client_api.specs.Streams.{broken_at, framed_by, framed_stream_step, go_on, is_ready, max_steps, owned, payload_in, poll_recv_step, stream_at, next_frame_step, first_ready_step, detached_frame_step, steps_until_payload, with_bytes}
 use Rattle.turn_client_api.specs.Receive.{first_frame_step, is_from_server, piece_step, place_kept, recv_step, stream_step, then_all}
 use Rattle.turn_client_api.specs.Steps.{Call, PollRecv, Recv, packet_step}
 use Rattle.turn_client_api.specs.Handled.{Input, fed, fed_taken, frame_taken, handled, is_front, processed, payloads, piece_inputs, poll_recv_inputs, recv_inputs, stream_inputs, taken, taken_first, taken_in, taken_of_len, then_taken, stream_input, input_payload, inputs_taken, unless_given}
@@ -86,7 +86,7 @@ turns-Gives (suc n) now s = by (find is_ready s.streams) (λ t. turns-Gives n no
     by (Some stream) more = go_on-Gives (steps_until_payload n now) (inputs_taken n now) (taken false stream now s) (next_frame_step stream now s) (turn-AreOf stream now s) more
 
 pub poll_recv-Gives : (now : ℕ) (s : State) → payloads (poll_recv_inputs now s) ≡ option_to_list (poll_recv_step now s).0
-poll_recv-Gives now s = turns-Gives (most_turns s) now s
+poll_recv-Gives now s = turns-Gives (max_steps s) now s
 
 -- ---- a piece of a stream
 

@@ -9,7 +9,7 @@ use Rattle.turn_client_api.specs.State.{State, initial, Grant, Allocation, Permi
 use Rattle.turn_client_api.specs.Grants.{is_channel_of}
 use Rattle.turn_client_api.specs.Effect.{new_allocation, taken_addresses}
 use Rattle.turn_client_api.specs.Calls.{is_offer_of, without_first}
-use Rattle.turn_client_api.specs.Connections.{is_indicated, most_indicated}
+use Rattle.turn_client_api.specs.Connections.{is_indicated, max_indicated}
 use Rattle.turn_client_api.specs.Steps.{Call, Leaves}
 use Rattle.turn_client_api.specs.LawsStates.{HasFewIndicated}
 use Rattle.turn_client_api.proofs.Edits.{outline}
@@ -20,7 +20,7 @@ abbrev indicated : List Grant → ℕ
 indicated gs = length (filter is_indicated gs)
 
 abbrev AreFew : List Grant → Type 0
-AreFew gs = indicated gs ≤ most_indicated
+AreFew gs = indicated gs ≤ max_indicated
 
 abbrev weight : Bool → ℕ
 weight true = 1
@@ -74,7 +74,7 @@ none-allocated : (lifetime now : ℕ) (addresses : List SocketAddr) → indicate
 none-allocated lifetime now [] = refl
 none-allocated lifetime now (a ∷ others) = none-allocated lifetime now others
 
-few-offer : (origin : Origin) (offer : DataOffer) (gs : List Grant) → (origin ≡ ServerIndication → indicated gs < most_indicated) → AreFew gs → AreFew (gs ++ Offer (record offer { origin = origin }) ∷ [])
+few-offer : (origin : Origin) (offer : DataOffer) (gs : List Grant) → (origin ≡ ServerIndication → indicated gs < max_indicated) → AreFew gs → AreFew (gs ++ Offer (record offer { origin = origin }) ∷ [])
 few-offer OwnConnect offer gs less few = few-append gs (Offer (record offer { origin = OwnConnect }) ∷ []) refl few
 few-offer (ServerRequest request) offer gs less few = few-append gs (Offer (record offer { origin = ServerRequest request }) ∷ []) refl few
 few-offer ServerIndication offer gs less few =
@@ -85,7 +85,7 @@ AreFew-KeepsGrants : KeepsGrants AreFew
 AreFew-KeepsGrants = record {
   filters = λ p gs few. omega (arith, few, indicated-filter p gs);
   takes_offer = λ id peer gs few. omega (arith, few, indicated-without_first (is_offer_of id peer) gs);
-  reshapes = λ gs hs e few. subst (λ (n : ℕ). n ≤ most_indicated) (sym (indicated-outlined gs) ∙ (ap indicated (sym e) ∙ indicated-outlined hs)) few;
+  reshapes = λ gs hs e few. subst (λ (n : ℕ). n ≤ max_indicated) (sym (indicated-outlined gs) ∙ (ap indicated (sym e) ∙ indicated-outlined hs)) few;
   permission = λ ip progress gs none. few-append gs (Permission ip progress ∷ []) refl;
   channel = λ number peer gs none within. few-append gs (Channel number peer Pending ∷ []) refl;
   connect = λ peer gs none. few-append gs (Connect peer ∷ []) refl;

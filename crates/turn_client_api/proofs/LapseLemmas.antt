@@ -13,7 +13,7 @@ use Rattle.turn_client_api.specs.State.{State, DataOffer, Grant, Allocation, Per
 use Rattle.turn_client_api.specs.Grants.{allocations, as_allocation, find_allocation, family_of_grant, has_request, is_past, failures_among, family_of, is_channel_of, is_for_any, is_connect, is_of, is_pending_channel, is_pending_permission, jump, unlisted, without}
 use Rattle.turn_client_api.specs.Effect.{reserved, reserved_time}
 use Rattle.turn_client_api.specs.Calls.{is_allocated}
-use Rattle.turn_client_api.specs.Poll.{first_untold, given_up_purposes, next_offer, untold_in, channel_lapsed, connections_unbound, in_vain, last_channel_lapsed, offers_in_vain, permissions_lapsed, refreshes_in_vain, set_free, failed, goes, is_lapsed_channel, is_lapsed_permission, is_unbound, lapsed, lapsed_allocation, lapsed_in, unbound}
+use Rattle.turn_client_api.specs.Poll.{first_untold, timed_out_purposes, next_offer, untold_in, channel_lapsed, connections_unbound, failed_by_timeout, last_channel_lapsed, offers_timed_out, permissions_lapsed, refreshes_timed_out, set_free, failed, allocation_expires, is_lapsed_channel, is_lapsed_permission, is_unbound, lapsed, lapsed_allocation, lapsed_in, unbound}
 use Rattle.turn_client_api.specs.declared.event.TurnEvent.{TurnEvent}
 use Rattle.turn_client_api.specs.declared.event.TurnEvent.TheVariants.{ChannelCreateFailed}
 use Rattle.turn_client_api.proofs.HasLemmas.{Has, has-all, has-left, has-right, has-append, has-filter, filter_map-has, has-filter_map, has-found}
@@ -129,25 +129,25 @@ channel-shrinks (Some (Connection c)) s = shrinks-self s
 
 -- from its unbound connections on
 tail6 : AddressFamily → Option ℕ → List Purpose → ℕ → State → State
-tail6 family given purposes now s = set_free family now (refreshes_in_vain family purposes (offers_in_vain family given s))
+tail6 family given purposes now s = set_free family now (refreshes_timed_out family purposes (offers_timed_out family given s))
 
 tail6-shrinks : (family : AddressFamily) (given : Option ℕ) (purposes : List Purpose) (now : ℕ) (s : State) → Shrinks s (tail6 family given purposes now s)
 unfolding tail6
 tail6-shrinks family given purposes now s6 =
-    let s7 = offers_in_vain family given s6 in
-    let s8 = refreshes_in_vain family purposes s7 in
+    let s7 = offers_timed_out family given s6 in
+    let s8 = refreshes_timed_out family purposes s7 in
     shrinks-then s6 s7 (set_free family now s8) (failed-shrinks _ s6)
     (shrinks-then s7 s8 (set_free family now s8) (unlisted-shrinks _ s7) (without-shrinks _ s8))
 
 -- from its expired permissions on
 tail4 : AddressFamily → Option ℕ → List Purpose → ℕ → State → State
 unfolding tail6
-tail4 family given purposes now s = tail6 family given purposes now (connections_unbound family purposes now (in_vain family purposes is_connect s))
+tail4 family given purposes now s = tail6 family given purposes now (connections_unbound family purposes now (failed_by_timeout family purposes is_connect s))
 
 tail4-shrinks : (family : AddressFamily) (given : Option ℕ) (purposes : List Purpose) (now : ℕ) (s : State) → Shrinks s (tail4 family given purposes now s)
 unfolding tail6 tail4
 tail4-shrinks family given purposes now s4 =
-    let s5 = in_vain family purposes is_connect s4 in
+    let s5 = failed_by_timeout family purposes is_connect s4 in
     let s6 = connections_unbound family purposes now s5 in
     shrinks-then s4 s5 (tail6 family given purposes now s6) (failed-shrinks _ s4)
     (shrinks-then s5 s6 (tail6 family given purposes now s6) (unbound-shrinks _ s5) (tail6-shrinks family given purposes now s6))
@@ -155,8 +155,8 @@ tail4-shrinks family given purposes now s4 =
 lapsed_in-shrinks : (family : AddressFamily) (given : Option ℕ) (purposes : List Purpose) (now : ℕ) (s : State) → Shrinks s (lapsed_in family given purposes now s)
 unfolding tail6 tail4
 lapsed_in-shrinks family given purposes now s =
-    let s1 = in_vain family purposes is_pending_channel s in
-    let s2 = in_vain family purposes is_pending_permission s1 in
+    let s1 = failed_by_timeout family purposes is_pending_channel s in
+    let s2 = failed_by_timeout family purposes is_pending_permission s1 in
     let s3 = last_channel_lapsed family now s2 in
     let s4 = permissions_lapsed family now s3 in
     let t = tail4 family given purposes now s4 in
@@ -231,7 +231,7 @@ unfolding tail6 tail4
 alive_in family given purposes now s none g h here = by g h here
   where
     s2 : State
-    s2 = in_vain family purposes is_pending_permission (in_vain family purposes is_pending_channel s)
+    s2 = failed_by_timeout family purposes is_pending_permission (failed_by_timeout family purposes is_pending_channel s)
 
     s3 : State
     s3 = last_channel_lapsed family now s2
@@ -240,7 +240,7 @@ alive_in family given purposes now s none g h here = by g h here
     s4 = permissions_lapsed family now s3
 
     s5 : State
-    s5 = in_vain family purposes is_connect s4
+    s5 = failed_by_timeout family purposes is_connect s4
 
     s6 : State
     s6 = connections_unbound family purposes now s5
@@ -281,9 +281,9 @@ alive_in family given purposes now s none g h here = by g h here
 -- ---- all allocations
 
 lapsed_allocation-shrinks : (given : Option ℕ) (purposes : List Purpose) (now : ℕ) (s : State) (a : Relay) → Shrinks s (lapsed_allocation given purposes now s a)
-lapsed_allocation-shrinks given purposes now s a = by (goes purposes now s a) refl
+lapsed_allocation-shrinks given purposes now s a = by (allocation_expires purposes now s a) refl
   where
-    by : (b : Bool) → goes purposes now s a ≡ b → Shrinks s (lapsed_allocation given purposes now s a)
+    by : (b : Bool) → allocation_expires purposes now s a ≡ b → Shrinks s (lapsed_allocation given purposes now s a)
     by true e = rw e (without-shrinks (is_of (family_of a.relayed)) s)
     by false e = rw e (lapsed_in-shrinks (family_of a.relayed) given purposes now s)
 
@@ -294,7 +294,7 @@ each-shrinks given purposes now (a ∷ relays) s =
     shrinks-then s post (fold (lapsed_allocation given purposes now) post relays) (lapsed_allocation-shrinks given purposes now s a) (each-shrinks given purposes now relays post)
 
 pub lapsed-shrinks : (given : Option ℕ) (now : ℕ) (s : State) → Shrinks s (lapsed given now s)
-lapsed-shrinks given now s = each-shrinks given (given_up_purposes given s) now (allocations s) s
+lapsed-shrinks given now s = each-shrinks given (timed_out_purposes given s) now (allocations s) s
 
 reserved-outlives : (now : ℕ) (g : Grant) → IsReserved g → Outlives now g
 reserved-outlives now (Channel number peer (Reserved until)) is = tt
@@ -308,9 +308,9 @@ reserved-outlives now (Connection c) is = absurd is
 
 -- what remains of one allocation after it was processed
 after-turn : (given : Option ℕ) (purposes : List Purpose) (now : ℕ) (s : State) (a : Relay) (g : Grant) → (lapsed_allocation given purposes now s a).events ≡ [] → Has g (lapsed_allocation given purposes now s a).grants → is_of (family_of a.relayed) g ≡ true → Outlives now g
-after-turn given purposes now s a g none h here = by (goes purposes now s a) refl
+after-turn given purposes now s a g none h here = by (allocation_expires purposes now s a) refl
   where
-    by : (b : Bool) → goes purposes now s a ≡ b → Outlives now g
+    by : (b : Bool) → allocation_expires purposes now s a ≡ b → Outlives now g
     by true e =
         let stayed : Has g (without (is_of (family_of a.relayed)) s).grants = rw e at h in
         let no : false ≡ true = sym (not-passed (is_of (family_of a.relayed)) g s.grants stayed) ∙ here in
@@ -341,7 +341,7 @@ same_family-swap IPV6 IPV4 e = e
 
 -- an allocation in use is removed at its expiry
 stays-alive : (given : Option ℕ) (purposes : List Purpose) (now : ℕ) (s : State) (a : Relay) → Has (Allocation a) (lapsed_allocation given purposes now s a).grants → a.is_expired ≡ false → now < a.expiry
-stays-alive given purposes now s a h used = by (goes purposes now s a) refl
+stays-alive given purposes now s a h used = by (allocation_expires purposes now s a) refl
   where
     past : (p x y n : Bool) → n ≡ true → (p && (x || y || n)) ≡ false → p ≡ false
     past false x y n e f = refl
@@ -349,7 +349,7 @@ stays-alive given purposes now s a h used = by (goes purposes now s a) refl
     past true false true n e f = let no : true ≡ false = f in cc
     past true false false n e f = let no : true ≡ false = sym e ∙ f in cc
 
-    by : (b : Bool) → goes purposes now s a ≡ b → now < a.expiry
+    by : (b : Bool) → allocation_expires purposes now s a ≡ b → now < a.expiry
     by true e =
         let stayed : Has (Allocation a) (without (is_of (family_of a.relayed)) s).grants = rw e at h in
         let no : false ≡ true = sym (not-passed (is_of (family_of a.relayed)) (Allocation a) s.grants stayed) ∙ same_family-self (family_of a.relayed) in
@@ -369,7 +369,7 @@ pub lapsed-alive : (given : Option ℕ) (now : ℕ) (s : State) → All (HasAllo
 lapsed-alive given now s stand none g h = by g h ((each-shrinks given purposes now (allocations s) s).grants g h)
   where
     purposes : List Purpose
-    purposes = given_up_purposes given s
+    purposes = timed_out_purposes given s
 
     t : State
     t = lapsed given now s

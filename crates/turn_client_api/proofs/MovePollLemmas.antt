@@ -12,10 +12,10 @@ use Rattle.turn_client_api.specs.Grants.{allocations, family_of, in_sequence, is
 use Rattle.turn_client_api.specs.Requests.{first_allocate, fresh_id, request_for, to_server}
 use Rattle.turn_client_api.specs.Effect.{closed, ended}
 use Rattle.turn_client_api.specs.Due.{has_event, has_reply, is_paused}
-use Rattle.turn_client_api.specs.Poll.{answer_by, answer_step, channel_lapsed, connections_unbound, given_up_purposes, given_up_step, goes, in_vain, is_lapsed_channel, is_listed_for_allocation, lapsed, lapsed_allocation, lapsed_in, last_channel_lapsed, next_offer, offer_step, offers_in_vain, permissions_lapsed, poll_step, refreshes_in_vain, set_free, timed_step, told, told_first, untold_in}
+use Rattle.turn_client_api.specs.Poll.{answer_by, answer_step, channel_lapsed, connections_unbound, timed_out_purposes, timed_out_step, allocation_expires, failed_by_timeout, is_lapsed_channel, is_listed_for_allocation, lapsed, lapsed_allocation, lapsed_in, last_channel_lapsed, next_offer, offer_step, offers_timed_out, permissions_lapsed, poll_step, refreshes_timed_out, set_free, timed_step, told, told_first, untold_in}
 use Rattle.turn_client_api.specs.Transmit.{idle_step, queue_step, refreshes_in, reply_step, sent, sent_at_once, transmit_step}
 use Rattle.turn_client_api.specs.Steps.{Call, Poll, PollTransmit}
-use Rattle.turn_client_api.specs.LawsBodies.{lapse_moments}
+use Rattle.turn_client_api.specs.LawsBodies.{expiry_times}
 use Rattle.turn_client_api.specs.LawsRequests.{AsksFor, IsMade}
 use Rattle.turn_client_api.specs.LawsGone.{IsTakenBy, IsTimeUp, grant_identity}
 use Rattle.turn_client_api.proofs.EarlyLapseLemmas.{lapsed-none}
@@ -87,14 +87,14 @@ lapsed_in-fewer family given purposes now s = in_sequence-fewer steps s (
   where
     steps : List (State → State)
     steps =
-        in_vain family purposes is_pending_channel
-        ∷ in_vain family purposes is_pending_permission
+        failed_by_timeout family purposes is_pending_channel
+        ∷ failed_by_timeout family purposes is_pending_permission
         ∷ last_channel_lapsed family now
         ∷ permissions_lapsed family now
-        ∷ in_vain family purposes is_connect
+        ∷ failed_by_timeout family purposes is_connect
         ∷ connections_unbound family purposes now
-        ∷ offers_in_vain family given
-        ∷ refreshes_in_vain family purposes
+        ∷ offers_timed_out family given
+        ∷ refreshes_timed_out family purposes
         ∷ set_free family now
         ∷ []
 
@@ -103,7 +103,7 @@ lapsed-fewer given purposes now [] s = fewer-same s
 lapsed-fewer given purposes now (a ∷ relays) s =
     let t = lapsed_allocation given purposes now s a in
     fewer-then s t (fold (lapsed_allocation given purposes now) t relays)
-    (on_test (Fewer s) (goes purposes now s a) (without (is_of (family_of a.relayed)) s) (lapsed_in (family_of a.relayed) given purposes now s) (adds-filter Never _ s.listed) (lapsed_in-fewer (family_of a.relayed) given purposes now s))
+    (on_test (Fewer s) (allocation_expires purposes now s a) (without (is_of (family_of a.relayed)) s) (lapsed_in (family_of a.relayed) given purposes now s) (adds-filter Never _ s.listed) (lapsed_in-fewer (family_of a.relayed) given purposes now s))
     (lapsed-fewer given purposes now relays t)
 
 -- ---- what time removes
@@ -155,13 +155,13 @@ module _ (now : ℕ) (s : State) where
   none-ends Requesting e = answer-ends None s same-ends
   none-ends Authenticating e = answer-ends None s same-ends
   none-ends Closed e = same-ends
-  none-ends Allocated e = answer-ends None (lapsed None now s) (by (early-or now (lapse_moments s)))
+  none-ends Allocated e = answer-ends None (lapsed None now s) (by (early-or now (expiry_times s)))
     where
-      by : All (λ m. now < m) (lapse_moments s) ⊎ ((m : ℕ) × Contains (lapse_moments s) m × (m ≤ now)) → Ends (lapsed None now s)
+      by : All (λ m. now < m) (expiry_times s) ⊎ ((m : ℕ) × Contains (expiry_times s) m × (m ≤ now)) → Ends (lapsed None now s)
       by (inl early) = rw (lapsed-none now s early) same-ends
       by (inr come) = (
         subst (λ ts. Adds Never s.transactions ts) (sym (lapsed-shrinks None now s).transactions) (adds-same Never s.transactions),
-        lapsed-fewer None (given_up_purposes None s) now (allocations s) s,
+        lapsed-fewer None (timed_out_purposes None s) now (allocations s) s,
         up-loses (inr (e, come)) (lapsed None now s).grants,
       )
 
@@ -189,7 +189,7 @@ module _ (now : ℕ) (s : State) where
           at false = answer-ends (Some x.id) u over
       by Allocated = answer-ends (Some x.id) (lapsed (Some x.id) now u) (
         subst (λ ts. Adds Never s.transactions ts) (sym (lapsed-shrinks (Some x.id) now u).transactions) (adds-filter Never _ s.transactions),
-        lapsed-fewer (Some x.id) (given_up_purposes (Some x.id) u) now (allocations u) u,
+        lapsed-fewer (Some x.id) (timed_out_purposes (Some x.id) u) now (allocations u) u,
         up-loses up (lapsed (Some x.id) now u).grants,
       )
 
@@ -218,7 +218,7 @@ told-loses Taken family (x ∷ gs) g h = by (is_some (untold_in family x)) h (to
 pub poll-does : (now : ℕ) (s : State) → Does (Poll now) s (poll_step now s).1
 poll-does now s =
     by_test (Does (Poll now) s) (has_event s || has_reply s) _ _ (does-same (Poll now) s)
-    (by_found (Does (Poll now) s) (λ offer. offer_step offer s) (next_offer s) (given_up_step now s) (λ offer e. offered offer)
+    (by_found (Does (Poll now) s) (λ offer. offer_step offer s) (next_offer s) (timed_out_step now s) (λ offer e. offered offer)
     (by_found (Does (Poll now) s) (λ t. timed_step s.phase (Some t.id) now (ended t.id s)) (timed_out_transaction (agent_of s) now) (timed_step s.phase None now s)
     (λ x e. does-settled (Poll now) s _ (given-ends now s x (inl (some x e)) s.phase)) (does-settled (Poll now) s _ (none-ends now s s.phase refl))))
   where

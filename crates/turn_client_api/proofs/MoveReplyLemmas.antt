@@ -9,7 +9,7 @@ use Rattle.turn_types.specs.declared.family.AddressFamily.{AddressFamily}
 use Rattle.turn_client_api.specs.State.{State, Grant, Allocation, Permission, Channel, Connect, Offer, Connection, Relay, Progress, Pending, Active, Reserved, Listing, Purpose, ForAllocation, ForRefresh, ForPermission, ForChannel, ForConnect, ForBind}
 use Rattle.turn_client_api.specs.Grants.{changed_allocation, channel_at, first_in, is_channel_of, is_connect_to, is_for, is_for_any, is_permission_of, permission_state, purposes_of, unlisted, without}
 use Rattle.turn_client_api.specs.Judgement.{connection_id_in, lifetime_in}
-use Rattle.turn_client_api.specs.Effect.{all_gone, allocation_mismatch, channel_answered, connect_answered, effect, ended, given_back, has_code, is_asked_permission, lasting, lasting_if, least_lifetime, listed_permissions_answered, pending_channel_answered, permission_answered, permission_answered_for, prolonged, refreshed, renewed}
+use Rattle.turn_client_api.specs.Effect.{all_gone, allocation_mismatch, channel_answered, connect_answered, effect, ended, given_back, has_code, is_asked_permission, lasting, lasting_if, min_lifetime, listed_permissions_answered, pending_channel_answered, permission_answered, permission_answered_for, prolonged, refreshed, renewed}
 use Rattle.turn_client_api.specs.Payloads.{answered_purposes, response_step}
 use Rattle.turn_client_api.specs.LawsGone.{GivesBack, grant_identity}
 use Rattle.turn_client_api.proofs.GrantOriginLemmas.{has-mapped}
@@ -202,7 +202,7 @@ module _ (all : List Purpose) where
 
   prolonged-fits : (family : AddressFamily) (granted now : ℕ) (s : State) → Fits s (prolonged family granted now s)
   prolonged-fits family granted now s =
-      on_test (Fits s) (leb least_lifetime granted) _ s
+      on_test (Fits s) (leb min_lifetime granted) _ s
       (adds-same Never s.transactions, adds-filter Never _ s.listed, loses-map (IsFor all) _ s.grants (prolonged-grant_identity _ _))
       (fits-same s)
 

@@ -4,7 +4,7 @@ use Rattle.std.specs.List.{Contains}
 use Rattle.turn_agent.specs.declared.transaction.Transaction.{Transaction}
 use Rattle.turn_client_api.specs.State.{State, Grant, Listing, ForBind, Stream}
 use Rattle.turn_client_api.specs.Grants.{is_connection_from}
-use Rattle.turn_client_api.specs.Streams.{most_turns}
+use Rattle.turn_client_api.specs.Streams.{max_steps}
 use Rattle.turn_client_api.specs.Handled.{Input, handled, processed}
 use Rattle.turn_client_api.specs.Effect.{closed}
 use Rattle.turn_client_api.specs.Steps.{Call, EndsWithoutMemory, Leaves, state_after, Delete, CreatePermission, BindChannel, TcpConnect, AllocatedTcpSocket, TcpClosed, SendTo, Recv, PollRecv, Poll, PollTransmit, PollEvent, RelayedAddresses, Permissions, HavePermission, ProtocolError}
@@ -153,7 +153,7 @@ poll_recv-obeys : (now : ℕ) (s : State) → Obeys (PollRecv now) s
 poll_recv-obeys now s =
     let call = PollRecv now in
     let t = state_after call s in
-    let lead = turns-lead (most_turns s) now s in (
+    let lead = turns-lead (max_steps s) now s in (
       λ x h. or-done (IsMadeByInput x) call s (lead-transactions (handled call s) s t lead x h),
       λ l h. or-done (IsListedByInput l) call s (lead-listed (handled call s) s t lead l h),
       λ g h. or-done (IsRemovedByInput g) call s (lead-grants (handled call s) s t lead g h),

@@ -21,7 +21,7 @@ use Rattle.turn_client_api.specs.Calls.{bound_by, active_channel, allocated_tcp_
 use Rattle.turn_client_api.specs.declared.poll.Socket5Tuple.{Socket5Tuple}
 use Rattle.turn_client_api.specs.declared.error.BindChannelError.TheVariants as Bind
 use Rattle.turn_client_api.specs.Due.{has_event, has_reply, is_paused}
-use Rattle.turn_client_api.specs.Poll.{answer_step, channel_lapsed, given_up_purposes, goes, in_vain, is_lapsed_channel, is_listed_for_allocation, lapsed, lapsed_allocation, lapsed_in, next_offer, offer_step, poll_step, timed_step}
+use Rattle.turn_client_api.specs.Poll.{answer_step, channel_lapsed, timed_out_purposes, allocation_expires, failed_by_timeout, is_lapsed_channel, is_listed_for_allocation, lapsed, lapsed_allocation, lapsed_in, next_offer, offer_step, poll_step, timed_step}
 use Rattle.turn_client_api.specs.Poll as P
 use Rattle.turn_client_api.specs.Receive.{connection_gone, tcp_closed_step}
 use Rattle.turn_client_api.specs.Transmit.{idle_step, queue_step, refreshes_in, transmit_step}
@@ -48,17 +48,17 @@ channel_lapsed-asks (Some (Connection c)) s = refl
 
 lapsed_in-asks : (family : AddressFamily) (given : Option ℕ) (purposes : List Purpose) (now : ℕ) (s : State) → AsksNothing s (lapsed_in family given purposes now s)
 lapsed_in-asks family given purposes now s =
-    let vain = in_vain family purposes is_pending_permission (in_vain family purposes is_pending_channel s) in
+    let vain = failed_by_timeout family purposes is_pending_permission (failed_by_timeout family purposes is_pending_channel s) in
     channel_lapsed-asks (find (λ g. is_of family g && is_lapsed_channel now g) (reverse vain.grants)) vain
 
 lapsed-asks : (given : Option ℕ) (now : ℕ) (s : State) → AsksNothing s (lapsed given now s)
 lapsed-asks given now s = asks-fold (lapsed_allocation given purposes now) by (allocations s) s
   where
     purposes : List Purpose
-    purposes = given_up_purposes given s
+    purposes = timed_out_purposes given s
 
     by : (t : State) (a : Relay) → AsksNothing t (lapsed_allocation given purposes now t a)
-    by t a = asks-cond (goes purposes now t a) t _ _ refl (lapsed_in-asks (family_of a.relayed) given purposes now t)
+    by t a = asks-cond (allocation_expires purposes now t a) t _ _ refl (lapsed_in-asks (family_of a.relayed) given purposes now t)
 
 answer_by : (closes : List SocketAddr) (p : Phase) (given : Option ℕ) (now : ℕ) (s : State) → AsksNothing s (answer_step given now (record s { closes = closes; phase = p })).1
 answer_by (local ∷ others) p given now s = refl
@@ -183,7 +183,7 @@ module _ (id : ℕ) where
   poll-draws : (now : ℕ) (s : State) → Draws id s (poll_step now s).1
   poll-draws now s =
       either (has_event s || has_reply s) s _ _ (draws-same id s)
-      (found (λ offer. offer_step offer s) (next_offer s) s (P.given_up_step now s) (λ offer. draws-same id s)
+      (found (λ offer. offer_step offer s) (next_offer s) s (P.timed_out_step now s) (λ offer. draws-same id s)
       (found (λ (t : Transaction). timed_step s.phase (Some t.id) now (ended t.id s)) (timed_out_transaction (agent_of s) now) s (timed_step s.phase None now s)
       timed (draws-nothing id s (timed_step s.phase None now s).1 (timed_in_phase s.phase None now s))))
     where

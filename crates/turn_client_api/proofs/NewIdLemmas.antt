@@ -16,7 +16,7 @@ use Rattle.turn_agent.specs.TransactionIds.{next_id}
 use Rattle.turn_agent.proofs.AgentLemmas.{find-passes}
 use Rattle.turn_client_api.specs.State.{State, Grant, Allocation, Permission, Channel, Connect, Offer, Connection, Origin, OwnConnect, ServerRequest, ServerIndication}
 use Rattle.turn_client_api.specs.Grants.{is_of_request, as_offer}
-use Rattle.turn_client_api.specs.Requests.{counted_up, fresh_id, is_taken, most_taken}
+use Rattle.turn_client_api.specs.Requests.{counted_up, fresh_id, is_taken, max_ids_taken}
 
 -- ---- candidates
 
@@ -126,7 +126,7 @@ length-filter_map {Y = Y} f (x ∷ xs) = by (f x) refl (length-filter_map f xs)
     by None e later = rw e (omega (arith, later))
     by (Some y) e later = rw e (omega (arith, later))
 
-length-taken : (s : State) → length (taken_ids s) ≤ most_taken s
+length-taken : (s : State) → length (taken_ids s) ≤ max_ids_taken s
 unfolding taken_ids
 length-taken s =
     rw (
@@ -156,17 +156,17 @@ pub fresh-free : (s : State) → is_taken (fresh_id s) s ≡ false
 fresh-free s = by (find (λ id. not (is_taken id s)) ids) refl
   where
     ids : List ℕ
-    ids = candidates (next_id s.ids) 0 (most_taken s + 1)
+    ids = candidates (next_id s.ids) 0 (max_ids_taken s + 1)
 
     all_taken : find (λ id. not (is_taken id s)) ids ≡ None → (q : ℕ) → is_member eqb ids q ≡ true → is_member eqb (taken_ids s) q ≡ true
     all_taken none q member = any-taken q s ∙ not-false (is_taken q s) (none-passes (λ id. not (is_taken id s)) q ids none member)
 
     too_many : find (λ id. not (is_taken id s)) ids ≡ None → ⊥
     too_many none =
-        let distinct = candidates-distinct (next_id s.ids) 0 (most_taken s + 1) in
+        let distinct = candidates-distinct (next_id s.ids) 0 (max_ids_taken s + 1) in
         let more = length-le_from_is_member nat_eq_equiv ids (taken_ids s) distinct (all_taken none) in
-        let each = length-map-range_with_len (counted_up (next_id s.ids)) 0 (most_taken s + 1) in
-        none-absurd (most_taken s) (length ids) (length (taken_ids s)) (rw each (omega arith)) more (length-taken s)
+        let each = length-map-range_with_len (counted_up (next_id s.ids)) 0 (max_ids_taken s + 1) in
+        none-absurd (max_ids_taken s) (length ids) (length (taken_ids s)) (rw each (omega arith)) more (length-taken s)
 
     by : (o : Option ℕ) → find (λ id. not (is_taken id s)) ids ≡ o → is_taken (fresh_id s) s ≡ false
     by (Some id) e = rw e (not-true (is_taken id s) (find-passes (λ q. not (is_taken q s)) ids id e))

@@ -12,7 +12,7 @@ use Rattle.turn_client_api.specs.State.{State, DataOffer, Grant, Allocation, Per
 use Rattle.turn_client_api.specs.Grants.{as_allocation, allocations, family_of, family_of_grant, is_channel_of, is_connect, is_for_any, is_of, is_of_request, is_pending_channel, is_pending_permission}
 use Rattle.turn_client_api.specs.Effect.{closed, ended, reserved_time}
 use Rattle.turn_client_api.specs.Due.{has_event, has_reply}
-use Rattle.turn_client_api.specs.Poll.{answer_by, answer_step, channel_lapsed, connections_unbound, given_up_purposes, given_up_step, goes, in_vain, is_given_offer, is_lapsed_channel, is_lapsed_permission, is_listed_for_allocation, is_over, is_unbound, lapsed, lapsed_allocation, lapsed_in, last_channel_lapsed, next_offer, offer_step, offers_in_vain, permissions_lapsed, poll_step, timed_step}
+use Rattle.turn_client_api.specs.Poll.{answer_by, answer_step, channel_lapsed, connections_unbound, timed_out_purposes, timed_out_step, allocation_expires, failed_by_timeout, is_timed_out_offer, is_lapsed_channel, is_lapsed_permission, is_listed_for_allocation, is_over, is_unbound, lapsed, lapsed_allocation, lapsed_in, last_channel_lapsed, next_offer, offer_step, offers_timed_out, permissions_lapsed, poll_step, timed_step}
 use Rattle.turn_client_api.specs.Steps.{Leaves, Poll}
 use Rattle.turn_client_api.specs.LawsNumbers.{HasDistinctNumbers, number_of_channel}
 use Rattle.turn_client_api.specs.LawsGone.{IsGivenUp, IsOver, IsPastWith, HasExpiredOrFailed, IsStillThere, grant_identity}
@@ -215,12 +215,12 @@ module _ (now : ℕ) (s : State) (apart : HasDistinctNumbers s) where
     given = option_map_or (λ (t : Transaction). Some t.id) x None
 
     abbrev purposes : List Purpose
-    purposes = given_up_purposes given s
+    purposes = timed_out_purposes given s
 
     asked-vain : (g : Grant) → is_for_any purposes g ≡ true → IsGivenUp now s g
     asked-vain g for = by x e for
       where
-        by : (o : Option Transaction) → timed_out_transaction (agent_of s) now ≡ o → is_for_any (given_up_purposes (option_map_or (λ (t : Transaction). Some t.id) o None) s) g ≡ true → IsGivenUp now s g
+        by : (o : Option Transaction) → timed_out_transaction (agent_of s) now ≡ o → is_for_any (timed_out_purposes (option_map_or (λ (t : Transaction). Some t.id) o None) s) g ≡ true → IsGivenUp now s g
         by (Some t) f for = (t, f, for)
         by None f for = cc
 
@@ -287,18 +287,18 @@ module _ (now : ℕ) (s : State) (apart : HasDistinctNumbers s) where
         by (Offer offer) a unbound = cc
 
     -- an offer whose request timed out
-    offer-over : (family : AddressFamily) → TakesOver (λ g. is_of family g && is_given_offer given g)
-    offer-over family g is ages passes = by is ages (and_parts (is_of family is) (is_given_offer given is) passes).1
+    offer-over : (family : AddressFamily) → TakesOver (λ g. is_of family g && is_timed_out_offer given g)
+    offer-over family g is ages passes = by is ages (and_parts (is_of family is) (is_timed_out_offer given is) passes).1
       where
-        up : (offer : DataOffer) (o : Option Transaction) → timed_out_transaction (agent_of s) now ≡ o → is_given_offer (option_map_or (λ (t : Transaction). Some t.id) o None) (Offer offer) ≡ true → HasExpiredOrFailed now s (Offer offer)
+        up : (offer : DataOffer) (o : Option Transaction) → timed_out_transaction (agent_of s) now ≡ o → is_timed_out_offer (option_map_or (λ (t : Transaction). Some t.id) o None) (Offer offer) ≡ true → HasExpiredOrFailed now s (Offer offer)
         up offer (Some t) f of = (t, f, of)
         up offer None f of = cc
 
-        no : (is : Grant) (o : Option Transaction) → ((id : ℕ) → is_of_request id is ≡ false) → is_given_offer (option_map_or (λ (t : Transaction). Some t.id) o None) is ≡ true → ⊥
+        no : (is : Grant) (o : Option Transaction) → ((id : ℕ) → is_of_request id is ≡ false) → is_timed_out_offer (option_map_or (λ (t : Transaction). Some t.id) o None) is ≡ true → ⊥
         no is (Some t) none of = let clash : true ≡ false = sym of ∙ none t.id in cc
         no is None none of = cc
 
-        by : (is : Grant) → Ages g is → is_given_offer given is ≡ true → Over g
+        by : (is : Grant) → Ages g is → is_timed_out_offer given is ≡ true → Over g
         by (Offer offer) (inl same) of = inl (subst (HasExpiredOrFailed now s) same (up offer x e of))
         by (Offer offer) (inr (n, peer, expiry, e, f)) of = cc
         by (Channel n peer progress) a of = absurd (no (Channel n peer progress) x (λ id. refl) of)
@@ -311,13 +311,13 @@ module _ (now : ℕ) (s : State) (apart : HasDistinctNumbers s) where
 
     lapsed_in-traces : (family : AddressFamily) (t : State) → Traces t.grants → Traces (lapsed_in family given purposes now t).grants
     lapsed_in-traces family t traces =
-        let a = in_vain family purposes is_pending_channel t in
-        let b = in_vain family purposes is_pending_permission a in
+        let a = failed_by_timeout family purposes is_pending_channel t in
+        let b = failed_by_timeout family purposes is_pending_permission a in
         let c = last_channel_lapsed family now b in
         let d = permissions_lapsed family now c in
-        let f = in_vain family purposes is_connect d in
+        let f = failed_by_timeout family purposes is_connect d in
         let g = connections_unbound family purposes now f in
-        let h = offers_in_vain family given g in
+        let h = offers_timed_out family given g in
         let lapses = λ (y : Grant). is_of family y && is_lapsed_channel now y in
         let in_a = filtered _ t.grants (vain-over family is_pending_channel channel-vain) traces in
         let in_b = filtered _ a.grants (vain-over family is_pending_permission permission-vain) in_a in
@@ -329,9 +329,9 @@ module _ (now : ℕ) (s : State) (apart : HasDistinctNumbers s) where
         filtered _ h.grants (free-over family) in_h
 
     allocation-traces : (a : Relay) → Has (Allocation a) s.grants → (t : State) → Traces t.grants → Traces (lapsed_allocation given purposes now t a).grants
-    allocation-traces a there t traces = by (goes purposes now t a) refl
+    allocation-traces a there t traces = by (allocation_expires purposes now t a) refl
       where
-        by : (b : Bool) → goes purposes now t a ≡ b → Traces (lapsed_allocation given purposes now t a).grants
+        by : (b : Bool) → allocation_expires purposes now t a ≡ b → Traces (lapsed_allocation given purposes now t a).grants
         by true f = rw f (filtered (is_of (family_of a.relayed)) t.grants (family-over a there (leb-true a.expiry now (and_parts (leb a.expiry now) _ f).0)) traces)
         by false f = rw f (lapsed_in-traces (family_of a.relayed) t traces)
 
@@ -422,7 +422,7 @@ module _ (now : ℕ) (s : State) (apart : HasDistinctNumbers s) where
           by (inl remains) = inl remains
           by (inr never) = absurd never
 
-      offered : (o : Option DataOffer) → Spares (option_map_or (λ offer. offer_step offer s) o (given_up_step now s)).1.grants
+      offered : (o : Option DataOffer) → Spares (option_map_or (λ offer. offer_step offer s) o (timed_out_step now s)).1.grants
       offered None = timed-spares (timed_out_transaction (agent_of s) now) refl
       offered (Some offer) = told offer
 

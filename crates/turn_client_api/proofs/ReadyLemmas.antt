@@ -6,20 +6,20 @@ use Rattle.std.specs.Option.{option_map_or}
 use Rattle.std.proofs.Math.Nat.{max-le, le-min, le-max_left, le-max_right}
 use Rattle.std.proofs.lemmas.Option.{none-some, same_Some}
 use Rattle.std.proofs.lemmas.Bool.{not-true, false_from_ne_true, leb-true, lt-ltb, le-leb, ltb-true, ltb-false, and_right, lt-leb, leb-false}
-use Rattle.turn_agent.specs.Agent.{Agent, timed_out_transaction, due, is_due, is_given_up, next_moment}
+use Rattle.turn_agent.specs.Agent.{Agent, timed_out_transaction, due, is_due, is_timed_out, transaction_timeout}
 use Rattle.turn_agent.specs.declared.transaction.Transaction.{Transaction}
 use Rattle.turn_stun.specs.declared.transport.TransportType.{TransportType}
 use Rattle.turn_agent.specs.Schedule.{Timers, resends_of}
 use Rattle.turn_types.specs.declared.family.AddressFamily.{AddressFamily}
 use Rattle.turn_types.specs.declared.family.AddressFamily.TheVariants.{IPV4, IPV6}
 use Rattle.turn_client_api.specs.Config.{same_family}
-use Rattle.turn_client_api.specs.State.{State, Purpose, ForRefresh, ForPermission, ForChannel, Phase, New, Requesting, Authenticating, Allocated, Closed, Grant, Allocation, Permission, Channel, Connect, Offer, Connection, Relay, Pending, Active, Reserved, Queued, agent_of, greatest_moment}
+use Rattle.turn_client_api.specs.State.{State, Purpose, ForRefresh, ForPermission, ForChannel, Phase, New, Requesting, Authenticating, Allocated, Closed, Grant, Allocation, Permission, Channel, Connect, Offer, Connection, Relay, Pending, Active, Reserved, Queued, agent_of, max_time}
 use Rattle.turn_client_api.specs.Grants.{allocations, as_allocation, find_allocation, family_of, family_of_grant, family_of_ip, has_request, is_of}
 use Rattle.turn_client_api.specs.Requests.{asked_lifetime}
-use Rattle.turn_client_api.specs.Due.{due_moments, end_of, is_refreshable, has_queued_request, has_reply, is_paused, least_due, pause_end, refresh_of, refresh_time, refresh_time_by_kind}
+use Rattle.turn_client_api.specs.Due.{due_times, end_of, is_refreshable, has_queued_request, has_reply, is_paused, least_due, pause_end, refresh_of, refresh_time, refresh_time_by_kind}
 use Rattle.turn_client_api.specs.Poll.{next_offer}
 use Rattle.turn_client_api.specs.Transmit.{idle_step, is_due_in, is_ranked, is_refresh_due, next_transmit, queue_step, refresh_purpose, refresh_step, refreshes_in, refreshes_of_rank, reply_in, reply_step, transmit_step, without_first_reply}
-use Rattle.turn_client_api.specs.Alarm.{IsSilent, Lasts}
+use Rattle.turn_client_api.specs.Alarm.{IsIdleUntil, Lasts}
 use Rattle.turn_client_api.proofs.HasLemmas.{Has, has-append, has-left, has-right, map-has, flat_map-has, has-flat_map, has-found, filter-has, filter_map-has, has-filter_map, find-none, filter-none, least-le, all-has}
 
 -- the grant has not expired by now, if its expiry is one to wait for
@@ -44,14 +44,14 @@ pub record IsReady (now : ℕ) (t : State) : Type 0 where
 -- ---- due times
 
 -- what is due is not before the least
-least-member : (now m : ℕ) (t : State) → Has m (due_moments now t) → least_due now t ≤ m
-least-member now m t h = least-le greatest_moment m (due_moments now t) h
+least-member : (now m : ℕ) (t : State) → Has m (due_times now t) → least_due now t ≤ m
+least-member now m t h = least-le max_time m (due_times now t) h
 
 abbrev queued_part : State → List ℕ
 queued_part t = if has_queued_request t then pause_end t ∷ [] else []
 
 abbrev transactions_part : State → List ℕ
-transactions_part t = map (next_moment (agent_of t).timers t.transport) t.transactions
+transactions_part t = map (transaction_timeout (agent_of t).timers t.transport) t.transactions
 
 abbrev grant_part : ℕ → State → Grant → List ℕ
 grant_part now t g = end_of now g ++ refresh_of t g
@@ -61,9 +61,9 @@ least-queued now t queued =
     let others = flat_map (grant_part now t) t.grants in
     least-member now (pause_end t) t (inr (has-left (pause_end t) (queued_part t ++ transactions_part t) others (has-left (pause_end t) (queued_part t) (transactions_part t) (rw queued (inl refl)))))
 
-least-transaction : (now : ℕ) (t : State) (x : Transaction) → Has x t.transactions → least_due now t ≤ next_moment (agent_of t).timers t.transport x
+least-transaction : (now : ℕ) (t : State) (x : Transaction) → Has x t.transactions → least_due now t ≤ transaction_timeout (agent_of t).timers t.transport x
 least-transaction now t x h =
-    let next = next_moment (agent_of t).timers t.transport in
+    let next = transaction_timeout (agent_of t).timers t.transport in
     let others = flat_map (grant_part now t) t.grants in
     least-member now (next x) t (inr (has-left (next x) (queued_part t ++ transactions_part t) others (has-right (next x) (queued_part t) (transactions_part t) (map-has next x t.transactions h))))
 
@@ -198,7 +198,7 @@ lasts now m t ready until g h = by g h (ready.alive g h)
         of (Some deadline) e = rw e (due_end (Connection c) h deadline (rw e (inl refl)))
 
 -- a client that is ready is idle before the earliest of the times at which something is due
-pub ready-silent : (now m : ℕ) (t : State) → IsReady now t → m ≤ least_due now t → IsSilent now m t
+pub ready-silent : (now m : ℕ) (t : State) → IsReady now t → m ≤ least_due now t → IsIdleUntil now m t
 ready-silent now m t ready until = record {
   sends_nothing = λ k from before. sends_nothing now k t ready (omega (arith, before, until));
   ends_nothing = λ k from before. not_over now k t (omega (arith, before, until));
@@ -238,34 +238,34 @@ and_false_left : (x y : Bool) → y ≡ true → (x && y) ≡ false → x ≡ fa
 and_false_left true y passes fails = sym passes ∙ fails
 and_false_left false y passes fails = refl
 
-waits_on : (timers : Timers) (transport : TransportType) (now : ℕ) (t : Transaction) → is_due timers transport now t ≡ false → is_given_up timers transport now t ≡ false → now < next_moment timers transport t
-waits_on timers transport now t not_due not_over = by (leb (next_moment timers transport t) now) refl
+waits_on : (timers : Timers) (transport : TransportType) (now : ℕ) (t : Transaction) → is_due timers transport now t ≡ false → is_timed_out timers transport now t ≡ false → now < transaction_timeout timers transport t
+waits_on timers transport now t not_due not_over = by (leb (transaction_timeout timers transport t) now) refl
   where
-    by : (b : Bool) → leb (next_moment timers transport t) now ≡ b → now < next_moment timers transport t
-    by false later = leb-false (next_moment timers transport t) now later
+    by : (b : Bool) → leb (transaction_timeout timers transport t) now ≡ b → now < transaction_timeout timers transport t
+    by false later = leb-false (transaction_timeout timers transport t) now later
     by true past =
         let more : ltb t.resends (resends_of timers transport) ≡ false = and_false_left _ _ past not_due in
         let last : leb (resends_of timers transport) t.resends ≡ false = and_false_left _ _ past not_over in
         absurd (omega (arith, ltb-false _ _ more, leb-false _ _ last))
 
 -- what is neither to be retransmitted nor timed out waits on
-transactions-later : (now m : ℕ) (a : Agent) (xs : List Transaction) → find (is_due a.timers a.transport now) xs ≡ None → find (is_given_up a.timers a.transport now) xs ≡ None → Has m (map (next_moment a.timers a.transport) xs) → now < m
+transactions-later : (now m : ℕ) (a : Agent) (xs : List Transaction) → find (is_due a.timers a.transport now) xs ≡ None → find (is_timed_out a.timers a.transport now) xs ≡ None → Has m (map (transaction_timeout a.timers a.transport) xs) → now < m
 transactions-later now m a [] none_due none_over h = absurd h
-transactions-later now m a (x ∷ xs) none_due none_over h = by (is_due a.timers a.transport now x) (is_given_up a.timers a.transport now x) refl refl (transactions-later now m a xs)
+transactions-later now m a (x ∷ xs) none_due none_over h = by (is_due a.timers a.transport now x) (is_timed_out a.timers a.transport now x) refl refl (transactions-later now m a xs)
   where
-    by : (d o : Bool) → is_due a.timers a.transport now x ≡ d → is_given_up a.timers a.transport now x ≡ o → (find (is_due a.timers a.transport now) xs ≡ None → find (is_given_up a.timers a.transport now) xs ≡ None → Has m (map (next_moment a.timers a.transport) xs) → now < m) → now < m
+    by : (d o : Bool) → is_due a.timers a.transport now x ≡ d → is_timed_out a.timers a.transport now x ≡ o → (find (is_due a.timers a.transport now) xs ≡ None → find (is_timed_out a.timers a.transport now) xs ≡ None → Has m (map (transaction_timeout a.timers a.transport) xs) → now < m) → now < m
     by true o e f others = absurd (none-some x (sym (rw e at none_due)))
     by false true e f others = absurd (none-some x (sym (rw f at none_over)))
     by false false e f others = at h
       where
-        at : (m ≡ next_moment a.timers a.transport x) ⊎ Has m (map (next_moment a.timers a.transport) xs) → now < m
+        at : (m ≡ transaction_timeout a.timers a.transport x) ⊎ Has m (map (transaction_timeout a.timers a.transport) xs) → now < m
         at (inl same) = rw same (waits_on a.timers a.transport now x e f)
         at (inr there) = others (rw e at none_due) (rw f at none_over) there
 
 all-later : (now : ℕ) (t : State) → AreLater now t → now < least_due now t
-all-later now t l = later-least now greatest_moment (due_moments now t) (omega (arith, l.in_range)) by
+all-later now t l = later-least now max_time (due_times now t) (omega (arith, l.in_range)) by
   where
-    by : (m : ℕ) → Has m (due_moments now t) → now < m
+    by : (m : ℕ) → Has m (due_times now t) → now < m
     by m (inl e) = rw e (omega (arith, l.in_range, le-min {k = suc now} {a = now + 9999 * 1_000_000_000} {b = 2 ^ 63 - 1} (omega arith) (omega (arith, l.in_range))))
     by m (inr h) = grants (has-append m (queued_part t ++ transactions_part t) (flat_map (grant_part now t) t.grants) h)
       where

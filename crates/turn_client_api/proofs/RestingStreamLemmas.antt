@@ -6,7 +6,7 @@ use Rattle.turn_types.specs.Frames.{begins_no_frame, frame_len}
 use Rattle.turn_types.proofs.FrameLemmas.{frame_len-IsWhole}
 use Rattle.turn_types.proofs.SplitLemmas.{IsWhole-IsFrame}
 use Rattle.turn_client_api.specs.State.{State, Mode, Control, Waiting, Bound, Broken, Stream}
-use Rattle.turn_client_api.specs.Streams.{is_ready, most_turns, poll_recv_step, ready_len, steps_until_payload}
+use Rattle.turn_client_api.specs.Streams.{is_ready, max_steps, poll_recv_step, ready_len, steps_until_payload}
 use Rattle.turn_client_api.specs.Handled.{poll_recv_inputs, inputs_taken}
 use Rattle.turn_client_api.specs.LawsStreams.{HasNoFrame, NeedsMoreBytes}
 use Rattle.turn_client_api.proofs.HasLemmas.{find-none, has-all}
@@ -44,7 +44,7 @@ taken-rest zero now s e = refl
 taken-rest (suc n) now s e = rw e refl
 
 pub poll_recv-rests : (now : ℕ) (s : State) → All NeedsMoreBytes s.streams → poll_recv_step now s ≡ (None, s)
-poll_recv-rests now s all = turns-rest (most_turns s) now s (none-ready s all)
+poll_recv-rests now s all = turns-rest (max_steps s) now s (none-ready s all)
 
 pub poll_recv-handles_nothing : (now : ℕ) (s : State) → All NeedsMoreBytes s.streams → poll_recv_inputs now s ≡ []
-poll_recv-handles_nothing now s all = taken-rest (most_turns s) now s (none-ready s all)
+poll_recv-handles_nothing now s all = taken-rest (max_steps s) now s (none-ready s all)

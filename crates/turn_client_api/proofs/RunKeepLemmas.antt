@@ -10,7 +10,7 @@ use Rattle.turn_client_api.specs.State.{State, Mode, Control, Waiting, Bound, Br
 use Rattle.turn_client_api.specs.Grants.{same_transport}
 use Rattle.turn_client_api.specs.Connections.{bind_step}
 use Rattle.turn_client_api.specs.Payloads.{Payload, Outcome, Handled, Ignored, PeerData, PeerIcmp, channel_sent, datagram_step, is_channel_frame, is_message, message_step}
-use Rattle.turn_client_api.specs.Streams.{broken_at, control_frame_step, frame_step, framed_by, framed_stream_step, go_on, is_ready, most_turns, poll_recv_step, stream_at, next_frame_step, detached_frame_step, steps_until_payload, first_ready_step, waiting_frame_step, with_bytes, without_stream}
+use Rattle.turn_client_api.specs.Streams.{broken_at, control_frame_step, frame_step, framed_by, framed_stream_step, go_on, is_ready, max_steps, poll_recv_step, stream_at, next_frame_step, detached_frame_step, steps_until_payload, first_ready_step, waiting_frame_step, with_bytes, without_stream}
 use Rattle.turn_client_api.specs.Receive.{connection_gone, first_frame_step, is_from_server, piece_step, recv_step, stream_step, tcp_closed_step, then_all}
 
 -- Of a relation between a state and a later one: each state is as itself, later is later again, streams
@@ -86,7 +86,7 @@ module _ (R : State → State → Type 0) (k : IsKept R) where
       by (Some stream) more = go_on-kept (steps_until_payload n now) s (next_frame_step stream now s) (turn-kept stream now s) more
 
   pub poll_recv-kept : (now : ℕ) (s : State) → R s (poll_recv_step now s).1
-  poll_recv-kept now s = turns-kept (most_turns s) now s
+  poll_recv-kept now s = turns-kept (max_steps s) now s
 
   then_all-kept : (now : ℕ) (s : State) (p : Outcome × State) → R s p.1 → R s (then_all now p).1
   then_all-kept now s (PeerData payload, t) first = first

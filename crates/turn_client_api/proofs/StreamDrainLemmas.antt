@@ -12,7 +12,7 @@ use Rattle.turn_types.proofs.SplitLemmas.{IsFrame-frame_len}
 use Rattle.turn_agent.specs.Agent.{same_address}
 use Rattle.turn_client_api.specs.State.{State, Mode, Control, Waiting, Bound, Broken, Stream}
 use Rattle.turn_client_api.specs.Payloads.{Payload, Outcome, Handled, Ignored, PeerData, PeerIcmp}
-use Rattle.turn_client_api.specs.Streams.{broken_at, frame_step, framed_by, framed_stream_step, go_on, is_ready, most_turns, poll_recv_step, ready_len, next_frame_step, first_ready_step, steps_until_payload, with_bytes}
+use Rattle.turn_client_api.specs.Streams.{broken_at, frame_step, framed_by, framed_stream_step, go_on, is_ready, max_steps, poll_recv_step, ready_len, next_frame_step, first_ready_step, steps_until_payload, with_bytes}
 use Rattle.turn_client_api.specs.Receive.{first_frame_step, piece_step, then_all}
 use Rattle.turn_client_api.specs.LawsPeers.{HasNoPeer}
 use Rattle.turn_client_api.specs.LawsStreams.{HasNoFrame, NeedsMoreBytes}
@@ -196,10 +196,10 @@ turns-enough (suc n) (suc m) now s hn hm = by (find is_ready s.streams) refl (λ
         let less = turn-lighter stream now s e in
         go_on-same (steps_until_payload n now) (steps_until_payload m now) (next_frame_step stream now s) (more (next_frame_step stream now s).1 (omega (arith, less)) (omega (arith, less)))
 
-pub poll_recv-enough : (n now : ℕ) (s : State) → most_turns s ≤ n → steps_until_payload n now s ≡ poll_recv_step now s
+pub poll_recv-enough : (n now : ℕ) (s : State) → max_steps s ≤ n → steps_until_payload n now s ≡ poll_recv_step now s
 poll_recv-enough n now s h =
     let most = weight-le s.streams in
-    turns-enough n (most_turns s) now s (omega (arith, most, h)) most
+    turns-enough n (max_steps s) now s (omega (arith, most, h)) most
 
 -- no stream is ready if no payload was returned
 abbrev pub IsDone : Option Payload × State → Type 0
@@ -265,7 +265,7 @@ all-drained (x ∷ xs) e = by (ready_len x) refl (all-drained xs) e
 
 pub poll_recv-drained : (now : ℕ) (s : State) → (poll_recv_step now s).0 ≡ None → All NeedsMoreBytes (poll_recv_step now s).1.streams
 poll_recv-drained now s none =
-    all-drained (poll_recv_step now s).1.streams (turns-done (most_turns s) now s (weight-le s.streams) none)
+    all-drained (poll_recv_step now s).1.streams (turns-done (max_steps s) now s (weight-le s.streams) none)
 
 -- ---- a piece of the control stream
 

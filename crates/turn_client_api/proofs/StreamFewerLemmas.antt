@@ -7,7 +7,7 @@ use Rattle.std.specs.declared.net.socket_addr.SocketAddr.{SocketAddr}
 use Rattle.turn_agent.specs.Agent.{same_address}
 use Rattle.turn_client_api.specs.State.{State, Stream}
 use Rattle.turn_client_api.specs.Payloads.{Payload, Outcome, Handled, Ignored, PeerData, PeerIcmp}
-use Rattle.turn_client_api.specs.Streams.{go_on, is_ready, most_turns, poll_recv_step, next_frame_step, first_ready_step, steps_until_payload}
+use Rattle.turn_client_api.specs.Streams.{go_on, is_ready, max_steps, poll_recv_step, next_frame_step, first_ready_step, steps_until_payload}
 use Rattle.turn_client_api.specs.LawsStreams.{AreApart}
 use Rattle.turn_client_api.proofs.StreamApartLemmas.{IsNoneOf, differ-sym, ends}
 use Rattle.turn_client_api.proofs.StreamDrainLemmas.{turn-lighter}
@@ -49,8 +49,8 @@ turns-less (suc n) now s = by (find is_ready s.streams) refl (λ t. turns-less n
     by (Some stream) e more =
         go_on-less (steps_until_payload n now) (weight s.streams) (next_frame_step stream now s) (turn-lighter stream now s e) (more (next_frame_step stream now s).1)
 
-pub poll_recv-fewer : (now : ℕ) (s : State) → AreApart s → IsSome (poll_recv_step now s).0 → most_turns (poll_recv_step now s).1 < most_turns s
+pub poll_recv-fewer : (now : ℕ) (s : State) → AreApart s → IsSome (poll_recv_step now s).0 → max_steps (poll_recv_step now s).1 < max_steps s
 poll_recv-fewer now s apart some =
     let t = (poll_recv_step now s).1 in
     let later = poll_recv-apart now s apart in
-    omega (arith, weight-all s.streams apart.0, weight-all t.streams later.0, turns-less (most_turns s) now s some)
+    omega (arith, weight-all s.streams apart.0, weight-all t.streams later.0, turns-less (max_steps s) now s some)

@@ -10,7 +10,7 @@ use Rattle.turn_client_api.specs.State.{State, Mode, Control, Waiting, Bound, Br
 use Rattle.turn_client_api.specs.Grants.{same_transport}
 use Rattle.turn_client_api.specs.Connections.{connection_at}
 use Rattle.turn_client_api.specs.Payloads.{Payload, Outcome, Handled, Ignored, PeerData, PeerIcmp, channel_sent, datagram_step, is_channel_frame, is_message, message_step}
-use Rattle.turn_client_api.specs.Streams.{broken_at, frame_step, framed_by, framed_stream_step, go_on, is_ready, most_turns, poll_recv_step, stream_at, next_frame_step, detached_frame_step, first_ready_step, steps_until_payload, with_bytes}
+use Rattle.turn_client_api.specs.Streams.{broken_at, frame_step, framed_by, framed_stream_step, go_on, is_ready, max_steps, poll_recv_step, stream_at, next_frame_step, detached_frame_step, first_ready_step, steps_until_payload, with_bytes}
 use Rattle.turn_client_api.specs.Receive.{connection_gone, first_frame_step, is_from_server, piece_step, recv_step, stream_step, tcp_closed_step, then_all}
 use Rattle.turn_client_api.specs.LawsStreams.{AreApart}
 use Rattle.turn_client_api.proofs.StreamApartLemmas.{Apart, NotBroken, bound-NotBroken, bound-apart, broken-apart, bytes-apart, bytes-NotBroken, emptied-apart, filter-apart, found-NotBroken}
@@ -90,7 +90,7 @@ turns-apart (suc n) now s h = by (find is_ready s.streams) refl (λ t. turns-apa
         go_on-apart (steps_until_payload n now) s (next_frame_step stream now s) (turn-apart stream now s whole h) more
 
 pub poll_recv-apart : (now : ℕ) (s : State) → StayApart s (poll_recv_step now s).1
-poll_recv-apart now s = turns-apart (most_turns s) now s
+poll_recv-apart now s = turns-apart (max_steps s) now s
 
 -- ---- input
 

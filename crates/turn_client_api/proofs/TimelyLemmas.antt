@@ -5,7 +5,7 @@ use Rattle.std.specs.Option.{option_map_or}
 use Rattle.std.proofs.Math.Nat.{max-le, le-max_right}
 use Rattle.std.proofs.lemmas.Bool.{ltb-true, ltb-false, eq-eqb}
 use Rattle.std.specs.declared.net.socket_addr.SocketAddr.{SocketAddr}
-use Rattle.turn_agent.specs.Agent.{timed_out_transaction, is_given_up, is_outstanding}
+use Rattle.turn_agent.specs.Agent.{timed_out_transaction, is_timed_out, is_outstanding}
 use Rattle.turn_agent.specs.Agent as A
 use Rattle.turn_agent.specs.declared.transaction.Transaction.{Transaction}
 use Rattle.turn_client_api.specs.State.{State, DataOffer, Phase, New, Requesting, Authenticating, Allocated, Closed, Grant, Relay, agent_of}
@@ -13,8 +13,8 @@ use Rattle.turn_client_api.specs.Grants.{allocations}
 use Rattle.turn_client_api.specs.Effect.{closed, ended}
 use Rattle.turn_client_api.specs.Calls.{is_allocated}
 use Rattle.turn_client_api.specs.Due.{has_event, has_reply, is_new, least_due, next_wakeup}
-use Rattle.turn_client_api.specs.Poll.{answer_by, answer_step, given_up_step, is_listed_for_allocation, lapsed, next_offer, offer_step, poll_step, timed_step}
-use Rattle.turn_client_api.specs.Alarm.{AllHaveAllocation, IsBeforeGrants, IsBusy, FitsPhaseForPoll, IsSilent, IsTimely}
+use Rattle.turn_client_api.specs.Poll.{answer_by, answer_step, timed_out_step, is_listed_for_allocation, lapsed, next_offer, offer_step, poll_step, timed_step}
+use Rattle.turn_client_api.specs.Alarm.{AllHaveAllocation, IsBeforeGrants, IsBusy, FitsPhaseForPoll, IsIdleUntil, IsTimely}
 use Rattle.turn_client_api.specs.declared.event.TurnEvent.{TurnEvent}
 use Rattle.turn_client_api.specs.declared.poll.TurnPollRet.{TurnPollRet}
 use Rattle.turn_client_api.specs.declared.poll.TurnPollRet.TheVariants as Do
@@ -68,10 +68,10 @@ ready-timely now was t m range ready (inl e) =
     (λ later. ready-silent now m t ready (omega (arith, e)), λ reached. inr (inl (ready-busy now t ready range (omega (arith, e, reached)))))
 ready-timely now was t m range ready (inr e) = (silent, λ reached. inr (inl (ready-busy now t ready range (omega (arith, e, reached, le-max_right now (least_due now t))))))
   where
-    silent : now < m → IsSilent now m t
+    silent : now < m → IsIdleUntil now m t
     silent later = by (ltb now (least_due now t)) refl
       where
-        by : (b : Bool) → ltb now (least_due now t) ≡ b → IsSilent now m t
+        by : (b : Bool) → ltb now (least_due now t) ≡ b → IsIdleUntil now m t
         by true f = ready-silent now m t ready (omega (arith, e, max-le {a = now} {b = least_due now t} {k = least_due now t} (omega (arith, ltb-true now (least_due now t) f)) (omega arith)))
         by false f = absurd (omega (arith, later, e, max-le {a = now} {b = least_due now t} {k = now} (omega arith) (ltb-false now (least_due now t) f)))
 
@@ -178,7 +178,7 @@ given-timely now s orderly range no_reply no_offer x given p e = by p e
     u = ended x.id s
 
     outstanding : is_outstanding x.id s.transactions ≡ true
-    outstanding = found-outstanding (is_given_up (agent_of s).timers s.transport now) x s.transactions (has-found (is_given_up (agent_of s).timers s.transport now) x s.transactions given).0
+    outstanding = found-outstanding (is_timed_out (agent_of s).timers s.transport now) x s.transactions (has-found (is_timed_out (agent_of s).timers s.transport now) x s.transactions given).0
 
     gave : GaveUp s u
     gave = (x, outstanding, without-ended x.id s.transactions)
@@ -258,11 +258,11 @@ none-timely now s orderly stand range no_reply no_offer none p e = by p e
 pub poll-timely : (now : ℕ) (s : State) → FitsPhaseForPoll s → AllHaveAllocation s → now ≤ 2 ^ 62 → IsTimely (poll_step now s).0 now s (poll_step now s).1
 poll-timely now s orderly stand range = events (has_event s) (has_reply s) refl refl
   where
-    given : has_reply s ≡ false → next_offer s ≡ None → (o : Option Transaction) → timed_out_transaction (agent_of s) now ≡ o → Timely now s (given_up_step now s)
-    given no_reply no_offer None e = rw (given_up_step, e) (none-timely now s orderly stand range no_reply no_offer e s.phase refl)
-    given no_reply no_offer (Some x) e = rw (given_up_step, e) (given-timely now s orderly range no_reply no_offer x e s.phase refl)
+    given : has_reply s ≡ false → next_offer s ≡ None → (o : Option Transaction) → timed_out_transaction (agent_of s) now ≡ o → Timely now s (timed_out_step now s)
+    given no_reply no_offer None e = rw (timed_out_step, e) (none-timely now s orderly stand range no_reply no_offer e s.phase refl)
+    given no_reply no_offer (Some x) e = rw (timed_out_step, e) (given-timely now s orderly range no_reply no_offer x e s.phase refl)
 
-    offers : has_event s ≡ false → has_reply s ≡ false → (o : Option DataOffer) → next_offer s ≡ o → Timely now s (option_map_or (λ offer. offer_step offer s) (next_offer s) (given_up_step now s))
+    offers : has_event s ≡ false → has_reply s ≡ false → (o : Option DataOffer) → next_offer s ≡ o → Timely now s (option_map_or (λ offer. offer_step offer s) (next_offer s) (timed_out_step now s))
     offers no_event no_reply (Some offer) e = rw e tt
     offers no_event no_reply None e = rw e (given no_reply e (timed_out_transaction (agent_of s) now) refl)
 

@@ -10,7 +10,7 @@ use Rattle.turn_client_api.specs.State.{State, Mode, Control, Waiting, Bound, Br
 use Rattle.turn_client_api.specs.Answers.{EndsAfterSteps, RecvEnds, before_others, takes_no_memory}
 use Rattle.turn_client_api.specs.Effect.{closed}
 use Rattle.turn_client_api.specs.Payloads.{Payload, Outcome, Handled, Ignored, PeerData, PeerIcmp}
-use Rattle.turn_client_api.specs.Streams.{broken_at, is_ready, most_turns, payload_in, stream_at, next_frame_step}
+use Rattle.turn_client_api.specs.Streams.{broken_at, is_ready, max_steps, payload_in, stream_at, next_frame_step}
 use Rattle.turn_client_api.specs.Receive.{first_frame_step, is_from_server}
 use Rattle.turn_client_api.specs.Handled.{Input, fed_taken, handled, piece_inputs, poll_recv_inputs, recv_inputs, stream_inputs, taken, taken_first, then_taken, inputs_taken, unless_given}
 use Rattle.turn_client_api.specs.Steps.{Call, EndsWithoutMemory, Delete, CreatePermission, BindChannel, TcpConnect, AllocatedTcpSocket, TcpClosed, SendTo, Recv, PollRecv, Poll, PollTransmit, PollEvent, RelayedAddresses, Permissions, HavePermission, ProtocolError}
@@ -65,7 +65,7 @@ turns-end now s t (u, (n, led), broken) = by (find is_ready u.streams) broken
     by None none = absurd none
     by (Some stream) e = (
       inputs_taken n now s,
-      taken-front n (most_turns s) now s (weight-le s.streams),
+      taken-front n (max_steps s) now s (weight-le s.streams),
       (broken_at stream.local u, leads-after (inputs_taken n now s) s u (broken_at stream.local u) there (broken-differs stream.local u), e),
     )
 

@@ -5,8 +5,8 @@ use Rattle.std.specs.List.{Contains}
 use Rattle.std.proofs.Math.Nat.{min-le_left, min-le_right, min-eq_left}
 use Rattle.std.proofs.lemmas.Bool.{cases_lt, lt-ltb}
 use Rattle.std.proofs.lemmas.List.Elements.{All-nil, All-cons}
-use Rattle.turn_client_api.specs.State.{State, Phase, New, Requesting, Authenticating, Allocated, Closed, greatest_moment, later_by}
-use Rattle.turn_client_api.specs.Due.{due_moments, has_event, has_reply, is_new, least_due, longest_sleep, next_wakeup}
+use Rattle.turn_client_api.specs.State.{State, Phase, New, Requesting, Authenticating, Allocated, Closed, max_time, later_by}
+use Rattle.turn_client_api.specs.Due.{due_times, has_event, has_reply, is_new, least_due, max_wait, next_wakeup}
 use Rattle.turn_client_api.specs.Calls.{is_allocated}
 use Rattle.turn_client_api.specs.LawsWakeup.{IsLeast}
 use Rattle.turn_client_api.specs.declared.event.TurnEvent.{TurnEvent}
@@ -61,8 +61,8 @@ from_first greatest first moments h = rw e (by (fold-IsFolded first moments))
     by f = record { one = which f.one; least = All-cons (λ other. fold min first moments ≤ other) first moments f.below f.below_all }
 
 -- the longest wait ends at the greatest `Instant` at most, so the minimum is one of the times
-pub due-IsLeast : (now : ℕ) (s : State) → IsLeast (least_due now s) (due_moments now s)
-due-IsLeast now s = from_first greatest_moment (later_by longest_sleep now) _ (min-le_right (now + longest_sleep) greatest_moment)
+pub due-IsLeast : (now : ℕ) (s : State) → IsLeast (least_due now s) (due_times now s)
+due-IsLeast now s = from_first max_time (later_by max_wait now) _ (min-le_right (now + max_wait) max_time)
 
 pub wakeup-new : (has_given_up : Bool) (now : ℕ) (s : State) → s.phase ≡ New → next_wakeup has_given_up now s ≡ now
 wakeup-new given now s e = rw e refl

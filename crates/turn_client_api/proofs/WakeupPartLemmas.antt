@@ -3,9 +3,9 @@ use Rattle.std.proofs.Common.{◌≡◌, ℕ, ◌+◌, ◌≤◌, max, min, Bool
 use Rattle.std.specs.Prelude.{option_to_list}
 use Rattle.std.specs.Option.{option_map_or}
 use Rattle.std.proofs.Math.Nat.{min-le_right}
-use Rattle.turn_agent.specs.Agent.{next_moment}
-use Rattle.turn_client_api.specs.State.{State, Grant, agent_of, greatest_moment, later_by}
-use Rattle.turn_client_api.specs.Due.{end_of, has_queued_request, least_due, longest_sleep, pause, pause_end, refresh_of, refresh_time}
+use Rattle.turn_agent.specs.Agent.{transaction_timeout}
+use Rattle.turn_client_api.specs.State.{State, Grant, agent_of, max_time, later_by}
+use Rattle.turn_client_api.specs.Due.{end_of, has_queued_request, least_due, max_wait, pause, pause_end, refresh_of, refresh_time}
 use Rattle.turn_client_api.specs.LawsBodies.{soonest, soonest_queued, soonest_transaction}
 
 -- any start that is not above the greatest
@@ -26,12 +26,12 @@ least-append greatest start (x ∷ xs) ys h = least-append greatest (min start x
 least-le_greatest : (greatest : ℕ) (ms : List ℕ) → fold min greatest ms ≤ greatest
 least-le_greatest greatest ms = omega (arith, least-from greatest greatest ms (omega arith))
 
-pause-within : (s : State) → pause_end s ≤ greatest_moment
+pause-within : (s : State) → pause_end s ≤ max_time
 pause-within s = by s.last_send
   where
-    by : (o : Option ℕ) → option_map_or (later_by pause) o 0 ≤ greatest_moment
+    by : (o : Option ℕ) → option_map_or (later_by pause) o 0 ≤ max_time
     by None = omega arith
-    by (Some moment) = min-le_right (moment + pause) greatest_moment
+    by (Some moment) = min-le_right (moment + pause) max_time
 
 joined : (p a b e r : ℕ) → min (min a (max p b)) (min e (max p r)) ≡ min (min a e) (max p (min b r))
 joined p a b e r = omega arith
@@ -96,34 +96,34 @@ in-row first q t e = omega arith
 
 pub due-parts : (now : ℕ) (s : State) → least_due now s ≡ soonest now s
 due-parts now s =
-    least-append greatest_moment start (queued ++ transactions) grants below
-    ∙ (ap (λ x. min x (fold min greatest_moment grants)) front
-    ∙ (in-row (later_by longest_sleep now) (soonest_queued s) (soonest_transaction s) (fold min greatest_moment grants)
-    ∙ ap (λ x. min (later_by longest_sleep now) (min (soonest_queued s) (min (soonest_transaction s) x))) (grants-part now s greatest_moment (pause-within s) s.grants)))
+    least-append max_time start (queued ++ transactions) grants below
+    ∙ (ap (λ x. min x (fold min max_time grants)) front
+    ∙ (in-row (later_by max_wait now) (soonest_queued s) (soonest_transaction s) (fold min max_time grants)
+    ∙ ap (λ x. min (later_by max_wait now) (min (soonest_queued s) (min (soonest_transaction s) x))) (grants-part now s max_time (pause-within s) s.grants)))
   where
     queued : List ℕ
     queued = cond (has_queued_request s) (pause_end s ∷ []) []
 
     transactions : List ℕ
-    transactions = map (next_moment (agent_of s).timers s.transport) s.transactions
+    transactions = map (transaction_timeout (agent_of s).timers s.transport) s.transactions
 
     grants : List ℕ
     grants = flat_map (λ g. end_of now g ++ refresh_of s g) s.grants
 
     start : ℕ
-    start = min greatest_moment (later_by longest_sleep now)
+    start = min max_time (later_by max_wait now)
 
-    below : start ≤ greatest_moment
+    below : start ≤ max_time
     below = omega arith
 
-    first : start ≡ later_by longest_sleep now
-    first = let within : later_by longest_sleep now ≤ greatest_moment = min-le_right (now + longest_sleep) greatest_moment in omega (arith, within)
+    first : start ≡ later_by max_wait now
+    first = let within : later_by max_wait now ≤ max_time = min-le_right (now + max_wait) max_time in omega (arith, within)
 
-    front : fold min start (queued ++ transactions) ≡ min (min (later_by longest_sleep now) (soonest_queued s)) (soonest_transaction s)
+    front : fold min start (queued ++ transactions) ≡ min (min (later_by max_wait now) (soonest_queued s)) (soonest_transaction s)
     front =
-        least-append greatest_moment start queued transactions below
+        least-append max_time start queued transactions below
         ∙ ap (λ x. min x (soonest_transaction s)) (
-        least-from greatest_moment start queued below
-        ∙ (ap (λ x. min x (fold min greatest_moment queued)) first
-        ∙ ap (min (later_by longest_sleep now)) (queued-part s greatest_moment (pause-within s)))
+        least-from max_time start queued below
+        ∙ (ap (λ x. min x (fold min max_time queued)) first
+        ∙ ap (min (later_by max_wait now)) (queued-part s max_time (pause-within s)))
         )

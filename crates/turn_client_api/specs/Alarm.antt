@@ -20,7 +20,7 @@ Lasts moment _ = ⊤
 
 -- Nothing is due from now on before that time: no packet is due, and `poll_transmit` changes nothing, no
 -- transaction ends, no event, offer or close is pending, and no grant expires.
-pub record IsSilent (now moment : ℕ) (s : State) : Type 0 where
+pub record IsIdleUntil (now moment : ℕ) (s : State) : Type 0 where
   pub sends_nothing : (t : ℕ) → now ≤ t → t < moment → transmit_step t s ≡ (None, s)
   pub ends_nothing : (t : ℕ) → now ≤ t → t < moment → timed_out_transaction (agent_of s) t ≡ None
   pub no_event : s.events ≡ []
@@ -38,7 +38,7 @@ IsBusy now was s =
 -- a caller that sleeps until the returned time misses no deadline, and one that does what is due does not
 -- call for nothing
 abbrev pub IsTimely : TurnPollRet → ℕ → State → State → Type 0
-IsTimely (WaitUntil moment) now was s = (now < moment → IsSilent now moment s) × (moment ≤ now → IsBusy now was s)
+IsTimely (WaitUntil moment) now was s = (now < moment → IsIdleUntil now moment s) × (moment ≤ now → IsBusy now was s)
 IsTimely (AllocateTcpSocket id socket peer) now was s = ⊤
 IsTimely (TcpClose local remote) now was s = ⊤
 IsTimely Ended now was s = ⊤

@@ -52,8 +52,8 @@ attempt_requested message s = by (connection_id_in message) (peer_in message)
     by _ _ = refused bad_request (codes "Bad Request")
 
 -- at most so many offers by indications exist, since these are not signed (our choice)
-abbrev pub most_indicated : ℕ
-most_indicated = 64
+abbrev pub max_indicated : ℕ
+max_indicated = 64
 
 abbrev pub is_indicated : Grant → Bool
 is_indicated grant = option_map_or (λ offer. by offer.origin) (as_offer grant) false
@@ -68,7 +68,7 @@ abbrev pub is_heeded : SocketAddr → State → Bool
 is_heeded peer s =
     is_some (find_allocation_to Tcp (socket_ip peer) s) && has_active_permission (socket_ip peer) s
     && not (is_connected peer s || is_connecting peer s)
-    && nat_lt (length (filter is_indicated s.grants)) most_indicated
+    && nat_lt (length (filter is_indicated s.grants)) max_indicated
 
 abbrev pub attempt_indicated : List ℕ → State → Option State
 attempt_indicated message s = by (connection_id_in message) (peer_in message)

@@ -2,8 +2,8 @@
 use Rattle.std.specs.Prelude.{ℕ, ◌-◌, ◌/◌, min, max, nat_le, nat_lt, Bool, true, false, not, ◌&&◌, ◌||◌, if◌then◌else◌, List, [], ◌∷◌, ◌++◌, map, flat_map, fold, length, Option, Some, None, option_and_then, option_to_list}
 use Rattle.std.specs.Option.{option_map_or}
 use Rattle.std.specs.List.{list_any}
-use Rattle.turn_agent.specs.Agent.{next_moment}
-use Rattle.turn_client_api.specs.State.{State, Phase, New, Grant, Allocation, Permission, Channel, Connection, Relay, Active, agent_of, greatest_moment, later_by, seconds}
+use Rattle.turn_agent.specs.Agent.{transaction_timeout}
+use Rattle.turn_client_api.specs.State.{State, Phase, New, Grant, Allocation, Permission, Channel, Connection, Relay, Active, agent_of, max_time, later_by, seconds}
 use Rattle.turn_client_api.specs.Grants.{find_allocation, family_of_grant, has_request}
 use Rattle.turn_client_api.specs.Calls.{is_allocated}
 
@@ -22,8 +22,8 @@ abbrev pub short_lifetime : ℕ
 short_lifetime = seconds 120
 
 -- how long a caller waits at most (our choice)
-abbrev pub longest_sleep : ℕ
-longest_sleep = seconds 9999
+abbrev pub max_wait : ℕ
+max_wait = seconds 9999
 
 -- ---- queued packets
 
@@ -78,15 +78,15 @@ refresh_of s grant = map (max (pause_end s)) (option_to_list (refresh_time s gra
 
 -- Each time at which something is due: the longest wait, a queued request, a transaction, the expiry of a
 -- grant, a refresh.
-abbrev pub due_moments : ℕ → State → List ℕ
-due_moments now s =
-    later_by longest_sleep now
+abbrev pub due_times : ℕ → State → List ℕ
+due_times now s =
+    later_by max_wait now
     ∷ (if has_queued_request s then pause_end s ∷ [] else [])
-    ++ map (next_moment (agent_of s).timers s.transport) s.transactions
+    ++ map (transaction_timeout (agent_of s).timers s.transport) s.transactions
     ++ flat_map (λ g. end_of now g ++ refresh_of s g) s.grants
 
 abbrev pub least_due : ℕ → State → ℕ
-least_due now s = fold min greatest_moment (due_moments now s)
+least_due now s = fold min max_time (due_times now s)
 
 abbrev pub has_event : State → Bool
 has_event s = nat_lt 0 (length s.events)

@@ -33,8 +33,8 @@ reserved_time = seconds 300
 
 -- a shorter lifetime in reply to a REFRESH is ignored, in seconds (RFC 8656, section 7.2: a server gives at
 -- least the default of 600)
-abbrev pub least_lifetime : ℕ
-least_lifetime = 600
+abbrev pub min_lifetime : ℕ
+min_lifetime = 600
 
 -- error codes (RFC 8656, section 19): Allocation Mismatch, and Address Family not Supported
 abbrev pub allocation_mismatch : ℕ
@@ -146,7 +146,7 @@ given_back is_granted message s = if is_granted || has_code allocation_mismatch 
 -- an allocation that was refreshed lasts as long as the server says
 abbrev pub prolonged : AddressFamily → ℕ → ℕ → State → State
 prolonged family lifetime now s =
-    if nat_le least_lifetime lifetime
+    if nat_le min_lifetime lifetime
     then challenges_reset (with_allocations (λ a. is_of_family family a.relayed) (λ a. record a { expiry = later_by (seconds lifetime) now })
     (unlisted (λ g. is_some (as_allocation g) && is_of family g) s))
     else s

@@ -9,7 +9,7 @@ use Rattle.turn_types.specs.Frames.{begins_no_frame, frame_len}
 use Rattle.turn_agent.specs.Agent.{same_address}
 use Rattle.turn_client_api.specs.State.{State, Mode, Control, Waiting, Bound, Broken, Stream}
 use Rattle.turn_client_api.specs.Payloads.{Payload, Outcome, PeerData, PeerIcmp, datagram_step}
-use Rattle.turn_client_api.specs.Streams.{frame_step, is_ready, most_turns, owned, payload_in, stream_at, next_frame_step, with_bytes}
+use Rattle.turn_client_api.specs.Streams.{frame_step, is_ready, max_steps, owned, payload_in, stream_at, next_frame_step, with_bytes}
 use Rattle.turn_client_api.specs.Receive.{first_frame_step, is_from_server}
 use Rattle.turn_client_api.specs.Steps.{Call, Recv, PollRecv}
 
@@ -85,7 +85,7 @@ inputs_taken zero now s = []
 inputs_taken (suc n) now s = taken_first (inputs_taken n now) now s (find is_ready s.streams)
 
 abbrev pub poll_recv_inputs : ℕ → State → List Input
-poll_recv_inputs now s = inputs_taken (most_turns s) now s
+poll_recv_inputs now s = inputs_taken (max_steps s) now s
 
 -- ---- a piece of a stream
 

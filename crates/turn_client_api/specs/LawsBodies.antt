@@ -2,11 +2,11 @@
 -- result.
 use Rattle.std.specs.Prelude.{◌≡◌, ◌≤◌, ◌<◌, ◌+◌, ℕ, max, min, Bool, true, false, ◌&&◌, if◌then◌else◌, List, filter, filter_map, flat_map, fold, length, map, Option, Some, None}
 use Rattle.std.specs.declared.net.socket_addr.SocketAddr.{SocketAddr}
-use Rattle.turn_agent.specs.Agent.{next_moment, same_address}
-use Rattle.turn_client_api.specs.State.{State, Grant, Allocation, Permission, Channel, Connection, Active, Reserved, Stream, agent_of, greatest_moment, later_by}
+use Rattle.turn_agent.specs.Agent.{transaction_timeout, same_address}
+use Rattle.turn_client_api.specs.State.{State, Grant, Allocation, Permission, Channel, Connection, Active, Reserved, Stream, agent_of, max_time, later_by}
 use Rattle.turn_client_api.specs.Grants.{has_request}
 use Rattle.turn_client_api.specs.Calls.{is_number_taken}
-use Rattle.turn_client_api.specs.Due.{end_of, has_queued_request, longest_sleep, pause_end, refresh_time}
+use Rattle.turn_client_api.specs.Due.{end_of, has_queued_request, max_wait, pause_end, refresh_time}
 
 -- ---- expiry
 
@@ -20,8 +20,8 @@ lapse_of s (Channel number peer (Reserved until)) = Some (until + 1)
 lapse_of s (Connection c) = c.deadline
 lapse_of s _ = None
 
-abbrev pub lapse_moments : State → List ℕ
-lapse_moments s = filter_map (lapse_of s) s.grants
+abbrev pub expiry_times : State → List ℕ
+expiry_times s = filter_map (lapse_of s) s.grants
 
 -- ---- events
 
@@ -32,26 +32,26 @@ can_fail (Channel number peer (Reserved until)) = false
 can_fail _ = true
 
 -- so many grants may yet fail
-abbrev pub most_failures : State → ℕ
-most_failures s = length (filter can_fail s.grants)
+abbrev pub max_failures : State → ℕ
+max_failures s = length (filter can_fail s.grants)
 
 -- for each event that was queued there is one grant fewer that can fail
 abbrev pub TellsOfFailed : State → State → Type 0
-TellsOfFailed s t = length t.events + most_failures t ≤ length s.events + most_failures s
+TellsOfFailed s t = length t.events + max_failures t ≤ length s.events + max_failures s
 
 -- ---- the parts of the returned time
 
 -- the least of these, or the greatest `Instant`
 abbrev pub least_of : List ℕ → ℕ
-least_of moments = fold min greatest_moment moments
+least_of moments = fold min max_time moments
 
 -- when a queued request may be sent
 abbrev pub soonest_queued : State → ℕ
-soonest_queued s = if has_queued_request s then pause_end s else greatest_moment
+soonest_queued s = if has_queued_request s then pause_end s else max_time
 
 -- when a transaction is retransmitted or times out
 abbrev pub soonest_transaction : State → ℕ
-soonest_transaction s = least_of (map (next_moment (agent_of s).timers s.transport) s.transactions)
+soonest_transaction s = least_of (map (transaction_timeout (agent_of s).timers s.transport) s.transactions)
 
 -- when a grant expires
 abbrev pub soonest_end : ℕ → State → ℕ
@@ -64,7 +64,7 @@ soonest_refresh s = max (pause_end s) (least_of (filter_map (refresh_time s) s.g
 -- the longest wait, or what is due before it
 abbrev pub soonest : ℕ → State → ℕ
 soonest now s =
-    min (later_by longest_sleep now)
+    min (later_by max_wait now)
     (min (soonest_queued s) (min (soonest_transaction s) (min (soonest_end now s) (soonest_refresh s))))
 
 -- ---- channel numbers

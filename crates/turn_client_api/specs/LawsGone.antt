@@ -11,7 +11,7 @@ use Rattle.turn_client_api.specs.Calls.{is_granted_in, is_offer_of}
 use Rattle.turn_client_api.specs.Handled.{Input}
 use Rattle.turn_client_api.specs.Steps.{Call, state_after, Delete, AllocatedTcpSocket, TcpClosed, Recv, PollRecv, Poll}
 use Rattle.turn_client_api.specs.LawsHandled.{IsDoneBy, IsStreamEnd}
-use Rattle.turn_client_api.specs.LawsBodies.{lapse_moments}
+use Rattle.turn_client_api.specs.LawsBodies.{expiry_times}
 use Rattle.turn_client_api.specs.LawsReplies.{IsAccepted}
 use Rattle.turn_client_api.specs.LawsRequests.{IsAnswer}
 
@@ -59,7 +59,7 @@ IsClosedWith call s g = (end : IsStreamEnd call s (state_after call s)) × (is_c
 abbrev pub IsTimeUp : ℕ → State → Type 0
 IsTimeUp now s =
     IsSome (timed_out_transaction (agent_of s) now)
-    ⊎ ((s.phase ≡ Allocated) × ((moment : ℕ) × Contains (lapse_moments s) moment × (moment ≤ now)))
+    ⊎ ((s.phase ≡ Allocated) × ((moment : ℕ) × Contains (expiry_times s) moment × (moment ≤ now)))
 
 -- the request that times out now was made for the grant
 abbrev pub IsGivenUp : ℕ → State → Grant → Type 0

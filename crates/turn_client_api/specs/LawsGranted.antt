@@ -14,7 +14,7 @@ use Rattle.turn_client_api.specs.Payloads.{is_message}
 use Rattle.turn_client_api.specs.Handled.{Input}
 use Rattle.turn_client_api.specs.LawsBound.{IsConnecting}
 use Rattle.turn_client_api.specs.LawsHandled.{IsDoneBy, IsOverControl}
-use Rattle.turn_client_api.specs.Effect.{channel_lifetime, least_lifetime, permission_lifetime, relayed_in}
+use Rattle.turn_client_api.specs.Effect.{channel_lifetime, min_lifetime, permission_lifetime, relayed_in}
 use Rattle.turn_client_api.specs.LawsInputs.{Deed}
 use Rattle.turn_client_api.specs.Steps.{Call, Delete}
 
@@ -51,7 +51,7 @@ IsGivenFor ForAllocation message now s (Allocation a) =
     × (list_any (λ family. is_of_family family a.relayed) s.families ≡ true)
 IsGivenFor (ForRefresh family lifetime) message now s (Allocation a) =
     (1 ≤ lifetime) × (is_of_family family a.relayed ≡ true)
-    × ((n : ℕ) × (lifetime_in message ≡ Some n) × (least_lifetime ≤ n) × (a.expiry ≡ later_by (seconds n) now))
+    × ((n : ℕ) × (lifetime_in message ≡ Some n) × (min_lifetime ≤ n) × (a.expiry ≡ later_by (seconds n) now))
 IsGivenFor (ForPermission ip) message now s (Permission other (Active expiry)) =
     (same_ip other ip ≡ true) × (expiry ≡ later_by permission_lifetime now)
 IsGivenFor (ForChannel number peer) message now s (Channel other to (Active expiry)) =

@@ -9,7 +9,7 @@ use Rattle.turn_agent.specs.declared.transaction.Transaction.{Transaction}
 use Rattle.turn_client_api.specs.Config.{Config}
 use Rattle.turn_client_api.specs.State.{State, initial, Phase, Authenticating, Allocated, Grant, Channel, Purpose, ForAllocation, ForChannel, Listing}
 use Rattle.turn_client_api.specs.Grants.{is_for}
-use Rattle.turn_client_api.specs.Connections.{is_indicated, most_indicated}
+use Rattle.turn_client_api.specs.Connections.{is_indicated, max_indicated}
 use Rattle.turn_client_api.specs.Steps.{Call, Leaves}
 use Rattle.turn_client_api.specs.LawsNumbers.{channel_numbers_of}
 
@@ -59,4 +59,4 @@ HasGrantsAsked s = All (HasItsGrant s) s.listed
 
 -- indications are not signed, so their offers are few
 abbrev pub HasFewIndicated : State → Type 0
-HasFewIndicated s = length (filter is_indicated s.grants) ≤ most_indicated
+HasFewIndicated s = length (filter is_indicated s.grants) ≤ max_indicated

@@ -3,7 +3,7 @@ use Rattle.std.specs.Prelude.{◌≡◌, ◌⊎◌, ◌+◌, ◌<◌, ◌≤◌,
 use Rattle.turn_auth.specs.LongTerm.{Challenge}
 use Rattle.turn_client_api.specs.State.{State, Phase, New, Requesting, Authenticating, Allocated, Closed}
 use Rattle.turn_client_api.specs.Judgement.{Challenged, judgement_of}
-use Rattle.turn_client_api.specs.Retry.{most_challenges}
+use Rattle.turn_client_api.specs.Retry.{max_challenges}
 use Rattle.turn_client_api.specs.Payloads.{message_step}
 
 -- a client that has ended stays so
@@ -12,7 +12,7 @@ StaysClosed s t = s.phase ≡ Closed → t.phase ≡ Closed
 
 -- no more challenges are answered than allowed
 abbrev pub KeepsChallengeLimit : State → State → Type 0
-KeepsChallengeLimit s t = s.challenges ≤ most_challenges → t.challenges ≤ most_challenges
+KeepsChallengeLimit s t = s.challenges ≤ max_challenges → t.challenges ≤ max_challenges
 
 -- realm and algorithm, once held, stay
 abbrev pub KeepsRealm : State → State → Type 0
@@ -23,8 +23,8 @@ KeepsRealm s t =
 -- that is for nothing changes nothing, and one too many ends the client.
 abbrev pub IsCounted : State → State → Type 0
 IsCounted s t =
-    (t ≡ s) ⊎ (((s.challenges < most_challenges) × (t.challenges ≡ s.challenges + 1))
-    ⊎ ((most_challenges ≤ s.challenges) × (t.phase ≡ Closed) × (t.challenges ≡ s.challenges)))
+    (t ≡ s) ⊎ (((s.challenges < max_challenges) × (t.challenges ≡ s.challenges + 1))
+    ⊎ ((max_challenges ≤ s.challenges) × (t.phase ≡ Closed) × (t.challenges ≡ s.challenges)))
 
 -- each challenge that is processed in this state is counted so
 abbrev pub CountsChallenge : List ℕ → ℕ → State → Type 0

@@ -17,13 +17,13 @@ use Rattle.turn_client_api.specs.declared.poll.TurnPollRet.TheVariants as Do
 -- ---- what expires in one allocation
 
 -- what the request that just timed out was made for, if there is one
-abbrev pub given_up_purposes : Option ℕ → State → List Purpose
-given_up_purposes given s = option_map_or (λ id. purposes_of id s) given []
+abbrev pub timed_out_purposes : Option ℕ → State → List Purpose
+timed_out_purposes given s = option_map_or (λ id. purposes_of id s) given []
 
 -- An allocation is removed at its expiry, unless it is marked as expired and a request for it is pending. A
 -- request that was made for these purposes just timed out, and so is not pending.
-abbrev pub goes : List Purpose → ℕ → State → Relay → Bool
-goes purposes now s a =
+abbrev pub allocation_expires : List Purpose → ℕ → State → Relay → Bool
+allocation_expires purposes now s a =
     is_past now a
     && (is_for_any purposes (Allocation a) || not (has_request (Allocation a) s) || not a.is_expired)
 
@@ -62,12 +62,12 @@ unbound which s = record (failed which s) {
   closes = s.closes ++ map (λ c. c.local) (filter_map as_connection (filter which s.grants));
 }
 
-abbrev pub is_given_offer : Option ℕ → Grant → Bool
-is_given_offer given grant = option_map_or (λ id. is_of_request id grant) given false
+abbrev pub is_timed_out_offer : Option ℕ → Grant → Bool
+is_timed_out_offer given grant = option_map_or (λ id. is_of_request id grant) given false
 
 -- what was requested by the request that timed out, which was made for these
-abbrev pub in_vain : AddressFamily → List Purpose → (Grant → Bool) → State → State
-in_vain family purposes which s = failed (λ g. is_of family g && which g && is_for_any purposes g) s
+abbrev pub failed_by_timeout : AddressFamily → List Purpose → (Grant → Bool) → State → State
+failed_by_timeout family purposes which s = failed (λ g. is_of family g && which g && is_for_any purposes g) s
 
 abbrev pub last_channel_lapsed : AddressFamily → ℕ → State → State
 last_channel_lapsed family now s =
@@ -79,12 +79,12 @@ permissions_lapsed family now s = failed (λ g. is_of family g && is_lapsed_perm
 abbrev pub connections_unbound : AddressFamily → List Purpose → ℕ → State → State
 connections_unbound family purposes now s = unbound (λ g. is_of family g && is_unbound purposes now g) s
 
-abbrev pub offers_in_vain : AddressFamily → Option ℕ → State → State
-offers_in_vain family given s = failed (λ g. is_of family g && is_given_offer given g) s
+abbrev pub offers_timed_out : AddressFamily → Option ℕ → State → State
+offers_timed_out family given s = failed (λ g. is_of family g && is_timed_out_offer given g) s
 
 -- a grant whose refresh timed out may be requested again
-abbrev pub refreshes_in_vain : AddressFamily → List Purpose → State → State
-refreshes_in_vain family purposes s = unlisted (λ g. is_of family g && is_for_any purposes g) s
+abbrev pub refreshes_timed_out : AddressFamily → List Purpose → State → State
+refreshes_timed_out family purposes s = unlisted (λ g. is_of family g && is_for_any purposes g) s
 
 -- what was reserved long enough is free
 abbrev pub set_free : AddressFamily → ℕ → State → State
@@ -93,14 +93,14 @@ set_free family now s = without (λ g. is_of family g && is_over now g) s
 -- all of this in an allocation that stays
 abbrev pub lapsed_in : AddressFamily → Option ℕ → List Purpose → ℕ → State → State
 lapsed_in family given purposes now s = in_sequence (
-    in_vain family purposes is_pending_channel
-    ∷ in_vain family purposes is_pending_permission
+    failed_by_timeout family purposes is_pending_channel
+    ∷ failed_by_timeout family purposes is_pending_permission
     ∷ last_channel_lapsed family now
     ∷ permissions_lapsed family now
-    ∷ in_vain family purposes is_connect
+    ∷ failed_by_timeout family purposes is_connect
     ∷ connections_unbound family purposes now
-    ∷ offers_in_vain family given
-    ∷ refreshes_in_vain family purposes
+    ∷ offers_timed_out family given
+    ∷ refreshes_timed_out family purposes
     ∷ set_free family now
     ∷ []
     ) s
@@ -108,12 +108,12 @@ lapsed_in family given purposes now s = in_sequence (
 -- an allocation that is removed takes all grants in it, and no event reports it
 abbrev pub lapsed_allocation : Option ℕ → List Purpose → ℕ → State → Relay → State
 lapsed_allocation given purposes now s a =
-    if goes purposes now s a then without (is_of (family_of a.relayed)) s
+    if allocation_expires purposes now s a then without (is_of (family_of a.relayed)) s
     else lapsed_in (family_of a.relayed) given purposes now s
 
 -- all allocations, in the order in which the server granted them
 abbrev pub lapsed : Option ℕ → ℕ → State → State
-lapsed given now s = fold (lapsed_allocation given (given_up_purposes given s) now) s (allocations s)
+lapsed given now s = fold (lapsed_allocation given (timed_out_purposes given s) now) s (allocations s)
 
 -- ---- the caller is to open a data connection
 
@@ -177,12 +177,12 @@ timed_step Authenticating (Some id) now s =
 timed_step Allocated given now s = answer_step given now (lapsed given now s)
 timed_step Closed given now s = (Do.Closed, s)
 
-abbrev pub given_up_step : ℕ → State → TurnPollRet × State
-given_up_step now s =
+abbrev pub timed_out_step : ℕ → State → TurnPollRet × State
+timed_out_step now s =
     option_map_or (λ t. timed_step s.phase (Some t.id) now (ended t.id s)) (timed_out_transaction (agent_of s) now) (timed_step s.phase None now s)
 
 -- what the caller is to do next: first to poll what is pending, and to open a data connection
 abbrev pub poll_step : ℕ → State → TurnPollRet × State
 poll_step now s =
     if has_event s || has_reply s then (Do.WaitUntil now, s)
-    else option_map_or (λ offer. offer_step offer s) (next_offer s) (given_up_step now s)
+    else option_map_or (λ offer. offer_step offer s) (next_offer s) (timed_out_step now s)

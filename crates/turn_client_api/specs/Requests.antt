@@ -102,8 +102,8 @@ abbrev pub is_taken : ℕ → State → Bool
 is_taken id s = is_outstanding id s.transactions || is_listed id s
 
 -- how many IDs can be taken at most
-abbrev pub most_taken : State → ℕ
-most_taken s = length s.transactions + length s.listed + length s.grants
+abbrev pub max_ids_taken : State → ℕ
+max_ids_taken s = length s.transactions + length s.listed + length s.grants
 
 -- The number that is so many after this one, counting up modulo 2^96, which gives 2^96 of them; after these
 -- come the numbers from 2^96 on, which no message carries.
@@ -115,7 +115,7 @@ counted_up first n = if nat_lt n (2 ^ 96) then (first + n) % 2 ^ 96 else n
 -- requests and grants, as any does that a machine can hold, uses none that no message carries.
 abbrev pub fresh_id : State → ℕ
 fresh_id s =
-    unwrap_or (find (λ id. not (is_taken id s)) (map (counted_up (next_id s.ids)) (range_with_len 0 (most_taken s + 1)))) (next_id s.ids)
+    unwrap_or (find (λ id. not (is_taken id s)) (map (counted_up (next_id s.ids)) (range_with_len 0 (max_ids_taken s + 1)))) (next_id s.ids)
 
 -- ---- texts
 

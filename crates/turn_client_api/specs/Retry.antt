@@ -8,8 +8,8 @@ use Rattle.turn_client_api.specs.Effect.{ended}
 
 -- so many challenges are answered in sequence: a server that always requires another nonce ends the client
 -- (our choice)
-abbrev pub most_challenges : ℕ
-most_challenges = 9
+abbrev pub max_challenges : ℕ
+max_challenges = 9
 
 abbrev pub is_refresh : Purpose → Bool
 is_refresh (ForRefresh family lifetime) = true

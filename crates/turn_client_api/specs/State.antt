@@ -35,11 +35,11 @@ abbrev pub seconds : ℕ → ℕ
 seconds n = n * 1_000_000_000
 
 -- the greatest `Instant`: sums stop there
-abbrev pub greatest_moment : ℕ
-greatest_moment = 2 ^ 63 - 1
+abbrev pub max_time : ℕ
+max_time = 2 ^ 63 - 1
 
 abbrev pub later_by : ℕ → ℕ → ℕ
-later_by duration moment = min (moment + duration) greatest_moment
+later_by duration moment = min (moment + duration) max_time
 
 -- ---- the state
 

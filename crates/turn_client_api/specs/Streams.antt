@@ -148,12 +148,12 @@ steps_until_payload zero now s = (None, s)
 steps_until_payload (suc n) now s = first_ready_step (steps_until_payload n now) now s (find is_ready s.streams)
 
 -- each step takes a byte at least
-abbrev pub most_turns : State → ℕ
-most_turns s = sum_by (λ stream. length stream.bytes) s.streams
+abbrev pub max_steps : State → ℕ
+max_steps s = sum_by (λ stream. length stream.bytes) s.streams
 
 -- the next payload in the streams
 abbrev pub poll_recv_step : ℕ → State → Option Payload × State
-poll_recv_step now s = steps_until_payload (most_turns s) now s
+poll_recv_step now s = steps_until_payload (max_steps s) now s
 
 abbrev pub payload_in : Outcome → Option Payload
 payload_in (PeerData payload) = Some payload

@@ -97,7 +97,7 @@ pub trait TurnClientApi: Debug + Drop {
     /// `NoAllocation` if the server has not granted an allocation yet, or if the client has ended.
     /// `OutOfMemory`. Nothing changes then.
     fn delete(&mut self, now: Instant) -> Result<(), DeleteError>
-        requires moment { now ≤ 2 ^ 62 }
+        requires now_in_range { now ≤ 2 ^ 62 }
         ensures step { Deletes result (state self.old) (state self.new) (delete_step now (state self.old)) };
 
     /// Requests a permission for the IP address of this peer, whatever the port: queues a
@@ -115,7 +115,7 @@ pub trait TurnClientApi: Debug + Drop {
         peer_addr: IpAddr,
         now: Instant,
     ) -> Result<(), CreatePermissionError>
-        requires moment { now ≤ 2 ^ 62 }
+        requires now_in_range { now ≤ 2 ^ 62 }
         ensures step { CreatesPermission result (state self.old) (state self.new) (create_permission_step transport peer_addr now (state self.old)) };
 
     /// Whether this peer IP address has an active permission. Expired allocations are skipped; the
@@ -139,7 +139,7 @@ pub trait TurnClientApi: Debug + Drop {
         peer_addr: SocketAddr,
         now: Instant,
     ) -> Result<(), BindChannelError>
-        requires moment { now ≤ 2 ^ 62 }
+        requires now_in_range { now ≤ 2 ^ 62 }
         ensures step { BindsChannel result (state self.old) (state self.new) (bind_channel_step transport peer_addr now (state self.old)) };
 
     /// Requests a data connection to this peer: queues a CONNECT (RFC 6062, section 4.3).
@@ -152,7 +152,7 @@ pub trait TurnClientApi: Debug + Drop {
     /// to the peer exists, is pending, or is offered to the caller; `OutOfMemory`. Nothing else
     /// changes then.
     fn tcp_connect(&mut self, peer_addr: SocketAddr, now: Instant) -> Result<(), TcpConnectError>
-        requires moment { now ≤ 2 ^ 62 }
+        requires now_in_range { now ≤ 2 ^ 62 }
         ensures step { Connects result (state self.old) (state self.new) (tcp_connect_step peer_addr now (state self.old)) };
 
     /// Reports what became of a data connection that `poll` offered, named by the three values of
@@ -174,7 +174,7 @@ pub trait TurnClientApi: Debug + Drop {
         local_addr: Option<SocketAddr>,
         now: Instant,
     ) -> Result<(), TcpAllocateError>
-        requires moment { now ≤ 2 ^ 62 }
+        requires now_in_range { now ≤ 2 ^ 62 }
         ensures step { TakesSocket result (state self.old) (state self.new) (allocated_tcp_socket_step id five_tuple peer_addr local_addr now (state self.old)) };
 
     /// Reports that this data connection was closed. `poll` then reports that the caller is to
@@ -189,7 +189,7 @@ pub trait TurnClientApi: Debug + Drop {
         remote_addr: SocketAddr,
         now: Instant,
     ) -> Result<(), AllocError>
-        requires moment { now ≤ 2 ^ 62 }
+        requires now_in_range { now ≤ 2 ^ 62 }
         ensures ok { OnOk result (state self.new ≡ tcp_closed_step local_addr remote_addr (state self.old)) }
         ensures err { OnErr result (state self.new ≡ state self.old) };
 
@@ -210,7 +210,7 @@ pub trait TurnClientApi: Debug + Drop {
         data: T,
         now: Instant,
     ) -> Result<Option<TransmitBuild<DelayedMessageOrChannelSend<T>>>, SendError>
-        requires moment { now ≤ 2 ^ 62 }
+        requires now_in_range { now ≤ 2 ^ 62 }
         requires short { (state self.old).config.allocation_transport ≡ Udp → length (T.items «data») ≤ 65504 }
         ensures answer { IsSent result (send_to_step transport to (T.items «data») now (state self.old)).0 }
         ensures named { IfErr result IsNoWay }
@@ -240,7 +240,7 @@ pub trait TurnClientApi: Debug + Drop {
         transmit: Transmit<T>,
         now: Instant,
     ) -> Result<TurnRecvRet<T>, AllocError>
-        requires moment { now ≤ 2 ^ 62 }
+        requires now_in_range { now ≤ 2 ^ 62 }
         ensures answer { IfOk result (λ answer. outcome_of answer ≡ (recv_step transmit.transport transmit.from transmit.to (T.items transmit.payload) now (state self.old)).0) }
         ensures hands_back { IfOk result (HandsBack transmit) }
         ensures after { OnOk result (state self.new ≡ (recv_step transmit.transport transmit.from transmit.to (T.items transmit.payload) now (state self.old)).1) }
@@ -256,7 +256,7 @@ pub trait TurnClientApi: Debug + Drop {
     /// nothing more; whole frames that were processed before keep their effect. If no stream holds
     /// a whole frame or data of its peer, the call allocates no memory.
     fn poll_recv(&mut self, now: Instant) -> Result<Option<TurnPeerData<Vec<u8>>>, AllocError>
-        requires moment { now ≤ 2 ^ 62 }
+        requires now_in_range { now ≤ 2 ^ 62 }
         ensures answer { IfOk result (λ given. option_map given_payload given ≡ (poll_recv_step now (state self.old)).0) }
         // With no payload left, each stream waits for the rest of a frame.
         ensures little { IfOk result (λ given. IsNone given → All HoldsLittle (state self.new).streams) }
@@ -275,7 +275,7 @@ pub trait TurnClientApi: Debug + Drop {
     ///
     /// If memory allocation fails. The client has ended then, and nothing else has changed.
     fn poll(&mut self, now: Instant) -> Result<TurnPollRet, AllocError>
-        requires moment { now ≤ 2 ^ 62 }
+        requires now_in_range { now ≤ 2 ^ 62 }
         ensures answer { IfOk result (λ answer. answer ≡ (poll_step now (state self.old)).0) }
         ensures after { OnOk result (state self.new ≡ (poll_step now (state self.old)).1) }
         ensures alarm { IfOk result (λ answer. IsTimely answer now (state self.old) (state self.new)) }
@@ -289,7 +289,7 @@ pub trait TurnClientApi: Debug + Drop {
     ///
     /// If memory allocation fails. The client has ended then, and nothing else has changed.
     fn poll_transmit(&mut self, now: Instant) -> Result<Option<Transmit<Data>>, AllocError>
-        requires moment { now ≤ 2 ^ 62 }
+        requires now_in_range { now ≤ 2 ^ 62 }
         ensures answer { IfOk result (λ packet. packet ≡ (transmit_step now (state self.old)).0) }
         ensures after { OnOk result (state self.new ≡ (transmit_step now (state self.old)).1) }
         ensures no_memory { OnErr result (state self.new ≡ closed (state self.old)) }

@@ -29,10 +29,10 @@ mod streams;
 mod inputs;
 mod wakeup;
 
-pub use alarm::sleeps_through_nothing;
+pub use alarm::no_deadline_is_missed;
 pub use allocates::allocates_ask_for_families;
 pub use bodies::{
-    drained_streams_rest, events_are_bounded, least_free_number_is_bound, least_moment_has_parts,
+    drained_streams_rest, events_are_bounded, least_free_number_is_bound, least_time_has_parts,
     nothing_lapses_early, inputs_leave_other_streams,
 };
 pub use bound::only_a_signed_success_binds;
@@ -56,7 +56,7 @@ pub use replies::{ids_are_drawn, replies_count_once};
 pub use requests::requests_are_made;
 pub use rows::{
     channel_numbers_count_up, delete_is_one_request, failures_jump, first_allocate_is_spelled,
-    moments_are_told, silence_is_timed,
+    wakeups_are_reported, silence_is_timed,
 };
 pub use sockets::{peers_may_connect, sockets_are_taken};
 pub use standards::numbers_are_the_standards;
@@ -67,4 +67,4 @@ pub use states::{
 pub use steps::{challenges_are_counted, phases_go_on, realm_stays, stays_closed};
 pub use streams::{streams_are_drained, streams_stay_apart};
 pub use inputs::{calls_process_inputs, messages_leave_streams, inputs_are_frames};
-pub use wakeup::wakeup_is_the_least_moment;
+pub use wakeup::wakeup_is_the_least_time;

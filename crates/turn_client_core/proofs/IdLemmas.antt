@@ -6,7 +6,7 @@ use Rattle.turn_agent.specs.Agent.{is_outstanding}
 use Rattle.turn_agent.specs.TransactionIds.{next_id}
 use Rattle.turn_client_api.proofs.NewIdLemmas.{counted-small, fresh-free}
 use Rattle.turn_client_api.specs.Grants.{is_listed, is_of_request}
-use Rattle.turn_client_api.specs.Requests.{counted_up, fresh_id, is_taken, most_taken}
+use Rattle.turn_client_api.specs.Requests.{counted_up, fresh_id, is_taken, max_ids_taken}
 use Rattle.turn_client_api.specs.State.{State}
 
 pub find-counted : (p : ℕ → Bool) (f : ℕ → ℕ) (a b : ℕ) → a < b → find p (map f (range_with_len a (b - a))) ≡ (if p (f a) then Some (f a) else find p (map f (range_with_len (a + 1) (b - (a + 1)))))
@@ -30,11 +30,11 @@ same-ids first place (suc count) within =
     rw (one, more) refl
 
 -- the next ID is the first of these that is not taken
-pub fresh-is : (s : State) → most_taken s < 2 ^ 96
-    → unwrap_or (find (λ id. not (is_taken id s)) (map (λ n. (next_id s.ids + n) % 2 ^ 96) (range_with_len 0 (most_taken s + 1)))) (next_id s.ids) ≡ fresh_id s
+pub fresh-is : (s : State) → max_ids_taken s < 2 ^ 96
+    → unwrap_or (find (λ id. not (is_taken id s)) (map (λ n. (next_id s.ids + n) % 2 ^ 96) (range_with_len 0 (max_ids_taken s + 1)))) (next_id s.ids) ≡ fresh_id s
 fresh-is s few =
     ap (λ (ids : List ℕ). unwrap_or (find (λ id. not (is_taken id s)) ids) (next_id s.ids))
-    (sym (same-ids (next_id s.ids) 0 (most_taken s + 1) (omega (arith, few))))
+    (sym (same-ids (next_id s.ids) 0 (max_ids_taken s + 1) (omega (arith, few))))
 
 pub fresh-unsent : (s : State) → is_outstanding (fresh_id s) s.transactions ≡ false
 fresh-unsent s = (either-false (is_outstanding (fresh_id s) s.transactions) (is_listed (fresh_id s) s) (fresh-free s)).0

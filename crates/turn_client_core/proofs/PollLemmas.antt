@@ -3,20 +3,20 @@ use Rattle.std.proofs.Common.{◌≡◌, ◌∙◌, ℕ, true, false, List, [], 
 use Rattle.std.specs.Prelude.{◌&&◌, find, flat_map, if◌then◌else◌, is_none, is_some, slice_get}
 use Rattle.std.proofs.lemmas.List.Sums.{fold-append}
 use Rattle.std.specs.declared.net.socket_addr.SocketAddr.{SocketAddr}
-use Rattle.turn_agent.specs.Agent.{is_given_up, next_moment}
+use Rattle.turn_agent.specs.Agent.{is_timed_out, transaction_timeout}
 use Rattle.turn_agent.specs.declared.transaction.Transaction.{Transaction}
 use Rattle.turn_client_api.specs.Calls.{is_allocated}
 use Rattle.turn_client_api.specs.Config.{timers_of}
-use Rattle.turn_client_api.specs.Due.{has_queued_request, least_due, longest_sleep, next_wakeup, pause_end}
+use Rattle.turn_client_api.specs.Due.{has_queued_request, least_due, max_wait, next_wakeup, pause_end}
 use Rattle.turn_client_api.specs.Grants.{allocations}
-use Rattle.turn_client_api.specs.Poll.{answer_by, answer_step, given_up_step, silent_step, timed_step}
-use Rattle.turn_client_api.specs.State.{State, greatest_moment, later_by}
+use Rattle.turn_client_api.specs.Poll.{answer_by, answer_step, timed_out_step, silent_step, timed_step}
+use Rattle.turn_client_api.specs.State.{State, max_time, later_by}
 use Rattle.turn_client_api.specs.declared.grant.Relay.{Relay}
 use Rattle.turn_client_api.specs.declared.state.Phase.{Phase}
 use Rattle.turn_client_api.specs.declared.state.Phase.TheVariants.{New, Requesting, Authenticating, Allocated, Closed}
 use Rattle.turn_client_api.specs.declared.poll.TurnPollRet.{TurnPollRet}
 use Rattle.turn_client_api.specs.declared.poll.TurnPollRet.TheVariants as Do
-use Rattle.turn_client_grants.specs.Due.{moments_of}
+use Rattle.turn_client_grants.specs.Due.{times_of}
 use Rattle.turn_client_core.specs.Outgoing.{Outgoing}
 use Rattle.turn_client_core.specs.Polled.{is_let_go}
 use Rattle.turn_client_core.specs.Sending.{give_up_step}
@@ -27,12 +27,12 @@ Answer = TurnPollRet × State
 
 -- ---- the next wake-up time
 
-pub least_due-is : (now : ℕ) (s : State) → fold min (fold min (fold min greatest_moment (later_by longest_sleep now ∷ (if has_queued_request s then pause_end s ∷ [] else []))) (map (next_moment (timers_of s.config) s.transport) s.transactions)) (flat_map (moments_of now (pause_end s) s) s.grants) ≡ least_due now s
+pub least_due-is : (now : ℕ) (s : State) → fold min (fold min (fold min max_time (later_by max_wait now ∷ (if has_queued_request s then pause_end s ∷ [] else []))) (map (transaction_timeout (timers_of s.config) s.transport) s.transactions)) (flat_map (times_of now (pause_end s) s) s.grants) ≡ least_due now s
 least_due-is now s =
     let queued : List ℕ = if has_queued_request s then pause_end s ∷ [] else [] in
-    let sends = map (next_moment (timers_of s.config) s.transport) s.transactions in
-    let ends = flat_map (moments_of now (pause_end s) s) s.grants in
-    let first = min greatest_moment (later_by longest_sleep now) in
+    let sends = map (transaction_timeout (timers_of s.config) s.transport) s.transactions in
+    let ends = flat_map (times_of now (pause_end s) s) s.grants in
+    let first = min max_time (later_by max_wait now) in
     sym (fold-append min first (queued ++ sends) ends ∙ ap (λ n. fold min n ends) (fold-append min first queued sends))
 
 -- ---- what times out
@@ -40,19 +40,19 @@ least_due-is now s =
 abbrev Given : Type 0
 Given = Option ℕ × Outgoing
 
-pub given_up-is : (now : ℕ) (s : State) (o p : Outgoing) (given : Option ℕ) → o.timers ≡ timers_of s.config → (given, p) ≡ give_up_step now o → given_up_step now (with_outbox o s) ≡ timed_step s.phase given now (with_outbox p s)
-given_up-is now s o p given times step = by (find (is_given_up o.timers o.transport now) o.transactions) refl step
+pub given_up-is : (now : ℕ) (s : State) (o p : Outgoing) (given : Option ℕ) → o.timers ≡ timers_of s.config → (given, p) ≡ give_up_step now o → timed_out_step now (with_outbox o s) ≡ timed_step s.phase given now (with_outbox p s)
+given_up-is now s o p given times step = by (find (is_timed_out o.timers o.transport now) o.transactions) refl step
   where
-    by : (found : Option Transaction) → find (is_given_up o.timers o.transport now) o.transactions ≡ found → (given, p) ≡ give_up_step now o → given_up_step now (with_outbox o s) ≡ timed_step s.phase given now (with_outbox p s)
+    by : (found : Option Transaction) → find (is_timed_out o.timers o.transport now) o.transactions ≡ found → (given, p) ≡ give_up_step now o → timed_out_step now (with_outbox o s) ≡ timed_step s.phase given now (with_outbox p s)
     by None e step = rw (← times, e) (ap (λ (r : Given). timed_step s.phase r.0 now (with_outbox r.1 s)) (sym (rw e at step)))
     by (Some t) e step = rw (← times, e) (ap (λ (r : Given). timed_step s.phase r.0 now (with_outbox r.1 s)) (sym (rw e at step)))
 
 -- while the first ALLOCATE awaits its response
-pub requesting-waits : (now : ℕ) (s : State) (o p : Outgoing) → s.phase ≡ Requesting → o.timers ≡ timers_of s.config → (None, p) ≡ give_up_step now o → answer_step None now (with_outbox p s) ≡ given_up_step now (with_outbox o s)
+pub requesting-waits : (now : ℕ) (s : State) (o p : Outgoing) → s.phase ≡ Requesting → o.timers ≡ timers_of s.config → (None, p) ≡ give_up_step now o → answer_step None now (with_outbox p s) ≡ timed_out_step now (with_outbox o s)
 requesting-waits now s o p requesting times step =
     ap (λ (phase : Phase). timed_step phase None now (with_outbox p s)) (sym requesting) ∙ sym (given_up-is now s o p None times step)
 
-pub requesting-ends : (now : ℕ) (s : State) (o p : Outgoing) (id : ℕ) → s.phase ≡ Requesting → o.timers ≡ timers_of s.config → (Some id, p) ≡ give_up_step now o → silent_step (with_outbox p s) ≡ given_up_step now (with_outbox o s)
+pub requesting-ends : (now : ℕ) (s : State) (o p : Outgoing) (id : ℕ) → s.phase ≡ Requesting → o.timers ≡ timers_of s.config → (Some id, p) ≡ give_up_step now o → silent_step (with_outbox p s) ≡ timed_out_step now (with_outbox o s)
 requesting-ends now s o p id requesting times step =
     ap (λ (phase : Phase). timed_step phase (Some id) now (with_outbox p s)) (sym requesting) ∙ sym (given_up-is now s o p (Some id) times step)
 

@@ -14,7 +14,7 @@ use Rattle.turn_client_api.specs.State.{State}
 use Rattle.turn_client_api.specs.declared.state.Mode.TheVariants.{Broken}
 use Rattle.turn_client_api.specs.declared.state.Stream.{Stream}
 use Rattle.turn_client_api.specs.Payloads.{Payload, Outcome, Handled, Ignored, PeerData, PeerIcmp}
-use Rattle.turn_client_api.specs.Streams.{broken_at, frame_step, framed_by, framed_stream_step, go_on, is_ready, most_turns, poll_recv_step, put_back, next_frame_step, first_ready_step, steps_until_payload, with_bytes}
+use Rattle.turn_client_api.specs.Streams.{broken_at, frame_step, framed_by, framed_stream_step, go_on, is_ready, max_steps, poll_recv_step, put_back, next_frame_step, first_ready_step, steps_until_payload, with_bytes}
 use Rattle.turn_client_api.proofs.StreamDrainLemmas.{turn-lighter}
 use Rattle.turn_client_api.proofs.StreamWeightLemmas.{weight, weight-le}
 use Rattle.turn_client_streams.specs.Buffered.{front_of, passed}
@@ -125,7 +125,7 @@ abbrev pub Rests : ℕ → State → State → Type 0
 Rests now was s = (k : ℕ) × (weight s.streams ≤ k) × (steps_until_payload k now s ≡ poll_recv_step now was)
 
 pub first-Rests : (now : ℕ) (s : State) → Rests now s s
-first-Rests now s = (most_turns s, weight-le s.streams, refl)
+first-Rests now s = (max_steps s, weight-le s.streams, refl)
 
 pub rests-on : (now : ℕ) (was s : State) (stream : Stream) → find is_ready s.streams ≡ Some stream → given_by (next_frame_step stream now s).0 ≡ None → Rests now was s → Rests now was (next_frame_step stream now s).1
 rests-on now was s stream e none (zero, least, same) = let less = turn-lighter stream now s e in absurd (omega (arith, less, least))

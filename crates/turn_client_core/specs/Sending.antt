@@ -2,7 +2,7 @@
 use Rattle.std.specs.Prelude.{ℕ, if◌then◌else◌, List, Option, Some, None, drop, filter_map, find, slice_get}
 use Rattle.std.specs.Option.{option_map_or}
 use Rattle.turn_stun.specs.declared.transport.Transmit.{Transmit}
-use Rattle.turn_agent.specs.Agent.{is_due, is_given_up, resent, without_transaction}
+use Rattle.turn_agent.specs.Agent.{is_due, is_timed_out, resent, without_transaction}
 use Rattle.turn_client_api.specs.Due.{is_paused}
 use Rattle.turn_client_api.specs.State.{State}
 use Rattle.turn_client_api.specs.Transmit.{queue_step, reply_in, reply_step, without_first_reply}
@@ -30,7 +30,7 @@ front_step now o =
 abbrev pub give_up_step : ℕ → Outgoing → Option ℕ × Outgoing
 give_up_step now o =
     option_map_or (λ t. (Some t.id, record o { transactions = without_transaction t.id o.transactions }))
-    (find (is_given_up o.timers o.transport now) o.transactions) (None, o)
+    (find (is_timed_out o.timers o.transport now) o.transactions) (None, o)
 
 -- if no retransmission is due: within the pause a reply alone, and else the next packet
 abbrev pub waiting_step : ℕ → State → Option (Transmit (List ℕ)) × State

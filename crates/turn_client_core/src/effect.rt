@@ -20,7 +20,7 @@ use turn_types::AddressFamily;
 
 /// The least lifetime that is accepted in a reply to a REFRESH, in seconds (RFC 8656, section 7.2: a
 /// server grants at least the default of 600).
-const LEAST_LIFETIME: u32 = 600;
+const MIN_LIFETIME: u32 = 600;
 
 /// What a reply changes in the client, apart from its grants.
 #[derive(Clone, Copy, Debug, PartialEq, Eq)]
@@ -171,7 +171,7 @@ fn prolonged(ledger: &mut GrantLedger, family: AddressFamily, lifetime: u32, now
     ensures state { (s : State) → after result (on ledger.new s) ≡ prolonged family lifetime now (on ledger.old s) }
     ensures room { SameRoomBut 0 0 ledger.old ledger.new }
 {
-    if lifetime < LEAST_LIFETIME {
+    if lifetime < MIN_LIFETIME {
         return Effect::Nothing;
     }
     ledger.prolong(family, lifetime, now);

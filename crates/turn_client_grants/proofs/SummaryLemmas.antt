@@ -9,9 +9,9 @@ use Rattle.std.proofs.lemmas.List.Elements.{All-cons, All-nil}
 use Rattle.turn_types.specs.declared.family.AddressFamily.{AddressFamily}
 use Rattle.turn_client_api.specs.Due.{end_of, refresh_time}
 use Rattle.turn_client_api.specs.Grants.{as_allocation, family_of, is_of, is_of_family, is_of_request, is_request}
-use Rattle.turn_client_api.specs.LawsBodies.{lapse_of, lapse_moments}
+use Rattle.turn_client_api.specs.LawsBodies.{lapse_of, expiry_times}
 use Rattle.turn_client_api.specs.Poll.{first_untold, untold_in}
-use Rattle.turn_client_api.specs.State.{State, greatest_moment}
+use Rattle.turn_client_api.specs.State.{State, max_time}
 use Rattle.turn_client_api.specs.Transmit.{is_ranked, is_refresh_due, refresh_purpose}
 use Rattle.turn_client_api.specs.declared.grant.DataOffer.{DataOffer}
 use Rattle.turn_client_api.specs.declared.grant.Grant.{Grant}
@@ -22,7 +22,7 @@ use Rattle.turn_client_api.specs.declared.grant.Origin.TheVariants.{OwnConnect, 
 use Rattle.turn_client_api.specs.declared.grant.Progress.TheVariants.{Pending, Active, Reserved}
 use Rattle.turn_client_api.specs.declared.grant.Purpose.{Purpose}
 use Rattle.turn_client_api.specs.declared.grant.Relay.{Relay}
-use Rattle.turn_client_grants.specs.Due.{all_moments, moments_of, relay_ends}
+use Rattle.turn_client_grants.specs.Due.{all_times, times_of, relay_ends}
 use Rattle.turn_client_grants.specs.Lists.{both_of, first_among, with_lists}
 use Rattle.turn_client_grants.specs.Refresh.{due_purpose, first_of_family, first_refresh}
 use Rattle.turn_client_grants.specs.Summary.{end_in, is_by_request, is_requested, is_untold, lapse_in, never}
@@ -104,7 +104,7 @@ lapse-same grants listed s (Connection c) = refl
 
 -- nothing expires before the earliest time at which something does
 pub early-all : (now : ℕ) (grants : List Grant) (listed : List Listing) (s : State) → now < fold min never (filter_map (lapse_in listed) grants)
-    → All (λ moment. now < moment) (lapse_moments (with_lists grants listed s))
+    → All (λ moment. now < moment) (expiry_times (with_lists grants listed s))
 early-all now grants listed s lt =
     rw (filter_map-same (lapse_of (with_lists grants listed s)) (lapse_in listed) (lapse-same grants listed s) grants) (below-all now never (filter_map (lapse_in listed) grants) lt)
 
@@ -208,29 +208,29 @@ relay_ends-both now (Some a) (Some b) = by (nat_lt now a.expiry)
     by false = refl
 
 -- from the expiries of all but the allocations, the two allocations, and the first refresh
-pub soonest-is : (now pause moment : ℕ) (s : State) (first second : Option Relay) → moment ≤ greatest_moment → pause ≤ greatest_moment
+pub soonest-is : (now pause moment : ℕ) (s : State) (first second : Option Relay) → moment ≤ max_time → pause ≤ max_time
     → filter_map as_allocation s.grants ≡ option_to_list first ++ option_to_list second
-    → min (fold min (fold min (min moment (fold min greatest_moment (filter_map end_in s.grants))) (relay_ends now (option_to_list first))) (relay_ends now (option_to_list second)))
-    (max pause (fold min greatest_moment (filter_map (refresh_time s) s.grants)))
-    ≡ fold min moment (all_moments now pause s)
+    → min (fold min (fold min (min moment (fold min max_time (filter_map end_in s.grants))) (relay_ends now (option_to_list first))) (relay_ends now (option_to_list second)))
+    (max pause (fold min max_time (filter_map (refresh_time s) s.grants)))
+    ≡ fold min moment (all_times now pause s)
 soonest-is now pause moment s first second low early relays =
     let ends = filter_map end_in s.grants in
     let times = filter_map (refresh_time s) s.grants in
-    let end = fold min greatest_moment ends in
-    let refresh = fold min greatest_moment times in
+    let end = fold min max_time ends in
+    let refresh = fold min max_time times in
     let one = relay_ends now (option_to_list first) in
     let two = relay_ends now (option_to_list second) in
     -- the parts of the sum
-    let whole : fold min moment (all_moments now pause s) ≡ min (fold min moment (flat_map (end_of now) s.grants)) (fold min moment (flat_map (λ g. map (max pause) (option_to_list (refresh_time s g))) s.grants)) =
+    let whole : fold min moment (all_times now pause s) ≡ min (fold min moment (flat_map (end_of now) s.grants)) (fold min moment (flat_map (λ g. map (max pause) (option_to_list (refresh_time s g))) s.grants)) =
     fold-min-both moment (end_of now) (λ g. map (max pause) (option_to_list (refresh_time s g))) s.grants in
     let later : fold min moment (flat_map (λ g. map (max pause) (option_to_list (refresh_time s g))) s.grants) ≡ min moment (max pause refresh) =
     ap (λ (xs : List ℕ). fold min moment xs) (flat-mapped pause (refresh_time s) s.grants)
-    ∙ (fold-min-from moment greatest_moment (map (max pause) times) low ∙ ap (λ (k : ℕ). min moment k) (fold-min-max pause greatest_moment times early)) in
+    ∙ (fold-min-from moment max_time (map (max pause) times) low ∙ ap (λ (k : ℕ). min moment k) (fold-min-max pause max_time times early)) in
     let all_ends : fold min moment (flat_map (end_of now) s.grants) ≡ min (fold min moment (flat_map (relay_end_in now) s.grants)) (fold min moment (flat_map (λ g. option_to_list (end_in g)) s.grants)) =
     ap (λ (xs : List ℕ). fold min moment xs) (flat-same (end_of now) (λ g. relay_end_in now g ++ option_to_list (end_in g)) (end-parts now) s.grants)
     ∙ fold-min-both moment (relay_end_in now) (λ g. option_to_list (end_in g)) s.grants in
     let own_ends : fold min moment (flat_map (λ g. option_to_list (end_in g)) s.grants) ≡ min moment end =
-    ap (λ (xs : List ℕ). fold min moment xs) (flat-options end_in s.grants) ∙ fold-min-from moment greatest_moment ends low in
+    ap (λ (xs : List ℕ). fold min moment xs) (flat-options end_in s.grants) ∙ fold-min-from moment max_time ends low in
     let relay_parts : fold min moment (flat_map (relay_end_in now) s.grants) ≡ min (fold min moment one) (fold min moment two) =
     ap (λ (xs : List ℕ). fold min moment xs) (flat-relays now s.grants ∙ (ap (relay_ends now) relays ∙ relay_ends-both now first second)) ∙ fold-min-append moment one two in
     -- the steps of the code

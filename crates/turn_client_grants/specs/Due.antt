@@ -6,11 +6,11 @@ use Rattle.turn_client_api.specs.declared.grant.Grant.{Grant}
 use Rattle.turn_client_api.specs.declared.grant.Relay.{Relay}
 
 -- the expiry of the grant and its refresh, where no request is sent before the pause ends
-abbrev pub moments_of : ℕ → ℕ → State → Grant → List ℕ
-moments_of now pause s grant = end_of now grant ++ map (max pause) (option_to_list (refresh_time s grant))
+abbrev pub times_of : ℕ → ℕ → State → Grant → List ℕ
+times_of now pause s grant = end_of now grant ++ map (max pause) (option_to_list (refresh_time s grant))
 
-abbrev pub all_moments : ℕ → ℕ → State → List ℕ
-all_moments now pause s = flat_map (moments_of now pause s) s.grants
+abbrev pub all_times : ℕ → ℕ → State → List ℕ
+all_times now pause s = flat_map (times_of now pause s) s.grants
 
 -- the expiries of these allocations, except those that have passed
 abbrev pub relay_ends : ℕ → List Relay → List ℕ

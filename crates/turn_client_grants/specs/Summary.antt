@@ -3,7 +3,7 @@ use Rattle.std.specs.Prelude.{ℕ, ◌≡◌, ◌+◌, ◌^◌, ◌&&◌, if◌t
 use Rattle.std.specs.List.{list_any}
 use Rattle.turn_client_api.specs.Due.{refresh_time}
 use Rattle.turn_client_api.specs.Grants.{as_allocation, is_for}
-use Rattle.turn_client_api.specs.State.{State, greatest_moment}
+use Rattle.turn_client_api.specs.State.{State, max_time}
 use Rattle.turn_client_api.specs.declared.grant.Grant.{Grant}
 use Rattle.turn_client_api.specs.declared.grant.Grant.TheVariants.{Allocation, Permission, Channel, Offer, Connection}
 use Rattle.turn_client_api.specs.declared.grant.Listing.{Listing}
@@ -53,8 +53,8 @@ is_requested _ = false
 pub record IsSummary (summary : Summary) (grants : List Grant) (listed : List Listing) : Type 0 where
   pub first : summary.first ≡ slice_get (filter_map as_allocation grants) 0
   pub second : summary.second ≡ slice_get (filter_map as_allocation grants) 1
-  pub end : summary.end ≡ fold min greatest_moment (filter_map end_in grants)
+  pub end : summary.end ≡ fold min max_time (filter_map end_in grants)
   pub lapse : summary.lapse ≡ fold min never (filter_map (lapse_in listed) grants)
-  pub refresh : (s : State) → summary.refresh ≡ fold min greatest_moment (filter_map (refresh_time (with_lists grants listed s)) grants)
+  pub refresh : (s : State) → summary.refresh ≡ fold min max_time (filter_map (refresh_time (with_lists grants listed s)) grants)
   pub untold : summary.has_untold ≡ list_any is_untold grants
   pub requested : summary.has_requested ≡ list_any is_requested grants

@@ -10,7 +10,7 @@ ghost use Rattle.turn_client_grants.specs.Which.{holds, purposes_in};
 
 use crate::kind::{is_for_allocation, is_of_family};
 use crate::listed::is_for_one;
-use crate::moment::{NANOS_PER_SECOND, later};
+use crate::time::{NANOS_PER_SECOND, later};
 use crate::purposes::Purposes;
 use crate::which::Which;
 use std::net::SocketAddr;

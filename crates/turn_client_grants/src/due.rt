@@ -4,7 +4,7 @@ ghost use Rattle.std.specs.Option.{option_map_or};
 ghost use Rattle.std.specs.Prelude.{◌≡◌, ◌-◌, false, flat_map, fold, map, max, min, not, option_to_list};
 ghost use Rattle.turn_client_api.specs.Due.{end_of, is_refreshable, refresh_time, refresh_time_by_kind, refresh_time_of};
 ghost use Rattle.turn_client_api.specs.State.{State};
-ghost use Rattle.turn_client_grants.specs.Due.{moments_of};
+ghost use Rattle.turn_client_grants.specs.Due.{times_of};
 ghost use Rattle.turn_client_grants.specs.Lists.{find_allocation_in, with_lists};
 
 use crate::kind::{family_of, family_of_ip};
@@ -148,7 +148,7 @@ fn least_with(
     now: Instant,
     pause: Instant,
 ) -> Instant
-    ensures { (s : State) → result ≡ fold min moment (moments_of now pause (with_lists grants.now listed.now s) grant.now) }
+    ensures { (s : State) → result ≡ fold min moment (times_of now pause (with_lists grants.now listed.now s) grant.now) }
 {
     let end = end_of(grant, now);
     let refresh = after_pause(pause, refresh_time(grants, listed, grant));
@@ -163,7 +163,7 @@ pub(crate) fn least_of(
     now: Instant,
     pause: Instant,
 ) -> Instant
-    ensures { (s : State) → result ≡ fold min moment (flat_map (moments_of now pause (with_lists grants.now listed.now s)) grants.now) }
+    ensures { (s : State) → result ≡ fold min moment (flat_map (times_of now pause (with_lists grants.now listed.now s)) grants.now) }
 {
     let mut least = moment;
     for grant in grants {

@@ -30,7 +30,7 @@ mod lapsed;
 mod ledger;
 mod listed;
 mod listings;
-mod moment;
+mod time;
 mod numbers;
 mod offers;
 mod purposes;

@@ -4,7 +4,7 @@ ghost use Rattle.std.specs.Prelude.{◌≡◌, ◌&&◌, filter_map, fold, min, 
 ghost use Rattle.std.specs.List.{list_any};
 ghost use Rattle.turn_client_api.specs.Due.{refresh_time};
 ghost use Rattle.turn_client_api.specs.Grants.{is_for};
-ghost use Rattle.turn_client_api.specs.State.{State, greatest_moment};
+ghost use Rattle.turn_client_api.specs.State.{State, max_time};
 ghost use Rattle.turn_client_api.specs.declared.grant.Grant.TheVariants.{Allocation};
 ghost use Rattle.turn_client_grants.specs.Lists.{with_lists};
 ghost use Rattle.turn_client_grants.specs.Summary.{IsSummary, end_in, is_requested, is_untold, lapse_in, never};
@@ -81,7 +81,7 @@ fn end_in(grant: &Grant) -> Option<Instant>
 
 /// The earliest expiry or deadline of the grants other than allocations.
 fn next_end(grants: &[Grant]) -> Instant
-    ensures { result ≡ fold min greatest_moment (filter_map end_in grants.now) }
+    ensures { result ≡ fold min max_time (filter_map end_in grants.now) }
 {
     let mut soonest = Instant::from_nanos(GREATEST);
     for grant in grants {
@@ -146,7 +146,7 @@ fn next_lapse(grants: &[Grant], listed: &[Listing]) -> u64
 
 /// The earliest time at which a grant is to be refreshed.
 fn next_refresh(grants: &[Grant], listed: &[Listing]) -> Instant
-    ensures { (s : State) → result ≡ fold min greatest_moment (filter_map (refresh_time (with_lists grants.now listed.now s)) grants.now) }
+    ensures { (s : State) → result ≡ fold min max_time (filter_map (refresh_time (with_lists grants.now listed.now s)) grants.now) }
 {
     let mut soonest = Instant::from_nanos(GREATEST);
     for grant in grants {

@@ -11,7 +11,7 @@ use Rattle.turn_client_api.specs.Payloads.{Ignored, Payload, channel_sent, datag
 use Rattle.turn_client_api.specs.Receive.{is_from_server, recv_step}
 use Rattle.turn_client_api.specs.State.{State}
 use Rattle.turn_client_api.specs.Steps.{EndsWithoutMemory, Leaves, state_after}
-use Rattle.turn_client_api.specs.Streams.{broken_at, most_turns, poll_recv_step, steps_until_payload}
+use Rattle.turn_client_api.specs.Streams.{broken_at, max_steps, poll_recv_step, steps_until_payload}
 use Rattle.turn_client_api.specs.declared.call.Call.{Call}
 use Rattle.turn_client_api.specs.declared.call.Call.TheVariants.{AllocatedTcpSocket, Delete, HavePermission, Permissions, Poll, PollEvent, PollRecv, PollTransmit, ProtocolError, Recv, RelayedAddresses, SendTo}
 use Rattle.turn_client_api.specs.declared.state.Stream.{Stream}
@@ -26,7 +26,7 @@ no-turns zero now s none = refl
 no-turns (suc n) now s none = rw none refl
 
 pub no-poll_recv : (now : ℕ) (s : State) → s.streams ≡ [] → poll_recv_step now s ≡ (None, s)
-no-poll_recv now s none = no-turns (most_turns s) now s none
+no-poll_recv now s none = no-turns (max_steps s) now s none
 
 never-ends : (now : ℕ) (s t : State) → s.streams ≡ [] → EndsAfterSteps now s t → ⊥
 never-ends now s t none (u, (n, led), broken) =

@@ -207,7 +207,7 @@ impl TurnClientApi for TurnClient {
     }
 
     fn poll(&mut self, now: Instant) -> Result<TurnPollRet, AllocError>
-        requires moment { now ≤ 2 ^ 62 }
+        requires now_in_range { now ≤ 2 ^ 62 }
         ensures answer { IfOk result (λ answer. answer ≡ (poll_step now (state_of self.old)).0) }
         ensures after { state_of self.new ≡ (poll_step now (state_of self.old)).1 }
         ensures alarm { IfOk result (λ answer. IsTimely answer now (state_of self.old) (state_of self.new)) }

@@ -238,7 +238,7 @@ impl TurnClientApi for TurnClientUdp {
     }
 
     fn poll(&mut self, now: Instant) -> Result<TurnPollRet, AllocError>
-        requires moment { now ≤ 2 ^ 62 }
+        requires now_in_range { now ≤ 2 ^ 62 }
         ensures answer { IfOk result (λ answer. answer ≡ (poll_step now self.old).0) }
         ensures after { self.new ≡ (poll_step now self.old).1 }
         ensures alarm { IfOk result (λ answer. IsTimely answer now self.old self.new) }

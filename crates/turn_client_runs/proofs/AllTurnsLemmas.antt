@@ -4,7 +4,7 @@ use Rattle.std.specs.Option.{option_map_or}
 use Rattle.turn_client_api.specs.State.{State}
 use Rattle.turn_client_api.specs.declared.state.Stream.{Stream}
 use Rattle.turn_client_api.specs.Payloads.{Payload, Outcome, Handled, Ignored, PeerData, PeerIcmp}
-use Rattle.turn_client_api.specs.Streams.{go_on, is_ready, most_turns, poll_recv_step, next_frame_step, first_ready_step, steps_until_payload}
+use Rattle.turn_client_api.specs.Streams.{go_on, is_ready, max_steps, poll_recv_step, next_frame_step, first_ready_step, steps_until_payload}
 use Rattle.turn_client_api.specs.Receive.{then_all}
 use Rattle.turn_client_api.proofs.RestingStreamLemmas.{turns-rest}
 use Rattle.turn_client_api.proofs.StreamDrainLemmas.{IsDone, turn-lighter, turns-done, turns-enough}
@@ -71,7 +71,7 @@ all-done (suc n) now s h = by (find is_ready s.streams) refl (λ t p. all-done n
 -- ---- one poll after the other
 
 and_then-enough : (n now : ℕ) (t : State) → weight t.streams ≤ n → and_then (all_turns n now) (poll_recv_step now t) ≡ and_then (all_turns (suc n) now) (poll_recv_step now t)
-and_then-enough n now t h = by (poll_recv_step now t) (turns-less (most_turns t) now t)
+and_then-enough n now t h = by (poll_recv_step now t) (turns-less (max_steps t) now t)
   where
     by : (r : Option Payload × State) → IsLessThan (weight t.streams) r → and_then (all_turns n now) r ≡ and_then (all_turns (suc n) now) r
     by (None, u) less = refl
@@ -80,7 +80,7 @@ and_then-enough n now t h = by (poll_recv_step now t) (turns-less (most_turns t)
         ap (λ (p : List Payload × State). (q ∷ p.0, p.1)) (all-enough n (suc n) now u (omega (arith, lighter, h)) (omega (arith, lighter, h)))
 
 -- the first step of a poll
-poll-first : (now : ℕ) (s : State) (stream : Stream) → find is_ready s.streams ≡ Some stream → (k : ℕ) → most_turns s ≡ k → (m : ℕ) × (most_turns s ≡ suc m) × (poll_recv_step now s ≡ go_on (steps_until_payload m now) (next_frame_step stream now s))
+poll-first : (now : ℕ) (s : State) (stream : Stream) → find is_ready s.streams ≡ Some stream → (k : ℕ) → max_steps s ≡ k → (m : ℕ) × (max_steps s ≡ suc m) × (poll_recv_step now s ≡ go_on (steps_until_payload m now) (next_frame_step stream now s))
 unfolding steps_until_payload
 poll-first now s stream e zero same =
     let less = turn-lighter stream now s e in
@@ -91,7 +91,7 @@ poll-first now s stream e (suc m) same = (m, same, ap (λ k. steps_until_payload
 pub all-poll : (n now : ℕ) (s : State) → weight s.streams ≤ n → all_turns n now s ≡ and_then (all_turns n now) (poll_recv_step now s)
 all-poll zero now s h =
     let none = nothing-ready now s h _ refl in
-    all-rest zero now s none ∙ ap (and_then (all_turns zero now)) (sym (turns-rest (most_turns s) now s none))
+    all-rest zero now s none ∙ ap (and_then (all_turns zero now)) (sym (turns-rest (max_steps s) now s none))
 all-poll (suc n) now s h = by (find is_ready s.streams) refl (λ t p. all-poll n now t p)
   where
     Goal : Type 0
@@ -104,7 +104,7 @@ all-poll (suc n) now s h = by (find is_ready s.streams) refl (λ t p. all-poll n
     on m t few enough more =
         more t few
         ∙ (and_then-enough n now t few
-        ∙ ap (and_then (all_turns (suc n) now)) (sym (turns-enough m (most_turns t) now t enough (weight-le t.streams))))
+        ∙ ap (and_then (all_turns (suc n) now)) (sym (turns-enough m (max_steps t) now t enough (weight-le t.streams))))
 
     step : (m : ℕ) (p : Outcome × State) → weight p.1.streams ≤ n → weight p.1.streams ≤ m → Later → gives_then (all_turns n now) p ≡ and_then (all_turns (suc n) now) (go_on (steps_until_payload m now) p)
     step m (PeerData payload, t) few enough more = ap (λ (q : List Payload × State). (record payload { place = None } ∷ q.0, q.1)) (all-enough n (suc n) now t few (omega (arith, few)))
@@ -113,10 +113,10 @@ all-poll (suc n) now s h = by (find is_ready s.streams) refl (λ t p. all-poll n
     step m (PeerIcmp transport peer icmp, t) few enough more = on m t few enough more
 
     by : (o : Option Stream) → find is_ready s.streams ≡ o → Later → Goal
-    by None e more = all-rest (suc n) now s e ∙ ap (and_then (all_turns (suc n) now)) (sym (turns-rest (most_turns s) now s e))
-    by (Some stream) e more = first (poll-first now s stream e (most_turns s) refl)
+    by None e more = all-rest (suc n) now s e ∙ ap (and_then (all_turns (suc n) now)) (sym (turns-rest (max_steps s) now s e))
+    by (Some stream) e more = first (poll-first now s stream e (max_steps s) refl)
       where
-        first : (m : ℕ) × (most_turns s ≡ suc m) × (poll_recv_step now s ≡ go_on (steps_until_payload m now) (next_frame_step stream now s)) → Goal
+        first : (m : ℕ) × (max_steps s ≡ suc m) × (poll_recv_step now s ≡ go_on (steps_until_payload m now) (next_frame_step stream now s)) → Goal
         first (m, same, is) =
             let less = turn-lighter stream now s e in
             let most = weight-le s.streams in
@@ -128,7 +128,7 @@ all-poll (suc n) now s h = by (find is_ready s.streams) refl (λ t p. all-poll n
 pub polled-all : (k n now : ℕ) (s : State) → weight s.streams < k → weight s.streams ≤ n → polled k now s ≡ all_turns n now s
 unfolding polled
 polled-all zero n now s some h = absurd (omega (arith, some))
-polled-all (suc k) n now s some h = by (poll_recv_step now s) refl (turns-less (most_turns s) now s) (λ t p q. polled-all k n now t p q)
+polled-all (suc k) n now s some h = by (poll_recv_step now s) refl (turns-less (max_steps s) now s) (λ t p q. polled-all k n now t p q)
   where
     by : (r : Option Payload × State) → poll_recv_step now s ≡ r → IsLessThan (weight s.streams) r → ((t : State) → weight t.streams < k → weight t.streams ≤ n → polled k now t ≡ all_turns n now t) → and_then (polled k now) (poll_recv_step now s) ≡ all_turns n now s
     by (None, u) e less more = ap (and_then (polled k now)) e ∙ sym (all-poll n now s h ∙ ap (and_then (all_turns n now)) e)
@@ -162,12 +162,12 @@ turns-owned (suc n) now s = by (find is_ready s.streams) (λ t. turns-owned n no
 
 -- what the piece returned, and what is polled then
 abbrev pub polled_out : ℕ → Outcome × State → List Payload × State
-polled_out now p = gives_then (polled (most_turns p.1 + 1) now) p
+polled_out now p = gives_then (polled (max_steps p.1 + 1) now) p
 
 pub polled_out-all : (n now : ℕ) (p : Outcome × State) → weight p.1.streams ≤ n → polled_out now p ≡ gives_then (all_turns n now) p
 polled_out-all n now p h =
     let most = weight-le p.1.streams in
-    ap (λ (q : List Payload × State). (given_by p.0 ++ q.0, q.1)) (polled-all (most_turns p.1 + 1) n now p.1 (omega (arith, most)) h)
+    ap (λ (q : List Payload × State). (given_by p.0 ++ q.0, q.1)) (polled-all (max_steps p.1 + 1) n now p.1 (omega (arith, most)) h)
 
 poll-then : (n now : ℕ) (s : State) (o : Outcome) → given_by o ≡ [] → weight s.streams ≤ n → (r : Option Payload × State) → IsLessThan (weight s.streams) r → IsOwned r → IsDone r → polled_out now (option_map_or PeerData r.0 o, r.1) ≡ and_then (all_turns n now) r
 poll-then n now s o nothing h (None, u) less is done =
@@ -181,7 +181,7 @@ poll-then n now s o nothing h (Some q, u) less is done =
 
 poll-all : (n now : ℕ) (s : State) (o : Outcome) → given_by o ≡ [] → weight s.streams ≤ n → polled_out now (option_map_or PeerData (poll_recv_step now s).0 o, (poll_recv_step now s).1) ≡ all_turns n now s
 poll-all n now s o nothing h =
-    let most = most_turns s in
+    let most = max_steps s in
     poll-then n now s o nothing h (poll_recv_step now s) (turns-less most now s) (turns-owned most now s) (turns-done most now s (weight-le s.streams))
     ∙ sym (all-poll n now s h)
 

@@ -9,7 +9,7 @@ use Rattle.turn_client_api.specs.LawsHandled.{ProcessesInputs, TakesInput, Input
 use Rattle.turn_client_api.specs.LawsReplies.{IsHeeded}
 use Rattle.turn_client_api.specs.LawsStates.{HoldsAtFirst, StaysInCalls}
 use Rattle.turn_client_api.specs.LawsSteps.{IsCounted, KeepsRealm}
-use Rattle.turn_client_api.specs.Retry.{most_challenges}
+use Rattle.turn_client_api.specs.Retry.{max_challenges}
 use Rattle.turn_client_api.specs.Steps.{state_after, state_after_all}
 use Rattle.turn_client_api.specs.declared.call.Call.{Call}
 use Rattle.turn_client_api.proofs.CountLemmas.{bringing, leaves-heeded}
@@ -140,12 +140,12 @@ run-counts s (call ∷ calls) = by (call-counts call s) (run-counts (state_after
     by (inr among) rest = inr (among-left IsHeededIn turns more among)
     by (inl first) (inr among) = inr (among-right IsHeededIn turns more among)
 
-pub few-answered : (s : State) (calls : List Call) → IsWithinChallengeLimit s → (answers_in (handled_in s calls) ≤ most_challenges) ⊎ IsHeededAmong (handled_in s calls)
+pub few-answered : (s : State) (calls : List Call) → IsWithinChallengeLimit s → (answers_in (handled_in s calls) ≤ max_challenges) ⊎ IsHeededAmong (handled_in s calls)
 few-answered s calls patient = by (run-counts s calls)
   where
     last : IsWithinChallengeLimit (state_after_all s calls)
     last = kept-behind IsWithinChallengeLimit leaves-patient s calls patient
 
-    by : Counts s (state_after_all s calls) (handled_in s calls) → (answers_in (handled_in s calls) ≤ most_challenges) ⊎ IsHeededAmong (handled_in s calls)
+    by : Counts s (state_after_all s calls) (handled_in s calls) → (answers_in (handled_in s calls) ≤ max_challenges) ⊎ IsHeededAmong (handled_in s calls)
     by (inl counts) = inl (omega (arith, counts, last))
     by (inr among) = inr among

@@ -16,7 +16,7 @@ use Rattle.turn_client_api.specs.declared.state.Stream.{Stream}
 use Rattle.turn_client_api.specs.Handled.{Input, fed, fed_taken, frame_taken, handled, is_front, piece_inputs, poll_recv_inputs, recv_inputs, stream_inputs, taken, taken_first, taken_in, taken_of_len, then_taken, inputs_taken, unless_given}
 use Rattle.turn_client_api.specs.Payloads.{Payload, Outcome, Handled, Ignored, PeerData, PeerIcmp}
 use Rattle.turn_client_api.specs.Receive.{first_frame_step, is_from_server}
-use Rattle.turn_client_api.specs.Streams.{is_ready, most_turns, payload_in, stream_at, next_frame_step, with_bytes}
+use Rattle.turn_client_api.specs.Streams.{is_ready, max_steps, payload_in, stream_at, next_frame_step, with_bytes}
 use Rattle.turn_client_api.proofs.HasLemmas.{Has, has-append}
 use Rattle.turn_client_runs.specs.Granted.{ComesIn, IsInFront}
 
@@ -81,7 +81,7 @@ turns-frames (suc n) now s = by (find is_ready s.streams) (λ t. turns-frames n 
     by (Some stream) more = joined-frames now _ _ (taken-frames false stream now s) (unless-frames now (payload_in (next_frame_step stream now s).0) _ (more (next_frame_step stream now s).1))
 
 poll-frames : (now : ℕ) (s : State) → AllFrames now (poll_recv_inputs now s)
-poll-frames now s = turns-frames (most_turns s) now s
+poll-frames now s = turns-frames (max_steps s) now s
 
 then-frames : (now : ℕ) (p : Outcome × State) → AllFrames now (then_taken now p)
 then-frames now (PeerData payload, s) = no-frames now

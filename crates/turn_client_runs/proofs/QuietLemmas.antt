@@ -5,7 +5,7 @@ use Rattle.turn_stun.specs.declared.transport.TransportType.TheVariants.{Tcp}
 use Rattle.turn_client_api.specs.Config.{Config}
 use Rattle.turn_client_api.specs.State.{State, initial}
 use Rattle.turn_client_api.specs.Payloads.{Payload, Outcome}
-use Rattle.turn_client_api.specs.Streams.{is_ready, most_turns, poll_recv_step}
+use Rattle.turn_client_api.specs.Streams.{is_ready, max_steps, poll_recv_step}
 use Rattle.turn_client_api.specs.Receive.{recv_step}
 use Rattle.turn_client_api.specs.Steps.{state_after, state_after_all}
 use Rattle.turn_client_api.specs.declared.call.Call.{Call}
@@ -94,7 +94,7 @@ polled_out-done now p =
 pub fed-quiet : (a : SocketAddr) (piece : List ℕ) (now : ℕ) (s : State) → IsQuiet s → IsQuiet (fed_piece a piece now s).1
 fed-quiet a piece now s quiet =
     let came = (recv_step Tcp s.remote a piece now s).1 in
-    let n = most_turns came + 1 in
+    let n = max_steps came + 1 in
     record {
       transport = polled-keeps (λ (t : State). t.transport ≡ Tcp) (λ now t h. poll_recv-kept SameTransport transport-kept now t ∙ h) n now came (recv-kept SameTransport transport-kept Tcp s.remote a piece now s ∙ quiet.transport);
       apart = polled-keeps AreApart poll_recv-apart n now came (recv-apart Tcp s.remote a piece now s quiet.apart);
@@ -105,7 +105,7 @@ pub poll-quiet : (s : State) → s.transport ≡ Tcp → AreApart s → GetsQuie
 poll-quiet s tcp apart now none = record {
   transport = poll_recv-kept SameTransport transport-kept now s ∙ tcp;
   apart = poll_recv-apart now s apart;
-  none_ready = turns-done (most_turns s) now s (weight-le s.streams) none;
+  none_ready = turns-done (max_steps s) now s (weight-le s.streams) none;
 }
 
 pub initial-quiet : (local remote : SocketAddr) (config : Config) (seed : List ℕ) → IsQuiet (initial Tcp local remote config seed)

@@ -14,7 +14,7 @@ use Rattle.turn_client_api.specs.Grants.{is_connection_from, without}
 use Rattle.turn_client_api.specs.Handled.{Input, fed, fed_taken, frame_taken, is_front, piece_inputs, poll_recv_inputs, stream_inputs, taken, taken_first, taken_in, taken_of_len, then_taken, inputs_taken, unless_given}
 use Rattle.turn_client_api.specs.Payloads.{Payload, Outcome, Handled, Ignored, PeerData, PeerIcmp}
 use Rattle.turn_client_api.specs.Receive.{connection_gone, first_frame_step, piece_step, stream_step, then_all}
-use Rattle.turn_client_api.specs.Streams.{broken_at, frame_step, framed_by, framed_stream_step, go_on, is_ready, most_turns, payload_in, poll_recv_step, next_frame_step, first_ready_step, detached_frame_step, steps_until_payload, with_bytes, without_stream}
+use Rattle.turn_client_api.specs.Streams.{broken_at, frame_step, framed_by, framed_stream_step, go_on, is_ready, max_steps, payload_in, poll_recv_step, next_frame_step, first_ready_step, detached_frame_step, steps_until_payload, with_bytes, without_stream}
 use Rattle.turn_client_runs.specs.Received.{unless_broken}
 use Rattle.turn_client_api.proofs.AddressLemmas.{same_address-true}
 use Rattle.turn_client_api.proofs.GrantOriginLemmas.{has-mapped}
@@ -171,7 +171,7 @@ module _ (Known : SocketAddr → List ℕ → Type 0) (none : (a : SocketAddr) �
           (taken-turns false stream now s is, turn-known stream now s is (all-others stream.local s.streams all)) more
 
   pub poll-known : (now : ℕ) (s : State) → AllKnown s.streams → Goes (poll_recv_inputs now s) (poll_recv_step now s).1
-  poll-known now s all = turns-known (most_turns s) now s all
+  poll-known now s all = turns-known (max_steps s) now s all
 
   -- ---- a piece
 

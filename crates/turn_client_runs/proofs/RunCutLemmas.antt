@@ -7,7 +7,7 @@ use Rattle.turn_stun.specs.declared.transport.TransportType.TheVariants.{Tcp}
 use Rattle.turn_client_api.specs.State.{State}
 use Rattle.turn_client_api.specs.declared.call.Call.{Call}
 use Rattle.turn_client_api.specs.Payloads.{Payload}
-use Rattle.turn_client_api.specs.Streams.{most_turns, poll_recv_step}
+use Rattle.turn_client_api.specs.Streams.{max_steps, poll_recv_step}
 use Rattle.turn_client_api.specs.Receive.{recv_step}
 use Rattle.turn_client_api.specs.Steps.{state_after, state_after_all}
 use Rattle.turn_client_api.proofs.StreamFewerLemmas.{IsLessThan, turns-less}
@@ -27,7 +27,7 @@ polls-same [] n now s none some = absurd none
 polls-same (call ∷ calls) zero now s is some = absurd (omega (arith, some))
 polls-same (call ∷ calls) (suc n) now s (e, ends) some =
     subst (λ (c : Call). run_from s (c ∷ calls) ≡ and_then (polled n now) (poll_recv_step now s)) (sym e)
-    (by (poll_recv_step now s) ends (turns-less (most_turns s) now s) (λ t is less. polls-same calls n now t is less))
+    (by (poll_recv_step now s) ends (turns-less (max_steps s) now s) (λ t is less. polls-same calls n now t is less))
   where
     Later : Type 0
     Later = (t : State) → ArePolls now calls t → weight t.streams < n → run_from t calls ≡ polled n now t
@@ -55,14 +55,14 @@ pieces-run a (piece ∷ pieces) now calls s (polls, later, e, some, are, more) =
     let came = recv_step Tcp s.remote a piece now s in
     let given = given_by came.0 in
     let most = weight-le came.1.streams in
-    let polls-are = polls-same polls (most_turns came.1 + 1) now came.1 are (omega (arith, most)) in
+    let polls-are = polls-same polls (max_steps came.1 + 1) now came.1 are (omega (arith, most)) in
     let u = state_after_all came.1 polls in
     let rest = pieces-run a pieces now later u more in
     subst (λ (l : List Call). run_from s l ≡ fed_pieces a (piece ∷ pieces) now s) (sym e)
     (ap (λ (p : List Payload × State). (given ++ p.0, p.1)) (run-append polls later came.1)
     ∙ (ap (λ (p : List Payload × State). (given ++ (given_in_run came.1 polls ++ p.0), p.1)) rest
     ∙ (ap (λ (q : List Payload × State). (given ++ (q.0 ++ (fed_pieces a pieces now q.1).0), (fed_pieces a pieces now q.1).1)) polls-are
-    ∙ again given (polled (most_turns came.1 + 1) now came.1))))
+    ∙ again given (polled (max_steps came.1 + 1) now came.1))))
   where
     again : (given : List Payload) (q : List Payload × State) → ◌≡◌ {A = List Payload × State} (given ++ (q.0 ++ (fed_pieces a pieces now q.1).0), (fed_pieces a pieces now q.1).1) ((given ++ q.0) ++ (fed_pieces a pieces now q.1).0, (fed_pieces a pieces now q.1).1)
     again given q = ap (λ (l : List Payload). (l, (fed_pieces a pieces now q.1).1)) (sym (append_assoc given q.0 (fed_pieces a pieces now q.1).0))

@@ -4,7 +4,7 @@ use Rattle.std.specs.List.{Contains}
 use Rattle.turn_auth.specs.LongTerm.{Challenge}
 use Rattle.turn_client_api.specs.State.{State}
 use Rattle.turn_client_api.specs.Judgement.{Challenged, judgement_of}
-use Rattle.turn_client_api.specs.Retry.{most_challenges}
+use Rattle.turn_client_api.specs.Retry.{max_challenges}
 use Rattle.turn_client_api.specs.Payloads.{is_message}
 use Rattle.turn_client_api.specs.Handled.{Input, processed}
 use Rattle.turn_client_api.specs.LawsHandled.{IsOverControl}
@@ -15,7 +15,7 @@ use Rattle.turn_client_runs.specs.Inputs.{IsAmong, handled_in}
 
 -- no more challenges were answered than allowed
 abbrev pub IsWithinChallengeLimit : State → Type 0
-IsWithinChallengeLimit s = s.challenges ≤ most_challenges
+IsWithinChallengeLimit s = s.challenges ≤ max_challenges
 
 -- the input is a challenge over the control connection
 pub record IsChallengeInput (one : Input) : Type 0 where
@@ -48,4 +48,4 @@ CountsAll s calls = (one : Input) → Contains (handled_in s calls) one → IsCh
 
 -- at most nine are answered by the calls, unless challenges are counted anew among them
 abbrev pub AnswersFew : State → List Call → Type 0
-AnswersFew s calls = (answers_in (handled_in s calls) ≤ most_challenges) ⊎ IsHeededAmong (handled_in s calls)
+AnswersFew s calls = (answers_in (handled_in s calls) ≤ max_challenges) ⊎ IsHeededAmong (handled_in s calls)

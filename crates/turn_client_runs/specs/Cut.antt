@@ -16,7 +16,7 @@ use Rattle.turn_client_api.specs.declared.state.Stream.{Stream}
 use Rattle.turn_client_api.specs.declared.call.Call.{Call}
 use Rattle.turn_client_api.specs.declared.call.Call.TheVariants.{Recv, PollRecv}
 use Rattle.turn_client_api.specs.Payloads.{Payload, Outcome, PeerData}
-use Rattle.turn_client_api.specs.Streams.{broken_at, frame_step, is_ready, most_turns, poll_recv_step, sent_by, stream_at, with_bytes}
+use Rattle.turn_client_api.specs.Streams.{broken_at, frame_step, is_ready, max_steps, poll_recv_step, sent_by, stream_at, with_bytes}
 use Rattle.turn_client_api.specs.Receive.{recv_step}
 use Rattle.turn_client_api.specs.Steps.{packet_step, state_after, state_after_all}
 use Rattle.turn_client_api.specs.LawsStreams.{AreApart}
@@ -123,7 +123,7 @@ polled (suc n) now s = and_then (polled n now) (poll_recv_step now s)
 abbrev pub fed_piece : SocketAddr → List ℕ → ℕ → State → List Payload × State
 fed_piece local piece now s =
     let came = recv_step Tcp s.remote local piece now s in
-    let more = polled (most_turns came.1 + 1) now came.1 in
+    let more = polled (max_steps came.1 + 1) now came.1 in
     (given_by came.0 ++ more.0, more.1)
 
 unfoldable pub fed_pieces : SocketAddr → List (List ℕ) → ℕ → State → List Payload × State

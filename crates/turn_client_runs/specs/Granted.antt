@@ -23,7 +23,7 @@ use Rattle.turn_client_api.specs.declared.state.Stream.{Stream}
 use Rattle.turn_client_api.specs.Calls.{delete_step}
 use Rattle.turn_client_api.specs.Grants.{is_of_family, purposes_of, same_ip}
 use Rattle.turn_client_api.specs.Judgement.{class_in, lifetime_in}
-use Rattle.turn_client_api.specs.Effect.{channel_lifetime, least_lifetime, permission_lifetime, relayed_in}
+use Rattle.turn_client_api.specs.Effect.{channel_lifetime, min_lifetime, permission_lifetime, relayed_in}
 use Rattle.turn_client_api.specs.Payloads.{is_message}
 use Rattle.turn_client_api.specs.Handled.{Input, handled, processed}
 use Rattle.turn_client_api.specs.Steps.{state_after, state_after_all}
@@ -51,7 +51,7 @@ IsGivenIn one ForAllocation (Allocation a) =
     × (list_any (λ family. is_of_family family a.relayed) one.before.families ≡ true)
 IsGivenIn one (ForRefresh family lifetime) (Allocation a) =
     (1 ≤ lifetime) × (is_of_family family a.relayed ≡ true)
-    × ((n : ℕ) × (lifetime_in one.bytes ≡ Some n) × (least_lifetime ≤ n) × (a.expiry ≡ later_by (seconds n) one.moment))
+    × ((n : ℕ) × (lifetime_in one.bytes ≡ Some n) × (min_lifetime ≤ n) × (a.expiry ≡ later_by (seconds n) one.moment))
 IsGivenIn one (ForPermission ip) (Permission other (Active expiry)) =
     (same_ip other ip ≡ true) × (expiry ≡ later_by permission_lifetime one.moment)
 IsGivenIn one (ForChannel number peer) (Channel other to (Active expiry)) =

@@ -35,4 +35,4 @@ pub use numbers::numbers_stay_distinct;
 pub use peers::only_permitted_is_received;
 pub use promises::runs_keep_their_promises;
 pub use replies::replies_count_once_in_runs;
-pub use sleeps::runs_sleep_through_nothing;
+pub use sleeps::runs_miss_no_deadline;

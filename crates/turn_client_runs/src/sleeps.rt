@@ -8,7 +8,7 @@ ghost use Rattle.turn_client_runs.specs.Sleeps.{SleepsInTime, TellsTimelyNext};
 /// something to do (our choice: RFC 8489, section 6.2, has timers). That holds after any list of calls,
 /// whatever their times, as long as the client is polled at times up to 2^62 nanoseconds. It also holds for
 /// a `poll` after calls of which some had a failed memory allocation.
-pub fn runs_sleep_through_nothing()
+pub fn runs_miss_no_deadline()
     ensures found { HoldsOfRuns SleepsInTime }
     ensures any { HoldsInAnyRun TellsTimelyNext }
 {}

@@ -131,7 +131,7 @@ impl<C: TurnClientApi> Gatherer<C> {
         transmit: Transmit<T>,
         now: Instant,
     ) -> Result<GatherRecv<T>, AllocError>
-        requires moment { now ≤ 2 ^ 62 }
+        requires now_in_range { now ≤ 2 ^ 62 }
         ensures answer { IfOk result (λ answer. gathered_of answer ≡ received transmit (T.items transmit.payload) now self.old) }
         ensures hands_on { IfOk result (HandsOn transmit) }
         ensures after { OnOk result (self.new.client ≡ (client_step transmit (T.items transmit.payload) now self.old.client).1) }
@@ -155,7 +155,7 @@ impl<C: TurnClientApi> Gatherer<C> {
     /// Memory allocation in the client failed. The client has then ended, as for
     /// [`TurnClientApi::poll_recv`].
     pub fn poll_recv(&mut self, now: Instant) -> Result<Option<GatherRecv<Vec<u8>>>, AllocError>
-        requires moment { now ≤ 2 ^ 62 }
+        requires now_in_range { now ≤ 2 ^ 62 }
         ensures answer { IfOk result (λ given. option_map gathered_of given ≡ polled now self.old) }
         ensures after { OnOk result (self.new.client ≡ (poll_recv_step now self.old.client).1) }
         ensures no_memory { OnErr result (EndsAfterSteps now self.old.client self.new.client) }
@@ -190,7 +190,7 @@ impl<C: TurnClientApi> Gatherer<C> {
         peer_addr: IpAddr,
         now: Instant,
     ) -> Result<(), CreatePermissionError>
-        requires moment { now ≤ 2 ^ 62 }
+        requires now_in_range { now ≤ 2 ^ 62 }
         ensures step { CreatesPermission result self.old.client self.new.client (create_permission_step transport peer_addr now self.old.client) }
         ensures checked { self.new.checked ≡ self.old.checked }
     {
@@ -210,7 +210,7 @@ impl<C: TurnClientApi> Gatherer<C> {
         data: T,
         now: Instant,
     ) -> Result<Option<TransmitBuild<DelayedMessageOrChannelSend<T>>>, SendError>
-        requires moment { now ≤ 2 ^ 62 }
+        requires now_in_range { now ≤ 2 ^ 62 }
         requires short { self.old.client.config.allocation_transport ≡ Udp → length (T.items «data») ≤ 65504 }
         ensures answer { IsSent result (send_to_step transport to (T.items «data») now self.old.client).0 }
         ensures after { self.new.client ≡ (send_to_step transport to (T.items «data») now self.old.client).1 }
@@ -225,7 +225,7 @@ impl<C: TurnClientApi> Gatherer<C> {
     ///
     /// Memory allocation failed. The client has then ended, and nothing else has changed.
     pub fn poll(&mut self, now: Instant) -> Result<TurnPollRet, AllocError>
-        requires moment { now ≤ 2 ^ 62 }
+        requires now_in_range { now ≤ 2 ^ 62 }
         ensures answer { IfOk result (λ answer. answer ≡ (poll_step now self.old.client).0) }
         ensures after { OnOk result (self.new.client ≡ (poll_step now self.old.client).1) }
         ensures alarm { IfOk result (λ answer. IsTimely answer now self.old.client self.new.client) }
@@ -241,7 +241,7 @@ impl<C: TurnClientApi> Gatherer<C> {
     ///
     /// Memory allocation failed. The client has then ended, and nothing else has changed.
     pub fn poll_transmit(&mut self, now: Instant) -> Result<Option<Transmit<Data>>, AllocError>
-        requires moment { now ≤ 2 ^ 62 }
+        requires now_in_range { now ≤ 2 ^ 62 }
         ensures answer { IfOk result (λ packet. packet ≡ (transmit_step now self.old.client).0) }
         ensures after { OnOk result (self.new.client ≡ (transmit_step now self.old.client).1) }
         ensures no_memory { OnErr result (self.new.client ≡ closed self.old.client) }

@@ -2,7 +2,7 @@
 use Rattle.std.specs.Prelude.{◌≡◌, ◌⊎◌, ℕ, ◌<◌, ◌≤◌, nat_lt, List, [], Option, Some, None, if◌then◌else◌, ⊤}
 use Rattle.turn_stun.specs.declared.transport.Transmit.{Transmit}
 use Rattle.turn_client_api.specs.State.{State}
-use Rattle.turn_client_api.specs.Alarm.{IsSilent}
+use Rattle.turn_client_api.specs.Alarm.{IsIdleUntil}
 use Rattle.turn_client_api.specs.Answers.{EndsAfterSteps, event_step}
 use Rattle.turn_client_api.specs.Effect.{closed}
 use Rattle.turn_client_api.specs.Payloads.{Payload}
@@ -66,7 +66,7 @@ next_step now s = by_streams now (poll_recv_step now s)
 -- Until the wake-up time nothing is due: no packet, no event, no timeout of a request and no expiry of a grant.
 -- A client that has ended has no event and no packet left.
 abbrev pub IsRestful : Rest → ℕ → State → Type 0
-IsRestful (Until moment) now s = (now < moment) × IsSilent now moment s
+IsRestful (Until moment) now s = (now < moment) × IsIdleUntil now moment s
 IsRestful Now now s = ⊤
 IsRestful Ended now s = (s.events ≡ []) × (transmit_step now s ≡ (None, s))
 

@@ -25,7 +25,7 @@ pub enum Next {
 /// Memory allocation failed in the last call of the client: `poll_recv`, `poll` or `poll_transmit`. The client
 /// has then ended, as the docs of that call say.
 pub fn next_task<C: TurnClientApi>(client: &mut C, now: Instant) -> Result<Next, AllocError>
-    requires moment { now ≤ 2 ^ 62 }
+    requires now_in_range { now ≤ 2 ^ 62 }
     ensures answer { IfOk result (λ next. answer_of next ≡ (next_step now (C.state client.old)).0) }
     ensures after { OnOk result (C.state client.new ≡ (next_step now (C.state client.old)).1) }
     ensures restful { IfOk result (λ next. AnswersRest (answer_of next) now (C.state client.new)) }
@@ -39,7 +39,7 @@ pub fn next_task<C: TurnClientApi>(client: &mut C, now: Instant) -> Result<Next,
 
 /// The next thing that `poll` returns, or else a pending event or packet.
 fn poll<C: TurnClientApi>(client: &mut C, now: Instant) -> Result<Next, AllocError>
-    requires moment { now ≤ 2 ^ 62 }
+    requires now_in_range { now ≤ 2 ^ 62 }
     ensures answer { IfOk result (λ next. answer_of next ≡ (poll_answer now (C.state client.old)).0) }
     ensures after { OnOk result (C.state client.new ≡ (poll_answer now (C.state client.old)).1) }
     ensures restful { IfOk result (λ next. AnswersRest (answer_of next) now (C.state client.new)) }
@@ -79,7 +79,7 @@ fn what_waits<C: TurnClientApi>(
     now: Instant,
     rest: Rest,
 ) -> Result<Next, AllocError>
-    requires moment { now ≤ 2 ^ 62 }
+    requires now_in_range { now ≤ 2 ^ 62 }
     ensures answer { IfOk result (λ next. answer_of next ≡ (waiting now rest (C.state client.old)).0) }
     ensures after { OnOk result (C.state client.new ≡ (waiting now rest (C.state client.old)).1) }
     ensures no_memory { OnErr result (SendEnds now (C.state client.old) (C.state client.new)) }

@@ -29,7 +29,7 @@ pub fn turn<C: TurnClientApi>(
     most: u32,
     tasks: &mut Vec<Task>,
 ) -> Result<Rest, AllocError>
-    requires moment { now ≤ 2 ^ 62 }
+    requires now_in_range { now ≤ 2 ^ 62 }
     ensures ok { IfOk result (λ rest. stands tasks.new.items rest (C.state client.new) ≡ turn_step most came now tasks.old.items (C.state client.old)) }
     ensures whole { OnOk result (IsWhole (packet_in came) now (so_far tasks.old.items (C.state client.old)) (so_far tasks.new.items (C.state client.new))) }
     ensures restful { IfOk result (λ rest. IsRestful rest now (C.state client.new)) }
@@ -48,7 +48,7 @@ fn hand_in<C: TurnClientApi>(
     now: Instant,
     tasks: &mut Vec<Task>,
 ) -> Result<(), AllocError>
-    requires moment { now ≤ 2 ^ 62 }
+    requires now_in_range { now ≤ 2 ^ 62 }
     ensures ok { OnOk result (so_far tasks.new.items (C.state client.new) ≡ begun (Some (packet_of came)) now (so_far tasks.old.items (C.state client.old))) }
     ensures list { OnErr result (tasks.new.items ≡ tasks.old.items) }
     ensures no_memory { OnErr result (StopsAtHand (Some (packet_of came)) now (C.state client.old) (C.state client.new)) }
@@ -82,7 +82,7 @@ fn draw<C: TurnClientApi>(
     most: u32,
     tasks: &mut Vec<Task>,
 ) -> Result<Rest, AllocError>
-    requires moment { now ≤ 2 ^ 62 }
+    requires now_in_range { now ≤ 2 ^ 62 }
     ensures ok { IfOk result (λ rest. stands tasks.new.items rest (C.state client.new) ≡ turned most now (so_far tasks.old.items (C.state client.old))) }
     ensures restful { IfOk result (λ rest. IsRestful rest now (C.state client.new)) }
     ensures no_memory { OnErr result (Draws most now (so_far tasks.old.items (C.state client.old)) (so_far tasks.new.items (C.state client.new))) }

@@ -10,6 +10,6 @@ ghost use Rattle.turn_client_api.specs.Alarm.{AllHaveAllocation, FitsPhaseForPol
 /// offer or close is pending, and no grant expires.
 /// If it is not later, an event is pending, a packet is due, or this call timed a transaction out. That
 /// holds whatever the times of earlier calls were (our choice: RFC 8489, section 6.2, has timers).
-pub fn sleeps_through_nothing()
+pub fn no_deadline_is_missed()
     ensures { (now : ℕ) (s : State) → FitsPhaseForPoll s → AllHaveAllocation s → now ≤ 2 ^ 62 → IsTimely (poll_step now s).0 now s (poll_step now s).1 }
 {}

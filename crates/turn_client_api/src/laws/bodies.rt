@@ -8,7 +8,7 @@ ghost use Rattle.turn_client_api.specs.Poll.{lapsed, poll_step};
 ghost use Rattle.turn_client_api.specs.Streams.{frame_step, poll_recv_step, next_frame_step};
 ghost use Rattle.turn_client_api.specs.Handled.{poll_recv_inputs};
 ghost use Rattle.turn_client_api.specs.LawsStreams.{NeedsMoreBytes};
-ghost use Rattle.turn_client_api.specs.LawsBodies.{AreTakenUpTo, IsAsideFrom, IsLeastFree, TellsOfFailed, lapse_moments, most_failures, soonest};
+ghost use Rattle.turn_client_api.specs.LawsBodies.{AreTakenUpTo, IsAsideFrom, IsLeastFree, TellsOfFailed, expiry_times, max_failures, soonest};
 
 /// Before the earliest time at which a grant expires, time changes nothing unless a transaction timed out.
 /// These times are the expiries of allocations, permissions and channels (RFC 8656, sections 8, 9 and 12),
@@ -16,7 +16,7 @@ ghost use Rattle.turn_client_api.specs.LawsBodies.{AreTakenUpTo, IsAsideFrom, Is
 /// the time until which a channel is reserved. An expired allocation has none while a request for it is
 /// pending.
 pub fn nothing_lapses_early()
-    ensures { (now : ℕ) (s : State) → All (λ moment. now < moment) (lapse_moments s) → lapsed None now s ≡ s }
+    ensures { (now : ℕ) (s : State) → All (λ moment. now < moment) (expiry_times s) → lapsed None now s ≡ s }
 {}
 
 /// For each event that a `poll` queues there is one grant fewer that can fail: so it queues at most as many
@@ -25,13 +25,13 @@ pub fn nothing_lapses_early()
 pub fn events_are_bounded()
     ensures granted { (now : ℕ) (s : State) → s.phase ≢ Requesting → TellsOfFailed s (poll_step now s).1 }
     ensures requested { (now : ℕ) (s : State) → s.phase ≡ Requesting → length (poll_step now s).1.events ≤ length s.events + length s.families }
-    ensures most { (s : State) → most_failures s ≤ length s.grants }
+    ensures most { (s : State) → max_failures s ≤ length s.grants }
 {}
 
 /// The earliest time at which something is due is the minimum of its parts: the longest wait (our choice),
 /// a queued request, a transaction (RFC 8489, section 6.2.1), the expiry of a grant, and a refresh, which
 /// waits until the pause ends. A body can keep the minimum of each part.
-pub fn least_moment_has_parts()
+pub fn least_time_has_parts()
     ensures { (now : ℕ) (s : State) → least_due now s ≡ soonest now s }
 {}
 

@@ -8,7 +8,7 @@ ghost use Rattle.turn_client_api.specs.LawsStates.{HoldsAtFirst, StaysInCalls};
 /// A grant is made in an allocation of its address's family, and is removed with it (RFC 8656, sections
 /// 7.3, 9 and 12). A channel or a connection is a grant from its request on, so that the reply finds an
 /// allocation too. This holds for a new client and after every call, even if memory allocation fails: with
-/// `clients_fit_their_phase`, `sleeps_through_nothing` holds for every client.
+/// `clients_fit_their_phase`, `no_deadline_is_missed` holds for every client.
 pub fn grants_have_allocations()
     ensures initial { HoldsAtFirst GrantsHaveAllocations }
     ensures kept { StaysInCalls GrantsHaveAllocations }

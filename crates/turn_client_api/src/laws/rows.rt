@@ -29,7 +29,7 @@ pub fn channel_numbers_count_up()
 {}
 
 /// The time at which a caller is to call `poll` again.
-pub fn moments_are_told()
+pub fn wakeups_are_reported()
     // A challenge that is answered at 10 ms, after a first ALLOCATE at 0: the end of the pause.
     ensures retry { (text : List ℕ) (challenge : Challenge) (s : State) → (poll_step 10_000_000 (challenged_once text challenge s)).0 ≡ Do.WaitUntil 50_000_000 }
     // Two allocations of 1000 s that were granted at 50 ms: a minute before they expire.

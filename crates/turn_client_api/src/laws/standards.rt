@@ -2,7 +2,7 @@
 
 ghost use Rattle.std.specs.Prelude.{◌≡◌};
 ghost use Rattle.turn_types.specs.Send.{peer_kind, data_kind};
-ghost use Rattle.turn_client_api.specs.State.{greatest_moment};
+ghost use Rattle.turn_client_api.specs.State.{max_time};
 ghost use Rattle.turn_client_api.specs.Effect.{allocation_mismatch, family_not_supported};
 ghost use Rattle.turn_client_api.specs.Requests.{connection_already_exists, connection_timed_out};
 ghost use Rattle.turn_client_api.specs.Requests.{allocate_method, channel_bind_method, connect_method, connection_attempt_method, connection_bind_method, create_permission_method, data_method, refresh_method};
@@ -69,7 +69,7 @@ pub fn numbers_are_the_standards() -> (
     // The pause of a client that has sent nothing ends at time 0, and the machine's sums stop at the
     // greatest `Instant`.
     ensures first_moment { result.8 ≡ 0 }
-    ensures last_moment { result.9 ≡ greatest_moment }
+    ensures last_moment { result.9 ≡ max_time }
 {
     (
         ALLOCATE,

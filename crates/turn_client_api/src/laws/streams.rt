@@ -2,7 +2,7 @@
 
 ghost use Rattle.std.specs.Prelude.{◌≡◌, ◌≢◌, ℕ, ◌<◌, ◌≤◌, length, List, All, None, IsSome};
 ghost use Rattle.turn_client_api.specs.State.{State, Stream, Control, Broken};
-ghost use Rattle.turn_client_api.specs.Streams.{most_turns, poll_recv_step, steps_until_payload};
+ghost use Rattle.turn_client_api.specs.Streams.{max_steps, poll_recv_step, steps_until_payload};
 ghost use Rattle.turn_client_api.specs.Receive.{piece_step};
 ghost use Rattle.turn_client_api.specs.LawsStreams.{AreApart, DrainsOrGives, NeedsMoreBytes};
 ghost use Rattle.turn_client_api.specs.LawsStates.{HoldsAtFirst, StaysInCalls};
@@ -17,8 +17,8 @@ pub fn streams_are_drained()
     ensures drained { (now : ℕ) (s : State) → (poll_recv_step now s).0 ≡ None → All NeedsMoreBytes (poll_recv_step now s).1.streams }
     ensures piece { (stream : Stream) (piece : List ℕ) (now : ℕ) (s : State) → stream.mode ≡ Control → DrainsOrGives (piece_step stream piece now s) }
     ensures short { (stream : Stream) → NeedsMoreBytes stream → stream.mode ≢ Broken → All (λ b. b < 256) stream.bytes → length stream.bytes < 65555 }
-    ensures enough { (n now : ℕ) (s : State) → most_turns s ≤ n → steps_until_payload n now s ≡ poll_recv_step now s }
-    ensures fewer { (now : ℕ) (s : State) → AreApart s → IsSome (poll_recv_step now s).0 → most_turns (poll_recv_step now s).1 < most_turns s }
+    ensures enough { (n now : ℕ) (s : State) → max_steps s ≤ n → steps_until_payload n now s ≡ poll_recv_step now s }
+    ensures fewer { (now : ℕ) (s : State) → AreApart s → IsSome (poll_recv_step now s).0 → max_steps (poll_recv_step now s).1 < max_steps s }
 {}
 
 /// No two streams have one local address (RFC 6062, section 4.3: each data connection is a TCP connection

@@ -3,7 +3,7 @@
 ghost use Rattle.std.specs.List.{list_any};
 ghost use Rattle.std.specs.Option.{option_map_or};
 ghost use Rattle.std.specs.Prelude.{◌≡◌, fold, map, min, not};
-ghost use Rattle.turn_agent.specs.Agent.{next_moment};
+ghost use Rattle.turn_agent.specs.Agent.{transaction_timeout};
 ghost use Rattle.turn_client_api.specs.Due.{pause};
 ghost use Rattle.turn_client_api.specs.State.{later_by};
 ghost use Rattle.turn_client_core.specs.Sending.{give_up_step};
@@ -45,7 +45,7 @@ impl Outbox {
 
     /// The earliest of this time and of those at which a request is to be retransmitted or timed out.
     pub(crate) fn earliest(&self, moment: Instant) -> Instant
-        ensures { result ≡ fold min moment (map (next_moment self.now.timers self.now.transport) self.now.transactions) }
+        ensures { result ≡ fold min moment (map (transaction_timeout self.now.timers self.now.transport) self.now.transactions) }
     {
         self.agent.earliest(moment)
     }

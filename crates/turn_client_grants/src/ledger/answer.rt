@@ -12,7 +12,7 @@ ghost use Rattle.turn_client_grants.specs.Ledger.{SameRoomBut, on};
 ghost use Rattle.turn_client_grants.specs.Table.{is_numbered};
 
 use crate::ledger::GrantLedger;
-use crate::moment::later;
+use crate::time::later;
 use crate::which::Which;
 use std::net::{IpAddr, SocketAddr};
 use turn_client_api::{Grant, Progress, Purpose, TurnEvent};

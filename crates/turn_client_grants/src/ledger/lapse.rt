@@ -4,7 +4,7 @@
 ghost use Rattle.std.specs.List.{list_any};
 ghost use Rattle.std.specs.Prelude.{◌≡◌, ◌≤◌, ◌<◌, ◌+◌, None, filter, fold, length, not, option_to_list, true};
 ghost use Rattle.turn_client_api.specs.Grants.{is_channel_of};
-ghost use Rattle.turn_client_api.specs.Poll.{given_up_purposes, goes, lapsed, lapsed_allocation, lapsed_in, last_channel_lapsed, unbound};
+ghost use Rattle.turn_client_api.specs.Poll.{timed_out_purposes, allocation_expires, lapsed, lapsed_allocation, lapsed_in, last_channel_lapsed, unbound};
 ghost use Rattle.turn_client_api.specs.State.{State};
 ghost use Rattle.turn_client_grants.specs.Failures.{set_aside};
 ghost use Rattle.turn_client_grants.specs.Lapsed.{channel_ended, lapsed_each};
@@ -15,7 +15,7 @@ ghost use Rattle.turn_client_grants.specs.Which.{holds, purposes_in};
 use crate::kind::family_of;
 use crate::ledger::GrantLedger;
 use crate::ledger::answer::RESERVED_SECONDS;
-use crate::moment::later;
+use crate::time::later;
 use crate::purposes::Purposes;
 use crate::which::Which;
 use std::net::SocketAddr;
@@ -55,7 +55,7 @@ impl GrantLedger {
         ensures state { (s : State) → on self.new s ≡ lapsed given now (on self.old s) }
         ensures room { SameRoomBut 0 0 self.old self.new }
     {
-        let purposes = self.given_up_purposes(&given);
+        let purposes = self.timed_out_purposes(&given);
         let first = self.table.nth_allocation(0);
         let second = self.table.nth_allocation(1);
         self.lapse_one(&first, &given, &purposes, now);
@@ -63,8 +63,8 @@ impl GrantLedger {
     }
 
     /// The purposes of the request that timed out, if there is one.
-    fn given_up_purposes(&self, given: &Option<TransactionId>) -> Purposes
-        ensures { (s : State) → purposes_in result ≡ given_up_purposes given.now (on self.now s) }
+    fn timed_out_purposes(&self, given: &Option<TransactionId>) -> Purposes
+        ensures { (s : State) → purposes_in result ≡ timed_out_purposes given.now (on self.now s) }
     {
         match given {
             Some(id) => self.table.purposes_of(*id),
@@ -100,7 +100,7 @@ impl GrantLedger {
         ensures state { (s : State) → on self.new s ≡ lapsed_allocation given.now (purposes_in purposes.now) now (on self.old s) relay.now }
         ensures room { SameRoomBut 0 0 self.old self.new }
     {
-        let goes = self.goes(relay, purposes, now);
+        let goes = self.allocation_expires(relay, purposes, now);
         if goes {
             return self.remove(&Which::OfFamily(family_of(relay.relayed)));
         }
@@ -109,8 +109,8 @@ impl GrantLedger {
 
     /// Whether the allocation is removed: at its expiry, unless it is marked as expired and a request for
     /// it still awaits its response.
-    fn goes(&self, relay: &Relay, purposes: &Purposes, now: Instant) -> bool
-        ensures { (s : State) → result ≡ goes (purposes_in purposes.now) now (on self.now s) relay.now }
+    fn allocation_expires(&self, relay: &Relay, purposes: &Purposes, now: Instant) -> bool
+        ensures { (s : State) → result ≡ allocation_expires (purposes_in purposes.now) now (on self.now s) relay.now }
     {
         let grant = Grant::Allocation(*relay);
         relay.expiry <= now

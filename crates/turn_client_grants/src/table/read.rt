@@ -13,8 +13,8 @@ ghost use Rattle.turn_client_api.specs.State.{State};
 ghost use Rattle.turn_client_api.specs.declared.grant.Grant.TheVariants.{Channel};
 ghost use Rattle.turn_client_api.specs.declared.grant.Progress.TheVariants.{Pending};
 ghost use Rattle.turn_client_api.specs.declared.state.Phase.TheVariants.{Allocated};
-ghost use Rattle.turn_client_grants.specs.Due.{all_moments, relay_ends};
-ghost use Rattle.turn_client_api.specs.LawsBodies.{lapse_moments};
+ghost use Rattle.turn_client_grants.specs.Due.{all_times, relay_ends};
+ghost use Rattle.turn_client_api.specs.LawsBodies.{expiry_times};
 ghost use Rattle.turn_client_grants.specs.Lists.{both_of, first_among};
 ghost use Rattle.turn_client_grants.specs.Refresh.{first_refresh};
 ghost use Rattle.turn_client_grants.specs.Table.{is_numbered, with_table};
@@ -314,7 +314,7 @@ impl GrantTable {
     /// The earliest of the time and those at which a grant expires or is to be refreshed, where no
     /// request is sent before the pause ends.
     pub fn soonest(&self, moment: Instant, now: Instant, pause: Instant) -> Instant
-        ensures { (s : State) → result ≡ fold min moment (all_moments now pause (with_table self.now s)) }
+        ensures { (s : State) → result ≡ fold min moment (all_times now pause (with_table self.now s)) }
     {
         let _moment = moment.as_nanos();
         let _pause = pause.as_nanos();
@@ -340,7 +340,7 @@ impl GrantTable {
 
     /// Whether nothing expires at this time or earlier.
     pub(crate) fn is_early(&self, now: Instant) -> bool
-        ensures { (s : State) → result ≡ true → All (λ moment. now < moment) (lapse_moments (with_table self.now s)) }
+        ensures { (s : State) → result ≡ true → All (λ moment. now < moment) (expiry_times (with_table self.now s)) }
     {
         now.as_nanos() < self.summary.lapse
     }

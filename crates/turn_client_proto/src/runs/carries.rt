@@ -24,7 +24,7 @@ pub(crate) fn send_to<C: TurnClientApi>(
     payload: &Data,
     now: Instant,
 ) -> Result<Reply, AllocError>
-    requires moment { now ≤ 2 ^ 62 }
+    requires now_in_range { now ≤ 2 ^ 62 }
     requires short { FitsDatagram (C.state client.old).config.allocation_transport payload.now }
     ensures ok { IfOk result (λ reply. (reply, C.state client.new) ≡ step (C.state client.old) (Call.SendTo transport to payload.now now)) }
     ensures no_memory { OnErr result (Leaves (Call.SendTo transport to payload.now now) (C.state client.old) (C.state client.new)) }

@@ -163,7 +163,7 @@ fn send_to<C: TurnClientApi>(
     payload: &Data,
     now: Instant,
 ) -> Result<GatherReply, AllocError>
-    requires moment { now ≤ 2 ^ 62 }
+    requires now_in_range { now ≤ 2 ^ 62 }
     requires short { FitsDatagram gatherer.old.client.config.allocation_transport payload.now }
     ensures { IfOk result (λ reply. (reply, gatherer.new) ≡ step gatherer.old (GatherCall.SendTo transport to payload.now now)) }
 {

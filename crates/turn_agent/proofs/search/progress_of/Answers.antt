@@ -1,7 +1,7 @@
 use Rattle.std.proofs.Common.{◌≡◌, true, leb, rules, length, ◌<◌, arith}
 use Rattle.std.proofs.lemmas.Bool.{and_from}
 use Rattle.turn_agent.specs.Schedule.{resends_of}
-use Rattle.turn_agent.specs.Agent.{is_given_up, next_moment}
+use Rattle.turn_agent.specs.Agent.{is_timed_out, transaction_timeout}
 use Rattle.turn_agent.proofs.AgentLemmas.{IsScanned-found}
 use Rattle.turn_agent.proofs.search.progress_of.Goals as goal
 
@@ -11,7 +11,7 @@ returns-then-resends-transaction c =
     let transport = c.args.schedule.now.transport in
     let t = c.index-transactions-place.result in
     let within : c.loop-place.place < length c.args.transactions.now = omega arith in
-    let past : leb (next_moment timers transport t) c.args.now ≡ true = search rules in
+    let past : leb (transaction_timeout timers transport t) c.args.now ≡ true = search rules in
     let last : leb (resends_of timers transport) t.resends ≡ true = search rules in
-    let over : is_given_up timers transport c.args.now t ≡ true = and_from _ _ last past in
+    let over : is_timed_out timers transport c.args.now t ≡ true = and_from _ _ last past in
     (within, IsScanned-found timers transport c.args.now c.args.transactions.now c.loop-place.place c.loop-place.least t c.loop-place.invariant within (rw (← c.index-transactions-place.is) over))

@@ -21,7 +21,7 @@ use turn_stun::message::Message;
 
 /// How many challenges are answered in a row: a server that always requires another nonce ends the
 /// client (our choice).
-const MOST_CHALLENGES: u32 = 9;
+const MAX_CHALLENGES: u32 = 9;
 
 impl TurnClientProtocol {
     /// Answers the challenge, or ends the client if it is one too many. A challenge that concerns no
@@ -43,7 +43,7 @@ impl TurnClientProtocol {
         ensures err { OnErr result (self.new ≡ self.old) }
         ensures wanted { OnErr result (challenge_takes_memory message.now self.old ≡ true) }
     {
-        if self.challenges < MOST_CHALLENGES {
+        if self.challenges < MAX_CHALLENGES {
             return self.answer_challenge(message, now);
         }
         self.fail()?;

@@ -21,7 +21,7 @@ use turn_stun::transaction::TransactionId;
 use turn_stun::transport::TransportType;
 
 /// How many offers from indications may exist at a time, since indications are not signed (our choice).
-const MOST_INDICATED: usize = 64;
+const MAX_INDICATED: usize = 64;
 
 impl TurnClientProtocol {
     /// A request of the server makes an offer to the caller, or is refused: it is always answered (our
@@ -96,7 +96,7 @@ impl TurnClientProtocol {
         if self.is_connecting(peer) {
             return false;
         }
-        self.ledger.table().indicated_count() < MOST_INDICATED
+        self.ledger.table().indicated_count() < MAX_INDICATED
     }
 
     /// Offers the caller a data connection to the peer, with the server's ID of it.

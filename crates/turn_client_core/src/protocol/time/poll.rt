@@ -4,7 +4,7 @@ ghost use Rattle.std.specs.Prelude.{◌≡◌, ◌≤◌, ◌^◌, ◌++◌, dro
 ghost use Rattle.turn_client_api.specs.Alarm.{IsTimely};
 ghost use Rattle.turn_client_api.specs.LawsGrantAllocations.{GrantsHaveAllocations};
 ghost use Rattle.turn_client_api.specs.LawsOrder.{FitsPhase};
-ghost use Rattle.turn_client_api.specs.Poll.{answer_step, given_up_step, lapsed, next_offer, is_listed_for_allocation, offer_step, poll_step, timed_step};
+ghost use Rattle.turn_client_api.specs.Poll.{answer_step, timed_out_step, lapsed, next_offer, is_listed_for_allocation, offer_step, poll_step, timed_step};
 ghost use Rattle.turn_client_core.specs.Polled.{is_let_go, unallocated};
 
 use crate::protocol::TurnClientProtocol;
@@ -17,7 +17,7 @@ impl TurnClientProtocol {
     /// Handles expired timers and returns what to do next: wait until a time, open or close a data
     /// connection, or nothing more. Allocates no memory.
     pub fn poll(&mut self, now: Instant) -> TurnPollRet
-        requires moment { now ≤ 2 ^ 62 }
+        requires now_in_range { now ≤ 2 ^ 62 }
         ensures answer { result ≡ (poll_step now self.old).0 }
         ensures after { self.new ≡ (poll_step now self.old).1 }
         ensures alarm { FitsPhase self.old → GrantsHaveAllocations self.old → IsTimely result now self.old self.new }
@@ -69,7 +69,7 @@ impl TurnClientProtocol {
 
     /// Times out at most one request, and handles expiries.
     fn poll_time(&mut self, now: Instant) -> TurnPollRet
-        ensures { (result, self.new) ≡ given_up_step now self.old }
+        ensures { (result, self.new) ≡ timed_out_step now self.old }
     {
         match self.phase {
             Phase::New => {
@@ -90,7 +90,7 @@ impl TurnClientProtocol {
     /// requests has failed. The room to report that was made with the request.
     fn poll_requesting(&mut self, now: Instant) -> TurnPollRet
         requires { self.old.phase ≡ Phase.Requesting }
-        ensures { (result, self.new) ≡ given_up_step now self.old }
+        ensures { (result, self.new) ≡ timed_out_step now self.old }
     {
         match self.outbox.give_up(now) {
             None => self.answer(&None, now),
@@ -106,7 +106,7 @@ impl TurnClientProtocol {
     /// While a signed ALLOCATE awaits its response: if it times out, the client ends, without an event.
     fn poll_authenticating(&mut self, now: Instant) -> TurnPollRet
         requires { self.old.phase ≡ Phase.Authenticating }
-        ensures { (result, self.new) ≡ given_up_step now self.old }
+        ensures { (result, self.new) ≡ timed_out_step now self.old }
     {
         let given = self.give_up(now);
         self.end_unallocated(&given);
@@ -116,7 +116,7 @@ impl TurnClientProtocol {
     /// After the server has granted an allocation: handles expiries.
     fn poll_allocated(&mut self, now: Instant) -> TurnPollRet
         requires { self.old.phase ≡ Phase.Allocated }
-        ensures { (result, self.new) ≡ given_up_step now self.old }
+        ensures { (result, self.new) ≡ timed_out_step now self.old }
     {
         let given = self.give_up(now);
         self.lapse(&given, now);
@@ -126,7 +126,7 @@ impl TurnClientProtocol {
     /// Times out the oldest request whose last wait has ended, if there is one. It is no longer
     /// outstanding.
     fn give_up(&mut self, now: Instant) -> Option<TransactionId>
-        ensures step { given_up_step now self.old ≡ timed_step self.old.phase result now self.new }
+        ensures step { timed_out_step now self.old ≡ timed_step self.old.phase result now self.new }
         ensures phase { self.new.phase ≡ self.old.phase }
     {
         self.outbox.give_up(now)

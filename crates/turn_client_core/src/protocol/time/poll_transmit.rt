@@ -25,7 +25,7 @@ impl TurnClientProtocol {
     ///
     /// If memory allocation fails. The client has ended then, and nothing else has changed.
     pub fn poll_transmit(&mut self, now: Instant) -> Result<Option<Transmit<Data>>, AllocError>
-        requires moment { now ≤ 2 ^ 62 }
+        requires now_in_range { now ≤ 2 ^ 62 }
         ensures answer { IfOk result (λ packet. packet ≡ (transmit_step now self.old).0) }
         ensures after { OnOk result (self.new ≡ (transmit_step now self.old).1) }
         ensures no_memory { OnErr result (self.new ≡ closed self.old) }

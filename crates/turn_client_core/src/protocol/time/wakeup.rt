@@ -1,8 +1,8 @@
 //! When a client is to be polled again.
 
 ghost use Rattle.std.specs.Prelude.{◌≡◌, ◌∷◌, [], fold, if◌then◌else◌, min};
-ghost use Rattle.turn_client_api.specs.Due.{has_event, has_queued_request, has_reply, is_paused, least_due, longest_sleep, next_wakeup};
-ghost use Rattle.turn_client_api.specs.State.{greatest_moment, later_by};
+ghost use Rattle.turn_client_api.specs.Due.{has_event, has_queued_request, has_reply, is_paused, least_due, max_wait, next_wakeup};
+ghost use Rattle.turn_client_api.specs.State.{max_time, later_by};
 
 use crate::protocol::TurnClientProtocol;
 use std::time::Duration;
@@ -10,7 +10,7 @@ use turn_client_api::Phase;
 use turn_stun::instant::Instant;
 
 /// The longest wait of a caller, in seconds (our choice).
-const LONGEST_SLEEP_SECONDS: u64 = 9_999;
+const MAX_WAIT_SECONDS: u64 = 9_999;
 
 impl TurnClientProtocol {
     /// When the caller is to call `poll` again: now, if something is pending or a request has just
@@ -61,9 +61,9 @@ impl TurnClientProtocol {
 
     /// The end of the longest wait, or that of the pause if a request is queued and it is sooner.
     fn first_due(&self, now: Instant, pause: Instant) -> Instant
-        ensures { result ≡ fold min greatest_moment (later_by longest_sleep now ∷ (if has_queued_request self.now then pause ∷ [] else [])) }
+        ensures { result ≡ fold min max_time (later_by max_wait now ∷ (if has_queued_request self.now then pause ∷ [] else [])) }
     {
-        let latest = now.plus(Duration::from_secs(LONGEST_SLEEP_SECONDS));
+        let latest = now.plus(Duration::from_secs(MAX_WAIT_SECONDS));
         if self.outbox.has_request() {
             return latest.min(pause);
         }

@@ -2,12 +2,12 @@ use Rattle.std.proofs.Common.{◌≡◌, ◌∙◌, ◌+◌, ◌%◌, ◌<◌, �
 use Rattle.std.specs.List.{range_with_len}
 use Rattle.std.specs.Prelude.{find, unwrap_or}
 use Rattle.turn_agent.specs.TransactionIds.{next_id}
-use Rattle.turn_client_api.specs.Requests.{fresh_id, is_taken, most_taken}
+use Rattle.turn_client_api.specs.Requests.{fresh_id, is_taken, max_ids_taken}
 use Rattle.turn_client_core.proofs.IdLemmas.{fresh-is, fresh-unlisted, fresh-unsent}
 use Rattle.turn_client_core.proofs.protocol.TurnClientProtocol.fresh_id.Goals as goal
 
 -- each of the three counts is a usize
-few : (c : goal.After-unwrap_or) → most_taken c.args.self.now < 2 ^ 96
+few : (c : goal.After-unwrap_or) → max_ids_taken c.args.self.now < 2 ^ 96
 few c =
     let listed : c.listing_count.result ≡ length c.self.inside.ledger.listed = rw c.table.ensures.listed at c.listing_count.ensures in
     let granted : c.count.result ≡ length c.self.inside.ledger.grants = rw c.table-2.ensures.grants at c.count.ensures in
@@ -17,7 +17,7 @@ few c =
 is : (c : goal.After-unwrap_or) → c.unwrap_or.result ≡ fresh_id c.args.self.now
 is c = found ∙ fresh-is c.args.self.now (few c)
   where
-    found : c.unwrap_or.result ≡ unwrap_or (find (λ id. not (is_taken id c.args.self.now)) (map (λ n. (next_id c.args.self.now.ids + n) % 2 ^ 96) (range_with_len 0 (most_taken c.args.self.now + 1)))) (next_id c.args.self.now.ids)
+    found : c.unwrap_or.result ≡ unwrap_or (find (λ id. not (is_taken id c.args.self.now)) (map (λ n. (next_id c.args.self.now.ids + n) % 2 ^ 96) (range_with_len 0 (max_ids_taken c.args.self.now + 1)))) (next_id c.args.self.now.ids)
     found = search rules
 
 pub returns-clause-id : goal.returns-clause-id

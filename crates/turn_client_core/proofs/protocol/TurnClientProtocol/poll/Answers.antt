@@ -10,4 +10,4 @@ pub returns-clause-alarm : goal.returns-clause-alarm
 returns-clause-alarm c = λ steady housed.
     let s = c.args.self.now in
     subst (λ (r : TurnPollRet × State). IsTimely r.0 c.args.now s r.1) (sym c.poll_next.ensures)
-    (poll-timely c.args.now s (steady-FitsPhaseForPoll s steady) housed.0 c.requires.moment)
+    (poll-timely c.args.now s (steady-FitsPhaseForPoll s steady) housed.0 c.requires.now_in_range)

@@ -1,6 +1,6 @@
 use Rattle.std.proofs.Common.{refl}
 use Rattle.turn_client_api.specs.Due.{refresh_time}
-use Rattle.turn_client_api.proofs.laws.rows.moments_are_told.Goals as goal
+use Rattle.turn_client_api.proofs.laws.rows.wakeups_are_reported.Goals as goal
 
 pub returns-clause-allocations : goal.returns-clause-allocations
 unfolding refresh_time

@@ -1,5 +1,5 @@
 use Rattle.turn_client_api.proofs.WakeupLemmas.{due-IsLeast, wakeup-allocated, wakeup-event, wakeup-given_up, wakeup-new, wakeup-others, wakeup-reply}
-use Rattle.turn_client_api.proofs.laws.wakeup.wakeup_is_the_least_moment.Goals as goal
+use Rattle.turn_client_api.proofs.laws.wakeup.wakeup_is_the_least_time.Goals as goal
 
 pub returns-clause-new : goal.returns-clause-new
 returns-clause-new c = wakeup-new
