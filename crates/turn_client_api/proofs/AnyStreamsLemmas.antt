@@ -18,7 +18,7 @@ use Rattle.turn_client_api.specs.Judgement.{lifetime_in, method_in, peer_in}
 use Rattle.turn_client_api.specs.Effect.{allocate_denied, allocate_granted, allocation_mismatch, channel_answered, connect_answered, effect, ended, family_not_supported, has_code, min_lifetime}
 use Rattle.turn_client_api.specs.Effect.{permission_answered, permission_answered_for, listed_permissions_answered, prolonged, refreshed}
 use Rattle.turn_client_api.specs.Retry.{max_challenges, retried}
-use Rattle.turn_client_api.specs.Connections.{attempt_indicated, attempt_requested, is_connected, is_heeded}
+use Rattle.turn_client_api.specs.Connections.{attempt_indicated, attempt_requested, is_connected, accepts_attempt}
 use Rattle.turn_client_api.specs.Payloads.{Outcome, Handled, Ignored, answered_purposes, challenge_step, message_step, response_step, signed_step, wrong_step}
 
 -- the state with these streams
@@ -161,7 +161,7 @@ module _ (x : List Stream) where
       heeded_if false t = refl
 
       by : (i : Option ℕ) → connection_id_in message ≡ i → (p : Option SocketAddr) → peer_in message ≡ p → option_map_or {T = State} {U = Outcome × State} (λ t. (Handled, t)) (attempt_indicated message (with_streams x s)) (Ignored, with_streams x s) ≡ both_with x (option_map_or {T = State} {U = Outcome × State} (λ t. (Handled, t)) (attempt_indicated message s) (Ignored, s))
-      by (Some id) e (Some peer) f = rw (e, f) (heeded_if (is_heeded peer s) _)
+      by (Some id) e (Some peer) f = rw (e, f) (heeded_if (accepts_attempt peer s) _)
       by (Some id) e None f = rw (e, f) refl
       by None e p f = rw e refl
 

@@ -6,7 +6,7 @@ use Rattle.turn_client_api.specs.Payloads.{message_step}
 use Rattle.turn_client_api.specs.Receive.{connection_gone}
 use Rattle.turn_client_api.specs.Steps.{Call, Leaves, state_after, Delete, AllocatedTcpSocket, Recv, PollRecv}
 use Rattle.turn_client_api.specs.LawsHandled.{TakesInput}
-use Rattle.turn_client_api.specs.LawsReplies.{IsHeeded}
+use Rattle.turn_client_api.specs.LawsReplies.{IsReplyAccepted}
 use Rattle.turn_client_api.specs.LawsInputs.{IsBroughtBy}
 use Rattle.turn_client_api.proofs.TurnLemmas.{IsBringing, message-brings}
 use Rattle.turn_client_api.proofs.Edits.{IgnoresAll, KeepsEdits, KeepsHeeded}
@@ -80,11 +80,11 @@ never : {X : Type 0} → X ⊎ ⊥ → X
 never (inl x) = x
 never (inr none) = absurd none
 
-pub bringing : (n : ℕ) → IsBringing (Fewer n) IsHeeded
+pub bringing : (n : ℕ) → IsBringing (Fewer n) IsReplyAccepted
 bringing n = record {
   streams = λ s streams fewer. fewer;
   message = λ message now s is fewer.
-      let Heeded = IsHeeded message now s in
+      let Heeded = IsReplyAccepted message now s in
       back Heeded n s (message_step message now s).1 (message-walk Heeded (Grows Heeded) (Grows-KeepsHeeded Heeded) message now s (λ h. h)) fewer;
   binds = λ local message now s is fewer.
       inl (never (back ⊥ n s (bind_step local message now s) (bind-walk ⊥ (Grows ⊥) (Grows-KeepsHeeded ⊥) (any-streams ⊥) local message now s) fewer));
@@ -104,11 +104,11 @@ call-same n call s other fewer = back ⊥ n s (state_after call s) (by call othe
     by call other = quiet-walk (Grows ⊥) (Grows-KeepsEdits ⊥) call s tt
 
 -- even if memory allocation fails
-pub leaves-heeded : (call : Call) (s t : State) → Leaves call s t → t.challenges < s.challenges → IsBroughtBy IsHeeded call s
+pub leaves-heeded : (call : Call) (s t : State) → Leaves call s t → t.challenges < s.challenges → IsBroughtBy IsReplyAccepted call s
 leaves-heeded call s t leaves fewer =
-    by (message-brings (Fewer s.challenges) IsHeeded (bringing s.challenges) (λ call s. ⊥) (call-same s.challenges) call s t leaves fewer)
+    by (message-brings (Fewer s.challenges) IsReplyAccepted (bringing s.challenges) (λ call s. ⊥) (call-same s.challenges) call s t leaves fewer)
   where
-    by : Fewer s.challenges s ⊎ ⊥ ⊎ IsBroughtBy IsHeeded call s → IsBroughtBy IsHeeded call s
+    by : Fewer s.challenges s ⊎ ⊥ ⊎ IsBroughtBy IsReplyAccepted call s → IsBroughtBy IsReplyAccepted call s
     by (inl same) = absurd (omega (arith, same))
     by (inr (inl none)) = absurd none
     by (inr (inr did)) = did

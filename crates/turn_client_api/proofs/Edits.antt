@@ -37,13 +37,13 @@ outline (Allocation a) = Allocation (record { relayed = a.relayed; first_lifetim
 outline (Permission ip progress) = Permission ip (stage progress)
 outline (Channel number peer progress) = Channel number peer (stage progress)
 outline (Connect peer) = Connect peer
-outline (Offer offer) = Offer (record offer { is_told = false })
+outline (Offer offer) = Offer (record offer { is_reported = false })
 outline (Connection c) = Connection (record c { deadline = None })
 
 -- a grant without whether it was reported
 abbrev pub aged : Grant → Grant
 aged (Allocation a) = Allocation (record a { is_expired = false })
-aged (Offer offer) = Offer (record offer { is_told = false })
+aged (Offer offer) = Offer (record offer { is_reported = false })
 aged grant = grant
 
 -- grants of this kind are no allocations

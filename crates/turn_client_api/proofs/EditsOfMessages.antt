@@ -18,10 +18,10 @@ use Rattle.turn_client_api.specs.Requests.{asked, bad_request, connection_alread
 use Rattle.turn_client_api.specs.Judgement.{Judgement, Unrelated, Challenged, Fatal, LateResponse, DataIndication, ConnectionAttempt, SignedRequest, SignedSuccess, SignedError, answers_one, challenge_in, challenged_or, judgement_of, bind_judgement, is_bind_of, connection_id_in, lifetime_in, method_in, peer_in}
 use Rattle.turn_client_api.specs.Effect.{allocate_denied, allocate_granted, allocated, closed, ended, fail_all, family_not_supported, has_code, in_phase, phase_with, relayed_in, taken_addresses, with_offer}
 use Rattle.turn_client_api.specs.Retry.{bind_time, first_or, is_allocate_or_connect, is_channel_bind, is_create_permission, is_refresh, max_challenges, phase_after, retried, state_after_retry, with_held}
-use Rattle.turn_client_api.specs.Connections.{attempt_indicated, attempt_requested, bind_again, bind_answered, bind_step, bound, connection_at, is_connected, is_connecting, is_heeded, is_indicated, max_indicated, not_bound, with_deadline, with_mode}
+use Rattle.turn_client_api.specs.Connections.{attempt_indicated, attempt_requested, bind_again, bind_answered, bind_step, bound, connection_at, is_connected, is_connecting, accepts_attempt, is_indicated, max_indicated, not_bound, with_deadline, with_mode}
 use Rattle.turn_client_api.specs.Payloads.{Outcome, Handled, Ignored, answered_purposes, challenge_step, is_answered, message_step, response_step, signed_step, wrong_step}
 use Rattle.turn_client_api.specs.declared.event.TurnEvent.TheVariants.{AllocationCreateFailed}
-use Rattle.turn_client_api.specs.LawsReplies.{IsAccepted, IsHeeded}
+use Rattle.turn_client_api.specs.LawsReplies.{IsAccepted, IsReplyAccepted}
 use Rattle.turn_client_api.specs.LawsOrder.{IsBegun, IsUngranted}
 use Rattle.turn_client_api.specs.LawsStates.{is_asked_by}
 use Rattle.turn_client_api.proofs.AddressLemmas.{same_address-self, same_address-true}
@@ -257,7 +257,7 @@ module _ (Heeded : Type 0) (R : State → State → Type 0) (k : KeepsHeeded Hee
       by (Some id) e None f = rw (e, f) (answers (refused_reply bad_request (codes "Bad Request") s (id_of message)))
       by None e p f = rw e (answers (refused_reply bad_request (codes "Bad Request") s (id_of message)))
 
-  heeded-walk : (id : ℕ) (peer : SocketAddr) (s : State) → is_heeded peer s ≡ true → R s (with_offer id peer ServerIndication s)
+  heeded-walk : (id : ℕ) (peer : SocketAddr) (s : State) → accepts_attempt peer s ≡ true → R s (with_offer id peer ServerIndication s)
   heeded-walk id peer s e =
       let few = and_parts _ (ltb (length (filter is_indicated s.grants)) max_indicated) e in
       let free = and_parts _ (not (is_connected peer s || is_connecting peer s)) few.0 in
@@ -267,18 +267,18 @@ module _ (Heeded : Type 0) (R : State → State → Type 0) (k : KeepsHeeded Hee
   indicated-walk : (message : List ℕ) (s : State) → IfSome (attempt_indicated message s) (R s)
   indicated-walk message s = by (connection_id_in message) refl (peer_in message) refl
     where
-      if_heeded : (id : ℕ) (peer : SocketAddr) (b : Bool) → is_heeded peer s ≡ b → IfSome (cond b (Some (with_offer id peer ServerIndication s)) None) (R s)
+      if_heeded : (id : ℕ) (peer : SocketAddr) (b : Bool) → accepts_attempt peer s ≡ b → IfSome (cond b (Some (with_offer id peer ServerIndication s)) None) (R s)
       if_heeded id peer true e = heeded-walk id peer s e
       if_heeded id peer false e = tt
 
       by : (i : Option ℕ) → connection_id_in message ≡ i → (p : Option SocketAddr) → peer_in message ≡ p → IfSome (attempt_indicated message s) (R s)
-      by (Some id) e (Some peer) f = rw (e, f) (if_heeded id peer (is_heeded peer s) refl)
+      by (Some id) e (Some peer) f = rw (e, f) (if_heeded id peer (accepts_attempt peer s) refl)
       by (Some id) e None f = rw (e, f) tt
       by None e p f = rw e tt
 
   -- ---- messages
 
-  pub message-walk : (message : List ℕ) (now : ℕ) (s : State) → (IsHeeded message now s → Heeded) → R s (message_step message now s).1
+  pub message-walk : (message : List ℕ) (now : ℕ) (s : State) → (IsReplyAccepted message now s → Heeded) → R s (message_step message now s).1
   message-walk message now s allowed = by (judgement_of s message) refl
     where
       heeded : (j : Judgement) → judgement_of s message ≡ j → IsSigned j → (p : Purpose) → Has p (answered_purposes message s) → Heeded

@@ -17,7 +17,7 @@ use Rattle.turn_client_api.specs.Receive.{connection_gone}
 use Rattle.turn_client_api.specs.Requests.{asked, channel_bind_method, connect_method, create_permission_method, refresh_method, request_for, requested}
 use Rattle.turn_client_api.specs.Payloads.{is_answered}
 use Rattle.turn_client_api.specs.LawsOrder.{IsBegun, IsUngranted}
-use Rattle.turn_client_api.specs.Poll.{told, told_first, untold_in}
+use Rattle.turn_client_api.specs.Poll.{told, first_reported, unreported_in}
 use Rattle.turn_client_api.proofs.HasLemmas.{Has, filter-has, has-filter, has-filter_map, has-left, map-has}
 use Rattle.turn_client_api.proofs.Edits.{IsAskable, IsSpelled, KeepsEdits, SparesAllocations, listing, outline, AllocationsStay, KeepsHeeded, aged}
 
@@ -67,11 +67,11 @@ told-aged (Channel number peer progress) = refl
 told-aged (Connect peer) = refl
 told-aged (Connection c) = refl
 
-pub told-alike : (family : AddressFamily) (gs : List Grant) → map aged (told_first family gs) ≡ map aged gs
+pub told-alike : (family : AddressFamily) (gs : List Grant) → map aged (first_reported family gs) ≡ map aged gs
 told-alike family [] = refl
-told-alike family (g ∷ gs) = by (is_some (untold_in family g)) (told-alike family gs)
+told-alike family (g ∷ gs) = by (is_some (unreported_in family g)) (told-alike family gs)
   where
-    by : (b : Bool) → map aged (told_first family gs) ≡ map aged gs → map aged (cond b (told g ∷ gs) (g ∷ told_first family gs)) ≡ map aged (g ∷ gs)
+    by : (b : Bool) → map aged (first_reported family gs) ≡ map aged gs → map aged (cond b (told g ∷ gs) (g ∷ first_reported family gs)) ≡ map aged (g ∷ gs)
     by true later = rw (told-aged g) refl
     by false later = rw later refl
 

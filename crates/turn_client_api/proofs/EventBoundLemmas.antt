@@ -13,7 +13,7 @@ use Rattle.turn_client_api.specs.State.{State, DataOffer, Phase, New, Requesting
 use Rattle.turn_client_api.specs.Grants.{allocations, failure_of, failures_among, family_of, in_sequence, is_channel_of, is_connect, is_for_any, is_of, is_pending_channel, is_pending_permission, without}
 use Rattle.turn_client_api.specs.Effect.{closed, ended, reserved}
 use Rattle.turn_client_api.specs.Due.{has_event, has_reply}
-use Rattle.turn_client_api.specs.Poll.{answer_by, answer_step, channel_lapsed, connections_unbound, failed, timed_out_step, allocation_expires, failed_by_timeout, is_timed_out_offer, is_lapsed_channel, is_listed_for_allocation, is_over, lapsed, lapsed_allocation, lapsed_in, last_channel_lapsed, next_offer, offer_step, offers_timed_out, permissions_lapsed, poll_step, refreshes_timed_out, set_free, timed_step, told, told_first, unbound, untold_in, timed_out_purposes}
+use Rattle.turn_client_api.specs.Poll.{answer_by, answer_step, channel_lapsed, connections_unbound, failed, timed_out_step, allocation_expires, failed_by_timeout, is_timed_out_offer, is_lapsed_channel, is_listed_for_allocation, is_over, lapsed, lapsed_allocation, lapsed_in, last_channel_lapsed, next_offer, offer_step, offers_timed_out, permissions_lapsed, poll_step, refreshes_timed_out, set_free, timed_step, told, first_reported, unbound, unreported_in, timed_out_purposes}
 use Rattle.turn_client_api.specs.LawsBodies.{TellsOfFailed, can_fail, max_failures}
 use Rattle.turn_client_api.specs.declared.event.TurnEvent.{TurnEvent}
 use Rattle.turn_client_api.specs.declared.event.TurnEvent.TheVariants.{AllocationCreateFailed}
@@ -265,10 +265,10 @@ lapsed-tells given now s = each-tells given (timed_out_purposes given s) now (al
 
 -- ---- poll
 
-told-can_fail : (family : AddressFamily) (gs : List Grant) → count (told_first family gs) ≡ count gs
+told-can_fail : (family : AddressFamily) (gs : List Grant) → count (first_reported family gs) ≡ count gs
 unfolding count
 told-can_fail family [] = refl
-told-can_fail family (g ∷ gs) = by (is_some (untold_in family g)) (told-can_fail family gs)
+told-can_fail family (g ∷ gs) = by (is_some (unreported_in family g)) (told-can_fail family gs)
   where
     same : (g : Grant) → count (told g ∷ gs) ≡ count (g ∷ gs)
     same (Offer offer) = refl
@@ -278,9 +278,9 @@ told-can_fail family (g ∷ gs) = by (is_some (untold_in family g)) (told-can_fa
     same (Connect peer) = refl
     same (Connection c) = refl
 
-    by : (b : Bool) → count (told_first family gs) ≡ count gs → count (cond b (told g ∷ gs) (g ∷ told_first family gs)) ≡ count (g ∷ gs)
+    by : (b : Bool) → count (first_reported family gs) ≡ count gs → count (cond b (told g ∷ gs) (g ∷ first_reported family gs)) ≡ count (g ∷ gs)
     by true later = same g
-    by false later = omega (arith, later, count-cons g (told_first family gs), count-cons g gs)
+    by false later = omega (arith, later, count-cons g (first_reported family gs), count-cons g gs)
 
 answer-tells : (given : Option ℕ) (now : ℕ) (s : State) → TellsOfFailed s (answer_step given now s).1
 answer-tells given now s = by s.closes s.phase (allocations s)

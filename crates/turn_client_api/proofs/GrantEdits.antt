@@ -65,7 +65,7 @@ module _ (P : List Grant → Type 0) (k : KeepsGrants P) where
 
   -- the offer that is added
   abbrev offer : ℕ → SocketAddr → Origin → DataOffer
-  offer connection_id peer origin = record { connection_id = connection_id; peer = peer; is_told = false; origin = origin }
+  offer connection_id peer origin = record { connection_id = connection_id; peer = peer; is_reported = false; origin = origin }
 
   -- one of the client's own is none by an indication
   own : OwnConnect ≡ ServerIndication → ⊥

@@ -216,7 +216,7 @@ module _ (purposes : List Purpose) (message : List ℕ) (now : ℕ) (before : St
 
   connect-takes : (peer : SocketAddr) (o : Option ℕ) (s : State) → Taken s (connect_answered peer o s)
   connect-takes peer (Some id) s =
-      let offer : DataOffer = record { connection_id = id; peer = peer; is_told = false; origin = OwnConnect } in
+      let offer : DataOffer = record { connection_id = id; peer = peer; is_reported = false; origin = OwnConnect } in
       replaced-takes (is_connect_to peer) (Offer offer) s (λ stands. absurd stands) (λ number to progress f. cc)
   connect-takes peer None s = without-takes (is_connect_to peer) s
 

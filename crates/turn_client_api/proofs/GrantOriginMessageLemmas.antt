@@ -21,7 +21,7 @@ use Rattle.turn_client_api.specs.Requests.{connection_attempt_method, data_metho
 use Rattle.turn_client_api.specs.Judgement.{Judgement, Unrelated, Challenged, Fatal, LateResponse, DataIndication, ConnectionAttempt, SignedRequest, SignedSuccess, SignedError, judgement_of, by_class, challenged_or, challenge_in, answers_one, answers_allocate, authenticating_judgement, allocated_judgement, requesting_judgement, indication_judgement, class_in, connection_id_in, lifetime_in, method_in, peer_in}
 use Rattle.turn_client_api.specs.Effect.{allocate_granted, effect, ended, family_not_supported, has_code, new_allocation, relayed_in, taken_addresses, with_offer}
 use Rattle.turn_client_api.specs.Retry.{max_challenges, retried}
-use Rattle.turn_client_api.specs.Connections.{attempt_indicated, attempt_requested, is_connected, is_heeded}
+use Rattle.turn_client_api.specs.Connections.{attempt_indicated, attempt_requested, is_connected, accepts_attempt}
 use Rattle.turn_client_api.specs.Payloads.{Outcome, Handled, Ignored, answered_purposes, challenge_step, is_answered, message_step, response_step, signed_step, wrong_step}
 use Rattle.turn_client_api.specs.LawsGranted.{IsGivenFor, IsGrant, IsActiveGrant}
 use Rattle.turn_client_api.proofs.HasLemmas.{Has, has-filter}
@@ -284,7 +284,7 @@ wrong-leaves Closed message s = leaves-same s
 
 -- an offer is not active
 offer-leaves : (id : ℕ) (peer : SocketAddr) (origin : Origin) (s : State) → Leaves s (with_offer id peer origin s)
-offer-leaves id peer origin s = left-one s.grants (Offer (record { connection_id = id; peer = peer; is_told = false; origin = origin })) (λ stands. stands)
+offer-leaves id peer origin s = left-one s.grants (Offer (record { connection_id = id; peer = peer; is_reported = false; origin = origin })) (λ stands. stands)
 
 requested-leaves : (message : List ℕ) (s : State) → Leaves s (attempt_requested message s)
 requested-leaves message s = by (connection_id_in message) refl (peer_in message) refl
@@ -304,7 +304,7 @@ indicated-leaves message s = by (connection_id_in message) refl (peer_in message
     heeded_if false t k = tt
 
     by : (i : Option ℕ) → connection_id_in message ≡ i → (p : Option SocketAddr) → peer_in message ≡ p → IfSome (attempt_indicated message s) (Leaves s)
-    by (Some id) e (Some peer) f = rw (e, f) (heeded_if (is_heeded peer s) _ (offer-leaves id peer ServerIndication s))
+    by (Some id) e (Some peer) f = rw (e, f) (heeded_if (accepts_attempt peer s) _ (offer-leaves id peer ServerIndication s))
     by (Some id) e None f = rw (e, f) tt
     by None e p f = rw e tt
 

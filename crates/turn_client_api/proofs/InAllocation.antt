@@ -202,9 +202,9 @@ Houses-KeepsAllEdits = record {
   allocates = λ message lifetime now s e none. allocates-houses lifetime now (taken_addresses s.families (relayed_in message)) s;
   permits = λ ip expiry s is. replaced-houses (is_permission_of ip) (λ a. refl) (Permission ip (Active expiry)) s (permission-room ip Pending s is);
   connects = λ id connection_id peer s t since stay granted listed h.
-      replaced-houses (is_connect_to peer) (λ a. refl) (Offer (record { connection_id = connection_id; peer = peer; is_told = false; origin = OwnConnect })) t
+      replaced-houses (is_connect_to peer) (λ a. refl) (Offer (record { connection_id = connection_id; peer = peer; is_reported = false; origin = OwnConnect })) t
       (λ k. room-more s.grants t.grants stay (family_of peer) (connect-room id peer s listed h)) (since h);
-  offers = λ id peer origin s room few. with_grant-houses (Offer (record { connection_id = id; peer = peer; is_told = false; origin = origin })) s room;
+  offers = λ id peer origin s room few. with_grant-houses (Offer (record { connection_id = id; peer = peer; is_reported = false; origin = origin })) s room;
 }
 
 -- ---- the statement of the law

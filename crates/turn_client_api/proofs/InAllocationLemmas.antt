@@ -212,7 +212,7 @@ shape (Allocation a) = Allocation (record { relayed = a.relayed; first_lifetime 
 shape (Permission ip progress) = Permission ip Pending
 shape (Channel number peer progress) = Channel number peer Pending
 shape (Connect peer) = Connect peer
-shape (Offer offer) = Offer (record { connection_id = 0; peer = offer.peer; is_told = false; origin = OwnConnect })
+shape (Offer offer) = Offer (record { connection_id = 0; peer = offer.peer; is_reported = false; origin = OwnConnect })
 shape (Connection c) = Connection (record c { deadline = None })
 
 shape-family : (g : Grant) → family_of_grant (shape g) ≡ family_of_grant g

@@ -13,7 +13,7 @@ use Rattle.turn_client_api.specs.State.{State, DataOffer, Grant, Allocation, Per
 use Rattle.turn_client_api.specs.Grants.{allocations, as_allocation, find_allocation, family_of_grant, has_request, is_past, failures_among, family_of, is_channel_of, is_for_any, is_connect, is_of, is_pending_channel, is_pending_permission, jump, unlisted, without}
 use Rattle.turn_client_api.specs.Effect.{reserved, reserved_time}
 use Rattle.turn_client_api.specs.Calls.{is_allocated}
-use Rattle.turn_client_api.specs.Poll.{first_untold, timed_out_purposes, next_offer, untold_in, channel_lapsed, connections_unbound, failed_by_timeout, last_channel_lapsed, offers_timed_out, permissions_lapsed, refreshes_timed_out, set_free, failed, allocation_expires, is_lapsed_channel, is_lapsed_permission, is_unbound, lapsed, lapsed_allocation, lapsed_in, unbound}
+use Rattle.turn_client_api.specs.Poll.{first_unreported, timed_out_purposes, next_offer, unreported_in, channel_lapsed, connections_unbound, failed_by_timeout, last_channel_lapsed, offers_timed_out, permissions_lapsed, refreshes_timed_out, set_free, failed, allocation_expires, is_lapsed_channel, is_lapsed_permission, is_unbound, lapsed, lapsed_allocation, lapsed_in, unbound}
 use Rattle.turn_client_api.specs.declared.event.TurnEvent.{TurnEvent}
 use Rattle.turn_client_api.specs.declared.event.TurnEvent.TheVariants.{ChannelCreateFailed}
 use Rattle.turn_client_api.proofs.HasLemmas.{Has, has-all, has-left, has-right, has-append, has-filter, filter_map-has, has-filter_map, has-found}
@@ -404,7 +404,7 @@ lapsed-no_offer s t shrinks none = by (is_allocated t.phase) refl
   where
     -- the first unreported offer of each allocation
     offers : State → List DataOffer
-    offers u = filter_map (λ a. first_untold (family_of a.relayed) u) (allocations u)
+    offers u = filter_map (λ a. first_unreported (family_of a.relayed) u) (allocations u)
 
     first : {X : Type 0} (xs : List X) (x : X) → Has x xs → slice_get xs 0 ≡ None → ⊥
     first [] x h e = absurd h
@@ -423,7 +423,7 @@ lapsed-no_offer s t shrinks none = by (is_allocated t.phase) refl
     has-first [] x h = absurd h
     has-first (y ∷ ys) x h = (y, refl)
 
-    is_offer : (family : AddressFamily) (g : Grant) (offer : DataOffer) → untold_in family g ≡ Some offer → IsReserved g → ⊥
+    is_offer : (family : AddressFamily) (g : Grant) (offer : DataOffer) → unreported_in family g ≡ Some offer → IsReserved g → ⊥
     is_offer family (Channel number peer (Reserved until)) offer e is = none-some offer e
     is_offer family (Channel number peer Pending) offer e is = is
     is_offer family (Channel number peer (Active expiry)) offer e is = is
@@ -446,14 +446,14 @@ lapsed-no_offer s t shrinks none = by (is_allocated t.phase) refl
     -- if an offer is pending, one was so before
     before : (x : DataOffer) → Has x (offers t) → (y : DataOffer) × Has y (offers s)
     before x h =
-        let (a, inside, gives) = has-filter_map (λ (a : Relay). first_untold (family_of a.relayed) t) x (allocations t) h in
+        let (a, inside, gives) = has-filter_map (λ (a : Relay). first_unreported (family_of a.relayed) t) x (allocations t) h in
         let relay = has-filter_map as_allocation a t.grants inside in
         let relay_before = filter_map-has as_allocation relay.0 a s.grants (back s t shrinks relay.0 (is_allocation relay.0 a relay.2) relay.1) relay.2 in
         let family = family_of a.relayed in
-        let grant = has-filter_map (untold_in family) x t.grants (first-has (filter_map (untold_in family) t.grants) x gives) in
+        let grant = has-filter_map (unreported_in family) x t.grants (first-has (filter_map (unreported_in family) t.grants) x gives) in
         let there = back s t shrinks grant.0 (is_offer family grant.0 x grant.2) grant.1 in
-        let (y, one) = has-first (filter_map (untold_in family) s.grants) x (filter_map-has (untold_in family) grant.0 x s.grants there grant.2) in
-        (y, filter_map-has (λ (a : Relay). first_untold (family_of a.relayed) s) a y (allocations s) relay_before one)
+        let (y, one) = has-first (filter_map (unreported_in family) s.grants) x (filter_map-has (unreported_in family) grant.0 x s.grants there grant.2) in
+        (y, filter_map-has (λ (a : Relay). first_unreported (family_of a.relayed) s) a y (allocations s) relay_before one)
 
     nothing : next_offer s ≡ None → is_allocated s.phase ≡ true → (x : DataOffer) → Has x (offers t) → ⊥
     nothing none is x h = let (y, there) = before x h in first (offers s) y there (rw is at none)

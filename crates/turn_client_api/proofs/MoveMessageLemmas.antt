@@ -22,7 +22,7 @@ use Rattle.turn_client_api.specs.Requests.{connection_attempt_method, connection
 use Rattle.turn_client_api.specs.Judgement.{Judgement, Unrelated, Challenged, Fatal, LateResponse, DataIndication, ConnectionAttempt, SignedRequest, SignedSuccess, SignedError, answers_allocate, authenticating_judgement, bind_judgement, class_in, connection_id_in, is_bind_of, judgement_of, lifetime_in, method_in, peer_in}
 use Rattle.turn_client_api.specs.Effect.{allocate_denied, allocate_granted, ended, family_not_supported, has_code, in_phase}
 use Rattle.turn_client_api.specs.Retry.{bind_time, max_challenges, retried, state_after_retry, with_held}
-use Rattle.turn_client_api.specs.Connections.{attempt_indicated, attempt_requested, bind_again, bind_answered, bind_step, connection_at, deadline_set, is_connected, is_heeded, bound, not_bound, with_deadline}
+use Rattle.turn_client_api.specs.Connections.{attempt_indicated, attempt_requested, bind_again, bind_answered, bind_step, connection_at, deadline_set, is_connected, accepts_attempt, bound, not_bound, with_deadline}
 use Rattle.turn_client_api.specs.Payloads.{Outcome, Handled, Ignored, challenge_step, channel_sent, datagram_step, is_channel_frame, is_message, message_step, response_step, signed_step, wrong_step}
 use Rattle.turn_client_api.specs.Streams.{frame_step}
 use Rattle.turn_client_api.specs.LawsReplies.{IsAccepted}
@@ -216,7 +216,7 @@ indicated-settles Taken message s = by (connection_id_in message) refl (peer_in 
     heeded_if false t k = tt
 
     by : (i : Option ℕ) → connection_id_in message ≡ i → (p : Option SocketAddr) → peer_in message ≡ p → IfSome (attempt_indicated message s) (Settles Taken s)
-    by (Some id) e (Some peer) f = rw (e, f) (heeded_if (is_heeded peer s) _ (adds-same Never s.transactions, adds-same Never s.listed, loses-more Taken s.grants s.grants _ (loses-same Taken s.grants)))
+    by (Some id) e (Some peer) f = rw (e, f) (heeded_if (accepts_attempt peer s) _ (adds-same Never s.transactions, adds-same Never s.listed, loses-more Taken s.grants s.grants _ (loses-same Taken s.grants)))
     by (Some id) e None f = rw (e, f) tt
     by None e p f = rw e tt
 

@@ -12,7 +12,7 @@ use Rattle.turn_client_api.specs.Grants.{allocations, family_of, in_sequence, is
 use Rattle.turn_client_api.specs.Requests.{first_allocate, fresh_id, request_for, to_server}
 use Rattle.turn_client_api.specs.Effect.{closed, ended}
 use Rattle.turn_client_api.specs.Due.{has_event, has_reply, is_paused}
-use Rattle.turn_client_api.specs.Poll.{answer_by, answer_step, channel_lapsed, connections_unbound, timed_out_purposes, timed_out_step, allocation_expires, failed_by_timeout, is_lapsed_channel, is_listed_for_allocation, lapsed, lapsed_allocation, lapsed_in, last_channel_lapsed, next_offer, offer_step, offers_timed_out, permissions_lapsed, poll_step, refreshes_timed_out, set_free, timed_step, told, told_first, untold_in}
+use Rattle.turn_client_api.specs.Poll.{answer_by, answer_step, channel_lapsed, connections_unbound, timed_out_purposes, timed_out_step, allocation_expires, failed_by_timeout, is_lapsed_channel, is_listed_for_allocation, lapsed, lapsed_allocation, lapsed_in, last_channel_lapsed, next_offer, offer_step, offers_timed_out, permissions_lapsed, poll_step, refreshes_timed_out, set_free, timed_step, told, first_reported, unreported_in}
 use Rattle.turn_client_api.specs.Transmit.{idle_step, queue_step, refreshes_in, reply_step, sent, sent_at_once, transmit_step}
 use Rattle.turn_client_api.specs.Steps.{Call, Poll, PollTransmit}
 use Rattle.turn_client_api.specs.LawsBodies.{expiry_times}
@@ -193,9 +193,9 @@ module _ (now : ℕ) (s : State) where
         up-loses up (lapsed (Some x.id) now u).grants,
       )
 
-pub told-loses : (Taken : Grant → Type 0) (family : AddressFamily) (gs : List Grant) → Loses Taken gs (told_first family gs)
+pub told-loses : (Taken : Grant → Type 0) (family : AddressFamily) (gs : List Grant) → Loses Taken gs (first_reported family gs)
 told-loses Taken family [] g h = absurd h
-told-loses Taken family (x ∷ gs) g h = by (is_some (untold_in family x)) h (told-loses Taken family gs g)
+told-loses Taken family (x ∷ gs) g h = by (is_some (unreported_in family x)) h (told-loses Taken family gs g)
   where
     told-grant_identity : (g : Grant) → grant_identity g ≡ grant_identity (told g)
     told-grant_identity (Offer offer) = refl
@@ -205,11 +205,11 @@ told-loses Taken family (x ∷ gs) g h = by (is_some (untold_in family x)) h (to
     told-grant_identity (Connect peer) = refl
     told-grant_identity (Connection c) = refl
 
-    further : Remains g (told_first family gs) ⊎ Taken g → Remains g (x ∷ told_first family gs) ⊎ Taken g
+    further : Remains g (first_reported family gs) ⊎ Taken g → Remains g (x ∷ first_reported family gs) ⊎ Taken g
     further (inl (is, there, same)) = inl (is, inr there, same)
     further (inr taken) = inr taken
 
-    by : (b : Bool) → Has g (x ∷ gs) → (Has g gs → Remains g (told_first family gs) ⊎ Taken g) → Remains g (cond b (told x ∷ gs) (x ∷ told_first family gs)) ⊎ Taken g
+    by : (b : Bool) → Has g (x ∷ gs) → (Has g gs → Remains g (first_reported family gs) ⊎ Taken g) → Remains g (cond b (told x ∷ gs) (x ∷ first_reported family gs)) ⊎ Taken g
     by true (inl is) later = inl (told x, inl refl, rw is (told-grant_identity x))
     by true (inr there) later = inl (g, inr there, refl)
     by false (inl is) later = inl (g, inl is, refl)

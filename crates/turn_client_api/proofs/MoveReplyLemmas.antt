@@ -9,7 +9,7 @@ use Rattle.turn_types.specs.declared.family.AddressFamily.{AddressFamily}
 use Rattle.turn_client_api.specs.State.{State, Grant, Allocation, Permission, Channel, Connect, Offer, Connection, Relay, Progress, Pending, Active, Reserved, Listing, Purpose, ForAllocation, ForRefresh, ForPermission, ForChannel, ForConnect, ForBind}
 use Rattle.turn_client_api.specs.Grants.{changed_allocation, channel_at, first_in, is_channel_of, is_connect_to, is_for, is_for_any, is_permission_of, permission_state, purposes_of, unlisted, without}
 use Rattle.turn_client_api.specs.Judgement.{connection_id_in, lifetime_in}
-use Rattle.turn_client_api.specs.Effect.{all_gone, allocation_mismatch, channel_answered, connect_answered, effect, ended, given_back, has_code, is_asked_permission, lasting, lasting_if, min_lifetime, listed_permissions_answered, pending_channel_answered, permission_answered, permission_answered_for, prolonged, refreshed, renewed}
+use Rattle.turn_client_api.specs.Effect.{all_gone, allocation_mismatch, channel_answered, connect_answered, effect, ended, delete_answered, has_code, is_asked_permission, lasting, lasting_if, min_lifetime, listed_permissions_answered, pending_channel_answered, permission_answered, permission_answered_for, prolonged, refreshed, renewed}
 use Rattle.turn_client_api.specs.Payloads.{answered_purposes, response_step}
 use Rattle.turn_client_api.specs.LawsGone.{GivesBack, grant_identity}
 use Rattle.turn_client_api.proofs.GrantOriginLemmas.{has-mapped}
@@ -216,7 +216,7 @@ module _ (all : List Purpose) where
       more : State
       more = cond is_granted (option_map_or (λ granted. prolonged family granted now s) (lifetime_in message) s) s
 
-      by : (b : Bool) → eqb lifetime 0 ≡ b → Fits s (cond b (given_back is_granted message s) more)
+      by : (b : Bool) → eqb lifetime 0 ≡ b → Fits s (cond b (delete_answered is_granted message s) more)
       by true e = on_test (Fits s) (is_granted || has_code allocation_mismatch message) _ s (gone-fits family lifetime s h (eqb-true lifetime 0 e)) (fits-same s)
       by false e = on_test (Fits s) is_granted _ s (granted (lifetime_in message)) (fits-same s)
 

@@ -19,7 +19,7 @@ use Rattle.turn_client_api.specs.Requests.{connection_attempt_method, connection
 use Rattle.turn_client_api.specs.Judgement.{Judgement, Unrelated, Challenged, Fatal, LateResponse, DataIndication, ConnectionAttempt, SignedRequest, SignedSuccess, SignedError, bind_judgement, connection_id_in, is_bind_of, judgement_of, lifetime_in, method_in, peer_in}
 use Rattle.turn_client_api.specs.Effect.{allocate_denied, allocate_granted, allocation_mismatch, channel_answered, connect_answered, effect, ended, family_not_supported, has_code, min_lifetime, permission_answered, permission_answered_for, listed_permissions_answered, prolonged, refreshed}
 use Rattle.turn_client_api.specs.Retry.{max_challenges, retried, state_after_retry}
-use Rattle.turn_client_api.specs.Connections.{attempt_indicated, attempt_requested, bind_again, bind_answered, bind_step, connection_at, is_connected, is_heeded}
+use Rattle.turn_client_api.specs.Connections.{attempt_indicated, attempt_requested, bind_again, bind_answered, bind_step, connection_at, is_connected, accepts_attempt}
 use Rattle.turn_client_api.specs.Payloads.{Outcome, Handled, Ignored, answered_purposes, challenge_step, message_step, response_step, signed_step, wrong_step}
 
 -- ---- lists of transactions
@@ -226,7 +226,7 @@ indicated-asks message s = by (connection_id_in message) refl (peer_in message) 
     heeded_if false t k = tt
 
     by : (i : Option ℕ) → connection_id_in message ≡ i → (p : Option SocketAddr) → peer_in message ≡ p → IfSome (attempt_indicated message s) (AsksNothing s)
-    by (Some id) e (Some peer) f = rw (e, f) (heeded_if (is_heeded peer s) _ refl)
+    by (Some id) e (Some peer) f = rw (e, f) (heeded_if (accepts_attempt peer s) _ refl)
     by (Some id) e None f = rw (e, f) tt
     by None e p f = rw e tt
 

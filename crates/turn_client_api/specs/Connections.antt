@@ -64,8 +64,8 @@ is_indicated grant = option_map_or (λ offer. by offer.origin) (as_offer grant) 
 
 -- An indication is accepted only for a peer with a permission, as RFC 6062, section 4.4, requires, and if
 -- no other connection to it exists or is pending.
-abbrev pub is_heeded : SocketAddr → State → Bool
-is_heeded peer s =
+abbrev pub accepts_attempt : SocketAddr → State → Bool
+accepts_attempt peer s =
     is_some (find_allocation_to Tcp (socket_ip peer) s) && has_active_permission (socket_ip peer) s
     && not (is_connected peer s || is_connecting peer s)
     && nat_lt (length (filter is_indicated s.grants)) max_indicated
@@ -75,7 +75,7 @@ attempt_indicated message s = by (connection_id_in message) (peer_in message)
   where
     by : Option ℕ → Option SocketAddr → Option State
     by (Some connection_id) (Some peer) =
-        if is_heeded peer s then Some (with_offer connection_id peer ServerIndication s) else None
+        if accepts_attempt peer s then Some (with_offer connection_id peer ServerIndication s) else None
     by _ _ = None
 
 -- ---- a connection is bound (RFC 6062, section 4.3)

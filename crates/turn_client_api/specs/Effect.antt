@@ -140,8 +140,8 @@ abbrev pub all_gone : State → State
 all_gone s = closed (without (λ g. true) s)
 
 -- What was to be deleted is removed once the server says that it is deleted, or that it never existed.
-abbrev pub given_back : Bool → List ℕ → State → State
-given_back is_granted message s = if is_granted || has_code allocation_mismatch message then challenges_reset (all_gone s) else s
+abbrev pub delete_answered : Bool → List ℕ → State → State
+delete_answered is_granted message s = if is_granted || has_code allocation_mismatch message then challenges_reset (all_gone s) else s
 
 -- an allocation that was refreshed lasts as long as the server says
 abbrev pub prolonged : AddressFamily → ℕ → ℕ → State → State
@@ -154,7 +154,7 @@ prolonged family lifetime now s =
 -- a lifetime of so many seconds was requested
 abbrev pub refreshed : AddressFamily → ℕ → Bool → List ℕ → ℕ → State → State
 refreshed family lifetime is_granted message now s =
-    if lifetime == 0 then given_back is_granted message s
+    if lifetime == 0 then delete_answered is_granted message s
     else (if is_granted then option_map_or (λ granted. prolonged family granted now s) (lifetime_in message) s
     else s)
 
@@ -258,7 +258,7 @@ channel_answered number id is_granted now s = by (first_in (channel_at number) s
 -- the caller is to open a connection to the peer
 abbrev pub with_offer : ℕ → SocketAddr → Origin → State → State
 with_offer connection_id peer origin s =
-    with_grant (Offer (record { connection_id = connection_id; peer = peer; is_told = false; origin = origin })) s
+    with_grant (Offer (record { connection_id = connection_id; peer = peer; is_reported = false; origin = origin })) s
 
 abbrev pub connect_answered : SocketAddr → Option ℕ → State → State
 connect_answered peer (Some connection_id) s = with_offer connection_id peer OwnConnect (without (is_connect_to peer) s)

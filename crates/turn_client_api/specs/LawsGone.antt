@@ -21,7 +21,7 @@ grant_identity (Allocation a) = Allocation (record { relayed = a.relayed; first_
 grant_identity (Permission ip progress) = Permission ip Pending
 grant_identity (Channel number peer progress) = Channel number peer Pending
 grant_identity (Connect peer) = Connect peer
-grant_identity (Offer offer) = Offer (record offer { is_told = false })
+grant_identity (Offer offer) = Offer (record offer { is_reported = false })
 grant_identity (Connection c) = Connection (record c { deadline = None })
 
 -- it exists, whatever its progress

@@ -198,7 +198,7 @@ refreshing lifetime to text s = asking (ForRefresh IPV4 lifetime ∷ []) [] to t
 
 -- an offer of the server's connection ID 9 to the peer
 abbrev pub offer_of : Origin → Grant
-offer_of origin = Offer (record { connection_id = 9; peer = peer; is_told = false; origin = origin })
+offer_of origin = Offer (record { connection_id = 9; peer = peer; is_reported = false; origin = origin })
 
 -- ---- clients that are challenged
 

@@ -51,8 +51,8 @@ GrantsNothing message now s =
     is_response (class_in message) ≡ true → IsNotAwaited message s → (message_step message now s).1.grants ≡ s.grants
 
 -- the message is a signed reply to an outstanding request, and answers something that this was made for
-abbrev pub IsHeeded : Deed
-IsHeeded message now s = IsAccepted (judgement_of s message) × ((p : Purpose) × Contains (answered_purposes message s) p)
+abbrev pub IsReplyAccepted : Deed
+IsReplyAccepted message now s = IsAccepted (judgement_of s message) × ((p : Purpose) × Contains (answered_purposes message s) p)
 
 -- a call uses the ID: as the next one of the client before the call, or as it is when a message is
 -- processed

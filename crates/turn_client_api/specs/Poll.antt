@@ -118,34 +118,34 @@ lapsed given now s = fold (lapsed_allocation given (timed_out_purposes given s) 
 -- ---- the caller is to open a data connection
 
 -- an offer of a family that was not reported to the caller
-abbrev pub untold_in : AddressFamily → Grant → Option DataOffer
-untold_in family (Offer offer) = if is_of_family family offer.peer && not offer.is_told then Some offer else None
-untold_in family _ = None
+abbrev pub unreported_in : AddressFamily → Grant → Option DataOffer
+unreported_in family (Offer offer) = if is_of_family family offer.peer && not offer.is_reported then Some offer else None
+unreported_in family _ = None
 
 -- the first of them
-abbrev pub first_untold : AddressFamily → State → Option DataOffer
-first_untold family s = first_in (untold_in family) s
+abbrev pub first_unreported : AddressFamily → State → Option DataOffer
+first_unreported family s = first_in (unreported_in family) s
 
 -- the one that is reported to the caller next, allocation by allocation
 abbrev pub next_offer : State → Option DataOffer
 next_offer s =
-    if is_allocated s.phase then slice_get (filter_map (λ a. first_untold (family_of a.relayed) s) (allocations s)) 0
+    if is_allocated s.phase then slice_get (filter_map (λ a. first_unreported (family_of a.relayed) s) (allocations s)) 0
     else None
 
 abbrev pub told : Grant → Grant
-told (Offer offer) = Offer (record offer { is_told = true })
+told (Offer offer) = Offer (record offer { is_reported = true })
 told grant = grant
 
 -- the first of a family is reported to the caller
-abbrev pub told_first : AddressFamily → List Grant → List Grant
-told_first family [] = []
-told_first family (g ∷ others) =
-    if is_some (untold_in family g) then told g ∷ others else g ∷ told_first family others
+abbrev pub first_reported : AddressFamily → List Grant → List Grant
+first_reported family [] = []
+first_reported family (g ∷ others) =
+    if is_some (unreported_in family g) then told g ∷ others else g ∷ first_reported family others
 
 abbrev pub offer_step : DataOffer → State → TurnPollRet × State
 offer_step offer s = (
   Do.AllocateTcpSocket offer.connection_id (record { transport = s.transport; from = s.local; to = s.remote }) offer.peer,
-  record s { grants = told_first (family_of offer.peer) s.grants },
+  record s { grants = first_reported (family_of offer.peer) s.grants },
 )
 
 -- ---- poll

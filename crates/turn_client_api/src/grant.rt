@@ -55,7 +55,7 @@ pub struct DataOffer {
     /// The peer at the far end.
     pub peer: SocketAddr,
     /// Set when `poll` reports the offer to the caller, which it does once.
-    pub is_told: bool,
+    pub is_reported: bool,
     /// Why it is to be opened.
     pub origin: Origin,
 }

@@ -10,7 +10,7 @@ use Rattle.turn_client_api.specs.declared.grant.Purpose.{Purpose}
 use Rattle.turn_client_core.specs.Asked.{asks}
 use Rattle.turn_client_core.specs.Outgoing.{Outgoing}
 use Rattle.turn_client_grants.specs.Asked.{Asks, all_back, given_up}
-use Rattle.turn_client_grants.specs.Ledger.{Ledger, on}
+use Rattle.turn_client_grants.specs.Ledger.{Ledger, with_ledger}
 
 -- the client with this outbox
 abbrev pub with_outbox : Outgoing → State → State
@@ -25,7 +25,7 @@ with_outbox o s = record s {
 }
 
 -- the ledger was this client's
-pub asked-is : (s : State) (was ledger : Ledger) (id : ℕ) (from : SocketAddr) (text : List ℕ) (purposes : List Purpose) (now : ℕ) (step : State → State) → on was s ≡ s → Asks id purposes now step was ledger s text → queued true from text (on ledger (asked id text purposes now s)) ≡ queued true from text (asked id text purposes now (step s))
+pub asked-is : (s : State) (was ledger : Ledger) (id : ℕ) (from : SocketAddr) (text : List ℕ) (purposes : List Purpose) (now : ℕ) (step : State → State) → with_ledger was s ≡ s → Asks id purposes now step was ledger s text → queued true from text (with_ledger ledger (asked id text purposes now s)) ≡ queued true from text (asked id text purposes now (step s))
 asked-is s was ledger id from text purposes now step same made =
     ap (queued true from text) (made ∙ ap (λ t. asked id text purposes now (step t)) same)
 

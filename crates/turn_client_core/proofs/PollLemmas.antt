@@ -18,7 +18,7 @@ use Rattle.turn_client_api.specs.declared.poll.TurnPollRet.{TurnPollRet}
 use Rattle.turn_client_api.specs.declared.poll.TurnPollRet.TheVariants as Do
 use Rattle.turn_client_grants.specs.Due.{times_of}
 use Rattle.turn_client_core.specs.Outgoing.{Outgoing}
-use Rattle.turn_client_core.specs.Polled.{is_let_go}
+use Rattle.turn_client_core.specs.Polled.{is_without_allocation}
 use Rattle.turn_client_core.specs.Sending.{give_up_step}
 use Rattle.turn_client_core.proofs.AskLemmas.{with_outbox}
 
@@ -79,7 +79,7 @@ let_go-by Requesting relays given now s e = cc
 let_go-by Authenticating relays given now s e = cc
 let_go-by Closed relays given now s e = cc
 
-pub let_go-is : (given : Option ℕ) (now : ℕ) (s : State) → s.closes ≡ [] → is_let_go s ≡ true → ◌≡◌ {A = Answer} (Do.Closed, s) (answer_step given now s)
+pub let_go-is : (given : Option ℕ) (now : ℕ) (s : State) → s.closes ≡ [] → is_without_allocation s ≡ true → ◌≡◌ {A = Answer} (Do.Closed, s) (answer_step given now s)
 let_go-is given now s none gone =
     let_go-by s.phase (allocations s) given now s gone
     ∙ ap (λ (closes : List SocketAddr). answer_by closes s.phase (allocations s) given now s) (sym none)
@@ -92,7 +92,7 @@ waits-by Requesting relays given now s e = refl
 waits-by Authenticating relays given now s e = refl
 waits-by Closed relays given now s e = refl
 
-pub waits-is : (given : Option ℕ) (now : ℕ) (s : State) → s.closes ≡ [] → is_let_go s ≡ false → ◌≡◌ {A = Answer} (Do.WaitUntil (next_wakeup (is_some given) now s), s) (answer_step given now s)
+pub waits-is : (given : Option ℕ) (now : ℕ) (s : State) → s.closes ≡ [] → is_without_allocation s ≡ false → ◌≡◌ {A = Answer} (Do.WaitUntil (next_wakeup (is_some given) now s), s) (answer_step given now s)
 waits-is given now s none stays =
     waits-by s.phase (allocations s) given now s stays
     ∙ ap (λ (closes : List SocketAddr). answer_by closes s.phase (allocations s) given now s) (sym none)

@@ -11,7 +11,7 @@ use Rattle.turn_client_api.specs.declared.grant.Origin.TheVariants.{OwnConnect, 
 use Rattle.turn_client_api.specs.declared.grant.Purpose.TheVariants.{ForBind}
 use Rattle.turn_client_api.specs.declared.state.Stream.{Stream}
 use Rattle.turn_client_grants.specs.Asked.{Asks, with_opened}
-use Rattle.turn_client_grants.specs.Ledger.{Ledger, on}
+use Rattle.turn_client_grants.specs.Ledger.{Ledger, with_ledger}
 use Rattle.turn_client_streams.specs.Held.{with_streams}
 use Rattle.turn_client_core.specs.Opened.{answer_to, opened_with, with_reply}
 
@@ -32,7 +32,7 @@ opened-is (ServerRequest request) id peer local now s = refl
 opened-is ServerIndication id peer local now s = rw (append-nil s.queue) refl
 
 -- the ledger and the streams were this client's
-pub opens-is : (s : State) (was ledger : Ledger) (streams : List Stream) (reply : Option (List ℕ)) (id request : ℕ) (peer local : SocketAddr) (text : List ℕ) (now : ℕ) → on was s ≡ s → with_streams streams s ≡ with_stream local s → Asks request (ForBind local peer id ∷ []) now (with_opened id peer local now) was ledger s text → text ≡ request_for s (ForBind local peer id) request → request ≡ fresh_id s → on ledger (with_streams streams (queued true local text (with_reply reply (asked request text (ForBind local peer id ∷ []) now s)))) ≡ opened_with reply id peer local now s
+pub opens-is : (s : State) (was ledger : Ledger) (streams : List Stream) (reply : Option (List ℕ)) (id request : ℕ) (peer local : SocketAddr) (text : List ℕ) (now : ℕ) → with_ledger was s ≡ s → with_streams streams s ≡ with_stream local s → Asks request (ForBind local peer id ∷ []) now (with_opened id peer local now) was ledger s text → text ≡ request_for s (ForBind local peer id) request → request ≡ fresh_id s → with_ledger ledger (with_streams streams (queued true local text (with_reply reply (asked request text (ForBind local peer id ∷ []) now s)))) ≡ opened_with reply id peer local now s
 opens-is s was ledger streams reply id request peer local text now same opened made is next =
     let given : streams ≡ (with_stream local s).streams = ap (λ t. t.streams) opened in
     ap (λ t. with_streams streams (queued true local text (with_reply reply t))) (made ∙ ap (λ t. asked request text (ForBind local peer id ∷ []) now (with_opened id peer local now t)) same)

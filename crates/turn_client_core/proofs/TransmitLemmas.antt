@@ -18,7 +18,7 @@ use Rattle.turn_client_api.specs.declared.state.Queued.{Queued}
 use Rattle.turn_client_core.specs.Outgoing.{Outgoing}
 use Rattle.turn_client_core.specs.Sending.{front_step, resend_step, waiting_step}
 use Rattle.turn_client_grants.specs.Asked.{Asks}
-use Rattle.turn_client_grants.specs.Ledger.{Ledger, on}
+use Rattle.turn_client_grants.specs.Ledger.{Ledger, with_ledger}
 use Rattle.turn_client_grants.specs.Refresh.{first_refresh}
 use Rattle.turn_client_grants.proofs.RefreshLemmas.{next_first}
 use Rattle.turn_client_requests.specs.Asked.{asking}
@@ -70,10 +70,10 @@ no_front-sends now s o p step = by (slice_get o.queue 0) refl step
 
 -- ---- a request that is sent at once
 
-pub sends-is : (s : State) (was ledger : Ledger) (id : ℕ) (text : List ℕ) (purpose : Purpose) (now : ℕ) → on was s ≡ s → Asks id (purpose ∷ []) now (with_more_grants []) was ledger s text → id ≡ fresh_id s → ◌≡◌ {A = Packet × State} (Some (to_server s s.local text), sent now (on ledger (asked id text (purpose ∷ []) now s))) (sent_at_once text purpose now s)
+pub sends-is : (s : State) (was ledger : Ledger) (id : ℕ) (text : List ℕ) (purpose : Purpose) (now : ℕ) → with_ledger was s ≡ s → Asks id (purpose ∷ []) now (with_more_grants []) was ledger s text → id ≡ fresh_id s → ◌≡◌ {A = Packet × State} (Some (to_server s s.local text), sent now (with_ledger ledger (asked id text (purpose ∷ []) now s))) (sent_at_once text purpose now s)
 sends-is s was ledger id text purpose now same made next =
     let made_from : State → State = λ t. asked id text (purpose ∷ []) now t in
-    let whole : on ledger (made_from s) ≡ made_from s =
+    let whole : with_ledger ledger (made_from s) ≡ made_from s =
     made ∙ (ap (λ (t : State). made_from (with_more_grants [] t)) same
     ∙ ap (λ (grants : List Grant). made_from (record s { grants = grants })) (append-nil s.grants)) in
     ap (λ (t : State). (Some (to_server s s.local text), sent now t)) whole

@@ -12,5 +12,5 @@ unallocated (Some id) s = if is_listed_for_allocation id s then closed s else s
 unallocated None s = s
 
 -- the server granted an allocation, and no allocation is left
-abbrev pub is_let_go : State → Bool
-is_let_go s = is_allocated s.phase && is_none (slice_get (allocations s) 0)
+abbrev pub is_without_allocation : State → Bool
+is_without_allocation s = is_allocated s.phase && is_none (slice_get (allocations s) 0)

@@ -4,7 +4,7 @@ ghost use Rattle.std.specs.Prelude.{◌≡◌, filter, find, option_to_list};
 ghost use Rattle.turn_client_api.specs.Payloads.{is_answered};
 ghost use Rattle.turn_client_api.specs.Retry.{retried};
 ghost use Rattle.turn_client_core.specs.Kinds.{of_kind};
-ghost use Rattle.turn_client_grants.specs.Which.{purposes_in};
+ghost use Rattle.turn_client_grants.specs.GrantFilter.{purposes_in};
 
 use turn_client_api::Purpose;
 use turn_client_grants::Purposes;

@@ -2,11 +2,11 @@
 //! 6062, section 4.3).
 
 ghost use Rattle.std.specs.Prelude.{◌≡◌, ◌≤◌, ◌||◌, option_to_list};
-ghost use Rattle.turn_client_api.specs.Effect.{allocation_mismatch, effect, given_back, has_code, prolonged, refreshed};
+ghost use Rattle.turn_client_api.specs.Effect.{allocation_mismatch, effect, delete_answered, has_code, prolonged, refreshed};
 ghost use Rattle.turn_client_api.specs.State.{State};
 ghost use Rattle.turn_client_core.specs.Effects.{Answers, after, connect_replied};
-ghost use Rattle.turn_client_grants.specs.Ledger.{LessRoom, SameRoomBut, on};
-ghost use Rattle.turn_client_grants.specs.Which.{purposes_in};
+ghost use Rattle.turn_client_grants.specs.Ledger.{LessRoom, SameRoomBut, with_ledger};
+ghost use Rattle.turn_client_grants.specs.GrantFilter.{purposes_in};
 ghost use Rattle.turn_stun.specs.Message.{id_of};
 
 use crate::reply::{connection_id_in, has_code, lifetime_in};
@@ -30,7 +30,7 @@ pub(crate) enum Effect {
     /// The server accepted a request: the count of challenges is reset.
     Taken,
     /// The server deleted all allocations: the count of challenges is reset, and the client ends.
-    GivenBack,
+    AllocationsDeleted,
 }
 
 impl Effect {
@@ -43,9 +43,9 @@ impl Effect {
             Effect::Taken => match other {
                 Effect::Nothing => Effect::Taken,
                 Effect::Taken => Effect::Taken,
-                Effect::GivenBack => Effect::GivenBack,
+                Effect::AllocationsDeleted => Effect::AllocationsDeleted,
             },
-            Effect::GivenBack => Effect::GivenBack,
+            Effect::AllocationsDeleted => Effect::AllocationsDeleted,
         }
     }
 }
@@ -100,7 +100,7 @@ fn answer(
     requires grant_room { 3 ≤ ledger.old.grant_room }
     requires event_room { 9 ≤ ledger.old.event_room }
     requires close_room { 1 ≤ ledger.old.close_room }
-    ensures state { (s : State) → after result (on ledger.new s) ≡ effect (id_of message.now) is_granted message.now now (on ledger.old s) purpose.now }
+    ensures state { (s : State) → after result (with_ledger ledger.new s) ≡ effect (id_of message.now) is_granted message.now now (with_ledger ledger.old s) purpose.now }
     ensures room { LessRoom 3 0 9 1 ledger.old ledger.new }
 {
     match purpose {
@@ -130,11 +130,11 @@ fn refreshed(
     is_granted: bool,
     now: Instant,
 ) -> Effect
-    ensures state { (s : State) → after result (on ledger.new s) ≡ refreshed family lifetime is_granted message.now now (on ledger.old s) }
+    ensures state { (s : State) → after result (with_ledger ledger.new s) ≡ refreshed family lifetime is_granted message.now now (with_ledger ledger.old s) }
     ensures room { SameRoomBut 0 0 ledger.old ledger.new }
 {
     if lifetime == 0 {
-        return given_back(ledger, message, is_granted);
+        return delete_answered(ledger, message, is_granted);
     }
     if !is_granted {
         return Effect::Nothing;
@@ -147,14 +147,14 @@ fn refreshed(
 
 /// Removes what was to be deleted, if the server confirms the deletion or reports that there was
 /// nothing to delete (RFC 8656, section 8.3).
-fn given_back(ledger: &mut GrantLedger, message: &Message<'_>, is_granted: bool) -> Effect
-    ensures state { (s : State) → after result (on ledger.new s) ≡ given_back is_granted message.now (on ledger.old s) }
+fn delete_answered(ledger: &mut GrantLedger, message: &Message<'_>, is_granted: bool) -> Effect
+    ensures state { (s : State) → after result (with_ledger ledger.new s) ≡ delete_answered is_granted message.now (with_ledger ledger.old s) }
     ensures room { SameRoomBut 0 0 ledger.old ledger.new }
 {
     if is_gone(message, is_granted) {
         ledger.clear();
         ledger.unlist_allocates();
-        return Effect::GivenBack;
+        return Effect::AllocationsDeleted;
     }
     Effect::Nothing
 }
@@ -168,7 +168,7 @@ fn is_gone(message: &Message<'_>, is_granted: bool) -> bool
 
 /// Gives the allocations of the family the lifetime that the server granted, unless it is too short.
 fn prolonged(ledger: &mut GrantLedger, family: AddressFamily, lifetime: u32, now: Instant) -> Effect
-    ensures state { (s : State) → after result (on ledger.new s) ≡ prolonged family lifetime now (on ledger.old s) }
+    ensures state { (s : State) → after result (with_ledger ledger.new s) ≡ prolonged family lifetime now (with_ledger ledger.old s) }
     ensures room { SameRoomBut 0 0 ledger.old ledger.new }
 {
     if lifetime < MIN_LIFETIME {
@@ -188,7 +188,7 @@ fn connected(
     requires grant_room { 1 ≤ ledger.old.grant_room }
     requires event_room { 2 ≤ ledger.old.event_room }
     requires close_room { 1 ≤ ledger.old.close_room }
-    ensures state { (s : State) → after result (on ledger.new s) ≡ connect_replied peer is_granted message.now (on ledger.old s) }
+    ensures state { (s : State) → after result (with_ledger ledger.new s) ≡ connect_replied peer is_granted message.now (with_ledger ledger.old s) }
     ensures room { LessRoom 1 0 2 1 ledger.old ledger.new }
 {
     let connection_id = if is_granted {

@@ -13,7 +13,7 @@ use Rattle.turn_client_api.proofs.AddressLemmas.{same_address-true, same_ip-true
 use Rattle.turn_client_api.specs.Calls.{active_channel, is_in_progress, is_offer_of, progress_to, without_first}
 use Rattle.turn_client_api.specs.Effect.{new_allocation}
 use Rattle.turn_client_api.specs.Grants.{channel_at, channel_peer, is_channel_of, is_permission_of, permission_progress, same_ip}
-use Rattle.turn_client_api.specs.Poll.{told, told_first, untold_in}
+use Rattle.turn_client_api.specs.Poll.{told, first_reported, unreported_in}
 use Rattle.turn_client_api.specs.declared.grant.Grant.{Grant}
 use Rattle.turn_client_api.specs.declared.grant.Grant.TheVariants.{Allocation, Permission, Channel, Connect, Offer, Connection}
 use Rattle.turn_client_api.specs.declared.grant.DataOffer.{DataOffer}
@@ -25,11 +25,11 @@ use Rattle.turn_client_grants.specs.Index.{IsIndex}
 use Rattle.turn_client_grants.specs.Keys.{found_after, is_found_by, is_open_to}
 use Rattle.turn_client_grants.specs.Lists.{first_among}
 use Rattle.turn_client_grants.specs.Table.{are_apart, changed, is_new}
-use Rattle.turn_client_grants.specs.Which.{holds}
+use Rattle.turn_client_grants.specs.GrantFilter.{holds}
 use Rattle.turn_client_grants.specs.declared.changes.Change.{Change}
 use Rattle.turn_client_grants.specs.declared.key.Key.{Key}
 use Rattle.turn_client_grants.specs.declared.key.Key.TheVariants as By
-use Rattle.turn_client_grants.specs.declared.which.Which.{Which}
+use Rattle.turn_client_grants.specs.declared.grant_filter.GrantFilter.{GrantFilter}
 use Rattle.turn_client_grants.proofs.IndexLemmas.{any-by_index, first-by_index, index-changed, index-filtered, index-pushed, index-pushed_other, index-same}
 use Rattle.turn_client_grants.proofs.SameKeys.{key-laws, key-true, key_eq}
 use Rattle.turn_client_grants.proofs.TableLemmas.{changed-same}
@@ -194,13 +194,13 @@ index-relays (a ∷ others) lifetime now rows find is =
     subst (λ (gs : List Grant). IsIndex is_found_by find gs) (append_assoc rows (new_allocation lifetime now a ∷ []) (map (new_allocation lifetime now) others))
     (index-relays others lifetime now (rows ++ new_allocation lifetime now a ∷ []) find (index-pushed_other is_found_by find rows (new_allocation lifetime now a) is (λ k. relay-keys k _)))
 
-found-told : (k : Key) (family : AddressFamily) (rows : List Grant) → filter (is_found_by k) (told_first family rows) ≡ filter (is_found_by k) rows
+found-told : (k : Key) (family : AddressFamily) (rows : List Grant) → filter (is_found_by k) (first_reported family rows) ≡ filter (is_found_by k) rows
 found-told k family [] = refl
-found-told k family (Offer offer ∷ rows) = by (is_some (untold_in family (Offer offer))) refl (found-told k family rows)
+found-told k family (Offer offer ∷ rows) = by (is_some (unreported_in family (Offer offer))) refl (found-told k family rows)
   where
-    by : (b : Bool) → is_some (untold_in family (Offer offer)) ≡ b → filter (is_found_by k) (told_first family rows) ≡ filter (is_found_by k) rows
-        → filter (is_found_by k) (told_first family (Offer offer ∷ rows)) ≡ filter (is_found_by k) (Offer offer ∷ rows)
-    by true e rest = rw (e, offer-keys k offer, offer-keys k (record offer { is_told = true })) refl
+    by : (b : Bool) → is_some (unreported_in family (Offer offer)) ≡ b → filter (is_found_by k) (first_reported family rows) ≡ filter (is_found_by k) rows
+        → filter (is_found_by k) (first_reported family (Offer offer ∷ rows)) ≡ filter (is_found_by k) (Offer offer ∷ rows)
+    by true e rest = rw (e, offer-keys k offer, offer-keys k (record offer { is_reported = true })) refl
     by false e rest = rw (e, offer-keys k offer) rest
 found-told k family (Allocation a ∷ rows) = ap (λ (gs : List Grant). cond (is_found_by k (Allocation a)) (Allocation a ∷ gs) gs) (found-told k family rows)
 found-told k family (Permission ip progress ∷ rows) = ap (λ (gs : List Grant). cond (is_found_by k (Permission ip progress)) (Permission ip progress ∷ gs) gs) (found-told k family rows)
@@ -208,7 +208,7 @@ found-told k family (Channel number peer progress ∷ rows) = ap (λ (gs : List 
 found-told k family (Connect peer ∷ rows) = ap (λ (gs : List Grant). cond (is_found_by k (Connect peer)) (Connect peer ∷ gs) gs) (found-told k family rows)
 found-told k family (Connection c ∷ rows) = ap (λ (gs : List Grant). cond (is_found_by k (Connection c)) (Connection c ∷ gs) gs) (found-told k family rows)
 
-pub index-told : (family : AddressFamily) (rows : List Grant) (find : Key → Option Grant) → IsIndex is_found_by find rows → IsIndex is_found_by find (told_first family rows)
+pub index-told : (family : AddressFamily) (rows : List Grant) (find : Key → Option Grant) → IsIndex is_found_by find rows → IsIndex is_found_by find (first_reported family rows)
 unfolding IsIndex
 index-told family rows find is k = found-told k family rows ∙ is k
 
@@ -241,7 +241,7 @@ pub index-changed_by : (change : Change) (rows : List Grant) (find then : Key �
     → ((k : Key) → then k ≡ option_map (changed change) (find k)) → IsIndex is_found_by then (map (changed change) rows)
 index-changed_by change rows find then is now = index-changed is_found_by find then rows (changed change) is now (found-changed change)
 
-pub index-without : (which : Which) (rows : List Grant) (find then : Key → Option Grant) → IsIndex is_found_by find rows
+pub index-without : (which : GrantFilter) (rows : List Grant) (find then : Key → Option Grant) → IsIndex is_found_by find rows
     → ((k : Key) → then k ≡ option_filter (λ g. not (holds which g)) (find k)) → IsIndex is_found_by then (filter (λ g. not (holds which g)) rows)
 index-without which rows find then is now = index-filtered is_found_by find then rows (λ g. not (holds which g)) is now
 
@@ -272,7 +272,7 @@ keyed-found which rows find grant is keyed k at = by (find k) (one-goes which ro
     by None h = cc
     by (Some g) h = refl
 
-pub index-replaced : (which : Which) (rows : List Grant) (find then : Key → Option Grant) (grant : Grant) → IsIndex is_found_by find rows → IsKeyed (holds which) grant rows
+pub index-replaced : (which : GrantFilter) (rows : List Grant) (find then : Key → Option Grant) (grant : Grant) → IsIndex is_found_by find rows → IsKeyed (holds which) grant rows
     → ((k : Key) → then k ≡ cond (is_found_by k grant) (Some grant) (option_filter (λ g. not (holds which g)) (find k)))
     → IsIndex is_found_by then (filter (λ g. not (holds which g)) rows ++ grant ∷ [])
 index-replaced which rows find then grant is keyed now =

@@ -11,9 +11,9 @@ use Rattle.turn_client_api.specs.declared.grant.Grant.{Grant}
 use Rattle.turn_client_api.specs.declared.grant.Grant.TheVariants.{Allocation, Permission, Channel, Connect, Offer, Connection}
 use Rattle.turn_client_api.specs.declared.grant.Progress.TheVariants.{Active}
 use Rattle.turn_client_api.specs.declared.grant.Relay.{Relay}
-use Rattle.turn_client_grants.specs.Failures.{close_in, closes_aside, events_of, set_aside}
+use Rattle.turn_client_grants.specs.Failures.{close_in, close_room_for, events_of, event_room_for}
 use Rattle.turn_client_grants.proofs.PushLemmas.{few-of}
-use Rattle.turn_client_grants.proofs.RoomLemmas.{set_aside-filtered}
+use Rattle.turn_client_grants.proofs.RoomLemmas.{event_room_for-filtered}
 use Rattle.turn_client_api.proofs.HasLemmas.{Has}
 use Rattle.std.proofs.lemmas.Bool.{and_parts, eq-eqb}
 use Rattle.turn_client_api.specs.Grants.{without}
@@ -22,12 +22,12 @@ use Rattle.turn_client_api.specs.State.{State}
 use Rattle.turn_client_api.specs.declared.grant.Purpose.{Purpose}
 use Rattle.turn_client_grants.specs.Lapsed.{channel_ended}
 use Rattle.turn_client_grants.specs.Table.{is_allocation_of, is_numbered}
-use Rattle.turn_client_grants.specs.Which.{holds}
-use Rattle.turn_client_grants.specs.declared.which.Which.{Which}
+use Rattle.turn_client_grants.specs.GrantFilter.{holds}
+use Rattle.turn_client_grants.specs.declared.grant_filter.GrantFilter.{GrantFilter}
 
 -- ---- closes
 
-pub closes-are : (which : Which) (grants : List Grant) → filter_map (close_in which) grants ≡ map (λ (c : DataConnection). c.local) (filter_map as_connection (filter (holds which) grants))
+pub closes-are : (which : GrantFilter) (grants : List Grant) → filter_map (close_in which) grants ≡ map (λ (c : DataConnection). c.local) (filter_map as_connection (filter (holds which) grants))
 unfolding close_in
 closes-are which [] = refl
 closes-are which (g ∷ others) = by (holds which g) (as_connection g) refl refl (closes-are which others)
@@ -38,14 +38,14 @@ closes-are which (g ∷ others) = by (holds which g) (as_connection g) refl refl
     by true (Some c) e f rest = rw (e, f, rest) refl
     by false found e f rest = rw e rest
 
-pub closes-left : (which : Which) (grants : List Grant) → length (filter_map (close_in which) grants) + closes_aside (filter (λ g. not (holds which g)) grants) ≤ closes_aside grants
+pub closes-left : (which : GrantFilter) (grants : List Grant) → length (filter_map (close_in which) grants) + close_room_for (filter (λ g. not (holds which g)) grants) ≤ close_room_for grants
 unfolding close_in
 closes-left which [] = omega arith
 closes-left which (g ∷ others) = by (holds which g) (as_connection g) refl refl (closes-left which others)
   where
     by : (b : Bool) (found : Option DataConnection) → holds which g ≡ b → as_connection g ≡ found
-        → length (filter_map (close_in which) others) + closes_aside (filter (λ g. not (holds which g)) others) ≤ closes_aside others
-        → length (filter_map (close_in which) (g ∷ others)) + closes_aside (filter (λ g. not (holds which g)) (g ∷ others)) ≤ closes_aside (g ∷ others)
+        → length (filter_map (close_in which) others) + close_room_for (filter (λ g. not (holds which g)) others) ≤ close_room_for others
+        → length (filter_map (close_in which) (g ∷ others)) + close_room_for (filter (λ g. not (holds which g)) (g ∷ others)) ≤ close_room_for (g ∷ others)
     by true None e f rest = rw (e, f) rest
     by true (Some c) e f rest = rw (e, f) (omega (arith, rest))
     by false None e f rest = rw (e, f) rest
@@ -116,13 +116,13 @@ ended-there number peer expiry grants has = has-any (is_channel_of number) (Chan
 pub ended-fewer : (number : ℕ) (peer : SocketAddr) (expiry : ℕ) (grants : List Grant) → Has (Channel number peer (Active expiry)) grants → length (filter (λ g. not (is_channel_of number g)) grants) < length grants
 ended-fewer number peer expiry grants has = has-fewer (is_channel_of number) (Channel number peer (Active expiry)) grants has (eq-eqb number number refl)
 
-pub ended-aside : (number : ℕ) (peer : SocketAddr) (expiry : ℕ) (grants : List Grant) → Has (Channel number peer (Active expiry)) grants → set_aside (filter (λ g. not (is_channel_of number g)) grants) + 2 ≤ set_aside grants
+pub ended-aside : (number : ℕ) (peer : SocketAddr) (expiry : ℕ) (grants : List Grant) → Has (Channel number peer (Active expiry)) grants → event_room_for (filter (λ g. not (is_channel_of number g)) grants) + 2 ≤ event_room_for grants
 ended-aside number peer expiry [] has = absurd has
-ended-aside number peer expiry (g ∷ others) has = by (is_channel_of number g) refl has (set_aside-filtered (λ h. not (is_channel_of number h)) others) (ended-aside number peer expiry others)
+ended-aside number peer expiry (g ∷ others) has = by (is_channel_of number g) refl has (event_room_for-filtered (λ h. not (is_channel_of number h)) others) (ended-aside number peer expiry others)
   where
-    by : (b : Bool) → is_channel_of number g ≡ b → (Channel number peer (Active expiry) ≡ g) ⊎ Has (Channel number peer (Active expiry)) others → set_aside (filter (λ h. not (is_channel_of number h)) others) ≤ set_aside others
-        → (Has (Channel number peer (Active expiry)) others → set_aside (filter (λ h. not (is_channel_of number h)) others) + 2 ≤ set_aside others)
-        → set_aside (filter (λ h. not (is_channel_of number h)) (g ∷ others)) + 2 ≤ set_aside (g ∷ others)
+    by : (b : Bool) → is_channel_of number g ≡ b → (Channel number peer (Active expiry) ≡ g) ⊎ Has (Channel number peer (Active expiry)) others → event_room_for (filter (λ h. not (is_channel_of number h)) others) ≤ event_room_for others
+        → (Has (Channel number peer (Active expiry)) others → event_room_for (filter (λ h. not (is_channel_of number h)) others) + 2 ≤ event_room_for others)
+        → event_room_for (filter (λ h. not (is_channel_of number h)) (g ∷ others)) + 2 ≤ event_room_for (g ∷ others)
     by true e (inl same) less rest = let two : events_of g ≡ 2 = ap events_of (sym same) in rw e (omega (arith, two, less))
     by true e (inr later) less rest = rw e (omega (arith, rest later))
     by false e (inl same) less rest = let no : false ≡ true = sym e ∙ (ap (is_channel_of number) (sym same) ∙ eq-eqb number number refl) in cc

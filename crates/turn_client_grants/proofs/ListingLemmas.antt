@@ -11,7 +11,7 @@ use Rattle.turn_client_api.specs.Requests.{listings}
 use Rattle.turn_client_api.specs.declared.grant.Listing.{Listing}
 use Rattle.turn_client_api.specs.declared.grant.Purpose.{Purpose}
 use Rattle.turn_client_grants.specs.Listed.{ArePurposesOf, has_some, with_only}
-use Rattle.turn_client_grants.specs.Which.{purposes_in}
+use Rattle.turn_client_grants.specs.GrantFilter.{purposes_in}
 use Rattle.turn_client_grants.specs.declared.purposes.Purposes.{Purposes}
 use Rattle.turn_client_grants.proofs.PushLemmas.{listings-of_other, none-there}
 

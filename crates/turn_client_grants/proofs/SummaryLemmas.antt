@@ -10,7 +10,7 @@ use Rattle.turn_types.specs.declared.family.AddressFamily.{AddressFamily}
 use Rattle.turn_client_api.specs.Due.{end_of, refresh_time}
 use Rattle.turn_client_api.specs.Grants.{as_allocation, family_of, is_of, is_of_family, is_of_request, is_request}
 use Rattle.turn_client_api.specs.LawsBodies.{lapse_of, expiry_times}
-use Rattle.turn_client_api.specs.Poll.{first_untold, untold_in}
+use Rattle.turn_client_api.specs.Poll.{first_unreported, unreported_in}
 use Rattle.turn_client_api.specs.State.{State, max_time}
 use Rattle.turn_client_api.specs.Transmit.{is_ranked, is_refresh_due, refresh_purpose}
 use Rattle.turn_client_api.specs.declared.grant.DataOffer.{DataOffer}
@@ -248,12 +248,12 @@ soonest-is now pause moment s first second low early relays =
 
 -- ---- offers
 
-none-untold : (family : AddressFamily) (gs : List Grant) → list_any is_untold gs ≡ false → filter_map (untold_in family) gs ≡ []
+none-untold : (family : AddressFamily) (gs : List Grant) → list_any is_untold gs ≡ false → filter_map (unreported_in family) gs ≡ []
 none-untold family [] none = refl
-none-untold family (Offer offer ∷ gs) none = by offer.is_told refl (is_of_family family offer.peer) refl none (none-untold family gs)
+none-untold family (Offer offer ∷ gs) none = by offer.is_reported refl (is_of_family family offer.peer) refl none (none-untold family gs)
   where
-    by : (b : Bool) → offer.is_told ≡ b → (c : Bool) → is_of_family family offer.peer ≡ c → list_any is_untold (Offer offer ∷ gs) ≡ false
-        → (list_any is_untold gs ≡ false → filter_map (untold_in family) gs ≡ []) → filter_map (untold_in family) (Offer offer ∷ gs) ≡ []
+    by : (b : Bool) → offer.is_reported ≡ b → (c : Bool) → is_of_family family offer.peer ≡ c → list_any is_untold (Offer offer ∷ gs) ≡ false
+        → (list_any is_untold gs ≡ false → filter_map (unreported_in family) gs ≡ []) → filter_map (unreported_in family) (Offer offer ∷ gs) ≡ []
     by true e true f none rest = rw (e, f) (rest (rw e at none))
     by true e false f none rest = rw (e, f) (rest (rw e at none))
     by false e c f none rest = let no : true ≡ false = rw e at none in cc
@@ -264,10 +264,10 @@ none-untold family (Connect peer ∷ gs) none = none-untold family gs none
 none-untold family (Connection c ∷ gs) none = none-untold family gs none
 
 -- nothing is reported if all offers were reported
-pub no-offer : (s : State) (relays : List Relay) → list_any is_untold s.grants ≡ false → None ≡ slice_get (filter_map (λ a. first_untold (family_of a.relayed) s) relays) 0
+pub no-offer : (s : State) (relays : List Relay) → list_any is_untold s.grants ≡ false → None ≡ slice_get (filter_map (λ a. first_unreported (family_of a.relayed) s) relays) 0
 no-offer s relays none = ap (λ (os : List DataOffer). slice_get os 0) (sym (all relays))
   where
-    all : (relays : List Relay) → filter_map (λ a. first_untold (family_of a.relayed) s) relays ≡ []
+    all : (relays : List Relay) → filter_map (λ a. first_unreported (family_of a.relayed) s) relays ≡ []
     all [] = refl
     all (a ∷ others) = rw (none-untold (family_of a.relayed) s.grants none) (all others)
 

@@ -37,7 +37,7 @@ never = 2 ^ 63
 
 -- an offer that was not reported
 abbrev pub is_untold : Grant → Bool
-is_untold (Offer offer) = not offer.is_told
+is_untold (Offer offer) = not offer.is_reported
 is_untold _ = false
 
 abbrev pub is_by_request : Origin → Bool

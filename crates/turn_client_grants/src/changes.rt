@@ -6,13 +6,13 @@ ghost use Rattle.turn_client_api.specs.Effect.{lasting, new_allocation};
 ghost use Rattle.turn_client_api.specs.Grants.{changed_allocation, is_for_allocation, is_of_family};
 ghost use Rattle.turn_client_api.specs.Requests.{listings};
 ghost use Rattle.turn_client_grants.specs.Table.{changed, unlisted};
-ghost use Rattle.turn_client_grants.specs.Which.{holds, purposes_in};
+ghost use Rattle.turn_client_grants.specs.GrantFilter.{holds, purposes_in};
 
 use crate::kind::{is_for_allocation, is_of_family};
 use crate::listed::is_for_one;
 use crate::time::{NANOS_PER_SECOND, later};
 use crate::purposes::Purposes;
-use crate::which::Which;
+use crate::grant_filter::GrantFilter;
 use std::net::SocketAddr;
 use turn_client_api::{DataConnection, Grant, Listing, Progress, Purpose, Relay};
 use turn_stun::instant::Instant;
@@ -29,7 +29,7 @@ pub enum Change {
     /// The allocation of this family expires at this time.
     Prolong(AddressFamily, Instant),
     /// The active ones of these grants expire at this time.
-    Renew(Which, Instant),
+    Renew(GrantFilter, Instant),
     /// The data connection from this local address is to be bound by this time, or is bound.
     Deadline(SocketAddr, Option<Instant>),
 }
@@ -196,7 +196,7 @@ pub(crate) fn add_allocations(
 }
 
 /// Removes these grants.
-pub(crate) fn remove(grants: &mut Vec<Grant>, which: &Which)
+pub(crate) fn remove(grants: &mut Vec<Grant>, which: &GrantFilter)
     ensures items { grants.new.items ≡ filter (λ g. not (holds which.now g)) grants.old.items }
     ensures capacity { vec_capacity grants.new ≡ vec_capacity grants.old }
     ensures len { vec_len grants.new ≤ vec_len grants.old }
@@ -205,7 +205,7 @@ pub(crate) fn remove(grants: &mut Vec<Grant>, which: &Which)
 }
 
 /// Removes the listings for these grants.
-pub(crate) fn unlist(listed: &mut Vec<Listing>, grants: &[Grant], which: &Which)
+pub(crate) fn unlist(listed: &mut Vec<Listing>, grants: &[Grant], which: &GrantFilter)
     ensures items { listed.new.items ≡ unlisted (holds which.now) grants.now listed.old.items }
     ensures capacity { vec_capacity listed.new ≡ vec_capacity listed.old }
     ensures len { vec_len listed.new ≤ vec_len listed.old }

@@ -7,11 +7,11 @@ ghost use Rattle.std.proofs.lemmas.Map.Entries.{option_filter};
 ghost use Rattle.turn_agent.specs.Agent.{same_address};
 ghost use Rattle.turn_client_grants.specs.Keys.{found_after, is_found_by, is_open_to};
 ghost use Rattle.turn_client_grants.specs.Table.{changed};
-ghost use Rattle.turn_client_grants.specs.Which.{holds};
+ghost use Rattle.turn_client_grants.specs.GrantFilter.{holds};
 
 use crate::changes::Change;
 use crate::kind::{is_channel_of, is_permission_of};
-use crate::which::Which;
+use crate::grant_filter::GrantFilter;
 use std::alloc::AllocError;
 use std::collections::HashMap;
 use std::hash::Hash;
@@ -115,7 +115,7 @@ fn set(found: &mut HashMap<Key, Grant>, key: Key, grant: &Grant)
 }
 
 /// Removes these grants from the map, except under the keys of the grant that replaces them.
-fn remove_others(found: &mut HashMap<Key, Grant>, which: &Which, grant: &Grant)
+fn remove_others(found: &mut HashMap<Key, Grant>, which: &GrantFilter, grant: &Grant)
     ensures left { (k : Key) → hash.get ⟦<Key as PartialEq>⟧.eq found.new k ≡ option_filter (λ g. is_found_by k grant.now || not (holds which.now g)) (hash.get ⟦<Key as PartialEq>⟧.eq found.old k) }
     ensures room { spare found.old ≤ spare found.new }
 {
@@ -123,7 +123,7 @@ fn remove_others(found: &mut HashMap<Key, Grant>, which: &Which, grant: &Grant)
 }
 
 /// The grant replaces these. Each of its keys leads to a grant already.
-pub(crate) fn replace(found: &mut HashMap<Key, Grant>, which: &Which, grant: &Grant)
+pub(crate) fn replace(found: &mut HashMap<Key, Grant>, which: &GrantFilter, grant: &Grant)
     requires { (k : Key) → is_found_by k grant.now ≡ true → IsSome (hash.get ⟦<Key as PartialEq>⟧.eq found.old k) }
     ensures leads { (k : Key) → hash.get ⟦<Key as PartialEq>⟧.eq found.new k ≡ cond (is_found_by k grant.now) (Some grant.now) (option_filter (λ g. not (holds which.now g)) (hash.get ⟦<Key as PartialEq>⟧.eq found.old k)) }
     ensures room { spare found.old ≤ spare found.new }
@@ -146,7 +146,7 @@ pub(crate) fn replace(found: &mut HashMap<Key, Grant>, which: &Which, grant: &Gr
 }
 
 /// Removes these grants from the map.
-pub(crate) fn remove(found: &mut HashMap<Key, Grant>, which: &Which)
+pub(crate) fn remove(found: &mut HashMap<Key, Grant>, which: &GrantFilter)
     ensures left { (k : Key) → hash.get ⟦<Key as PartialEq>⟧.eq found.new k ≡ option_filter (λ g. not (holds which.now g)) (hash.get ⟦<Key as PartialEq>⟧.eq found.old k) }
     ensures room { spare found.old ≤ spare found.new }
 {

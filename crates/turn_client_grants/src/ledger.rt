@@ -8,14 +8,14 @@ ghost use Rattle.turn_client_api.specs.Poll.{failed};
 ghost use Rattle.turn_client_api.specs.State.{State};
 ghost use Rattle.turn_client_grants.specs.Keys.{is_found_by};
 ghost use Rattle.turn_client_grants.specs.declared.key.Key.{Key};
-ghost use Rattle.turn_client_grants.specs.Ledger.{IsApart, SameRoomBut, changed_by, on};
+ghost use Rattle.turn_client_grants.specs.Ledger.{IsApart, SameRoomBut, changed_by, with_ledger};
 ghost use Rattle.turn_client_grants.specs.Table.{is_numbered};
-ghost use Rattle.turn_client_grants.specs.Which.{holds};
+ghost use Rattle.turn_client_grants.specs.GrantFilter.{holds};
 
 use crate::changes::Change;
 use crate::kind::{family_of_ip, is_same_transport};
 use crate::table::GrantTable;
-use crate::which::Which;
+use crate::grant_filter::GrantFilter;
 use std::alloc::{AllocError, Global};
 use std::collections::VecDeque;
 use std::marker::Model;
@@ -49,7 +49,7 @@ pub struct GrantLedger {
 impl Model for GrantLedger {
     ghost use Rattle.std.specs.Prelude.{◌+◌, ◌-◌, ◌≤◌};
     ghost use Rattle.std.specs.VecDeque.{deque_capacity, deque_len};
-    ghost use Rattle.turn_client_grants.specs.Failures.{IsSetAside, closes_aside, set_aside};
+    ghost use Rattle.turn_client_grants.specs.Failures.{HasRoomFor, close_room_for, event_room_for};
     ghost use Rattle.turn_client_grants.specs.Ledger.{Ledger};
 
     ghost Value = { Ledger };
@@ -62,11 +62,11 @@ impl Model for GrantLedger {
       closes = l.closes.items;
       grant_room = l.table.grant_room;
       listing_room = l.table.listing_room;
-      event_room = deque_capacity l.events - (deque_len l.events + set_aside l.table.grants);
-      close_room = deque_capacity l.closes - (deque_len l.closes + closes_aside l.table.grants);
+      event_room = deque_capacity l.events - (deque_len l.events + event_room_for l.table.grants);
+      close_room = deque_capacity l.closes - (deque_len l.closes + close_room_for l.table.grants);
     } };
 
-    ghost invariant = { λ l. IsSetAside l.table.grants (deque_len l.events) (deque_capacity l.events) (deque_len l.closes) (deque_capacity l.closes) };
+    ghost invariant = { λ l. HasRoomFor l.table.grants (deque_len l.events) (deque_capacity l.events) (deque_len l.closes) (deque_capacity l.closes) };
 }
 
 impl GrantLedger {
@@ -95,7 +95,7 @@ impl GrantLedger {
 
     /// The allocation that relays over this transport to this IP address, expired or not.
     pub fn find_allocation_to(&self, transport: TransportType, ip: IpAddr) -> Option<Relay>
-        ensures { (s : State) → result ≡ find_allocation_to transport ip (on self.now s) }
+        ensures { (s : State) → result ≡ find_allocation_to transport ip (with_ledger self.now s) }
     {
         let is_relayed = is_same_transport(transport, self.transport);
         if is_relayed {
@@ -124,7 +124,7 @@ impl GrantLedger {
         listings: usize,
         events: usize,
     ) -> Result<(), AllocError>
-        ensures same { (s : State) → on self.new s ≡ on self.old s }
+        ensures same { (s : State) → with_ledger self.new s ≡ with_ledger self.old s }
         ensures grant_room { OnOk result (grants ≤ self.new.grant_room) }
         ensures listing_room { OnOk result (listings ≤ self.new.listing_room) }
         ensures event_room { OnOk result (grants + grants + events ≤ self.new.event_room) }
@@ -149,34 +149,34 @@ impl GrantLedger {
 
 impl GrantLedger {
     /// Queues this event after all others.
-    pub fn tell(&mut self, event: TurnEvent)
+    pub fn push_event(&mut self, event: TurnEvent)
         requires { 0 < self.old.event_room }
-        ensures state { (s : State) → on self.new s ≡ wait (event ∷ []) (on self.old s) }
+        ensures state { (s : State) → with_ledger self.new s ≡ wait (event ∷ []) (with_ledger self.old s) }
         ensures room { SameRoomBut 0 1 self.old self.new }
     {
         self.events.push_back_reserved(event);
     }
 
     /// Queues this event before all others.
-    pub fn tell_first(&mut self, event: TurnEvent)
+    pub fn push_event_front(&mut self, event: TurnEvent)
         requires { 0 < self.old.event_room }
-        ensures state { (s : State) → on self.new s ≡ jump (event ∷ []) (on self.old s) }
+        ensures state { (s : State) → with_ledger self.new s ≡ jump (event ∷ []) (with_ledger self.old s) }
         ensures room { SameRoomBut 0 1 self.old self.new }
     {
         self.events.push_front_reserved(event);
     }
 
     /// Removes these grants, without an event.
-    fn remove(&mut self, which: &Which)
-        ensures state { (s : State) → on self.new s ≡ without (holds which.now) (on self.old s) }
+    fn remove(&mut self, which: &GrantFilter)
+        ensures state { (s : State) → with_ledger self.new s ≡ without (holds which.now) (with_ledger self.old s) }
         ensures room { SameRoomBut 0 0 self.old self.new }
     {
         self.table.remove(which);
     }
 
     /// Removes these grants, and queues their failures after all events.
-    fn fail_back(&mut self, which: &Which)
-        ensures state { (s : State) → on self.new s ≡ wait (failures_among (holds which.now) (on self.old s)) (without (holds which.now) (on self.old s)) }
+    fn fail_back(&mut self, which: &GrantFilter)
+        ensures state { (s : State) → with_ledger self.new s ≡ wait (failures_among (holds which.now) (with_ledger self.old s)) (without (holds which.now) (with_ledger self.old s)) }
         ensures room { SameRoomBut 0 0 self.old self.new }
     {
         self.table
@@ -185,8 +185,8 @@ impl GrantLedger {
     }
 
     /// Removes these grants, and queues their failures before all events, each before the previous one.
-    fn fail_front(&mut self, which: &Which)
-        ensures state { (s : State) → on self.new s ≡ failed (holds which.now) (on self.old s) }
+    fn fail_front(&mut self, which: &GrantFilter)
+        ensures state { (s : State) → with_ledger self.new s ≡ failed (holds which.now) (with_ledger self.old s) }
         ensures room { SameRoomBut 0 0 self.old self.new }
     {
         self.table
@@ -196,23 +196,23 @@ impl GrantLedger {
 
     /// Changes grants that keep their places.
     fn change(&mut self, change: &Change)
-        ensures state { (s : State) → on self.new s ≡ changed_by change.now (on self.old s) }
+        ensures state { (s : State) → with_ledger self.new s ≡ changed_by change.now (with_ledger self.old s) }
         ensures room { SameRoomBut 0 0 self.old self.new }
     {
         self.table.change(change);
     }
 
     /// Removes the listings for these grants, so that they may be requested again.
-    fn unlist(&mut self, which: &Which)
-        ensures state { (s : State) → on self.new s ≡ unlisted (holds which.now) (on self.old s) }
+    fn unlist(&mut self, which: &GrantFilter)
+        ensures state { (s : State) → with_ledger self.new s ≡ unlisted (holds which.now) (with_ledger self.old s) }
         ensures room { SameRoomBut 0 0 self.old self.new }
     {
         self.table.unlist(which);
     }
 
     /// The active ones of these grants expire at this time, and no request is listed for them any more.
-    fn renew(&mut self, which: &Which, expiry: Instant)
-        ensures state { (s : State) → on self.new s ≡ renewed (holds which.now) expiry (unlisted (holds which.now) (on self.old s)) }
+    fn renew(&mut self, which: &GrantFilter, expiry: Instant)
+        ensures state { (s : State) → with_ledger self.new s ≡ renewed (holds which.now) expiry (unlisted (holds which.now) (with_ledger self.old s)) }
         ensures room { SameRoomBut 0 0 self.old self.new }
     {
         self.table.unlist(which);
@@ -221,14 +221,14 @@ impl GrantLedger {
 
     /// Replaces these grants, of which there is at least one, by one grant after all others. It uses no
     /// room for grants.
-    fn replace(&mut self, which: &Which, grant: &Grant)
+    fn replace(&mut self, which: &GrantFilter, grant: &Grant)
         requires numbered { is_numbered grant.now ≡ true }
         requires apart { IsApart grant.now }
         requires there { list_any (holds which.now) self.old.grants ≡ true }
         // By each key that finds the new grant, one of these is found.
         requires keyed { (k : Key) → is_found_by k grant.now ≡ true → list_any (λ g. holds which.now g && is_found_by k g) self.old.grants ≡ true }
         requires aside { 2 ≤ self.old.event_room }
-        ensures state { (s : State) → on self.new s ≡ with_grant grant.now (without (holds which.now) (on self.old s)) }
+        ensures state { (s : State) → with_ledger self.new s ≡ with_grant grant.now (without (holds which.now) (with_ledger self.old s)) }
         ensures room { SameRoomBut 0 2 self.old self.new }
     {
         self.table.replace(which, grant);

@@ -38,11 +38,11 @@ mod reads;
 mod refresh;
 mod summary;
 mod table;
-mod told;
-mod which;
+mod allocation_events;
+mod grant_filter;
 
 pub use kind::{family_of, family_of_ip};
 pub use ledger::GrantLedger;
 pub use purposes::Purposes;
 pub use table::GrantTable;
-pub use which::Which;
+pub use grant_filter::GrantFilter;

@@ -8,12 +8,12 @@ ghost use Rattle.turn_client_api.specs.Grants.{is_for_allocation};
 ghost use Rattle.turn_client_api.specs.Requests.{listings};
 ghost use Rattle.turn_client_grants.specs.Listed.{has_some, is_for_none, purposes_at, with_only};
 ghost use Rattle.turn_client_grants.specs.Table.{unlisted};
-ghost use Rattle.turn_client_grants.specs.Which.{holds, purposes_in};
+ghost use Rattle.turn_client_grants.specs.GrantFilter.{holds, purposes_in};
 
 use crate::changes;
 use crate::listed::has_id;
 use crate::purposes::Purposes;
-use crate::which::Which;
+use crate::grant_filter::GrantFilter;
 use std::alloc::{AllocError, Global};
 use std::collections::HashMap;
 use std::marker::Model;
@@ -114,7 +114,7 @@ impl Listings {
     }
 
     /// Removes the listings for these grants.
-    pub(crate) fn unlist(&mut self, grants: &[Grant], which: &Which)
+    pub(crate) fn unlist(&mut self, grants: &[Grant], which: &GrantFilter)
         ensures items { self.new.items ≡ unlisted (holds which.now) grants.now self.old.items }
         ensures room { self.old.room ≤ self.new.room }
     {
@@ -144,7 +144,7 @@ fn put(by_id: &mut HashMap<TransactionId, Purposes>, id: TransactionId, purposes
 }
 
 /// Removes the purposes for these grants.
-fn remove_for(by_id: &mut HashMap<TransactionId, Purposes>, grants: &[Grant], which: &Which)
+fn remove_for(by_id: &mut HashMap<TransactionId, Purposes>, grants: &[Grant], which: &GrantFilter)
     ensures left { (k : ℕ) → purposes_at by_id.new k ≡ option_map (with_only (is_for_none (holds which.now) grants.now)) (purposes_at by_id.old k) }
     ensures room { spare by_id.old ≤ spare by_id.new }
 {

@@ -159,7 +159,7 @@ fn next_refresh(grants: &[Grant], listed: &[Listing]) -> Instant
 fn is_untold(grant: &Grant) -> bool
     ensures { result ≡ is_untold grant.now }
 {
-    matches!(grant, Grant::Offer(offer) if !offer.is_told)
+    matches!(grant, Grant::Offer(offer) if !offer.is_reported)
 }
 
 /// Whether the grant is an offer that the server made by a request.

@@ -12,13 +12,13 @@ ghost use Rattle.std.specs.VecDeque.{deque_capacity, deque_len};
 ghost use Rattle.turn_client_api.specs.Calls.{is_offer_of, without_first};
 ghost use Rattle.turn_client_api.specs.Effect.{new_allocation};
 ghost use Rattle.turn_client_api.specs.Grants.{as_allocation, is_for_allocation};
-ghost use Rattle.turn_client_api.specs.Poll.{told_first};
+ghost use Rattle.turn_client_api.specs.Poll.{first_reported};
 ghost use Rattle.turn_client_api.specs.Requests.{listings};
 ghost use Rattle.turn_client_grants.specs.Failures.{close_in, failure_in};
 ghost use Rattle.turn_client_grants.specs.Keys.{is_found_by};
 ghost use Rattle.turn_client_grants.specs.declared.key.Key.{Key};
 ghost use Rattle.turn_client_grants.specs.Table.{are_new, changed, is_new, is_numbered, unlisted};
-ghost use Rattle.turn_client_grants.specs.Which.{holds, purposes_in};
+ghost use Rattle.turn_client_grants.specs.GrantFilter.{holds, purposes_in};
 
 use crate::changes::{self, Change};
 use crate::failures::{push_closes_back, push_failures_back, push_failures_front};
@@ -27,7 +27,7 @@ use crate::listings::Listings;
 use crate::offers;
 use crate::purposes::Purposes;
 use crate::summary::{Summary, summary_of};
-use crate::which::Which;
+use crate::grant_filter::GrantFilter;
 use std::alloc::{AllocError, Global};
 use std::collections::{HashMap, VecDeque};
 use std::marker::Model;
@@ -171,7 +171,7 @@ impl GrantTable {
         &self,
         events: &mut VecDeque<TurnEvent>,
         transport: TransportType,
-        which: &Which,
+        which: &GrantFilter,
     )
         requires { deque_len events.old + length (filter_map (failure_in transport which.now) self.now.grants) ≤ deque_capacity events.old }
         ensures items { events.new.items ≡ events.old.items ++ filter_map (failure_in transport which.now) self.now.grants }
@@ -186,7 +186,7 @@ impl GrantTable {
         &self,
         events: &mut VecDeque<TurnEvent>,
         transport: TransportType,
-        which: &Which,
+        which: &GrantFilter,
     )
         requires { deque_len events.old + length (filter_map (failure_in transport which.now) self.now.grants) ≤ deque_capacity events.old }
         ensures items { events.new.items ≡ reverse (filter_map (failure_in transport which.now) self.now.grants) ++ events.old.items }
@@ -198,7 +198,7 @@ impl GrantTable {
 
     /// Queues the local addresses of the data connections among these grants after those to be closed
     /// already.
-    pub(crate) fn closes_back(&self, closes: &mut VecDeque<SocketAddr>, which: &Which)
+    pub(crate) fn closes_back(&self, closes: &mut VecDeque<SocketAddr>, which: &GrantFilter)
         requires { deque_len closes.old + length (filter_map (close_in which.now) self.now.grants) ≤ deque_capacity closes.old }
         ensures items { closes.new.items ≡ closes.old.items ++ filter_map (close_in which.now) self.now.grants }
         ensures capacity { deque_capacity closes.new ≡ deque_capacity closes.old }
@@ -208,7 +208,7 @@ impl GrantTable {
     }
 
     /// Removes the listings for these grants.
-    pub(crate) fn unlist(&mut self, which: &Which)
+    pub(crate) fn unlist(&mut self, which: &GrantFilter)
         ensures grants { self.new.grants ≡ self.old.grants }
         ensures listed { self.new.listed ≡ unlisted (holds which.now) self.old.grants self.old.listed }
         ensures grant_room { self.new.grant_room ≡ self.old.grant_room }
@@ -230,7 +230,7 @@ impl GrantTable {
     }
 
     /// Removes these grants, and the listings for them.
-    pub(crate) fn remove(&mut self, which: &Which)
+    pub(crate) fn remove(&mut self, which: &GrantFilter)
         ensures grants { self.new.grants ≡ filter (λ g. not (holds which.now g)) self.old.grants }
         ensures listed { self.new.listed ≡ unlisted (holds which.now) self.old.grants self.old.listed }
         ensures grant_room { self.old.grant_room ≤ self.new.grant_room }
@@ -243,13 +243,13 @@ impl GrantTable {
     }
 
     /// Marks the first unreported offer of this family as reported.
-    pub(crate) fn tell_offer(&mut self, family: AddressFamily)
-        ensures grants { self.new.grants ≡ told_first family self.old.grants }
+    pub(crate) fn report_offer(&mut self, family: AddressFamily)
+        ensures grants { self.new.grants ≡ first_reported family self.old.grants }
         ensures listed { self.new.listed ≡ self.old.listed }
         ensures grant_room { self.new.grant_room ≡ self.old.grant_room }
         ensures listing_room { self.new.listing_room ≡ self.old.listing_room }
     {
-        offers::tell_first(&mut self.grants, family);
+        offers::report_first(&mut self.grants, family);
         self.summary = summary_of(self.grants.as_slice(), self.listed.as_slice());
     }
 
@@ -265,7 +265,7 @@ impl GrantTable {
     }
 
     /// Replaces these grants by one grant, which is no allocation, after all others.
-    pub(crate) fn replace(&mut self, which: &Which, grant: &Grant)
+    pub(crate) fn replace(&mut self, which: &GrantFilter, grant: &Grant)
         requires numbered { is_numbered grant.now ≡ true }
         requires apart { as_allocation grant.now ≡ None }
         requires there { list_any (holds which.now) self.old.grants ≡ true }

@@ -6,7 +6,7 @@ use Rattle.turn_client_api.specs.State.{State}
 use Rattle.turn_client_api.specs.Payloads.{Outcome, is_message}
 use Rattle.turn_client_api.specs.Handled.{Input, handled, processed}
 use Rattle.turn_client_api.specs.LawsHandled.{ProcessesInputs, TakesInput, InputsLead}
-use Rattle.turn_client_api.specs.LawsReplies.{IsHeeded}
+use Rattle.turn_client_api.specs.LawsReplies.{IsReplyAccepted}
 use Rattle.turn_client_api.specs.LawsStates.{HoldsAtFirst, StaysInCalls}
 use Rattle.turn_client_api.specs.LawsSteps.{IsCounted, KeepsRealm}
 use Rattle.turn_client_api.specs.Retry.{max_challenges}
@@ -55,10 +55,10 @@ challenge-counts one c =
 -- ---- how many in sequence
 
 abbrev IsHeededIn : Input → Type 0
-IsHeededIn one = ((processed one).1.challenges < one.before.challenges) × (is_message one.bytes ≡ true) × IsHeeded one.bytes one.moment one.before
+IsHeededIn one = ((processed one).1.challenges < one.before.challenges) × (is_message one.bytes ≡ true) × IsReplyAccepted one.bytes one.moment one.before
 
 abbrev IsWellHeeded : Input → Type 0
-IsWellHeeded one = (is_message one.bytes ≡ true) × IsHeeded one.bytes one.moment one.before
+IsWellHeeded one = (is_message one.bytes ≡ true) × IsReplyAccepted one.bytes one.moment one.before
 
 -- an input makes the count no less, or is accepted
 turn-grows : (one : Input) → (one.before.challenges ≤ (processed one).1.challenges) ⊎ IsHeededIn one
@@ -75,7 +75,7 @@ turn-grows one = by (ltb (processed one).1.challenges n) refl
     did fewer (inr heeded) = inr (fewer, heeded.0, heeded.1)
 
     by : (b : Bool) → ltb (processed one).1.challenges n ≡ b → (n ≤ (processed one).1.challenges) ⊎ IsHeededIn one
-    by true e = let fewer = ltb-true (processed one).1.challenges n e in did fewer (turn-brings (λ s. s.challenges < n) IsWellHeeded (brought (λ s. s.challenges < n) IsHeeded (bringing n)) one fewer)
+    by true e = let fewer = ltb-true (processed one).1.challenges n e in did fewer (turn-brings (λ s. s.challenges < n) IsWellHeeded (brought (λ s. s.challenges < n) IsReplyAccepted (bringing n)) one fewer)
     by false e = inl (ltb-false (processed one).1.challenges n e)
 
 -- the count grows by each answer, or one of these inputs is accepted

@@ -24,7 +24,7 @@ use Rattle.turn_client_api.specs.declared.state.Phase.TheVariants.{New, Requesti
 use Rattle.turn_client_api.specs.declared.state.Mode.{Mode}
 use Rattle.turn_client_api.specs.declared.state.Mode.TheVariants.{Control, Waiting, Bound, Broken}
 use Rattle.turn_client_api.specs.declared.state.Stream.{Stream}
-use Rattle.turn_client_api.specs.Connections.{attempt_indicated, attempt_requested, bind_again, bind_answered, bind_step, connection_at, is_connected, is_heeded, not_bound}
+use Rattle.turn_client_api.specs.Connections.{attempt_indicated, attempt_requested, bind_again, bind_answered, bind_step, connection_at, is_connected, accepts_attempt, not_bound}
 use Rattle.turn_client_api.specs.Effect.{allocate_denied, allocate_granted, closed, ended, fail_all, family_not_supported, has_code, in_phase}
 use Rattle.turn_client_api.specs.Grants.{find_allocation_to, is_connection_from, is_for_allocation, purposes_of, unlisted, wait}
 use Rattle.turn_client_api.specs.Handled.{Input, processed}
@@ -156,7 +156,7 @@ indicated-listed message s = by (connection_id_in message) refl (peer_in message
     heeded_if false t k = tt
 
     by : (i : Option ℕ) → connection_id_in message ≡ i → (p : Option SocketAddr) → peer_in message ≡ p → IfSome (attempt_indicated message s) (λ t. t.listed ≡ s.listed)
-    by (Some id) e (Some peer) f = rw (e, f) (heeded_if (is_heeded peer s) _ refl)
+    by (Some id) e (Some peer) f = rw (e, f) (heeded_if (accepts_attempt peer s) _ refl)
     by (Some id) e None f = rw (e, f) tt
     by None e p f = rw e tt
 

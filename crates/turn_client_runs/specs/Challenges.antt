@@ -8,7 +8,7 @@ use Rattle.turn_client_api.specs.Retry.{max_challenges}
 use Rattle.turn_client_api.specs.Payloads.{is_message}
 use Rattle.turn_client_api.specs.Handled.{Input, processed}
 use Rattle.turn_client_api.specs.LawsHandled.{IsOverControl}
-use Rattle.turn_client_api.specs.LawsReplies.{IsHeeded}
+use Rattle.turn_client_api.specs.LawsReplies.{IsReplyAccepted}
 use Rattle.turn_client_api.specs.LawsSteps.{IsCounted}
 use Rattle.turn_client_api.specs.declared.call.Call.{Call}
 use Rattle.turn_client_runs.specs.Inputs.{IsAmong, handled_in}
@@ -40,7 +40,7 @@ answers_in turns = length (filter is_answer turns)
 abbrev pub IsHeededAmong : List Input → Type 0
 IsHeededAmong turns =
     IsAmong (λ one. ((processed one).1.challenges < one.before.challenges)
-    × (is_message one.bytes ≡ true) × IsHeeded one.bytes one.moment one.before) turns
+    × (is_message one.bytes ≡ true) × IsReplyAccepted one.bytes one.moment one.before) turns
 
 -- each challenge among the inputs of the calls is counted if it is answered
 abbrev pub CountsAll : State → List Call → Type 0

@@ -207,11 +207,11 @@ fn event_of(relays: TransportType, want: &Want<'_>) -> Option<TurnEvent> {
 /// Whether the datagram has the expected result.
 fn hears(client: &mut Client, now: u32, bytes: &[u8], want: &Want<'_>) -> Result<bool, AllocError> {
     let told = client.datagram(bytes, at(now))?;
-    Ok(is_told(&told, want))
+    Ok(is_reported(&told, want))
 }
 
 /// Whether the result is the expected one.
-fn is_told(told: &Told, want: &Want<'_>) -> bool {
+fn is_reported(told: &Told, want: &Want<'_>) -> bool {
     match told {
         Told::Handled => matches!(want, Want::Handled),
         Told::Ignored => matches!(want, Want::Ignored),

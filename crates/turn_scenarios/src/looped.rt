@@ -193,7 +193,7 @@ impl<'a> Looped<'a> {
 fn is_wanted(task: &Task, want: Option<Want<'_>>) -> bool {
     match (task, want) {
         (Task::Send(_), Some(Want::Sent)) => true,
-        (Task::Event(event), Some(want)) => is_told(*event, want),
+        (Task::Event(event), Some(want)) => is_reported(*event, want),
         (Task::Payload(given), Some(Want::Data(place, bytes))) => {
             given.peer == place.address() && given.data() == bytes
         }
@@ -203,7 +203,7 @@ fn is_wanted(task: &Task, want: Option<Want<'_>>) -> bool {
 }
 
 /// Whether the event is the expected one.
-fn is_told(event: TurnEvent, want: Want<'_>) -> bool {
+fn is_reported(event: TurnEvent, want: Want<'_>) -> bool {
     let udp = TransportType::Udp;
     match want {
         Want::Allocated(place) => event == TurnEvent::AllocationCreated(udp, place.address()),

@@ -253,15 +253,15 @@ fn take<C: TurnClientApi>(client: &mut C, step: &Step<'_>) -> Taken {
 
 /// Whether a permission was reported, now or before.
 fn tells_permission<C: TurnClientApi>(client: &mut C, was_told: bool) -> bool {
-    let mut is_told = was_told;
+    let mut is_reported = was_told;
     for _ in 0..8 {
         match client.poll_event() {
-            Some(TurnEvent::PermissionCreated(_, _)) => is_told = true,
+            Some(TurnEvent::PermissionCreated(_, _)) => is_reported = true,
             Some(_) => {}
             None => break,
         }
     }
-    is_told
+    is_reported
 }
 
 /// Whether a frame for this end is dropped unread.
@@ -272,7 +272,7 @@ fn drops_frames<C: TurnClientApi>(client: &mut C, end: End) -> bool {
 
 /// Whether the client has ended, and has reported what is active, and this stream is broken, if any is.
 fn has_ended<C: TurnClientApi>(client: &mut C, broken: Option<End>, was_told: bool) -> bool {
-    let is_told = tells_permission(client, was_told);
+    let is_reported = tells_permission(client, was_told);
     let has_active_permission = client.have_permission(TransportType::Tcp, PEER.ip());
     let is_closed = matches!(client.poll(at(300)), Ok(TurnPollRet::Closed));
     let is_refused = matches!(
@@ -283,7 +283,7 @@ fn has_ended<C: TurnClientApi>(client: &mut C, broken: Option<End>, was_told: bo
         Some(end) => drops_frames(client, end),
         None => !drops_frames(client, End::Control),
     };
-    is_told == has_active_permission && is_closed && is_refused && is_broken
+    is_reported == has_active_permission && is_closed && is_refused && is_broken
 }
 
 /// Whether each step has the expected result, on a second try at the latest, or leaves a client that has ended.

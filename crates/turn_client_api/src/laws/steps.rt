@@ -6,7 +6,7 @@ ghost use Rattle.turn_client_api.specs.Due.{has_reply};
 ghost use Rattle.turn_client_api.specs.Poll.{poll_step};
 ghost use Rattle.turn_client_api.specs.Steps.{Call, Leaves};
 ghost use Rattle.turn_client_api.specs.LawsInputs.{IsBroughtBy};
-ghost use Rattle.turn_client_api.specs.LawsReplies.{IsHeeded};
+ghost use Rattle.turn_client_api.specs.LawsReplies.{IsReplyAccepted};
 ghost use Rattle.turn_client_api.specs.LawsSteps.{StaysClosed, KeepsChallengeLimit, KeepsRealm, CountsChallenge, GoesOn};
 ghost use Rattle.turn_client_api.specs.declared.poll.TurnPollRet.TheVariants as Do;
 
@@ -24,7 +24,7 @@ pub fn stays_closed()
 pub fn challenges_are_counted()
     ensures stays { (call : Call) (s t : State) → Leaves call s t → KeepsChallengeLimit s t }
     ensures each { (message : List ℕ) (now : ℕ) (s : State) → CountsChallenge message now s }
-    ensures falls { (call : Call) (s t : State) → Leaves call s t → t.challenges < s.challenges → IsBroughtBy IsHeeded call s }
+    ensures falls { (call : Call) (s t : State) → Leaves call s t → t.challenges < s.challenges → IsBroughtBy IsReplyAccepted call s }
 {}
 
 /// Realm and algorithm, once held, never change (RFC 8489, section 9.2.5: a later challenge brings a

@@ -8,12 +8,12 @@ ghost use Rattle.turn_client_api.specs.Grants.{is_channel_of, is_permission_of};
 ghost use Rattle.turn_client_api.specs.State.{State};
 ghost use Rattle.turn_client_grants.specs.Answered.{permission_granted};
 ghost use Rattle.turn_client_grants.specs.Keys.{is_open_to};
-ghost use Rattle.turn_client_grants.specs.Ledger.{SameRoomBut, on};
+ghost use Rattle.turn_client_grants.specs.Ledger.{SameRoomBut, with_ledger};
 ghost use Rattle.turn_client_grants.specs.Table.{is_numbered};
 
 use crate::ledger::GrantLedger;
 use crate::time::later;
-use crate::which::Which;
+use crate::grant_filter::GrantFilter;
 use std::net::{IpAddr, SocketAddr};
 use turn_client_api::{Grant, Progress, Purpose, TurnEvent};
 use turn_stun::instant::Instant;
@@ -34,7 +34,7 @@ impl GrantLedger {
     /// what is granted replaces what was pending.
     pub fn permission_answered(&mut self, ip: IpAddr, is_granted: bool, now: Instant)
         requires { 3 ≤ self.old.event_room }
-        ensures state { (s : State) → on self.new s ≡ permission_answered ip is_granted now (on self.old s) }
+        ensures state { (s : State) → with_ledger self.new s ≡ permission_answered ip is_granted now (with_ledger self.old s) }
         ensures room { SameRoomBut 0 3 self.old self.new }
     {
         let Some(progress) = self.table.permission_state(ip) else {
@@ -51,50 +51,50 @@ impl GrantLedger {
     fn pending_permission_answered(&mut self, ip: IpAddr, is_granted: bool, now: Instant)
         requires there { list_any (is_permission_of ip) self.old.grants ≡ true }
         requires event_room { 3 ≤ self.old.event_room }
-        ensures state { (s : State) → on self.new s ≡ pending_permission_answered ip is_granted now (on self.old s) }
+        ensures state { (s : State) → with_ledger self.new s ≡ pending_permission_answered ip is_granted now (with_ledger self.old s) }
         ensures room { SameRoomBut 0 3 self.old self.new }
     {
         let transport = self.transport();
         if is_granted {
             return self.permission_granted(ip, later(now, PERMISSION_SECONDS));
         }
-        self.remove(&Which::PermissionOf(ip));
-        self.tell(TurnEvent::PermissionCreateFailed(transport, ip));
+        self.remove(&GrantFilter::PermissionOf(ip));
+        self.push_event(TurnEvent::PermissionCreateFailed(transport, ip));
     }
 
     /// A pending permission is active from now on, after all other grants.
     fn permission_granted(&mut self, ip: IpAddr, expiry: Instant)
         requires there { list_any (is_permission_of ip) self.old.grants ≡ true }
         requires event_room { 3 ≤ self.old.event_room }
-        ensures state { (s : State) → on self.new s ≡ permission_granted ip expiry (on self.old s) }
+        ensures state { (s : State) → with_ledger self.new s ≡ permission_granted ip expiry (with_ledger self.old s) }
         ensures room { SameRoomBut 0 3 self.old self.new }
     {
         let transport = self.transport();
         self.replace(
-            &Which::PermissionOf(ip),
+            &GrantFilter::PermissionOf(ip),
             &Grant::Permission(ip, Progress::Active(expiry)),
         );
-        self.tell(TurnEvent::PermissionCreated(transport, ip));
+        self.push_event(TurnEvent::PermissionCreated(transport, ip));
     }
 
     /// The server answered for an active permission that is refreshed.
     fn active_permission_answered(&mut self, ip: IpAddr, is_granted: bool, now: Instant)
         requires { 3 ≤ self.old.event_room }
-        ensures state { (s : State) → on self.new s ≡ active_permission_answered ip is_granted now (on self.old s) }
+        ensures state { (s : State) → with_ledger self.new s ≡ active_permission_answered ip is_granted now (with_ledger self.old s) }
         ensures room { SameRoomBut 0 3 self.old self.new }
     {
         let transport = self.transport();
         if is_granted {
-            return self.renew(&Which::PermissionOf(ip), later(now, PERMISSION_SECONDS));
+            return self.renew(&GrantFilter::PermissionOf(ip), later(now, PERMISSION_SECONDS));
         }
-        self.remove(&Which::PermissionOf(ip));
-        self.tell_first(TurnEvent::PermissionCreateFailed(transport, ip));
+        self.remove(&GrantFilter::PermissionOf(ip));
+        self.push_event_front(TurnEvent::PermissionCreateFailed(transport, ip));
     }
 
     /// The server answered for the permission that the purpose names, if it names one.
     fn permission_answered_for(&mut self, purpose: &Purpose, is_granted: bool, now: Instant)
         requires { 3 ≤ self.old.event_room }
-        ensures state { (s : State) → on self.new s ≡ permission_answered_for is_granted now (on self.old s) purpose.now }
+        ensures state { (s : State) → with_ledger self.new s ≡ permission_answered_for is_granted now (with_ledger self.old s) purpose.now }
         ensures room { SameRoomBut 0 3 self.old self.new }
     {
         match purpose {
@@ -115,7 +115,7 @@ impl GrantLedger {
         now: Instant,
     )
         requires { 3 ≤ self.old.event_room }
-        ensures state { (s : State) → on self.new s ≡ fold (permission_answered_for is_granted now) (on self.old s) (option_to_list purpose.now) }
+        ensures state { (s : State) → with_ledger self.new s ≡ fold (permission_answered_for is_granted now) (with_ledger self.old s) (option_to_list purpose.now) }
         ensures room { SameRoomBut 0 3 self.old self.new }
     {
         match purpose {
@@ -127,7 +127,7 @@ impl GrantLedger {
     /// The server answered for the permissions that the request with this ID was made for.
     fn permissions_answered(&mut self, id: TransactionId, is_granted: bool, now: Instant)
         requires { 6 ≤ self.old.event_room }
-        ensures state { (s : State) → on self.new s ≡ listed_permissions_answered id is_granted now (on self.old s) }
+        ensures state { (s : State) → with_ledger self.new s ≡ listed_permissions_answered id is_granted now (with_ledger self.old s) }
         ensures room { SameRoomBut 0 6 self.old self.new }
     {
         let purposes = self.table.purposes_of(id);
@@ -146,7 +146,7 @@ impl GrantLedger {
         now: Instant,
     )
         requires { 9 ≤ self.old.event_room }
-        ensures state { (s : State) → on self.new s ≡ channel_answered number id is_granted now (on self.old s) }
+        ensures state { (s : State) → with_ledger self.new s ≡ channel_answered number id is_granted now (with_ledger self.old s) }
         ensures room { SameRoomBut 0 9 self.old self.new }
     {
         let Some(peer) = self.table.channel_owner(number) else {
@@ -176,7 +176,7 @@ impl GrantLedger {
         requires there { list_any (λ g. is_channel_of number g && is_open_to peer g) self.old.grants ≡ true }
         requires numbered { is_numbered (Grant.Channel number peer Progress.Pending) ≡ true }
         requires event_room { 9 ≤ self.old.event_room }
-        ensures state { (s : State) → on self.new s ≡ pending_channel_answered number peer id is_granted now (on self.old s) }
+        ensures state { (s : State) → with_ledger self.new s ≡ pending_channel_answered number peer id is_granted now (with_ledger self.old s) }
         ensures room { SameRoomBut 0 9 self.old self.new }
     {
         if is_granted {
@@ -190,29 +190,29 @@ impl GrantLedger {
         requires there { list_any (λ g. is_channel_of number g && is_open_to peer g) self.old.grants ≡ true }
         requires numbered { is_numbered (Grant.Channel number peer Progress.Pending) ≡ true }
         requires event_room { 9 ≤ self.old.event_room }
-        ensures state { (s : State) → on self.new s ≡ pending_channel_answered number peer id true now (on self.old s) }
+        ensures state { (s : State) → with_ledger self.new s ≡ pending_channel_answered number peer id true now (with_ledger self.old s) }
         ensures room { SameRoomBut 0 9 self.old self.new }
     {
         let transport = self.transport();
         self.permissions_answered(id, true, now);
         self.replace(
-            &Which::ChannelOf(number),
+            &GrantFilter::ChannelOf(number),
             &Grant::Channel(number, peer, Progress::Active(later(now, CHANNEL_SECONDS))),
         );
-        self.tell(TurnEvent::ChannelCreated(transport, peer));
+        self.push_event(TurnEvent::ChannelCreated(transport, peer));
     }
 
     /// A pending channel is refused, and so is the permission that was requested with it.
     fn channel_refused(&mut self, number: u16, peer: SocketAddr, id: TransactionId)
         requires { 9 ≤ self.old.event_room }
-        ensures state { (s : State) (now : ℕ) → on self.new s ≡ pending_channel_answered number peer id false now (on self.old s) }
+        ensures state { (s : State) (now : ℕ) → with_ledger self.new s ≡ pending_channel_answered number peer id false now (with_ledger self.old s) }
         ensures room { SameRoomBut 0 9 self.old self.new }
     {
         let transport = self.transport();
         let purposes = self.table.purposes_of(id);
-        self.remove(&Which::ChannelOf(number));
-        self.tell(TurnEvent::ChannelCreateFailed(transport, peer));
-        self.fail_back(&Which::PendingPermissionsOf(purposes));
+        self.remove(&GrantFilter::ChannelOf(number));
+        self.push_event(TurnEvent::ChannelCreateFailed(transport, peer));
+        self.fail_back(&GrantFilter::PendingPermissionsOf(purposes));
     }
 
     /// The server answered for an active channel to the peer that is refreshed.
@@ -227,21 +227,21 @@ impl GrantLedger {
         requires there { list_any (is_channel_of number) self.old.grants ≡ true }
         requires numbered { is_numbered (Grant.Channel number peer Progress.Pending) ≡ true }
         requires event_room { 9 ≤ self.old.event_room }
-        ensures state { (s : State) → on self.new s ≡ active_channel_answered number peer expiry is_granted now (on self.old s) }
+        ensures state { (s : State) → with_ledger self.new s ≡ active_channel_answered number peer expiry is_granted now (with_ledger self.old s) }
         ensures room { SameRoomBut 0 9 self.old self.new }
     {
         let transport = self.transport();
         if is_granted {
-            return self.renew(&Which::ChannelOf(number), later(now, CHANNEL_SECONDS));
+            return self.renew(&GrantFilter::ChannelOf(number), later(now, CHANNEL_SECONDS));
         }
         self.replace(
-            &Which::ChannelOf(number),
+            &GrantFilter::ChannelOf(number),
             &Grant::Channel(
                 number,
                 peer,
                 Progress::Reserved(later(expiry, RESERVED_SECONDS)),
             ),
         );
-        self.tell(TurnEvent::ChannelCreateFailed(transport, peer));
+        self.push_event(TurnEvent::ChannelCreateFailed(transport, peer));
     }
 }

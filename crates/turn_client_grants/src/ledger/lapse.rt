@@ -6,18 +6,18 @@ ghost use Rattle.std.specs.Prelude.{◌≡◌, ◌≤◌, ◌<◌, ◌+◌, None
 ghost use Rattle.turn_client_api.specs.Grants.{is_channel_of};
 ghost use Rattle.turn_client_api.specs.Poll.{timed_out_purposes, allocation_expires, lapsed, lapsed_allocation, lapsed_in, last_channel_lapsed, unbound};
 ghost use Rattle.turn_client_api.specs.State.{State};
-ghost use Rattle.turn_client_grants.specs.Failures.{set_aside};
+ghost use Rattle.turn_client_grants.specs.Failures.{event_room_for};
 ghost use Rattle.turn_client_grants.specs.Lapsed.{channel_ended, lapsed_each};
-ghost use Rattle.turn_client_grants.specs.Ledger.{SameRoomBut, on};
+ghost use Rattle.turn_client_grants.specs.Ledger.{SameRoomBut, with_ledger};
 ghost use Rattle.turn_client_grants.specs.Table.{is_numbered};
-ghost use Rattle.turn_client_grants.specs.Which.{holds, purposes_in};
+ghost use Rattle.turn_client_grants.specs.GrantFilter.{holds, purposes_in};
 
 use crate::kind::family_of;
 use crate::ledger::GrantLedger;
 use crate::ledger::answer::RESERVED_SECONDS;
 use crate::time::later;
 use crate::purposes::Purposes;
-use crate::which::Which;
+use crate::grant_filter::GrantFilter;
 use std::net::SocketAddr;
 use turn_client_api::{Grant, Progress, Relay, TurnEvent};
 use turn_stun::instant::Instant;
@@ -28,7 +28,7 @@ impl GrantLedger {
     /// Processes all that expires at this time or earlier, allocation by allocation in the order in which
     /// the server granted them, and the time-out of this request, if there is one.
     pub fn lapse(&mut self, given: Option<TransactionId>, now: Instant)
-        ensures state { (s : State) → on self.new s ≡ lapsed given now (on self.old s) }
+        ensures state { (s : State) → with_ledger self.new s ≡ lapsed given now (with_ledger self.old s) }
         ensures room { SameRoomBut 0 0 self.old self.new }
     {
         match given {
@@ -40,7 +40,7 @@ impl GrantLedger {
     /// Processes all that expires at this time or earlier, if no request timed out. Before the earliest
     /// time at which a grant expires that is nothing.
     fn lapse_by_time(&mut self, now: Instant)
-        ensures state { (s : State) → on self.new s ≡ lapsed None now (on self.old s) }
+        ensures state { (s : State) → with_ledger self.new s ≡ lapsed None now (with_ledger self.old s) }
         ensures room { SameRoomBut 0 0 self.old self.new }
     {
         let is_early = self.table.is_early(now);
@@ -52,7 +52,7 @@ impl GrantLedger {
 
     /// The same, whether or not something is due.
     fn lapse_each(&mut self, given: Option<TransactionId>, now: Instant)
-        ensures state { (s : State) → on self.new s ≡ lapsed given now (on self.old s) }
+        ensures state { (s : State) → with_ledger self.new s ≡ lapsed given now (with_ledger self.old s) }
         ensures room { SameRoomBut 0 0 self.old self.new }
     {
         let purposes = self.timed_out_purposes(&given);
@@ -64,7 +64,7 @@ impl GrantLedger {
 
     /// The purposes of the request that timed out, if there is one.
     fn timed_out_purposes(&self, given: &Option<TransactionId>) -> Purposes
-        ensures { (s : State) → purposes_in result ≡ timed_out_purposes given.now (on self.now s) }
+        ensures { (s : State) → purposes_in result ≡ timed_out_purposes given.now (with_ledger self.now s) }
     {
         match given {
             Some(id) => self.table.purposes_of(*id),
@@ -80,7 +80,7 @@ impl GrantLedger {
         purposes: &Purposes,
         now: Instant,
     )
-        ensures state { (s : State) → on self.new s ≡ lapsed_each given.now (purposes_in purposes.now) now (on self.old s) (option_to_list relay.now) }
+        ensures state { (s : State) → with_ledger self.new s ≡ lapsed_each given.now (purposes_in purposes.now) now (with_ledger self.old s) (option_to_list relay.now) }
         ensures room { SameRoomBut 0 0 self.old self.new }
     {
         match relay {
@@ -97,12 +97,12 @@ impl GrantLedger {
         purposes: &Purposes,
         now: Instant,
     )
-        ensures state { (s : State) → on self.new s ≡ lapsed_allocation given.now (purposes_in purposes.now) now (on self.old s) relay.now }
+        ensures state { (s : State) → with_ledger self.new s ≡ lapsed_allocation given.now (purposes_in purposes.now) now (with_ledger self.old s) relay.now }
         ensures room { SameRoomBut 0 0 self.old self.new }
     {
         let goes = self.allocation_expires(relay, purposes, now);
         if goes {
-            return self.remove(&Which::OfFamily(family_of(relay.relayed)));
+            return self.remove(&GrantFilter::OfFamily(family_of(relay.relayed)));
         }
         self.lapse_in(family_of(relay.relayed), given, purposes, now);
     }
@@ -110,7 +110,7 @@ impl GrantLedger {
     /// Whether the allocation is removed: at its expiry, unless it is marked as expired and a request for
     /// it still awaits its response.
     fn allocation_expires(&self, relay: &Relay, purposes: &Purposes, now: Instant) -> bool
-        ensures { (s : State) → result ≡ allocation_expires (purposes_in purposes.now) now (on self.now s) relay.now }
+        ensures { (s : State) → result ≡ allocation_expires (purposes_in purposes.now) now (with_ledger self.now s) relay.now }
     {
         let grant = Grant::Allocation(*relay);
         relay.expiry <= now
@@ -125,24 +125,24 @@ impl GrantLedger {
         purposes: &Purposes,
         now: Instant,
     )
-        ensures state { (s : State) → on self.new s ≡ lapsed_in family given.now (purposes_in purposes.now) now (on self.old s) }
+        ensures state { (s : State) → with_ledger self.new s ≡ lapsed_in family given.now (purposes_in purposes.now) now (with_ledger self.old s) }
         ensures room { SameRoomBut 0 0 self.old self.new }
     {
-        self.fail_front(&Which::PendingChannelsIn(family, *purposes));
-        self.fail_front(&Which::PendingPermissionsIn(family, *purposes));
+        self.fail_front(&GrantFilter::PendingChannelsIn(family, *purposes));
+        self.fail_front(&GrantFilter::PendingPermissionsIn(family, *purposes));
         self.lapse_channel(family, now);
-        self.fail_front(&Which::LapsedPermissions(family, now));
-        self.fail_front(&Which::ConnectsIn(family, *purposes));
-        self.unbind(&Which::UnboundIn(family, now, *purposes));
-        self.fail_front(&Which::OffersIn(family, *given));
-        self.unlist(&Which::AskedIn(family, *purposes));
-        self.remove(&Which::FreedChannels(family, now));
+        self.fail_front(&GrantFilter::LapsedPermissions(family, now));
+        self.fail_front(&GrantFilter::ConnectsIn(family, *purposes));
+        self.unbind(&GrantFilter::UnboundIn(family, now, *purposes));
+        self.fail_front(&GrantFilter::OffersIn(family, *given));
+        self.unlist(&GrantFilter::AskedIn(family, *purposes));
+        self.remove(&GrantFilter::FreedChannels(family, now));
     }
 
     /// Ends the last channel of this family that expires at this time or earlier, one in each call: its
     /// failure is queued before all events, and its number and peer are reserved (RFC 8656, section 12).
     fn lapse_channel(&mut self, family: AddressFamily, now: Instant)
-        ensures state { (s : State) → on self.new s ≡ last_channel_lapsed family now (on self.old s) }
+        ensures state { (s : State) → with_ledger self.new s ≡ last_channel_lapsed family now (with_ledger self.old s) }
         ensures room { SameRoomBut 0 0 self.old self.new }
     {
         let Some(found) = self.table.last_lapsed_channel(family, now) else {
@@ -167,14 +167,14 @@ impl GrantLedger {
         requires numbered { is_numbered (Grant.Channel number peer Progress.Pending) ≡ true }
         requires there { list_any (is_channel_of number) self.old.grants ≡ true }
         requires fewer { length (filter (λ g. not (is_channel_of number g)) self.old.grants) < length self.old.grants }
-        requires aside { set_aside (filter (λ g. not (is_channel_of number g)) self.old.grants) + 2 ≤ set_aside self.old.grants }
-        ensures state { (s : State) → on self.new s ≡ channel_ended number peer expiry (on self.old s) }
+        requires aside { event_room_for (filter (λ g. not (is_channel_of number g)) self.old.grants) + 2 ≤ event_room_for self.old.grants }
+        ensures state { (s : State) → with_ledger self.new s ≡ channel_ended number peer expiry (with_ledger self.old s) }
         ensures room { SameRoomBut 0 0 self.old self.new }
     {
         let transport = self.transport();
         let until = later(expiry, RESERVED_SECONDS);
         self.table.replace(
-            &Which::ChannelOf(number),
+            &GrantFilter::ChannelOf(number),
             &Grant::Channel(number, peer, Progress::Reserved(until)),
         );
         self.events
@@ -183,8 +183,8 @@ impl GrantLedger {
 
     /// Removes data connections that are not bound: their failures are queued before all events, and the
     /// caller is to close them after all others that it is to close.
-    fn unbind(&mut self, which: &Which)
-        ensures state { (s : State) → on self.new s ≡ unbound (holds which.now) (on self.old s) }
+    fn unbind(&mut self, which: &GrantFilter)
+        ensures state { (s : State) → with_ledger self.new s ≡ unbound (holds which.now) (with_ledger self.old s) }
         ensures room { SameRoomBut 0 0 self.old self.new }
     {
         self.table.closes_back(&mut self.closes, which);

@@ -18,7 +18,7 @@ ghost use Rattle.turn_client_api.specs.LawsBodies.{expiry_times};
 ghost use Rattle.turn_client_grants.specs.Lists.{both_of, first_among};
 ghost use Rattle.turn_client_grants.specs.Refresh.{first_refresh};
 ghost use Rattle.turn_client_grants.specs.Table.{is_numbered, with_table};
-ghost use Rattle.turn_client_grants.specs.Which.{purposes_in};
+ghost use Rattle.turn_client_grants.specs.GrantFilter.{purposes_in};
 
 use crate::due::{after_pause, least};
 use crate::key::Key;

@@ -112,7 +112,7 @@ fn second_changes(
         4 => answers::connect(ledger, plain, draw),
         5 => answers::refresh(ledger, plain, draw),
         6 => answers::expired(ledger, plain, draw),
-        7 => answers::given_back(ledger, plain, draw),
+        7 => answers::delete_answered(ledger, plain, draw),
         _ => fails_families(ledger, plain, draw),
     }
 }

@@ -90,8 +90,8 @@ fn is_told_as_failed(alloc: Global, trace: &[u8], left: usize) -> bool {
 fn a_failing_reader_is_told(rt: HostRuntime) -> Result<(), Fail> {
     let trace = short_trace(rt.alloc())?;
     for left in 0..trace.len() + 1 {
-        let is_told = is_told_as_failed(rt.alloc(), trace.as_bytes(), left);
-        check(&rt, is_told, left);
+        let is_reported = is_told_as_failed(rt.alloc(), trace.as_bytes(), left);
+        check(&rt, is_reported, left);
     }
     Ok(())
 }

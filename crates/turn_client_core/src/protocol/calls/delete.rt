@@ -27,7 +27,7 @@ impl TurnClientProtocol {
         if !self.is_allocated() {
             return Err(DeleteError::NoAllocation);
         }
-        match self.give_back(now) {
+        match self.queue_delete(now) {
             Ok(()) => Ok(()),
             Err(_) => Err(DeleteError::OutOfMemory),
         }
@@ -38,7 +38,7 @@ impl TurnClientProtocol {
     /// # Errors
     ///
     /// `AllocError` if memory allocation fails. Nothing changes then.
-    fn give_back(&mut self, now: Instant) -> Result<(), AllocError>
+    fn queue_delete(&mut self, now: Instant) -> Result<(), AllocError>
         requires { IsSome self.old.held }
         ensures ok { OnOk result (self.new ≡ deleted now self.old) }
         ensures err { OnErr result (self.new ≡ self.old) }
@@ -48,7 +48,7 @@ impl TurnClientProtocol {
         let text = self.delete_text(id)?;
         self.ledger.reserve(0, 2, 0)?;
         self.outbox.ask(id, text, from, now)?;
-        self.ledger.give_back(id, now);
+        self.ledger.queue_delete(id, now);
         Ok(())
     }
 

@@ -8,7 +8,7 @@ ghost use Rattle.turn_client_api.specs.Grants.{is_listed};
 ghost use Rattle.turn_client_api.specs.Requests.{fresh_id, is_taken, request_for, sent_from};
 ghost use Rattle.turn_client_core.specs.Asked.{asks};
 ghost use Rattle.turn_client_grants.specs.Table.{are_new, is_numbered};
-ghost use Rattle.turn_client_grants.specs.Which.{purposes_in};
+ghost use Rattle.turn_client_grants.specs.GrantFilter.{purposes_in};
 
 use crate::protocol::TurnClientProtocol;
 use std::alloc::AllocError;

@@ -1,7 +1,7 @@
 //! The server reports a peer that connected to the relayed address (RFC 6062, section 4.4).
 
 ghost use Rattle.std.specs.Prelude.{◌≡◌, IfOk, IsSome, OnErr, OnOk};
-ghost use Rattle.turn_client_api.specs.Connections.{attempt_indicated, attempt_requested, is_heeded};
+ghost use Rattle.turn_client_api.specs.Connections.{attempt_indicated, attempt_requested, accepts_attempt};
 ghost use Rattle.turn_client_api.specs.Effect.{with_offer};
 ghost use Rattle.turn_client_api.specs.Requests.{refused_reply, replied};
 ghost use Rattle.turn_client_core.specs.Attempts.{CanSign, attempt_step};
@@ -71,7 +71,7 @@ impl TurnClientProtocol {
         let Some(peer) = peer_in(message) else {
             return Ok(Told::Ignored);
         };
-        if !self.is_heeded(peer) {
+        if !self.accepts_attempt(peer) {
             return Ok(Told::Ignored);
         }
         self.offer(connection_id, peer, Origin::ServerIndication)?;
@@ -81,8 +81,8 @@ impl TurnClientProtocol {
     /// Whether an indication that names this peer makes an offer: only for a peer with a permission, as
     /// RFC 6062, section 4.4, requires, and if no other connection to it exists, is offered or is
     /// pending.
-    fn is_heeded(&self, peer: SocketAddr) -> bool
-        ensures { result ≡ is_heeded peer self.now }
+    fn accepts_attempt(&self, peer: SocketAddr) -> bool
+        ensures { result ≡ accepts_attempt peer self.now }
     {
         if self.find_allocation_to(TransportType::Tcp, peer.ip()).is_none() {
             return false;

@@ -10,7 +10,7 @@ ghost use Rattle.turn_client_api.specs.State.{State};
 ghost use Rattle.turn_client_core.specs.Effects.{after};
 ghost use Rattle.turn_client_core.specs.Told.{IsPart, outcome_in};
 ghost use Rattle.turn_client_core.specs.Replies.{asks_ipv6};
-ghost use Rattle.turn_client_grants.specs.Which.{purposes_in};
+ghost use Rattle.turn_client_grants.specs.GrantFilter.{purposes_in};
 ghost use Rattle.turn_stun.specs.Message.{id_of};
 
 use crate::asked::answered;
@@ -55,18 +55,18 @@ impl TurnClientProtocol {
         self.ledger.reserve(6, 0, events)?;
         self.outbox.end(id);
         let effect = answer_all(&mut self.ledger, &purposes, message, is_granted, now);
-        self.heed(effect);
+        self.apply_effect(effect);
         Ok(told_of(message, &purposes))
     }
 
     /// Applies what a reply changes apart from the grants.
-    fn heed(&mut self, effect: Effect)
+    fn apply_effect(&mut self, effect: Effect)
         ensures { self.new ≡ after effect self.old }
     {
         match effect {
             Effect::Nothing => {}
             Effect::Taken => self.challenges = 0,
-            Effect::GivenBack => {
+            Effect::AllocationsDeleted => {
                 self.challenges = 0;
                 self.phase = Phase::Closed;
             }
@@ -124,7 +124,7 @@ impl TurnClientProtocol {
         self.families = families;
         self.ledger.unlist_allocates();
         self.ledger
-            .tell(TurnEvent::AllocationCreateFailed(AddressFamily::IPV4));
+            .push_event(TurnEvent::AllocationCreateFailed(AddressFamily::IPV4));
         self.ledger
             .ask(fresh, &[], &Purposes::one(Purpose::ForAllocation));
         Ok(())

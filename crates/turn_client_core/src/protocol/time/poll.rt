@@ -5,7 +5,7 @@ ghost use Rattle.turn_client_api.specs.Alarm.{IsTimely};
 ghost use Rattle.turn_client_api.specs.LawsGrantAllocations.{GrantsHaveAllocations};
 ghost use Rattle.turn_client_api.specs.LawsOrder.{FitsPhase};
 ghost use Rattle.turn_client_api.specs.Poll.{answer_step, timed_out_step, lapsed, next_offer, is_listed_for_allocation, offer_step, poll_step, timed_step};
-ghost use Rattle.turn_client_core.specs.Polled.{is_let_go, unallocated};
+ghost use Rattle.turn_client_core.specs.Polled.{is_without_allocation, unallocated};
 
 use crate::protocol::TurnClientProtocol;
 use std::net::SocketAddr;
@@ -33,7 +33,7 @@ impl TurnClientProtocol {
             return TurnPollRet::WaitUntil(now);
         }
         match self.next_offer() {
-            Some(offer) => self.tell_offer(&offer),
+            Some(offer) => self.report_offer(&offer),
             None => self.poll_time(now),
         }
     }
@@ -52,10 +52,10 @@ impl TurnClientProtocol {
     }
 
     /// Reports this offer, the next one, whose connection the caller is to open.
-    fn tell_offer(&mut self, offer: &DataOffer) -> TurnPollRet
+    fn report_offer(&mut self, offer: &DataOffer) -> TurnPollRet
         ensures { (result, self.new) ≡ offer_step offer.now self.old }
     {
-        self.ledger.offer_told(offer);
+        self.ledger.offer_reported(offer);
         TurnPollRet::AllocateTcpSocket {
             id: offer.connection_id,
             socket: Socket5Tuple {
@@ -175,7 +175,7 @@ impl TurnClientProtocol {
                 remote_addr: self.outbox.remote_addr(),
             };
         }
-        if self.is_let_go() {
+        if self.is_without_allocation() {
             return TurnPollRet::Closed;
         }
         TurnPollRet::WaitUntil(self.next_wakeup(given.is_some(), now))
@@ -190,8 +190,8 @@ impl TurnClientProtocol {
     }
 
     /// Whether the client was granted allocations, and has none left.
-    fn is_let_go(&self) -> bool
-        ensures { result ≡ is_let_go self.now }
+    fn is_without_allocation(&self) -> bool
+        ensures { result ≡ is_without_allocation self.now }
     {
         self.phase == Phase::Allocated && self.ledger.table().nth_allocation(0).is_none()
     }

@@ -1,7 +1,7 @@
 use Rattle.std.proofs.Common.{eqb, rules}
 use Rattle.std.proofs.lemmas.Map.Made.{lookup-map_values, map_same_pairs}
 use Rattle.turn_client_grants.specs.Listed.{is_for_none, with_only}
-use Rattle.turn_client_grants.specs.Which.{holds}
+use Rattle.turn_client_grants.specs.GrantFilter.{holds}
 use Rattle.turn_client_grants.proofs.listings.remove_for.Goals as goal
 
 pub returns-clause-left : goal.returns-clause-left

@@ -228,7 +228,7 @@ impl Plain {
     }
 
     /// A request with this ID deletes all allocations.
-    pub(crate) fn given_back(&mut self, id: u8, now: u64) -> Result<(), AllocError> {
+    pub(crate) fn delete_answered(&mut self, id: u8, now: u64) -> Result<(), AllocError> {
         for row in self.rows.iter_mut() {
             row.goes = row.is_at(Kind::Permission, Stage::Active)
                 || row.is_at(Kind::Channel, Stage::Active);

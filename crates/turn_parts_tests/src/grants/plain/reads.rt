@@ -191,11 +191,11 @@ impl Plain {
         let Some(next) = self.next_offer() else {
             return;
         };
-        let mut is_told = false;
+        let mut is_reported = false;
         for row in self.rows.iter_mut() {
-            if !is_told && !row.is_marked && row.is(Kind::Offer, next.key) {
+            if !is_reported && !row.is_marked && row.is(Kind::Offer, next.key) {
                 row.is_marked = true;
-                is_told = true;
+                is_reported = true;
             }
         }
     }
@@ -252,7 +252,7 @@ pub(crate) fn offer_of(row: &Row) -> DataOffer {
     DataOffer {
         connection_id: row.key / 8,
         peer: address(row.peer),
-        is_told: row.is_marked,
+        is_reported: row.is_marked,
         origin: row.origin(),
     }
 }

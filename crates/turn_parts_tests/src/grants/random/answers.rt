@@ -95,7 +95,7 @@ pub(crate) fn expired(
 }
 
 /// The server deleted all allocations.
-pub(crate) fn given_back(
+pub(crate) fn delete_answered(
     ledger: &mut GrantLedger,
     plain: &mut Plain,
     draw: &Draw,

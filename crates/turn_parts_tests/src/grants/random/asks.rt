@@ -193,6 +193,6 @@ pub(crate) fn gives_back(
     if draw.n % 16 != 0 || ledger.table().is_asked(request) {
         return Ok(());
     }
-    ledger.give_back(request, at(draw.now));
-    plain.given_back(draw.m, draw.now)
+    ledger.queue_delete(request, at(draw.now));
+    plain.delete_answered(draw.m, draw.now)
 }

@@ -30,7 +30,7 @@ pub(crate) fn offered(
 pub(crate) fn told(ledger: &mut GrantLedger, plain: &mut Plain) -> Result<(), AllocError> {
     let next = ledger.table().next_offer();
     if let Some(offer) = next {
-        ledger.offer_told(&offer);
+        ledger.offer_reported(&offer);
     }
     Ok(plain.told())
 }

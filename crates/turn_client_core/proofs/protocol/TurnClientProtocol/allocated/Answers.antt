@@ -2,7 +2,7 @@ use Rattle.std.proofs.Common.{◌≡◌, ◌∙◌, ap}
 use Rattle.turn_stun.specs.Message.{id_of}
 use Rattle.turn_client_api.specs.Effect.{allocated, ended, relayed_in, taken_addresses}
 use Rattle.turn_client_api.specs.State.{State}
-use Rattle.turn_client_grants.specs.Ledger.{on}
+use Rattle.turn_client_grants.specs.Ledger.{with_ledger}
 use Rattle.turn_client_core.specs.contracts.protocol.TurnClientProtocol.{the_view}
 use Rattle.turn_client_core.proofs.AllocatedLemmas.{taken-new}
 use Rattle.turn_client_core.proofs.ResultLemmas.{on-err}
@@ -23,7 +23,7 @@ returns-clause-ok c =
     let gone = ended (id_of c.args.message.now) s in
     let taken : c.as_slice.result.now ≡ taken_addresses s.families (relayed_in c.args.message.now) =
     c.as_slice.ensures.value ∙ (c.in_ok-addresses.ensures ∙ ap (λ families. taken_addresses families (relayed_in c.args.message.now)) c.as_slice-families.ensures) in
-    let same : on c.reserve.new.self (record gone { families = c.as_slice-families.result.now }) ≡ gone =
+    let same : with_ledger c.reserve.new.self (record gone { families = c.as_slice-families.result.now }) ≡ gone =
     rw c.as_slice-families.ensures (c.reserve.ensures.same gone) in
     rw (c.phase_with-self-inside.ensures, c.as_slice-2.ensures.value, ← c.as_slice.ensures.value, c.clear.ensures.items, c.end.ensures, c.transaction_id.ensures, ← c.self.view_is, ← taken)
     (c.allocated.ensures.state gone ∙ ap (allocated c.args.lifetime c.as_slice.result.now c.args.now) same)

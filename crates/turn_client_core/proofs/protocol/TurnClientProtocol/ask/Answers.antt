@@ -1,8 +1,8 @@
 use Rattle.std.proofs.Common.{◌∙◌, ap, sym}
 use Rattle.turn_client_api.specs.Grants.{with_more_grants}
 use Rattle.turn_client_api.specs.Requests.{fresh_id, request_for, sent_from}
-use Rattle.turn_client_grants.specs.Ledger.{on}
-use Rattle.turn_client_grants.specs.Which.{purposes_in}
+use Rattle.turn_client_grants.specs.Ledger.{with_ledger}
+use Rattle.turn_client_grants.specs.GrantFilter.{purposes_in}
 use Rattle.turn_client_core.specs.Asked.{asks}
 use Rattle.turn_client_core.specs.contracts.protocol.TurnClientProtocol.{the_view}
 use Rattle.turn_client_core.proofs.AskLemmas.{asked-is, asks-is, with_outbox}
@@ -35,7 +35,7 @@ returns-clause-ok c =
     let id = c.fresh_id-id.result in
     let from = c.sent_from-from.result in
     let text = c.in_ok-text.text in
-    ap (λ o. on c.ask-2.new.self (with_outbox o s)) c.in_ok-ask.ensures.ok
+    ap (λ o. with_ledger c.ask-2.new.self (with_outbox o s)) c.in_ok-ask.ensures.ok
     ∙ (asked-is s c.reserve.new.self c.ask-2.new.self id from text purposes c.args.now (with_more_grants grants) (c.reserve.ensures.same s) (c.ask-2.ensures.state s text c.args.now)
     ∙ (asks-is s id from text purpose purposes grants c.args.now
     (c.in_ok-text.ensures ∙ ap (λ t. request_for t purpose id) (sym c.self.view_is))

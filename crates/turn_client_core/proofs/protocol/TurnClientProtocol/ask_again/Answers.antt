@@ -9,7 +9,7 @@ use Rattle.turn_client_api.specs.Requests.{asked, drawn, fresh_id, queued, reque
 use Rattle.turn_client_api.specs.Retry.{state_after_retry}
 use Rattle.turn_client_api.specs.State.{auth_of}
 use Rattle.turn_client_requests.specs.Asked.{asking}
-use Rattle.turn_client_grants.specs.Ledger.{on}
+use Rattle.turn_client_grants.specs.Ledger.{with_ledger}
 use Rattle.turn_stun.specs.Message.{id_of}
 use Rattle.turn_client_core.specs.Outgoing.{Outgoing}
 use Rattle.turn_client_core.specs.contracts.protocol.TurnClientProtocol.{the_view}
@@ -49,8 +49,8 @@ returns-clause-ok c = λ challenge is.
     let all : asking c.transport.result c.as_slice.result.now t ≡ t = rw (c.transport.ensures, c.as_slice.ensures) refl in
     let written : text ≡ request_for t purpose fresh = c.in_ok-text.ensures t (sym (ap (with_challenge given) own)) ∙ ap (λ u. request_for u purpose fresh) all in
     rw (c.accept.ensures.taken, c.after_challenge-self-inside.ensures)
-    (ap (λ o. on c.ask_again.new.self (with_outbox o t)) (c.end.ensures ∙ ap (λ (o : Outgoing). record o { transactions = without_transaction id o.transactions }) c.in_ok-ask.ensures.ok)
-    ∙ (ap (λ ts. queued true from text (on c.ask_again.new.self (record (drawn t) { transactions = ts }))) (without-other id new s.transactions other)
+    (ap (λ o. with_ledger c.ask_again.new.self (with_outbox o t)) (c.end.ensures ∙ ap (λ (o : Outgoing). record o { transactions = without_transaction id o.transactions }) c.in_ok-ask.ensures.ok)
+    ∙ (ap (λ ts. queued true from text (with_ledger c.ask_again.new.self (record (drawn t) { transactions = ts }))) (without-other id new s.transactions other)
     ∙ (ap (queued true from text) (c.ask_again.ensures.state t text now ∙ ap (λ u. asked fresh text (purposes_of id u) now u) (c.reserve.ensures.same t))
     ∙ (again-is s id fresh from text purpose given now written c.local_addr-from.ensures (c.fresh_id-fresh.ensures.id ∙ ap fresh_id (sym c.self.view_is))
     ∙ (ap (λ u. state_after_retry u id purpose given now) c.self.view_is

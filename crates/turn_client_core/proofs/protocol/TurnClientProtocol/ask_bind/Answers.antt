@@ -11,7 +11,7 @@ use Rattle.turn_client_api.specs.Retry.{with_held}
 use Rattle.turn_client_api.specs.State.{auth_of}
 use Rattle.turn_client_requests.specs.Asked.{asking}
 use Rattle.turn_client_grants.specs.Asked.{bind_retried}
-use Rattle.turn_client_grants.specs.Ledger.{on}
+use Rattle.turn_client_grants.specs.Ledger.{with_ledger}
 use Rattle.turn_stun.specs.Message.{id_of}
 use Rattle.turn_client_core.specs.contracts.protocol.TurnClientProtocol.{the_view}
 use Rattle.turn_client_core.proofs.AskLemmas.{with_outbox}
@@ -51,7 +51,7 @@ returns-clause-ok c = λ challenge is.
     let listed : find (is_bind_of d.local) (purposes_of id s) ≡ Some purpose = ap (λ u. find (is_bind_of d.local) (purposes_of id u)) c.self.view_is ∙ c.requires.asked in
     let sent : from ≡ sent_from s purpose = c.sent_from-from.ensures ∙ ap (λ u. sent_from u purpose) (sym c.self.view_is) in
     rw c.accept.ensures.taken
-    (ap (λ o. on c.bind_again.new.self (with_outbox o t)) c.in_ok-ask.ensures.ok
+    (ap (λ o. with_ledger c.bind_again.new.self (with_outbox o t)) c.in_ok-ask.ensures.ok
     ∙ (ap (queued true from text) (c.bind_again.ensures.state t text ∙ ap (λ u. asked fresh text (purpose ∷ []) now (bind_retried d.local now u)) (c.reserve.ensures.same t))
     ∙ (bind-asked s d id fresh from text purpose given now listed written sent (c.fresh_id-fresh.ensures.id ∙ ap fresh_id (sym c.self.view_is))
     ∙ (ap (λ u. bind_again d id given now u) c.self.view_is

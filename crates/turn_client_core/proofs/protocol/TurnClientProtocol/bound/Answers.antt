@@ -1,7 +1,7 @@
 use Rattle.std.proofs.Common.{◌∙◌, ap}
 use Rattle.turn_client_api.specs.Connections.{bound}
 use Rattle.turn_client_api.specs.Effect.{ended}
-use Rattle.turn_client_grants.specs.Ledger.{on}
+use Rattle.turn_client_grants.specs.Ledger.{with_ledger}
 use Rattle.turn_client_streams.specs.Held.{with_streams}
 use Rattle.turn_stun.specs.Message.{id_of}
 use Rattle.turn_client_core.specs.contracts.protocol.TurnClientProtocol.{the_view}
@@ -17,8 +17,8 @@ returns-clause-ok c =
     let s = the_view c.self.inside in
     let d = c.args.connection.now in
     let e = ended c.transaction_id.result s in
-    ap (λ o. on c.bound.new.self (with_streams c.set_mode.new.self (with_outbox o s))) c.end.ensures
-    ∙ (ap (on c.bound.new.self) (c.set_mode.ensures e)
+    ap (λ o. with_ledger c.bound.new.self (with_streams c.set_mode.new.self (with_outbox o s))) c.end.ensures
+    ∙ (ap (with_ledger c.bound.new.self) (c.set_mode.ensures e)
     ∙ (c.bound.ensures.state e
     ∙ (ap (bound d) (c.reserve.ensures.same e)
     ∙ (ap (λ i. bound d (ended i s)) c.transaction_id.ensures

@@ -3,7 +3,7 @@ use Rattle.turn_agent.specs.Agent.{same_address}
 use Rattle.turn_client_api.specs.Connections.{connection_at}
 use Rattle.turn_client_api.specs.Requests.{fresh_id, request_for}
 use Rattle.turn_client_api.specs.declared.grant.Purpose.TheVariants.{ForBind}
-use Rattle.turn_client_grants.specs.Ledger.{on}
+use Rattle.turn_client_grants.specs.Ledger.{with_ledger}
 use Rattle.turn_client_streams.specs.Held.{with_streams}
 use Rattle.turn_client_core.specs.Opened.{opened_with}
 use Rattle.turn_client_core.specs.contracts.protocol.TurnClientProtocol.{the_view}
@@ -36,7 +36,7 @@ returns-clause-ok c =
     let request = c.fresh_id-request.result in
     let text = c.in_ok-text.text in
     let purpose = ForBind c.args.local c.args.peer c.args.id in
-    ap (λ o. on c.opened.new.self (with_streams c.ask_over.new.streams (with_outbox o s))) c.in_ok-ask_over.ensures.sent
+    ap (λ o. with_ledger c.opened.new.self (with_streams c.ask_over.new.streams (with_outbox o s))) c.in_ok-ask_over.ensures.sent
     ∙ (opens-is s c.reserve.new.self c.opened.new.self c.ask_over.new.streams c.args.reply c.args.id request c.args.peer c.args.local text c.args.now
     (c.reserve.ensures.same s)
     (c.in_ok-ask_over.ensures.opened s)

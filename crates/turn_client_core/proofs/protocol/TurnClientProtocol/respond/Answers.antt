@@ -3,8 +3,8 @@ use Rattle.turn_client_api.specs.Effect.{effect, ended}
 use Rattle.turn_client_api.specs.Judgement.{method_in}
 use Rattle.turn_client_api.specs.Payloads.{answered_purposes, is_answered, outcome_for}
 use Rattle.turn_client_core.specs.Effects.{after}
-use Rattle.turn_client_grants.specs.Ledger.{on}
-use Rattle.turn_client_grants.specs.Which.{purposes_in}
+use Rattle.turn_client_grants.specs.Ledger.{with_ledger}
+use Rattle.turn_client_grants.specs.GrantFilter.{purposes_in}
 use Rattle.turn_stun.specs.Message.{id_of}
 use Rattle.turn_client_core.specs.contracts.protocol.TurnClientProtocol.{the_view}
 use Rattle.turn_client_core.proofs.AskLemmas.{with_outbox}
@@ -33,8 +33,8 @@ returns-clause-after c =
     let ps = purposes_in c.answered-purposes.result in
     let f = effect (id_of m) c.args.is_granted m c.args.now in
     let given = c.answer_all-effect.result in
-    c.heed.ensures
-    ∙ (ap (λ o. after given (on c.answer_all-effect.new.ledger (with_outbox o s))) c.end.ensures
+    c.apply_effect.ensures
+    ∙ (ap (λ o. after given (with_ledger c.answer_all-effect.new.ledger (with_outbox o s))) c.end.ensures
     ∙ (c.answer_all-effect.ensures.state (ended id s)
     ∙ (ap (λ u. fold f u ps) (c.reserve.ensures.same (ended id s))
     ∙ (ap (λ qs. fold f (ended id s) qs) read

@@ -1,7 +1,7 @@
 use Rattle.std.proofs.Common.{◌∙◌, [], ap}
 use Rattle.std.specs.Prelude.{Option}
 use Rattle.std.specs.Option.{option_map_or}
-use Rattle.turn_client_grants.specs.Which.{purposes_in}
+use Rattle.turn_client_grants.specs.GrantFilter.{purposes_in}
 use Rattle.turn_client_grants.specs.declared.purposes.Purposes.{Purposes}
 use Rattle.turn_client_grants.proofs.listings.Listings.reserve.Goals as goal
 

@@ -1,5 +1,5 @@
 use Rattle.turn_client_grants.specs.Listed.{is_for_none}
-use Rattle.turn_client_grants.specs.Which.{holds}
+use Rattle.turn_client_grants.specs.GrantFilter.{holds}
 use Rattle.turn_client_grants.proofs.ListingLemmas.{ArePurposesOf-only}
 use Rattle.turn_client_grants.proofs.listings.Listings.unlist.Goals as goal
 
