@@ -16,12 +16,12 @@ use Rattle.turn_client_api.specs.Judgement.{has_unknown, last_icmp_in, last_in, 
 use Rattle.turn_client_api.specs.Payloads.{Ignored, channel_sent, data_indicated}
 use Rattle.turn_client_api.specs.State.{State}
 use Rattle.turn_client_core.specs.Indication.{if_permitted, value_place}
-use Rattle.turn_client_core.specs.Told.{outcome_in}
-use Rattle.turn_client_core.specs.declared.told.Told.{Told}
-use Rattle.turn_client_core.specs.declared.told.Told.TheVariants as T
+use Rattle.turn_client_core.specs.ProtocolRecv.{outcome_in}
+use Rattle.turn_client_core.specs.declared.protocol_recv.TurnProtocolRecv.{TurnProtocolRecv}
+use Rattle.turn_client_core.specs.declared.protocol_recv.TurnProtocolRecv.TheVariants as T
 
 module _ (s : State) (message : List ℕ) where
-  outcome-if_permitted : (has_active_permission : Bool) (told : Told) → outcome_in message (if_permitted has_active_permission told) ≡ (if has_active_permission then outcome_in message told else Ignored)
+  outcome-if_permitted : (has_active_permission : Bool) (told : TurnProtocolRecv) → outcome_in message (if_permitted has_active_permission told) ≡ (if has_active_permission then outcome_in message told else Ignored)
   outcome-if_permitted true told = refl
   outcome-if_permitted false told = refl
 

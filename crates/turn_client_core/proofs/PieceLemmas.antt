@@ -17,15 +17,15 @@ use Rattle.turn_client_api.specs.Streams.{frame_step, framed_stream_step, with_b
 use Rattle.turn_client_api.specs.declared.state.Mode.TheVariants.{Control, Waiting}
 use Rattle.turn_client_api.specs.declared.state.Stream.{Stream}
 use Rattle.turn_client_streams.specs.Buffered.{broken, front_of, passed, without_front}
-use Rattle.turn_client_core.specs.Told.{IsPart, IsWithin, outcome_in}
-use Rattle.turn_client_core.specs.declared.told.Told.{Told}
-use Rattle.turn_client_core.specs.declared.told.Told.TheVariants as T
+use Rattle.turn_client_core.specs.ProtocolRecv.{IsPart, IsWithin, outcome_in}
+use Rattle.turn_client_core.specs.declared.protocol_recv.TurnProtocolRecv.{TurnProtocolRecv}
+use Rattle.turn_client_core.specs.declared.protocol_recv.TurnProtocolRecv.TheVariants as T
 use Rattle.turn_client_core.specs.StreamSteps.{IsFront, came_with, given_as, left_by, part_at, put_or_broken}
 use Rattle.turn_client_core.proofs.TurnLemmas.{framed-none, framed-some}
 
 -- ---- a part of a part
 
-pub part-IsWithin : (bytes : List ℕ) (was s : State) (told : Told) → IsPart bytes was s told → IsWithin bytes told
+pub part-IsWithin : (bytes : List ℕ) (was s : State) (told : TurnProtocolRecv) → IsPart bytes was s told → IsWithin bytes told
 part-IsWithin bytes was s (T.PeerData transport peer range) is = (is.0, is.1)
 part-IsWithin bytes was s T.Handled is = tt
 part-IsWithin bytes was s T.Ignored is = tt
@@ -39,13 +39,13 @@ slice-front xs end a b inside ordered within =
     ap (λ n. take (b - a) (drop a (take n xs))) split
     ∙ (ap (take (b - a)) (drop-take a (end - a) xs) ∙ take-take (b - a) (end - a) (drop a xs) (omega (arith, ordered, most)))
 
-front-within : (bytes : List ℕ) (end : ℕ) (told : Told) → end ≤ length bytes → IsWithin (take end bytes) told → IsWithin bytes told
+front-within : (bytes : List ℕ) (end : ℕ) (told : TurnProtocolRecv) → end ≤ length bytes → IsWithin (take end bytes) told → IsWithin bytes told
 front-within bytes end (T.PeerData transport peer range) inside is = (is.0, omega (arith, inside, is.1, length-take end bytes))
 front-within bytes end T.Handled inside is = tt
 front-within bytes end T.Ignored inside is = tt
 front-within bytes end (T.PeerIcmp transport peer icmp) inside is = tt
 
-front-outcome : (bytes : List ℕ) (end : ℕ) (told : Told) → end ≤ length bytes → IsWithin (take end bytes) told → outcome_in bytes told ≡ outcome_in (take end bytes) told
+front-outcome : (bytes : List ℕ) (end : ℕ) (told : TurnProtocolRecv) → end ≤ length bytes → IsWithin (take end bytes) told → outcome_in bytes told ≡ outcome_in (take end bytes) told
 front-outcome bytes end (T.PeerData transport peer range) inside is =
     ap (λ part. PeerData (record { transport = transport; peer = peer; bytes = part; place = Some range })) (sym (slice-front bytes end range.start range.end inside is.0 is.1))
 front-outcome bytes end T.Handled inside is = refl
@@ -58,10 +58,10 @@ part-front bytes range e =
     let whole : range.end - 0 ≡ range.end = omega arith in
     ap (λ n. take (range.end - n) (drop n bytes)) e ∙ ap (λ n. take n bytes) whole
 
-pub lent-IsWithin : (bytes : List ℕ) (range : Range ℕ) (told : Told) → range.start ≡ 0 → range.end ≤ length bytes → IsWithin (part_at bytes range) told → IsWithin bytes told
+pub lent-IsWithin : (bytes : List ℕ) (range : Range ℕ) (told : TurnProtocolRecv) → range.start ≡ 0 → range.end ≤ length bytes → IsWithin (part_at bytes range) told → IsWithin bytes told
 lent-IsWithin bytes range told e inside is = front-within bytes range.end told inside (subst (λ part. IsWithin part told) (part-front bytes range e) is)
 
-pub lent-outcome : (bytes : List ℕ) (range : Range ℕ) (told : Told) → range.start ≡ 0 → range.end ≤ length bytes → IsWithin (part_at bytes range) told → outcome_in bytes told ≡ outcome_in (part_at bytes range) told
+pub lent-outcome : (bytes : List ℕ) (range : Range ℕ) (told : TurnProtocolRecv) → range.start ≡ 0 → range.end ≤ length bytes → IsWithin (part_at bytes range) told → outcome_in bytes told ≡ outcome_in (part_at bytes range) told
 lent-outcome bytes range told e inside is =
     front-outcome bytes range.end told inside (subst (λ part. IsWithin part told) (part-front bytes range e) is)
     ∙ ap (λ part. outcome_in part told) (sym (part-front bytes range e))

@@ -21,7 +21,7 @@ use Rattle.turn_client_grants.specs.Asked.{Asks}
 use Rattle.turn_client_grants.specs.Ledger.{Ledger, with_ledger}
 use Rattle.turn_client_grants.specs.Refresh.{first_refresh}
 use Rattle.turn_client_grants.proofs.RefreshLemmas.{next_first}
-use Rattle.turn_client_requests.specs.Asked.{asking}
+use Rattle.turn_client_requests.specs.RequestAttributes.{asking}
 use Rattle.turn_client_core.proofs.AskLemmas.{with_outbox}
 
 abbrev pub Packet : Type 0

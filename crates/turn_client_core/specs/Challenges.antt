@@ -8,19 +8,19 @@ use Rattle.turn_client_api.specs.Retry.{state_after_retry}
 use Rattle.turn_client_api.specs.State.{State}
 use Rattle.turn_client_api.specs.declared.grant.DataConnection.{DataConnection}
 use Rattle.turn_client_api.specs.declared.grant.Purpose.{Purpose}
-use Rattle.turn_client_core.specs.Told.{outcome_in}
-use Rattle.turn_client_core.specs.declared.told.Told.{Told}
+use Rattle.turn_client_core.specs.ProtocolRecv.{outcome_in}
+use Rattle.turn_client_core.specs.declared.protocol_recv.TurnProtocolRecv.{TurnProtocolRecv}
 use Rattle.turn_stun.specs.Message.{id_of}
 
 -- the result of the call reports it so
-abbrev pub TellsOfChallenge : {E : Type 0} → List ℕ → ℕ → State → Result Told E → Type 0
+abbrev pub TellsOfChallenge : {E : Type 0} → List ℕ → ℕ → State → Result TurnProtocolRecv E → Type 0
 TellsOfChallenge message now s answer =
     (challenge : Challenge)
     → challenge_in s message ≡ Some challenge
     → IfOk answer (λ told. outcome_in message told ≡ (challenge_step message challenge now s).0)
 
 -- it was accepted, or not
-abbrev pub MeetsChallenge : {E : Type 0} → List ℕ → ℕ → State → State → Result Told E → Type 0
+abbrev pub MeetsChallenge : {E : Type 0} → List ℕ → ℕ → State → State → Result TurnProtocolRecv E → Type 0
 MeetsChallenge message now was s answer =
     (challenge : Challenge)
     → challenge_in was message ≡ Some challenge

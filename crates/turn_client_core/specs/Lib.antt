@@ -14,5 +14,5 @@ pub mod Queue
 pub mod Replies
 pub mod Sending
 pub mod Sent
-pub mod Told
+pub mod ProtocolRecv
 pub mod StreamSteps

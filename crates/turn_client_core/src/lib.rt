@@ -26,14 +26,14 @@
 #![tactic(auto)]
 
 mod allocated;
-mod asked;
+mod answered_purposes;
 mod effect;
 mod indication;
 mod outbox;
 mod protocol;
 mod received;
 mod reply;
-mod told;
+mod protocol_recv;
 
 pub use protocol::TurnClientProtocol;
-pub use told::Told;
+pub use protocol_recv::TurnProtocolRecv;

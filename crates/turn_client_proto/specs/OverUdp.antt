@@ -4,8 +4,8 @@ use Rattle.turn_stun.specs.declared.transport.TransportType.TheVariants.{Udp}
 use Rattle.turn_client_api.specs.LawsGrantAllocations.{GrantsHaveAllocations}
 use Rattle.turn_client_api.specs.LawsOrder.{FitsPhase}
 use Rattle.turn_client_api.specs.State.{State}
-use Rattle.turn_client_core.specs.declared.told.Told.{Told}
-use Rattle.turn_client_core.specs.declared.told.Told.TheVariants as T
+use Rattle.turn_client_core.specs.declared.protocol_recv.TurnProtocolRecv.{TurnProtocolRecv}
+use Rattle.turn_client_core.specs.declared.protocol_recv.TurnProtocolRecv.TheVariants as T
 
 -- It has no streams: an allocation over TCP needs a client over TCP (RFC 6062, section 4.1). The rest holds
 -- for every client.

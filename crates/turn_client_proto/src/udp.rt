@@ -10,7 +10,7 @@ ghost use Rattle.turn_client_api.specs.Payloads.{datagram_step};
 ghost use Rattle.turn_client_api.specs.Poll.{poll_step};
 ghost use Rattle.turn_client_api.specs.Receive.{is_from_server, tcp_closed_step};
 ghost use Rattle.turn_client_api.specs.State.{initial};
-ghost use Rattle.turn_client_core.specs.Told.{outcome_in, IsWithin};
+ghost use Rattle.turn_client_core.specs.ProtocolRecv.{outcome_in, IsWithin};
 
 use std::alloc::{AllocError, Global};
 use std::convert::AsSlice;
@@ -25,7 +25,7 @@ use turn_client_api::{
     DataRange, DataRangeOrOwned, DelayedMessageOrChannelSend, PermissionAddressesIter,
     RelayedAddressesIter, Socket5Tuple, TransmitBuild, TurnClientApi, TurnConfig, TurnPeerData,
 };
-use turn_client_core::{Told, TurnClientProtocol};
+use turn_client_core::{TurnProtocolRecv, TurnClientProtocol};
 use turn_stun::data::Data;
 use turn_stun::instant::Instant;
 use turn_stun::transport::{Transmit, TransportType};
@@ -87,7 +87,7 @@ impl TurnClientUdp {
     /// # Errors
     ///
     /// If memory allocation for a message fails. The client has ended then, and nothing else has changed.
-    fn datagram(&mut self, bytes: &[u8], now: Instant) -> Result<Told, AllocError>
+    fn datagram(&mut self, bytes: &[u8], now: Instant) -> Result<TurnProtocolRecv, AllocError>
         ensures answer { IfOk result (λ told. outcome_in bytes.now told ≡ (datagram_step bytes.now now self.old).0) }
         ensures within { IfOk result (IsWithin bytes.now) }
         ensures after { OnOk result (self.new ≡ (datagram_step bytes.now now self.old).1) }
@@ -102,20 +102,20 @@ impl TurnClientUdp {
 
 /// The result that the caller gets for its packet: data of a peer is a range of the packet, and a packet
 /// that is not for the client is returned.
-fn answer_of<T: AsSlice<u8> + Debug + Drop>(told: Told, transmit: Transmit<T>) -> TurnRecvRet<T>
+fn answer_of<T: AsSlice<u8> + Debug + Drop>(told: TurnProtocolRecv, transmit: Transmit<T>) -> TurnRecvRet<T>
     requires { IsWithin (T.items transmit.payload) told }
     ensures answer { outcome_of result ≡ outcome_in (T.items transmit.payload) told }
     ensures hands_back { HandsBack transmit result }
 {
     match told {
-        Told::Handled => TurnRecvRet::Handled,
-        Told::Ignored => TurnRecvRet::Ignored(transmit),
-        Told::PeerData(transport, peer, range) => {
+        TurnProtocolRecv::Handled => TurnRecvRet::Handled,
+        TurnProtocolRecv::Ignored => TurnRecvRet::Ignored(transmit),
+        TurnProtocolRecv::PeerData(transport, peer, range) => {
             let Transmit { payload, .. } = transmit;
             let data = DataRangeOrOwned::Range(DataRange::new(payload, range));
             TurnRecvRet::PeerData(TurnPeerData::new(transport, peer, data))
         }
-        Told::PeerIcmp(transport, peer, icmp) => TurnRecvRet::PeerIcmp {
+        TurnProtocolRecv::PeerIcmp(transport, peer, icmp) => TurnRecvRet::PeerIcmp {
             transport,
             peer,
             icmp_type: icmp.icmp_type,

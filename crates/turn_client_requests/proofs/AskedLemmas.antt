@@ -19,7 +19,7 @@ use Rattle.turn_client_api.specs.Requests.{additional_family_kind, attribute, fa
 use Rattle.turn_client_api.specs.State.{State, initial}
 use Rattle.turn_client_api.specs.declared.grant.Purpose.{Purpose}
 use Rattle.turn_client_api.specs.declared.grant.Purpose.TheVariants.{ForAllocation, ForRefresh, ForPermission, ForChannel, ForConnect, ForBind}
-use Rattle.turn_client_requests.specs.Asked.{AddsAsked, IsAskedLen}
+use Rattle.turn_client_requests.specs.RequestAttributes.{AddsAsked, IsAskedLen}
 
 -- two families are requested by the additional one
 pub two_families : (families : List AddressFamily) → 2 ≤ length families → family_attributes families ≡ attribute additional_family_kind (family_value IPV6) ∷ []

@@ -1,3 +1,3 @@
-pub mod Asked
+pub mod RequestAttributes
 pub mod Refused
 pub mod Written

@@ -12,7 +12,7 @@
 //! Which request is made and when it is sent is left to the crates above.
 #![tactic(auto)]
 
-mod asked;
+mod request_attributes;
 mod reply;
 mod request;
 mod write;

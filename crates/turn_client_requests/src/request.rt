@@ -5,9 +5,9 @@ ghost use Rattle.turn_auth.specs.LongTerm.{with_challenge};
 ghost use Rattle.turn_client_api.specs.Calls.{delete_text};
 ghost use Rattle.turn_client_api.specs.Requests.{first_allocate, fresh_id};
 ghost use Rattle.turn_client_api.specs.State.{State, auth_of};
-ghost use Rattle.turn_client_requests.specs.Asked.{IsRequestFor, asking};
+ghost use Rattle.turn_client_requests.specs.RequestAttributes.{IsRequestFor, asking};
 
-use crate::asked::{
+use crate::request_attributes::{
     LIFETIME_SECONDS, add_asked, add_families, asked_len, families_len, method_for,
 };
 use crate::write::{HEADER_LEN, add, begun, len_of, signed, signed_under};

@@ -17,7 +17,7 @@ use turn_client_api::{
     BindChannelError, CreatePermissionError, DelayedMessageOrChannelSend, DeleteError, SendError,
     Socket5Tuple, TcpAllocateError, TcpConnectError, TurnEvent, TurnPollRet,
 };
-use turn_client_core::Told;
+use turn_client_core::TurnProtocolRecv;
 use turn_stun::data::Data;
 use turn_stun::transport::{Transmit, TransportType};
 use turn_types::AddressFamily;
@@ -211,12 +211,12 @@ fn hears(client: &mut Client, now: u32, bytes: &[u8], want: &Want<'_>) -> Result
 }
 
 /// Whether the result is the expected one.
-fn is_reported(told: &Told, want: &Want<'_>) -> bool {
+fn is_reported(told: &TurnProtocolRecv, want: &Want<'_>) -> bool {
     match told {
-        Told::Handled => matches!(want, Want::Handled),
-        Told::Ignored => matches!(want, Want::Ignored),
-        Told::PeerData(transport, peer, range) => is_data(*transport, *peer, range, want),
-        Told::PeerIcmp(transport, peer, icmp) => is_report(*transport, *peer, icmp, want),
+        TurnProtocolRecv::Handled => matches!(want, Want::Handled),
+        TurnProtocolRecv::Ignored => matches!(want, Want::Ignored),
+        TurnProtocolRecv::PeerData(transport, peer, range) => is_data(*transport, *peer, range, want),
+        TurnProtocolRecv::PeerIcmp(transport, peer, icmp) => is_report(*transport, *peer, icmp, want),
     }
 }
 

@@ -7,12 +7,12 @@ ghost use Rattle.turn_client_api.specs.Judgement.{challenge_in};
 ghost use Rattle.turn_client_api.specs.Memory.{challenge_takes_memory};
 ghost use Rattle.turn_client_api.specs.Retry.{phase_after, retried};
 ghost use Rattle.turn_client_core.specs.Challenges.{AsksAgain, MeetsChallenge, TellsOfChallenge};
-ghost use Rattle.turn_client_core.specs.Told.{IsPart};
+ghost use Rattle.turn_client_core.specs.ProtocolRecv.{IsPart};
 ghost use Rattle.turn_stun.specs.Message.{id_of};
 
-use crate::asked::retried;
+use crate::answered_purposes::retried;
 use crate::protocol::TurnClientProtocol;
-use crate::told::Told;
+use crate::protocol_recv::TurnProtocolRecv;
 use std::alloc::AllocError;
 use turn_client_api::{Phase, Purpose};
 use turn_client_requests::request_under;
@@ -35,7 +35,7 @@ impl TurnClientProtocol {
         &mut self,
         message: &Message<'_>,
         now: Instant,
-    ) -> Result<Told, AllocError>
+    ) -> Result<TurnProtocolRecv, AllocError>
         requires { IsSome (challenge_in self.old message.now) }
         ensures answer { TellsOfChallenge message.now now self.old result }
         ensures part { IfOk result (IsPart message.now self.old self.new) }
@@ -47,7 +47,7 @@ impl TurnClientProtocol {
             return self.answer_challenge(message, now);
         }
         self.fail()?;
-        Ok(Told::Handled)
+        Ok(TurnProtocolRecv::Handled)
     }
 
     /// Answers the challenge if its ID is listed for something that is requested over the control
@@ -56,7 +56,7 @@ impl TurnClientProtocol {
     /// # Errors
     ///
     /// If memory allocation fails. Nothing changes then.
-    fn answer_challenge(&mut self, message: &Message<'_>, now: Instant) -> Result<Told, AllocError>
+    fn answer_challenge(&mut self, message: &Message<'_>, now: Instant) -> Result<TurnProtocolRecv, AllocError>
         requires challenge { IsSome (challenge_in self.old message.now) }
         requires few { self.old.challenges < 9 }
         ensures answer { TellsOfChallenge message.now now self.old result }
@@ -67,10 +67,10 @@ impl TurnClientProtocol {
     {
         let purposes = self.ledger.table().purposes_of(message.transaction_id());
         let Some(purpose) = retried(&purposes) else {
-            return Ok(Told::Ignored);
+            return Ok(TurnProtocolRecv::Ignored);
         };
         self.ask_again(message, &purpose, now)?;
-        Ok(Told::Handled)
+        Ok(TurnProtocolRecv::Handled)
     }
 
     /// Accepts the challenge, and makes the request with its ID again for this purpose. The old request

@@ -5,13 +5,13 @@ ghost use Rattle.turn_client_api.specs.Connections.{attempt_indicated, attempt_r
 ghost use Rattle.turn_client_api.specs.Effect.{with_offer};
 ghost use Rattle.turn_client_api.specs.Requests.{refused_reply, replied};
 ghost use Rattle.turn_client_core.specs.Attempts.{CanSign, attempt_step};
-ghost use Rattle.turn_client_core.specs.Told.{IsPart, outcome_in};
+ghost use Rattle.turn_client_core.specs.ProtocolRecv.{IsPart, outcome_in};
 ghost use Rattle.turn_client_requests.specs.Refused.{code_of, reason_of};
 ghost use Rattle.turn_stun.specs.Message.{id_of};
 
 use crate::protocol::TurnClientProtocol;
 use crate::reply::{connection_id_in, peer_in};
-use crate::told::Told;
+use crate::protocol_recv::TurnProtocolRecv;
 use std::alloc::AllocError;
 use std::net::SocketAddr;
 use turn_client_api::Origin;
@@ -58,7 +58,7 @@ impl TurnClientProtocol {
     /// # Errors
     ///
     /// If memory allocation fails. Nothing changes then.
-    pub(crate) fn attempt_indicated(&mut self, message: &Message<'_>) -> Result<Told, AllocError>
+    pub(crate) fn attempt_indicated(&mut self, message: &Message<'_>) -> Result<TurnProtocolRecv, AllocError>
         ensures answer { IfOk result (λ told. outcome_in message.now told ≡ (attempt_step message.now self.old).0) }
         ensures part { IfOk result (IsPart message.now self.old self.new) }
         ensures after { OnOk result (self.new ≡ (attempt_step message.now self.old).1) }
@@ -66,16 +66,16 @@ impl TurnClientProtocol {
         ensures wanted { OnErr result (IsSome (attempt_indicated message.now self.old)) }
     {
         let Some(connection_id) = connection_id_in(message) else {
-            return Ok(Told::Ignored);
+            return Ok(TurnProtocolRecv::Ignored);
         };
         let Some(peer) = peer_in(message) else {
-            return Ok(Told::Ignored);
+            return Ok(TurnProtocolRecv::Ignored);
         };
         if !self.accepts_attempt(peer) {
-            return Ok(Told::Ignored);
+            return Ok(TurnProtocolRecv::Ignored);
         }
         self.offer(connection_id, peer, Origin::ServerIndication)?;
-        Ok(Told::Handled)
+        Ok(TurnProtocolRecv::Handled)
     }
 
     /// Whether an indication that names this peer makes an offer: only for a peer with a permission, as

@@ -5,10 +5,10 @@ ghost use Rattle.turn_client_api.specs.Answers.{datagram_takes_none, is_data_ind
 ghost use Rattle.turn_client_api.specs.Effect.{closed};
 ghost use Rattle.turn_client_api.specs.Memory.{message_takes_memory, packet_takes_memory};
 ghost use Rattle.turn_client_api.specs.Payloads.{Ignored, channel_sent, datagram_step, is_channel_frame, message_step};
-ghost use Rattle.turn_client_core.specs.Told.{IsPart, outcome_in};
+ghost use Rattle.turn_client_core.specs.ProtocolRecv.{IsPart, outcome_in};
 
 use crate::protocol::TurnClientProtocol;
-use crate::told::Told;
+use crate::protocol_recv::TurnProtocolRecv;
 use std::alloc::AllocError;
 use turn_client_api::Phase;
 use turn_stun::instant::Instant;
@@ -24,7 +24,7 @@ impl TurnClientProtocol {
     /// If memory allocation fails for an action that a message requires. The client has ended then, and
     /// nothing else has changed. A ChannelData message and a Data indication allocate no memory, nor
     /// does a message that requires no action.
-    pub fn datagram(&mut self, bytes: &[u8], now: Instant) -> Result<Told, AllocError>
+    pub fn datagram(&mut self, bytes: &[u8], now: Instant) -> Result<TurnProtocolRecv, AllocError>
         requires before { self.old.phase ≡ Phase.Authenticating → self.old.grants ≡ [] }
         ensures answer { IfOk result (λ told. outcome_in bytes.now told ≡ (datagram_step bytes.now now self.old).0) }
         ensures part { IfOk result (IsPart bytes.now self.old self.new) }
@@ -45,7 +45,7 @@ impl TurnClientProtocol {
     /// # Errors
     ///
     /// If memory allocation fails. The client has ended then, and nothing else has changed.
-    fn message_or_end(&mut self, message: &Message<'_>, now: Instant) -> Result<Told, AllocError>
+    fn message_or_end(&mut self, message: &Message<'_>, now: Instant) -> Result<TurnProtocolRecv, AllocError>
         requires before { self.old.phase ≡ Phase.Authenticating → self.old.grants ≡ [] }
         ensures answer { IfOk result (λ told. outcome_in message.now told ≡ (message_step message.now now self.old).0) }
         ensures part { IfOk result (IsPart message.now self.old self.new) }
@@ -65,13 +65,13 @@ impl TurnClientProtocol {
 
     /// The result of the ChannelData message at the start of the bytes, if there is one: data of a
     /// peer. Allocates no memory.
-    fn frame_sent(&self, bytes: &[u8]) -> Told
+    fn frame_sent(&self, bytes: &[u8]) -> TurnProtocolRecv
         ensures outcome { outcome_in bytes.now result ≡ (if is_channel_frame bytes.now then channel_sent self.now bytes.now else Ignored) }
         ensures part { IsPart bytes.now self.now self.now result }
     {
         match ChannelData::parse(bytes) {
             Ok(frame) => self.channel_sent(bytes, &frame),
-            Err(_) => Told::Ignored,
+            Err(_) => TurnProtocolRecv::Ignored,
         }
     }
 }

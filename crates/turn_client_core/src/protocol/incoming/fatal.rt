@@ -3,11 +3,11 @@
 ghost use Rattle.std.specs.Prelude.{◌≡◌, IfOk, OnErr, OnOk};
 ghost use Rattle.turn_client_api.specs.Effect.{closed, ended, fail_all};
 ghost use Rattle.turn_client_api.specs.Payloads.{wrong_step};
-ghost use Rattle.turn_client_core.specs.Told.{IsPart, outcome_in};
+ghost use Rattle.turn_client_core.specs.ProtocolRecv.{IsPart, outcome_in};
 ghost use Rattle.turn_stun.specs.Message.{id_of};
 
 use crate::protocol::TurnClientProtocol;
-use crate::told::Told;
+use crate::protocol_recv::TurnProtocolRecv;
 use std::alloc::AllocError;
 use turn_client_api::Phase;
 use turn_stun::message::Message;
@@ -19,7 +19,7 @@ impl TurnClientProtocol {
     /// # Errors
     ///
     /// If memory allocation fails. Nothing changes then.
-    pub(crate) fn fatal(&mut self, message: &Message<'_>) -> Result<Told, AllocError>
+    pub(crate) fn fatal(&mut self, message: &Message<'_>) -> Result<TurnProtocolRecv, AllocError>
         ensures answer { IfOk result (λ told. outcome_in message.now told ≡ (wrong_step message.now self.old).0) }
         ensures part { IfOk result (IsPart message.now self.old self.new) }
         ensures after { OnOk result (self.new ≡ (wrong_step message.now self.old).1) }
@@ -27,10 +27,10 @@ impl TurnClientProtocol {
     {
         if self.phase == Phase::Requesting {
             self.fail_with(message)?;
-            return Ok(Told::Handled);
+            return Ok(TurnProtocolRecv::Handled);
         }
         self.fail()?;
-        Ok(Told::Handled)
+        Ok(TurnProtocolRecv::Handled)
     }
 
     /// Ends the request that the message answers, queues failure events for what the client requests,

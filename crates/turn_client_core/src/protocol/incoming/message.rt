@@ -9,12 +9,12 @@ ghost use Rattle.turn_client_api.specs.Payloads.{message_step, signed_step};
 ghost use Rattle.turn_client_api.specs.Requests.{connection_attempt_method};
 ghost use Rattle.turn_client_core.specs.Attempts.{CanSign, request_step};
 ghost use Rattle.turn_client_core.specs.Replies.{is_authenticating};
-ghost use Rattle.turn_client_core.specs.Told.{IsPart, outcome_in};
+ghost use Rattle.turn_client_core.specs.ProtocolRecv.{IsPart, outcome_in};
 ghost use Rattle.turn_stun.specs.Message.{id_of};
 
 use crate::protocol::TurnClientProtocol;
 use crate::protocol::incoming::judge::Judged;
-use crate::told::Told;
+use crate::protocol_recv::TurnProtocolRecv;
 use std::alloc::AllocError;
 use turn_client_api::Phase;
 use turn_stun::instant::Instant;
@@ -32,7 +32,7 @@ impl TurnClientProtocol {
         &mut self,
         message: &Message<'_>,
         now: Instant,
-    ) -> Result<Told, AllocError>
+    ) -> Result<TurnProtocolRecv, AllocError>
         requires before { self.old.phase ≡ Phase.Authenticating → self.old.grants ≡ [] }
         ensures answer { IfOk result (λ told. outcome_in message.now told ≡ (message_step message.now now self.old).0) }
         ensures part { IfOk result (IsPart message.now self.old self.new) }
@@ -43,10 +43,10 @@ impl TurnClientProtocol {
     {
         let judged = self.judge(message);
         match judged {
-            Judged::Unrelated => Ok(Told::Ignored),
+            Judged::Unrelated => Ok(TurnProtocolRecv::Ignored),
             Judged::Challenged => self.challenged(message, now),
             Judged::Fatal => self.fatal(message),
-            Judged::LateResponse => Ok(Told::Handled),
+            Judged::LateResponse => Ok(TurnProtocolRecv::Handled),
             Judged::DataIndication => Ok(self.data_indicated(message)),
             Judged::ConnectionAttempt => self.attempt_indicated(message),
             Judged::SignedRequest => self.requested(message),
@@ -61,7 +61,7 @@ impl TurnClientProtocol {
     /// # Errors
     ///
     /// If memory allocation fails. Nothing changes then.
-    fn requested(&mut self, message: &Message<'_>) -> Result<Told, AllocError>
+    fn requested(&mut self, message: &Message<'_>) -> Result<TurnProtocolRecv, AllocError>
         requires { CanSign self.old.phase }
         ensures answer { IfOk result (λ told. outcome_in message.now told ≡ (request_step message.now self.old).0) }
         ensures part { IfOk result (IsPart message.now self.old self.new) }
@@ -70,10 +70,10 @@ impl TurnClientProtocol {
         ensures wanted { OnErr result ((method_in message.now == connection_attempt_method) ≡ true) }
     {
         if message.method() != CONNECTION_ATTEMPT {
-            return Ok(Told::Ignored);
+            return Ok(TurnProtocolRecv::Ignored);
         }
         self.attempt_requested(message)?;
-        Ok(Told::Handled)
+        Ok(TurnProtocolRecv::Handled)
     }
 
     /// Processes a signed success response to an outstanding request.
@@ -81,7 +81,7 @@ impl TurnClientProtocol {
     /// # Errors
     ///
     /// If memory allocation fails. Nothing changes then.
-    fn succeeded(&mut self, message: &Message<'_>, now: Instant) -> Result<Told, AllocError>
+    fn succeeded(&mut self, message: &Message<'_>, now: Instant) -> Result<TurnProtocolRecv, AllocError>
         requires before { self.old.phase ≡ Phase.Authenticating → self.old.grants ≡ [] }
         ensures answer { IfOk result (λ told. outcome_in message.now told ≡ (signed_step true message.now now self.old).0) }
         ensures part { IfOk result (IsPart message.now self.old self.new) }
@@ -90,7 +90,7 @@ impl TurnClientProtocol {
     {
         if self.is_authenticating() {
             self.allocate_granted(message, now)?;
-            return Ok(Told::Handled);
+            return Ok(TurnProtocolRecv::Handled);
         }
         self.respond(message, true, now)
     }
@@ -100,7 +100,7 @@ impl TurnClientProtocol {
     /// # Errors
     ///
     /// If memory allocation fails. Nothing changes then.
-    fn failed(&mut self, message: &Message<'_>, now: Instant) -> Result<Told, AllocError>
+    fn failed(&mut self, message: &Message<'_>, now: Instant) -> Result<TurnProtocolRecv, AllocError>
         requires { self.old.phase ≡ Phase.Authenticating → is_outstanding (id_of message.now) self.old.transactions ≡ true }
         ensures answer { IfOk result (λ told. outcome_in message.now told ≡ (signed_step false message.now now self.old).0) }
         ensures part { IfOk result (IsPart message.now self.old self.new) }
@@ -109,7 +109,7 @@ impl TurnClientProtocol {
     {
         if self.is_authenticating() {
             self.allocate_denied(message, now)?;
-            return Ok(Told::Handled);
+            return Ok(TurnProtocolRecv::Handled);
         }
         self.respond(message, false, now)
     }

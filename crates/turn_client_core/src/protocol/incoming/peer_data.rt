@@ -5,12 +5,12 @@ ghost use Rattle.std.specs.Net.Socket.{socket_ip};
 ghost use Rattle.turn_client_api.specs.Grants.{has_active_permission};
 ghost use Rattle.turn_client_api.specs.Payloads.{channel_sent, data_indicated};
 ghost use Rattle.turn_client_core.specs.Indication.{icmp_of_peer, if_permitted};
-ghost use Rattle.turn_client_core.specs.Told.{IsPart, outcome_in};
+ghost use Rattle.turn_client_core.specs.ProtocolRecv.{IsPart, outcome_in};
 ghost use Rattle.turn_types.specs.Channel.{channel_data_at};
 
 use crate::indication::Indication;
 use crate::protocol::TurnClientProtocol;
-use crate::told::Told;
+use crate::protocol_recv::TurnProtocolRecv;
 use std::net::SocketAddr;
 use turn_stun::message::Message;
 use turn_types::attribute::Icmp;
@@ -20,59 +20,59 @@ impl TurnClientProtocol {
     /// The result of a Data indication: data of a peer whose IP address has an active permission,
     /// whether or not its allocation is expired, or an ICMP error if there is no data. Allocates no
     /// memory.
-    pub(crate) fn data_indicated(&self, message: &Message<'_>) -> Told
+    pub(crate) fn data_indicated(&self, message: &Message<'_>) -> TurnProtocolRecv
         ensures outcome { outcome_in message.now result ≡ data_indicated self.now message.now }
         ensures part { IsPart message.now self.now self.now result }
     {
         let found = Indication::of(message);
         if found.has_unknown() {
-            return Told::Ignored;
+            return TurnProtocolRecv::Ignored;
         }
         let Some(peer) = found.peer(message.transaction_id()) else {
-            return Told::Ignored;
+            return TurnProtocolRecv::Ignored;
         };
         match found.data_place(message.as_bytes()) {
             Some(place) => {
-                self.if_permitted(peer, Told::PeerData(self.ledger.transport(), peer, place))
+                self.if_permitted(peer, TurnProtocolRecv::PeerData(self.ledger.transport(), peer, place))
             }
             None => self.icmp_indicated(peer, &found.icmp(message.transaction_id())),
         }
     }
 
     /// The result of a Data indication without data.
-    fn icmp_indicated(&self, peer: SocketAddr, icmp: &Option<Icmp>) -> Told
+    fn icmp_indicated(&self, peer: SocketAddr, icmp: &Option<Icmp>) -> TurnProtocolRecv
         ensures { result ≡ icmp_of_peer peer icmp.now self.now }
     {
         match icmp {
             Some(icmp) => {
-                self.if_permitted(peer, Told::PeerIcmp(self.ledger.transport(), peer, *icmp))
+                self.if_permitted(peer, TurnProtocolRecv::PeerIcmp(self.ledger.transport(), peer, *icmp))
             }
-            None => Told::Ignored,
+            None => TurnProtocolRecv::Ignored,
         }
     }
 
     /// The result of the ChannelData message at the start of these bytes: data of the peer whose active
     /// channel has the number, in any phase. Allocates no memory.
-    pub(crate) fn channel_sent(&self, bytes: &[u8], frame: &ChannelData<'_>) -> Told
+    pub(crate) fn channel_sent(&self, bytes: &[u8], frame: &ChannelData<'_>) -> TurnProtocolRecv
         requires frame { frame.now ≡ channel_data_at bytes.now }
         requires whole { 4 + length frame.now.payload ≤ length bytes.now }
         ensures outcome { outcome_in bytes.now result ≡ channel_sent self.now bytes.now }
         ensures part { IsPart bytes.now self.now self.now result }
     {
         match self.ledger.table().channel_peer(frame.id()) {
-            Some(peer) => Told::PeerData(self.ledger.transport(), peer, 4..4 + frame.data().len()),
-            None => Told::Ignored,
+            Some(peer) => TurnProtocolRecv::PeerData(self.ledger.transport(), peer, 4..4 + frame.data().len()),
+            None => TurnProtocolRecv::Ignored,
         }
     }
 
     /// This result of an input from the peer, if the peer's IP address has an active permission, or
     /// else `Ignored`.
-    fn if_permitted(&self, peer: SocketAddr, told: Told) -> Told
+    fn if_permitted(&self, peer: SocketAddr, told: TurnProtocolRecv) -> TurnProtocolRecv
         ensures { result ≡ if_permitted (has_active_permission (socket_ip peer) self.now) told }
     {
         if self.has_active_permission(peer.ip()) {
             return told;
         }
-        Told::Ignored
+        TurnProtocolRecv::Ignored
     }
 }

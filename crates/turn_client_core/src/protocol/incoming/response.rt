@@ -8,16 +8,16 @@ ghost use Rattle.turn_client_api.specs.Payloads.{outcome_for, response_step};
 ghost use Rattle.turn_client_api.specs.Requests.{fresh_id, requested};
 ghost use Rattle.turn_client_api.specs.State.{State};
 ghost use Rattle.turn_client_core.specs.Effects.{after};
-ghost use Rattle.turn_client_core.specs.Told.{IsPart, outcome_in};
+ghost use Rattle.turn_client_core.specs.ProtocolRecv.{IsPart, outcome_in};
 ghost use Rattle.turn_client_core.specs.Replies.{asks_ipv6};
 ghost use Rattle.turn_client_grants.specs.GrantFilter.{purposes_in};
 ghost use Rattle.turn_stun.specs.Message.{id_of};
 
-use crate::asked::answered;
+use crate::answered_purposes::answered;
 use crate::effect::{Effect, answer_all};
 use crate::protocol::TurnClientProtocol;
 use crate::reply::has_code;
-use crate::told::Told;
+use crate::protocol_recv::TurnProtocolRecv;
 use smallvec::SmallVec;
 use std::alloc::{AllocError, Global};
 use turn_client_api::{Phase, Purpose, TurnEvent};
@@ -40,7 +40,7 @@ impl TurnClientProtocol {
         message: &Message<'_>,
         is_granted: bool,
         now: Instant,
-    ) -> Result<Told, AllocError>
+    ) -> Result<TurnProtocolRecv, AllocError>
         ensures answer { IfOk result (λ told. outcome_in message.now told ≡ (response_step is_granted message.now now self.old).0) }
         ensures part { IfOk result (IsPart message.now self.old self.new) }
         ensures after { OnOk result (self.new ≡ (response_step is_granted message.now now self.old).1) }
@@ -140,12 +140,12 @@ fn only_ipv6(alloc: Global) -> SmallVec<AddressFamily, 2>
 
 /// The result of a reply: one to a REFRESH is always `Handled`, and another one if its request was made
 /// for something of its method.
-fn told_of(message: &Message<'_>, purposes: &Purposes) -> Told
+fn told_of(message: &Message<'_>, purposes: &Purposes) -> TurnProtocolRecv
     ensures outcome { outcome_in message.now result ≡ outcome_for message.now (purposes_in purposes.now) }
     ensures part { (was s : State) → IsPart message.now was s result }
 {
     if purposes.first.is_some() || purposes.second.is_some() || message.method() == REFRESH {
-        return Told::Handled;
+        return TurnProtocolRecv::Handled;
     }
-    Told::Ignored
+    TurnProtocolRecv::Ignored
 }

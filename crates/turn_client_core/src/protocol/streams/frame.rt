@@ -4,11 +4,11 @@ ghost use Rattle.std.specs.Prelude.{◌≡◌, [], IfOk, IsOk, OnErr, OnOk, Some
 ghost use Rattle.turn_client_api.specs.Answers.{datagram_takes_none};
 ghost use Rattle.turn_client_api.specs.Memory.{packet_takes_memory, waiting_takes_memory};
 ghost use Rattle.turn_client_api.specs.Streams.{control_frame_step, waiting_frame_step};
-ghost use Rattle.turn_client_core.specs.Told.{IsPart, outcome_in};
+ghost use Rattle.turn_client_core.specs.ProtocolRecv.{IsPart, outcome_in};
 ghost use Rattle.turn_types.specs.Frames.{begins_message, frame_len};
 
 use crate::protocol::TurnClientProtocol;
-use crate::told::Told;
+use crate::protocol_recv::TurnProtocolRecv;
 use std::alloc::AllocError;
 use std::net::SocketAddr;
 use turn_client_api::Phase;
@@ -26,7 +26,7 @@ impl TurnClientProtocol {
     /// If memory allocation fails for an action that a message requires. Nothing changes then. A
     /// ChannelData message and a Data indication allocate no memory, nor does a message that requires
     /// no action.
-    pub(crate) fn control_frame(&mut self, frame: &[u8], now: Instant) -> Result<Told, AllocError>
+    pub(crate) fn control_frame(&mut self, frame: &[u8], now: Instant) -> Result<TurnProtocolRecv, AllocError>
         requires whole { frame_len frame.now ≡ Some (length frame.now) }
         requires before { self.old.phase ≡ Phase.Authenticating → self.old.grants ≡ [] }
         ensures answer { IfOk result (λ told. outcome_in frame.now told ≡ (control_frame_step frame.now now self.old).0) }
@@ -47,7 +47,7 @@ impl TurnClientProtocol {
     /// # Errors
     ///
     /// If memory allocation fails. Nothing changes then. A Data indication allocates none.
-    fn control_message(&mut self, frame: &[u8], now: Instant) -> Result<Told, AllocError>
+    fn control_message(&mut self, frame: &[u8], now: Instant) -> Result<TurnProtocolRecv, AllocError>
         requires begins { begins_message frame.now ≡ true }
         requires before { self.old.phase ≡ Phase.Authenticating → self.old.grants ≡ [] }
         ensures answer { IfOk result (λ told. outcome_in frame.now told ≡ (control_frame_step frame.now now self.old).0) }
@@ -59,7 +59,7 @@ impl TurnClientProtocol {
     {
         match Message::from_bytes(frame) {
             Ok(message) => self.message(&message, now),
-            Err(_) => Ok(Told::Handled),
+            Err(_) => Ok(TurnProtocolRecv::Handled),
         }
     }
 
@@ -75,7 +75,7 @@ impl TurnClientProtocol {
         local: SocketAddr,
         frame: &[u8],
         now: Instant,
-    ) -> Result<Told, AllocError>
+    ) -> Result<TurnProtocolRecv, AllocError>
         requires { frame_len frame.now ≡ Some (length frame.now) }
         ensures answer { IfOk result (λ told. outcome_in frame.now told ≡ (waiting_frame_step local frame.now now self.old).0) }
         ensures part { IfOk result (IsPart frame.now self.old self.new) }
@@ -84,7 +84,7 @@ impl TurnClientProtocol {
         ensures wanted { OnErr result (waiting_takes_memory local frame.now self.old ≡ true) }
     {
         match ChannelData::parse(frame) {
-            Ok(_) => Ok(Told::Ignored),
+            Ok(_) => Ok(TurnProtocolRecv::Ignored),
             Err(_) => self.waiting_message(local, frame, now),
         }
     }
@@ -99,7 +99,7 @@ impl TurnClientProtocol {
         local: SocketAddr,
         frame: &[u8],
         now: Instant,
-    ) -> Result<Told, AllocError>
+    ) -> Result<TurnProtocolRecv, AllocError>
         requires { begins_message frame.now ≡ true }
         ensures answer { IfOk result (λ told. outcome_in frame.now told ≡ (waiting_frame_step local frame.now now self.old).0) }
         ensures part { IfOk result (IsPart frame.now self.old self.new) }
@@ -110,9 +110,9 @@ impl TurnClientProtocol {
         match Message::from_bytes(frame) {
             Ok(message) => {
                 self.bind_step(local, &message, now)?;
-                Ok(Told::Handled)
+                Ok(TurnProtocolRecv::Handled)
             }
-            Err(_) => Ok(Told::Handled),
+            Err(_) => Ok(TurnProtocolRecv::Handled),
         }
     }
 }

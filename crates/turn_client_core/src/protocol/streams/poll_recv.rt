@@ -5,14 +5,14 @@ ghost use Rattle.turn_client_api.specs.Answers.{EndsAfterSteps, given_payload};
 ghost use Rattle.turn_client_api.specs.LawsOrder.{IsUngranted};
 ghost use Rattle.turn_client_api.specs.Memory.{frame_takes_memory};
 ghost use Rattle.turn_client_api.specs.Streams.{HoldsLittle, broken_at, frame_step, framed_stream_step, is_ready, poll_recv_step, detached_frame_step, with_bytes};
-ghost use Rattle.turn_client_core.specs.Told.{IsPart, outcome_in};
+ghost use Rattle.turn_client_core.specs.ProtocolRecv.{IsPart, outcome_in};
 ghost use Rattle.turn_client_core.specs.StreamSteps.{data_of, given_by};
 ghost use Rattle.turn_client_streams.specs.Held.{taken_out};
 ghost use Rattle.turn_types.specs.Frames.{frame_len};
 
 use crate::protocol::TurnClientProtocol;
 use crate::received::Received;
-use crate::told::Told;
+use crate::protocol_recv::TurnProtocolRecv;
 use std::alloc::AllocError;
 use std::net::SocketAddr;
 use turn_client_api::{Mode, Phase, TurnPeerData};
@@ -161,7 +161,7 @@ impl TurnClientProtocol {
         stream: &BufferedStream,
         frame: &[u8],
         now: Instant,
-    ) -> Result<Told, AllocError>
+    ) -> Result<TurnProtocolRecv, AllocError>
         requires whole { frame_len frame.now ≡ Some (length frame.now) }
         requires before { self.old.phase ≡ Phase.Authenticating → self.old.grants ≡ [] }
         ensures answer { IfOk result (λ told. outcome_in frame.now told ≡ (frame_step stream.now frame.now now self.old).0) }
@@ -173,8 +173,8 @@ impl TurnClientProtocol {
         match stream.mode() {
             Mode::Control => self.control_frame(frame, now),
             Mode::Waiting => self.waiting_frame(stream.local(), frame, now),
-            Mode::Bound(peer) => Ok(Told::PeerData(TransportType::Tcp, peer, 0..frame.len())),
-            Mode::Broken => Ok(Told::Handled),
+            Mode::Bound(peer) => Ok(TurnProtocolRecv::PeerData(TransportType::Tcp, peer, 0..frame.len())),
+            Mode::Broken => Ok(TurnProtocolRecv::Handled),
         }
     }
 
@@ -183,15 +183,15 @@ impl TurnClientProtocol {
     /// # Errors
     ///
     /// If memory allocation for the copy fails.
-    fn owned(&self, frame: &[u8], told: Told) -> Result<Option<Received>, AllocError>
+    fn owned(&self, frame: &[u8], told: TurnProtocolRecv) -> Result<Option<Received>, AllocError>
         requires part { IsPart frame.now self.now self.now told }
         ensures answer { IfOk result (λ given. option_map data_of given ≡ given_by (outcome_in frame.now told)) }
         ensures memory { given_by (outcome_in frame.now told) ≡ None → IsOk result }
     {
         match told {
-            Told::Handled => Ok(None),
-            Told::Ignored => Ok(None),
-            Told::PeerData(transport, peer, place) => {
+            TurnProtocolRecv::Handled => Ok(None),
+            TurnProtocolRecv::Ignored => Ok(None),
+            TurnProtocolRecv::PeerData(transport, peer, place) => {
                 let bytes = Vec::from_slice(self.alloc, &frame[place.start..place.end])?;
                 Ok(Some(Received {
                     transport,
@@ -199,7 +199,7 @@ impl TurnClientProtocol {
                     bytes,
                 }))
             }
-            Told::PeerIcmp(_, _, _) => Ok(None),
+            TurnProtocolRecv::PeerIcmp(_, _, _) => Ok(None),
         }
     }
 }

@@ -5,7 +5,7 @@ use Rattle.turn_auth.specs.Signature.{signed_text}
 use Rattle.turn_auth.proofs.SignLemmas.{begun_is_unsigned}
 use Rattle.turn_client_api.specs.Requests.{asked_attributes, message_of, method_for}
 use Rattle.turn_client_api.specs.State.{auth_of}
-use Rattle.turn_client_requests.specs.Asked.{asking}
+use Rattle.turn_client_requests.specs.RequestAttributes.{asking}
 use Rattle.turn_client_requests.proofs.AskedLemmas.{as_long_as_told}
 use Rattle.turn_client_requests.proofs.request.request_under.Goals as goal
 

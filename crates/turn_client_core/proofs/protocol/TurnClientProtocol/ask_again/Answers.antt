@@ -8,7 +8,7 @@ use Rattle.turn_client_api.specs.Grants.{purposes_of}
 use Rattle.turn_client_api.specs.Requests.{asked, drawn, fresh_id, queued, request_for}
 use Rattle.turn_client_api.specs.Retry.{state_after_retry}
 use Rattle.turn_client_api.specs.State.{auth_of}
-use Rattle.turn_client_requests.specs.Asked.{asking}
+use Rattle.turn_client_requests.specs.RequestAttributes.{asking}
 use Rattle.turn_client_grants.specs.Ledger.{with_ledger}
 use Rattle.turn_stun.specs.Message.{id_of}
 use Rattle.turn_client_core.specs.Outgoing.{Outgoing}

@@ -9,7 +9,7 @@ use Rattle.turn_client_api.specs.Judgement.{is_bind_of}
 use Rattle.turn_client_api.specs.Requests.{asked, fresh_id, queued, request_for, sent_from}
 use Rattle.turn_client_api.specs.Retry.{with_held}
 use Rattle.turn_client_api.specs.State.{auth_of}
-use Rattle.turn_client_requests.specs.Asked.{asking}
+use Rattle.turn_client_requests.specs.RequestAttributes.{asking}
 use Rattle.turn_client_grants.specs.Asked.{bind_retried}
 use Rattle.turn_client_grants.specs.Ledger.{with_ledger}
 use Rattle.turn_stun.specs.Message.{id_of}

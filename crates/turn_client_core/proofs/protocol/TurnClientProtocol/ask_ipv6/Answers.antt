@@ -8,7 +8,7 @@ use Rattle.turn_client_api.specs.Grants.{is_for_allocation, wait}
 use Rattle.turn_client_api.specs.Requests.{asked, drawn, fresh_id, queued, request_for}
 use Rattle.turn_client_api.specs.declared.event.TurnEvent.TheVariants.{AllocationCreateFailed}
 use Rattle.turn_client_api.specs.declared.grant.Purpose.TheVariants.{ForAllocation}
-use Rattle.turn_client_requests.specs.Asked.{asking}
+use Rattle.turn_client_requests.specs.RequestAttributes.{asking}
 use Rattle.turn_client_grants.specs.Ledger.{with_ledger}
 use Rattle.turn_stun.specs.Message.{id_of}
 use Rattle.turn_types.specs.declared.family.AddressFamily.TheVariants.{IPV4, IPV6}

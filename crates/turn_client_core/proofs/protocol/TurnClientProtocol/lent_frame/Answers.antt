@@ -1,6 +1,6 @@
 use Rattle.std.proofs.Common.{◌≡◌, ◌∙◌, ℕ, List, subst}
 use Rattle.turn_client_api.specs.Streams.{frame_step}
-use Rattle.turn_client_core.specs.Told.{IsPart, IsWithin, outcome_in}
+use Rattle.turn_client_core.specs.ProtocolRecv.{IsPart, IsWithin, outcome_in}
 use Rattle.turn_client_core.specs.StreamSteps.{part_at}
 use Rattle.turn_client_core.proofs.PieceLemmas.{lent-outcome, part-IsWithin}
 use Rattle.turn_client_core.proofs.protocol.TurnClientProtocol.lent_frame.Goals as goal

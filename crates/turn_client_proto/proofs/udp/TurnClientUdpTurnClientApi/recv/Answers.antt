@@ -1,7 +1,7 @@
 use Rattle.std.proofs.Common.{◌≡◌, ◌∙◌, ℕ, List, ap, subst, sym}
 use Rattle.turn_client_api.specs.Payloads.{Outcome, datagram_step}
 use Rattle.turn_client_api.specs.State.{State}
-use Rattle.turn_client_core.specs.Told.{outcome_in}
+use Rattle.turn_client_core.specs.ProtocolRecv.{outcome_in}
 use Rattle.turn_client_proto.proofs.NoStreamLemmas.{own-datagram}
 use Rattle.turn_client_proto.proofs.udp.TurnClientUdpTurnClientApi.recv.Goals as goal
 

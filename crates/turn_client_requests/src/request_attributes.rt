@@ -4,7 +4,7 @@ ghost use Rattle.std.specs.Prelude.{◌≡◌, ◌≤◌, ◌+◌, length, true,
 ghost use Rattle.turn_stun.specs.Message.{attributes_of};
 ghost use Rattle.turn_auth.specs.Signature.{AddsAll, additions_len, is_unsigned};
 ghost use Rattle.turn_client_api.specs.Requests.{family_attributes, method_for, without_port};
-ghost use Rattle.turn_client_requests.specs.Asked.{AddsAsked, IsAskedLen};
+ghost use Rattle.turn_client_requests.specs.RequestAttributes.{AddsAsked, IsAskedLen};
 
 use crate::write::{add, len_of};
 use std::alloc::AllocError;

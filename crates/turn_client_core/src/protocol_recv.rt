@@ -3,7 +3,7 @@
 ghost use Rattle.std.specs.Prelude.{◌≡◌, ◌≤◌, length, slice_range};
 ghost use Rattle.turn_client_api.specs.Answers.{HandsBack, outcome_of};
 ghost use Rattle.turn_client_api.specs.Streams.{owned};
-ghost use Rattle.turn_client_core.specs.Told.{IsWithin, outcome_in};
+ghost use Rattle.turn_client_core.specs.ProtocolRecv.{IsWithin, outcome_in};
 
 use std::convert::AsSlice;
 use std::net::SocketAddr;
@@ -14,7 +14,7 @@ use turn_types::attribute::Icmp;
 
 /// The result of processing a message of the server, or a ChannelData message.
 #[derive(Debug, Drop)]
-pub enum Told {
+pub enum TurnProtocolRecv {
     /// It was for the client, which may now have a packet to send or an event to report.
     Handled,
     /// It was not for the client. Nothing changed, except that a request may no longer be outstanding.
@@ -26,7 +26,7 @@ pub enum Told {
     PeerIcmp(TransportType, SocketAddr, Icmp),
 }
 
-impl Told {
+impl TurnProtocolRecv {
     /// The result for the caller that passed in the bytes: data is a range of them.
     pub fn lent<T: AsSlice<u8> + Drop>(self, transmit: Transmit<T>) -> TurnRecvRet<T>
         requires { IsWithin (T.items transmit.payload) self }
@@ -34,14 +34,14 @@ impl Told {
         ensures hands_back { HandsBack transmit result }
     {
         match self {
-            Told::Handled => TurnRecvRet::Handled,
-            Told::Ignored => TurnRecvRet::Ignored(transmit),
-            Told::PeerData(transport, peer, place) => {
+            TurnProtocolRecv::Handled => TurnRecvRet::Handled,
+            TurnProtocolRecv::Ignored => TurnRecvRet::Ignored(transmit),
+            TurnProtocolRecv::PeerData(transport, peer, place) => {
                 let Transmit { payload, .. } = transmit;
                 let part = DataRangeOrOwned::Range(DataRange::new(payload, place));
                 TurnRecvRet::PeerData(TurnPeerData::new(transport, peer, part))
             }
-            Told::PeerIcmp(transport, peer, icmp) => TurnRecvRet::PeerIcmp {
+            TurnProtocolRecv::PeerIcmp(transport, peer, icmp) => TurnRecvRet::PeerIcmp {
                 transport,
                 peer,
                 icmp_type: icmp.icmp_type,
@@ -63,13 +63,13 @@ impl Told {
         ensures hands_back { HandsBack transmit result }
     {
         match self {
-            Told::Handled => TurnRecvRet::Handled,
-            Told::Ignored => TurnRecvRet::Ignored(transmit),
-            Told::PeerData(transport, peer, place) => {
+            TurnProtocolRecv::Handled => TurnRecvRet::Handled,
+            TurnProtocolRecv::Ignored => TurnRecvRet::Ignored(transmit),
+            TurnProtocolRecv::PeerData(transport, peer, place) => {
                 let part = DataRangeOrOwned::Owned(part_of(bytes, &place));
                 TurnRecvRet::PeerData(TurnPeerData::new(transport, peer, part))
             }
-            Told::PeerIcmp(transport, peer, icmp) => TurnRecvRet::PeerIcmp {
+            TurnProtocolRecv::PeerIcmp(transport, peer, icmp) => TurnRecvRet::PeerIcmp {
                 transport,
                 peer,
                 icmp_type: icmp.icmp_type,
