@@ -105,7 +105,7 @@ impl Caller {
     }
 
     /// Runs one iteration of the loop, at the current time.
-    fn turn<C: TurnClientApi>(
+    fn drive_client<C: TurnClientApi>(
         &mut self,
         client: &mut C,
         rules: &[Rule<'_>],

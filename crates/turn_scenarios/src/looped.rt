@@ -13,7 +13,7 @@ use std::test::Fail;
 use turn_client_api::{TurnClientApi, TurnEvent};
 use turn_stun::transport::{Transmit, TransportType};
 use turn_types::transmit::DelayedTransmitBuild;
-use turn_uses::{Rest, Task, turn};
+use turn_uses::{Rest, Task, drive_client};
 
 /// The time from a request to its response, in milliseconds.
 const DELAY: u32 = 20;
@@ -120,10 +120,10 @@ impl<'a> Looped<'a> {
     }
 
     /// One iteration of the loop.
-    fn turn<C: TurnClientApi>(&mut self, client: &mut C) -> Result<Rest, AllocError> {
+    fn drive_client<C: TurnClientApi>(&mut self, client: &mut C) -> Result<Rest, AllocError> {
         let mut tasks = Vec::new(self.alloc);
         let came = self.next_packet(client)?;
-        let rest = turn(client, came, at(self.now), self.most, &mut tasks)?;
+        let rest = drive_client(client, came, at(self.now), self.most, &mut tasks)?;
         for task in tasks {
             self.carry_out(&task)?;
         }

@@ -1,3 +1,3 @@
 pub mod EndedLemmas
 pub mod RunLemmas
-pub mod TurnedLemmas
+pub mod DriverLemmas

@@ -20,7 +20,7 @@ use Rattle.turn_client_api.specs.declared.poll.TurnPollRet.TheVariants as Poll
 use Rattle.turn_uses.specs.Given.{Given, FromPeer, Happened, ToSend}
 use Rattle.turn_uses.specs.Next.{Answer, Does, Rests, by_streams, by_time, next_step, to_send, to_tell, waiting}
 use Rattle.turn_uses.specs.Run.{IsAsk, IsRun, IsWhole, all_given, asked_for, given_by}
-use Rattle.turn_uses.specs.Turned.{Turned, begun, going, once_more, stands, turned, with_answer}
+use Rattle.turn_uses.specs.Driver.{DriveState, begun, going, once_more, stands, drive_steps, with_answer}
 use Rattle.turn_uses.specs.declared.task.Rest.{Rest}
 use Rattle.turn_uses.specs.declared.task.Rest.TheVariants.{Until, Now, Ended}
 
@@ -82,7 +82,7 @@ asks-append : (now : ℕ) (calls more : List Call) → AllByRecursion (IsAsk now
 asks-append now [] more all others = others
 asks-append now (call ∷ calls) more (asks, all) others = (asks, asks-append now calls more all others)
 
-IsRun-append : (calls more : List Call) (t u v : Turned) → IsRun calls t u → IsRun more u v → IsRun (calls ++ more) t v
+IsRun-append : (calls more : List Call) (t u v : DriveState) → IsRun calls t u → IsRun more u v → IsRun (calls ++ more) t v
 IsRun-append calls more t u v one other = (
   other.0
       ∙ (ap (λ given. given ++ all_given u.client more) one.0
@@ -94,10 +94,10 @@ IsRun-append calls more t u v one other = (
 
 -- ---- one iteration of the loop
 
-abbrev Runs : ℕ → Turned → Turned → Type 0
+abbrev Runs : ℕ → DriveState → DriveState → Type 0
 Runs now t u = (calls : List Call) × AllByRecursion (IsAsk now) calls × IsRun calls t u
 
-Runs-append : (now : ℕ) (t u v : Turned) → Runs now t u → Runs now u v → Runs now t v
+Runs-append : (now : ℕ) (t u v : DriveState) → Runs now t u → Runs now u v → Runs now t v
 Runs-append now t u v (calls, all, run) (more, others, after) = (calls ++ more, asks-append now calls more all others, IsRun-append calls more t u v run after)
 
 answer-run : (now : ℕ) (given : List Given) (s : State) (p : Answer × State) → GoesOn now [] s p → Runs now (going given s) (with_answer given p)
@@ -109,25 +109,25 @@ once_more-run now given Now s = answer-run now given s (next_step now s) (next-r
 once_more-run now given (Until moment) s = ([], tt, (sym (append-nil given), refl))
 once_more-run now given Ended s = ([], tt, (sym (append-nil given), refl))
 
-turned-run : (n now : ℕ) (t : Turned) → Runs now t (turned n now t)
-unfolding turned
+turned-run : (n now : ℕ) (t : DriveState) → Runs now t (drive_steps n now t)
+unfolding drive_steps
 turned-run zero now t = ([], tt, (sym (append-nil t.given), refl))
 turned-run (suc n) now t =
-    let u = turned n now t in
+    let u = drive_steps n now t in
     Runs-append now t u (once_more now u) (turned-run n now t) (once_more-run now u.given u.rest u.client)
 
 -- the input is passed in first
-begun-run : (packet : Transmit (List ℕ)) (now : ℕ) (t : Turned) → IsRun (Recv packet now ∷ []) t (begun (Some packet) now t)
+begun-run : (packet : Transmit (List ℕ)) (now : ℕ) (t : DriveState) → IsRun (Recv packet now ∷ []) t (begun (Some packet) now t)
 begun-run packet now t = (ap (λ given. t.given ++ given) (sym (append-nil (given_by (Recv packet now) t.client))), refl)
 
-turn-whole : (came : Option (Transmit (List ℕ))) (most now : ℕ) (t : Turned) → IsWhole came now t (turned most now (begun came now t))
+turn-whole : (came : Option (Transmit (List ℕ))) (most now : ℕ) (t : DriveState) → IsWhole came now t (drive_steps most now (begun came now t))
 turn-whole None most now t = turned-run most now t
 turn-whole (Some packet) most now t = by (turned-run most now (begun (Some packet) now t))
   where
-    by : Runs now (begun (Some packet) now t) (turned most now (begun (Some packet) now t)) → IsWhole (Some packet) now t (turned most now (begun (Some packet) now t))
-    by (calls, all, run) = (calls, all, IsRun-append (Recv packet now ∷ []) calls t (begun (Some packet) now t) (turned most now (begun (Some packet) now t)) (begun-run packet now t) run)
+    by : Runs now (begun (Some packet) now t) (drive_steps most now (begun (Some packet) now t)) → IsWhole (Some packet) now t (drive_steps most now (begun (Some packet) now t))
+    by (calls, all, run) = (calls, all, IsRun-append (Recv packet now ∷ []) calls t (begun (Some packet) now t) (drive_steps most now (begun (Some packet) now t)) (begun-run packet now t) run)
 
 -- the same holds of the list that is returned
-pub whole-ok : {E : Type 0} (r : Result Rest E) (came : Option (Transmit (List ℕ))) (most now : ℕ) (t : Turned) (tasks : List Task) (s : State) → IfOk r (λ rest. stands tasks rest s ≡ turned most now (begun came now t)) → OnOk r (IsWhole came now t (stands tasks Now s))
-whole-ok (Ok rest) came most now t tasks s told = subst (λ (u : Turned). IsWhole came now t (record u { rest = Now })) (sym told) (turn-whole came most now t)
+pub whole-ok : {E : Type 0} (r : Result Rest E) (came : Option (Transmit (List ℕ))) (most now : ℕ) (t : DriveState) (tasks : List Task) (s : State) → IfOk r (λ rest. stands tasks rest s ≡ drive_steps most now (begun came now t)) → OnOk r (IsWhole came now t (stands tasks Now s))
+whole-ok (Ok rest) came most now t tasks s told = subst (λ (u : DriveState). IsWhole came now t (record u { rest = Now })) (sym told) (turn-whole came most now t)
 whole-ok (Err e) came most now t tasks s told = tt

@@ -1,4 +1,4 @@
 pub mod Given
 pub mod Next
 pub mod Run
-pub mod Turned
+pub mod Driver

@@ -13,7 +13,7 @@ use Rattle.turn_client_api.specs.declared.call.Call.TheVariants.{Recv, PollRecv,
 use Rattle.turn_client_api.specs.declared.poll.TurnPollRet.{TurnPollRet}
 use Rattle.turn_client_api.specs.declared.poll.TurnPollRet.TheVariants as Poll
 use Rattle.turn_uses.specs.Given.{Given, FromPeer, Happened, ToSend, ToOpen, ToClose, given_in}
-use Rattle.turn_uses.specs.Turned.{Turned}
+use Rattle.turn_uses.specs.Driver.{DriveState}
 
 -- ---- what the calls of a client return
 
@@ -49,11 +49,11 @@ hand_in_calls None now = []
 hand_in_calls (Some packet) now = Recv packet now ∷ []
 
 -- the calls return this, and leave the client so
-abbrev pub IsRun : List Call → Turned → Turned → Type 0
+abbrev pub IsRun : List Call → DriveState → DriveState → Type 0
 IsRun calls was is = (is.given ≡ was.given ++ all_given was.client calls) × (is.client ≡ state_after_all was.client calls)
 
 -- The calls made are one that passes in the input, if any, and then polls. The list has everything that they
 -- return, in order, and nothing else; the client is as they leave it.
-abbrev pub IsWhole : Option (Transmit (List ℕ)) → ℕ → Turned → Turned → Type 0
+abbrev pub IsWhole : Option (Transmit (List ℕ)) → ℕ → DriveState → DriveState → Type 0
 IsWhole came now was is =
     (calls : List Call) × AllByRecursion (IsAsk now) calls × IsRun (hand_in_calls came now ++ calls) was is

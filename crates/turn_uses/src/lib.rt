@@ -7,14 +7,14 @@
 //!     +--- sleep until <-----+ Rest
 //! ```
 //!
-//! Begin with [`turn`]: it passes one packet in, polls the client for all that it has to do, and returns when
+//! Begin with [`drive_client`]: it passes one packet in, polls the client for all that it has to do, and returns when
 //! to wake up. [`next_task`] polls for one task alone, and takes no list. Both use the trait
 //! [`TurnClientApi`](turn_client_api::TurnClientApi) alone, so their guarantees hold for every client that
 //! keeps the trait's contracts.
 //!
 //! ```text
 //! loop {
-//!     let rest = turn(&mut client, came.take(), clock.now(), 64, &mut tasks)?;
+//!     let rest = drive_client(&mut client, came.take(), clock.now(), 64, &mut tasks)?;
 //!     for task in tasks.drain(..) {
 //!         app.carry_out(task, &mut client);
 //!     }
@@ -29,8 +29,8 @@
 
 mod next;
 mod task;
-mod turns;
+mod driver;
 
 pub use next::{Next, next_task};
 pub use task::{Rest, Task};
-pub use turns::turn;
+pub use driver::drive_client;

@@ -2,16 +2,16 @@ use Rattle.std.proofs.Common.{rules, ◌≡◌, ◌∙◌, ◌++◌, ◌∷◌, 
 use Rattle.std.proofs.lemmas.List.{map-append}
 use Rattle.turn_uses.specs.Given.{given_of}
 use Rattle.turn_uses.specs.Next.{Does, Rests, answer_of}
-use Rattle.turn_uses.specs.Turned.{going, turned, with_answer}
+use Rattle.turn_uses.specs.Driver.{going, drive_steps, with_answer}
 use Rattle.turn_uses.specs.declared.task.Task.{Task}
 use Rattle.turn_uses.specs.declared.task.Rest.{Rest}
 use Rattle.turn_uses.specs.declared.task.Rest.TheVariants.{Now}
-use Rattle.turn_uses.proofs.TurnedLemmas.{on_err, stops-client, stops-list, turned-going, turned-rest}
-use Rattle.turn_uses.proofs.turns.draw.Goals as goal
-use Rattle.turn_uses.proofs.turns.draw.Goals.{in-Do+in_ok-push-in-Do, in-Rest+else-ne}
+use Rattle.turn_uses.proofs.DriverLemmas.{on_err, stops-client, stops-list, turned-going, turned-rest}
+use Rattle.turn_uses.proofs.driver.poll_tasks.Goals as goal
+use Rattle.turn_uses.proofs.driver.poll_tasks.Goals.{in-Do+in_ok-push-in-Do, in-Rest+else-ne}
 
 pub loop-init : goal.loop-init
-unfolding turned
+unfolding drive_steps
 loop-init g c = refl
 
 pub returns-in_err-reserve-clause-no_memory : goal.returns-in_err-reserve-clause-no_memory

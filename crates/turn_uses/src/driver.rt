@@ -4,7 +4,7 @@ ghost use Rattle.std.specs.Prelude.{◌≡◌, ◌≤◌, ◌^◌, IfOk, OnErr, 
 ghost use Rattle.turn_uses.specs.Given.{packet_in, packet_of};
 ghost use Rattle.turn_uses.specs.Next.{IsRestful};
 ghost use Rattle.turn_uses.specs.Run.{IsWhole};
-ghost use Rattle.turn_uses.specs.Turned.{Draws, Stops, StopsAtHand, begun, so_far, stands, turn_step, turned};
+ghost use Rattle.turn_uses.specs.Driver.{Draws, Stops, StopsAtHand, begun, drive_state, stands, drive_step, drive_steps};
 
 use crate::next::{Next, next_task};
 use crate::task::{Rest, Task};
@@ -22,7 +22,7 @@ use turn_stun::transport::Transmit;
 /// Memory allocation failed. Either it failed for the list, and that call of the client was not made; or it
 /// failed in the client, which has then ended as its own docs say. The list keeps what the client returned
 /// before.
-pub fn turn<C: TurnClientApi>(
+pub fn drive_client<C: TurnClientApi>(
     client: &mut C,
     came: Option<Transmit<Vec<u8>>>,
     now: Instant,
@@ -30,26 +30,26 @@ pub fn turn<C: TurnClientApi>(
     tasks: &mut Vec<Task>,
 ) -> Result<Rest, AllocError>
     requires now_in_range { now ≤ 2 ^ 62 }
-    ensures ok { IfOk result (λ rest. stands tasks.new.items rest (C.state client.new) ≡ turn_step most came now tasks.old.items (C.state client.old)) }
-    ensures whole { OnOk result (IsWhole (packet_in came) now (so_far tasks.old.items (C.state client.old)) (so_far tasks.new.items (C.state client.new))) }
+    ensures ok { IfOk result (λ rest. stands tasks.new.items rest (C.state client.new) ≡ drive_step most came now tasks.old.items (C.state client.old)) }
+    ensures whole { OnOk result (IsWhole (packet_in came) now (drive_state tasks.old.items (C.state client.old)) (drive_state tasks.new.items (C.state client.new))) }
     ensures restful { IfOk result (λ rest. IsRestful rest now (C.state client.new)) }
-    ensures no_memory { OnErr result (Stops most came now (so_far tasks.old.items (C.state client.old)) (so_far tasks.new.items (C.state client.new))) }
+    ensures no_memory { OnErr result (Stops most came now (drive_state tasks.old.items (C.state client.old)) (drive_state tasks.new.items (C.state client.new))) }
 {
     if let Some(packet) = came {
-        hand_in(client, packet, now, tasks)?;
+        receive(client, packet, now, tasks)?;
     }
-    draw(client, now, most, tasks)
+    poll_tasks(client, now, most, tasks)
 }
 
 /// Passes a packet in. What the client returns at once is appended to the list.
-fn hand_in<C: TurnClientApi>(
+fn receive<C: TurnClientApi>(
     client: &mut C,
     came: Transmit<Vec<u8>>,
     now: Instant,
     tasks: &mut Vec<Task>,
 ) -> Result<(), AllocError>
     requires now_in_range { now ≤ 2 ^ 62 }
-    ensures ok { OnOk result (so_far tasks.new.items (C.state client.new) ≡ begun (Some (packet_of came)) now (so_far tasks.old.items (C.state client.old))) }
+    ensures ok { OnOk result (drive_state tasks.new.items (C.state client.new) ≡ begun (Some (packet_of came)) now (drive_state tasks.old.items (C.state client.old))) }
     ensures list { OnErr result (tasks.new.items ≡ tasks.old.items) }
     ensures no_memory { OnErr result (StopsAtHand (Some (packet_of came)) now (C.state client.old) (C.state client.new)) }
 {
@@ -76,16 +76,16 @@ fn hand_in<C: TurnClientApi>(
 }
 
 /// Polls the client until it has nothing more to do, at most `most` times.
-fn draw<C: TurnClientApi>(
+fn poll_tasks<C: TurnClientApi>(
     client: &mut C,
     now: Instant,
     most: u32,
     tasks: &mut Vec<Task>,
 ) -> Result<Rest, AllocError>
     requires now_in_range { now ≤ 2 ^ 62 }
-    ensures ok { IfOk result (λ rest. stands tasks.new.items rest (C.state client.new) ≡ turned most now (so_far tasks.old.items (C.state client.old))) }
+    ensures ok { IfOk result (λ rest. stands tasks.new.items rest (C.state client.new) ≡ drive_steps most now (drive_state tasks.old.items (C.state client.old))) }
     ensures restful { IfOk result (λ rest. IsRestful rest now (C.state client.new)) }
-    ensures no_memory { OnErr result (Draws most now (so_far tasks.old.items (C.state client.old)) (so_far tasks.new.items (C.state client.new))) }
+    ensures no_memory { OnErr result (Draws most now (drive_state tasks.old.items (C.state client.old)) (drive_state tasks.new.items (C.state client.new))) }
 {
     for _ in 0..most {
         tasks.reserve(1)?;
