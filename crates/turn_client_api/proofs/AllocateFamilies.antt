@@ -11,9 +11,9 @@ use Rattle.turn_agent.specs.Agent.{first_sent, is_outstanding, resent, sent_agai
 use Rattle.turn_agent.specs.declared.transaction.Transaction.{Transaction}
 use Rattle.turn_client_api.specs.Config.{Config}
 use Rattle.turn_client_api.specs.State.{State, initial, Phase, New, Requesting, Authenticating, Allocated, Closed, Grant, Allocation, Purpose, ForAllocation, Listing}
-use Rattle.turn_client_api.specs.Grants.{is_channel_of, is_connect_to, is_for, is_of, is_permission_of, purposes_of, without}
-use Rattle.turn_client_api.specs.Requests.{asked, first_allocate, listings, request_for}
-use Rattle.turn_client_api.specs.Effect.{ended, phase_with, relayed_in, taken_addresses}
+use Rattle.turn_client_api.specs.Grants.{is_channel_of, is_connect_to, is_for, is_of, is_permission_of, purposes_of, without_grants}
+use Rattle.turn_client_api.specs.Requests.{request_started, first_allocate, listings, request_for}
+use Rattle.turn_client_api.specs.Effect.{transaction_ended, phase_with, relayed_in, taken_addresses}
 use Rattle.turn_client_api.specs.Retry.{phase_after}
 use Rattle.turn_client_api.specs.Handled.{Input, handled}
 use Rattle.turn_client_api.specs.Steps.{Call, Leaves}
@@ -66,7 +66,7 @@ fewer p s h = (
 )
 
 -- with the grants of a kind their requests are unlisted
-gone : (which : Grant → Bool) (s : State) → StayInOrder s (without which s)
+gone : (which : Grant → Bool) (s : State) → StayInOrder s (without_grants which s)
 gone which s h = fewer (λ l. not (list_any (λ g. which g && is_for l.purpose g) s.grants)) s h
 
 -- ---- families change
@@ -106,7 +106,7 @@ of-purpose l p ls e there = subst (λ (q : Purpose). Has (listing l.id q) ls) e 
 
 module _ (id : ℕ) (text : List ℕ) (purposes : List Purpose) (now : ℕ) (s : State) (spelled : IsSpelled id text purposes s) (h : IsInOrder s) where
   abbrev t : State
-  t = asked id text purposes now s
+  t = request_started id text purposes now s
 
   abbrev new : Transaction
   new = first_sent id s.remote now text
@@ -178,18 +178,18 @@ module _ (id : ℕ) (text : List ℕ) (purposes : List Purpose) (now : ℕ) (s :
       of (inl u) = by u (eqb y.id id) refl
       of (inr granted) = absurd (asked-none granted y.id there)
 
-  asks-in_order : IsInOrder (asked id text purposes now s)
+  asks-in_order : IsInOrder (request_started id text purposes now s)
   asks-in_order = (asked-alone, asked-none, asked-all, h.3)
 
 -- ---- a request ends, or is retransmitted
 
-finishes-in_order : (id : ℕ) (s : State) → StayInOrder s (ended id s)
+finishes-in_order : (id : ℕ) (s : State) → StayInOrder s (transaction_ended id s)
 finishes-in_order id s h = (h.0, h.1, all, h.3)
   where
     left : Transaction → Bool
     left x = not (eqb x.id id)
 
-    all : (y : Transaction) → Has y (filter (λ (x : Transaction). not (eqb x.id id)) s.transactions) → Has (listing y.id ForAllocation) s.listed → HasAsked y.id (ended id s)
+    all : (y : Transaction) → Has y (filter (λ (x : Transaction). not (eqb x.id id)) s.transactions) → Has (listing y.id ForAllocation) s.listed → HasAsked y.id (transaction_ended id s)
     all y here there =
         let (before, passes) = has-filter (λ (x : Transaction). not (eqb x.id id)) y s.transactions here in
         let (x, is, same, asks) = h.2 y before there in
@@ -289,22 +289,22 @@ StayInOrder-KeepsAllEdits = record {
 -- ---- all calls
 
 pub in_order-stated : (s : State) → IsInOrder s → AllocatesInOrder s
-in_order-stated s h = ((λ u l there. h.0 u l (contains-has l s.listed there), λ granted id there. h.1 granted id (contains-has _ s.listed there)), asked, h.3)
+in_order-stated s h = ((λ u l there. h.0 u l (contains-has l s.listed there), λ granted id there. h.1 granted id (contains-has _ s.listed there)), request_started, h.3)
   where
-    asked : (id : ℕ) → IsAllocate id s → is_outstanding id s.transactions ≡ true → IsAskedForFamilies id s
-    asked id listed outstanding =
+    request_started : (id : ℕ) → IsAllocate id s → is_outstanding id s.transactions ≡ true → IsAskedForFamilies id s
+    request_started id listed outstanding =
         let (y, here, e) = any-has (λ (x : Transaction). eqb x.id id) s.transactions outstanding in
         let named = eqb-true y.id id e in
         let (x, is, same, asks) = h.2 y here (subst (λ (n : ℕ). Has (listing n ForAllocation) s.listed) (sym named) (contains-has (listing id ForAllocation) s.listed listed)) in
         (x, has-contains x s.transactions is, same ∙ named, asks)
 
 pub stated-in_order : (s : State) → AllocatesInOrder s → IsInOrder s
-stated-in_order s ((alone, none), asked, configured) = (λ u l there. alone u l (has-contains l s.listed there), λ granted id there. none granted id (has-contains (listing id ForAllocation) s.listed there), all, configured)
+stated-in_order s ((alone, none), request_started, configured) = (λ u l there. alone u l (has-contains l s.listed there), λ granted id there. none granted id (has-contains (listing id ForAllocation) s.listed there), all, configured)
   where
     all : AllAsked s
     all y here there =
         let outstanding = has-any (λ (x : Transaction). eqb x.id y.id) y s.transactions here (eq-eqb y.id y.id refl) in
-        let (x, is, same, asks) = asked y.id (has-contains (listing y.id ForAllocation) s.listed there) outstanding in
+        let (x, is, same, asks) = request_started y.id (has-contains (listing y.id ForAllocation) s.listed there) outstanding in
         (x, contains-has x s.transactions is, same, asks)
 
 pub initial-AllocatesInOrder : (transport : TransportType) (local remote : SocketAddr) (config : Config) (seed : List ℕ) → AllocatesInOrder (initial transport local remote config seed)
@@ -320,18 +320,18 @@ pub leaves-allocations : (call : Call) (s t : State) → Leaves call s t → All
 leaves-allocations call s t leaves h a there = by (leaves-grants call s t (Allocation a) leaves there tt)
   where
     turned : (one : Input) → Contains (handled call s) one → IsGrantInput (Allocation a) one → IsAllocationInput a one
-    turned one among turn = (turn, asked)
+    turned one among turn = (turn, request_started)
       where
         order : AllocatesInOrder one.before
         order = in_order-stated one.before (before-kept StayInOrder (edits-IsKept StayInOrder StayInOrder-KeepsAllEdits (λ s streams h. h)) call s one among (stated-in_order s h))
 
-        asked : turn.grant.1.purpose ≡ ForAllocation → IsAskedForFamilies (id_of one.bytes) one.before
-        asked e =
+        request_started : turn.grant.1.purpose ≡ ForAllocation → IsAskedForFamilies (id_of one.bytes) one.before
+        request_started e =
             let answers = subst (λ (p : Purpose). Contains (purposes_of (id_of one.bytes) one.before) p) e turn.grant.1.listed in
             let listed = purpose-with (id_of one.bytes) ForAllocation one.before (contains-has ForAllocation (purposes_of (id_of one.bytes) one.before) answers) in
             order.1 (id_of one.bytes) (has-contains (listing (id_of one.bytes) ForAllocation) one.before.listed listed) turn.grant.1.outstanding
 
     by : WasActive s (Allocation a) ⊎ IsEndedNow call s (Allocation a) ⊎ IsDoneBy (IsGrantInput (Allocation a)) call s → WasActive s (Allocation a) ⊎ IsEndedNow call s (Allocation a) ⊎ IsDoneBy (IsAllocationInput a) call s
     by (inl stood) = inl stood
-    by (inr (inl ended)) = inr (inl ended)
+    by (inr (inl transaction_ended)) = inr (inl transaction_ended)
     by (inr (inr (one, among, turn))) = inr (inr (one, among, turned one among turn))

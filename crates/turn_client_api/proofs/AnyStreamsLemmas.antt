@@ -15,7 +15,7 @@ use Rattle.turn_client_api.specs.Grants.{find_allocation_to, channel_at, first_i
 use Rattle.turn_client_api.specs.Requests.{connection_attempt_method, fresh_id}
 use Rattle.turn_client_api.specs.Judgement.{Judgement, Unrelated, Challenged, Fatal, LateResponse, DataIndication, ConnectionAttempt, SignedRequest, SignedSuccess, SignedError, judgement_of, connection_id_in}
 use Rattle.turn_client_api.specs.Judgement.{lifetime_in, method_in, peer_in}
-use Rattle.turn_client_api.specs.Effect.{allocate_denied, allocate_granted, allocation_mismatch, channel_answered, connect_answered, effect, ended, family_not_supported, has_code, min_lifetime}
+use Rattle.turn_client_api.specs.Effect.{allocate_denied, allocate_granted, allocation_mismatch, channel_answered, connect_answered, effect, transaction_ended, family_not_supported, has_code, min_lifetime}
 use Rattle.turn_client_api.specs.Effect.{permission_answered, permission_answered_for, listed_permissions_answered, prolonged, refreshed}
 use Rattle.turn_client_api.specs.Retry.{max_challenges, retried}
 use Rattle.turn_client_api.specs.Connections.{attempt_indicated, attempt_requested, is_connected, accepts_attempt}
@@ -119,7 +119,7 @@ module _ (x : List Stream) where
   response-alike : (is_granted : Bool) (message : List ℕ) (now : ℕ) (s : State) → response_step is_granted message now (with_streams x s) ≡ both_with x (response_step is_granted message now s)
   response-alike is_granted message now s =
       ap (λ (t : State). ((response_step is_granted message now s).0, t))
-      (alike-fold (effect (id_of message) is_granted message now) (effect-alike (id_of message) is_granted message now) (answered_purposes message s) (ended (id_of message) s))
+      (alike-fold (effect (id_of message) is_granted message now) (effect-alike (id_of message) is_granted message now) (answered_purposes message s) (transaction_ended (id_of message) s))
 
   granted-alike : (message : List ℕ) (now : ℕ) (s : State) → allocate_granted message now (with_streams x s) ≡ with_streams x (allocate_granted message now s)
   granted-alike message now s = by (lifetime_in message) refl
@@ -132,8 +132,8 @@ module _ (x : List Stream) where
   denied-alike fresh message now s = alike-cond (has_code family_not_supported message && leb 2 (length s.families)) _ _ _ _ refl refl
 
   signed-alike : (p : Phase) (is_granted : Bool) (message : List ℕ) (now : ℕ) (s : State) → signed_step is_granted message now (with_streams x (record s { phase = p })) ≡ both_with x (signed_step is_granted message now (record s { phase = p }))
-  signed-alike Authenticating true message now s = ap (λ (t : State). (Handled, t)) (granted-alike message now (ended (id_of message) (record s { phase = Authenticating })))
-  signed-alike Authenticating false message now s = ap (λ (t : State). (Handled, t)) (denied-alike (fresh_id s) message now (ended (id_of message) (record s { phase = Authenticating })))
+  signed-alike Authenticating true message now s = ap (λ (t : State). (Handled, t)) (granted-alike message now (transaction_ended (id_of message) (record s { phase = Authenticating })))
+  signed-alike Authenticating false message now s = ap (λ (t : State). (Handled, t)) (denied-alike (fresh_id s) message now (transaction_ended (id_of message) (record s { phase = Authenticating })))
   signed-alike New g message now s = response-alike g message now (record s { phase = New })
   signed-alike Requesting g message now s = response-alike g message now (record s { phase = Requesting })
   signed-alike Allocated g message now s = response-alike g message now (record s { phase = Allocated })

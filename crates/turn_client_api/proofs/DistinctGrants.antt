@@ -11,7 +11,7 @@ use Rattle.turn_types.specs.declared.family.AddressFamily.{AddressFamily}
 use Rattle.turn_types.specs.declared.family.AddressFamily.TheVariants.{IPV4, IPV6}
 use Rattle.turn_client_api.specs.Config.{Config, same_family}
 use Rattle.turn_client_api.specs.State.{State, initial, Phase, New, Requesting, Authenticating, Allocated, Closed, Grant, Allocation, Permission, Channel, Connect, Offer, Connection, Progress, Pending, Active, Reserved}
-use Rattle.turn_client_api.specs.Grants.{family_of, is_channel_of, is_connect_to, is_connection_from, is_of, is_of_family, is_permission_of, permission_state, permission_progress, with_grant, without}
+use Rattle.turn_client_api.specs.Grants.{family_of, is_channel_of, is_connect_to, is_connection_from, is_of, is_of_family, is_permission_of, permission_state, permission_progress, with_grant, without_grants}
 use Rattle.turn_client_api.specs.Effect.{new_allocation, phase_with, relayed_in, taken_addresses}
 use Rattle.turn_client_api.specs.Retry.{phase_after}
 use Rattle.turn_client_api.specs.Calls.{is_offer_of, offer_taken, without_first}
@@ -122,8 +122,8 @@ more : (g : Grant) (p : Phase) (gs : List Grant) → (IsUngranted p → ⊥) →
 more g p gs allocated new h = record { none = λ u. absurd (allocated u); single = single-last g gs new h.single }
 
 -- in place of others, where the server allocated
-replaced : (which : Grant → Bool) (g : Grant) → ((x : Grant) → is_double x g ≡ which x) → (s : State) → (HasDistinctGrants s.phase s.grants → IsUngranted s.phase → ⊥) → KeepsDistinctGrants s (with_grant g (without which s))
-replaced which g is s allocated = (λ u. u, λ h. more g s.phase (without which s).grants (allocated h) (none-IsNew which g is (without which s).grants (none-filter which s.grants)) (filtered (λ x. not (which x)) s.phase s.grants h))
+replaced : (which : Grant → Bool) (g : Grant) → ((x : Grant) → is_double x g ≡ which x) → (s : State) → (HasDistinctGrants s.phase s.grants → IsUngranted s.phase → ⊥) → KeepsDistinctGrants s (with_grant g (without_grants which s))
+replaced which g is s allocated = (λ u. u, λ h. more g s.phase (without_grants which s).grants (allocated h) (none-IsNew which g is (without_grants which s).grants (none-filter which s.grants)) (filtered (λ x. not (which x)) s.phase s.grants h))
 
 -- if a grant exists, the server allocated
 there-granted : (g : Grant) (s : State) → Has g s.grants → HasDistinctGrants s.phase s.grants → IsUngranted s.phase → ⊥
@@ -164,7 +164,7 @@ reshaped-tidy grants s e =
     (λ u. u, λ h. record { none = λ u. empty-outline grants (e ∙ ap (map outline) (h.none u)); single = single-outline s.grants grants e h.single })
 
 rebound-tidy : (number : ℕ) (peer : SocketAddr) (was progress : Progress) (s : State) → Has (Channel number peer was) s.grants
-    → KeepsDistinctGrants s (with_grant (Channel number peer progress) (without (is_channel_of number) s))
+    → KeepsDistinctGrants s (with_grant (Channel number peer progress) (without_grants (is_channel_of number) s))
 rebound-tidy number peer was progress s there =
     replaced (is_channel_of number) (Channel number peer progress) (channel-which number peer progress) s (there-granted (Channel number peer was) s there)
 
@@ -215,7 +215,7 @@ KeepsDistinctGrants-KeepsAllEdits = record {
   permits = λ ip expiry s is.
       replaced (is_permission_of ip) (Permission ip (Active expiry)) (permission-which ip (Active expiry)) s (permission-granted ip Pending s is);
   connects = λ id connection_id peer s t since stay granted listed.
-      (since.0, λ h. more _ t.phase (without (is_connect_to peer) t).grants (λ u. granted (since.0 u)) (offer-IsNew _ (without (is_connect_to peer) t).grants) (filtered (λ g. not (is_connect_to peer g)) t.phase t.grants (since.1 h)));
+      (since.0, λ h. more _ t.phase (without_grants (is_connect_to peer) t).grants (λ u. granted (since.0 u)) (offer-IsNew _ (without_grants (is_connect_to peer) t).grants) (filtered (λ g. not (is_connect_to peer g)) t.phase t.grants (since.1 h)));
   offers = λ id peer origin s room few.
       (λ u. u, λ h. more _ s.phase s.grants (room-granted (family_of peer) s room h) (offer-IsNew _ s.grants) h);
 }

@@ -8,7 +8,7 @@ use Rattle.std.proofs.lemmas.Option.{same_Some}
 use Rattle.std.proofs.lemmas.Bool.{leb-true, ltb-true, false_from_ne_true}
 use Rattle.turn_types.specs.declared.family.AddressFamily.{AddressFamily}
 use Rattle.turn_client_api.specs.State.{State, Grant, Allocation, Permission, Channel, Connect, Offer, Connection, DataConnection, Relay, Pending, Active, Reserved, Purpose}
-use Rattle.turn_client_api.specs.Grants.{as_allocation, allocations, as_connection, failures_among, family_of, has_request, in_sequence, is_connect, is_for, is_of, is_past, is_pending_channel, is_pending_permission, failure_of, unlisted, without}
+use Rattle.turn_client_api.specs.Grants.{as_allocation, allocations, as_connection, failures_among, family_of, has_request, in_sequence, is_connect, is_for, is_of, is_past, is_pending_channel, is_pending_permission, failure_of, unlisted, without_grants}
 use Rattle.turn_client_api.specs.Poll.{connections_unbound, failed, allocation_expires, failed_by_timeout, is_lapsed_channel, is_lapsed_permission, is_over, is_unbound, lapsed, lapsed_allocation, lapsed_in, last_channel_lapsed, offers_timed_out, permissions_lapsed, refreshes_timed_out, set_free, unbound}
 use Rattle.turn_client_api.specs.LawsBodies.{lapse_of, expiry_times}
 use Rattle.turn_client_api.specs.declared.event.TurnEvent.{TurnEvent}
@@ -32,7 +32,7 @@ any-none which purpose (g ∷ gs) none = rw (none g (inl refl)) (any-none which 
 unlisted-none : (which : Grant → Bool) (s : State) → PassesNone which s.grants → unlisted which s ≡ s
 unlisted-none which s none = ap (λ ls. record s { listed = ls }) (filter-all _ s.listed (λ l h. rw (any-none which l.purpose s.grants none) refl))
 
-without-none : (which : Grant → Bool) (s : State) → PassesNone which s.grants → without which s ≡ s
+without-none : (which : Grant → Bool) (s : State) → PassesNone which s.grants → without_grants which s ≡ s
 without-none which s none =
     ap (λ gs. record (unlisted which s) { grants = gs }) (filter-all _ s.grants (λ g h. rw (none g h) refl))
     ∙ unlisted-none which s none
@@ -43,7 +43,7 @@ none-among which s none = ap (filter_map (failure_of s.config.allocation_transpo
 
 failed-none : (which : Grant → Bool) (s : State) → PassesNone which s.grants → failed which s ≡ s
 failed-none which s none =
-    ap (λ (es : List TurnEvent). record (without which s) { events = reverse es ++ s.events }) (none-among which s none)
+    ap (λ (es : List TurnEvent). record (without_grants which s) { events = reverse es ++ s.events }) (none-among which s none)
     ∙ without-none which s none
 
 unbound-none : (which : Grant → Bool) (s : State) → PassesNone which s.grants → unbound which s ≡ s

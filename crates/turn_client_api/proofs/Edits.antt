@@ -10,10 +10,10 @@ use Rattle.turn_types.specs.declared.family.AddressFamily.TheVariants.{IPV6}
 use Rattle.turn_auth.specs.LongTerm.{Challenge}
 use Rattle.turn_agent.specs.Agent.{resent}
 use Rattle.turn_client_api.specs.State.{State, New, Requesting, Authenticating, Allocated, Closed, Grant, Allocation, Permission, Channel, Connect, Offer, Connection, DataConnection, Relay, Progress, Pending, Active, Reserved, Origin, OwnConnect, ServerIndication, Purpose, ForAllocation, ForConnect, Listing, Queued, Stream}
-use Rattle.turn_client_api.specs.Grants.{family_of, family_of_ip, is_channel_of, is_connect_to, is_connection_from, is_of, is_permission_of, permission_state, purposes_of, with_grant, without}
-use Rattle.turn_client_api.specs.Requests.{asked, first_allocate, request_for}
+use Rattle.turn_client_api.specs.Grants.{family_of, family_of_ip, is_channel_of, is_connect_to, is_connection_from, is_of, is_permission_of, permission_state, purposes_of, with_grant, without_grants}
+use Rattle.turn_client_api.specs.Requests.{request_started, first_allocate, request_for}
 use Rattle.turn_client_api.specs.Judgement.{challenge_in}
-use Rattle.turn_client_api.specs.Effect.{challenges_reset, ended, new_allocation, phase_with, relayed_in, taken_addresses, with_offer}
+use Rattle.turn_client_api.specs.Effect.{challenges_reset, transaction_ended, new_allocation, phase_with, relayed_in, taken_addresses, with_offer}
 use Rattle.turn_client_api.specs.Retry.{max_challenges, phase_after, with_held}
 use Rattle.turn_client_api.specs.Calls.{channel_numbers, offer_origin, offer_taken}
 use Rattle.turn_client_api.specs.Connections.{is_connecting, is_indicated, max_indicated}
@@ -117,13 +117,13 @@ pub record KeepsEdits (R : State → State → Type 0) : Type 0 where
   pub ends : (s : State) → IsUnlisted s → R s (record s { phase = Closed })
   -- requests
   pub asks : (id : ℕ) (text : List ℕ) (purposes : List Purpose) (now : ℕ) (s : State) → IsBegun s.phase → ((p : Purpose) → Has p purposes → IsAskable s p) → IsSpelled id text purposes s
-      → R s (asked id text purposes now s)
-  pub finishes : (id : ℕ) (s : State) → R s (ended id s)
+      → R s (request_started id text purposes now s)
+  pub finishes : (id : ℕ) (s : State) → R s (transaction_ended id s)
   pub resends : (id now : ℕ) (s : State) → R s (record s { transactions = resent id now s.transactions })
   pub unlists : (which : Listing → Bool) (s : State) → R s (record s { listed = filter which s.listed })
   -- grants are removed, with the requests that are listed for them
-  pub removes : (which : Grant → Bool) (s : State) → SparesAllocations which → R s (without which s)
-  pub removes_family : (family : AddressFamily) (s : State) → R s (without (is_of family) s)
+  pub removes : (which : Grant → Bool) (s : State) → SparesAllocations which → R s (without_grants which s)
+  pub removes_family : (family : AddressFamily) (s : State) → R s (without_grants (is_of family) s)
   pub takes_offer : (id : ℕ) (peer : SocketAddr) (s : State) → R s (offer_taken id peer s)
   -- offers are reported, and allocations expire
   pub ages : (grants : List Grant) (s : State) → map aged grants ≡ map aged s.grants → R s (record s { grants = grants })
@@ -138,7 +138,7 @@ pub record KeepsEdits (R : State → State → Type 0) : Type 0 where
       → list_any (is_connection_from c.local) s.grants ≡ false → IsSome c.deadline → R s (with_grant (Connection c) (offer_taken id c.peer s))
   -- a channel that expires is reserved, in place of those of its number
   pub reserves : (number : ℕ) (peer : SocketAddr) (was : Progress) (until : ℕ) (s : State) → Has (Channel number peer was) s.grants
-      → R s (with_grant (Channel number peer (Reserved until)) (without (is_channel_of number) s))
+      → R s (with_grant (Channel number peer (Reserved until)) (without_grants (is_channel_of number) s))
 
 -- ---- what messages are made of, too
 
@@ -149,24 +149,24 @@ pub record KeepsHeeded (Heeded : Type 0) (R : State → State → Type 0) : Type
   pub reshapes : (grants : List Grant) (s : State) → map outline grants ≡ map outline s.grants → R s (record s { grants = grants })
   -- a channel takes the place of those of its number
   pub rebinds : (number : ℕ) (peer : SocketAddr) (was progress : Progress) (s : State) → Has (Channel number peer was) s.grants
-      → R s (with_grant (Channel number peer progress) (without (is_channel_of number) s))
+      → R s (with_grant (Channel number peer progress) (without_grants (is_channel_of number) s))
   -- challenges
   pub holds : (message : List ℕ) (d : Challenge) (s : State) → challenge_in s message ≡ Some d → R s (with_held d s)
   pub counts : (s : State) → IsSome s.held → s.challenges < max_challenges → R s (record s { phase = phase_after s.phase; challenges = s.challenges + 1 })
   pub resets : Heeded → (s : State) → R s (challenges_reset s)
   -- all grants are removed
-  pub empties : (s : State) → R s (without (λ g. true) s)
+  pub empties : (s : State) → R s (without_grants (λ g. true) s)
   -- the server allocates
   pub allocates : (message : List ℕ) (lifetime now : ℕ) (s : State) → s.phase ≡ Authenticating → IsUnlisted s
       → let addresses = taken_addresses s.families (relayed_in message) in
       R s (record s { phase = phase_with addresses; grants = s.grants ++ map (new_allocation lifetime now) addresses })
   -- what was requested is granted
   pub permits : (ip : IpAddr) (expiry : ℕ) (s : State) → permission_state ip s ≡ Some Pending
-      → R s (with_grant (Permission ip (Active expiry)) (without (is_permission_of ip) s))
+      → R s (with_grant (Permission ip (Active expiry)) (without_grants (is_permission_of ip) s))
   -- this follows from a request that was listed when its reply was received, and no allocation was removed
   -- since
   pub connects : (id connection_id : ℕ) (peer : SocketAddr) (s t : State) → R s t → AllocationsStay s t → (IsUngranted s.phase → ⊥) → Has (ForConnect peer) (purposes_of id s)
-      → R s (with_offer connection_id peer OwnConnect (without (is_connect_to peer) t))
+      → R s (with_offer connection_id peer OwnConnect (without_grants (is_connect_to peer) t))
   -- the server requests a connection
   pub offers : (id : ℕ) (peer : SocketAddr) (origin : Origin) (s : State) → Room s.grants (family_of peer)
       → (origin ≡ ServerIndication → length (filter is_indicated s.grants) < max_indicated) → R s (with_offer id peer origin s)

@@ -13,8 +13,8 @@ use Rattle.turn_stun.specs.declared.transport.TransportType.{TransportType}
 use Rattle.turn_stun.specs.declared.transport.TransportType.TheVariants.{Udp, Tcp}
 use Rattle.turn_agent.specs.Agent.{same_address}
 use Rattle.turn_client_api.specs.State.{State, Phase, New, Requesting, Authenticating, Allocated, Closed, Grant, Allocation, Permission, Channel, Connect, Offer, Connection, DataConnection, Relay, Progress, Pending, Origin, OwnConnect, ServerRequest, ServerIndication, Purpose, ForAllocation, ForRefresh, ForPermission, ForChannel, ForConnect, ForBind, Queued, later_by}
-use Rattle.turn_client_api.specs.Grants.{find_allocation_to, as_allocation, allocations, changed_allocation, as_connection, family_of, family_of_ip, is_past, is_permission_of, has_active_permission, permission_state, same_transport, with_expired, with_grant, with_more_grants, without}
-use Rattle.turn_client_api.specs.Requests.{accepted_reply, asked, fresh_id, replied, request_for, requested}
+use Rattle.turn_client_api.specs.Grants.{find_allocation_to, as_allocation, allocations, changed_allocation, as_connection, family_of, family_of_ip, is_past, is_permission_of, has_active_permission, permission_state, same_transport, with_expired, with_grant, with_more_grants, without_grants}
+use Rattle.turn_client_api.specs.Requests.{accepted_reply, request_started, fresh_id, replied, request_for, requested}
 use Rattle.turn_client_api.specs.Retry.{bind_time}
 use Rattle.turn_client_api.specs.Connections.{connection_at, is_connected, is_connecting}
 use Rattle.turn_client_api.specs.Calls.{active_channel, all_expired, allocated_tcp_socket_step, bind_channel, bind_channel_step, bound_by, bound_to, channel_numbers, channel_step, channels_to, connect_step, create_permission_step, delete_step, delete_text, deleted, free_number, can_send_to, in_allocation, is_allocated, is_closed, is_control, is_granted_in, is_in_progress, is_local_taken, is_number_taken, offer_origin, offer_taken, on_channel, on_connection, permission_step, protocol_error_step, reserved_from, send_over, send_to_step, socket_opened, socket_refused, socket_step, tcp_connect_step, with_stream}
@@ -55,14 +55,14 @@ for-last : (p : Purpose) (g : Grant) (s : State) → is_asked_by p g ≡ true �
 for-last p g s is = for-there p g (with_grant g s) (has-right g s.grants (g ∷ []) (inl refl)) is
 
 -- all allocations are deleted
-delete-askable : (now : ℕ) (s : State) (p : Purpose) → Has p (map (λ (a : Relay). ForRefresh (family_of a.relayed) 0) (allocations s)) → IsAskable (all_expired now (without is_granted_in s)) p
+delete-askable : (now : ℕ) (s : State) (p : Purpose) → Has p (map (λ (a : Relay). ForRefresh (family_of a.relayed) 0) (allocations s)) → IsAskable (all_expired now (without_grants is_granted_in s)) p
 delete-askable now s p there =
     let (a, listed, e) = has-mapped (λ (a : Relay). ForRefresh (family_of a.relayed) 0) p (allocations s) there in
     let (g, here, reads) = has-filter_map as_allocation a s.grants listed in
     of a e g reads here
   where
     t : State
-    t = all_expired now (without is_granted_in s)
+    t = all_expired now (without_grants is_granted_in s)
 
     expire : Grant → Grant
     expire = changed_allocation (λ a. true) (λ a. record a { expiry = now; is_expired = true })
@@ -72,7 +72,7 @@ delete-askable now s p there =
         let kept = filter-has (λ g. not (is_granted_in g)) (Allocation b) s.grants here refl in
         let same : b ≡ a = same_Some b a reads in
         subst (IsAskable t) (sym e)
-        (for-there (ForRefresh (family_of a.relayed) 0) (expire (Allocation b)) t (map-has expire (Allocation b) (without is_granted_in s).grants kept)
+        (for-there (ForRefresh (family_of a.relayed) 0) (expire (Allocation b)) t (map-has expire (Allocation b) (without_grants is_granted_in s).grants kept)
         (rw same (same_family-self (family_of a.relayed) (family_of a.relayed) refl)))
     of a e (Permission ip progress) reads here = absurd (none-some a reads)
     of a e (Channel number peer progress) reads here = absurd (none-some a reads)
@@ -113,10 +113,10 @@ module _ (R : State → State → Type 0) (k : KeepsEdits R) where
   deleted-walk : Expires → (now : ℕ) (s : State) → s.phase ≡ Allocated → R s (deleted now s)
   deleted-walk expires now s there =
       let begun : IsBegun s.phase = rw there tt in
-      let a = without is_granted_in s in
+      let a = without_grants is_granted_in s in
       let b = all_expired now a in
       let purposes = map (λ (r : Relay). ForRefresh (family_of r.relayed) 0) (allocations s) in
-      let c = asked (fresh_id s) (delete_text s) purposes now b in
+      let c = request_started (fresh_id s) (delete_text s) purposes now b in
       let end = deleted now s in
       then s a end (k.removes is_granted_in s (λ r. refl))
       (then a b end (expires now a)
@@ -192,10 +192,10 @@ module _ (R : State → State → Type 0) (k : KeepsEdits R) where
 
       by : (o : Option Progress) → permission_state ip s ≡ o → R s (bind_channel number peer now s)
       by None e =
-          let c = asked (fresh_id s) text (ForChannel number peer ∷ ForPermission ip ∷ []) now b in
+          let c = request_started (fresh_id s) text (ForChannel number peer ∷ ForPermission ip ∷ []) now b in
           rw e (then s b _ (both (no-permission ip s.grants (rw e refl))) (then b c _ (k.asks (fresh_id s) text (ForChannel number peer ∷ ForPermission ip ∷ []) now b begun of_both (inl (there, both-other))) (k.queues (bind_channel number peer now s).queue c begun)))
       by (Some progress) e =
-          let c = asked (fresh_id s) text (ForChannel number peer ∷ []) now a in
+          let c = request_started (fresh_id s) text (ForChannel number peer ∷ []) now a in
           rw e (then s a _ first (then a c _ (asked-walk R k (fresh_id s) text (ForChannel number peer) now a begun (of_channel a (has-right channel s.grants (channel ∷ []) (inl refl))) (spelled-else (fresh_id s) text (ForChannel number peer) a there (λ f. cc))) (k.queues (bind_channel number peer now s).queue c begun)))
 
   bound_by-walk : (peer : SocketAddr) (now : ℕ) (s : State) → Room s.grants (family_of peer) → (l : List ℕ) (b : Bool) → is_allocated s.phase ≡ b → (o : Option ℕ) → free_number s ≡ o → R s (bound_by peer now s l b o).1

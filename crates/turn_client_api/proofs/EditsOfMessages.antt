@@ -14,9 +14,9 @@ use Rattle.turn_auth.specs.LongTerm.{Challenge}
 use Rattle.turn_agent.specs.Agent.{same_address}
 use Rattle.turn_client_api.specs.State.{State, Phase, New, Requesting, Authenticating, Allocated, Closed, Grant, Allocation, Permission, Channel, Connect, Offer, Connection, DataConnection, ServerIndication, ServerRequest, Purpose, ForAllocation, ForRefresh, ForPermission, ForChannel, ForConnect, ForBind, Listing, Bound, later_by}
 use Rattle.turn_client_api.specs.Grants.{find_allocation_to, as_connection, is_connection_from, has_active_permission, purposes_of, unlisted, wait}
-use Rattle.turn_client_api.specs.Requests.{asked, bad_request, connection_already_exists, connection_attempt_method, connection_bind_method, fresh_id, refused_reply, replied, request_for, requested}
+use Rattle.turn_client_api.specs.Requests.{request_started, bad_request, connection_already_exists, connection_attempt_method, connection_bind_method, fresh_id, refused_reply, replied, request_for, requested}
 use Rattle.turn_client_api.specs.Judgement.{Judgement, Unrelated, Challenged, Fatal, LateResponse, DataIndication, ConnectionAttempt, SignedRequest, SignedSuccess, SignedError, answers_one, challenge_in, challenged_or, judgement_of, bind_judgement, is_bind_of, connection_id_in, lifetime_in, method_in, peer_in}
-use Rattle.turn_client_api.specs.Effect.{allocate_denied, allocate_granted, allocated, closed, ended, fail_all, family_not_supported, has_code, in_phase, phase_with, relayed_in, taken_addresses, with_offer}
+use Rattle.turn_client_api.specs.Effect.{allocate_denied, allocate_granted, allocated, closed, transaction_ended, fail_all, family_not_supported, has_code, in_phase, phase_with, relayed_in, taken_addresses, with_offer}
 use Rattle.turn_client_api.specs.Retry.{bind_time, first_or, is_allocate_or_connect, is_channel_bind, is_create_permission, is_refresh, max_challenges, phase_after, retried, state_after_retry, with_held}
 use Rattle.turn_client_api.specs.Connections.{attempt_indicated, attempt_requested, bind_again, bind_answered, bind_step, bound, connection_at, is_connected, is_connecting, accepts_attempt, is_indicated, max_indicated, not_bound, with_deadline, with_mode}
 use Rattle.turn_client_api.specs.Payloads.{Outcome, Handled, Ignored, answered_purposes, challenge_step, is_answered, message_step, response_step, signed_step, wrong_step}
@@ -144,11 +144,11 @@ module _ (Heeded : Type 0) (R : State → State → Type 0) (k : KeepsHeeded Hee
   retry-walk : (s : State) (message : List ℕ) (id : ℕ) (purpose : Purpose) (d : Challenge) (now : ℕ) → IsBegun s.phase → challenge_in s message ≡ Some d → ltb s.challenges max_challenges ≡ true → Has purpose (purposes_of id s) → R s (state_after_retry s id purpose d now)
   retry-walk s message id purpose d now begun e few answers =
       let a = with_held d s in
-      let b = ended id a in
+      let b = transaction_ended id a in
       let c = record b { phase = phase_after s.phase; challenges = s.challenges + 1 } in
       let text = request_for c purpose (fresh_id s) in
       let end = state_after_retry s id purpose d now in
-      let f = asked (fresh_id s) text (purposes_of id s) now c in
+      let f = request_started (fresh_id s) text (purposes_of id s) now c in
       then s a end (k.holds message d s e)
       (then a b end (k.edits.finishes id a)
       (then b c end (k.counts b refl (ltb-true s.challenges max_challenges few))
@@ -169,13 +169,13 @@ module _ (Heeded : Type 0) (R : State → State → Type 0) (k : KeepsHeeded Hee
   wrong-walk Closed message s = fail-walk R k.edits (record s { phase = Closed })
   wrong-walk Requesting message s =
       let u = record s { phase = Requesting } in
-      then u (ended (id_of message) u) _ (k.edits.finishes (id_of message) u) (fail-walk R k.edits (ended (id_of message) u))
+      then u (transaction_ended (id_of message) u) _ (k.edits.finishes (id_of message) u) (fail-walk R k.edits (transaction_ended (id_of message) u))
 
   -- ---- signed replies
 
   reply-walk : (is_granted : Bool) (message : List ℕ) (now : ℕ) (s : State) → ((p : Purpose) → Has p (answered_purposes message s) → Heeded) → (IsUngranted s.phase → ⊥) → R s (response_step is_granted message now s).1
   reply-walk is_granted message now s heeded granted =
-      effects-walk Heeded R k s (id_of message) granted is_granted message now (method_in message) (answered_purposes message s) (ended (id_of message) s) (k.edits.finishes (id_of message) s)
+      effects-walk Heeded R k s (id_of message) granted is_granted message now (method_in message) (answered_purposes message s) (transaction_ended (id_of message) s) (k.edits.finishes (id_of message) s)
       (λ connect a there. there) heeded (λ p there. has-filter (is_answered (method_in message)) p (purposes_of (id_of message) s) there)
 
   granted-walk : (message : List ℕ) (now : ℕ) (s : State) → s.phase ≡ Authenticating → R s (allocate_granted message now s)
@@ -231,10 +231,10 @@ module _ (Heeded : Type 0) (R : State → State → Type 0) (k : KeepsHeeded Hee
       → ((q : Purpose) → Has q (answered_purposes message (record s { phase = p })) → Heeded) → R (record s { phase = p }) (signed_step is_granted message now (record s { phase = p })).1
   signed-walk Authenticating true message now s j e h heeded =
       let u = record s { phase = Authenticating } in
-      then u (ended (id_of message) u) _ (k.edits.finishes (id_of message) u) (granted-walk message now (ended (id_of message) u) refl)
+      then u (transaction_ended (id_of message) u) _ (k.edits.finishes (id_of message) u) (granted-walk message now (transaction_ended (id_of message) u) refl)
   signed-walk Authenticating false message now s j e h heeded =
       let u = record s { phase = Authenticating } in
-      then u (ended (id_of message) u) _ (k.edits.finishes (id_of message) u) (denied-walk (fresh_id u) message now (ended (id_of message) u) refl)
+      then u (transaction_ended (id_of message) u) _ (k.edits.finishes (id_of message) u) (denied-walk (fresh_id u) message now (transaction_ended (id_of message) u) refl)
   signed-walk New g message now s j e h heeded = absurd (new-unsigned j e h)
   signed-walk Requesting g message now s j e h heeded = absurd (requesting-unsigned (answers_one (record s { phase = Requesting }) message) (challenge_in (record s { phase = Requesting }) message) j e h)
   signed-walk Allocated g message now s j e h heeded = reply-walk g message now (record s { phase = Allocated }) heeded (λ u. u)
@@ -337,7 +337,7 @@ module _ (Heeded : Type 0) (R : State → State → Type 0) (k : KeepsHeeded Hee
   answered-walk streams c message now s allocated there = by (bind_judgement s c.local message) refl
     where
       less : State
-      less = ended (id_of message) s
+      less = transaction_ended (id_of message) s
 
       by : (j : Judgement) → bind_judgement s c.local message ≡ j → R s (bind_answered c message now s)
       by (Challenged d) e = rw e (again-walk c message d now s allocated there (bind-is s c.local message d e))

@@ -9,12 +9,12 @@ use Rattle.std.specs.declared.net.socket_addr.SocketAddr.{SocketAddr}
 use Rattle.turn_types.specs.declared.family.AddressFamily.{AddressFamily}
 use Rattle.turn_agent.specs.Agent.{same_address}
 use Rattle.turn_client_api.specs.State.{State, Allocated, Grant, Allocation, Permission, Channel, Connect, Offer, Connection, Relay, Progress, Pending, Active, Reserved, Purpose, ForAllocation, ForRefresh, ForPermission, ForChannel, ForConnect, ForBind, Listing, later_by, seconds}
-use Rattle.turn_client_api.specs.Grants.{as_allocation, changed_allocation, channel_at, first_in, is_channel_of, is_connect_to, is_connection_from, is_for_allocation, is_of, is_of_family, is_permission_of, permission_state, purposes_of, unlisted, with_allocations, without, with_expired}
+use Rattle.turn_client_api.specs.Grants.{as_allocation, changed_allocation, channel_at, first_in, is_channel_of, is_connect_to, is_connection_from, is_for_allocation, is_of, is_of_family, is_permission_of, permission_state, purposes_of, unlisted, with_allocations, without_grants, with_expired}
 use Rattle.turn_client_api.specs.Judgement.{connection_id_in, lifetime_in}
 use Rattle.turn_client_api.specs.Connections.{connection_at, deadline_set, with_deadline}
 use Rattle.turn_client_api.specs.Effect.{active_channel_answered, active_permission_answered, all_gone, allocation_mismatch, challenges_reset, channel_answered, channel_lifetime, closed, connect_answered, effect, fail_all, has_code, is_asked_permission, lasting, lasting_if, min_lifetime, listed_permissions_answered, pending_channel_answered, pending_permission_answered, permission_answered, permission_answered_for, permission_lifetime, prolonged, refreshed, renewed, reserved}
 use Rattle.turn_client_api.specs.Receive.{connection_gone}
-use Rattle.turn_client_api.specs.Requests.{asked, channel_bind_method, connect_method, create_permission_method, refresh_method, request_for, requested}
+use Rattle.turn_client_api.specs.Requests.{request_started, channel_bind_method, connect_method, create_permission_method, refresh_method, request_for, requested}
 use Rattle.turn_client_api.specs.Payloads.{is_answered}
 use Rattle.turn_client_api.specs.LawsOrder.{IsBegun, IsUngranted}
 use Rattle.turn_client_api.specs.Poll.{told, first_reported, unreported_in}
@@ -130,7 +130,7 @@ module _ (number : ℕ) (peer : SocketAddr) (progress : Progress) where
   abbrev Stays : State → State → Type 0
   Stays s t = Has (Channel number peer progress) s.grants → Has (Channel number peer progress) t.grants
 
-  without-stays : (ip : IpAddr) (s : State) → Stays s (without (is_permission_of ip) s)
+  without-stays : (ip : IpAddr) (s : State) → Stays s (without_grants (is_permission_of ip) s)
   without-stays ip s there = filter-has (λ g. not (is_permission_of ip g)) (Channel number peer progress) s.grants there refl
 
   answered-stays : (ip : IpAddr) (is_granted : Bool) (now : ℕ) (s : State) → Stays s (permission_answered ip is_granted now s)
@@ -138,7 +138,7 @@ module _ (number : ℕ) (peer : SocketAddr) (progress : Progress) where
     where
       by : (o : Option Progress) → permission_state ip s ≡ o → (g : Bool) → Stays s (permission_answered ip g now s)
       by None e g = rw e (λ there. there)
-      by (Some Pending) e true = rw e (λ there. has-left (Channel number peer progress) (without (is_permission_of ip) s).grants _ (without-stays ip s there))
+      by (Some Pending) e true = rw e (λ there. has-left (Channel number peer progress) (without_grants (is_permission_of ip) s).grants _ (without-stays ip s there))
       by (Some Pending) e false = rw e (without-stays ip s)
       by (Some (Active expiry)) e true = rw e (λ there. map-has (lasting_if (is_permission_of ip) (later_by permission_lifetime now)) (Channel number peer progress) s.grants there)
       by (Some (Active expiry)) e false = rw e (without-stays ip s)
@@ -195,8 +195,8 @@ module _ (R : State → State → Type 0) (k : KeepsEdits R) where
   unlisted-walk which s = k.unlists _ s
 
   -- grants are removed, and something else happens
-  pub removed : (which : Grant → Bool) → SparesAllocations which → (s t : State) → R s (record (without which s) { ids = t.ids; events = t.events; closes = t.closes })
-  removed which spares s t = k.trans s (without which s) _ (k.removes which s spares) (k.aside (without which s) t)
+  pub removed : (which : Grant → Bool) → SparesAllocations which → (s t : State) → R s (record (without_grants which s) { ids = t.ids; events = t.events; closes = t.closes })
+  removed which spares s t = k.trans s (without_grants which s) _ (k.removes which s spares) (k.aside (without_grants which s) t)
 
   pub reserved-walk : (number : ℕ) (peer : SocketAddr) (was : Progress) (expiry : ℕ) (s : State) → Has (Channel number peer was) s.grants → R s (reserved number peer expiry s)
   reserved-walk number peer was expiry s there = k.reserves number peer was _ s there
@@ -205,13 +205,13 @@ module _ (R : State → State → Type 0) (k : KeepsEdits R) where
   asked_one s purpose askable p (inl e) = subst (IsAskable s) (sym e) askable
   asked_one s purpose askable p (inr none) = absurd none
 
-  pub asked-walk : (id : ℕ) (text : List ℕ) (purpose : Purpose) (now : ℕ) (s : State) → IsBegun s.phase → IsAskable s purpose → IsSpelled id text (purpose ∷ []) s → R s (asked id text (purpose ∷ []) now s)
+  pub asked-walk : (id : ℕ) (text : List ℕ) (purpose : Purpose) (now : ℕ) (s : State) → IsBegun s.phase → IsAskable s purpose → IsSpelled id text (purpose ∷ []) s → R s (request_started id text (purpose ∷ []) now s)
   asked-walk id text purpose now s begun askable spelled = k.asks id text (purpose ∷ []) now s begun (asked_one s purpose askable) spelled
 
   -- a request is made and queued
   pub requested-walk : (id : ℕ) (purpose : Purpose) (now : ℕ) (s : State) → IsBegun s.phase → IsAskable s purpose → IsSpelled id (request_for s purpose id) (purpose ∷ []) s → R s (requested id purpose now s)
   requested-walk id purpose now s begun askable spelled =
-      let t = asked id (request_for s purpose id) (purpose ∷ []) now s in
+      let t = request_started id (request_for s purpose id) (purpose ∷ []) now s in
       let end = requested id purpose now s in
       k.trans s t end (asked-walk id (request_for s purpose id) purpose now s begun askable spelled) (k.queues end.queue t begun)
 
@@ -237,7 +237,7 @@ module _ (R : State → State → Type 0) (k : KeepsEdits R) where
 -- ---- a reply to CONNECT removes no allocation
 
 connect-stays : (peer : SocketAddr) (o : Option ℕ) (s : State) → AllocationsStay s (connect_answered peer o s)
-connect-stays peer (Some id) s a there = has-left (Allocation a) (without (is_connect_to peer) s).grants _ (filter-has (λ g. not (is_connect_to peer g)) (Allocation a) s.grants there refl)
+connect-stays peer (Some id) s a there = has-left (Allocation a) (without_grants (is_connect_to peer) s).grants _ (filter-has (λ g. not (is_connect_to peer g)) (Allocation a) s.grants there refl)
 connect-stays peer None s a there = filter-has (λ g. not (is_connect_to peer g)) (Allocation a) s.grants there refl
 
 effect-stays : (id : ℕ) (is_granted : Bool) (message : List ℕ) (now method : ℕ) (s : State) (p : Purpose) → eqb connect_method method ≡ true → is_answered method p ≡ true → AllocationsStay s (effect id is_granted message now s p)
@@ -263,7 +263,7 @@ module _ (Heeded : Type 0) (R : State → State → Type 0) (k : KeepsHeeded Hee
   permission-walk : (ip : IpAddr) (is_granted : Bool) (now : ℕ) (s : State) → R s (permission_answered ip is_granted now s)
   permission-walk ip is_granted now s = by (permission_state ip s) refl is_granted
     where
-      gone : (t : State) → R s (record (without (is_permission_of ip) s) { ids = t.ids; events = t.events; closes = t.closes })
+      gone : (t : State) → R s (record (without_grants (is_permission_of ip) s) { ids = t.ids; events = t.events; closes = t.closes })
       gone t = removed R k.edits (is_permission_of ip) (λ a. refl) s t
 
       by : (o : Option Progress) → permission_state ip s ≡ o → (g : Bool) → R s (permission_answered ip g now s)
@@ -291,7 +291,7 @@ module _ (Heeded : Type 0) (R : State → State → Type 0) (k : KeepsHeeded Hee
       (k.edits.trans t _ _ bound (k.edits.aside _ (pending_channel_answered number peer id true now s)))
   pending_channel-walk number peer id false now s there =
       let end = pending_channel_answered number peer id false now s in
-      let t = without (is_channel_of number) s in
+      let t = without_grants (is_channel_of number) s in
       k.edits.trans s t end (k.edits.removes (is_channel_of number) s (λ a. refl))
       (removed R k.edits (is_asked_permission (purposes_of id s)) (λ a. refl) t end)
 
@@ -321,7 +321,7 @@ module _ (Heeded : Type 0) (R : State → State → Type 0) (k : KeepsHeeded Hee
 
   all_gone-walk : Heeded → (s : State) → R s (challenges_reset (all_gone s))
   all_gone-walk heeded s =
-      let t = without (λ g. true) s in
+      let t = without_grants (λ g. true) s in
       k.edits.trans s t _ (k.empties s) (k.edits.trans t (all_gone s) _ (closed-walk R k.edits t) (k.resets heeded (all_gone s)))
 
   refreshed-walk : Heeded → (family : AddressFamily) (lifetime : ℕ) (is_granted : Bool) (message : List ℕ) (now : ℕ) (s : State) → R s (refreshed family lifetime is_granted message now s)

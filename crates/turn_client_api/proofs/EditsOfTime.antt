@@ -10,8 +10,8 @@ use Rattle.turn_agent.specs.Agent.{due, timed_out_transaction, resent, same_addr
 use Rattle.turn_agent.specs.declared.transaction.Transaction.{Transaction}
 use Rattle.turn_client_api.specs.State.{State, Phase, New, Requesting, Authenticating, Allocated, Closed, Grant, Allocation, Permission, Channel, Connect, Offer, Connection, Relay, Progress, Pending, Active, Reserved, Purpose, ForAllocation, ForRefresh, ForPermission, ForChannel, Queued, agent_of}
 use Rattle.turn_client_api.specs.Grants.{allocations, family_of, is_connect, is_for_any, is_of, is_pending_channel, is_pending_permission}
-use Rattle.turn_client_api.specs.Requests.{asked, asked_lifetime, first_allocate, fresh_id, request_for}
-use Rattle.turn_client_api.specs.Effect.{closed, ended, reserved}
+use Rattle.turn_client_api.specs.Requests.{request_started, asked_lifetime, first_allocate, fresh_id, request_for}
+use Rattle.turn_client_api.specs.Effect.{closed, transaction_ended, reserved}
 use Rattle.turn_client_api.specs.Due.{has_event, has_reply, is_paused}
 use Rattle.turn_client_api.specs.Poll.{answer_step, channel_lapsed, connections_unbound, timed_out_purposes, timed_out_step, allocation_expires, failed_by_timeout, is_timed_out_offer, is_lapsed_channel, is_lapsed_permission, is_listed_for_allocation, is_over, is_unbound, lapsed, lapsed_allocation, lapsed_in, last_channel_lapsed, next_offer, offer_step, offers_timed_out, permissions_lapsed, poll_step, refreshes_timed_out, silent_step, timed_step}
 use Rattle.turn_client_api.specs.Transmit.{idle_step, is_due_in, queue_step, refresh_purpose, refreshes_in, refreshes_of_rank, sent, transmit_step}
@@ -58,8 +58,8 @@ refreshes-there now s p there =
     of_one came.from came.gives
   where
     of_one : (a : Relay) → Has p (refreshes_in now s a) → list_any (is_asked_by p) s.grants ≡ true
-    of_one a asked =
-        let came = has-flat_map of_rank p (0 ∷ 1 ∷ 2 ∷ []) (has-if (leb now a.expiry) p (flat_map of_rank (0 ∷ 1 ∷ 2 ∷ [])) asked) in
+    of_one a request_started =
+        let came = has-flat_map of_rank p (0 ∷ 1 ∷ 2 ∷ []) (has-if (leb now a.expiry) p (flat_map of_rank (0 ∷ 1 ∷ 2 ∷ [])) request_started) in
         let (g, here, asks) = has-filter_map (refresh_purpose now) p (filter (is_due_in came.from (family_of a.relayed) now s) s.grants) came.gives in
         has-any (is_asked_by p) g s.grants (has-filter (is_due_in came.from (family_of a.relayed) now s) g s.grants here).0 (refresh-for now p g asks)
       where
@@ -204,8 +204,8 @@ module _ (R : State → State → Type 0) (k : KeepsEdits R) where
 
   given_up-walk : (now : ℕ) (s : State) → R s (timed_out_step now s).1
   given_up-walk now s =
-      found R k (λ (t : Transaction). timed_step s.phase (Some t.id) now (ended t.id s)) (timed_out_transaction (agent_of s) now) s (timed_step s.phase None now s)
-      (λ t e. then s (ended t.id s) _ (k.finishes t.id s) (timed_in_phase s.phase (Some t.id) now (ended t.id s))) (timed_in_phase s.phase None now s)
+      found R k (λ (t : Transaction). timed_step s.phase (Some t.id) now (transaction_ended t.id s)) (timed_out_transaction (agent_of s) now) s (timed_step s.phase None now s)
+      (λ t e. then s (transaction_ended t.id s) _ (k.finishes t.id s) (timed_in_phase s.phase (Some t.id) now (transaction_ended t.id s))) (timed_in_phase s.phase None now s)
 
   pub poll-walk : (now : ℕ) (s : State) → R s (poll_step now s).1
   poll-walk now s =
@@ -228,7 +228,7 @@ module _ (R : State → State → Type 0) (k : KeepsEdits R) where
       let wanted = flat_map (refreshes_in now u) (allocations u) in
       found R k _ (slice_get wanted 0) u (None, u)
       (λ p e. let text = request_for u p (fresh_id u) in
-      let t = asked (fresh_id u) text (p ∷ []) now u in
+      let t = request_started (fresh_id u) text (p ∷ []) now u in
       then u t (sent now t) (asked-walk R k (fresh_id u) text p now u tt (inr (inl (refreshes-there now u p (first-has p wanted e)))) (spelled-else (fresh_id u) text p u refl (refresh-other now u p (first-has p wanted e)))) (k.sends now t (λ new. cc))) (k.same u)
 
   queue-walk : (now : ℕ) (s : State) → R s (queue_step now s).1

@@ -10,8 +10,8 @@ use Rattle.turn_stun.specs.declared.transport.TransportType.{TransportType}
 use Rattle.turn_types.specs.declared.family.AddressFamily.{AddressFamily}
 use Rattle.turn_agent.specs.Agent.{timed_out_transaction}
 use Rattle.turn_client_api.specs.State.{State, DataOffer, Phase, New, Requesting, Authenticating, Allocated, Closed, Grant, Allocation, Permission, Channel, Connect, Offer, Connection, Relay, Pending, Active, Reserved, Purpose, agent_of}
-use Rattle.turn_client_api.specs.Grants.{allocations, failure_of, failures_among, family_of, in_sequence, is_channel_of, is_connect, is_for_any, is_of, is_pending_channel, is_pending_permission, without}
-use Rattle.turn_client_api.specs.Effect.{closed, ended, reserved}
+use Rattle.turn_client_api.specs.Grants.{allocations, failure_of, failures_among, family_of, in_sequence, is_channel_of, is_connect, is_for_any, is_of, is_pending_channel, is_pending_permission, without_grants}
+use Rattle.turn_client_api.specs.Effect.{closed, transaction_ended, reserved}
 use Rattle.turn_client_api.specs.Due.{has_event, has_reply}
 use Rattle.turn_client_api.specs.Poll.{answer_by, answer_step, channel_lapsed, connections_unbound, failed, timed_out_step, allocation_expires, failed_by_timeout, is_timed_out_offer, is_lapsed_channel, is_listed_for_allocation, is_over, lapsed, lapsed_allocation, lapsed_in, last_channel_lapsed, next_offer, offer_step, offers_timed_out, permissions_lapsed, poll_step, refreshes_timed_out, set_free, timed_step, told, first_reported, unbound, unreported_in, timed_out_purposes}
 use Rattle.turn_client_api.specs.LawsBodies.{TellsOfFailed, can_fail, max_failures}
@@ -128,7 +128,7 @@ failed-tells which s spares =
 unbound-tells : (which : Grant → Bool) (s : State) → Spares which → TellsOfFailed s (unbound which s)
 unbound-tells which s spares = failed-tells which s spares
 
-without-tells : (which : Grant → Bool) (s : State) → TellsOfFailed s (without which s)
+without-tells : (which : Grant → Bool) (s : State) → TellsOfFailed s (without_grants which s)
 unfolding count
 without-tells which s = let fewer = count-filter (λ g. not (which g)) s.grants in omega (arith, fewer)
 
@@ -250,7 +250,7 @@ module _ (family : AddressFamily) (purposes : List Purpose) where
 allocation-tells : (given : Option ℕ) (purposes : List Purpose) (now : ℕ) (s : State) (a : Relay) → TellsOfFailed s (lapsed_allocation given purposes now s a)
 allocation-tells given purposes now s a = by (allocation_expires purposes now s a)
   where
-    by : (b : Bool) → TellsOfFailed s (cond b (without (is_of (family_of a.relayed)) s) (lapsed_in (family_of a.relayed) given purposes now s))
+    by : (b : Bool) → TellsOfFailed s (cond b (without_grants (is_of (family_of a.relayed)) s) (lapsed_in (family_of a.relayed) given purposes now s))
     by true = without-tells (is_of (family_of a.relayed)) s
     by false = lapsed_in-tells (family_of a.relayed) purposes given now s
 
@@ -323,8 +323,8 @@ pub poll-tells : (now : ℕ) (s : State) → s.phase ≢ Requesting → TellsOfF
 poll-tells now s other =
     by_test (TellsOfFailed s) (has_event s || has_reply s) _ _ (tells-self s)
     (by_found (TellsOfFailed s) (λ offer. offer_step offer s) (next_offer s) (timed_out_step now s) (λ offer. offer-tells offer s)
-    (by_found (TellsOfFailed s) (λ t. timed_step s.phase (Some t.id) now (ended t.id s)) (timed_out_transaction (agent_of s) now) (timed_step s.phase None now s)
-    (λ t. timed-tells s.phase (Some t.id) now (ended t.id s) other) (timed-tells s.phase None now s other)))
+    (by_found (TellsOfFailed s) (λ t. timed_step s.phase (Some t.id) now (transaction_ended t.id s)) (timed_out_transaction (agent_of s) now) (timed_step s.phase None now s)
+    (λ t. timed-tells s.phase (Some t.id) now (transaction_ended t.id s) other) (timed-tells s.phase None now s other)))
 
 -- ---- families
 
@@ -362,8 +362,8 @@ pub poll-tells_families : (now : ℕ) (s : State) → s.phase ≡ Requesting →
 poll-tells_families now s e =
     by_test (TellsOfFamilies s) (has_event s || has_reply s) _ _ (omega arith)
     (by_found (TellsOfFamilies s) (λ offer. offer_step offer s) (next_offer s) (timed_out_step now s) (λ offer. omega arith)
-    (by_found (TellsOfFamilies s) (λ t. timed_step s.phase (Some t.id) now (ended t.id s)) (timed_out_transaction (agent_of s) now) (timed_step s.phase None now s)
-    (λ t. timed-families s.phase (Some t.id) now (ended t.id s) e) (timed-families s.phase None now s e)))
+    (by_found (TellsOfFamilies s) (λ t. timed_step s.phase (Some t.id) now (transaction_ended t.id s)) (timed_out_transaction (agent_of s) now) (timed_step s.phase None now s)
+    (λ t. timed-families s.phase (Some t.id) now (transaction_ended t.id s) e) (timed-families s.phase None now s e)))
 
 pub most-failures : (s : State) → max_failures s ≤ length s.grants
 most-failures s = by s.grants

@@ -5,7 +5,7 @@ use Rattle.std.specs.declared.net.ip_addr.IpAddr.{IpAddr}
 use Rattle.std.specs.declared.net.socket_addr.SocketAddr.{SocketAddr}
 use Rattle.turn_types.specs.declared.family.AddressFamily.{AddressFamily}
 use Rattle.turn_client_api.specs.State.{State, Grant, Permission, Channel, Connect, Offer, Connection, DataConnection, DataOffer, Progress, Pending, Active, Reserved, Origin, OwnConnect, ServerIndication}
-use Rattle.turn_client_api.specs.Grants.{is_channel_of, is_connect_to, is_connection_from, is_of, is_permission_of, without}
+use Rattle.turn_client_api.specs.Grants.{is_channel_of, is_connect_to, is_connection_from, is_of, is_permission_of, without_grants}
 use Rattle.turn_client_api.specs.Effect.{new_allocation, relayed_in, taken_addresses}
 use Rattle.turn_client_api.specs.Calls.{channel_numbers, is_offer_of, offer_taken, without_first}
 use Rattle.turn_client_api.specs.Connections.{is_indicated, max_indicated}
@@ -82,8 +82,8 @@ module _ (P : List Grant → Type 0) (k : KeepsGrants P) where
     empties = λ s h. k.filters (λ g. not true) s.grants h;
     allocates = λ message lifetime now s phase none h. k.allocates lifetime now s.families (relayed_in message) s.grants h;
     permits = λ ip expiry s is h.
-        k.permission ip (Active expiry) (without (is_permission_of ip) s).grants (none-filter (is_permission_of ip) s.grants) (k.filters (λ g. not (is_permission_of ip g)) s.grants h);
+        k.permission ip (Active expiry) (without_grants (is_permission_of ip) s).grants (none-filter (is_permission_of ip) s.grants) (k.filters (λ g. not (is_permission_of ip g)) s.grants h);
     connects = λ id connection_id peer s t since stay granted listed h.
-        k.offers (offer connection_id peer OwnConnect) (without (is_connect_to peer) t).grants (λ e. absurd (own e)) (k.filters (λ g. not (is_connect_to peer g)) t.grants (since h));
+        k.offers (offer connection_id peer OwnConnect) (without_grants (is_connect_to peer) t).grants (λ e. absurd (own e)) (k.filters (λ g. not (is_connect_to peer g)) t.grants (since h));
     offers = λ id peer origin s room few h. k.offers (offer id peer origin) s.grants few h;
   }

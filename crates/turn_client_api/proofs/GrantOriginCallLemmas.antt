@@ -9,7 +9,7 @@ use Rattle.turn_auth.specs.LongTerm.{Challenge}
 use Rattle.turn_agent.specs.Agent.{same_address}
 use Rattle.turn_client_api.specs.State.{State, Bound, Phase, New, Requesting, Authenticating, Allocated, Closed}
 use Rattle.turn_client_api.specs.State.{Grant, Allocation, Permission, Channel, Connect, Offer, Connection, DataConnection, Pending, Reserved, Purpose, later_by}
-use Rattle.turn_client_api.specs.Grants.{is_channel_of, purposes_of, without}
+use Rattle.turn_client_api.specs.Grants.{is_channel_of, purposes_of, without_grants}
 use Rattle.turn_client_api.specs.Requests.{connection_bind_method}
 use Rattle.turn_client_api.specs.Judgement.{Judgement, Unrelated, Challenged, Fatal, LateResponse, DataIndication, ConnectionAttempt, SignedRequest, SignedSuccess, SignedError, bind_judgement, is_bind_of, method_in}
 use Rattle.turn_client_api.specs.Connections.{deadline_set, with_deadline, with_mode, bind_again, bind_answered, bind_step, connection_at}
@@ -181,7 +181,7 @@ Leaves-KeepsEdits = record {
   channel = λ number peer s phase room none within. left-one s.grants (Channel number peer Pending) (λ stands. stands);
   connect = λ peer s phase room none. left-one s.grants (Connect peer) (λ stands. stands);
   connection = λ id c origin s phase offer none waits. left-trans s.grants (offer_taken id c.peer s).grants _ (first-left (is_offer_of id c.peer) s.grants) (left-one (offer_taken id c.peer s).grants (Connection c) (unbound c waits));
-  reserves = λ number peer was until s there. left-trans s.grants (without (is_channel_of number) s).grants _ (left-filter _ s.grants) (left-one (without (is_channel_of number) s).grants (Channel number peer (Reserved until)) (λ stands. stands));
+  reserves = λ number peer was until s there. left-trans s.grants (without_grants (is_channel_of number) s).grants _ (left-filter _ s.grants) (left-one (without_grants (is_channel_of number) s).grants (Channel number peer (Reserved until)) (λ stands. stands));
 }
   where
     unbound : (c : DataConnection) → IsSome c.deadline → IsActiveGrant (Connection c) → ⊥

@@ -11,7 +11,7 @@ use Rattle.std.specs.declared.net.socket_addr.SocketAddr.{SocketAddr}
 use Rattle.std.proofs.lemmas.Bool.{eqb-true, leb-true}
 use Rattle.turn_types.specs.declared.family.AddressFamily.{AddressFamily}
 use Rattle.turn_client_api.specs.State.{State, Grant, Allocation, Permission, Channel, Connect, Offer, Connection, DataOffer, Progress, Pending, Active, Reserved, Purpose, ForAllocation, ForRefresh, ForPermission, ForChannel, ForConnect, ForBind, OwnConnect, later_by, seconds}
-use Rattle.turn_client_api.specs.Grants.{changed_allocation, channel_at, first_in, is_channel_of, is_connect_to, is_of_family, is_permission_of, permission_state, purposes_of, same_ip, unlisted, with_grant, without}
+use Rattle.turn_client_api.specs.Grants.{changed_allocation, channel_at, first_in, is_channel_of, is_connect_to, is_of_family, is_permission_of, permission_state, purposes_of, same_ip, unlisted, with_grant, without_grants}
 use Rattle.turn_client_api.specs.Judgement.{connection_id_in, lifetime_in}
 use Rattle.turn_client_api.specs.Effect.{lasting, lasting_if, all_gone, allocation_mismatch, channel_answered, channel_lifetime, connect_answered, effect, has_code, challenges_reset, min_lifetime, permission_answered, permission_answered_for, permission_lifetime, permission_refused_too, listed_permissions_answered, prolonged, refreshed, reserved_time}
 use Rattle.turn_client_api.specs.LawsGranted.{HasChannelTo, IsActiveGrant, IsSameGrant}
@@ -75,7 +75,7 @@ module _ (purposes : List Purpose) (message : List ℕ) (now : ℕ) (before : St
   trans : (s t u : State) → Taken s t → Taken t u → Taken s u
   trans s t u first second = takes-trans purposes message now before s t u first second
 
-  without-takes : (which : Grant → Bool) (s : State) → Taken s (without which s)
+  without-takes : (which : Grant → Bool) (s : State) → Taken s (without_grants which s)
   without-takes which s = ((within-filter _ s.listed, channels-filter _ s.grants), gives-left purposes message now before s.grants _ (left-filter _ s.grants))
 
   -- if it is a channel, it existed already
@@ -92,8 +92,8 @@ module _ (purposes : List Purpose) (message : List ℕ) (now : ℕ) (before : St
       ((taken.0.0, channels-append s.grants t.grants one taken.0.1 known), gives-trans purposes message now before s.grants t.grants _ taken.1 (gives-one purposes message now before t.grants one gives))
 
   -- a grant replaces those that are removed
-  replaced-takes : (which : Grant → Bool) (one : Grant) (s : State) → (IsActiveGrant one → IsGivenOf purposes message now before one) → IsKnown one s → Taken s (with_grant one (without which s))
-  replaced-takes which one s gives known = more-takes one s (without which s) (without-takes which s) gives known
+  replaced-takes : (which : Grant → Bool) (one : Grant) (s : State) → (IsActiveGrant one → IsGivenOf purposes message now before one) → IsKnown one s → Taken s (with_grant one (without_grants which s))
+  replaced-takes which one s gives known = more-takes one s (without_grants which s) (without-takes which s) gives known
 
   -- what exists is extended, with nothing listed for it any more
   lasting-takes : (which : Grant → Bool) (f : Grant → Grant) (s : State) → KeepsChannels f → ((g : Grant) → Has g s.grants → Is g (f g)) → Taken s (record (unlisted which s) { grants = map f s.grants })
@@ -198,13 +198,13 @@ module _ (purposes : List Purpose) (message : List ℕ) (now : ℕ) (before : St
       by (Some (peer, Pending)) e true one all =
           let t = listed_permissions_answered id true now s in
           let new = Channel number peer (Active (later_by channel_lifetime now)) in
-          let less = without (is_channel_of number) t in
+          let less = without_grants (is_channel_of number) t in
           let taken = trans s t less (permissions-takes id true s all) (without-takes (is_channel_of number) t) in
           let here = first-channel number peer Pending s.grants e in
           rw e (more-takes new s less taken (λ stands. record { purpose = ForChannel number asked; one = one refl; given = (refl, refl, held peer Pending here) })
           (λ n to progress f. same-channel n number to peer progress (Active (later_by channel_lifetime now)) s.grants f (Pending, here)))
       by (Some (peer, Pending)) e false one all =
-          let t = without (is_channel_of number) s in
+          let t = without_grants (is_channel_of number) s in
           rw e (trans s t (permission_refused_too (purposes_of id s) t) (without-takes (is_channel_of number) s) (without-takes _ t))
       by (Some (peer, Active expiry)) e true one all =
           rw e (lasting-takes (is_channel_of number) (lasting_if (is_channel_of number) (later_by channel_lifetime now)) s (lasting-channels (is_channel_of number) (later_by channel_lifetime now)) (channel_lasts number asked (one refl) s known))
@@ -257,7 +257,7 @@ module _ (purposes : List Purpose) (message : List ℕ) (now : ℕ) (before : St
     where
       gone : Taken s (challenges_reset (all_gone s))
       gone =
-          let t = without (λ g. true) s in
+          let t = without_grants (λ g. true) s in
           trans s t (challenges_reset (all_gone s)) (without-takes (λ g. true) s) ((within-filter _ t.listed, λ number peer h. h), (same t).1)
 
       longer : Has (ForRefresh family lifetime) purposes → 1 ≤ lifetime → (o : Option ℕ) → lifetime_in message ≡ o → Taken s (option_map_or (λ granted. prolonged family granted now s) o s)

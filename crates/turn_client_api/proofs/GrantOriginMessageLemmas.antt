@@ -19,7 +19,7 @@ use Rattle.turn_client_api.specs.State.{State, Phase, New, Requesting, Authentic
 use Rattle.turn_client_api.specs.Grants.{find_allocation_to, is_for_allocation, is_of_family, purposes_of}
 use Rattle.turn_client_api.specs.Requests.{connection_attempt_method, data_method}
 use Rattle.turn_client_api.specs.Judgement.{Judgement, Unrelated, Challenged, Fatal, LateResponse, DataIndication, ConnectionAttempt, SignedRequest, SignedSuccess, SignedError, judgement_of, by_class, challenged_or, challenge_in, answers_one, answers_allocate, authenticating_judgement, allocated_judgement, requesting_judgement, indication_judgement, class_in, connection_id_in, lifetime_in, method_in, peer_in}
-use Rattle.turn_client_api.specs.Effect.{allocate_granted, effect, ended, family_not_supported, has_code, new_allocation, relayed_in, taken_addresses, with_offer}
+use Rattle.turn_client_api.specs.Effect.{allocate_granted, effect, transaction_ended, family_not_supported, has_code, new_allocation, relayed_in, taken_addresses, with_offer}
 use Rattle.turn_client_api.specs.Retry.{max_challenges, retried}
 use Rattle.turn_client_api.specs.Connections.{attempt_indicated, attempt_requested, is_connected, accepts_attempt}
 use Rattle.turn_client_api.specs.Payloads.{Outcome, Handled, Ignored, answered_purposes, challenge_step, is_answered, message_step, response_step, signed_step, wrong_step}
@@ -179,7 +179,7 @@ reply-takes purposes is_granted message now before s known all =
     effect-takes purposes message now before (id_of message) is_granted t p (λ number peer h. known number peer (within.1 number peer h))
     (λ granted. all granted p (has-filter (is_answered (method_in message)) p (asked_for message s) there).0)
     (λ granted q still. all granted q (purposes-within (id_of message) s t within.0 q still)))
-    (answered_purposes message s) (λ p there. there) (ended (id_of message) s) (λ l there. there, λ number peer h. h)
+    (answered_purposes message s) (λ p there. there) (transaction_ended (id_of message) s) (λ l there. there, λ number peer h. h)
 
 -- each address that is chosen is among those of the message
 taken-relayed : (families : List AddressFamily) (addresses : List SocketAddr) (a : SocketAddr) → Has a (taken_addresses families addresses) → Has a addresses
@@ -249,7 +249,7 @@ allocate-gives message now before s purposes same one = by (lifetime_in message)
             at (a, among, is) = rw is (record { purpose = ForAllocation; one = one; given = given a among })
 
 granted-gives : (p : Phase) (message : List ℕ) (now : ℕ) (s : State) → IsForAllocation p message s → Gives (asked_for message s) message now (record s { phase = p }) s.grants (signed_step true message now (record s { phase = p })).1.grants
-granted-gives Authenticating message now s one = allocate-gives message now (record s { phase = Authenticating }) (ended (id_of message) (record s { phase = Authenticating })) (asked_for message s) refl (one refl)
+granted-gives Authenticating message now s one = allocate-gives message now (record s { phase = Authenticating }) (transaction_ended (id_of message) (record s { phase = Authenticating })) (asked_for message s) refl (one refl)
 granted-gives New message now s one = (reply-takes (asked_for message s) true message now (record s { phase = New }) (record s { phase = New }) (λ number peer h. h) (λ e p there. there)).1
 granted-gives Requesting message now s one = (reply-takes (asked_for message s) true message now (record s { phase = Requesting }) (record s { phase = Requesting }) (λ number peer h. h) (λ e p there. there)).1
 granted-gives Allocated message now s one = (reply-takes (asked_for message s) true message now (record s { phase = Allocated }) (record s { phase = Allocated }) (λ number peer h. h) (λ e p there. there)).1

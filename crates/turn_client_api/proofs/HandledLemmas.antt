@@ -15,7 +15,7 @@ use Rattle.turn_client_api.specs.Payloads.{Payload, Outcome, Handled, Ignored, P
 use Rattle.turn_client_api.specs.Streams.{broken_at, framed_by, framed_stream_step, go_on, is_ready, max_steps, owned, payload_in, poll_recv_step, stream_at, next_frame_step, first_ready_step, detached_frame_step, steps_until_payload, with_bytes}
 use Rattle.turn_client_api.specs.Receive.{first_frame_step, is_from_server, piece_step, place_kept, recv_step, stream_step, then_all}
 use Rattle.turn_client_api.specs.Steps.{Call, PollRecv, Recv, packet_step}
-use Rattle.turn_client_api.specs.Handled.{Input, fed, fed_taken, frame_taken, handled, is_front, processed, payloads, piece_inputs, poll_recv_inputs, recv_inputs, stream_inputs, taken, taken_first, taken_in, taken_of_len, then_taken, stream_input, input_payload, inputs_taken, unless_given}
+use Rattle.turn_client_api.specs.Handled.{Input, stream_with_piece, fed_taken, frame_taken, handled, is_front, processed, payloads, piece_inputs, poll_recv_inputs, recv_inputs, stream_inputs, stream_inputs_taken, taken_first, taken_in, taken_of_len, then_taken, stream_input, input_payload, inputs_taken, unless_given}
 use Rattle.turn_client_api.specs.LawsPeers.{IsDeliveredByInput, IsPermittedInput, IsToldBy}
 use Rattle.turn_client_api.proofs.HasLemmas.{Has, has-filter_map, has-left}
 use Rattle.turn_client_api.proofs.StandLemmas.{has-contains}
@@ -61,7 +61,7 @@ turned_in_mode Waiting stream now t = framed-AreOf false (record stream { mode =
 turned_in_mode (Bound peer) stream now t = refl
 turned_in_mode Broken stream now t = refl
 
-turn-AreOf : (stream : Stream) (now : ℕ) (s : State) → AreOf (taken false stream now s) (owned (next_frame_step stream now s).0)
+turn-AreOf : (stream : Stream) (now : ℕ) (s : State) → AreOf (stream_inputs_taken false stream now s) (owned (next_frame_step stream now s).0)
 turn-AreOf stream now s = turned_in_mode stream.mode stream now (with_bytes stream.local [] s)
 
 -- ---- all streams
@@ -83,7 +83,7 @@ turns-Gives (suc n) now s = by (find is_ready s.streams) (λ t. turns-Gives n no
   where
     by : (o : Option Stream) → ((t : State) → Gives (inputs_taken n now t) (steps_until_payload n now t)) → Gives (taken_first (inputs_taken n now) now s o) (first_ready_step (steps_until_payload n now) now s o)
     by None more = refl
-    by (Some stream) more = go_on-Gives (steps_until_payload n now) (inputs_taken n now) (taken false stream now s) (next_frame_step stream now s) (turn-AreOf stream now s) more
+    by (Some stream) more = go_on-Gives (steps_until_payload n now) (inputs_taken n now) (stream_inputs_taken false stream now s) (next_frame_step stream now s) (turn-AreOf stream now s) more
 
 pub poll_recv-Gives : (now : ℕ) (s : State) → payloads (poll_recv_inputs now s) ≡ option_to_list (poll_recv_step now s).0
 poll_recv-Gives now s = turns-Gives (max_steps s) now s
@@ -110,10 +110,10 @@ kept-given : (waited : List ℕ) (o : Outcome) → given (is_front waited) o ≡
 kept-given [] o = refl
 kept-given (b ∷ bs) o = refl
 
-framed-fed : (stream : Stream) (piece : List ℕ) (now : ℕ) (t : State) → AreOf (frame_taken (is_front stream.bytes) (fed stream piece) now t) (place_kept stream.bytes (framed_stream_step (fed stream piece) now t).0)
+framed-fed : (stream : Stream) (piece : List ℕ) (now : ℕ) (t : State) → AreOf (frame_taken (is_front stream.bytes) (stream_with_piece stream piece) now t) (place_kept stream.bytes (framed_stream_step (stream_with_piece stream piece) now t).0)
 framed-fed stream piece now t =
-    framed-AreOf (is_front stream.bytes) (fed stream piece) now t
-    ∙ ap (λ o. option_to_list (payload_in o)) (kept-given stream.bytes (framed_stream_step (fed stream piece) now t).0)
+    framed-AreOf (is_front stream.bytes) (stream_with_piece stream piece) now t
+    ∙ ap (λ o. option_to_list (payload_in o)) (kept-given stream.bytes (framed_stream_step (stream_with_piece stream piece) now t).0)
 
 bound-AreOf : (peer : SocketAddr) (waited piece : List ℕ) (stream : Stream) (now : ℕ) (s : State) → AreOf (piece_inputs (record stream { mode = Bound peer; bytes = waited }) piece now s) (piece_step (record stream { mode = Bound peer; bytes = waited }) piece now s).0
 bound-AreOf peer [] piece stream now s = refl
@@ -226,8 +226,8 @@ framed-tells is_lent stream now t = by (begins_no_frame stream.bytes) (frame_len
     by false None h = absurd h
     by false (Some len) h = (stream_input is_lent stream (take len stream.bytes) now t, inl refl, refl)
 
-fed-tells : (stream : Stream) (piece : List ℕ) (now : ℕ) (t : State) → Tells (frame_taken (is_front stream.bytes) (fed stream piece) now t) (place_kept stream.bytes (framed_stream_step (fed stream piece) now t).0)
-fed-tells stream piece now t = tells-kept stream.bytes _ (framed_stream_step (fed stream piece) now t).0 (framed-tells (is_front stream.bytes) (fed stream piece) now t)
+fed-tells : (stream : Stream) (piece : List ℕ) (now : ℕ) (t : State) → Tells (frame_taken (is_front stream.bytes) (stream_with_piece stream piece) now t) (place_kept stream.bytes (framed_stream_step (stream_with_piece stream piece) now t).0)
+fed-tells stream piece now t = tells-kept stream.bytes _ (framed_stream_step (stream_with_piece stream piece) now t).0 (framed-tells (is_front stream.bytes) (stream_with_piece stream piece) now t)
 
 -- what all streams return is no ICMP report
 no-icmp : (o : Option Payload) (p : Outcome) → (IsIcmp p → ⊥) → IsIcmp (option_map_or PeerData o p) → ⊥

@@ -12,7 +12,7 @@ use Rattle.turn_agent.specs.Agent.{same_address}
 use Rattle.turn_client_api.specs.Config.{Config, same_family}
 use Rattle.turn_client_api.specs.Alarm.{AllHaveAllocation, HasAllocation}
 use Rattle.turn_client_api.specs.State.{State, initial, DataOffer, Grant, Allocation, Permission, Channel, Connect, Offer, Connection, Progress, Pending, Active, Reserved, Origin, OwnConnect, Purpose, ForAllocation, ForRefresh, ForPermission, ForChannel, ForConnect, ForBind, Listing}
-use Rattle.turn_client_api.specs.Grants.{family_of, family_of_grant, family_of_ip, is_channel_of, is_connect_to, is_for, is_of, is_permission_of, as_offer, permission_state, permission_progress, purposes_of, same_ip, with_grant, without}
+use Rattle.turn_client_api.specs.Grants.{family_of, family_of_grant, family_of_ip, is_channel_of, is_connect_to, is_for, is_of, is_permission_of, as_offer, permission_state, permission_progress, purposes_of, same_ip, with_grant, without_grants}
 use Rattle.turn_client_api.specs.Effect.{new_allocation, relayed_in, taken_addresses}
 use Rattle.turn_client_api.specs.Calls.{is_offer_of, offer_origin, offer_taken}
 use Rattle.turn_client_api.specs.Steps.{Call, Leaves}
@@ -30,16 +30,16 @@ use Rattle.turn_client_api.proofs.EditsOfCalls.{leaves-walk}
 
 -- ---- grants are added and removed
 
-without-houses : (which : Grant → Bool) → Spares which → (s : State) → Houses s (without which s)
+without-houses : (which : Grant → Bool) → Spares which → (s : State) → Houses s (without_grants which s)
 without-houses which spares s h = housed-without which spares s.grants s.listed h
 
 with_grant-houses : (g : Grant) (s : State) → Room s.grants (family_of_grant g) → Houses s (with_grant g s)
 with_grant-houses g s room h = housed-grant s.grants g s.listed h room
 
 -- one of a family that has an allocation replaces these
-replaced-houses : (which : Grant → Bool) → SparesAll which → (g : Grant) (s : State) → (Housed s.grants s.listed → Room s.grants (family_of_grant g)) → Houses s (with_grant g (without which s))
+replaced-houses : (which : Grant → Bool) → SparesAll which → (g : Grant) (s : State) → (Housed s.grants s.listed → Room s.grants (family_of_grant g)) → Houses s (with_grant g (without_grants which s))
 replaced-houses which spares g s room h =
-    with_grant-houses g (without which s) (room-without which spares s.grants (family_of_grant g) (room h)) (without-houses which (all-spared which spares) s h)
+    with_grant-houses g (without_grants which s) (room-without which spares s.grants (family_of_grant g) (room h)) (without-houses which (all-spared which spares) s h)
 
 family-spares : (family : AddressFamily) → Spares (is_of family)
 family-spares family a g goes same = subst (λ (f : AddressFamily). same_family f family ≡ true) same goes

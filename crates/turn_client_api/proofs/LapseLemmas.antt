@@ -10,7 +10,7 @@ use Rattle.turn_types.specs.declared.family.AddressFamily.TheVariants.{IPV4, IPV
 use Rattle.turn_client_api.specs.Config.{same_family}
 use Rattle.turn_client_api.specs.Alarm.{HasAllocation}
 use Rattle.turn_client_api.specs.State.{State, DataOffer, Grant, Allocation, Permission, Channel, Connect, Offer, Connection, Relay, Pending, Active, Reserved, Purpose, agent_of, later_by}
-use Rattle.turn_client_api.specs.Grants.{allocations, as_allocation, find_allocation, family_of_grant, has_request, is_past, failures_among, family_of, is_channel_of, is_for_any, is_connect, is_of, is_pending_channel, is_pending_permission, jump, unlisted, without}
+use Rattle.turn_client_api.specs.Grants.{allocations, as_allocation, find_allocation, family_of_grant, has_request, is_past, failures_among, family_of, is_channel_of, is_for_any, is_connect, is_of, is_pending_channel, is_pending_permission, jump, unlisted, without_grants}
 use Rattle.turn_client_api.specs.Effect.{reserved, reserved_time}
 use Rattle.turn_client_api.specs.Calls.{is_allocated}
 use Rattle.turn_client_api.specs.Poll.{first_unreported, timed_out_purposes, next_offer, unreported_in, channel_lapsed, connections_unbound, failed_by_timeout, last_channel_lapsed, offers_timed_out, permissions_lapsed, refreshes_timed_out, set_free, failed, allocation_expires, is_lapsed_channel, is_lapsed_permission, is_unbound, lapsed, lapsed_allocation, lapsed_in, unbound}
@@ -80,14 +80,14 @@ has-unreversed x (y ∷ xs) h = by (has-unreversed x xs) (has-append x (reverse 
 unlisted-shrinks : (which : Grant → Bool) (s : State) → Shrinks s (unlisted which s)
 unlisted-shrinks which s = record { agent = refl; transactions = refl; queue = refl; phase = refl; grants = λ g h. inl h; events = λ e. e }
 
-without-shrinks : (which : Grant → Bool) (s : State) → Shrinks s (without which s)
+without-shrinks : (which : Grant → Bool) (s : State) → Shrinks s (without_grants which s)
 without-shrinks which s = record { agent = refl; transactions = refl; queue = refl; phase = refl; grants = λ g h. inl (has-filter _ g s.grants h).0; events = λ e. e }
 
 jump-shrinks : (events : List TurnEvent) (s : State) → Shrinks s (jump events s)
 jump-shrinks events s = record { agent = refl; transactions = refl; queue = refl; phase = refl; grants = λ g h. inl h; events = λ e. (append-empty (reverse events) s.events e).1 }
 
 failed-shrinks : (which : Grant → Bool) (s : State) → Shrinks s (failed which s)
-failed-shrinks which s = shrinks-then s (without which s) (failed which s) (without-shrinks which s) (jump-shrinks (failures_among which s) (without which s))
+failed-shrinks which s = shrinks-then s (without_grants which s) (failed which s) (without-shrinks which s) (jump-shrinks (failures_among which s) (without_grants which s))
 
 unbound-shrinks : (which : Grant → Bool) (s : State) → Shrinks s (unbound which s)
 unbound-shrinks which s =
@@ -98,7 +98,7 @@ reserved-shrinks : (number : ℕ) (peer : SocketAddr) (expiry : ℕ) (s : State)
 reserved-shrinks number peer expiry s = record { agent = refl; transactions = refl; queue = refl; phase = refl; grants = by; events = λ e. e }
   where
     kept : List Grant
-    kept = (without (is_channel_of number) s).grants
+    kept = (without_grants (is_channel_of number) s).grants
 
     held : Grant
     held = Channel number peer (Reserved (later_by reserved_time expiry))
@@ -312,7 +312,7 @@ after-turn given purposes now s a g none h here = by (allocation_expires purpose
   where
     by : (b : Bool) → allocation_expires purposes now s a ≡ b → Outlives now g
     by true e =
-        let stayed : Has g (without (is_of (family_of a.relayed)) s).grants = rw e at h in
+        let stayed : Has g (without_grants (is_of (family_of a.relayed)) s).grants = rw e at h in
         let no : false ≡ true = sym (not-passed (is_of (family_of a.relayed)) g s.grants stayed) ∙ here in
         cc
     by false e = alive_in (family_of a.relayed) given purposes now s (rw e at none) g (rw e at h) here
@@ -351,7 +351,7 @@ stays-alive given purposes now s a h used = by (allocation_expires purposes now 
 
     by : (b : Bool) → allocation_expires purposes now s a ≡ b → now < a.expiry
     by true e =
-        let stayed : Has (Allocation a) (without (is_of (family_of a.relayed)) s).grants = rw e at h in
+        let stayed : Has (Allocation a) (without_grants (is_of (family_of a.relayed)) s).grants = rw e at h in
         let no : false ≡ true = sym (not-passed (is_of (family_of a.relayed)) (Allocation a) s.grants stayed) ∙ same_family-self (family_of a.relayed) in
         cc
     by false e = leb-false a.expiry now (past (is_past now a) (is_for_any purposes (Allocation a)) (not (has_request (Allocation a) s)) (not a.is_expired) (rw used refl) e)

@@ -8,7 +8,7 @@ use Rattle.turn_stun.specs.declared.transport.TransportType.{TransportType}
 use Rattle.turn_agent.specs.Agent.{same_address}
 use Rattle.turn_client_api.specs.Config.{Config}
 use Rattle.turn_client_api.specs.State.{State, initial, Grant, Allocation, Permission, Channel, Connect, Offer, Connection, Purpose, ForAllocation, ForRefresh, ForPermission, ForChannel, ForConnect, ForBind, Listing}
-use Rattle.turn_client_api.specs.Grants.{is_connect_to, is_for, is_of, is_permission_of, is_channel_of, with_grant, without}
+use Rattle.turn_client_api.specs.Grants.{is_connect_to, is_for, is_of, is_permission_of, is_channel_of, with_grant, without_grants}
 use Rattle.turn_client_api.specs.Requests.{listings}
 use Rattle.turn_client_api.specs.Calls.{is_offer_of, offer_taken}
 use Rattle.turn_client_api.specs.Steps.{Call, Leaves}
@@ -55,7 +55,7 @@ with_grant-founded g s h l there = founded-append s.grants (g ∷ []) l.purpose 
 
 -- ---- grants are removed
 
-without-founded : (which : Grant → Bool) (s : State) → StayFounded s (without which s)
+without-founded : (which : Grant → Bool) (s : State) → StayFounded s (without_grants which s)
 without-founded which s h l there = by (h l kept.0)
   where
     gone : Listing → Bool
@@ -65,7 +65,7 @@ without-founded which s h l there = by (h l kept.0)
     kept = has-filter (λ l. not (gone l)) l s.listed there
 
     left : List Grant
-    left = (without which s).grants
+    left = (without_grants which s).grants
 
     of : (g : Grant) → Has g s.grants → is_asked_by l.purpose g ≡ true → (b : Bool) → which g ≡ b → list_any (is_asked_by l.purpose) left ≡ true
     of g here for true e = absurd (not-both (gone l) (has-any (λ g. which g && is_for l.purpose g) g s.grants here (and_from (which g) (is_for l.purpose g) e (asked-for l.purpose g for))) kept.1)
@@ -172,21 +172,21 @@ StayFounded-KeepsEdits = record {
   channel = λ number peer s phase room none within. with_grant-founded _ s;
   connect = λ peer s phase room none. with_grant-founded _ s;
   connection = λ id c origin s phase offer none waits h. with_grant-founded (Connection c) (offer_taken id c.peer s) (taken-founded id c.peer s h);
-  reserves = λ number peer was until s there h. with_grant-founded _ (without (is_channel_of number) s) (without-founded (is_channel_of number) s h);
+  reserves = λ number peer was until s there h. with_grant-founded _ (without_grants (is_channel_of number) s) (without-founded (is_channel_of number) s h);
 }
 
 pub StayFounded-KeepsAllEdits : KeepsAllEdits StayFounded
 StayFounded-KeepsAllEdits = record {
   edits = StayFounded-KeepsEdits;
   reshapes = reshaped-founded;
-  rebinds = λ number peer was progress s there h. with_grant-founded _ (without (is_channel_of number) s) (without-founded (is_channel_of number) s h);
+  rebinds = λ number peer was progress s there h. with_grant-founded _ (without_grants (is_channel_of number) s) (without-founded (is_channel_of number) s h);
   holds = λ message d s e h. h;
   counts = λ s held few h. h;
   resets = λ heeded s h. h;
   empties = λ s. without-founded (λ g. true) s;
   allocates = λ message lifetime now s e none h l there. founded-append s.grants _ l.purpose (h l there);
-  permits = λ ip expiry s is h. with_grant-founded _ (without (is_permission_of ip) s) (without-founded (is_permission_of ip) s h);
-  connects = λ id connection_id peer s t since stay granted listed h. with_grant-founded _ (without (is_connect_to peer) t) (without-founded (is_connect_to peer) t (since h));
+  permits = λ ip expiry s is h. with_grant-founded _ (without_grants (is_permission_of ip) s) (without-founded (is_permission_of ip) s h);
+  connects = λ id connection_id peer s t since stay granted listed h. with_grant-founded _ (without_grants (is_connect_to peer) t) (without-founded (is_connect_to peer) t (since h));
   offers = λ id peer origin s room few. with_grant-founded _ s;
 }
 

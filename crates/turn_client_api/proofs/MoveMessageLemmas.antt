@@ -20,7 +20,7 @@ use Rattle.turn_client_api.specs.Handled.{Input, processed}
 use Rattle.turn_client_api.specs.Grants.{find_allocation_to, as_connection, is_connection_from, is_for, is_for_allocation, purposes_of, unlisted, wait}
 use Rattle.turn_client_api.specs.Requests.{connection_attempt_method, connection_bind_method, fresh_id, listings, request_for, requested}
 use Rattle.turn_client_api.specs.Judgement.{Judgement, Unrelated, Challenged, Fatal, LateResponse, DataIndication, ConnectionAttempt, SignedRequest, SignedSuccess, SignedError, answers_allocate, authenticating_judgement, bind_judgement, class_in, connection_id_in, is_bind_of, judgement_of, lifetime_in, method_in, peer_in}
-use Rattle.turn_client_api.specs.Effect.{allocate_denied, allocate_granted, ended, family_not_supported, has_code, in_phase}
+use Rattle.turn_client_api.specs.Effect.{allocate_denied, allocate_granted, transaction_ended, family_not_supported, has_code, in_phase}
 use Rattle.turn_client_api.specs.Retry.{bind_time, max_challenges, retried, state_after_retry, with_held}
 use Rattle.turn_client_api.specs.Connections.{attempt_indicated, attempt_requested, bind_again, bind_answered, bind_step, connection_at, deadline_set, is_connected, accepts_attempt, bound, not_bound, with_deadline}
 use Rattle.turn_client_api.specs.Payloads.{Outcome, Handled, Ignored, challenge_step, channel_sent, datagram_step, is_channel_frame, is_message, message_step, response_step, signed_step, wrong_step}
@@ -112,19 +112,19 @@ wrong-turns Taken Authenticating message now s = turns-settled Taken message now
 wrong-turns Taken Allocated message now s = turns-settled Taken message now (record s { phase = Allocated }) _ (adds-same Never s.transactions, adds-filter Never _ s.listed, loses-same Taken s.grants)
 wrong-turns Taken Closed message now s = turns-settled Taken message now (record s { phase = Closed }) _ (adds-same Never s.transactions, adds-filter Never _ s.listed, loses-same Taken s.grants)
 
-granted-turns : (Taken : Grant → Type 0) (message : List ℕ) (now : ℕ) (s : State) → Turns Taken message now s (allocate_granted message now (ended (id_of message) s))
+granted-turns : (Taken : Grant → Type 0) (message : List ℕ) (now : ℕ) (s : State) → Turns Taken message now s (allocate_granted message now (transaction_ended (id_of message) s))
 granted-turns Taken message now s = by (lifetime_in message) refl
   where
-    by : (o : Option ℕ) → lifetime_in message ≡ o → Turns Taken message now s (allocate_granted message now (ended (id_of message) s))
+    by : (o : Option ℕ) → lifetime_in message ≡ o → Turns Taken message now s (allocate_granted message now (transaction_ended (id_of message) s))
     by None e = rw e (turns-settled Taken message now s _ (adds-filter Never _ s.transactions, adds-filter Never _ s.listed, loses-same Taken s.grants))
     by (Some lifetime) e = rw e (turns-settled Taken message now s _ (adds-filter Never _ s.transactions, adds-filter Never _ s.listed, loses-more Taken s.grants s.grants _ (loses-same Taken s.grants)))
 
 -- an ALLOCATE is refused, and may be made again for IPv6 alone
-denied-turns : (Taken : Grant → Type 0) (message : List ℕ) (now : ℕ) (s : State) → Has ForAllocation (purposes_of (id_of message) s) → Turns Taken message now s (allocate_denied (fresh_id s) message now (ended (id_of message) s))
+denied-turns : (Taken : Grant → Type 0) (message : List ℕ) (now : ℕ) (s : State) → Has ForAllocation (purposes_of (id_of message) s) → Turns Taken message now s (allocate_denied (fresh_id s) message now (transaction_ended (id_of message) s))
 denied-turns Taken message now s answers = by (has_code family_not_supported message && leb 2 (length s.families)) refl
   where
     u : State
-    u = wait (AllocationCreateFailed IPV4 ∷ []) (record (in_phase s.phase (ended (id_of message) s)) { families = IPV6 ∷ [] })
+    u = wait (AllocationCreateFailed IPV4 ∷ []) (record (in_phase s.phase (transaction_ended (id_of message) s)) { families = IPV6 ∷ [] })
 
     made : IsMade ForAllocation now s (requested (fresh_id s) ForAllocation now u)
     made = requested-made ForAllocation now s u
@@ -133,7 +133,7 @@ denied-turns Taken message now s answers = by (has_code family_not_supported mes
     one p (inl e) = rw e answers
     one p (inr h) = absurd h
 
-    by : (b : Bool) → (has_code family_not_supported message && leb 2 (length s.families)) ≡ b → Turns Taken message now s (allocate_denied (fresh_id s) message now (ended (id_of message) s))
+    by : (b : Bool) → (has_code family_not_supported message && leb 2 (length s.families)) ≡ b → Turns Taken message now s (allocate_denied (fresh_id s) message now (transaction_ended (id_of message) s))
     by false e = rw e (turns-settled Taken message now s _ (adds-filter Never _ s.transactions, adds-filter Never _ s.listed, loses-same Taken s.grants))
     by true e = rw e (
       adds-one _ s.transactions (A.without_transaction (id_of message) s.transactions) _ (adds-filter _ _ s.transactions) (made-again message now s (requested (fresh_id s) ForAllocation now u) ForAllocation answers made),
@@ -292,9 +292,9 @@ answered-turns c message now s = by (bind_judgement s c.local message) refl
 
     by : (j : Judgement) → bind_judgement s c.local message ≡ j → Turns Taken message now s (bind_answered c message now s)
     by (Challenged d) e = rw e (again-turns c message d now s)
-    by SignedSuccess e = rw e (turns-settled Taken message now s (bound c (ended (id_of message) s))
+    by SignedSuccess e = rw e (turns-settled Taken message now s (bound c (transaction_ended (id_of message) s))
         (adds-filter Never _ s.transactions, adds-filter Never _ s.listed, loses-map Taken (deadline_set c.local None) s.grants (deadline-grant_identity c.local None)))
-    by SignedError e = rw e (turns-settled Taken message now s (not_bound c (ended (id_of message) s))
+    by SignedError e = rw e (turns-settled Taken message now s (not_bound c (transaction_ended (id_of message) s))
         (adds-filter Never _ s.transactions, adds-filter Never _ s.listed, loses-filter Taken (is_connection_from c.local) s.grants (λ g e. e)))
     by Unrelated e = rw e unbound
     by Fatal e = rw e unbound

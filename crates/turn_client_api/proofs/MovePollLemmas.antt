@@ -8,9 +8,9 @@ use Rattle.turn_types.specs.declared.family.AddressFamily.{AddressFamily}
 use Rattle.turn_agent.specs.Agent.{due, first_sent, timed_out_transaction, resent, sent_again}
 use Rattle.turn_agent.specs.declared.transaction.Transaction.{Transaction}
 use Rattle.turn_client_api.specs.State.{State, DataOffer, Grant, Allocation, Permission, Channel, Connect, Offer, Connection, Relay, Pending, Active, Reserved, Purpose, ForAllocation, Phase, New, Requesting, Authenticating, Allocated, Closed, agent_of}
-use Rattle.turn_client_api.specs.Grants.{allocations, family_of, in_sequence, is_connect, is_of, is_pending_channel, is_pending_permission, without}
+use Rattle.turn_client_api.specs.Grants.{allocations, family_of, in_sequence, is_connect, is_of, is_pending_channel, is_pending_permission, without_grants}
 use Rattle.turn_client_api.specs.Requests.{first_allocate, fresh_id, request_for, to_server}
-use Rattle.turn_client_api.specs.Effect.{closed, ended}
+use Rattle.turn_client_api.specs.Effect.{closed, transaction_ended}
 use Rattle.turn_client_api.specs.Due.{has_event, has_reply, is_paused}
 use Rattle.turn_client_api.specs.Poll.{answer_by, answer_step, channel_lapsed, connections_unbound, timed_out_purposes, timed_out_step, allocation_expires, failed_by_timeout, is_lapsed_channel, is_listed_for_allocation, lapsed, lapsed_allocation, lapsed_in, last_channel_lapsed, next_offer, offer_step, offers_timed_out, permissions_lapsed, poll_step, refreshes_timed_out, set_free, timed_step, told, first_reported, unreported_in}
 use Rattle.turn_client_api.specs.Transmit.{idle_step, queue_step, refreshes_in, reply_step, sent, sent_at_once, transmit_step}
@@ -103,7 +103,7 @@ lapsed-fewer given purposes now [] s = fewer-same s
 lapsed-fewer given purposes now (a ∷ relays) s =
     let t = lapsed_allocation given purposes now s a in
     fewer-then s t (fold (lapsed_allocation given purposes now) t relays)
-    (on_test (Fewer s) (allocation_expires purposes now s a) (without (is_of (family_of a.relayed)) s) (lapsed_in (family_of a.relayed) given purposes now s) (adds-filter Never _ s.listed) (lapsed_in-fewer (family_of a.relayed) given purposes now s))
+    (on_test (Fewer s) (allocation_expires purposes now s a) (without_grants (is_of (family_of a.relayed)) s) (lapsed_in (family_of a.relayed) given purposes now s) (adds-filter Never _ s.listed) (lapsed_in-fewer (family_of a.relayed) given purposes now s))
     (lapsed-fewer given purposes now relays t)
 
 -- ---- what time removes
@@ -166,11 +166,11 @@ module _ (now : ℕ) (s : State) where
       )
 
   -- the transaction timed out
-  given-ends : (x : Transaction) → IsTimeUp now s → (p : Phase) → Ends (timed_step p (Some x.id) now (ended x.id s)).1
+  given-ends : (x : Transaction) → IsTimeUp now s → (p : Phase) → Ends (timed_step p (Some x.id) now (transaction_ended x.id s)).1
   given-ends x up p = by p
     where
       u : State
-      u = ended x.id s
+      u = transaction_ended x.id s
 
       over : Ends u
       over = (adds-filter Never _ s.transactions, adds-same Never s.listed, up-loses up s.grants)
@@ -219,7 +219,7 @@ pub poll-does : (now : ℕ) (s : State) → Does (Poll now) s (poll_step now s).
 poll-does now s =
     by_test (Does (Poll now) s) (has_event s || has_reply s) _ _ (does-same (Poll now) s)
     (by_found (Does (Poll now) s) (λ offer. offer_step offer s) (next_offer s) (timed_out_step now s) (λ offer e. offered offer)
-    (by_found (Does (Poll now) s) (λ t. timed_step s.phase (Some t.id) now (ended t.id s)) (timed_out_transaction (agent_of s) now) (timed_step s.phase None now s)
+    (by_found (Does (Poll now) s) (λ t. timed_step s.phase (Some t.id) now (transaction_ended t.id s)) (timed_out_transaction (agent_of s) now) (timed_step s.phase None now s)
     (λ x e. does-settled (Poll now) s _ (given-ends now s x (inl (some x e)) s.phase)) (does-settled (Poll now) s _ (none-ends now s s.phase refl))))
   where
     some : (x : Transaction) → timed_out_transaction (agent_of s) now ≡ Some x → IsSome (timed_out_transaction (agent_of s) now)

@@ -7,9 +7,9 @@ use Rattle.std.specs.declared.net.socket_addr.SocketAddr.{SocketAddr}
 use Rattle.turn_stun.specs.Message.{id_of}
 use Rattle.turn_types.specs.declared.family.AddressFamily.{AddressFamily}
 use Rattle.turn_client_api.specs.State.{State, Grant, Allocation, Permission, Channel, Connect, Offer, Connection, Relay, Progress, Pending, Active, Reserved, Listing, Purpose, ForAllocation, ForRefresh, ForPermission, ForChannel, ForConnect, ForBind}
-use Rattle.turn_client_api.specs.Grants.{changed_allocation, channel_at, first_in, is_channel_of, is_connect_to, is_for, is_for_any, is_permission_of, permission_state, purposes_of, unlisted, without}
+use Rattle.turn_client_api.specs.Grants.{changed_allocation, channel_at, first_in, is_channel_of, is_connect_to, is_for, is_for_any, is_permission_of, permission_state, purposes_of, unlisted, without_grants}
 use Rattle.turn_client_api.specs.Judgement.{connection_id_in, lifetime_in}
-use Rattle.turn_client_api.specs.Effect.{all_gone, allocation_mismatch, channel_answered, connect_answered, effect, ended, delete_answered, has_code, is_asked_permission, lasting, lasting_if, min_lifetime, listed_permissions_answered, pending_channel_answered, permission_answered, permission_answered_for, prolonged, refreshed, renewed}
+use Rattle.turn_client_api.specs.Effect.{all_gone, allocation_mismatch, channel_answered, connect_answered, effect, transaction_ended, delete_answered, has_code, is_asked_permission, lasting, lasting_if, min_lifetime, listed_permissions_answered, pending_channel_answered, permission_answered, permission_answered_for, prolonged, refreshed, renewed}
 use Rattle.turn_client_api.specs.Payloads.{answered_purposes, response_step}
 use Rattle.turn_client_api.specs.LawsGone.{GivesBack, grant_identity}
 use Rattle.turn_client_api.proofs.GrantOriginLemmas.{has-mapped}
@@ -105,11 +105,11 @@ module _ (all : List Purpose) where
   fits-then s t u first later = settles-then (IsFor all) (IsFor-whole all) s t u first later
 
   -- grants of this kind are removed
-  fits-without : (which : Grant → Bool) (s : State) → ((g : Grant) → which g ≡ true → IsFor all g) → Fits s (without which s)
+  fits-without : (which : Grant → Bool) (s : State) → ((g : Grant) → which g ≡ true → IsFor all g) → Fits s (without_grants which s)
   fits-without which s takes = (adds-same Never s.transactions, adds-filter Never _ s.listed, loses-filter (IsFor all) which s.grants takes)
 
   -- and others are added
-  fits-instead : (which : Grant → Bool) (more : List Grant) (s : State) → ((g : Grant) → which g ≡ true → IsFor all g) → Fits s (record (without which s) { grants = (without which s).grants ++ more })
+  fits-instead : (which : Grant → Bool) (more : List Grant) (s : State) → ((g : Grant) → which g ≡ true → IsFor all g) → Fits s (record (without_grants which s) { grants = (without_grants which s).grants ++ more })
   fits-instead which more s takes =
       (adds-same Never s.transactions, adds-filter Never _ s.listed, loses-more (IsFor all) s.grants _ more (loses-filter (IsFor all) which s.grants takes))
 
@@ -171,7 +171,7 @@ module _ (all : List Purpose) where
       fits-then s t (pending_channel_answered number to id true now s) (permissions-fit id true now s are)
       (fits-instead (is_channel_of number) _ t (of-one (ForChannel number peer) h))
   pending_channel-fits number peer to id false now s h are =
-      let t = without (is_channel_of number) s in
+      let t = without_grants (is_channel_of number) s in
       fits-then s t (pending_channel_answered number to id false now s)
       (fits-without (is_channel_of number) s (of-one (ForChannel number peer) h))
       (fits-without (is_asked_permission (purposes_of id s)) t (λ g e. any-IsFor (purposes_of id s) g are (and_parts _ _ e).1))
@@ -195,7 +195,7 @@ module _ (all : List Purpose) where
 
   gone-fits : (family : AddressFamily) (lifetime : ℕ) (s : State) → Has (ForRefresh family lifetime) all → lifetime ≡ 0 → Fits s (all_gone s)
   gone-fits family lifetime s h e =
-      let t = without (λ g. true) s in
+      let t = without_grants (λ g. true) s in
       fits-then s t (all_gone s)
       (fits-without (λ g. true) s (λ g is. (ForRefresh family lifetime, h, inr e)))
       (adds-same Never t.transactions, adds-filter Never _ t.listed, loses-same (IsFor all) t.grants)
@@ -241,4 +241,4 @@ response-fits is_granted message now s =
     all = purposes_of (id_of message) s
 
     start : State
-    start = ended (id_of message) s
+    start = transaction_ended (id_of message) s

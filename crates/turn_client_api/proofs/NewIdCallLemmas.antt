@@ -15,7 +15,7 @@ use Rattle.turn_client_api.specs.State.{State, Phase, New, Requesting, Authentic
 use Rattle.turn_client_api.specs.State.{Grant, Allocation, Permission, Channel, Connect, Offer, Connection, DataConnection, Relay, Purpose, Pending, Active, Reserved, Origin, OwnConnect, ServerRequest, ServerIndication}
 use Rattle.turn_client_api.specs.Grants.{find_allocation_to, allocations, as_connection, family_of, is_of, is_past, is_pending_channel, is_pending_permission, has_active_permission, permission_state, same_transport}
 use Rattle.turn_client_api.specs.Requests.{fresh_id}
-use Rattle.turn_client_api.specs.Effect.{closed, ended}
+use Rattle.turn_client_api.specs.Effect.{closed, transaction_ended}
 use Rattle.turn_client_api.specs.Connections.{connection_at, is_connected, is_connecting}
 use Rattle.turn_client_api.specs.Calls.{bound_by, active_channel, allocated_tcp_socket_step, bind_channel_step, bound_to, channel_step, channels_to, connect_step, create_permission_step, delete_step, free_number, can_send_to, in_allocation, is_allocated, is_closed, is_control, is_in_progress, is_local_taken, offer_origin, on_channel, on_connection, permission_step, protocol_error_step, reserved_from, send_over, send_to_step, socket_opened, socket_refused, socket_step, tcp_connect_step}
 use Rattle.turn_client_api.specs.declared.poll.Socket5Tuple.{Socket5Tuple}
@@ -184,11 +184,11 @@ module _ (id : ℕ) where
   poll-draws now s =
       either (has_event s || has_reply s) s _ _ (draws-same id s)
       (found (λ offer. offer_step offer s) (next_offer s) s (P.timed_out_step now s) (λ offer. draws-same id s)
-      (found (λ (t : Transaction). timed_step s.phase (Some t.id) now (ended t.id s)) (timed_out_transaction (agent_of s) now) s (timed_step s.phase None now s)
+      (found (λ (t : Transaction). timed_step s.phase (Some t.id) now (transaction_ended t.id s)) (timed_out_transaction (agent_of s) now) s (timed_step s.phase None now s)
       timed (draws-nothing id s (timed_step s.phase None now s).1 (timed_in_phase s.phase None now s))))
     where
-      timed : (t : Transaction) → Draws id s (timed_step s.phase (Some t.id) now (ended t.id s)).1
-      timed t h = inl (outstanding-without id t.id s.transactions (rw (timed_in_phase s.phase (Some t.id) now (ended t.id s)) at h))
+      timed : (t : Transaction) → Draws id s (timed_step s.phase (Some t.id) now (transaction_ended t.id s)).1
+      timed t h = inl (outstanding-without id t.id s.transactions (rw (timed_in_phase s.phase (Some t.id) now (transaction_ended t.id s)) at h))
 
   idle-draws : (p : Phase) (now : ℕ) (s : State) → Draws id (record s { phase = p }) (idle_step p now (record s { phase = p })).1
   idle-draws New now s = draws-more id s _ refl
@@ -213,7 +213,7 @@ module _ (id : ℕ) where
     message = λ message now s is. message-draws id message now s;
     binds = λ local message now s is. bind-draws id local message now s;
     gone = λ local s h. rw (gone-asks local s) at h;
-    ended = λ u there. there;
+    transaction_ended = λ u there. there;
   }
 
   -- the ID was outstanding, or is the next one of the client before the call

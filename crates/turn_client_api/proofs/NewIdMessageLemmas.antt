@@ -17,7 +17,7 @@ use Rattle.turn_client_api.specs.State.{State, DataConnection, Progress, Pending
 use Rattle.turn_client_api.specs.Grants.{find_allocation_to, channel_at, first_in, permission_state, purposes_of}
 use Rattle.turn_client_api.specs.Requests.{connection_attempt_method, connection_bind_method, fresh_id}
 use Rattle.turn_client_api.specs.Judgement.{Judgement, Unrelated, Challenged, Fatal, LateResponse, DataIndication, ConnectionAttempt, SignedRequest, SignedSuccess, SignedError, bind_judgement, connection_id_in, is_bind_of, judgement_of, lifetime_in, method_in, peer_in}
-use Rattle.turn_client_api.specs.Effect.{allocate_denied, allocate_granted, allocation_mismatch, channel_answered, connect_answered, effect, ended, family_not_supported, has_code, min_lifetime, permission_answered, permission_answered_for, listed_permissions_answered, prolonged, refreshed}
+use Rattle.turn_client_api.specs.Effect.{allocate_denied, allocate_granted, allocation_mismatch, channel_answered, connect_answered, effect, transaction_ended, family_not_supported, has_code, min_lifetime, permission_answered, permission_answered_for, listed_permissions_answered, prolonged, refreshed}
 use Rattle.turn_client_api.specs.Retry.{max_challenges, retried, state_after_retry}
 use Rattle.turn_client_api.specs.Connections.{attempt_indicated, attempt_requested, bind_again, bind_answered, bind_step, connection_at, is_connected, accepts_attempt}
 use Rattle.turn_client_api.specs.Payloads.{Outcome, Handled, Ignored, answered_purposes, challenge_step, message_step, response_step, signed_step, wrong_step}
@@ -125,9 +125,9 @@ effect-asks id is_granted message now s ForAllocation = refl
 effect-asks id is_granted message now s (ForBind local peer other) = refl
 
 -- a signed reply ends its request, and requests nothing
-pub reply-asks : (is_granted : Bool) (message : List ℕ) (now : ℕ) (s : State) → AsksNothing (ended (id_of message) s) (response_step is_granted message now s).1
+pub reply-asks : (is_granted : Bool) (message : List ℕ) (now : ℕ) (s : State) → AsksNothing (transaction_ended (id_of message) s) (response_step is_granted message now s).1
 reply-asks is_granted message now s =
-    asks-fold (effect (id_of message) is_granted message now) (effect-asks (id_of message) is_granted message now) (answered_purposes message s) (ended (id_of message) s)
+    asks-fold (effect (id_of message) is_granted message now) (effect-asks (id_of message) is_granted message now) (answered_purposes message s) (transaction_ended (id_of message) s)
 
 pub granted-asks : (message : List ℕ) (now : ℕ) (s : State) → AsksNothing s (allocate_granted message now s)
 granted-asks message now s = by (lifetime_in message) refl
@@ -187,16 +187,16 @@ wrong-draws id Allocated message s = draws-same id (record s { phase = Allocated
 wrong-draws id Closed message s = draws-same id (record s { phase = Closed })
 
 -- of those that a signed reply leaves outstanding, and one that is used
-pub denied-one : (id : ℕ) (message : List ℕ) (now : ℕ) (s : State) → is_outstanding id (allocate_denied (fresh_id s) message now (ended (id_of message) s)).transactions ≡ true → IsOneOf id (A.without_transaction (id_of message) s.transactions) s
+pub denied-one : (id : ℕ) (message : List ℕ) (now : ℕ) (s : State) → is_outstanding id (allocate_denied (fresh_id s) message now (transaction_ended (id_of message) s)).transactions ≡ true → IsOneOf id (A.without_transaction (id_of message) s.transactions) s
 denied-one id message now s = by (has_code family_not_supported message && leb 2 (length s.families)) refl
   where
-    by : (b : Bool) → (has_code family_not_supported message && leb 2 (length s.families)) ≡ b → is_outstanding id (allocate_denied (fresh_id s) message now (ended (id_of message) s)).transactions ≡ true → IsOneOf id (A.without_transaction (id_of message) s.transactions) s
+    by : (b : Bool) → (has_code family_not_supported message && leb 2 (length s.families)) ≡ b → is_outstanding id (allocate_denied (fresh_id s) message now (transaction_ended (id_of message) s)).transactions ≡ true → IsOneOf id (A.without_transaction (id_of message) s.transactions) s
     by true e = rw e (outstanding-append id (A.without_transaction (id_of message) s.transactions) _)
     by false e = rw e (λ h. inl h)
 
 -- what a signed reply leaves outstanding
 pub signed-one : (id : ℕ) (p : Phase) (is_granted : Bool) (message : List ℕ) (now : ℕ) (s : State) → is_outstanding id (signed_step is_granted message now (record s { phase = p })).1.transactions ≡ true → IsOneOf id (A.without_transaction (id_of message) s.transactions) s
-signed-one id Authenticating true message now s h = inl (rw (granted-asks message now (ended (id_of message) (record s { phase = Authenticating }))) at h)
+signed-one id Authenticating true message now s h = inl (rw (granted-asks message now (transaction_ended (id_of message) (record s { phase = Authenticating }))) at h)
 signed-one id Authenticating false message now s h = denied-one id message now (record s { phase = Authenticating }) h
 signed-one id New g message now s h = inl (rw (reply-asks g message now (record s { phase = New })) at h)
 signed-one id Requesting g message now s h = inl (rw (reply-asks g message now (record s { phase = Requesting })) at h)

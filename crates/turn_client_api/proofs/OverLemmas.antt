@@ -10,7 +10,7 @@ use Rattle.turn_agent.specs.Agent.{timed_out_transaction}
 use Rattle.turn_agent.specs.declared.transaction.Transaction.{Transaction}
 use Rattle.turn_client_api.specs.State.{State, DataOffer, Grant, Allocation, Permission, Channel, Connect, Offer, Connection, DataConnection, Relay, Progress, Pending, Active, Reserved, Purpose, Phase, New, Requesting, Authenticating, Allocated, Closed, agent_of, later_by}
 use Rattle.turn_client_api.specs.Grants.{as_allocation, allocations, family_of, family_of_grant, is_channel_of, is_connect, is_for_any, is_of, is_of_request, is_pending_channel, is_pending_permission}
-use Rattle.turn_client_api.specs.Effect.{closed, ended, reserved_time}
+use Rattle.turn_client_api.specs.Effect.{closed, transaction_ended, reserved_time}
 use Rattle.turn_client_api.specs.Due.{has_event, has_reply}
 use Rattle.turn_client_api.specs.Poll.{answer_by, answer_step, channel_lapsed, connections_unbound, timed_out_purposes, timed_out_step, allocation_expires, failed_by_timeout, is_timed_out_offer, is_lapsed_channel, is_lapsed_permission, is_listed_for_allocation, is_over, is_unbound, lapsed, lapsed_allocation, lapsed_in, last_channel_lapsed, next_offer, offer_step, offers_timed_out, permissions_lapsed, poll_step, timed_step}
 use Rattle.turn_client_api.specs.Steps.{Leaves, Poll}
@@ -390,24 +390,24 @@ module _ (now : ℕ) (s : State) (apart : HasDistinctNumbers s) where
   none-spares e Closed f = spares-same
   none-spares e Allocated f = subst Spares (sym (answer-grants None (lapsed None now s))) (traces-spare (lapsed None now s).grants f (lapsed-traces None e s refl refl))
 
-  given-spares : (x : Transaction) → timed_out_transaction (agent_of s) now ≡ Some x → (p : Phase) → s.phase ≡ p → Spares (timed_step p (Some x.id) now (ended x.id s)).1.grants
+  given-spares : (x : Transaction) → timed_out_transaction (agent_of s) now ≡ Some x → (p : Phase) → s.phase ≡ p → Spares (timed_step p (Some x.id) now (transaction_ended x.id s)).1.grants
   given-spares x e New f = spares-same
   given-spares x e Requesting f = spares-same
   given-spares x e Closed f = spares-same
   given-spares x e Authenticating f = by (is_listed_for_allocation x.id u)
     where
       u : State
-      u = ended x.id s
+      u = transaction_ended x.id s
 
       by : (b : Bool) → Spares (answer_step (Some x.id) now (cond b (closed u) u)).1.grants
       by true = subst Spares (sym (answer-grants (Some x.id) (closed u))) spares-same
       by false = subst Spares (sym (answer-grants (Some x.id) u)) spares-same
   given-spares x e Allocated f =
-      let u = ended x.id s in
+      let u = transaction_ended x.id s in
       subst Spares (sym (answer-grants (Some x.id) (lapsed (Some x.id) now u))) (traces-spare (lapsed (Some x.id) now u).grants f (lapsed-traces (Some x) e u refl refl))
 
   timed-spares : (o : Option Transaction) → timed_out_transaction (agent_of s) now ≡ o
-      → Spares (option_map_or (λ (t : Transaction). timed_step s.phase (Some t.id) now (ended t.id s)) o (timed_step s.phase None now s)).1.grants
+      → Spares (option_map_or (λ (t : Transaction). timed_step s.phase (Some t.id) now (transaction_ended t.id s)) o (timed_step s.phase None now s)).1.grants
   timed-spares None e = none-spares e s.phase refl
   timed-spares (Some x) e = given-spares x e s.phase refl
 

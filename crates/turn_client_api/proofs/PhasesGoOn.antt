@@ -16,12 +16,12 @@ use Rattle.turn_client_api.specs.Grants.{purposes_of}
 use Rattle.turn_client_api.specs.Judgement.{Challenged, challenge_in, judgement_of}
 use Rattle.turn_client_api.specs.Connections.{bind_step}
 use Rattle.turn_client_api.specs.Due.{has_reply}
-use Rattle.turn_client_api.specs.Effect.{ended, phase_with, relayed_in, taken_addresses}
+use Rattle.turn_client_api.specs.Effect.{transaction_ended, phase_with, relayed_in, taken_addresses}
 use Rattle.turn_client_api.specs.Payloads.{challenge_step, message_step}
 use Rattle.turn_client_api.specs.Poll.{poll_step, timed_step}
 use Rattle.turn_client_api.specs.Retry.{max_challenges, phase_after, retried}
 use Rattle.turn_client_api.specs.Steps.{Call, Leaves, state_after}
-use Rattle.turn_client_api.specs.LawsSteps.{GoesOn, IsCounted, KeepsRealm, StaysClosed, KeepsChallengeLimit, rank}
+use Rattle.turn_client_api.specs.LawsSteps.{GoesOn, IsChallengeCounted, KeepsRealm, StaysClosed, KeepsChallengeLimit, rank}
 use Rattle.turn_client_api.specs.declared.event.TurnEvent.{TurnEvent}
 use Rattle.turn_client_api.specs.declared.poll.TurnPollRet.TheVariants as Do
 use Rattle.turn_client_api.proofs.Edits.{KeepsAllEdits, KeepsEdits}
@@ -76,10 +76,10 @@ rank-with [] = omega arith
 rank-with (a ∷ others) = omega arith
 
 -- a challenge that is answered is counted
-pub challenge-IsCounted : (message : List ℕ) (now : ℕ) (s : State) (d : Challenge) → judgement_of s message ≡ Challenged d → IsCounted s (message_step message now s).1
+pub challenge-IsCounted : (message : List ℕ) (now : ℕ) (s : State) (d : Challenge) → judgement_of s message ≡ Challenged d → IsChallengeCounted s (message_step message now s).1
 challenge-IsCounted message now s d e = rw e (by (ltb s.challenges max_challenges) refl (retried (purposes_of (id_of message) s)) refl)
   where
-    by : (b : Bool) → ltb s.challenges max_challenges ≡ b → (o : Option Purpose) → retried (purposes_of (id_of message) s) ≡ o → IsCounted s (challenge_step message d now s).1
+    by : (b : Bool) → ltb s.challenges max_challenges ≡ b → (o : Option Purpose) → retried (purposes_of (id_of message) s) ≡ o → IsChallengeCounted s (challenge_step message d now s).1
     by false f o g = rw f (inr (inr (ltb-false s.challenges max_challenges f, refl, refl)))
     by true f None g = rw (f, g) (inl refl)
     by true f (Some purpose) g = rw (f, g) (inr (inl (ltb-true s.challenges max_challenges f, refl)))
@@ -170,7 +170,7 @@ told_of Closed [] now s e f g = rw g (by (timed_out_transaction (agent_of s) now
     u : State
     u = record s { phase = Closed; events = [] }
 
-    by : (o : Option Transaction) → (option_map_or (λ (t : Transaction). timed_step Closed (Some t.id) now (ended t.id u)) o (timed_step Closed None now u)).0 ≡ Do.Closed
+    by : (o : Option Transaction) → (option_map_or (λ (t : Transaction). timed_step Closed (Some t.id) now (transaction_ended t.id u)) o (timed_step Closed None now u)).0 ≡ Do.Closed
     by None = refl
     by (Some t) = refl
 

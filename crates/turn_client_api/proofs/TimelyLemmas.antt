@@ -10,11 +10,11 @@ use Rattle.turn_agent.specs.Agent as A
 use Rattle.turn_agent.specs.declared.transaction.Transaction.{Transaction}
 use Rattle.turn_client_api.specs.State.{State, DataOffer, Phase, New, Requesting, Authenticating, Allocated, Closed, Grant, Relay, agent_of}
 use Rattle.turn_client_api.specs.Grants.{allocations}
-use Rattle.turn_client_api.specs.Effect.{closed, ended}
+use Rattle.turn_client_api.specs.Effect.{closed, transaction_ended}
 use Rattle.turn_client_api.specs.Calls.{is_allocated}
 use Rattle.turn_client_api.specs.Due.{has_event, has_reply, is_new, least_due, next_wakeup}
 use Rattle.turn_client_api.specs.Poll.{answer_by, answer_step, timed_out_step, is_listed_for_allocation, lapsed, next_offer, offer_step, poll_step, timed_step}
-use Rattle.turn_client_api.specs.Alarm.{AllHaveAllocation, IsBeforeGrants, IsBusy, FitsPhaseForPoll, IsIdleUntil, IsTimely}
+use Rattle.turn_client_api.specs.Alarm.{AllHaveAllocation, IsBeforeGrants, HasWorkNow, FitsPhaseForPoll, IsIdleUntil, IsTimely}
 use Rattle.turn_client_api.specs.declared.event.TurnEvent.{TurnEvent}
 use Rattle.turn_client_api.specs.declared.poll.TurnPollRet.{TurnPollRet}
 use Rattle.turn_client_api.specs.declared.poll.TurnPollRet.TheVariants as Do
@@ -26,10 +26,10 @@ abbrev Timely : ℕ → State → TurnPollRet × State → Type 0
 Timely now was answer = IsTimely answer.0 now was answer.1
 
 -- the returned time is now, and something is due
-now-timely : (now : ℕ) (was s : State) → IsBusy now was s → Timely now was (Do.WaitUntil now, s)
+now-timely : (now : ℕ) (was s : State) → HasWorkNow now was s → Timely now was (Do.WaitUntil now, s)
 now-timely now was s busy = (λ later. absurd (omega (arith, later)), λ reached. busy)
 
-event-busy : (now : ℕ) (was s : State) → has_event s ≡ true → IsBusy now was s
+event-busy : (now : ℕ) (was s : State) → has_event s ≡ true → HasWorkNow now was s
 event-busy now was s some = inl (λ none. by (rw none at some))
   where
     by : false ≡ true → ⊥
@@ -171,11 +171,11 @@ replies-same s t same no_reply = rw same no_reply
 old-phase : (p q : Phase) → q ≡ p → p ≢ New → q ≢ New
 old-phase p q e old new = old (sym e ∙ new)
 
-given-timely : (now : ℕ) (s : State) → FitsPhaseForPoll s → now ≤ 2 ^ 62 → has_reply s ≡ false → next_offer s ≡ None → (x : Transaction) → timed_out_transaction (agent_of s) now ≡ Some x → (p : Phase) → s.phase ≡ p → Timely now s (timed_step p (Some x.id) now (ended x.id s))
+given-timely : (now : ℕ) (s : State) → FitsPhaseForPoll s → now ≤ 2 ^ 62 → has_reply s ≡ false → next_offer s ≡ None → (x : Transaction) → timed_out_transaction (agent_of s) now ≡ Some x → (p : Phase) → s.phase ≡ p → Timely now s (timed_step p (Some x.id) now (transaction_ended x.id s))
 given-timely now s orderly range no_reply no_offer x given p e = by p e
   where
     u : State
-    u = ended x.id s
+    u = transaction_ended x.id s
 
     outstanding : is_outstanding x.id s.transactions ≡ true
     outstanding = found-outstanding (is_timed_out (agent_of s).timers s.transport now) x s.transactions (has-found (is_timed_out (agent_of s).timers s.transport now) x s.transactions given).0

@@ -11,7 +11,7 @@ use Rattle.turn_client_api.specs.State.{State, Mode, Control, Waiting, Bound, Br
 use Rattle.turn_client_api.specs.Payloads.{Payload, Outcome, Handled, Ignored, PeerData, PeerIcmp, datagram_step}
 use Rattle.turn_client_api.specs.Streams.{broken_at, framed_by, framed_stream_step, go_on, is_ready, max_steps, payload_in, poll_recv_step, stream_at, next_frame_step, first_ready_step, detached_frame_step, steps_until_payload, with_bytes, without_stream}
 use Rattle.turn_client_api.specs.Receive.{connection_gone, first_frame_step, is_from_server, piece_step, recv_step, stream_step, then_all}
-use Rattle.turn_client_api.specs.Handled.{Input, fed, fed_taken, frame_taken, handled, is_front, processed, piece_inputs, poll_recv_inputs, recv_inputs, stream_inputs, taken, taken_first, taken_in, taken_of_len, then_taken, stream_input, inputs_taken, unless_given}
+use Rattle.turn_client_api.specs.Handled.{Input, stream_with_piece, fed_taken, frame_taken, handled, is_front, processed, piece_inputs, poll_recv_inputs, recv_inputs, stream_inputs, stream_inputs_taken, taken_first, taken_in, taken_of_len, then_taken, stream_input, inputs_taken, unless_given}
 use Rattle.turn_client_api.specs.Steps.{Call, packet_step, Delete, CreatePermission, BindChannel, TcpConnect, AllocatedTcpSocket, TcpClosed, SendTo, Recv, PollRecv, Poll, PollTransmit, PollEvent, RelayedAddresses, Permissions, HavePermission, ProtocolError}
 use Rattle.turn_client_api.specs.LawsHandled.{DiffersInStreams, ProcessesInputs, IsBoundAt, TakesInput, InputsLead}
 use Rattle.turn_client_api.proofs.HasLemmas.{Has, has-filter}
@@ -100,7 +100,7 @@ turned_in_mode Waiting l stream now t = framed-leads l (record stream { mode = W
 turned_in_mode (Bound peer) l stream now t = (differs-same t, differs-same t)
 turned_in_mode Broken l stream now t = differs-same t
 
-turn-leads : (l : Bool) (stream : Stream) (now : ℕ) (s : State) → InputsLead (taken l stream now s) s (next_frame_step stream now s).1
+turn-leads : (l : Bool) (stream : Stream) (now : ℕ) (s : State) → InputsLead (stream_inputs_taken l stream now s) s (next_frame_step stream now s).1
 turn-leads l stream now s =
     let out = with_bytes stream.local [] s in
     leads-before (taken_in l stream now out) s out (next_frame_step stream now s).1 (bytes-differs stream.local [] s) (turned_in_mode stream.mode l stream now out)
@@ -120,7 +120,7 @@ turns-lead (suc n) now s = by (find is_ready s.streams) (λ t. turns-lead n now 
   where
     by : (o : Option Stream) → ((t : State) → InputsLead (inputs_taken n now t) t (steps_until_payload n now t).1) → InputsLead (taken_first (inputs_taken n now) now s o) s (first_ready_step (steps_until_payload n now) now s o).1
     by None more = differs-same s
-    by (Some stream) more = go_on-leads (steps_until_payload n now) (inputs_taken n now) (taken false stream now s) s (next_frame_step stream now s) (turn-leads false stream now s) more
+    by (Some stream) more = go_on-leads (steps_until_payload n now) (inputs_taken n now) (stream_inputs_taken false stream now s) s (next_frame_step stream now s) (turn-leads false stream now s) more
 
 poll_recv-leads : (now : ℕ) (s : State) → InputsLead (poll_recv_inputs now s) s (poll_recv_step now s).1
 poll_recv-leads now s = turns-lead (max_steps s) now s
@@ -134,7 +134,7 @@ then_all-leads now front s (Handled, t) first = leads-append front (poll_recv_in
 then_all-leads now front s (Ignored, t) first = leads-append front (poll_recv_inputs now t) s t (poll_recv_step now t).1 first (poll_recv-leads now t)
 
 pub fed-leads : (stream : Stream) (piece : List ℕ) (now : ℕ) (s : State) → InputsLead (fed_taken stream piece now s) s (first_frame_step stream piece now s).1
-fed-leads stream piece now s = turn-leads (is_front stream.bytes) (fed stream piece) now s
+fed-leads stream piece now s = turn-leads (is_front stream.bytes) (stream_with_piece stream piece) now s
 
 piece_in_mode : (m : Mode) (stream : Stream) (piece : List ℕ) (now : ℕ) (s : State) → InputsLead (piece_inputs (record stream { mode = m }) piece now s) s (piece_step (record stream { mode = m }) piece now s).1
 piece_in_mode Control stream piece now s =

@@ -12,7 +12,7 @@ use Rattle.turn_client_api.specs.Effect.{closed}
 use Rattle.turn_client_api.specs.Payloads.{Payload, Outcome, Handled, Ignored, PeerData, PeerIcmp}
 use Rattle.turn_client_api.specs.Streams.{broken_at, is_ready, max_steps, payload_in, stream_at, next_frame_step}
 use Rattle.turn_client_api.specs.Receive.{first_frame_step, is_from_server}
-use Rattle.turn_client_api.specs.Handled.{Input, fed_taken, handled, piece_inputs, poll_recv_inputs, recv_inputs, stream_inputs, taken, taken_first, then_taken, inputs_taken, unless_given}
+use Rattle.turn_client_api.specs.Handled.{Input, fed_taken, handled, piece_inputs, poll_recv_inputs, recv_inputs, stream_inputs, stream_inputs_taken, taken_first, then_taken, inputs_taken, unless_given}
 use Rattle.turn_client_api.specs.Steps.{Call, EndsWithoutMemory, Delete, CreatePermission, BindChannel, TcpConnect, AllocatedTcpSocket, TcpClosed, SendTo, Recv, PollRecv, Poll, PollTransmit, PollEvent, RelayedAddresses, Permissions, HavePermission, ProtocolError}
 use Rattle.turn_client_api.specs.LawsHandled.{EndsAmidInputs, TakesInput, InputsLead}
 use Rattle.turn_client_api.proofs.StreamDrainLemmas.{turn-lighter}
@@ -48,7 +48,7 @@ taken-front (suc n) (suc m) now s h = by (find is_ready s.streams) refl (λ t le
     by (Some stream) e more =
         let less = turn-lighter stream now s e in
         let next = (next_frame_step stream now s).1 in
-        front-append (taken false stream now s) _ _
+        front-append (stream_inputs_taken false stream now s) _ _
         (front-given (payload_in (next_frame_step stream now s).0) (inputs_taken n now next) (inputs_taken m now next) (more next (omega (arith, less, h))))
 
 -- the first of these inputs were processed, and the client has ended then

@@ -7,7 +7,7 @@ use Rattle.turn_agent.specs.Agent.{same_address}
 use Rattle.turn_client_api.specs.State.{State, Mode, Control, Waiting, Bound, Broken, Stream}
 use Rattle.turn_client_api.specs.Payloads.{Outcome, Handled}
 use Rattle.turn_client_api.specs.Streams.{broken_at, framed_by, framed_stream_step, next_frame_step, with_bytes}
-use Rattle.turn_client_api.specs.Handled.{frame_taken, taken, taken_of_len}
+use Rattle.turn_client_api.specs.Handled.{frame_taken, stream_inputs_taken, taken_of_len}
 use Rattle.turn_client_api.specs.LawsHandled.{IsInputOf}
 use Rattle.turn_client_api.proofs.FrameRestLemmas.{bytes_by}
 
@@ -62,7 +62,7 @@ framed-IsInputOf stream now s = by (begins_no_frame stream.bytes) (frame_len str
       after = refl;
     }
 
-turn_in_mode : (m : Mode) (stream : Stream) (now : ℕ) (s : State) → IsInputOf (record stream { mode = m }) now s (taken false (record stream { mode = m }) now s) (next_frame_step (record stream { mode = m }) now s)
+turn_in_mode : (m : Mode) (stream : Stream) (now : ℕ) (s : State) → IsInputOf (record stream { mode = m }) now s (stream_inputs_taken false (record stream { mode = m }) now s) (next_frame_step (record stream { mode = m }) now s)
 turn_in_mode Control stream now s = framed-IsInputOf (record stream { mode = Control }) now s
 turn_in_mode Waiting stream now s = framed-IsInputOf (record stream { mode = Waiting }) now s
 turn_in_mode (Bound peer) stream now s = record {
@@ -76,5 +76,5 @@ turn_in_mode (Bound peer) stream now s = record {
 }
 turn_in_mode Broken stream now s = inr (inr (refl, refl))
 
-pub turn-IsInputOf : (stream : Stream) (now : ℕ) (s : State) → IsInputOf stream now s (taken false stream now s) (next_frame_step stream now s)
+pub turn-IsInputOf : (stream : Stream) (now : ℕ) (s : State) → IsInputOf stream now s (stream_inputs_taken false stream now s) (next_frame_step stream now s)
 turn-IsInputOf stream now s = turn_in_mode stream.mode stream now s

@@ -30,15 +30,15 @@ pub record IsIdleUntil (now moment : ℕ) (s : State) : Type 0 where
 
 -- Something is due now: an event is pending, or a packet is due, or the call before, whose state is the
 -- first, timed a transaction out.
-abbrev pub IsBusy : ℕ → State → State → Type 0
-IsBusy now was s =
+abbrev pub HasWorkNow : ℕ → State → State → Type 0
+HasWorkNow now was s =
     (s.events ≢ []) ⊎ (IsSome (next_transmit now s)
     ⊎ ((t : Transaction) × (is_outstanding t.id was.transactions ≡ true) × (is_outstanding t.id s.transactions ≡ false)))
 
 -- a caller that sleeps until the returned time misses no deadline, and one that does what is due does not
 -- call for nothing
 abbrev pub IsTimely : TurnPollRet → ℕ → State → State → Type 0
-IsTimely (WaitUntil moment) now was s = (now < moment → IsIdleUntil now moment s) × (moment ≤ now → IsBusy now was s)
+IsTimely (WaitUntil moment) now was s = (now < moment → IsIdleUntil now moment s) × (moment ≤ now → HasWorkNow now was s)
 IsTimely (AllocateTcpSocket id socket peer) now was s = ⊤
 IsTimely (TcpClose local remote) now was s = ⊤
 IsTimely Ended now was s = ⊤

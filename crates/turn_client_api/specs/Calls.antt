@@ -15,8 +15,8 @@ use Rattle.turn_types.specs.declared.family.AddressFamily.{AddressFamily}
 use Rattle.turn_agent.specs.Agent.{same_address}
 use Rattle.turn_client_api.specs.Config.{same_family}
 use Rattle.turn_client_api.specs.State.{State, Phase, Allocated, Closed, Grant, Permission, Channel, Connect, Connection, DataConnection, Relay, Progress, Pending, Active, Reserved, Origin, ServerRequest, ForRefresh, ForPermission, ForChannel, ForConnect, ForBind, Waiting, later_by}
-use Rattle.turn_client_api.specs.Grants.{allocations, find_allocation_to, as_connection, family_of, family_of_ip, in_sequence, is_channel_of, is_past, has_active_permission, as_offer, permission_state, same_transport, with_allocations, with_expired, with_grant, with_more_grants, without}
-use Rattle.turn_client_api.specs.Requests.{asked, connection_timed_out, drawn, fresh_id, lifetime_attribute, message_of, queued, refresh_method, request_for, requested, signed, to_server, accepted_reply, refused_reply, replied}
+use Rattle.turn_client_api.specs.Grants.{allocations, find_allocation_to, as_connection, family_of, family_of_ip, in_sequence, is_channel_of, is_past, has_active_permission, as_offer, permission_state, same_transport, with_allocations, with_expired, with_grant, with_more_grants, without_grants}
+use Rattle.turn_client_api.specs.Requests.{request_started, connection_timed_out, id_used, fresh_id, lifetime_attribute, message_of, queued, refresh_method, request_for, requested, signed, to_server, accepted_reply, refused_reply, replied}
 use Rattle.turn_client_api.specs.Effect.{closed, fail_all}
 use Rattle.turn_client_api.specs.Retry.{bind_time}
 use Rattle.turn_client_api.specs.Connections.{connection_at, is_connected, is_connecting}
@@ -133,7 +133,7 @@ bind_channel number peer now s =
     let ips = missing_permission peer s in
     in_sequence (
     with_more_grants (Channel number peer Pending ∷ map (λ ip. Permission ip Pending) ips)
-    ∷ asked (fresh_id s) text (ForChannel number peer ∷ map ForPermission ips) now
+    ∷ request_started (fresh_id s) text (ForChannel number peer ∷ map ForPermission ips) now
     ∷ queued true s.local text
     ∷ []
     ) s
@@ -248,9 +248,9 @@ delete_text s = signed s (message_of refresh_method Request (lifetime_attribute 
 -- one REFRESH deletes all allocations; what is pending stays, and may still be granted
 abbrev pub deleted : ℕ → State → State
 deleted now s = in_sequence (
-    without is_granted_in
+    without_grants is_granted_in
     ∷ all_expired now
-    ∷ asked (fresh_id s) (delete_text s) (map (λ a. ForRefresh (family_of a.relayed) 0) (allocations s)) now
+    ∷ request_started (fresh_id s) (delete_text s) (map (λ a. ForRefresh (family_of a.relayed) 0) (allocations s)) now
     ∷ queued true s.local (delete_text s)
     ∷ []
     ) s
@@ -278,7 +278,7 @@ active_channel peer (Channel number other (Active expiry)) = if same_address oth
 active_channel peer _ = None
 
 abbrev pub as_indication : SocketAddr → List ℕ → State → Result (Transmit (List ℕ)) SendError × State
-as_indication peer bytes s = (Ok (to_server s s.local (send_indication peer bytes (fresh_id s))), drawn s)
+as_indication peer bytes s = (Ok (to_server s s.local (send_indication peer bytes (fresh_id s))), id_used s)
 
 -- a channel carries the data until its expiry, and else an indication does
 abbrev pub on_channel : List (ℕ × ℕ) → SocketAddr → List ℕ → ℕ → State → Result (Transmit (List ℕ)) SendError × State

@@ -9,10 +9,10 @@ use Rattle.turn_auth.specs.LongTerm.{Challenge}
 use Rattle.turn_agent.specs.Agent.{same_address}
 use Rattle.turn_client_api.specs.State.{State, Phase, Allocated, Grant, Offer, Connection, DataConnection, Origin, ServerRequest, ServerIndication, Mode, Bound, Stream, Purpose, later_by}
 use Rattle.std.specs.Option.{option_map_or}
-use Rattle.turn_client_api.specs.Grants.{find_allocation_to, as_connection, is_connect_to, is_connection_from, has_active_permission, as_offer, purposes_of, unlisted, without, wait}
+use Rattle.turn_client_api.specs.Grants.{find_allocation_to, as_connection, is_connect_to, is_connection_from, has_active_permission, as_offer, purposes_of, unlisted, without_grants, wait}
 use Rattle.turn_client_api.specs.Requests.{bad_request, connection_already_exists, fresh_id, requested, refused_reply, replied, connection_bind_method}
 use Rattle.turn_client_api.specs.Judgement.{Judgement, Challenged, SignedSuccess, SignedError, bind_judgement, is_bind_of, connection_id_in, peer_in, method_in}
-use Rattle.turn_client_api.specs.Effect.{ended, with_offer}
+use Rattle.turn_client_api.specs.Effect.{transaction_ended, with_offer}
 use Rattle.turn_client_api.specs.Retry.{bind_time, with_held}
 use Rattle.turn_client_api.specs.declared.event.TurnEvent.TheVariants.{TcpConnected, TcpConnectFailed}
 
@@ -109,7 +109,7 @@ bound c s =
 abbrev pub not_bound : DataConnection → State → State
 not_bound c s =
     wait (TcpConnectFailed c.peer ∷ [])
-    (with_close c.local (without (is_connection_from c.local) s))
+    (with_close c.local (without_grants (is_connection_from c.local) s))
 
 -- The nonce is stored, and another CONNECTION_BIND replaces the one with this ID, which stays outstanding.
 -- Challenges are not counted here: each concerns one connection alone (our choice).
@@ -127,8 +127,8 @@ bind_answered c message now s = by (bind_judgement s c.local message)
   where
     by : Judgement → State
     by (Challenged challenge) = bind_again c (id_of message) challenge now s
-    by SignedSuccess = bound c (ended (id_of message) s)
-    by SignedError = not_bound c (ended (id_of message) s)
+    by SignedSuccess = bound c (transaction_ended (id_of message) s)
+    by SignedError = not_bound c (transaction_ended (id_of message) s)
     by _ = not_bound c s
 
 -- what a message of a data connection changes: nothing, if it is for no such connection

@@ -13,7 +13,7 @@ use Rattle.turn_types.specs.declared.family.AddressFamily.TheVariants.{IPV4, IPV
 use Rattle.turn_auth.specs.Challenge.{code_in}
 use Rattle.turn_agent.specs.Agent as A
 use Rattle.turn_client_api.specs.State.{State, Phase, Allocated, Closed, Grant, Allocation, Permission, Channel, Offer, Origin, OwnConnect, Progress, Pending, Active, Reserved, Purpose, ForAllocation, ForRefresh, ForPermission, ForChannel, ForConnect, later_by, seconds}
-use Rattle.turn_client_api.specs.Grants.{as_allocation, channel_at, first_in, in_sequence, is_channel_of, is_connect_to, is_for_any, is_of, is_of_family, is_pending_permission, is_permission_of, permission_state, purposes_of, is_for_allocation, unlisted, without, with_allocations, with_grant, with_more_grants, jump, wait, failures_among}
+use Rattle.turn_client_api.specs.Grants.{as_allocation, channel_at, first_in, in_sequence, is_channel_of, is_connect_to, is_for_any, is_of, is_of_family, is_pending_permission, is_permission_of, permission_state, purposes_of, is_for_allocation, unlisted, without_grants, with_allocations, with_grant, with_more_grants, jump, wait, failures_among}
 use Rattle.turn_client_api.specs.Requests.{relayed_kind, requested}
 use Rattle.turn_client_api.specs.Judgement.{lifetime_in, connection_id_in}
 use Rattle.turn_client_api.specs.declared.event.TurnEvent.TheVariants.{AllocationCreated, AllocationCreateFailed, PermissionCreated, PermissionCreateFailed, ChannelCreated, ChannelCreateFailed, TcpConnectFailed}
@@ -64,8 +64,8 @@ abbrev pub closed : State → State
 closed s = in_phase Closed s
 
 -- the request of this ID is no longer outstanding
-abbrev pub ended : ℕ → State → State
-ended id s = record s { transactions = A.without_transaction id s.transactions }
+abbrev pub transaction_ended : ℕ → State → State
+transaction_ended id s = record s { transactions = A.without_transaction id s.transactions }
 
 -- the server accepted a request: challenges are counted anew
 abbrev pub challenges_reset : State → State
@@ -137,7 +137,7 @@ allocate_denied fresh message now s =
 
 -- all allocations are removed, with all grants in them
 abbrev pub all_gone : State → State
-all_gone s = closed (without (λ g. true) s)
+all_gone s = closed (without_grants (λ g. true) s)
 
 -- What was to be deleted is removed once the server says that it is deleted, or that it never existed.
 abbrev pub delete_answered : Bool → List ℕ → State → State
@@ -177,16 +177,16 @@ renewed which expiry s = record s { grants = map (lasting_if which expiry) s.gra
 abbrev pub pending_permission_answered : IpAddr → Bool → ℕ → State → State
 pending_permission_answered ip true now s =
     wait (PermissionCreated s.config.allocation_transport ip ∷ [])
-    (with_grant (Permission ip (Active (later_by permission_lifetime now))) (without (is_permission_of ip) s))
+    (with_grant (Permission ip (Active (later_by permission_lifetime now))) (without_grants (is_permission_of ip) s))
 pending_permission_answered ip false now s =
-    wait (PermissionCreateFailed s.config.allocation_transport ip ∷ []) (without (is_permission_of ip) s)
+    wait (PermissionCreateFailed s.config.allocation_transport ip ∷ []) (without_grants (is_permission_of ip) s)
 
 -- one that was active and is refreshed
 abbrev pub active_permission_answered : IpAddr → Bool → ℕ → State → State
 active_permission_answered ip true now s =
     renewed (is_permission_of ip) (later_by permission_lifetime now) (unlisted (is_permission_of ip) s)
 active_permission_answered ip false now s =
-    jump (PermissionCreateFailed s.config.allocation_transport ip ∷ []) (without (is_permission_of ip) s)
+    jump (PermissionCreateFailed s.config.allocation_transport ip ∷ []) (without_grants (is_permission_of ip) s)
 
 abbrev pub permission_answered : IpAddr → Bool → ℕ → State → State
 permission_answered ip is_granted now s = by (permission_state ip s)
@@ -211,7 +211,7 @@ listed_permissions_answered id is_granted now s = fold (permission_answered_for 
 -- others.
 abbrev pub reserved : ℕ → SocketAddr → ℕ → State → State
 reserved number peer expiry s =
-    with_grant (Channel number peer (Reserved (later_by reserved_time expiry))) (without (is_channel_of number) s)
+    with_grant (Channel number peer (Reserved (later_by reserved_time expiry))) (without_grants (is_channel_of number) s)
 
 -- the pending permission that a request with these purposes was made for
 abbrev pub is_asked_permission : List Purpose → Grant → Bool
@@ -219,20 +219,20 @@ is_asked_permission purposes grant = is_pending_permission grant && is_for_any p
 
 abbrev pub permission_refused_too : List Purpose → State → State
 permission_refused_too purposes s =
-    wait (failures_among (is_asked_permission purposes) s) (without (is_asked_permission purposes) s)
+    wait (failures_among (is_asked_permission purposes) s) (without_grants (is_asked_permission purposes) s)
 
 -- One that was pending. The binding grants a permission too, if one was requested with it (RFC 8656,
 -- section 12.2), and a refusal removes it too.
 abbrev pub pending_channel_answered : ℕ → SocketAddr → ℕ → Bool → ℕ → State → State
 pending_channel_answered number peer id true now s = in_sequence (
     listed_permissions_answered id true now
-    ∷ without (is_channel_of number)
+    ∷ without_grants (is_channel_of number)
     ∷ with_grant (Channel number peer (Active (later_by channel_lifetime now)))
     ∷ wait (ChannelCreated s.config.allocation_transport peer ∷ [])
     ∷ []
     ) s
 pending_channel_answered number peer id false now s = in_sequence (
-    without (is_channel_of number)
+    without_grants (is_channel_of number)
     ∷ wait (ChannelCreateFailed s.config.allocation_transport peer ∷ [])
     ∷ permission_refused_too (purposes_of id s)
     ∷ []
@@ -261,8 +261,8 @@ with_offer connection_id peer origin s =
     with_grant (Offer (record { connection_id = connection_id; peer = peer; is_reported = false; origin = origin })) s
 
 abbrev pub connect_answered : SocketAddr → Option ℕ → State → State
-connect_answered peer (Some connection_id) s = with_offer connection_id peer OwnConnect (without (is_connect_to peer) s)
-connect_answered peer None s = wait (TcpConnectFailed peer ∷ []) (without (is_connect_to peer) s)
+connect_answered peer (Some connection_id) s = with_offer connection_id peer OwnConnect (without_grants (is_connect_to peer) s)
+connect_answered peer None s = wait (TcpConnectFailed peer ∷ []) (without_grants (is_connect_to peer) s)
 
 -- ---- a signed reply, whose request is no longer outstanding
 

@@ -195,8 +195,8 @@ unlisted which s = record s {
 }
 
 -- these grants are removed, and no request is listed for them
-abbrev pub without : (Grant → Bool) → State → State
-without which s = record (unlisted which s) { grants = filter (λ g. not (which g)) s.grants }
+abbrev pub without_grants : (Grant → Bool) → State → State
+without_grants which s = record (unlisted which s) { grants = filter (λ g. not (which g)) s.grants }
 
 -- these grants come after all others
 abbrev pub with_more_grants : List Grant → State → State

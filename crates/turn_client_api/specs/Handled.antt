@@ -65,8 +65,8 @@ taken_in is_lent stream now t = by stream.mode
     by (Bound peer) = stream_input is_lent stream stream.bytes now t ∷ []
     by Broken = []
 
-abbrev pub taken : Bool → Stream → ℕ → State → List Input
-taken is_lent stream now s = taken_in is_lent stream now (with_bytes stream.local [] s)
+abbrev pub stream_inputs_taken : Bool → Stream → ℕ → State → List Input
+stream_inputs_taken is_lent stream now s = taken_in is_lent stream now (with_bytes stream.local [] s)
 
 -- ---- all streams
 
@@ -78,7 +78,7 @@ unless_given None later = later
 abbrev pub taken_first : (State → List Input) → ℕ → State → Option Stream → List Input
 taken_first next now s None = []
 taken_first next now s (Some stream) =
-    taken false stream now s ++ unless_given (payload_in (next_frame_step stream now s).0) (next (next_frame_step stream now s).1)
+    stream_inputs_taken false stream now s ++ unless_given (payload_in (next_frame_step stream now s).0) (next (next_frame_step stream now s).1)
 
 unfoldable pub inputs_taken : ℕ → ℕ → State → List Input
 inputs_taken zero now s = []
@@ -101,11 +101,11 @@ is_front [] = true
 is_front waited = false
 
 -- the piece is appended to the buffered bytes
-abbrev pub fed : Stream → List ℕ → Stream
-fed stream piece = record stream { bytes = stream.bytes ++ piece }
+abbrev pub stream_with_piece : Stream → List ℕ → Stream
+stream_with_piece stream piece = record stream { bytes = stream.bytes ++ piece }
 
 abbrev pub fed_taken : Stream → List ℕ → ℕ → State → List Input
-fed_taken stream piece now s = taken (is_front stream.bytes) (fed stream piece) now s
+fed_taken stream piece now s = stream_inputs_taken (is_front stream.bytes) (stream_with_piece stream piece) now s
 
 abbrev pub piece_inputs : Stream → List ℕ → ℕ → State → List Input
 piece_inputs stream piece now s = by stream.mode

@@ -36,8 +36,8 @@ with_relayed_v6 =
     ++ (0 ∷ 0 ∷ 0 ∷ 0 ∷ 0 ∷ 0 ∷ 0 ∷ 0 ∷ 0 ∷ 0 ∷ 0 ∷ 6 ∷ [])
 
 -- MESSAGE-INTEGRITY with these twenty bytes
-abbrev pub with_integrity : (ℕ → ℕ) → List ℕ
-with_integrity byte =
+abbrev pub integrity_of_bytes : (ℕ → ℕ) → List ℕ
+integrity_of_bytes byte =
     (0x00 ∷ 0x08 ∷ 0x00 ∷ 0x14 ∷ [])
     ++ map byte (0 ∷ 1 ∷ 2 ∷ 3 ∷ 4 ∷ 5 ∷ 6 ∷ 7 ∷ 8 ∷ 9 ∷ 10 ∷ 11 ∷ 12 ∷ 13 ∷ 14 ∷ 15 ∷ 16 ∷ 17 ∷ 18 ∷ 19 ∷ [])
 
@@ -123,7 +123,7 @@ after_message message s = message_step message (ms 100) s
 -- with a signature, whatever its bytes, that is valid, this holds of the effect of the reply
 abbrev pub IfSigned : (List ℕ → List ℕ) → State → (Outcome × State → Type 0) → Type 0
 IfSigned reply s Is =
-    (byte : ℕ → ℕ) → IsOfHeldKey (reply (with_integrity byte)) s → Is (after_message (reply (with_integrity byte)) s)
+    (byte : ℕ → ℕ) → IsOfHeldKey (reply (integrity_of_bytes byte)) s → Is (after_message (reply (integrity_of_bytes byte)) s)
 
 -- this holds for each client of a kind
 abbrev pub WhenSigned : (List ℕ → List ℕ) → (SocketAddr → List ℕ → State → State) → (Outcome × State → Type 0) → Type 0
@@ -142,8 +142,8 @@ IgnoresUnsigned reply client =
 -- nor does a second copy of a signed one
 abbrev pub IgnoresCopy : (List ℕ → List ℕ) → (SocketAddr → List ℕ → State → State) → Type 0
 IgnoresCopy reply client =
-    (byte : ℕ → ℕ) (to : SocketAddr) (text : List ℕ) (s : State) → IsOfHeldKey (reply (with_integrity byte)) (client to text s)
-    → Ignores (reply (with_integrity byte)) (after_message (reply (with_integrity byte)) (client to text s)).1
+    (byte : ℕ → ℕ) (to : SocketAddr) (text : List ℕ) (s : State) → IsOfHeldKey (reply (integrity_of_bytes byte)) (client to text s)
+    → Ignores (reply (integrity_of_bytes byte)) (after_message (reply (integrity_of_bytes byte)) (client to text s)).1
 
 -- ---- clients that await the response to request 7
 

@@ -83,12 +83,12 @@ IsPermittedInput t = by t.stream
     by (Some stream) = IsFromPermitted stream.mode t.bytes t.before (processed t).0
 
 -- an input of the call returns the payload, at its place in what the caller passed in, or owned
-abbrev pub IsGivenBy : Payload → Call → State → Type 0
-IsGivenBy payload call s = IsDoneBy (λ one. (input_payload one ≡ Some payload) × IsPermittedInput one) call s
+abbrev pub IsDeliveredByCall : Payload → Call → State → Type 0
+IsDeliveredByCall payload call s = IsDoneBy (λ one. (input_payload one ≡ Some payload) × IsPermittedInput one) call s
 
 -- if the call returns a payload, an input returns it
 abbrev pub IsDeliveredByInput : Option Payload → Call → State → Type 0
-IsDeliveredByInput o call s = IfSome o (λ payload. IsGivenBy payload call s)
+IsDeliveredByInput o call s = IfSome o (λ payload. IsDeliveredByCall payload call s)
 
 -- if it returns an ICMP report, an input of the call returns that
 abbrev pub IsToldBy : Outcome → Call → State → Type 0

@@ -66,12 +66,12 @@ abbrev pub datagram_in : List ℕ → State → Outcome × State
 datagram_in bytes s = datagram_step bytes (seconds 1) s
 
 -- the server's piece of the stream at this local address is received
-abbrev pub piece_at : SocketAddr → List ℕ → State → Outcome × State
-piece_at local piece s = recv_step Tcp server local piece (seconds 1) s
+abbrev pub server_piece_step : SocketAddr → List ℕ → State → Outcome × State
+server_piece_step local piece s = recv_step Tcp server local piece (seconds 1) s
 
 -- the client is polled for buffered data
-abbrev pub polled : State → Option Payload × State
-polled s = poll_recv_step (seconds 1) s
+abbrev pub poll_recv_at_1_s : State → Option Payload × State
+poll_recv_at_1_s s = poll_recv_step (seconds 1) s
 
 -- ---- pieces
 
@@ -147,4 +147,4 @@ IsJudged verdict message s = validation_of (auth_of s) message ≡ verdict
 abbrev pub WhenJudged : Validation → List ℕ → (Outcome × State → Type 0) → Type 0
 WhenJudged verdict behind Is =
     (byte : ℕ → ℕ) (text : List ℕ) (s : State) → IsJudged verdict (bind_success byte) (with_waiting text s)
-    → Is (piece_at data_end (bind_success byte ++ behind) (with_waiting text s))
+    → Is (server_piece_step data_end (bind_success byte ++ behind) (with_waiting text s))

@@ -21,15 +21,15 @@ KeepsRealm s t =
 
 -- A challenge over the control connection is answered only if fewer than nine were, and counted then. One
 -- that is for nothing changes nothing, and one too many ends the client.
-abbrev pub IsCounted : State → State → Type 0
-IsCounted s t =
+abbrev pub IsChallengeCounted : State → State → Type 0
+IsChallengeCounted s t =
     (t ≡ s) ⊎ (((s.challenges < max_challenges) × (t.challenges ≡ s.challenges + 1))
     ⊎ ((max_challenges ≤ s.challenges) × (t.phase ≡ Closed) × (t.challenges ≡ s.challenges)))
 
 -- each challenge that is processed in this state is counted so
 abbrev pub CountsChallenge : List ℕ → ℕ → State → Type 0
 CountsChallenge message now s =
-    (challenge : Challenge) → judgement_of s message ≡ Challenged challenge → IsCounted s (message_step message now s).1
+    (challenge : Challenge) → judgement_of s message ≡ Challenged challenge → IsChallengeCounted s (message_step message now s).1
 
 -- the progress of a client
 abbrev pub rank : Phase → ℕ

@@ -14,7 +14,7 @@ use Rattle.turn_client_api.specs.State.{State, Phase, Requesting, Authenticating
 use Rattle.turn_client_api.specs.Grants.{channel_peer, first_in, has_active_permission, purposes_of}
 use Rattle.turn_client_api.specs.Requests.{fresh_id, method_for, refresh_method, connection_attempt_method}
 use Rattle.turn_client_api.specs.Judgement.{Judgement, Unrelated, Challenged, Fatal, LateResponse, DataIndication, ConnectionAttempt, SignedRequest, SignedSuccess, SignedError, judgement_of, method_in, has_unknown, last_in, last_peer_in, last_icmp_in}
-use Rattle.turn_client_api.specs.Effect.{allocate_granted, allocate_denied, effect, ended, closed, fail_all}
+use Rattle.turn_client_api.specs.Effect.{allocate_granted, allocate_denied, effect, transaction_ended, closed, fail_all}
 use Rattle.turn_client_api.specs.Retry.{max_challenges, retried, state_after_retry}
 use Rattle.turn_client_api.specs.Connections.{attempt_requested, attempt_indicated}
 
@@ -81,7 +81,7 @@ abbrev pub response_step : Bool → List ℕ → ℕ → State → Outcome × St
 response_step is_granted message now s =
     let purposes = answered_purposes message s in (
       outcome_for message purposes,
-      fold (effect (id_of message) is_granted message now) (ended (id_of message) s) purposes,
+      fold (effect (id_of message) is_granted message now) (transaction_ended (id_of message) s) purposes,
     )
 
 -- ---- a whole message
@@ -98,7 +98,7 @@ abbrev pub wrong_step : List ℕ → State → Outcome × State
 wrong_step message s = (Handled, closed (fail_all (by s.phase)))
   where
     by : Phase → State
-    by Requesting = ended (id_of message) s
+    by Requesting = transaction_ended (id_of message) s
     by _ = s
 
 -- a signed reply, by what the client awaits
@@ -106,8 +106,8 @@ abbrev pub signed_step : Bool → List ℕ → ℕ → State → Outcome × Stat
 signed_step is_granted message now s = by s.phase is_granted
   where
     by : Phase → Bool → Outcome × State
-    by Authenticating true = (Handled, allocate_granted message now (ended (id_of message) s))
-    by Authenticating false = (Handled, allocate_denied (fresh_id s) message now (ended (id_of message) s))
+    by Authenticating true = (Handled, allocate_granted message now (transaction_ended (id_of message) s))
+    by Authenticating false = (Handled, allocate_denied (fresh_id s) message now (transaction_ended (id_of message) s))
     by _ _ = response_step is_granted message now s
 
 -- a message of the control connection, or over UDP of the server

@@ -6,8 +6,8 @@ use Rattle.std.specs.declared.net.socket_addr.SocketAddr.{SocketAddr}
 use Rattle.turn_types.specs.declared.family.AddressFamily.{AddressFamily}
 use Rattle.turn_agent.specs.Agent.{timed_out_transaction}
 use Rattle.turn_client_api.specs.State.{State, Phase, New, Requesting, Authenticating, Allocated, Closed, Grant, Allocation, Permission, Channel, Offer, Connection, Relay, DataOffer, Active, Reserved, Purpose, agent_of}
-use Rattle.turn_client_api.specs.Grants.{allocations, family_of, failures_among, first_in, as_connection, has_request, in_sequence, is_connect, is_for_allocation, is_for_any, is_of, is_of_family, is_of_request, is_past, is_pending_channel, is_pending_permission, jump, purposes_of, unlisted, without}
-use Rattle.turn_client_api.specs.Effect.{closed, ended, reserved, without_families}
+use Rattle.turn_client_api.specs.Grants.{allocations, family_of, failures_among, first_in, as_connection, has_request, in_sequence, is_connect, is_for_allocation, is_for_any, is_of, is_of_family, is_of_request, is_past, is_pending_channel, is_pending_permission, jump, purposes_of, unlisted, without_grants}
+use Rattle.turn_client_api.specs.Effect.{closed, transaction_ended, reserved, without_families}
 use Rattle.turn_client_api.specs.Calls.{is_allocated}
 use Rattle.turn_client_api.specs.Due.{has_event, has_reply, next_wakeup}
 use Rattle.turn_client_api.specs.declared.event.TurnEvent.TheVariants.{AllocationCreateFailed, ChannelCreateFailed}
@@ -29,7 +29,7 @@ allocation_expires purposes now s a =
 
 -- these grants are removed, and their failures are queued before other events
 abbrev pub failed : (Grant → Bool) → State → State
-failed which s = jump (failures_among which s) (without which s)
+failed which s = jump (failures_among which s) (without_grants which s)
 
 -- a permission or channel is expired from its expiry on
 abbrev pub is_lapsed_permission : ℕ → Grant → Bool
@@ -88,7 +88,7 @@ refreshes_timed_out family purposes s = unlisted (λ g. is_of family g && is_for
 
 -- what was reserved long enough is free
 abbrev pub set_free : AddressFamily → ℕ → State → State
-set_free family now s = without (λ g. is_of family g && is_over now g) s
+set_free family now s = without_grants (λ g. is_of family g && is_over now g) s
 
 -- all of this in an allocation that stays
 abbrev pub lapsed_in : AddressFamily → Option ℕ → List Purpose → ℕ → State → State
@@ -108,7 +108,7 @@ lapsed_in family given purposes now s = in_sequence (
 -- an allocation that is removed takes all grants in it, and no event reports it
 abbrev pub lapsed_allocation : Option ℕ → List Purpose → ℕ → State → Relay → State
 lapsed_allocation given purposes now s a =
-    if allocation_expires purposes now s a then without (is_of (family_of a.relayed)) s
+    if allocation_expires purposes now s a then without_grants (is_of (family_of a.relayed)) s
     else lapsed_in (family_of a.relayed) given purposes now s
 
 -- all allocations, in the order in which the server granted them
@@ -179,7 +179,7 @@ timed_step Closed given now s = (Do.Closed, s)
 
 abbrev pub timed_out_step : ℕ → State → TurnPollRet × State
 timed_out_step now s =
-    option_map_or (λ t. timed_step s.phase (Some t.id) now (ended t.id s)) (timed_out_transaction (agent_of s) now) (timed_step s.phase None now s)
+    option_map_or (λ t. timed_step s.phase (Some t.id) now (transaction_ended t.id s)) (timed_out_transaction (agent_of s) now) (timed_step s.phase None now s)
 
 -- what the caller is to do next: first to poll what is pending, and to open a data connection
 abbrev pub poll_step : ℕ → State → TurnPollRet × State

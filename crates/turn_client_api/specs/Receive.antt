@@ -7,7 +7,7 @@ use Rattle.turn_stun.specs.declared.transport.TransportType.TheVariants.{Udp, Tc
 use Rattle.std.specs.Option.{option_map_or}
 use Rattle.turn_agent.specs.Agent.{same_address}
 use Rattle.turn_client_api.specs.State.{State, Mode, Control, Waiting, Bound, Broken, Stream}
-use Rattle.turn_client_api.specs.Grants.{is_connection_from, same_transport, without}
+use Rattle.turn_client_api.specs.Grants.{is_connection_from, same_transport, without_grants}
 use Rattle.turn_client_api.specs.Connections.{connection_at}
 use Rattle.turn_client_api.specs.Payloads.{Outcome, Handled, Ignored, PeerData, PeerIcmp, datagram_step}
 use Rattle.turn_client_api.specs.Streams.{all_of, owned, poll_recv_step, sent_by, stream_at, next_frame_step, with_bytes, without_stream}
@@ -17,7 +17,7 @@ use Rattle.turn_client_api.specs.Streams.{all_of, owned, poll_recv_step, sent_by
 -- the caller is to close its end before all other connections that it is to close
 abbrev pub connection_gone : SocketAddr → State → State
 connection_gone local s =
-    if is_some (connection_at local s) then record (without (is_connection_from local) s) { closes = local ∷ s.closes }
+    if is_some (connection_at local s) then record (without_grants (is_connection_from local) s) { closes = local ∷ s.closes }
     else s
 
 -- over TCP, with the server's address; streams stay

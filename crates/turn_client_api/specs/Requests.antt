@@ -190,12 +190,12 @@ abbrev pub listings : ℕ → List Purpose → List Listing
 listings id purposes = map (λ p. record { id = id; purpose = p }) purposes
 
 -- the next ID was used: the seed advances by one, whether or not its own was taken
-abbrev pub drawn : State → State
-drawn s = record s { ids = behind_id s.ids }
+abbrev pub id_used : State → State
+id_used s = record s { ids = behind_id s.ids }
 
 -- a request with this text is made: it has a transaction from now on, and is listed for these
-abbrev pub asked : ℕ → List ℕ → List Purpose → ℕ → State → State
-asked id text purposes now s = record (drawn s) {
+abbrev pub request_started : ℕ → List ℕ → List Purpose → ℕ → State → State
+request_started id text purposes now s = record (id_used s) {
   transactions = s.transactions ++ first_sent id s.remote now text ∷ [];
   listed = s.listed ++ listings id purposes;
 }
@@ -213,7 +213,7 @@ sent_from s _ = s.local
 -- the request for a purpose is made under this ID, and queued
 abbrev pub requested : ℕ → Purpose → ℕ → State → State
 requested id purpose now s =
-    queued true (sent_from s purpose) (request_for s purpose id) (asked id (request_for s purpose id) (purpose ∷ []) now s)
+    queued true (sent_from s purpose) (request_for s purpose id) (request_started id (request_for s purpose id) (purpose ∷ []) now s)
 
 -- ---- replies to CONNECTION_ATTEMPT (RFC 6062, section 4.4)
 

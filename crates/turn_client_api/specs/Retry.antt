@@ -3,8 +3,8 @@ use Rattle.std.specs.Prelude.{ℕ, ◌+◌, Bool, true, false, List, find, Optio
 use Rattle.turn_auth.specs.LongTerm.{Challenge}
 use Rattle.turn_client_api.specs.State.{State, Phase, Requesting, Authenticating, Purpose, ForAllocation, ForRefresh, ForPermission, ForChannel, ForConnect}
 use Rattle.turn_client_api.specs.Grants.{purposes_of}
-use Rattle.turn_client_api.specs.Requests.{fresh_id, asked, queued, request_for}
-use Rattle.turn_client_api.specs.Effect.{ended}
+use Rattle.turn_client_api.specs.Requests.{fresh_id, request_started, queued, request_for}
+use Rattle.turn_client_api.specs.Effect.{transaction_ended}
 
 -- so many challenges are answered in sequence: a server that always requires another nonce ends the client
 -- (our choice)
@@ -55,9 +55,9 @@ with_held challenge s = record s { held = Some challenge }
 -- is listed for all that the old one is listed for. The old one is no longer outstanding.
 abbrev pub state_after_retry : State → ℕ → Purpose → Challenge → ℕ → State
 state_after_retry s id purpose challenge now =
-    let t = with_held challenge (record (ended id s) { phase = phase_after s.phase; challenges = s.challenges + 1 }) in
+    let t = with_held challenge (record (transaction_ended id s) { phase = phase_after s.phase; challenges = s.challenges + 1 }) in
     let text = request_for t purpose (fresh_id s) in
-    queued true s.local text (asked (fresh_id s) text (purposes_of id s) now t)
+    queued true s.local text (request_started (fresh_id s) text (purposes_of id s) now t)
 
 -- ---- CONNECTION_BIND
 

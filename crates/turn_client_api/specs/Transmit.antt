@@ -6,7 +6,7 @@ use Rattle.turn_types.specs.declared.family.AddressFamily.{AddressFamily}
 use Rattle.turn_agent.specs.Agent.{due, resent}
 use Rattle.turn_client_api.specs.State.{State, Phase, New, Requesting, Allocated, Grant, Allocation, Permission, Channel, Relay, Active, Purpose, ForAllocation, ForRefresh, ForPermission, ForChannel, Queued, agent_of}
 use Rattle.turn_client_api.specs.Grants.{allocations, family_of, is_of}
-use Rattle.turn_client_api.specs.Requests.{asked, asked_lifetime, first_allocate, fresh_id, request_for, to_server}
+use Rattle.turn_client_api.specs.Requests.{request_started, asked_lifetime, first_allocate, fresh_id, request_for, to_server}
 use Rattle.turn_client_api.specs.Due.{is_paused, refresh_time}
 
 -- a request was sent, so the pause begins anew
@@ -49,7 +49,7 @@ refreshes_in now s a =
 -- a request is made and sent at once
 abbrev pub sent_at_once : List ℕ → Purpose → ℕ → State → Option (Transmit (List ℕ)) × State
 sent_at_once text purpose now s =
-    (Some (to_server s s.local text), sent now (asked (fresh_id s) text (purpose ∷ []) now s))
+    (Some (to_server s s.local text), sent now (request_started (fresh_id s) text (purpose ∷ []) now s))
 
 -- the request that refreshes the first grant that is due
 abbrev pub refresh_step : ℕ → State → Option (Transmit (List ℕ)) × State

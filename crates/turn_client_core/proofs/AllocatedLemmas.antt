@@ -9,7 +9,7 @@ use Rattle.turn_client_api.specs.Config.{same_family}
 use Rattle.turn_client_api.specs.Effect.{new_allocation, taken_addresses}
 use Rattle.turn_client_api.specs.declared.grant.Grant.{Grant}
 use Rattle.turn_client_api.proofs.NumberLemmas.{none-filter}
-use Rattle.turn_client_grants.specs.Table.{are_apart, are_new, is_new}
+use Rattle.turn_client_grants.specs.Table.{are_apart, are_new, has_no_double}
 use Rattle.turn_client_api.specs.Grants.{family_of, is_of_family}
 use Rattle.turn_client_core.specs.Allocated.{IsRead, missing}
 
@@ -91,12 +91,12 @@ module _ (lifetime now : ℕ) where
   abbrev grants_of : List SocketAddr → List Grant
   grants_of addresses = map (new_allocation lifetime now) addresses
 
-  all-new : (addresses : List SocketAddr) → list_all (is_new []) (grants_of addresses) ≡ true
+  all-new : (addresses : List SocketAddr) → list_all (has_no_double []) (grants_of addresses) ≡ true
   all-new [] = refl
   all-new (a ∷ others) = all-new others
 
   -- an address of a family that is no longer requested is not taken again
-  apart-from : (a : SocketAddr) (families : List AddressFamily) (addresses : List SocketAddr) → list_any (λ family. is_of_family family a) families ≡ false → list_all (is_new (new_allocation lifetime now a ∷ [])) (grants_of (taken_addresses families addresses)) ≡ true
+  apart-from : (a : SocketAddr) (families : List AddressFamily) (addresses : List SocketAddr) → list_any (λ family. is_of_family family a) families ≡ false → list_all (has_no_double (new_allocation lifetime now a ∷ [])) (grants_of (taken_addresses families addresses)) ≡ true
   apart-from a families [] none = refl
   apart-from a families (b ∷ later) none = by (list_any (λ family. is_of_family family b) families) refl (apart-from a families later none) (apart-from a rest later (none-left _ _ families none))
     where
@@ -113,9 +113,9 @@ module _ (lifetime now : ℕ) where
       not-same wanted = let same = same_family (family_of a) (family_of b) in refl ∙ other wanted same refl
 
       by : (wanted : Bool) → list_any (λ family. is_of_family family b) families ≡ wanted
-          → list_all (is_new (new_allocation lifetime now a ∷ [])) (grants_of (taken_addresses families later)) ≡ true
-          → list_all (is_new (new_allocation lifetime now a ∷ [])) (grants_of (taken_addresses rest later)) ≡ true
-          → list_all (is_new (new_allocation lifetime now a ∷ [])) (grants_of (if wanted then b ∷ taken_addresses rest later else taken_addresses families later)) ≡ true
+          → list_all (has_no_double (new_allocation lifetime now a ∷ [])) (grants_of (taken_addresses families later)) ≡ true
+          → list_all (has_no_double (new_allocation lifetime now a ∷ [])) (grants_of (taken_addresses rest later)) ≡ true
+          → list_all (has_no_double (new_allocation lifetime now a ∷ [])) (grants_of (if wanted then b ∷ taken_addresses rest later else taken_addresses families later)) ≡ true
       by true is unwanted wanted = rw (not-same is) wanted
       by false is unwanted wanted = unwanted
 

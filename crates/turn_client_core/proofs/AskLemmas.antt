@@ -3,13 +3,13 @@ use Rattle.std.proofs.Common.{◌≡◌, ◌∙◌, ℕ, List, true, ap, refl}
 use Rattle.std.specs.declared.net.socket_addr.SocketAddr.{SocketAddr}
 use Rattle.turn_client_api.specs.Calls.{delete_text, deleted}
 use Rattle.turn_client_api.specs.Grants.{with_more_grants}
-use Rattle.turn_client_api.specs.Requests.{asked, fresh_id, queued, request_for, sent_from}
+use Rattle.turn_client_api.specs.Requests.{request_started, fresh_id, queued, request_for, sent_from}
 use Rattle.turn_client_api.specs.State.{State}
 use Rattle.turn_client_api.specs.declared.grant.Grant.{Grant}
 use Rattle.turn_client_api.specs.declared.grant.Purpose.{Purpose}
 use Rattle.turn_client_core.specs.Asked.{asks}
 use Rattle.turn_client_core.specs.Outgoing.{Outgoing}
-use Rattle.turn_client_grants.specs.Asked.{Asks, all_back, given_up}
+use Rattle.turn_client_grants.specs.Asked.{Asks, all_back, expired_now}
 use Rattle.turn_client_grants.specs.Ledger.{Ledger, with_ledger}
 
 -- the client with this outbox
@@ -25,12 +25,12 @@ with_outbox o s = record s {
 }
 
 -- the ledger was this client's
-pub asked-is : (s : State) (was ledger : Ledger) (id : ℕ) (from : SocketAddr) (text : List ℕ) (purposes : List Purpose) (now : ℕ) (step : State → State) → with_ledger was s ≡ s → Asks id purposes now step was ledger s text → queued true from text (with_ledger ledger (asked id text purposes now s)) ≡ queued true from text (asked id text purposes now (step s))
+pub asked-is : (s : State) (was ledger : Ledger) (id : ℕ) (from : SocketAddr) (text : List ℕ) (purposes : List Purpose) (now : ℕ) (step : State → State) → with_ledger was s ≡ s → Asks id purposes now step was ledger s text → queued true from text (with_ledger ledger (request_started id text purposes now s)) ≡ queued true from text (request_started id text purposes now (step s))
 asked-is s was ledger id from text purposes now step same made =
-    ap (queued true from text) (made ∙ ap (λ t. asked id text purposes now (step t)) same)
+    ap (queued true from text) (made ∙ ap (λ t. request_started id text purposes now (step t)) same)
 
-pub asks-is : (s : State) (id : ℕ) (from : SocketAddr) (text : List ℕ) (purpose : Purpose) (purposes : List Purpose) (grants : List Grant) (now : ℕ) → text ≡ request_for s purpose id → from ≡ sent_from s purpose → id ≡ fresh_id s → queued true from text (asked id text purposes now (with_more_grants grants s)) ≡ asks purpose purposes grants now s
+pub asks-is : (s : State) (id : ℕ) (from : SocketAddr) (text : List ℕ) (purpose : Purpose) (purposes : List Purpose) (grants : List Grant) (now : ℕ) → text ≡ request_for s purpose id → from ≡ sent_from s purpose → id ≡ fresh_id s → queued true from text (request_started id text purposes now (with_more_grants grants s)) ≡ asks purpose purposes grants now s
 asks-is s id from text purpose purposes grants now is sent next = rw (is, sent, next) refl
 
-pub deletes-is : (s : State) (id : ℕ) (from : SocketAddr) (text : List ℕ) (now : ℕ) → text ≡ delete_text s → from ≡ s.local → id ≡ fresh_id s → queued true from text (asked id text (all_back s) now (given_up now s)) ≡ deleted now s
+pub deletes-is : (s : State) (id : ℕ) (from : SocketAddr) (text : List ℕ) (now : ℕ) → text ≡ delete_text s → from ≡ s.local → id ≡ fresh_id s → queued true from text (request_started id text (all_back s) now (expired_now now s)) ≡ deleted now s
 deletes-is s id from text now is sent next = rw (is, sent, next) refl

@@ -8,7 +8,7 @@ use Rattle.turn_client_api.specs.Connections.{bind_again, bind_answered, not_bou
 use Rattle.turn_client_api.specs.Grants.{purposes_of}
 use Rattle.turn_client_api.specs.Judgement as J
 use Rattle.turn_client_api.specs.Judgement.{Judgement, bind_judgement, is_bind_of}
-use Rattle.turn_client_api.specs.Requests.{asked, fresh_id, queued, request_for, sent_from}
+use Rattle.turn_client_api.specs.Requests.{request_started, fresh_id, queued, request_for, sent_from}
 use Rattle.turn_client_api.specs.Retry.{with_held}
 use Rattle.turn_client_api.specs.State.{State}
 use Rattle.turn_client_api.specs.declared.grant.DataConnection.{DataConnection}
@@ -29,7 +29,7 @@ found_any p (x ∷ xs) = by (p x) refl (found_any p xs)
 -- ---- a challenge is answered
 
 pub bind-asked : (s : State) (d : DataConnection) (id fresh : ℕ) (from : SocketAddr) (text : List ℕ) (purpose : Purpose) (challenge : Challenge) (now : ℕ) → find (is_bind_of d.local) (purposes_of id s) ≡ Some purpose → text ≡ request_for (with_held challenge s) purpose fresh → from ≡ sent_from s purpose → fresh ≡ fresh_id s
-    → queued true from text (asked fresh text (purpose ∷ []) now (bind_retried d.local now (with_held challenge s))) ≡ bind_again d id challenge now s
+    → queued true from text (request_started fresh text (purpose ∷ []) now (bind_retried d.local now (with_held challenge s))) ≡ bind_again d id challenge now s
 bind-asked s d id fresh from text purpose challenge now found is sent next = rw (found, is, sent, next) refl
 
 -- ---- a message that does not bind the connection ends it

@@ -13,7 +13,7 @@ use Rattle.turn_auth.specs.LongTerm.{Challenge}
 use Rattle.turn_client_api.specs.Answers.{EndsAfterSteps, is_free_piece}
 use Rattle.turn_client_api.specs.Connections.{attempt_indicated, accepts_attempt}
 use Rattle.turn_client_api.specs.Grants.{purposes_of}
-use Rattle.turn_client_api.specs.Handled.{fed}
+use Rattle.turn_client_api.specs.Handled.{stream_with_piece}
 use Rattle.turn_client_api.specs.Judgement as J
 use Rattle.turn_client_api.specs.Judgement.{Judgement, connection_id_in, judgement_of, peer_in}
 use Rattle.turn_client_api.specs.Memory.{challenge_takes_memory, frame_takes_memory, is_free_frame, is_whole_frame, message_takes_memory, packet_takes_memory}
@@ -26,7 +26,7 @@ use Rattle.turn_client_api.specs.declared.state.Mode.{Mode}
 use Rattle.turn_client_api.specs.declared.state.Mode.TheVariants.{Control, Waiting, Bound, Broken}
 use Rattle.turn_client_api.specs.declared.state.Stream.{Stream}
 use Rattle.turn_client_api.proofs.StreamDrainLemmas.{ready-waits}
-use Rattle.turn_client_streams.specs.Buffered.{broken, front_of, passed, without_front}
+use Rattle.turn_client_streams.specs.Buffered.{broken, front_frame, passed, without_front}
 use Rattle.turn_client_core.specs.StreamSteps.{EndsBehind, fed_frame_step, is_broken, piece_takes_none}
 use Rattle.turn_client_core.proofs.PieceLemmas.{front-begins, passed-local, passed-mode}
 use Rattle.turn_client_core.proofs.TurnLemmas.{framed-some, turns-none}
@@ -233,7 +233,7 @@ control-stays frame now s free = by (begins_message frame) (is_message frame) re
 -- ---- the first frame
 
 -- the whole piece is the first frame
-front-piece : (stream : Stream) (piece frame : List ℕ) → stream.bytes ≡ [] → frame_len piece ≡ Some (length piece) → Some frame ≡ front_of (fed stream piece) → frame ≡ piece
+front-piece : (stream : Stream) (piece frame : List ℕ) → stream.bytes ≡ [] → frame_len piece ≡ Some (length piece) → Some frame ≡ front_frame (stream_with_piece stream piece) → frame ≡ piece
 front-piece stream piece frame waits whole front =
     let is : Some frame ≡ Some (take (length piece) piece) =
     front ∙ (ap (λ (bytes : List ℕ). option_map (λ len. take len (bytes ++ piece)) (frame_len (bytes ++ piece))) waits ∙ ap (λ o. option_map (λ len. take len piece) o) whole) in
@@ -244,10 +244,10 @@ takes-by : (s u : Stream) (frame : List ℕ) (t : State) → u.mode ≡ s.mode �
 takes-by s u frame t mode local = rw (mode, local) refl
 
 -- the first frame requires no memory
-pub free-front : (stream : Stream) (piece frame : List ℕ) (t : State) → is_free_frame piece t stream ≡ true → Some frame ≡ front_of (fed stream piece)
-    → frame_takes_memory (without_front (fed stream piece)) frame t ≡ true → ⊥
+pub free-front : (stream : Stream) (piece frame : List ℕ) (t : State) → is_free_frame piece t stream ≡ true → Some frame ≡ front_frame (stream_with_piece stream piece)
+    → frame_takes_memory (without_front (stream_with_piece stream piece)) frame t ≡ true → ⊥
 free-front stream piece frame t free front takes =
-    let all = fed stream piece in
+    let all = stream_with_piece stream piece in
     let is = free-is piece t stream free in
     let left : without_front all ≡ passed all = ap (λ b. cond b (broken all) (passed all)) (front-begins all frame front) in
     let same : frame ≡ piece = front-piece stream piece frame is.waits is.whole front in
@@ -270,7 +270,7 @@ control-rests : (stream : Stream) (piece : List ℕ) (now : ℕ) (t : State) →
 control-rests stream piece now t whole rest free =
     let u : Stream = record stream { mode = Control; bytes = piece } in
     let begins : begins_no_frame piece ≡ false = (frame_len-IsWhole piece (length piece) whole).begins in
-    let front : Some piece ≡ front_of u = sym (ap (λ o. option_map (λ len. take len piece) o) whole ∙ ap Some (take-length piece)) in
+    let front : Some piece ≡ front_frame u = sym (ap (λ o. option_map (λ len. take len piece) o) whole ∙ ap Some (take-length piece)) in
     let left : passed u ≡ record u { bytes = [] } =
     ap (λ o. option_map_or (λ len. record u { bytes = drop len piece }) o u) whole ∙ ap (λ (bytes : List ℕ). record u { bytes = bytes }) (drop-length piece) in
     let led : (framed_stream_step u now t).1 ≡ with_bytes stream.local [] t =

@@ -14,7 +14,7 @@ use Rattle.turn_client_api.specs.Answers.{is_data_indication}
 use Rattle.turn_client_api.specs.State.{State, auth_of}
 use Rattle.turn_client_api.specs.declared.state.Phase.{Phase}
 use Rattle.turn_client_api.specs.declared.state.Phase.TheVariants.{New, Requesting, Authenticating, Allocated, Closed}
-use Rattle.turn_client_api.specs.Effect.{allocate_denied, allocate_granted, ended}
+use Rattle.turn_client_api.specs.Effect.{allocate_denied, allocate_granted, transaction_ended}
 use Rattle.turn_client_api.specs.Payloads.{Handled, response_step, signed_step}
 use Rattle.turn_client_api.specs.Requests.{data_method, fresh_id}
 use Rattle.turn_client_core.specs.Attempts.{CanSign}
@@ -108,20 +108,20 @@ error-answers s message h e = authenticating-outstanding s message (rw e at h)
 
 -- ---- signed replies, by the phase of the client
 
-pub granted-step : (message : List ℕ) (now : ℕ) (s : State) → is_authenticating s.phase ≡ true → signed_step true message now s ≡ (Handled, allocate_granted message now (ended (id_of message) s))
+pub granted-step : (message : List ℕ) (now : ℕ) (s : State) → is_authenticating s.phase ≡ true → signed_step true message now s ≡ (Handled, allocate_granted message now (transaction_ended (id_of message) s))
 granted-step message now s = by s.phase refl
   where
-    by : (p : Phase) → s.phase ≡ p → is_authenticating s.phase ≡ true → signed_step true message now s ≡ (Handled, allocate_granted message now (ended (id_of message) s))
+    by : (p : Phase) → s.phase ≡ p → is_authenticating s.phase ≡ true → signed_step true message now s ≡ (Handled, allocate_granted message now (transaction_ended (id_of message) s))
     by New e = rw e (λ h. cc)
     by Requesting e = rw e (λ h. cc)
     by Authenticating e = rw e (λ h. refl)
     by Allocated e = rw e (λ h. cc)
     by Closed e = rw e (λ h. cc)
 
-pub denied-step : (message : List ℕ) (now : ℕ) (s : State) → is_authenticating s.phase ≡ true → signed_step false message now s ≡ (Handled, allocate_denied (fresh_id s) message now (ended (id_of message) s))
+pub denied-step : (message : List ℕ) (now : ℕ) (s : State) → is_authenticating s.phase ≡ true → signed_step false message now s ≡ (Handled, allocate_denied (fresh_id s) message now (transaction_ended (id_of message) s))
 denied-step message now s = by s.phase refl
   where
-    by : (p : Phase) → s.phase ≡ p → is_authenticating s.phase ≡ true → signed_step false message now s ≡ (Handled, allocate_denied (fresh_id s) message now (ended (id_of message) s))
+    by : (p : Phase) → s.phase ≡ p → is_authenticating s.phase ≡ true → signed_step false message now s ≡ (Handled, allocate_denied (fresh_id s) message now (transaction_ended (id_of message) s))
     by New e = rw e (λ h. cc)
     by Requesting e = rw e (λ h. cc)
     by Authenticating e = rw e (λ h. refl)

@@ -16,16 +16,16 @@ use Rattle.turn_client_api.specs.State.{State}
 use Rattle.turn_client_api.specs.Streams.{frame_step, framed_stream_step, with_bytes}
 use Rattle.turn_client_api.specs.declared.state.Mode.TheVariants.{Control, Waiting}
 use Rattle.turn_client_api.specs.declared.state.Stream.{Stream}
-use Rattle.turn_client_streams.specs.Buffered.{broken, front_of, passed, without_front}
-use Rattle.turn_client_core.specs.ProtocolRecv.{IsPart, IsWithin, outcome_in}
+use Rattle.turn_client_streams.specs.Buffered.{broken, front_frame, passed, without_front}
+use Rattle.turn_client_core.specs.ProtocolRecv.{IsPart, IsRangeWithin, outcome_in}
 use Rattle.turn_client_core.specs.declared.protocol_recv.TurnProtocolRecv.{TurnProtocolRecv}
 use Rattle.turn_client_core.specs.declared.protocol_recv.TurnProtocolRecv.TheVariants as T
-use Rattle.turn_client_core.specs.StreamSteps.{IsFront, came_with, given_as, left_by, part_at, put_or_broken}
+use Rattle.turn_client_core.specs.StreamSteps.{IsFront, came_with, given_as, left_by, bytes_in_range, put_or_broken}
 use Rattle.turn_client_core.proofs.TurnLemmas.{framed-none, framed-some}
 
 -- ---- a part of a part
 
-pub part-IsWithin : (bytes : List ℕ) (was s : State) (told : TurnProtocolRecv) → IsPart bytes was s told → IsWithin bytes told
+pub part-IsWithin : (bytes : List ℕ) (was s : State) (told : TurnProtocolRecv) → IsPart bytes was s told → IsRangeWithin bytes told
 part-IsWithin bytes was s (T.PeerData transport peer range) is = (is.0, is.1)
 part-IsWithin bytes was s T.Handled is = tt
 part-IsWithin bytes was s T.Ignored is = tt
@@ -39,13 +39,13 @@ slice-front xs end a b inside ordered within =
     ap (λ n. take (b - a) (drop a (take n xs))) split
     ∙ (ap (take (b - a)) (drop-take a (end - a) xs) ∙ take-take (b - a) (end - a) (drop a xs) (omega (arith, ordered, most)))
 
-front-within : (bytes : List ℕ) (end : ℕ) (told : TurnProtocolRecv) → end ≤ length bytes → IsWithin (take end bytes) told → IsWithin bytes told
+front-within : (bytes : List ℕ) (end : ℕ) (told : TurnProtocolRecv) → end ≤ length bytes → IsRangeWithin (take end bytes) told → IsRangeWithin bytes told
 front-within bytes end (T.PeerData transport peer range) inside is = (is.0, omega (arith, inside, is.1, length-take end bytes))
 front-within bytes end T.Handled inside is = tt
 front-within bytes end T.Ignored inside is = tt
 front-within bytes end (T.PeerIcmp transport peer icmp) inside is = tt
 
-front-outcome : (bytes : List ℕ) (end : ℕ) (told : TurnProtocolRecv) → end ≤ length bytes → IsWithin (take end bytes) told → outcome_in bytes told ≡ outcome_in (take end bytes) told
+front-outcome : (bytes : List ℕ) (end : ℕ) (told : TurnProtocolRecv) → end ≤ length bytes → IsRangeWithin (take end bytes) told → outcome_in bytes told ≡ outcome_in (take end bytes) told
 front-outcome bytes end (T.PeerData transport peer range) inside is =
     ap (λ part. PeerData (record { transport = transport; peer = peer; bytes = part; place = Some range })) (sym (slice-front bytes end range.start range.end inside is.0 is.1))
 front-outcome bytes end T.Handled inside is = refl
@@ -53,17 +53,17 @@ front-outcome bytes end T.Ignored inside is = refl
 front-outcome bytes end (T.PeerIcmp transport peer icmp) inside is = refl
 
 -- a range at the front
-part-front : (bytes : List ℕ) (range : Range ℕ) → range.start ≡ 0 → part_at bytes range ≡ take range.end bytes
+part-front : (bytes : List ℕ) (range : Range ℕ) → range.start ≡ 0 → bytes_in_range bytes range ≡ take range.end bytes
 part-front bytes range e =
     let whole : range.end - 0 ≡ range.end = omega arith in
     ap (λ n. take (range.end - n) (drop n bytes)) e ∙ ap (λ n. take n bytes) whole
 
-pub lent-IsWithin : (bytes : List ℕ) (range : Range ℕ) (told : TurnProtocolRecv) → range.start ≡ 0 → range.end ≤ length bytes → IsWithin (part_at bytes range) told → IsWithin bytes told
-lent-IsWithin bytes range told e inside is = front-within bytes range.end told inside (subst (λ part. IsWithin part told) (part-front bytes range e) is)
+pub lent-IsWithin : (bytes : List ℕ) (range : Range ℕ) (told : TurnProtocolRecv) → range.start ≡ 0 → range.end ≤ length bytes → IsRangeWithin (bytes_in_range bytes range) told → IsRangeWithin bytes told
+lent-IsWithin bytes range told e inside is = front-within bytes range.end told inside (subst (λ part. IsRangeWithin part told) (part-front bytes range e) is)
 
-pub lent-outcome : (bytes : List ℕ) (range : Range ℕ) (told : TurnProtocolRecv) → range.start ≡ 0 → range.end ≤ length bytes → IsWithin (part_at bytes range) told → outcome_in bytes told ≡ outcome_in (part_at bytes range) told
+pub lent-outcome : (bytes : List ℕ) (range : Range ℕ) (told : TurnProtocolRecv) → range.start ≡ 0 → range.end ≤ length bytes → IsRangeWithin (bytes_in_range bytes range) told → outcome_in bytes told ≡ outcome_in (bytes_in_range bytes range) told
 lent-outcome bytes range told e inside is =
-    front-outcome bytes range.end told inside (subst (λ part. IsWithin part told) (part-front bytes range e) is)
+    front-outcome bytes range.end told inside (subst (λ part. IsRangeWithin part told) (part-front bytes range e) is)
     ∙ ap (λ part. outcome_in part told) (sym (part-front bytes range e))
 
 -- the part is rotated to the front, and the rest cut off
@@ -98,7 +98,7 @@ module _ {T : Type 0} (items : T → List ℕ) where
 -- ---- a step of a stream
 
 -- if there is a first frame, the stream is not stuck
-pub front-begins : (s : Stream) (frame : List ℕ) → Some frame ≡ front_of s → begins_no_frame s.bytes ≡ false
+pub front-begins : (s : Stream) (frame : List ℕ) → Some frame ≡ front_frame s → begins_no_frame s.bytes ≡ false
 front-begins s frame e = by (frame_len s.bytes) refl e
   where
     by : (o : Option ℕ) → frame_len s.bytes ≡ o → Some frame ≡ option_map (λ len. take len s.bytes) o → begins_no_frame s.bytes ≡ false
@@ -124,7 +124,7 @@ passed-mode s = by (frame_len s.bytes)
 frame-by : (s u : Stream) (frame : List ℕ) (now : ℕ) (t : State) → u.mode ≡ s.mode → u.local ≡ s.local → frame_step u frame now t ≡ frame_step s frame now t
 frame-by s u frame now t mode local = rw (mode, local) refl
 
-pub fed-some : (s : Stream) (frame : List ℕ) (now : ℕ) (t : State) → Some frame ≡ front_of s
+pub fed-some : (s : Stream) (frame : List ℕ) (now : ℕ) (t : State) → Some frame ≡ front_frame s
     → framed_stream_step s now t ≡ ((frame_step (without_front s) frame now t).0, left_by (without_front s) (frame_step (without_front s) frame now t).1)
 fed-some s frame now t e =
     let begins = front-begins s frame e in
@@ -133,7 +133,7 @@ fed-some s frame now t e =
     ∙ (ap (λ p. (p.0, with_bytes (passed s).local (passed s).bytes p.1)) (sym (frame-by s (passed s) frame now t (passed-mode s) (passed-local s)))
     ∙ ap (λ (u : Stream). ((frame_step u frame now t).0, left_by u (frame_step u frame now t).1)) (sym same))
 
-pub fed-none : (s : Stream) (now : ℕ) (t : State) → (s.mode ≡ Control) ⊎ (s.mode ≡ Waiting) → None ≡ front_of s → framed_stream_step s now t ≡ (Handled, put_or_broken (without_front s) t)
+pub fed-none : (s : Stream) (now : ℕ) (t : State) → (s.mode ≡ Control) ⊎ (s.mode ≡ Waiting) → None ≡ front_frame s → framed_stream_step s now t ≡ (Handled, put_or_broken (without_front s) t)
 fed-none s now t framed e = by (begins_no_frame s.bytes) refl
   where
     waits : (s.mode ≡ Control) ⊎ (s.mode ≡ Waiting) → put_or_broken s t ≡ left_by s t

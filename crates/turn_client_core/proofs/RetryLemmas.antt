@@ -7,10 +7,10 @@ use Rattle.std.specs.declared.net.socket_addr.SocketAddr.{SocketAddr}
 use Rattle.turn_agent.specs.Agent.{is_outstanding, without_transaction}
 use Rattle.turn_agent.specs.declared.transaction.Transaction.{Transaction}
 use Rattle.turn_auth.specs.LongTerm.{Challenge}
-use Rattle.turn_client_api.specs.Effect.{ended}
+use Rattle.turn_client_api.specs.Effect.{transaction_ended}
 use Rattle.turn_client_api.specs.Grants.{purposes_of}
 use Rattle.turn_client_api.specs.Payloads.{Handled, Ignored, challenge_step}
-use Rattle.turn_client_api.specs.Requests.{asked, fresh_id, queued, request_for, requested}
+use Rattle.turn_client_api.specs.Requests.{request_started, fresh_id, queued, request_for, requested}
 use Rattle.turn_client_api.specs.Retry.{phase_after, retried, state_after_retry, with_held}
 use Rattle.turn_client_api.specs.State.{State}
 use Rattle.turn_client_api.specs.declared.grant.Listing.{Listing}
@@ -29,10 +29,10 @@ without-other id t (u ∷ others) other = by (u.id == id) refl (without-other id
 
 -- the client after the challenge to its request is accepted
 abbrev pub taken : State → ℕ → Challenge → State
-taken s id challenge = with_held challenge (record (ended id s) { phase = phase_after s.phase; challenges = s.challenges + 1 })
+taken s id challenge = with_held challenge (record (transaction_ended id s) { phase = phase_after s.phase; challenges = s.challenges + 1 })
 
 pub again-is : (s : State) (id fresh : ℕ) (from : SocketAddr) (text : List ℕ) (purpose : Purpose) (challenge : Challenge) (now : ℕ) → text ≡ request_for (taken s id challenge) purpose fresh → from ≡ s.local → fresh ≡ fresh_id s
-    → queued true from text (asked fresh text (purposes_of id s) now (taken s id challenge)) ≡ state_after_retry s id purpose challenge now
+    → queued true from text (request_started fresh text (purposes_of id s) now (taken s id challenge)) ≡ state_after_retry s id purpose challenge now
 again-is s id fresh from text purpose challenge now is sent next = rw (is, sent, next) refl
 
 -- ---- the new ID is another one
@@ -56,14 +56,14 @@ none-filtered p q (x ∷ xs) none = by (p x) (q x) refl refl (none-filtered p q 
 
 -- a request that is made again is listed, and a fresh one is not
 pub asked-other : (id fresh : ℕ) (listed : List Listing) (purpose : Purpose) → list_any (λ l. l.id == fresh) listed ≡ false → retried (map (λ l. l.purpose) (filter (λ l. l.id == id) listed)) ≡ Some purpose → (fresh == id) ≡ false
-asked-other id fresh listed purpose unlisted asked = by (fresh == id) refl
+asked-other id fresh listed purpose unlisted request_started = by (fresh == id) refl
   where
     by : (b : Bool) → (fresh == id) ≡ b → (fresh == id) ≡ false
     by false e = e
     by true e =
         let same : fresh ≡ id = eqb-true fresh id e in
         let none : list_any (λ l. l.id == id) listed ≡ false = rw same at unlisted in
-        let no : None ≡ Some purpose = rw (none-found (λ l. l.id == id) listed none) at asked in
+        let no : None ≡ Some purpose = rw (none-found (λ l. l.id == id) listed none) at request_started in
         cc
 
 -- a request that is answered is outstanding, and a fresh one is not
@@ -89,7 +89,7 @@ unknown-is s message challenge now few found = rw (lt-ltb s.challenges 9 few, fo
 -- ---- an ALLOCATE is made again
 
 pub first-is : (s : State) (fresh : ℕ) (from : SocketAddr) (text : List ℕ) (now : ℕ) → text ≡ request_for s ForAllocation fresh → from ≡ s.local
-    → queued true from text (asked fresh text (ForAllocation ∷ []) now s) ≡ requested fresh ForAllocation now s
+    → queued true from text (request_started fresh text (ForAllocation ∷ []) now s) ≡ requested fresh ForAllocation now s
 first-is s fresh from text now is sent = rw (is, sent) refl
 
 -- ---- the purposes of a request, by the table

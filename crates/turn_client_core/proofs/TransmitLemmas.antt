@@ -9,7 +9,7 @@ use Rattle.turn_agent.specs.Agent.{is_due}
 use Rattle.turn_agent.specs.declared.transaction.Transaction.{Transaction}
 use Rattle.turn_client_api.specs.Config.{timers_of}
 use Rattle.turn_client_api.specs.Grants.{allocations, with_more_grants}
-use Rattle.turn_client_api.specs.Requests.{asked, first_allocate, fresh_id, request_for, to_server}
+use Rattle.turn_client_api.specs.Requests.{request_started, first_allocate, fresh_id, request_for, to_server}
 use Rattle.turn_client_api.specs.State.{State}
 use Rattle.turn_client_api.specs.Transmit.{idle_step, queue_step, refresh_step, sent, sent_at_once, transmit_step}
 use Rattle.turn_client_api.specs.declared.grant.Grant.{Grant}
@@ -21,7 +21,7 @@ use Rattle.turn_client_grants.specs.Asked.{Asks}
 use Rattle.turn_client_grants.specs.Ledger.{Ledger, with_ledger}
 use Rattle.turn_client_grants.specs.Refresh.{first_refresh}
 use Rattle.turn_client_grants.proofs.RefreshLemmas.{next_first}
-use Rattle.turn_client_requests.specs.RequestAttributes.{asking}
+use Rattle.turn_client_requests.specs.RequestAttributes.{with_asked_families}
 use Rattle.turn_client_core.proofs.AskLemmas.{with_outbox}
 
 abbrev pub Packet : Type 0
@@ -70,21 +70,21 @@ no_front-sends now s o p step = by (slice_get o.queue 0) refl step
 
 -- ---- a request that is sent at once
 
-pub sends-is : (s : State) (was ledger : Ledger) (id : ℕ) (text : List ℕ) (purpose : Purpose) (now : ℕ) → with_ledger was s ≡ s → Asks id (purpose ∷ []) now (with_more_grants []) was ledger s text → id ≡ fresh_id s → ◌≡◌ {A = Packet × State} (Some (to_server s s.local text), sent now (with_ledger ledger (asked id text (purpose ∷ []) now s))) (sent_at_once text purpose now s)
+pub sends-is : (s : State) (was ledger : Ledger) (id : ℕ) (text : List ℕ) (purpose : Purpose) (now : ℕ) → with_ledger was s ≡ s → Asks id (purpose ∷ []) now (with_more_grants []) was ledger s text → id ≡ fresh_id s → ◌≡◌ {A = Packet × State} (Some (to_server s s.local text), sent now (with_ledger ledger (request_started id text (purpose ∷ []) now s))) (sent_at_once text purpose now s)
 sends-is s was ledger id text purpose now same made next =
-    let made_from : State → State = λ t. asked id text (purpose ∷ []) now t in
+    let made_from : State → State = λ t. request_started id text (purpose ∷ []) now t in
     let whole : with_ledger ledger (made_from s) ≡ made_from s =
     made ∙ (ap (λ (t : State). made_from (with_more_grants [] t)) same
     ∙ ap (λ (grants : List Grant). made_from (record s { grants = grants })) (append-nil s.grants)) in
     ap (λ (t : State). (Some (to_server s s.local text), sent now t)) whole
-    ∙ ap (λ (n : ℕ). (Some (to_server s s.local text), sent now (asked n text (purpose ∷ []) now s))) next
+    ∙ ap (λ (n : ℕ). (Some (to_server s s.local text), sent now (request_started n text (purpose ∷ []) now s))) next
 
 -- the first ALLOCATE is that of this client
-pub first-text-is : (s : State) (transport : TransportType) (families : List AddressFamily) (id : ℕ) (text : List ℕ) → transport ≡ s.config.allocation_transport → families ≡ s.families → id ≡ fresh_id s → text ≡ first_allocate (asking transport families s) id → text ≡ first_allocate s (fresh_id s)
-first-text-is s transport families id text over asked next is =
+pub first-text-is : (s : State) (transport : TransportType) (families : List AddressFamily) (id : ℕ) (text : List ℕ) → transport ≡ s.config.allocation_transport → families ≡ s.families → id ≡ fresh_id s → text ≡ first_allocate (with_asked_families transport families s) id → text ≡ first_allocate s (fresh_id s)
+first-text-is s transport families id text over request_started next is =
     is
-    ∙ (ap (λ (t : TransportType). first_allocate (asking t families s) id) over
-    ∙ (ap (λ (f : List AddressFamily). first_allocate (asking s.config.allocation_transport f s) id) asked
+    ∙ (ap (λ (t : TransportType). first_allocate (with_asked_families t families s) id) over
+    ∙ (ap (λ (f : List AddressFamily). first_allocate (with_asked_families s.config.allocation_transport f s) id) request_started
     ∙ ap (λ (n : ℕ). first_allocate s n) next))
 
 pub refresh-some : (now : ℕ) (s : State) (purpose : Purpose) → slice_get (filter_map (first_refresh now s) (allocations s)) 0 ≡ Some purpose → refresh_step now s ≡ sent_at_once (request_for s purpose (fresh_id s)) purpose now s

@@ -17,8 +17,8 @@ use Rattle.turn_client_api.specs.Payloads.{Payload, Outcome, Handled, Ignored, P
 use Rattle.turn_client_api.specs.Streams.{broken_at, frame_step, framed_by, framed_stream_step, go_on, is_ready, max_steps, poll_recv_step, put_back, next_frame_step, first_ready_step, steps_until_payload, with_bytes}
 use Rattle.turn_client_api.proofs.StreamDrainLemmas.{turn-lighter}
 use Rattle.turn_client_api.proofs.StreamWeightLemmas.{weight, weight-le}
-use Rattle.turn_client_streams.specs.Buffered.{front_of, passed}
-use Rattle.turn_client_core.specs.StreamSteps.{given_by}
+use Rattle.turn_client_streams.specs.Buffered.{front_frame, passed}
+use Rattle.turn_client_core.specs.StreamSteps.{owned_payload}
 
 -- ---- the first frame
 
@@ -26,7 +26,7 @@ use Rattle.turn_client_core.specs.StreamSteps.{given_by}
 frame-whole : (bytes : List ℕ) (len : ℕ) → frame_len bytes ≡ Some len → frame_len (take len bytes) ≡ Some (length (take len bytes))
 frame-whole bytes len e = ap frame_len (sym (append-nil (take len bytes))) ∙ IsFrame-frame_len (take len bytes) [] (IsWhole-IsFrame bytes len (frame_len-IsWhole bytes len e))
 
-pub front-whole : (s : Stream) (frame : List ℕ) → Some frame ≡ front_of s → frame_len frame ≡ Some (length frame)
+pub front-whole : (s : Stream) (frame : List ℕ) → Some frame ≡ front_frame s → frame_len frame ≡ Some (length frame)
 front-whole s frame e = by (frame_len s.bytes) refl e
   where
     by : (o : Option ℕ) → frame_len s.bytes ≡ o → Some frame ≡ option_map (λ len. take len s.bytes) o → frame_len frame ≡ Some (length frame)
@@ -45,14 +45,14 @@ framed_by-some s frame now t None e = cc
 framed_by-some s frame now t (Some len) e = let same : frame ≡ take len s.bytes = cc in rw same refl
 
 -- it is processed, and the bytes behind it are put back
-pub framed-some : (s : Stream) (frame : List ℕ) (now : ℕ) (t : State) → begins_no_frame s.bytes ≡ false → Some frame ≡ front_of s → framed_stream_step s now t ≡ put_back (passed s).local (passed s).bytes (frame_step s frame now t)
+pub framed-some : (s : Stream) (frame : List ℕ) (now : ℕ) (t : State) → begins_no_frame s.bytes ≡ false → Some frame ≡ front_frame s → framed_stream_step s now t ≡ put_back (passed s).local (passed s).bytes (frame_step s frame now t)
 unfolding front_by passed_by
 framed-some s frame now t stuck e =
     ap (λ b. cond {A = Outcome × State} b (Handled, broken_at s.local t) (framed_by s now t (frame_len s.bytes))) stuck
     ∙ framed_by-some s frame now t (frame_len s.bytes) e
 
 -- there is none, and the stream waits for more bytes
-pub framed-none : (s : Stream) (now : ℕ) (t : State) → begins_no_frame s.bytes ≡ false → None ≡ front_of s → framed_stream_step s now t ≡ (Handled, with_bytes s.local s.bytes t)
+pub framed-none : (s : Stream) (now : ℕ) (t : State) → begins_no_frame s.bytes ≡ false → None ≡ front_frame s → framed_stream_step s now t ≡ (Handled, with_bytes s.local s.bytes t)
 unfolding front_by
 framed-none s now t stuck e =
     ap (λ b. cond {A = Outcome × State} b (Handled, broken_at s.local t) (framed_by s now t (frame_len s.bytes))) stuck
@@ -64,13 +64,13 @@ framed-none s now t stuck e =
 
 -- ---- steps in sequence
 
-given-none : (next : State → Option Payload × State) (p : Outcome × State) → given_by p.0 ≡ None → go_on next p ≡ next p.1
+given-none : (next : State → Option Payload × State) (p : Outcome × State) → owned_payload p.0 ≡ None → go_on next p ≡ next p.1
 given-none next (PeerData payload, t) e = cc
 given-none next (Handled, t) e = refl
 given-none next (Ignored, t) e = refl
 given-none next (PeerIcmp transport peer icmp, t) e = refl
 
-given-some : (next : State → Option Payload × State) (p : Outcome × State) (payload : Payload) → given_by p.0 ≡ Some payload → go_on next p ≡ (Some payload, p.1)
+given-some : (next : State → Option Payload × State) (p : Outcome × State) (payload : Payload) → owned_payload p.0 ≡ Some payload → go_on next p ≡ (Some payload, p.1)
 given-some next (PeerData payload, t) given e = let same : record payload { place = None } ≡ given = cc in rw same refl
 given-some next (Handled, t) given e = cc
 given-some next (Ignored, t) given e = cc
@@ -111,7 +111,7 @@ one-more (suc n) now was s t led last = by (find is_ready was.streams) refl (λ 
         ap (λ o. first_ready_step (steps_until_payload (suc n) now) now was o) e
         ∙ on (next_frame_step stream now was) more (sym (turns-first n now was stream e) ∙ led)
 
-pub leads-on : (now : ℕ) (was s : State) (stream : Stream) → find is_ready s.streams ≡ Some stream → given_by (next_frame_step stream now s).0 ≡ None → LeadsTo now was s → LeadsTo now was (next_frame_step stream now s).1
+pub leads-on : (now : ℕ) (was s : State) (stream : Stream) → find is_ready s.streams ≡ Some stream → owned_payload (next_frame_step stream now s).0 ≡ None → LeadsTo now was s → LeadsTo now was (next_frame_step stream now s).1
 unfolding steps_until_payload
 leads-on now was s stream e none (n, led) =
     (suc n, one-more n now was s (next_frame_step stream now s).1 led (turns-first 0 now s stream e ∙ given-none (steps_until_payload 0 now) (next_frame_step stream now s) none))
@@ -127,7 +127,7 @@ Rests now was s = (k : ℕ) × (weight s.streams ≤ k) × (steps_until_payload 
 pub first-Rests : (now : ℕ) (s : State) → Rests now s s
 first-Rests now s = (max_steps s, weight-le s.streams, refl)
 
-pub rests-on : (now : ℕ) (was s : State) (stream : Stream) → find is_ready s.streams ≡ Some stream → given_by (next_frame_step stream now s).0 ≡ None → Rests now was s → Rests now was (next_frame_step stream now s).1
+pub rests-on : (now : ℕ) (was s : State) (stream : Stream) → find is_ready s.streams ≡ Some stream → owned_payload (next_frame_step stream now s).0 ≡ None → Rests now was s → Rests now was (next_frame_step stream now s).1
 rests-on now was s stream e none (zero, least, same) = let less = turn-lighter stream now s e in absurd (omega (arith, less, least))
 rests-on now was s stream e none (suc k, least, same) =
     let less = turn-lighter stream now s e in
@@ -136,7 +136,7 @@ rests-on now was s stream e none (suc k, least, same) =
 pub rests-none : (now : ℕ) (was s : State) → find is_ready s.streams ≡ None → Rests now was s → poll_recv_step now was ≡ (None, s)
 rests-none now was s e (k, least, same) = sym same ∙ turns-none k now s e
 
-pub rests-some : (now : ℕ) (was s : State) (stream : Stream) (payload : Payload) → find is_ready s.streams ≡ Some stream → given_by (next_frame_step stream now s).0 ≡ Some payload → Rests now was s → poll_recv_step now was ≡ (Some payload, (next_frame_step stream now s).1)
+pub rests-some : (now : ℕ) (was s : State) (stream : Stream) (payload : Payload) → find is_ready s.streams ≡ Some stream → owned_payload (next_frame_step stream now s).0 ≡ Some payload → Rests now was s → poll_recv_step now was ≡ (Some payload, (next_frame_step stream now s).1)
 rests-some now was s stream payload e given (zero, least, same) = let less = turn-lighter stream now s e in absurd (omega (arith, less, least))
 rests-some now was s stream payload e given (suc k, least, same) =
     sym same ∙ (turns-first k now s stream e ∙ given-some (steps_until_payload k now) (next_frame_step stream now s) payload given)

@@ -41,17 +41,17 @@ answering reply o = record o {
 }
 
 -- the next ID was used
-abbrev pub drawn : Outgoing → Outgoing
-drawn o = record o { ids = behind_id o.ids }
+abbrev pub outbox_id_used : Outgoing → Outgoing
+outbox_id_used o = record o { ids = behind_id o.ids }
 
 -- with another room in the queue
 abbrev pub with_room : ℕ → Outgoing → Outgoing
 with_room room o = record o { room = room }
 
 -- a request with this ID, the next one, is queued, to be sent from this local address
-abbrev pub asked : ℕ → SocketAddr → List ℕ → ℕ → Outgoing → Outgoing
-asked id from text now o = waiting (packet_of o from text) true (drawn (begun id text now o))
+abbrev pub request_queued : ℕ → SocketAddr → List ℕ → ℕ → Outgoing → Outgoing
+request_queued id from text now o = waiting (packet_of o from text) true (outbox_id_used (begun id text now o))
 
 -- the same after a reply over the control connection, if there is one
 abbrev pub asked_over : Option (List ℕ) → ℕ → SocketAddr → List ℕ → ℕ → Outgoing → Outgoing
-asked_over reply id local text now o = waiting (packet_of o local text) true (answering reply (drawn (begun id text now o)))
+asked_over reply id local text now o = waiting (packet_of o local text) true (answering reply (outbox_id_used (begun id text now o)))

@@ -22,6 +22,6 @@ IsPart bytes was s (T.PeerData transport peer range) = (range.start ≤ range.en
 IsPart bytes was s _ = ⊤
 
 -- data is a part of the received bytes
-abbrev pub IsWithin : List ℕ → TurnProtocolRecv → Type 0
-IsWithin bytes (T.PeerData transport peer range) = (range.start ≤ range.end) × (range.end ≤ length bytes)
-IsWithin bytes _ = ⊤
+abbrev pub IsRangeWithin : List ℕ → TurnProtocolRecv → Type 0
+IsRangeWithin bytes (T.PeerData transport peer range) = (range.start ≤ range.end) × (range.end ≤ length bytes)
+IsRangeWithin bytes _ = ⊤

@@ -9,7 +9,7 @@ use Rattle.turn_types.specs.declared.tcp.incoming.IncomingTcp.TheVariants.{Compl
 use Rattle.turn_agent.specs.Agent.{same_address}
 use Rattle.turn_client_api.specs.Answers.{EndsAfterSteps, stream_takes_none}
 use Rattle.turn_client_api.specs.Effect.{closed}
-use Rattle.turn_client_api.specs.Handled.{fed}
+use Rattle.turn_client_api.specs.Handled.{stream_with_piece}
 use Rattle.turn_client_api.specs.Payloads.{Payload, Outcome, Handled, Ignored, PeerData, PeerIcmp}
 use Rattle.turn_client_api.specs.Receive.{place_kept, stream_step, then_all, whole_piece}
 use Rattle.turn_client_api.specs.State.{State}
@@ -20,11 +20,11 @@ use Rattle.turn_client_api.specs.declared.state.Stream.{Stream}
 use Rattle.turn_client_core.specs.declared.received.Received.{Received}
 
 -- what was buffered in a stream is returned owned
-abbrev pub given_by : Outcome → Option Payload
-given_by outcome = payload_in (owned outcome)
+abbrev pub owned_payload : Outcome → Option Payload
+owned_payload outcome = payload_in (owned outcome)
 
-abbrev pub data_of : Received → Payload
-data_of r = record { transport = r.transport; peer = r.peer; bytes = r.bytes.items; place = None }
+abbrev pub received_payload : Received → Payload
+received_payload r = record { transport = r.transport; peer = r.peer; bytes = r.bytes.items; place = None }
 
 -- ---- a piece of a stream
 
@@ -51,8 +51,8 @@ module _ {T : Type 0} where
   IsFront items (StoredChannel frame transmit) = ⊤
 
 -- this range of the bytes
-abbrev pub part_at : List ℕ → Range ℕ → List ℕ
-part_at bytes range = slice_range bytes range.start range.end
+abbrev pub bytes_in_range : List ℕ → Range ℕ → List ℕ
+bytes_in_range bytes range = slice_range bytes range.start range.end
 
 -- the bytes of this stream, which was taken out, are put back there
 abbrev pub left_by : Stream → State → State
@@ -75,7 +75,7 @@ put_or_broken stream t = by stream.mode
 -- the first frame of a stream of frames, which is taken out, after the piece was appended
 abbrev pub fed_frame_step : Stream → List ℕ → ℕ → State → Outcome × State
 fed_frame_step stream piece now t =
-    let step = framed_stream_step (fed stream piece) now t in (place_kept stream.bytes step.0, step.1)
+    let step = framed_stream_step (stream_with_piece stream piece) now t in (place_kept stream.bytes step.0, step.1)
 
 -- the effect of a piece of a stream that is taken out and not broken
 abbrev pub whole_piece_step : Stream → List ℕ → ℕ → State → Outcome × State

@@ -3,7 +3,7 @@
 ghost use Rattle.std.specs.Prelude.{◌≡◌, ◌≤◌, ◌<◌, [], None, false, true, length, IfOk, OnOk, OnErr};
 ghost use Rattle.turn_agent.specs.Agent.{is_outstanding, without_transaction};
 ghost use Rattle.turn_agent.specs.TransactionIds.{next_id};
-ghost use Rattle.turn_client_core.specs.Outgoing.{answering, asked, asked_over, begun, drawn, packet_of, waiting, with_room};
+ghost use Rattle.turn_client_core.specs.Outgoing.{answering, request_queued, asked_over, begun, outbox_id_used, packet_of, waiting, with_room};
 ghost use Rattle.turn_client_api.specs.Calls.{with_stream};
 ghost use Rattle.turn_client_api.specs.State.{State};
 ghost use Rattle.turn_client_streams.specs.Held.{with_streams};
@@ -175,7 +175,7 @@ impl Outbox {
 
     /// Takes the next ID of the seed.
     pub(crate) fn draw(&mut self)
-        ensures { self.new ≡ drawn self.old }
+        ensures { self.new ≡ outbox_id_used self.old }
     {
         let _drawn = self.ids.draw();
     }
@@ -204,7 +204,7 @@ impl Outbox {
         now: Instant,
     ) -> Result<(), AllocError>
         requires { is_outstanding id self.old.transactions ≡ false }
-        ensures ok { OnOk result (self.new ≡ with_room self.new.room (asked id from text now self.old)) }
+        ensures ok { OnOk result (self.new ≡ with_room self.new.room (request_queued id from text now self.old)) }
         ensures err { OnErr result (self.new ≡ with_room self.new.room self.old) }
     {
         self.reserve(1)?;

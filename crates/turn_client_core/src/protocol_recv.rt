@@ -3,7 +3,7 @@
 ghost use Rattle.std.specs.Prelude.{◌≡◌, ◌≤◌, length, slice_range};
 ghost use Rattle.turn_client_api.specs.Answers.{HandsBack, outcome_of};
 ghost use Rattle.turn_client_api.specs.Streams.{owned};
-ghost use Rattle.turn_client_core.specs.ProtocolRecv.{IsWithin, outcome_in};
+ghost use Rattle.turn_client_core.specs.ProtocolRecv.{IsRangeWithin, outcome_in};
 
 use std::convert::AsSlice;
 use std::net::SocketAddr;
@@ -29,7 +29,7 @@ pub enum TurnProtocolRecv {
 impl TurnProtocolRecv {
     /// The result for the caller that passed in the bytes: data is a range of them.
     pub fn lent<T: AsSlice<u8> + Drop>(self, transmit: Transmit<T>) -> TurnRecvRet<T>
-        requires { IsWithin (T.items transmit.payload) self }
+        requires { IsRangeWithin (T.items transmit.payload) self }
         ensures outcome { outcome_of result ≡ outcome_in (T.items transmit.payload) self }
         ensures hands_back { HandsBack transmit result }
     {
@@ -58,7 +58,7 @@ impl TurnProtocolRecv {
         bytes: Vec<u8>,
         transmit: Transmit<T>,
     ) -> TurnRecvRet<T>
-        requires { IsWithin bytes.items self }
+        requires { IsRangeWithin bytes.items self }
         ensures outcome { outcome_of result ≡ owned (outcome_in bytes.items self) }
         ensures hands_back { HandsBack transmit result }
     {

@@ -2,7 +2,7 @@
 
 ghost use Rattle.std.specs.Prelude.{◌≡◌};
 ghost use Rattle.turn_client_api.specs.Answers.{given_payload};
-ghost use Rattle.turn_client_core.specs.StreamSteps.{data_of};
+ghost use Rattle.turn_client_core.specs.StreamSteps.{received_payload};
 
 use std::convert::AsSlice;
 use std::net::SocketAddr;
@@ -23,7 +23,7 @@ pub struct Received {
 impl Received {
     /// The same data, as a client returns it for any type of buffer.
     pub fn into_data<T: AsSlice<u8>>(self) -> TurnPeerData<T>
-        ensures { given_payload result ≡ data_of self }
+        ensures { given_payload result ≡ received_payload self }
     {
         let Received {
             transport,

@@ -24,7 +24,7 @@ use Rattle.turn_types.specs.declared.family.AddressFamily.{AddressFamily}
 use Rattle.turn_client_grants.specs.Index.{IsIndex}
 use Rattle.turn_client_grants.specs.Keys.{found_after, is_found_by, is_open_to}
 use Rattle.turn_client_grants.specs.Lists.{first_among}
-use Rattle.turn_client_grants.specs.Table.{are_apart, changed, is_new}
+use Rattle.turn_client_grants.specs.Table.{are_apart, changed, has_no_double}
 use Rattle.turn_client_grants.specs.GrantFilter.{holds}
 use Rattle.turn_client_grants.specs.declared.changes.Change.{Change}
 use Rattle.turn_client_grants.specs.declared.key.Key.{Key}
@@ -107,7 +107,7 @@ free-number rows number other none same = subst (λ (n : ℕ). list_any (is_chan
 free-peer : (rows : List Grant) (peer other : SocketAddr) → list_any is_in_progress (filter_map (progress_to peer) rows) ≡ false → same_address peer other ≡ true → list_any (is_open_to other) rows ≡ false
 free-peer rows peer other none same = subst (λ (a : SocketAddr). list_any (is_open_to a) rows ≡ false) (same_address-true peer other same) (sym (open-any peer rows) ∙ none)
 
-pub free-keys : (rows : List Grant) (g : Grant) → is_new rows g ≡ true → IsFree rows g
+pub free-keys : (rows : List Grant) (g : Grant) → has_no_double rows g ≡ true → IsFree rows g
 free-keys rows (Permission ip progress) new (By.Ip other) at = subst (λ (a : IpAddr). list_any (is_permission_of a) rows ≡ false) (same_ip-true ip other at) (no-permission ip rows new)
 free-keys rows (Permission ip progress) new (By.Number k) at = cc
 free-keys rows (Permission ip progress) new (By.Peer k) at = cc
@@ -155,9 +155,9 @@ abbrev AllFree : List Grant → List Grant → Type 0
 AllFree rows [] = Unit {0}
 AllFree rows (g ∷ others) = IsFree rows g × AllFree rows others
 
-all-free : (rows more : List Grant) → list_all (is_new rows) more ≡ true → AllFree rows more
+all-free : (rows more : List Grant) → list_all (has_no_double rows) more ≡ true → AllFree rows more
 all-free rows [] new = tt
-all-free rows (g ∷ others) new = let parts = and_parts (is_new rows g) (list_all (is_new rows) others) new in (free-keys rows g parts.0, all-free rows others parts.1)
+all-free rows (g ∷ others) new = let parts = and_parts (has_no_double rows g) (list_all (has_no_double rows) others) new in (free-keys rows g parts.0, all-free rows others parts.1)
 
 both-free : (rows : List Grant) (g : Grant) (others : List Grant) → AllFree rows others → AllFree (g ∷ []) others → AllFree (rows ++ g ∷ []) others
 both-free rows g [] a b = tt
@@ -167,12 +167,12 @@ index-more : (more rows : List Grant) (find then : Key → Option Grant) → IsI
     → ((k : Key) → then k ≡ fold (found_after k) (find k) more) → IsIndex is_found_by then (rows ++ more)
 index-more [] rows find then is free apart now = subst (λ (gs : List Grant). IsIndex is_found_by then gs) (sym (append-nil rows)) (index-same is_found_by find then rows is now)
 index-more (g ∷ others) rows find then is free apart now =
-    let parts = and_parts (list_all (is_new (g ∷ [])) others) (are_apart others) apart in
+    let parts = and_parts (list_all (has_no_double (g ∷ [])) others) (are_apart others) apart in
     let mid : Key → Option Grant = λ k. found_after k (find k) g in
     subst (λ (gs : List Grant). IsIndex is_found_by then gs) (append_assoc rows (g ∷ []) others)
     (index-more others (rows ++ g ∷ []) mid then (index-added rows find mid g is free.0 (λ k. refl)) (both-free rows g others free.1 (all-free (g ∷ []) others parts.0)) parts.1 now)
 
-pub index-added_all : (rows more : List Grant) (find then : Key → Option Grant) → IsIndex is_found_by find rows → list_all (is_new rows) more ≡ true → are_apart more ≡ true
+pub index-added_all : (rows more : List Grant) (find then : Key → Option Grant) → IsIndex is_found_by find rows → list_all (has_no_double rows) more ≡ true → are_apart more ≡ true
     → ((k : Key) → then k ≡ fold (found_after k) (find k) more) → IsIndex is_found_by then (rows ++ more)
 index-added_all rows more find then is new apart now = index-more more rows find then is (all-free rows more new) apart now
 

@@ -16,7 +16,7 @@ use Rattle.turn_client_grants.proofs.PushLemmas.{few-of}
 use Rattle.turn_client_grants.proofs.RoomLemmas.{event_room_for-filtered}
 use Rattle.turn_client_api.proofs.HasLemmas.{Has}
 use Rattle.std.proofs.lemmas.Bool.{and_parts, eq-eqb}
-use Rattle.turn_client_api.specs.Grants.{without}
+use Rattle.turn_client_api.specs.Grants.{without_grants}
 use Rattle.turn_client_api.specs.Poll.{allocation_expires, is_lapsed_channel, lapsed_allocation, lapsed_in, last_channel_lapsed}
 use Rattle.turn_client_api.specs.State.{State}
 use Rattle.turn_client_api.specs.declared.grant.Purpose.{Purpose}
@@ -80,7 +80,7 @@ both-allocations grants few = two-of (filter_map as_allocation grants) (omega (a
 
 -- ---- whether an allocation is removed
 
-pub goes-away : (given : Option ℕ) (purposes : List Purpose) (now : ℕ) (s : State) (a : Relay) → allocation_expires purposes now s a ≡ true → without (is_of (family_of a.relayed)) s ≡ lapsed_allocation given purposes now s a
+pub goes-away : (given : Option ℕ) (purposes : List Purpose) (now : ℕ) (s : State) (a : Relay) → allocation_expires purposes now s a ≡ true → without_grants (is_of (family_of a.relayed)) s ≡ lapsed_allocation given purposes now s a
 goes-away given purposes now s a e = rw e refl
 
 pub goes-not : (given : Option ℕ) (purposes : List Purpose) (now : ℕ) (s : State) (a : Relay) → allocation_expires purposes now s a ≡ false → lapsed_in (family_of a.relayed) given purposes now s ≡ lapsed_allocation given purposes now s a

@@ -5,7 +5,7 @@ ghost use Rattle.turn_client_api.specs.Connections.{deadline_set};
 ghost use Rattle.turn_client_api.specs.Effect.{lasting, new_allocation};
 ghost use Rattle.turn_client_api.specs.Grants.{changed_allocation, is_for_allocation, is_of_family};
 ghost use Rattle.turn_client_api.specs.Requests.{listings};
-ghost use Rattle.turn_client_grants.specs.Table.{changed, unlisted};
+ghost use Rattle.turn_client_grants.specs.Table.{changed, unlisted_in};
 ghost use Rattle.turn_client_grants.specs.GrantFilter.{holds, purposes_in};
 
 use crate::kind::{is_for_allocation, is_of_family};
@@ -206,7 +206,7 @@ pub(crate) fn remove(grants: &mut Vec<Grant>, which: &GrantFilter)
 
 /// Removes the listings for these grants.
 pub(crate) fn unlist(listed: &mut Vec<Listing>, grants: &[Grant], which: &GrantFilter)
-    ensures items { listed.new.items ≡ unlisted (holds which.now) grants.now listed.old.items }
+    ensures items { listed.new.items ≡ unlisted_in (holds which.now) grants.now listed.old.items }
     ensures capacity { vec_capacity listed.new ≡ vec_capacity listed.old }
     ensures len { vec_len listed.new ≤ vec_len listed.old }
 {

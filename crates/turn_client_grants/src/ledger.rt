@@ -3,7 +3,7 @@
 ghost use Rattle.std.specs.List.{list_any};
 ghost use Rattle.std.specs.Prelude.{◌≡◌, ◌≤◌, ◌<◌, ◌+◌, ◌&&◌, ◌∷◌, ◌++◌, [], true, OnOk};
 ghost use Rattle.turn_client_api.specs.Effect.{renewed};
-ghost use Rattle.turn_client_api.specs.Grants.{find_allocation_to, failures_among, jump, unlisted, wait, with_grant, without};
+ghost use Rattle.turn_client_api.specs.Grants.{find_allocation_to, failures_among, jump, unlisted, wait, with_grant, without_grants};
 ghost use Rattle.turn_client_api.specs.Poll.{failed};
 ghost use Rattle.turn_client_api.specs.State.{State};
 ghost use Rattle.turn_client_grants.specs.Keys.{is_found_by};
@@ -168,7 +168,7 @@ impl GrantLedger {
 
     /// Removes these grants, without an event.
     fn remove(&mut self, which: &GrantFilter)
-        ensures state { (s : State) → with_ledger self.new s ≡ without (holds which.now) (with_ledger self.old s) }
+        ensures state { (s : State) → with_ledger self.new s ≡ without_grants (holds which.now) (with_ledger self.old s) }
         ensures room { SameRoomBut 0 0 self.old self.new }
     {
         self.table.remove(which);
@@ -176,7 +176,7 @@ impl GrantLedger {
 
     /// Removes these grants, and queues their failures after all events.
     fn fail_back(&mut self, which: &GrantFilter)
-        ensures state { (s : State) → with_ledger self.new s ≡ wait (failures_among (holds which.now) (with_ledger self.old s)) (without (holds which.now) (with_ledger self.old s)) }
+        ensures state { (s : State) → with_ledger self.new s ≡ wait (failures_among (holds which.now) (with_ledger self.old s)) (without_grants (holds which.now) (with_ledger self.old s)) }
         ensures room { SameRoomBut 0 0 self.old self.new }
     {
         self.table
@@ -228,7 +228,7 @@ impl GrantLedger {
         // By each key that finds the new grant, one of these is found.
         requires keyed { (k : Key) → is_found_by k grant.now ≡ true → list_any (λ g. holds which.now g && is_found_by k g) self.old.grants ≡ true }
         requires aside { 2 ≤ self.old.event_room }
-        ensures state { (s : State) → with_ledger self.new s ≡ with_grant grant.now (without (holds which.now) (with_ledger self.old s)) }
+        ensures state { (s : State) → with_ledger self.new s ≡ with_grant grant.now (without_grants (holds which.now) (with_ledger self.old s)) }
         ensures room { SameRoomBut 0 2 self.old self.new }
     {
         self.table.replace(which, grant);

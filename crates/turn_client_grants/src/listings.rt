@@ -7,7 +7,7 @@ ghost use Rattle.std.proofs.lemmas.Map.Entries.{option_filter};
 ghost use Rattle.turn_client_api.specs.Grants.{is_for_allocation};
 ghost use Rattle.turn_client_api.specs.Requests.{listings};
 ghost use Rattle.turn_client_grants.specs.Listed.{has_some, is_for_none, purposes_at, with_only};
-ghost use Rattle.turn_client_grants.specs.Table.{unlisted};
+ghost use Rattle.turn_client_grants.specs.Table.{unlisted_in};
 ghost use Rattle.turn_client_grants.specs.GrantFilter.{holds, purposes_in};
 
 use crate::changes;
@@ -115,7 +115,7 @@ impl Listings {
 
     /// Removes the listings for these grants.
     pub(crate) fn unlist(&mut self, grants: &[Grant], which: &GrantFilter)
-        ensures items { self.new.items ≡ unlisted (holds which.now) grants.now self.old.items }
+        ensures items { self.new.items ≡ unlisted_in (holds which.now) grants.now self.old.items }
         ensures room { self.old.room ≤ self.new.room }
     {
         changes::unlist(&mut self.items, grants, which);

@@ -17,7 +17,7 @@ ghost use Rattle.turn_client_api.specs.Requests.{listings};
 ghost use Rattle.turn_client_grants.specs.Failures.{close_in, failure_in};
 ghost use Rattle.turn_client_grants.specs.Keys.{is_found_by};
 ghost use Rattle.turn_client_grants.specs.declared.key.Key.{Key};
-ghost use Rattle.turn_client_grants.specs.Table.{are_new, changed, is_new, is_numbered, unlisted};
+ghost use Rattle.turn_client_grants.specs.Table.{are_new, changed, has_no_double, is_numbered, unlisted_in};
 ghost use Rattle.turn_client_grants.specs.GrantFilter.{holds, purposes_in};
 
 use crate::changes::{self, Change};
@@ -113,7 +113,7 @@ impl GrantTable {
     pub(crate) fn push(&mut self, grant: &Grant)
         requires room { 0 < self.old.grant_room }
         requires numbered { is_numbered grant.now ≡ true }
-        requires new { is_new self.old.grants grant.now ≡ true }
+        requires new { has_no_double self.old.grants grant.now ≡ true }
         ensures grants { self.new.grants ≡ self.old.grants ++ grant.now ∷ [] }
         ensures listed { self.new.listed ≡ self.old.listed }
         ensures grant_room { self.old.grant_room ≤ self.new.grant_room + 1 }
@@ -210,7 +210,7 @@ impl GrantTable {
     /// Removes the listings for these grants.
     pub(crate) fn unlist(&mut self, which: &GrantFilter)
         ensures grants { self.new.grants ≡ self.old.grants }
-        ensures listed { self.new.listed ≡ unlisted (holds which.now) self.old.grants self.old.listed }
+        ensures listed { self.new.listed ≡ unlisted_in (holds which.now) self.old.grants self.old.listed }
         ensures grant_room { self.new.grant_room ≡ self.old.grant_room }
         ensures listing_room { self.old.listing_room ≤ self.new.listing_room }
     {
@@ -232,7 +232,7 @@ impl GrantTable {
     /// Removes these grants, and the listings for them.
     pub(crate) fn remove(&mut self, which: &GrantFilter)
         ensures grants { self.new.grants ≡ filter (λ g. not (holds which.now g)) self.old.grants }
-        ensures listed { self.new.listed ≡ unlisted (holds which.now) self.old.grants self.old.listed }
+        ensures listed { self.new.listed ≡ unlisted_in (holds which.now) self.old.grants self.old.listed }
         ensures grant_room { self.old.grant_room ≤ self.new.grant_room }
         ensures listing_room { self.old.listing_room ≤ self.new.listing_room }
     {
@@ -272,7 +272,7 @@ impl GrantTable {
         // By each key that finds the new grant, one of these is found.
         requires keyed { (k : Key) → is_found_by k grant.now ≡ true → list_any (λ g. holds which.now g && is_found_by k g) self.old.grants ≡ true }
         ensures grants { self.new.grants ≡ filter (λ g. not (holds which.now g)) self.old.grants ++ grant.now ∷ [] }
-        ensures listed { self.new.listed ≡ unlisted (holds which.now) self.old.grants self.old.listed }
+        ensures listed { self.new.listed ≡ unlisted_in (holds which.now) self.old.grants self.old.listed }
         ensures grant_room { self.old.grant_room ≤ self.new.grant_room }
         ensures fewer { length self.new.grants ≤ length self.old.grants }
         ensures listing_room { self.old.listing_room ≤ self.new.listing_room }

@@ -11,7 +11,7 @@ use Rattle.turn_client_api.specs.declared.call.Call.{Call}
 use Rattle.turn_client_api.specs.declared.call.Call.TheVariants.{Delete, CreatePermission, BindChannel, TcpConnect, AllocatedTcpSocket, TcpClosed, SendTo, Recv, PollRecv, Poll, PollTransmit, PollEvent, ProtocolError, RelayedAddresses, Permissions, HavePermission}
 use Rattle.turn_client_api.proofs.HasLemmas.{Has, has-left, has-right}
 use Rattle.turn_client_api.proofs.StandLemmas.{contains-has, has-contains}
-use Rattle.turn_client_runs.specs.Inputs.{IsAmong, answered, answered_in, handled_in}
+use Rattle.turn_client_runs.specs.Inputs.{IsAmong, delivered_by, answered_in, handled_in}
 use Rattle.turn_client_api.proofs.HandledLemmas.{recv-IsToldBy}
 use Rattle.turn_client_api.specs.Handled.{Input, handled, processed}
 use Rattle.turn_client_api.specs.LawsPeers.{IsToldBy}
@@ -42,7 +42,7 @@ poll-gives : (given : PeerData) (o : Option Payload) → Replies.PeerData given 
 poll-gives given None e = absurd cc
 poll-gives given (Some payload) e = (payload, cc, inl refl)
 
-call-gives : (given : PeerData) (call : Call) (s : State) → Replies.PeerData given ≡ reply_of call s → IsOf given (answered call s)
+call-gives : (given : PeerData) (call : Call) (s : State) → Replies.PeerData given ≡ reply_of call s → IsOf given (delivered_by call s)
 call-gives given (Recv packet now) s e = recv-gives given (packet_step packet now s).0 e
 call-gives given (PollRecv now) s e = poll-gives given (poll_recv_step now s).0 e
 call-gives given (Delete now) s e = absurd cc
@@ -64,12 +64,12 @@ run-gives : (given : PeerData) (s : State) (calls : List Call) → Has (Replies.
 run-gives given s [] none = absurd none
 run-gives given s (call ∷ calls) (inl e) = by (call-gives given call s e)
   where
-    by : IsOf given (answered call s) → IsOf given (answered_in s (call ∷ calls))
-    by (payload, same, here) = (payload, same, has-left payload (answered call s) (answered_in (state_after call s) calls) here)
+    by : IsOf given (delivered_by call s) → IsOf given (answered_in s (call ∷ calls))
+    by (payload, same, here) = (payload, same, has-left payload (delivered_by call s) (answered_in (state_after call s) calls) here)
 run-gives given s (call ∷ calls) (inr later) = by (run-gives given (state_after call s) calls later)
   where
     by : IsOf given (answered_in (state_after call s) calls) → IsOf given (answered_in s (call ∷ calls))
-    by (payload, same, there) = (payload, same, has-right payload (answered call s) (answered_in (state_after call s) calls) there)
+    by (payload, same, there) = (payload, same, has-right payload (delivered_by call s) (answered_in (state_after call s) calls) there)
 
 -- data that a run returns came from a permitted peer
 gives-data : (s : State) (calls : List Call) (given : PeerData) → Contains (replies_of s calls) (Replies.PeerData given) → IsDelivered given s calls

@@ -10,7 +10,7 @@ ghost use Rattle.turn_client_api.specs.Payloads.{datagram_step};
 ghost use Rattle.turn_client_api.specs.Poll.{poll_step};
 ghost use Rattle.turn_client_api.specs.Receive.{is_from_server, tcp_closed_step};
 ghost use Rattle.turn_client_api.specs.State.{initial};
-ghost use Rattle.turn_client_core.specs.ProtocolRecv.{outcome_in, IsWithin};
+ghost use Rattle.turn_client_core.specs.ProtocolRecv.{outcome_in, IsRangeWithin};
 
 use std::alloc::{AllocError, Global};
 use std::convert::AsSlice;
@@ -89,7 +89,7 @@ impl TurnClientUdp {
     /// If memory allocation for a message fails. The client has ended then, and nothing else has changed.
     fn datagram(&mut self, bytes: &[u8], now: Instant) -> Result<TurnProtocolRecv, AllocError>
         ensures answer { IfOk result (λ told. outcome_in bytes.now told ≡ (datagram_step bytes.now now self.old).0) }
-        ensures within { IfOk result (IsWithin bytes.now) }
+        ensures within { IfOk result (IsRangeWithin bytes.now) }
         ensures after { OnOk result (self.new ≡ (datagram_step bytes.now now self.old).1) }
         ensures no_memory { OnErr result (self.new ≡ closed self.old) }
         ensures free { datagram_takes_none bytes.now ≡ true → IsOk result }
@@ -103,7 +103,7 @@ impl TurnClientUdp {
 /// The result that the caller gets for its packet: data of a peer is a range of the packet, and a packet
 /// that is not for the client is returned.
 fn answer_of<T: AsSlice<u8> + Debug + Drop>(told: TurnProtocolRecv, transmit: Transmit<T>) -> TurnRecvRet<T>
-    requires { IsWithin (T.items transmit.payload) told }
+    requires { IsRangeWithin (T.items transmit.payload) told }
     ensures answer { outcome_of result ≡ outcome_in (T.items transmit.payload) told }
     ensures hands_back { HandsBack transmit result }
 {

@@ -10,21 +10,21 @@ use Rattle.turn_client_api.specs.State.{State, auth_of}
 use Rattle.turn_client_api.specs.declared.grant.Purpose.{Purpose}
 
 -- the client if it requests addresses of these families that relay over this transport
-abbrev pub asking : TransportType → List AddressFamily → State → State
-asking transport families s =
+abbrev pub with_asked_families : TransportType → List AddressFamily → State → State
+with_asked_families transport families s =
     record s { config = record s.config { allocation_transport = transport }; families = families }
 
 -- the new message is the old one with the attributes for the purpose, whatever else the client's state is
 abbrev pub AddsAsked : TransportType → List AddressFamily → Purpose → List ℕ → List ℕ → Type 0
 AddsAsked transport families purpose old new =
-    (s : State) → AddsAll old new (asked_attributes (asking transport families s) purpose (id_of old))
+    (s : State) → AddsAll old new (asked_attributes (with_asked_families transport families s) purpose (id_of old))
 
 -- the attributes for the purpose take this many bytes, whatever else the client's state is
 abbrev pub IsAskedLen : TransportType → List AddressFamily → Purpose → ℕ → Type 0
 IsAskedLen transport families purpose len =
-    (s : State) (id : ℕ) → additions_len (asked_attributes (asking transport families s) purpose id) ≡ len
+    (s : State) (id : ℕ) → additions_len (asked_attributes (with_asked_families transport families s) purpose id) ≡ len
 
 -- the text is the request for the purpose, of every client that signs with this `ClientAuth`
 abbrev pub IsRequestFor : ClientAuth → TransportType → List AddressFamily → Purpose → ℕ → List ℕ → Type 0
 IsRequestFor auth transport families purpose id text =
-    (s : State) → auth_of s ≡ auth → text ≡ request_for (asking transport families s) purpose id
+    (s : State) → auth_of s ≡ auth → text ≡ request_for (with_asked_families transport families s) purpose id

@@ -5,7 +5,7 @@ ghost use Rattle.turn_auth.specs.LongTerm.{with_challenge};
 ghost use Rattle.turn_client_api.specs.Calls.{delete_text};
 ghost use Rattle.turn_client_api.specs.Requests.{first_allocate, fresh_id};
 ghost use Rattle.turn_client_api.specs.State.{State, auth_of};
-ghost use Rattle.turn_client_requests.specs.RequestAttributes.{IsRequestFor, asking};
+ghost use Rattle.turn_client_requests.specs.RequestAttributes.{IsRequestFor, with_asked_families};
 
 use crate::request_attributes::{
     LIFETIME_SECONDS, add_asked, add_families, asked_len, families_len, method_for,
@@ -35,7 +35,7 @@ pub fn first_allocate(
     families: &[AddressFamily],
     id: TransactionId,
 ) -> Result<Data, AllocError>
-    ensures { (s : State) → IfOk result (λ text. text ≡ first_allocate (asking transport families.now s) id) }
+    ensures { (s : State) → IfOk result (λ text. text ≡ first_allocate (with_asked_families transport families.now s) id) }
 {
     let lifetime = Lifetime::new(LIFETIME_SECONDS);
     let transport = RequestedTransport::new(transport);

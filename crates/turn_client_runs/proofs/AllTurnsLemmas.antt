@@ -10,11 +10,11 @@ use Rattle.turn_client_api.proofs.RestingStreamLemmas.{turns-rest}
 use Rattle.turn_client_api.proofs.StreamDrainLemmas.{IsDone, turn-lighter, turns-done, turns-enough}
 use Rattle.turn_client_api.proofs.StreamFewerLemmas.{IsLessThan, turns-less}
 use Rattle.turn_client_api.proofs.StreamWeightLemmas.{weight, weight-le}
-use Rattle.turn_client_runs.specs.Cut.{and_then, given_by, polled}
+use Rattle.turn_client_runs.specs.Cut.{and_then, outcome_payloads, polled_until_none}
 
 -- what an outcome returns, and then the rest in the state after it
 abbrev pub gives_then : (State → List Payload × State) → Outcome × State → List Payload × State
-gives_then next p = (given_by p.0 ++ (next p.1).0, (next p.1).1)
+gives_then next p = (outcome_payloads p.0 ++ (next p.1).0, (next p.1).1)
 
 abbrev turn_by_turn : (State → List Payload × State) → ℕ → State → Option Stream → List Payload × State
 turn_by_turn next now s None = ([], s)
@@ -56,7 +56,7 @@ all-enough (suc n) (suc m) now s hn hm = by (find is_ready s.streams) refl (λ t
     by (Some stream) e more =
         let less = turn-lighter stream now s e in
         let p = next_frame_step stream now s in
-        ap (λ (q : List Payload × State). (given_by p.0 ++ q.0, q.1)) (more p.1 (omega (arith, less, hn)) (omega (arith, less, hm)))
+        ap (λ (q : List Payload × State). (outcome_payloads p.0 ++ q.0, q.1)) (more p.1 (omega (arith, less, hn)) (omega (arith, less, hm)))
 
 -- after as many no stream is ready
 pub all-done : (n now : ℕ) (s : State) → weight s.streams ≤ n → find is_ready (all_turns n now s).1.streams ≡ None
@@ -125,16 +125,16 @@ all-poll (suc n) now s h = by (find is_ready s.streams) refl (λ t p. all-poll n
             ∙ ap (and_then (all_turns (suc n) now)) (sym is))
 
 -- polled more often than the streams' weight, a client takes all steps
-pub polled-all : (k n now : ℕ) (s : State) → weight s.streams < k → weight s.streams ≤ n → polled k now s ≡ all_turns n now s
-unfolding polled
+pub polled-all : (k n now : ℕ) (s : State) → weight s.streams < k → weight s.streams ≤ n → polled_until_none k now s ≡ all_turns n now s
+unfolding polled_until_none
 polled-all zero n now s some h = absurd (omega (arith, some))
 polled-all (suc k) n now s some h = by (poll_recv_step now s) refl (turns-less (max_steps s) now s) (λ t p q. polled-all k n now t p q)
   where
-    by : (r : Option Payload × State) → poll_recv_step now s ≡ r → IsLessThan (weight s.streams) r → ((t : State) → weight t.streams < k → weight t.streams ≤ n → polled k now t ≡ all_turns n now t) → and_then (polled k now) (poll_recv_step now s) ≡ all_turns n now s
-    by (None, u) e less more = ap (and_then (polled k now)) e ∙ sym (all-poll n now s h ∙ ap (and_then (all_turns n now)) e)
+    by : (r : Option Payload × State) → poll_recv_step now s ≡ r → IsLessThan (weight s.streams) r → ((t : State) → weight t.streams < k → weight t.streams ≤ n → polled_until_none k now t ≡ all_turns n now t) → and_then (polled_until_none k now) (poll_recv_step now s) ≡ all_turns n now s
+    by (None, u) e less more = ap (and_then (polled_until_none k now)) e ∙ sym (all-poll n now s h ∙ ap (and_then (all_turns n now)) e)
     by (Some q, u) e less more =
         let lighter : weight u.streams < weight s.streams = less refl in
-        ap (and_then (polled k now)) e
+        ap (and_then (polled_until_none k now)) e
         ∙ (ap (λ (p : List Payload × State). (q ∷ p.0, p.1)) (more u (omega (arith, lighter, some)) (omega (arith, lighter, h)))
         ∙ sym (all-poll n now s h ∙ ap (and_then (all_turns n now)) e))
 
@@ -162,24 +162,24 @@ turns-owned (suc n) now s = by (find is_ready s.streams) (λ t. turns-owned n no
 
 -- what the piece returned, and what is polled then
 abbrev pub polled_out : ℕ → Outcome × State → List Payload × State
-polled_out now p = gives_then (polled (max_steps p.1 + 1) now) p
+polled_out now p = gives_then (polled_until_none (max_steps p.1 + 1) now) p
 
 pub polled_out-all : (n now : ℕ) (p : Outcome × State) → weight p.1.streams ≤ n → polled_out now p ≡ gives_then (all_turns n now) p
 polled_out-all n now p h =
     let most = weight-le p.1.streams in
-    ap (λ (q : List Payload × State). (given_by p.0 ++ q.0, q.1)) (polled-all (max_steps p.1 + 1) n now p.1 (omega (arith, most)) h)
+    ap (λ (q : List Payload × State). (outcome_payloads p.0 ++ q.0, q.1)) (polled-all (max_steps p.1 + 1) n now p.1 (omega (arith, most)) h)
 
-poll-then : (n now : ℕ) (s : State) (o : Outcome) → given_by o ≡ [] → weight s.streams ≤ n → (r : Option Payload × State) → IsLessThan (weight s.streams) r → IsOwned r → IsDone r → polled_out now (option_map_or PeerData r.0 o, r.1) ≡ and_then (all_turns n now) r
+poll-then : (n now : ℕ) (s : State) (o : Outcome) → outcome_payloads o ≡ [] → weight s.streams ≤ n → (r : Option Payload × State) → IsLessThan (weight s.streams) r → IsOwned r → IsDone r → polled_out now (option_map_or PeerData r.0 o, r.1) ≡ and_then (all_turns n now) r
 poll-then n now s o nothing h (None, u) less is done =
     polled_out-all (weight u.streams) now (o, u) (omega arith)
-    ∙ (ap (λ (q : List Payload × State). (given_by o ++ q.0, q.1)) (all-rest (weight u.streams) now u (done refl))
+    ∙ (ap (λ (q : List Payload × State). (outcome_payloads o ++ q.0, q.1)) (all-rest (weight u.streams) now u (done refl))
     ∙ ap (λ (l : List Payload). (l ++ [], u)) nothing)
 poll-then n now s o nothing h (Some q, u) less is done =
     let lighter : weight u.streams < weight s.streams = less refl in
     polled_out-all n now (PeerData q, u) (omega (arith, lighter, h))
     ∙ ap (λ (x : Payload). (x ∷ (all_turns n now u).0, (all_turns n now u).1)) is
 
-poll-all : (n now : ℕ) (s : State) (o : Outcome) → given_by o ≡ [] → weight s.streams ≤ n → polled_out now (option_map_or PeerData (poll_recv_step now s).0 o, (poll_recv_step now s).1) ≡ all_turns n now s
+poll-all : (n now : ℕ) (s : State) (o : Outcome) → outcome_payloads o ≡ [] → weight s.streams ≤ n → polled_out now (option_map_or PeerData (poll_recv_step now s).0 o, (poll_recv_step now s).1) ≡ all_turns n now s
 poll-all n now s o nothing h =
     let most = max_steps s in
     poll-then n now s o nothing h (poll_recv_step now s) (turns-less most now s) (turns-owned most now s) (turns-done most now s (weight-le s.streams))

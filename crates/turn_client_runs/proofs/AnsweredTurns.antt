@@ -15,7 +15,7 @@ use Rattle.turn_client_api.specs.declared.state.Mode.{Mode}
 use Rattle.turn_client_api.specs.declared.state.Mode.TheVariants.{Control, Waiting, Bound, Broken}
 use Rattle.turn_client_api.specs.declared.state.Stream.{Stream}
 use Rattle.turn_client_api.specs.Connections.{bind_step}
-use Rattle.turn_client_api.specs.Effect.{ended}
+use Rattle.turn_client_api.specs.Effect.{transaction_ended}
 use Rattle.turn_client_api.specs.Handled.{Input, processed}
 use Rattle.turn_client_api.specs.Judgement.{SignedSuccess, judgement_of}
 use Rattle.turn_client_api.specs.LawsHandled.{IsOverControl}
@@ -24,8 +24,8 @@ use Rattle.turn_client_api.proofs.NewIdMessageLemmas.{AsksNothing, granted-asks,
 
 -- ---- an accepted success ends its request, whatever it grants
 
-signed-ends : (p : Phase) (message : List ℕ) (now : ℕ) (s : State) → AsksNothing (ended (id_of message) s) (signed_step true message now (record s { phase = p })).1
-signed-ends Authenticating message now s = granted-asks message now (ended (id_of message) (record s { phase = Authenticating }))
+signed-ends : (p : Phase) (message : List ℕ) (now : ℕ) (s : State) → AsksNothing (transaction_ended (id_of message) s) (signed_step true message now (record s { phase = p })).1
+signed-ends Authenticating message now s = granted-asks message now (transaction_ended (id_of message) (record s { phase = Authenticating }))
 signed-ends New message now s = reply-asks true message now (record s { phase = New })
 signed-ends Requesting message now s = reply-asks true message now (record s { phase = Requesting })
 signed-ends Allocated message now s = reply-asks true message now (record s { phase = Allocated })

@@ -32,7 +32,7 @@ use Rattle.turn_client_api.proofs.GrantedLemmas as Grants
 use Rattle.turn_client_api.proofs.StandLemmas as Stand
 use Rattle.turn_client_api.proofs.StandLemmas.{Covers, contains-has, covers-has, covers-left, covers-stood}
 use Rattle.turn_client_api.proofs.TurnBringLemmas.{IsBrought, leaves-bring}
-use Rattle.turn_client_runs.specs.Bound.{BoundConnectionsHaveSuccess, BoundStreamsHaveSuccess, HasConnectionSuccess, HasSuccess, IsAnswered, IsBoundSince, StreamsAreBoundBefore}
+use Rattle.turn_client_runs.specs.Bound.{BoundConnectionsHaveSuccess, BoundStreamsHaveSuccess, HasConnectionSuccess, HasSuccess, HasTransactionEnded, IsBoundSince, StreamsAreBoundBefore}
 use Rattle.turn_client_runs.specs.Inputs.{IsAmong, handled_in}
 use Rattle.turn_client_runs.proofs.MadeLemmas.{waiting-made}
 use Rattle.turn_client_runs.proofs.RunLemmas.{run-did}
@@ -92,7 +92,7 @@ not_both local one control waiting = by one.stream refl
 
 module _ (P : State → Type 0) (Did : Input → Type 0) (k : IsBrought P Did) (waits : (one : Input) → Did one → (local : SocketAddr) × IsOverWaiting local one) (spares : (s t : State) → Stand.Leaves s t → t.streams ≡ s.streams → P t → P s) where
   abbrev Ends : Input → Type 0
-  Ends one = Did one × IsAnswered one
+  Ends one = Did one × HasTransactionEnded one
 
   bind-ends : (one : Input) (stream : Stream) → one.stream ≡ Some stream → stream.mode ≡ Waiting → is_message one.bytes ≡ true → P (bind_step stream.local one.bytes one.moment one.before) → P one.before ⊎ Ends one
   bind-ends one stream of mode whole h = by (bind-leaves stream.local one.bytes one.moment one.before)
@@ -115,7 +115,7 @@ module _ (P : State → Type 0) (Did : Input → Type 0) (k : IsBrought P Did) (
       by (inl b) = bound (binds-ended stream.local one.bytes one.moment one.before b)
       by (inr (leaves, same)) = inl (spares one.before t leaves same h)
 
-  pub bringing-ends : IsBrought P (λ one. Did one × IsAnswered one)
+  pub bringing-ends : IsBrought P (λ one. Did one × HasTransactionEnded one)
   bringing-ends = record {
     differs = k.differs;
     message = λ one over whole h. control one over (k.message one over whole h);
@@ -130,7 +130,7 @@ module _ (P : State → Type 0) (Did : Input → Type 0) (k : IsBrought P Did) (
 
   -- what no other call causes
   module _ (others : (call : Call) (s : State) → P (state_after call s) → P s ⊎ IsDoneBy Did call s) where
-    pub call-ends : (call : Call) (s : State) → P (state_after call s) → P s ⊎ IsDoneBy (λ one. Did one × IsAnswered one) call s
+    pub call-ends : (call : Call) (s : State) → P (state_after call s) → P s ⊎ IsDoneBy (λ one. Did one × HasTransactionEnded one) call s
     call-ends call s h = by (leaves-bring P Ends bringing-ends (λ call s. ⊥) other call s (state_after call s) (inl refl) h)
       where
         none : (call : Call) (s : State) → ((u : State) → handled call u ≡ []) → P s ⊎ IsDoneBy Did call s → P s ⊎ ⊥
@@ -172,19 +172,19 @@ module _ (local peer : SocketAddr) where
   others call s h = Streams.leaves-bound local peer call s (state_after call s) (inl refl) h
 
   -- a call binds a stream by such an input
-  stream-ends : (call : Call) (s : State) → IsBoundTo (state_after call s) → IsBoundTo s ⊎ IsDoneBy (λ one. BindsIt one × IsAnswered one) call s
+  stream-ends : (call : Call) (s : State) → IsBoundTo (state_after call s) → IsBoundTo s ⊎ IsDoneBy (λ one. BindsIt one × HasTransactionEnded one) call s
   stream-ends = call-ends IsBoundTo BindsIt (Streams.bringing local peer) waits spares others
 
   streams-since : (s : State) (calls : List Call) → (IsBoundTo s → ⊥) → IsBoundTo (state_after_all s calls) → IsBoundSince local peer calls s
   streams-since s calls none h =
-      let is = run-did IsBoundTo (λ call u. IsDoneBy (λ one. BindsIt one × IsAnswered one) call u) (λ u. ⊤) (λ call u inv. tt) (λ call u inv. stream-ends call u) calls s tt none h in
+      let is = run-did IsBoundTo (λ call u. IsDoneBy (λ one. BindsIt one × HasTransactionEnded one) call u) (λ u. ⊤) (λ call u inv. tt) (λ call u inv. stream-ends call u) calls s tt none h in
       record { earlier = is.earlier; call = is.call; later = is.later; split = is.split; success = is.did; since = is.holds }
 
   streams-before : (s : State) (calls : List Call) (earlier : List Call) (call : Call) (later : List Call) (front back : List Input) (one : Input) → (IsBoundTo s → ⊥)
       → calls ≡ earlier ++ call ∷ later → handled call (state_after_all s earlier) ≡ front ++ one ∷ back → IsBoundTo one.before
       → IsBoundSince local peer earlier s ⊎ HasSuccess local peer front
   streams-before s calls earlier call later front back one none split e h =
-      by (in_call IsBoundTo (λ one. BindsIt one × IsAnswered one) (bringing-ends IsBoundTo BindsIt (Streams.bringing local peer) waits spares) stream-ends call (state_after_all s earlier) front back one e h)
+      by (in_call IsBoundTo (λ one. BindsIt one × HasTransactionEnded one) (bringing-ends IsBoundTo BindsIt (Streams.bringing local peer) waits spares) stream-ends call (state_after_all s earlier) front back one e h)
     where
       by : IsBoundTo (state_after_all s earlier) ⊎ HasSuccess local peer front → IsBoundSince local peer earlier s ⊎ HasSuccess local peer front
       by (inl there) = inl (streams-since s earlier none there)
@@ -241,11 +241,11 @@ module _ (c : DataConnection) where
       by (inl was) = inl (bound-open s was)
       by (inr did) = inr did
 
-  connection-ends : (call : Call) (s : State) → IsOpen (state_after call s) → IsOpen s ⊎ IsDoneBy (λ one. IsConnecting c one × IsAnswered one) call s
+  connection-ends : (call : Call) (s : State) → IsOpen (state_after call s) → IsOpen s ⊎ IsDoneBy (λ one. IsConnecting c one × HasTransactionEnded one) call s
   connection-ends = call-ends IsOpen (IsConnecting c) (Grants.bringing (Connection c)) (λ one did. (c.local, did.1.over)) (λ s t leaves same. covers-left s.grants t.grants (Connection c) leaves) connection-others
 
   connection-after : (s : State) (calls : List Call) → s.grants ≡ [] → IsBoundConnection c (state_after_all s calls) → HasConnectionSuccess c (handled_in s calls)
-  connection-after s calls none h = by (run-brings IsOpen (λ one. IsConnecting c one × IsAnswered one) connection-ends s calls (bound-open (state_after_all s calls) h))
+  connection-after s calls none h = by (run-brings IsOpen (λ one. IsConnecting c one × HasTransactionEnded one) connection-ends s calls (bound-open (state_after_all s calls) h))
     where
       by : IsOpen s ⊎ HasConnectionSuccess c (handled_in s calls) → HasConnectionSuccess c (handled_in s calls)
       by (inl (is, there, kept)) = absurd (rw none at there)

@@ -8,7 +8,7 @@ use Rattle.turn_client_api.specs.Handled.{Input, handled, processed}
 use Rattle.turn_client_api.specs.LawsHandled.{ProcessesInputs, TakesInput, InputsLead}
 use Rattle.turn_client_api.specs.LawsReplies.{IsReplyAccepted}
 use Rattle.turn_client_api.specs.LawsStates.{HoldsAtFirst, StaysInCalls}
-use Rattle.turn_client_api.specs.LawsSteps.{IsCounted, KeepsRealm}
+use Rattle.turn_client_api.specs.LawsSteps.{IsChallengeCounted, KeepsRealm}
 use Rattle.turn_client_api.specs.Retry.{max_challenges}
 use Rattle.turn_client_api.specs.Steps.{state_after, state_after_all}
 use Rattle.turn_client_api.specs.declared.call.Call.{Call}
@@ -49,7 +49,7 @@ leaves-patient call s t leaves = (leaves-keeps call s t leaves).1
 
 pub challenge-counts : (one : Input) → IsChallengeInput one → CountsIt one
 challenge-counts one c =
-    subst (λ (p : Outcome × State). IsCounted one.before p.1) (sym (control-made one c.over c.whole))
+    subst (λ (p : Outcome × State). IsChallengeCounted one.before p.1) (sym (control-made one c.over c.whole))
     (challenge-IsCounted one.bytes one.moment one.before c.challenge c.judged)
 
 -- ---- how many in sequence

@@ -13,7 +13,7 @@ use Rattle.turn_client_api.specs.declared.call.Call.TheVariants.{Delete, CreateP
 use Rattle.turn_client_api.specs.declared.state.Mode.{Mode}
 use Rattle.turn_client_api.specs.declared.state.Mode.TheVariants.{Control, Waiting, Bound, Broken}
 use Rattle.turn_client_api.specs.declared.state.Stream.{Stream}
-use Rattle.turn_client_api.specs.Handled.{Input, fed, fed_taken, frame_taken, handled, is_front, piece_inputs, poll_recv_inputs, recv_inputs, stream_inputs, taken, taken_first, taken_in, taken_of_len, then_taken, inputs_taken, unless_given}
+use Rattle.turn_client_api.specs.Handled.{Input, stream_with_piece, fed_taken, frame_taken, handled, is_front, piece_inputs, poll_recv_inputs, recv_inputs, stream_inputs, stream_inputs_taken, taken_first, taken_in, taken_of_len, then_taken, inputs_taken, unless_given}
 use Rattle.turn_client_api.specs.Payloads.{Payload, Outcome, Handled, Ignored, PeerData, PeerIcmp}
 use Rattle.turn_client_api.specs.Receive.{first_frame_step, is_from_server}
 use Rattle.turn_client_api.specs.Streams.{is_ready, max_steps, payload_in, stream_at, next_frame_step, with_bytes}
@@ -64,7 +64,7 @@ mode-frames (Bound peer) is_lent stream now t = all
     all one (inr none) = absurd none
 mode-frames Broken is_lent stream now t = no-frames now
 
-taken-frames : (is_lent : Bool) (stream : Stream) (now : ℕ) (s : State) → AllFrames now (taken is_lent stream now s)
+taken-frames : (is_lent : Bool) (stream : Stream) (now : ℕ) (s : State) → AllFrames now (stream_inputs_taken is_lent stream now s)
 taken-frames is_lent stream now s = mode-frames stream.mode is_lent stream now (with_bytes stream.local [] s)
 
 unless-frames : (now : ℕ) (o : Option Payload) (later : List Input) → AllFrames now later → AllFrames now (unless_given o later)
@@ -90,7 +90,7 @@ then-frames now (Handled, s) = poll-frames now s
 then-frames now (Ignored, s) = poll-frames now s
 
 fed-frames : (stream : Stream) (piece : List ℕ) (now : ℕ) (s : State) → AllFrames now (fed_taken stream piece now s)
-fed-frames stream piece now s = taken-frames (is_front stream.bytes) (fed stream piece) now s
+fed-frames stream piece now s = taken-frames (is_front stream.bytes) (stream_with_piece stream piece) now s
 
 piece-frames : (m : Mode) (stream : Stream) (piece : List ℕ) (now : ℕ) (s : State) → AllFrames now (piece_inputs (record stream { mode = m }) piece now s)
 piece-frames Control stream piece now s = let u = record stream { mode = Control } in joined-frames now _ _ (fed-frames u piece now s) (then-frames now (first_frame_step u piece now s))

@@ -17,7 +17,7 @@ use Rattle.turn_client_api.specs.LawsBodies.{IsAsideFrom}
 use Rattle.turn_client_api.proofs.FrameRestLemmas.{frame-bytes}
 use Rattle.turn_client_api.proofs.OtherStreamLemmas.{frame-aside}
 use Rattle.turn_client_api.proofs.TurnFrameLemmas.{bytes-twice}
-use Rattle.turn_client_runs.specs.Cut.{bytes_at, given_by, left, one_by_one, whole}
+use Rattle.turn_client_runs.specs.Cut.{bytes_at, outcome_payloads, left, one_by_one, whole}
 use Rattle.turn_client_runs.proofs.AllTurnsLemmas.{all-first, all-rest, all_turns, gives_then}
 use Rattle.turn_client_runs.proofs.FollowLemmas.{IsFramed, IsThere, Suits, SuitsMode, control-framed, waiting-framed}
 use Rattle.turn_client_runs.proofs.StreamAtLemmas.{IsAlone, aside-alone, broken-aside, broken-empty, broken-found, bytes-found, fed-found, found-local}
@@ -162,14 +162,14 @@ module _ (a : SocketAddr) (now : ℕ) where
         ∙ rw (g, f) (ap (put_back stream.local rest) (is.same stream bytes frame now t) ∙ ap (λ (l : SocketAddr). put_back l rest p) local-is) in
         let q = all_turns n now (with_bytes a rest p.1) in
         let more = later p.1 rest shorter (framed-alone frame) (is.stays a stream frame now t e) in
-        agrees-by a c _ (given_by p.0 ++ q.0, q.1) _ (behind (given_by p.0) (whole a now p.1 rest))
+        agrees-by a c _ (outcome_payloads p.0 ++ q.0, q.1) _ (behind (outcome_payloads p.0) (whole a now p.1 rest))
         (ready-fed n here bytes t alone e (readiness bytes (Some k) (unless _ _ _ f ∙ g)) ∙ ap (gives_then (all_turns n now)) turned-is)
         (whole-frame a now c m is stream t e bytes k f g)
         (record {
           given =
-              flat_map-append (one_by_one c) (given_by p.0) q.0
+              flat_map-append (one_by_one c) (outcome_payloads p.0) q.0
               ∙ (ap (λ (l : List Payload). l ++ flat_map (one_by_one c) q.0) (is.counts stream frame now t)
-              ∙ ap (λ (l : List Payload). given_by p.0 ++ l) more.given);
+              ∙ ap (λ (l : List Payload). outcome_payloads p.0 ++ l) more.given);
           leaves = more.leaves;
         })
 

@@ -13,7 +13,7 @@ use Rattle.turn_client_api.specs.Connections.{bind_step}
 use Rattle.turn_client_api.specs.Payloads.{Outcome, Handled, Ignored, PeerData, PeerIcmp, channel_sent, is_message, message_step}
 use Rattle.turn_client_api.specs.Streams.{control_frame_step, frame_step, framed_stream_step, ready_len, stream_at, detached_frame_step}
 use Rattle.turn_client_api.proofs.StreamMessageLemmas.{Rebound, Same, frame-rebound, message-same}
-use Rattle.turn_client_runs.specs.Cut.{framed_step, given_by, meant, one_by_one, part_step}
+use Rattle.turn_client_runs.specs.Cut.{framed_step, outcome_payloads, meant, one_by_one, part_step}
 use Rattle.turn_client_runs.proofs.StreamAtLemmas.{find-mapped}
 
 -- payloads of a stream in this mode count one by one, or byte by byte
@@ -47,7 +47,7 @@ pub record IsFramed (c : Bool) (m : Mode) : Type 0 where
   pub turns : (stream : Stream) (now : ℕ) (t : State) → detached_frame_step (record stream { mode = m }) now t ≡ framed_stream_step (record stream { mode = m }) now t
   pub part : (stream : Stream) (part : List ℕ) (now : ℕ) (t : State) → part_step (record stream { mode = m }) part now t ≡ framed_step (record stream { mode = m }) part now t
   pub same : (stream : Stream) (bytes frame : List ℕ) (now : ℕ) (t : State) → frame_step (record stream { mode = m; bytes = bytes }) frame now t ≡ frame_step (record stream { mode = m }) frame now t
-  pub counts : (stream : Stream) (frame : List ℕ) (now : ℕ) (t : State) → flat_map (one_by_one c) (given_by (frame_step (record stream { mode = m }) frame now t).0) ≡ given_by (frame_step (record stream { mode = m }) frame now t).0
+  pub counts : (stream : Stream) (frame : List ℕ) (now : ℕ) (t : State) → flat_map (one_by_one c) (outcome_payloads (frame_step (record stream { mode = m }) frame now t).0) ≡ outcome_payloads (frame_step (record stream { mode = m }) frame now t).0
   pub stays : (a : SocketAddr) (stream : Stream) (frame : List ℕ) (now : ℕ) (t : State) → stream_at a t ≡ Some (record stream { mode = m }) → IsThere c a (frame_step (record stream { mode = m }) frame now t).1
 
 -- ---- the control connection
@@ -60,7 +60,7 @@ control-same frame now t = by (not (begins_message frame)) (is_message frame)
     by false true = message-same frame now t
     by false false = refl
 
-counted-whole : (o : Outcome) → flat_map (one_by_one true) (given_by o) ≡ given_by o
+counted-whole : (o : Outcome) → flat_map (one_by_one true) (outcome_payloads o) ≡ outcome_payloads o
 counted-whole (PeerData payload) = refl
 counted-whole Handled = refl
 counted-whole Ignored = refl
@@ -86,10 +86,10 @@ control-framed = record {
 
 -- ---- a connection that waits to be bound
 
-waiting-counts : (stream : Stream) (frame : List ℕ) (now : ℕ) (t : State) → flat_map (one_by_one false) (given_by (frame_step (record stream { mode = Waiting }) frame now t).0) ≡ given_by (frame_step (record stream { mode = Waiting }) frame now t).0
+waiting-counts : (stream : Stream) (frame : List ℕ) (now : ℕ) (t : State) → flat_map (one_by_one false) (outcome_payloads (frame_step (record stream { mode = Waiting }) frame now t).0) ≡ outcome_payloads (frame_step (record stream { mode = Waiting }) frame now t).0
 waiting-counts stream frame now t = by (not (begins_message frame)) (is_message frame)
   where
-    by : (b d : Bool) → flat_map (one_by_one false) (given_by (cond {A = Outcome × State} b (Ignored, t) (cond {A = Outcome × State} d (Handled, bind_step stream.local frame now t) (Handled, t))).0) ≡ given_by (cond {A = Outcome × State} b (Ignored, t) (cond {A = Outcome × State} d (Handled, bind_step stream.local frame now t) (Handled, t))).0
+    by : (b d : Bool) → flat_map (one_by_one false) (outcome_payloads (cond {A = Outcome × State} b (Ignored, t) (cond {A = Outcome × State} d (Handled, bind_step stream.local frame now t) (Handled, t))).0) ≡ outcome_payloads (cond {A = Outcome × State} b (Ignored, t) (cond {A = Outcome × State} d (Handled, bind_step stream.local frame now t) (Handled, t))).0
     by true d = refl
     by false true = refl
     by false false = refl

@@ -9,9 +9,9 @@ use Rattle.turn_stun.specs.declared.transport.TransportType.{TransportType}
 use Rattle.turn_auth.specs.LongTerm.{Challenge}
 use Rattle.turn_client_api.specs.Config.{Config}
 use Rattle.turn_client_api.specs.State.{State, initial}
-use Rattle.turn_client_api.specs.Grants.{is_connection_from, purposes_of, without}
+use Rattle.turn_client_api.specs.Grants.{is_connection_from, purposes_of, without_grants}
 use Rattle.turn_client_api.specs.Judgement.{Judgement, Unrelated, Challenged, Fatal, LateResponse, DataIndication, ConnectionAttempt, SignedRequest, SignedSuccess, SignedError, answers_one, challenge_in, challenged_or, judgement_of}
-use Rattle.turn_client_api.specs.Effect.{closed, ended, fail_all}
+use Rattle.turn_client_api.specs.Effect.{closed, transaction_ended, fail_all}
 use Rattle.turn_client_api.specs.Retry.{max_challenges, retried, state_after_retry}
 use Rattle.turn_client_api.specs.Connections.{bind_step, connection_at}
 use Rattle.turn_client_api.specs.Payloads.{Outcome, Handled, Ignored, is_message, message_step}
@@ -95,7 +95,7 @@ module _ (message : List ℕ) (now : ℕ) (s : State) where
       by : (j : Judgement) → judgement_of s message ≡ j → IsAwaiting (judgement_of s message) → IsLate (message_step message now s).1 → Came
       by Unrelated e is = nothing Ignored (rw e refl)
       by (Challenged d) e is = challenge-late d none e
-      by Fatal e is = ends (ended (id_of message) s) none (rw (e, phase) refl)
+      by Fatal e is = ends (transaction_ended (id_of message) s) none (rw (e, phase) refl)
       by LateResponse e is = absurd (subst IsAwaiting e is)
       by DataIndication e is = absurd (subst IsAwaiting e is)
       by ConnectionAttempt e is = absurd (subst IsAwaiting e is)
@@ -135,7 +135,7 @@ bind-late local message now s = by s.phase refl
 gone-late : (local : SocketAddr) (s : State) → IsLate (connection_gone local s) → IsLate s
 gone-late local s = by (is_some (connection_at local s))
   where
-    by : (b : Bool) → IsLate (cond b (record (without (is_connection_from local) s) { closes = local ∷ s.closes }) s) → IsLate s
+    by : (b : Bool) → IsLate (cond b (record (without_grants (is_connection_from local) s) { closes = local ∷ s.closes }) s) → IsLate s
     by true h = h
     by false h = h
 
@@ -153,7 +153,7 @@ bringing = record {
   message = control;
   binds = λ one stream of waits whole h. inl (bind-late stream.local one.bytes one.moment one.before h);
   gone = gone-late;
-  ended = closed-late;
+  transaction_ended = closed-late;
 }
   where
     control : (one : Input) → IsOverControl one → is_message one.bytes ≡ true → IsLate (message_step one.bytes one.moment one.before).1 → IsLate one.before ⊎ IsFirst one

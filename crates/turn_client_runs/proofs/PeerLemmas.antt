@@ -13,7 +13,7 @@ use Rattle.turn_client_api.specs.State.{State}
 use Rattle.turn_client_api.specs.Payloads.{Payload, Outcome, Handled, Ignored, PeerData, PeerIcmp}
 use Rattle.turn_client_api.specs.Streams.{is_ready, owned, payload_in, stream_at, next_frame_step, with_bytes}
 use Rattle.turn_client_api.specs.Receive.{first_frame_step, is_from_server}
-use Rattle.turn_client_api.specs.Handled.{Input, fed, fed_taken, frame_taken, handled, is_front, processed, payloads_by, piece_inputs, poll_recv_inputs, recv_inputs, stream_inputs, taken, taken_first, taken_in, taken_of_len, then_taken, stream_input, input_payload, inputs_taken, unless_given}
+use Rattle.turn_client_api.specs.Handled.{Input, stream_with_piece, fed_taken, frame_taken, handled, is_front, processed, payloads_by, piece_inputs, poll_recv_inputs, recv_inputs, stream_inputs, stream_inputs_taken, taken_first, taken_in, taken_of_len, then_taken, stream_input, input_payload, inputs_taken, unless_given}
 use Rattle.turn_client_api.specs.LawsHandled.{IsBoundAt}
 use Rattle.turn_client_api.specs.LawsPeers.{IsPermittedInput, IsMessageFromPermitted, HasNoPeer}
 use Rattle.turn_client_api.specs.Steps.{state_after}
@@ -26,7 +26,7 @@ use Rattle.turn_client_api.proofs.HandledLemmas.{poll_recv-Gives, recv-AreOf, tu
 use Rattle.turn_client_api.proofs.HasLemmas.{Has, has-append, has-filter_map, has-found, map-has}
 use Rattle.turn_client_api.proofs.StandLemmas.{contains-has, has-contains}
 use Rattle.turn_client_runs.specs.Peers.{InputDelivers, IsPeerPermitted, IsDeliveredIn, TellsOfPermitted}
-use Rattle.turn_client_runs.specs.Inputs.{IsAmong, answered, answered_in, handled_in, payloads_in}
+use Rattle.turn_client_runs.specs.Inputs.{IsAmong, delivered_by, answered_in, handled_in, payloads_in}
 use Rattle.turn_client_runs.proofs.TurnsOfRuns.{among-left, among-right, has-among}
 
 -- ---- the stream of an input is in the state just before it
@@ -82,7 +82,7 @@ in_mode Waiting l stream now t stands = framed-in l (record stream { mode = Wait
 in_mode (Bound peer) l stream now t stands = one-in l (record stream { mode = Bound peer }) stream.bytes now t stands
 in_mode Broken l stream now t stands = none-in
 
-taken-in : (l : Bool) (stream : Stream) (now : ℕ) (s : State) → Stands stream s → AreIn (taken l stream now s)
+taken-in : (l : Bool) (stream : Stream) (now : ℕ) (s : State) → Stands stream s → AreIn (stream_inputs_taken l stream now s)
 taken-in l stream now s stands = in_mode stream.mode l stream now (with_bytes stream.local [] s) (emptied-stands stream.local [] stream s stands)
 
 found-stands : (p : Stream → Bool) (stream : Stream) (s : State) → find p s.streams ≡ Some stream → Stands stream s
@@ -102,7 +102,7 @@ turns-in (suc n) now s = by (find is_ready s.streams) refl (λ t. turns-in n now
     by (Some stream) e more =
         let next = inputs_taken n now (next_frame_step stream now s).1 in
         let o = payload_in (next_frame_step stream now s).0 in
-        append-in (taken false stream now s) (unless_given o next) (taken-in false stream now s (found-stands is_ready stream s e)) (unless-in o next (more (next_frame_step stream now s).1))
+        append-in (stream_inputs_taken false stream now s) (unless_given o next) (taken-in false stream now s (found-stands is_ready stream s e)) (unless-in o next (more (next_frame_step stream now s).1))
 
 poll_recv-in : (now : ℕ) (s : State) → AreIn (poll_recv_inputs now s)
 poll_recv-in now s = turns-in _ now s
@@ -116,9 +116,9 @@ then-in now (Ignored, t) = poll_recv-in now t
 piece_in_mode : (m : Mode) (stream : Stream) (piece : List ℕ) (now : ℕ) (s : State) → Stands (record stream { mode = m }) s → AreIn (piece_inputs (record stream { mode = m }) piece now s)
 piece_in_mode Control stream piece now s stands =
     let u = record stream { mode = Control } in
-    append-in (fed_taken u piece now s) (then_taken now (first_frame_step u piece now s)) (taken-in (is_front u.bytes) (fed u piece) now s stands) (then-in now (first_frame_step u piece now s))
-piece_in_mode Waiting stream piece now s stands = let u = record stream { mode = Waiting } in taken-in (is_front u.bytes) (fed u piece) now s stands
-piece_in_mode (Bound peer) stream piece now s stands = let u = record stream { mode = Bound peer } in taken-in (is_front u.bytes) (fed u piece) now s stands
+    append-in (fed_taken u piece now s) (then_taken now (first_frame_step u piece now s)) (taken-in (is_front u.bytes) (stream_with_piece u piece) now s stands) (then-in now (first_frame_step u piece now s))
+piece_in_mode Waiting stream piece now s stands = let u = record stream { mode = Waiting } in taken-in (is_front u.bytes) (stream_with_piece u piece) now s stands
+piece_in_mode (Bound peer) stream piece now s stands = let u = record stream { mode = Bound peer } in taken-in (is_front u.bytes) (stream_with_piece u piece) now s stands
 piece_in_mode Broken stream piece now s stands = by (same_address stream.local s.local)
   where
     by : (b : Bool) → AreIn (cond b (poll_recv_inputs now s) [])
@@ -249,7 +249,7 @@ module _ (payload : Payload) where
 
 -- ---- what the calls return
 
-call-answered : (call : Call) (s : State) → payloads_by call s ≡ answered call s
+call-answered : (call : Call) (s : State) → payloads_by call s ≡ delivered_by call s
 call-answered (Recv packet now) s = recv-AreOf packet now s
 call-answered (PollRecv now) s = poll_recv-Gives now s
 call-answered _ s = refl

@@ -19,7 +19,7 @@ use Rattle.turn_client_api.proofs.AddressLemmas.{same_address-self}
 use Rattle.turn_client_api.proofs.HasLemmas.{has-all, has-found}
 use Rattle.turn_client_api.proofs.StreamWeightLemmas.{weight}
 use Rattle.turn_client_api.proofs.TurnFrameLemmas.{bytes-twice}
-use Rattle.turn_client_runs.specs.Cut.{IsQuiet, bytes_at, fed_piece, given_by, left, meant, mode_at, whole, whole_of}
+use Rattle.turn_client_runs.specs.Cut.{IsQuiet, bytes_at, fed_piece, outcome_payloads, left, meant, mode_at, whole, whole_of}
 use Rattle.turn_client_runs.proofs.AllTurnsLemmas.{all-rest, all_turns, gives_then, polled_out, polled_out-all, then_all-all}
 use Rattle.turn_client_runs.proofs.FedTurnLemmas.{Agrees, empty-left, framed-first, none-left, ready-fed, turns-whole}
 use Rattle.turn_client_runs.proofs.FollowLemmas.{IsFramed, IsThere, Suits, SuitsMode, control-framed, waiting-framed}
@@ -45,7 +45,7 @@ recv-none : (a : SocketAddr) (piece : List ℕ) (now : ℕ) (s : State) → s.tr
 recv-none a piece now s tcp e = subst (λ (v : State). recv_step Tcp s.remote a piece now v ≡ (Ignored, v)) (over-tcp s tcp) (recv-nothing a piece now s e)
 
 -- the place of a payload does not count
-placed : (waited : List ℕ) (o : Outcome) → given_by (place_kept waited o) ≡ given_by o
+placed : (waited : List ℕ) (o : Outcome) → outcome_payloads (place_kept waited o) ≡ outcome_payloads o
 placed [] o = refl
 placed (b ∷ bytes) (PeerData payload) = refl
 placed (b ∷ bytes) Handled = refl

@@ -16,17 +16,17 @@ use Rattle.turn_client_api.specs.declared.state.Stream.{Stream}
 use Rattle.turn_client_api.specs.Payloads.{Payload}
 use Rattle.turn_client_api.specs.Streams.{stream_at, with_bytes}
 use Rattle.turn_client_api.proofs.TurnFrameLemmas.{bytes-twice}
-use Rattle.turn_client_runs.specs.Cut.{AreNonempty, IsQuiet, IsSameForAnyCut, bytes_at, fed_piece, fed_pieces, is_control, left, mode_at, one_by_one, part_at, whole, whole_of}
+use Rattle.turn_client_runs.specs.Cut.{AreNonempty, IsQuiet, IsSameForAnyCut, bytes_at, fed_piece, fed_pieces, is_control_stream, left, mode_at, one_by_one, part_at_step, whole, whole_of}
 use Rattle.turn_client_runs.proofs.FedTurnLemmas.{Agrees}
 use Rattle.turn_client_runs.proofs.FollowLemmas.{Suits, SuitsMode}
 use Rattle.turn_client_runs.proofs.PieceLemmas.{piece-agrees, waits-same, waits-whole}
 use Rattle.turn_client_runs.proofs.QuietLemmas.{fed-quiet}
 
-suits-first : (o : Option Stream) → Suits (is_control o) o
+suits-first : (o : Option Stream) → Suits (is_control_stream o) o
 suits-first None = tt
 suits-first (Some stream) = by stream.mode
   where
-    by : (m : Mode) → SuitsMode (is_control (Some (record stream { mode = m }))) m
+    by : (m : Mode) → SuitsMode (is_control_stream (Some (record stream { mode = m }))) m
     by Control = tt
     by Waiting = tt
     by (Bound peer) = tt
@@ -41,8 +41,8 @@ module _ (a : SocketAddr) (now : ℕ) where
   whole_from : State → List ℕ → List Payload × State
   whole_from s bytes = let d = whole a now s bytes in (d.given, with_bytes a d.rest d.state)
 
-  whole-append : (s : State) (first more : List ℕ) → whole a now s (first ++ more) ≡ fed (λ t. T.size_in (mode_at a t)) (part_at a now) (whole a now s first) more
-  whole-append s first more = drained-append (λ t. T.size_in (mode_at a t)) (part_at a now) (size_in-IsPrefixCut (mode_at a)) s first more
+  whole-append : (s : State) (first more : List ℕ) → whole a now s (first ++ more) ≡ fed (λ t. T.size_in (mode_at a t)) (part_at_step a now) (whole a now s first) more
+  whole-append s first more = drained-append (λ t. T.size_in (mode_at a t)) (part_at_step a now) (size_in-IsPrefixCut (mode_at a)) s first more
 
   nothing-same : (c : Bool) (s : State) → IsQuiet s → IsSame c ([], s) (whole_of a now s [])
   nothing-same c s quiet =
@@ -83,7 +83,7 @@ module _ (a : SocketAddr) (now : ℕ) where
 
   pub any-cut : (pieces : List (List ℕ)) (s : State) → IsQuiet s → AreNonempty pieces → IsSameForAnyCut a pieces now s
   any-cut pieces s quiet some =
-      let same = pieces-same (is_control (stream_at a s)) pieces s quiet (suits-first (stream_at a s)) some in
+      let same = pieces-same (is_control_stream (stream_at a s)) pieces s quiet (suits-first (stream_at a s)) some in
       (same.given, same.after)
 
 pub pieces-quiet : (a : SocketAddr) (pieces : List (List ℕ)) (now : ℕ) (s : State) → IsQuiet s → IsQuiet (fed_pieces a pieces now s).1

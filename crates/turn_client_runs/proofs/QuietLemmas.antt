@@ -18,7 +18,7 @@ use Rattle.turn_client_api.proofs.StreamCallLemmas.{call-apart, initial-apart}
 use Rattle.turn_client_api.proofs.StreamDrainLemmas.{turns-done}
 use Rattle.turn_client_api.proofs.StreamStepLemmas.{poll_recv-apart, recv-apart}
 use Rattle.turn_client_api.proofs.StreamWeightLemmas.{weight, weight-le}
-use Rattle.turn_client_runs.specs.Cut.{GetsQuiet, IsQuiet, and_then, fed_piece, polled}
+use Rattle.turn_client_runs.specs.Cut.{GetsQuiet, IsQuiet, and_then, fed_piece, polled_until_none}
 use Rattle.turn_client_runs.proofs.AllTurnsLemmas.{all-done, polled_out, polled_out-all}
 
 -- ---- the transport of its packets
@@ -76,12 +76,12 @@ transport-kept = edits-IsKept SameTransport all-edits any-streams
 -- ---- polled
 
 -- what a poll keeps, polls keep
-polled-keeps : (P : State → Type 0) → ((now : ℕ) (s : State) → P s → P (poll_recv_step now s).1) → (n now : ℕ) (s : State) → P s → P (polled n now s).1
-unfolding polled
+polled-keeps : (P : State → Type 0) → ((now : ℕ) (s : State) → P s → P (poll_recv_step now s).1) → (n now : ℕ) (s : State) → P s → P (polled_until_none n now s).1
+unfolding polled_until_none
 polled-keeps P step zero now s h = h
 polled-keeps P step (suc n) now s h = by (poll_recv_step now s) (step now s h) (λ t k. polled-keeps P step n now t k)
   where
-    by : (r : Option Payload × State) → P r.1 → ((t : State) → P t → P (polled n now t).1) → P (and_then (polled n now) r).1
+    by : (r : Option Payload × State) → P r.1 → ((t : State) → P t → P (polled_until_none n now t).1) → P (and_then (polled_until_none n now) r).1
     by (None, t) k later = k
     by (Some payload, t) k later = later t k
 

@@ -10,8 +10,8 @@ use Rattle.turn_client_api.specs.declared.state.Mode.TheVariants.{Control, Waiti
 use Rattle.turn_client_api.specs.declared.state.Stream.{Stream}
 use Rattle.turn_client_api.specs.Calls.{with_stream}
 use Rattle.turn_client_api.specs.Connections.{connection_at}
-use Rattle.turn_client_api.specs.Grants.{is_connection_from, without}
-use Rattle.turn_client_api.specs.Handled.{Input, fed, fed_taken, frame_taken, is_front, piece_inputs, poll_recv_inputs, stream_inputs, taken, taken_first, taken_in, taken_of_len, then_taken, inputs_taken, unless_given}
+use Rattle.turn_client_api.specs.Grants.{is_connection_from, without_grants}
+use Rattle.turn_client_api.specs.Handled.{Input, stream_with_piece, fed_taken, frame_taken, is_front, piece_inputs, poll_recv_inputs, stream_inputs, stream_inputs_taken, taken_first, taken_in, taken_of_len, then_taken, inputs_taken, unless_given}
 use Rattle.turn_client_api.specs.Payloads.{Payload, Outcome, Handled, Ignored, PeerData, PeerIcmp}
 use Rattle.turn_client_api.specs.Receive.{connection_gone, first_frame_step, piece_step, stream_step, then_all}
 use Rattle.turn_client_api.specs.Streams.{broken_at, frame_step, framed_by, framed_stream_step, go_on, is_ready, max_steps, payload_in, poll_recv_step, next_frame_step, first_ready_step, detached_frame_step, steps_until_payload, with_bytes, without_stream}
@@ -143,7 +143,7 @@ module _ (Known : SocketAddr → List ℕ → Type 0) (none : (a : SocketAddr) �
   mode-turns (Bound peer) is_lent stream now t is = one-turn _ (record stream { mode = Bound peer }) refl is
   mode-turns Broken is_lent stream now t is = no-turns
 
-  taken-turns : (is_lent : Bool) (stream : Stream) (now : ℕ) (s : State) → Known stream.local stream.bytes → KnownTurns (taken is_lent stream now s)
+  taken-turns : (is_lent : Bool) (stream : Stream) (now : ℕ) (s : State) → Known stream.local stream.bytes → KnownTurns (stream_inputs_taken is_lent stream now s)
   taken-turns is_lent stream now s is = mode-turns stream.mode is_lent stream now (with_bytes stream.local [] s) is
 
   -- what the call processes is known, and so is what its streams hold after it
@@ -167,7 +167,7 @@ module _ (Known : SocketAddr → List ℕ → Type 0) (none : (a : SocketAddr) �
       by None e more = (no-turns, all)
       by (Some stream) e more =
           let is = all stream (has-found is_ready stream s.streams e).0 in
-          go_on-known (steps_until_payload n now) (inputs_taken n now) (taken false stream now s) (next_frame_step stream now s)
+          go_on-known (steps_until_payload n now) (inputs_taken n now) (stream_inputs_taken false stream now s) (next_frame_step stream now s)
           (taken-turns false stream now s is, turn-known stream now s is (all-others stream.local s.streams all)) more
 
   pub poll-known : (now : ℕ) (s : State) → AllKnown s.streams → Goes (poll_recv_inputs now s) (poll_recv_step now s).1
@@ -182,7 +182,7 @@ module _ (Known : SocketAddr → List ℕ → Type 0) (none : (a : SocketAddr) �
   then-known now front (Ignored, t) first = let rest = poll-known now t first.1 in (joined-turns front (poll_recv_inputs now t) first.0 rest.0, rest.1)
 
   fed-known : (stream : Stream) (piece : List ℕ) (now : ℕ) (s : State) → Known stream.local (stream.bytes ++ piece) → OthersKnown stream.local s.streams → Goes (fed_taken stream piece now s) (first_frame_step stream piece now s).1
-  fed-known stream piece now s is others = (taken-turns (is_front stream.bytes) (fed stream piece) now s is, turn-known (fed stream piece) now s is others)
+  fed-known stream piece now s is others = (taken-turns (is_front stream.bytes) (stream_with_piece stream piece) now s is, turn-known (stream_with_piece stream piece) now s is others)
 
   broken-turns : (b : Bool) (now : ℕ) (s : State) → AllKnown s.streams → Goes (cond b (poll_recv_inputs now s) []) (cond {A = Outcome × State} b (then_all now (Handled, s)) (Handled, s)).1
   broken-turns true now s all = then-known now [] (Handled, s) (no-turns, all)
@@ -197,13 +197,13 @@ module _ (Known : SocketAddr → List ℕ → Type 0) (none : (a : SocketAddr) �
   piece-known Waiting stream piece now s broken is others = fed-known (record stream { mode = Waiting }) piece now s is others
   piece-known (Bound peer) stream piece now s broken is others =
       let u = record stream { mode = Bound peer } in
-      (taken-turns (is_front stream.bytes) (fed u piece) now s is, bytes-known stream.local [] s (none stream.local) others)
+      (taken-turns (is_front stream.bytes) (stream_with_piece u piece) now s is, bytes-known stream.local [] s (none stream.local) others)
   piece-known Broken stream piece now s broken is others = broken-turns (same_address stream.local s.local) now s (broken refl)
 
   gone-streams : (a : SocketAddr) (s : State) → (connection_gone a s).streams ≡ s.streams
   gone-streams a s = by (is_some (connection_at a s))
     where
-      by : (b : Bool) → (cond b (record (without (is_connection_from a) s) { closes = a ∷ s.closes }) s).streams ≡ s.streams
+      by : (b : Bool) → (cond b (record (without_grants (is_connection_from a) s) { closes = a ∷ s.closes }) s).streams ≡ s.streams
       by true = refl
       by false = refl
 

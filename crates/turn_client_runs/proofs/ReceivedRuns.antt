@@ -24,7 +24,7 @@ use Rattle.turn_client_api.proofs.AddressLemmas.{same_address-self, same_address
 use Rattle.turn_client_api.proofs.HasLemmas.{Has, has-found}
 use Rattle.turn_client_api.proofs.StreamCallLemmas.{IsOpened, others-opened}
 use Rattle.turn_client_api.proofs.StreamMessageLemmas.{message-same}
-use Rattle.turn_client_runs.specs.Received.{IsReceived, piece_for, pieces_for, unless_broken}
+use Rattle.turn_client_runs.specs.Received.{HasArrived, piece_in_call, pieces_for, unless_broken}
 use Rattle.turn_client_runs.proofs.CallGrants.{quiet}
 use Rattle.turn_client_runs.proofs.ReceivedLemmas.{AllKnown, Goes, opened-known, poll-known, stream-known}
 
@@ -48,7 +48,7 @@ Steps all turns t = Goes (Ends all) (nothing-ends all) (less-ends all) turns t
 
 -- ---- a call
 
-quiet-piece : (a : SocketAddr) (call : Call) (s : State) → (TakesInput call → ⊥) → piece_for a call s ≡ []
+quiet-piece : (a : SocketAddr) (call : Call) (s : State) → (TakesInput call → ⊥) → piece_in_call a call s ≡ []
 quiet-piece a (Recv packet now) s other = absurd (other tt)
 quiet-piece a (PollRecv now) s other = refl
 quiet-piece a (Delete now) s other = refl
@@ -77,11 +77,11 @@ module _ (all more : SocketAddr → List ℕ) where
   still-held : (xs : List Stream) (piece : SocketAddr → List ℕ) → ((a : SocketAddr) → more a ≡ all a ++ piece a) → ((a : SocketAddr) → piece a ≡ []) → Held all xs → Held more xs
   still-held xs piece e empty held x there = still-ends x.local (piece x.local) x.bytes (e x.local) (empty x.local) (held x there)
 
-  quiet-steps : (call : Call) (s : State) → (TakesInput call → ⊥) → ((a : SocketAddr) → more a ≡ all a ++ piece_for a call s) → Held all s.streams → Steps more (handled call s) (state_after call s)
+  quiet-steps : (call : Call) (s : State) → (TakesInput call → ⊥) → ((a : SocketAddr) → more a ≡ all a ++ piece_in_call a call s) → Held all s.streams → Steps more (handled call s) (state_after call s)
   quiet-steps call s other e held = (none, by (others-opened call s other))
     where
       before : Held more s.streams
-      before = still-held s.streams (λ a. piece_for a call s) e (λ a. quiet-piece a call s other) held
+      before = still-held s.streams (λ a. piece_in_call a call s) e (λ a. quiet-piece a call s other) held
 
       none : (one : Input) → Has one (handled call s) → (stream : Stream) → one.stream ≡ Some stream → Ends more stream.local stream.bytes
       none one there = absurd (subst (Has one) (quiet call s other) there)
@@ -165,12 +165,12 @@ module _ (all more : SocketAddr → List ℕ) where
     datagram-steps true false s held = (λ one absent. absurd absent, held)
     datagram-steps false c s held = (λ one absent. absurd absent, held)
 
-    recv-steps : (carrier : TransportType) (s : State) → ((a : SocketAddr) → more a ≡ all a ++ piece_for a (Recv packet now) (record s { transport = carrier })) → Held all s.streams
+    recv-steps : (carrier : TransportType) (s : State) → ((a : SocketAddr) → more a ≡ all a ++ piece_in_call a (Recv packet now) (record s { transport = carrier })) → Held all s.streams
         → Steps more (recv_inputs packet.transport packet.from packet.to packet.payload now (record s { transport = carrier }))
         (recv_step packet.transport packet.from packet.to packet.payload now (record s { transport = carrier })).1
     recv-steps Udp s e held =
         datagram-steps (is_from_server packet.transport packet.from u) (same_address packet.to s.local) u
-        (still-held s.streams (λ a. piece_for a (Recv packet now) u) e (λ a. by (is_from_server packet.transport packet.from u && same_address packet.to a)) held)
+        (still-held s.streams (λ a. piece_in_call a (Recv packet now) u) e (λ a. by (is_from_server packet.transport packet.from u && same_address packet.to a)) held)
       where
         u : State
         u = record s { transport = Udp }
@@ -183,8 +183,8 @@ module _ (all more : SocketAddr → List ℕ) where
         u : State
         u = record s { transport = Tcp }
 
-        none : ((a : SocketAddr) → piece_for a (Recv packet now) u ≡ []) → Steps more [] u
-        none nothing = (λ one absent. absurd absent, still-held s.streams (λ a. piece_for a (Recv packet now) u) e nothing held)
+        none : ((a : SocketAddr) → piece_in_call a (Recv packet now) u ≡ []) → Steps more [] u
+        none nothing = (λ one absent. absurd absent, still-held s.streams (λ a. piece_in_call a (Recv packet now) u) e nothing held)
 
         nowhere : (b : Bool) → cond {A = List ℕ} b [] [] ≡ []
         nowhere true = refl
@@ -198,7 +198,7 @@ module _ (all more : SocketAddr → List ℕ) where
 
   -- ---- all calls
 
-  call-steps : (call : Call) (s : State) → ((a : SocketAddr) → more a ≡ all a ++ piece_for a call s) → Held all s.streams → Steps more (handled call s) (state_after call s)
+  call-steps : (call : Call) (s : State) → ((a : SocketAddr) → more a ≡ all a ++ piece_in_call a call s) → Held all s.streams → Steps more (handled call s) (state_after call s)
   call-steps (Recv packet now) s e held = recv-steps packet now s.transport s e held
   call-steps (PollRecv now) s e held = poll-known (Ends more) (nothing-ends more) (less-ends more) now s (still-held s.streams (λ a. []) e (λ a. refl) held)
   call-steps call s e held = quiet-steps call s (λ takes. takes) e held
@@ -211,23 +211,23 @@ same-held all more xs e held = still-held all more xs (λ a. []) (λ a. sym (e a
 run-held : (calls : List Call) (all : SocketAddr → List ℕ) (s : State) → Held all s.streams → Held (λ a. all a ++ pieces_for a calls s) (state_after_all s calls).streams
 run-held [] all s held = same-held all (λ a. all a ++ []) s.streams (λ a. sym (append-nil (all a))) held
 run-held (call ∷ calls) all s held =
-    let more : SocketAddr → List ℕ = λ a. all a ++ piece_for a call s in
+    let more : SocketAddr → List ℕ = λ a. all a ++ piece_in_call a call s in
     let t = state_after call s in
     same-held (λ a. more a ++ pieces_for a calls t) (λ a. all a ++ pieces_for a (call ∷ calls) s) (state_after_all t calls).streams
-    (λ a. append_assoc (all a) (piece_for a call s) (pieces_for a calls t))
+    (λ a. append_assoc (all a) (piece_in_call a call s) (pieces_for a calls t))
     (run-held calls more t (call-steps all more call s (λ a. refl) held).1)
 
-pieces-then : (a : SocketAddr) (calls : List Call) (call : Call) (s : State) → pieces_for a (calls ++ call ∷ []) s ≡ pieces_for a calls s ++ piece_for a call (state_after_all s calls)
-pieces-then a [] call s = append-nil (piece_for a call s)
+pieces-then : (a : SocketAddr) (calls : List Call) (call : Call) (s : State) → pieces_for a (calls ++ call ∷ []) s ≡ pieces_for a calls s ++ piece_in_call a call (state_after_all s calls)
+pieces-then a [] call s = append-nil (piece_in_call a call s)
 pieces-then a (x ∷ calls) call s =
-    ap (λ (l : List ℕ). piece_for a x s ++ l) (pieces-then a calls call (state_after x s))
-    ∙ sym (append_assoc (piece_for a x s) (pieces_for a calls (state_after x s)) (piece_for a call (state_after_all (state_after x s) calls)))
+    ap (λ (l : List ℕ). piece_in_call a x s ++ l) (pieces-then a calls call (state_after x s))
+    ∙ sym (append_assoc (piece_in_call a x s) (pieces_for a calls (state_after x s)) (piece_in_call a call (state_after_all (state_after x s) calls)))
 
 -- no stream holds anything at first
 abbrev pub HoldNothing : State → Type 0
 HoldNothing s = (x : Stream) → Has x s.streams → x.bytes ≡ []
 
-pub turns-received : (earlier : List Call) (call : Call) (first : State) → HoldNothing first → (one : Input) → Has one (handled call (state_after_all first earlier)) → IsReceived (earlier ++ call ∷ []) first one
+pub turns-received : (earlier : List Call) (call : Call) (first : State) → HoldNothing first → (one : Input) → Has one (handled call (state_after_all first earlier)) → HasArrived (earlier ++ call ∷ []) first one
 turns-received earlier call first empty one there = by one.stream refl
   where
     s : State
@@ -237,12 +237,12 @@ turns-received earlier call first empty one there = by one.stream refl
     before = run-held earlier (λ a. []) first (λ x h. ([], sym (empty x h)))
 
     after : SocketAddr → List ℕ
-    after a = pieces_for a earlier first ++ piece_for a call s
+    after a = pieces_for a earlier first ++ piece_in_call a call s
 
     known : (stream : Stream) → one.stream ≡ Some stream → Ends after stream.local stream.bytes
     known = (call-steps (λ a. pieces_for a earlier first) after call s (λ a. refl) before).0 one there
 
-    by : (o : Option Stream) → one.stream ≡ o → IsReceived (earlier ++ call ∷ []) first (record one { stream = o })
+    by : (o : Option Stream) → one.stream ≡ o → HasArrived (earlier ++ call ∷ []) first (record one { stream = o })
     by None e = tt
     by (Some stream) e = let (front, is) = known stream e in (front, pieces-then stream.local earlier call first ∙ is)
 
@@ -257,7 +257,7 @@ streams-received earlier now first empty x there =
     s = state_after_all first earlier
 
     after : SocketAddr → List ℕ
-    after a = pieces_for a earlier first ++ piece_for a (PollRecv now) s
+    after a = pieces_for a earlier first ++ piece_in_call a (PollRecv now) s
 
     known : Held after (state_after (PollRecv now) s).streams
     known = (call-steps (λ a. pieces_for a earlier first) after (PollRecv now) s (λ a. refl) (run-held earlier (λ a. []) first (λ y h. ([], sym (empty y h))))).1

@@ -25,7 +25,7 @@ use Rattle.turn_client_api.specs.declared.state.Mode.{Mode}
 use Rattle.turn_client_api.specs.declared.state.Mode.TheVariants.{Control, Waiting, Bound, Broken}
 use Rattle.turn_client_api.specs.declared.state.Stream.{Stream}
 use Rattle.turn_client_api.specs.Connections.{attempt_indicated, attempt_requested, bind_again, bind_answered, bind_step, connection_at, is_connected, accepts_attempt, not_bound}
-use Rattle.turn_client_api.specs.Effect.{allocate_denied, allocate_granted, closed, ended, fail_all, family_not_supported, has_code, in_phase}
+use Rattle.turn_client_api.specs.Effect.{allocate_denied, allocate_granted, closed, transaction_ended, fail_all, family_not_supported, has_code, in_phase}
 use Rattle.turn_client_api.specs.Grants.{find_allocation_to, is_connection_from, is_for_allocation, purposes_of, unlisted, wait}
 use Rattle.turn_client_api.specs.Handled.{Input, processed}
 use Rattle.turn_client_api.specs.Judgement.{Judgement, Unrelated, Challenged, Fatal, LateResponse, DataIndication, ConnectionAttempt, SignedRequest, SignedSuccess, SignedError, bind_judgement, connection_id_in, is_bind_of, judgement_of, lifetime_in, method_in, peer_in}
@@ -106,20 +106,20 @@ wrong-relists Authenticating message now s = still message now (record s { phase
 wrong-relists Allocated message now s = still message now (record s { phase = Allocated }) _ (adds-filter Never _ s.listed)
 wrong-relists Closed message now s = still message now (record s { phase = Closed }) _ (adds-filter Never _ s.listed)
 
-granted-relists : (message : List ℕ) (now : ℕ) (s : State) → Relists message now s (allocate_granted message now (ended (id_of message) s))
+granted-relists : (message : List ℕ) (now : ℕ) (s : State) → Relists message now s (allocate_granted message now (transaction_ended (id_of message) s))
 granted-relists message now s = by (lifetime_in message) refl
   where
-    by : (o : Option ℕ) → lifetime_in message ≡ o → Relists message now s (allocate_granted message now (ended (id_of message) s))
+    by : (o : Option ℕ) → lifetime_in message ≡ o → Relists message now s (allocate_granted message now (transaction_ended (id_of message) s))
     by None e = rw e (still message now s _ (adds-filter Never _ s.listed))
     by (Some lifetime) e = rw e (still message now s _ (adds-filter Never _ s.listed))
 
-denied-relists : (message : List ℕ) (now : ℕ) (s : State) → Relists message now s (allocate_denied (fresh_id s) message now (ended (id_of message) s))
+denied-relists : (message : List ℕ) (now : ℕ) (s : State) → Relists message now s (allocate_denied (fresh_id s) message now (transaction_ended (id_of message) s))
 denied-relists message now s = by (has_code family_not_supported message && leb 2 (length s.families)) refl
   where
     u : State
-    u = wait (AllocationCreateFailed IPV4 ∷ []) (record (in_phase s.phase (ended (id_of message) s)) { families = IPV6 ∷ [] })
+    u = wait (AllocationCreateFailed IPV4 ∷ []) (record (in_phase s.phase (transaction_ended (id_of message) s)) { families = IPV6 ∷ [] })
 
-    by : (b : Bool) → (has_code family_not_supported message && leb 2 (length s.families)) ≡ b → Relists message now s (allocate_denied (fresh_id s) message now (ended (id_of message) s))
+    by : (b : Bool) → (has_code family_not_supported message && leb 2 (length s.families)) ≡ b → Relists message now s (allocate_denied (fresh_id s) message now (transaction_ended (id_of message) s))
     by false e = rw e (still message now s _ (adds-filter Never _ s.listed))
     by true e = rw e (
         adds-more _ s.listed (filter (λ l. not (is_for_allocation l.purpose)) s.listed) _ (adds-filter _ _ s.listed)

@@ -12,7 +12,7 @@ use Rattle.turn_client_api.specs.Receive.{recv_step}
 use Rattle.turn_client_api.specs.Steps.{state_after, state_after_all}
 use Rattle.turn_client_api.proofs.StreamFewerLemmas.{IsLessThan, turns-less}
 use Rattle.turn_client_api.proofs.StreamWeightLemmas.{weight, weight-le}
-use Rattle.turn_client_runs.specs.Cut.{AreNonempty, ArePieces, ArePolls, IsQuiet, IsSameInRuns, and_then, fed_pieces, given_by, given_in, given_in_run, joined, polled}
+use Rattle.turn_client_runs.specs.Cut.{AreNonempty, ArePieces, ArePolls, IsQuiet, IsSameInRuns, and_then, fed_pieces, outcome_payloads, given_in, given_in_run, joined, polled_until_none}
 use Rattle.turn_client_runs.proofs.PiecesLemmas.{any-cut}
 
 -- what calls return, and the state after them
@@ -21,19 +21,19 @@ run_from s calls = (given_in_run s calls, state_after_all s calls)
 
 -- ---- polls
 
-polls-same : (polls : List Call) (n now : ℕ) (s : State) → ArePolls now polls s → weight s.streams < n → run_from s polls ≡ polled n now s
-unfolding polled
+polls-same : (polls : List Call) (n now : ℕ) (s : State) → ArePolls now polls s → weight s.streams < n → run_from s polls ≡ polled_until_none n now s
+unfolding polled_until_none
 polls-same [] n now s none some = absurd none
 polls-same (call ∷ calls) zero now s is some = absurd (omega (arith, some))
 polls-same (call ∷ calls) (suc n) now s (e, ends) some =
-    subst (λ (c : Call). run_from s (c ∷ calls) ≡ and_then (polled n now) (poll_recv_step now s)) (sym e)
+    subst (λ (c : Call). run_from s (c ∷ calls) ≡ and_then (polled_until_none n now) (poll_recv_step now s)) (sym e)
     (by (poll_recv_step now s) ends (turns-less (max_steps s) now s) (λ t is less. polls-same calls n now t is less))
   where
     Later : Type 0
-    Later = (t : State) → ArePolls now calls t → weight t.streams < n → run_from t calls ≡ polled n now t
+    Later = (t : State) → ArePolls now calls t → weight t.streams < n → run_from t calls ≡ polled_until_none n now t
 
     by : (r : Option Payload × State) → MatchOption r.0 (calls ≡ []) (λ payload. ArePolls now calls r.1) → IsLessThan (weight s.streams) r → Later
-        → (option_to_list r.0 ++ given_in_run r.1 calls, state_after_all r.1 calls) ≡ and_then (polled n now) r
+        → (option_to_list r.0 ++ given_in_run r.1 calls, state_after_all r.1 calls) ≡ and_then (polled_until_none n now) r
     by (None, t) over less later = rw over refl
     by (Some payload, t) is less later =
         let lighter : weight t.streams < weight s.streams = less refl in
@@ -53,7 +53,7 @@ unfolding fed_pieces
 pieces-run a [] now calls s over = rw over refl
 pieces-run a (piece ∷ pieces) now calls s (polls, later, e, some, are, more) =
     let came = recv_step Tcp s.remote a piece now s in
-    let given = given_by came.0 in
+    let given = outcome_payloads came.0 in
     let most = weight-le came.1.streams in
     let polls-are = polls-same polls (max_steps came.1 + 1) now came.1 are (omega (arith, most)) in
     let u = state_after_all came.1 polls in
@@ -62,7 +62,7 @@ pieces-run a (piece ∷ pieces) now calls s (polls, later, e, some, are, more) =
     (ap (λ (p : List Payload × State). (given ++ p.0, p.1)) (run-append polls later came.1)
     ∙ (ap (λ (p : List Payload × State). (given ++ (given_in_run came.1 polls ++ p.0), p.1)) rest
     ∙ (ap (λ (q : List Payload × State). (given ++ (q.0 ++ (fed_pieces a pieces now q.1).0), (fed_pieces a pieces now q.1).1)) polls-are
-    ∙ again given (polled (max_steps came.1 + 1) now came.1))))
+    ∙ again given (polled_until_none (max_steps came.1 + 1) now came.1))))
   where
     again : (given : List Payload) (q : List Payload × State) → ◌≡◌ {A = List Payload × State} (given ++ (q.0 ++ (fed_pieces a pieces now q.1).0), (fed_pieces a pieces now q.1).1) ((given ++ q.0) ++ (fed_pieces a pieces now q.1).0, (fed_pieces a pieces now q.1).1)
     again given q = ap (λ (l : List Payload). (l, (fed_pieces a pieces now q.1).1)) (sym (append_assoc given q.0 (fed_pieces a pieces now q.1).0))

@@ -15,7 +15,7 @@ use Rattle.turn_client_api.specs.declared.grant.Purpose.TheVariants.{ForAllocati
 use Rattle.turn_client_api.specs.declared.state.Phase.{Phase}
 use Rattle.turn_client_api.specs.declared.state.Phase.TheVariants.{New, Requesting, Authenticating, Allocated, Closed}
 use Rattle.turn_client_api.specs.Connections.{bind_step, connection_at}
-use Rattle.turn_client_api.specs.Effect.{closed, ended, fail_all}
+use Rattle.turn_client_api.specs.Effect.{closed, transaction_ended, fail_all}
 use Rattle.turn_client_api.specs.Grants.{purposes_of}
 use Rattle.turn_client_api.specs.Judgement.{Challenged, Fatal, Unrelated, answers_one, challenge_in, class_in, judgement_of}
 use Rattle.turn_client_api.specs.LawsAllocates.{AllocatesInOrder}
@@ -201,7 +201,7 @@ module _ (message : List ℕ) (now : ℕ) (s : State) (order : AllocatesInOrder 
       by true f None g = let is : (challenge_step message d now s).1 ≡ s = rw (f, g) refl in same-signs s end is h
       by true f (Some purpose) g =
           let one : IsOfOneId s.transactions = subst (λ (p : Phase). SignsIn p s.config s.held s.transactions) e h in
-          let u = with_held d (record (ended (id_of message) s) { phase = phase_after s.phase; challenges = s.challenges + 1 }) in
+          let u = with_held d (record (transaction_ended (id_of message) s) { phase = phase_after s.phase; challenges = s.challenges + 1 }) in
           let all = retried-signs (id_of message) purpose d u one awaited (for-allocation (id_of message) s purpose order (rw e tt) (retried-has (purposes_of (id_of message) s) purpose g)) refl refl in
           let is : (challenge_step message d now s).1 ≡ state_after_retry s (id_of message) purpose d now = rw (f, g) refl in
           let phase : phase_after s.phase ≡ Authenticating = ap phase_after e in
@@ -219,8 +219,8 @@ module _ (message : List ℕ) (now : ℕ) (s : State) (order : AllocatesInOrder 
       by true f None g =
           let judged : judgement_of s message ≡ Fatal = rw (e, f, g) refl in
           let is : (message_step message now s).1 ≡ (wrong_step message s).1 = rw judged refl in
-          let ends : (wrong_step message s).1 ≡ closed (fail_all (ended (id_of message) s)) = rw e refl in
-          closed-signs (fail_all (ended (id_of message) s)) (after message now s) (is ∙ ends)
+          let ends : (wrong_step message s).1 ≡ closed (fail_all (transaction_ended (id_of message) s)) = rw e refl in
+          closed-signs (fail_all (transaction_ended (id_of message) s)) (after message now s) (is ∙ ends)
       by true f (Some d) g =
           let judged : judgement_of s message ≡ Challenged d = rw (e, f, g) refl in
           let is : (message_step message now s).1 ≡ (challenge_step message d now s).1 = rw judged refl in

@@ -18,7 +18,7 @@ use Rattle.turn_client_api.specs.Payloads.{Payload, Outcome, Handled, Ignored, P
 use Rattle.turn_client_api.specs.Streams.{broken_at, frame_step, framed_by, framed_stream_step, go_on, is_ready, max_steps, payload_in, poll_recv_step, stream_at, next_frame_step, first_ready_step, detached_frame_step, steps_until_payload, with_bytes, without_stream}
 use Rattle.turn_client_api.specs.Receive.{connection_gone, first_frame_step, is_from_server, piece_step, recv_step, stream_step, then_all}
 use Rattle.turn_client_api.specs.Connections.{connection_at}
-use Rattle.turn_client_api.specs.Handled.{Input, datagram_input, fed_taken, frame_taken, handled, is_front, piece_inputs, poll_recv_inputs, recv_inputs, stream_inputs, taken, taken_first, taken_in, taken_of_len, then_taken, inputs_taken, unless_given}
+use Rattle.turn_client_api.specs.Handled.{Input, datagram_input, fed_taken, frame_taken, handled, is_front, piece_inputs, poll_recv_inputs, recv_inputs, stream_inputs, stream_inputs_taken, taken_first, taken_in, taken_of_len, then_taken, inputs_taken, unless_given}
 use Rattle.turn_client_api.specs.LawsHandled.{TakesInput}
 use Rattle.turn_client_api.specs.Steps.{state_after}
 use Rattle.turn_client_api.specs.declared.call.Call.{Call}
@@ -98,7 +98,7 @@ module _ (p : Stream → Bool) (stream : Stream) (s : State) (found : find p s.s
   turned-takes l (Bound peer) bytes now some = let less = emptied in omega (arith, less, some)
   turned-takes l Broken bytes now some = let less = emptied in omega (arith, less)
 
-  pub turn-takes : (l : Bool) (bytes : List ℕ) (now : ℕ) → 0 < length bytes → (let u = record stream { bytes = bytes } in TakesOut bytes (taken l u now s) (next_frame_step u now s))
+  pub turn-takes : (l : Bool) (bytes : List ℕ) (now : ℕ) → 0 < length bytes → (let u = record stream { bytes = bytes } in TakesOut bytes (stream_inputs_taken l u now s) (next_frame_step u now s))
   turn-takes l bytes now some = turned-takes l stream.mode bytes now some
 
 -- ---- all streams
@@ -123,7 +123,7 @@ turns-take (suc n) now s = by (find is_ready s.streams) refl (λ t. turns-take n
     by (Some stream) e more =
         let some = ready-waits stream.mode stream stream.bytes (found-ready s.streams stream e) in
         let takes = turn-takes is_ready stream s e false stream.bytes now some in
-        go_on-takes (steps_until_payload n now) (inputs_taken n now) (taken false stream now s) s (next_frame_step stream now s) (omega (arith, takes)) (more (next_frame_step stream now s).1)
+        go_on-takes (steps_until_payload n now) (inputs_taken n now) (stream_inputs_taken false stream now s) s (next_frame_step stream now s) (omega (arith, takes)) (more (next_frame_step stream now s).1)
 
 poll-takes : (now : ℕ) (s : State) → Takes (poll_recv_inputs now s) s (poll_recv_step now s).1
 poll-takes now s = turns-take (max_steps s) now s

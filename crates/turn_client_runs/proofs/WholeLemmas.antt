@@ -16,29 +16,29 @@ use Rattle.turn_client_api.specs.declared.state.Mode.TheVariants.{Control, Waiti
 use Rattle.turn_client_api.specs.declared.state.Stream.{Stream}
 use Rattle.turn_client_api.specs.Payloads.{Payload}
 use Rattle.turn_client_api.specs.Streams.{broken_at, frame_step, sent_by, stream_at}
-use Rattle.turn_client_runs.specs.Cut.{framed_whole, after_frame, given_by, left, mode_at, part_at, read_from_front, whole, whole_in}
+use Rattle.turn_client_runs.specs.Cut.{framed_whole, after_frame, outcome_payloads, left, mode_at, part_at_step, read_from_front, whole, whole_in}
 use Rattle.turn_client_runs.proofs.FollowLemmas.{IsFramed, control-framed, waiting-framed}
 use Rattle.turn_client_runs.proofs.StreamAtLemmas.{broken-found, found-local}
 
 module _ (a : SocketAddr) (now : ℕ) (s : State) where
   -- there is no first whole part
   pub whole-waits : (bytes : List ℕ) → T.size_in (mode_at a s) bytes ≡ None → whole a now s bytes ≡ left s bytes
-  whole-waits bytes e = by_first (λ t. T.size_in (mode_at a t)) (part_at a now) (size_in-IsPrefixCut (mode_at a)) s bytes None e
+  whole-waits bytes e = by_first (λ t. T.size_in (mode_at a t)) (part_at_step a now) (size_in-IsPrefixCut (mode_at a)) s bytes None e
 
   -- there is a first one
-  pub whole-part : (bytes : List ℕ) (k : ℕ) → T.size_in (mode_at a s) bytes ≡ Some k → (p : State × List Payload) → part_at a now s (take k bytes) ≡ p → whole a now s bytes ≡ behind p.1 (whole a now p.0 (drop k bytes))
+  pub whole-part : (bytes : List ℕ) (k : ℕ) → T.size_in (mode_at a s) bytes ≡ Some k → (p : State × List Payload) → part_at_step a now s (take k bytes) ≡ p → whole a now s bytes ≡ behind p.1 (whole a now p.0 (drop k bytes))
   whole-part bytes k e p is =
-      by_first (λ t. T.size_in (mode_at a t)) (part_at a now) (size_in-IsPrefixCut (mode_at a)) s bytes (Some k) e
+      by_first (λ t. T.size_in (mode_at a t)) (part_at_step a now) (size_in-IsPrefixCut (mode_at a)) s bytes (Some k) e
       ∙ ap (λ (q : State × List Payload). behind q.1 (whole a now q.0 (drop k bytes))) is
 
   -- a byte that is not part of a frame is a part
-  whole-byte : (T.Framed ≡ mode_at a s → ⊥) → (b : ℕ) (bytes : List ℕ) (p : State × List Payload) → part_at a now s (b ∷ []) ≡ p → whole a now s (b ∷ bytes) ≡ behind p.1 (whole a now p.0 bytes)
+  whole-byte : (T.Framed ≡ mode_at a s → ⊥) → (b : ℕ) (bytes : List ℕ) (p : State × List Payload) → part_at_step a now s (b ∷ []) ≡ p → whole a now s (b ∷ bytes) ≡ behind p.1 (whole a now p.0 bytes)
   whole-byte other b bytes p is =
-      byte-drained (mode_at a) (part_at a now) s b bytes (λ e. other (sym e))
+      byte-drained (mode_at a) (part_at_step a now) s b bytes (λ e. other (sym e))
       ∙ ap (λ (q : State × List Payload). behind q.1 (whole a now q.0 bytes)) is
 
   -- bytes of a broken or missing stream are dropped
-  pub whole-unmeant : mode_at a s ≡ T.Broken → ((b : ℕ) → part_at a now s (b ∷ []) ≡ (s, [])) → (bytes : List ℕ) → whole a now s bytes ≡ left s []
+  pub whole-unmeant : mode_at a s ≡ T.Broken → ((b : ℕ) → part_at_step a now s (b ∷ []) ≡ (s, [])) → (bytes : List ℕ) → whole a now s bytes ≡ left s []
   whole-unmeant e part [] = whole-waits [] (rw e refl)
   whole-unmeant e part (b ∷ bytes) = whole-byte other b bytes (s, []) (part b) ∙ ap (λ (d : Drained State Payload). behind [] d) (whole-unmeant e part bytes)
     where
@@ -46,7 +46,7 @@ module _ (a : SocketAddr) (now : ℕ) (s : State) where
       other f = let clash : T.Framed ≡ T.Broken = f ∙ e in cc
 
   -- a bound stream returns its bytes
-  pub whole-bound : (peer : SocketAddr) → mode_at a s ≡ T.Bound → ((b : ℕ) → part_at a now s (b ∷ []) ≡ (s, sent_by peer (b ∷ []) None ∷ [])) → (bytes : List ℕ) → whole a now s bytes ≡ record { state = s; given = map (λ b. sent_by peer (b ∷ []) None) bytes; rest = [] }
+  pub whole-bound : (peer : SocketAddr) → mode_at a s ≡ T.Bound → ((b : ℕ) → part_at_step a now s (b ∷ []) ≡ (s, sent_by peer (b ∷ []) None ∷ [])) → (bytes : List ℕ) → whole a now s bytes ≡ record { state = s; given = map (λ b. sent_by peer (b ∷ []) None) bytes; rest = [] }
   whole-bound peer e part [] = whole-waits [] (rw e refl)
   whole-bound peer e part (b ∷ bytes) =
       whole-byte other b bytes (s, sent_by peer (b ∷ []) None ∷ []) (part b)
@@ -84,7 +84,7 @@ module _ (a : SocketAddr) (now : ℕ) (c : Bool) (m : Mode) (is : IsFramed c m) 
   pub whole-breaks : (bytes : List ℕ) → begins_no_frame bytes ≡ true → whole a now s bytes ≡ left (broken_at a s) []
   whole-breaks [] f = cc
   whole-breaks (b ∷ bytes) f =
-      let part-is : part_at a now s (b ∷ []) ≡ (broken_at a s, []) = rw e (is.part stream (b ∷ []) now s ∙ ap (λ (l : SocketAddr). (broken_at l s, [])) (found-local a s here e)) in
+      let part-is : part_at_step a now s (b ∷ []) ≡ (broken_at a s, []) = rw e (is.part stream (b ∷ []) now s ∙ ap (λ (l : SocketAddr). (broken_at l s, [])) (found-local a s here e)) in
       whole-part a now s (b ∷ bytes) 1 (size-is (b ∷ bytes) (Some 1) (rw f refl)) (broken_at a s, []) part-is
       ∙ ap (λ (d : Drained State Payload). behind [] d) (broken-whole a now (broken_at a s) (record stream { bytes = [] }) (broken-found a s here e) bytes)
 
@@ -98,8 +98,8 @@ module _ (a : SocketAddr) (now : ℕ) (c : Bool) (m : Mode) (is : IsFramed c m) 
       let w = frame_len-IsWhole bytes k g in
       let p = frame_step here (take k bytes) now s in
       let long : eqb (length (take k bytes)) 1 ≡ false = ne_eqb (length (take k bytes)) 1 (λ one. let same = length-take-le k bytes w.within in absurd (omega (arith, one, same, w.least))) in
-      let part-is : part_at a now s (take k bytes) ≡ (p.1, given_by p.0) = rw e (is.part stream (take k bytes) now s ∙ rw long refl) in
-      whole-part a now s bytes k (size-is bytes (Some k) (unless _ _ _ f ∙ g)) (p.1, given_by p.0) part-is
+      let part-is : part_at_step a now s (take k bytes) ≡ (p.1, outcome_payloads p.0) = rw e (is.part stream (take k bytes) now s ∙ rw long refl) in
+      whole-part a now s bytes k (size-is bytes (Some k) (unless _ _ _ f ∙ g)) (p.1, outcome_payloads p.0) part-is
 
   pub whole-framed : (bytes : List ℕ) → whole a now s bytes ≡ framed_whole a here now s bytes
   whole-framed bytes = by (begins_no_frame bytes) refl (frame_len bytes) refl

@@ -13,18 +13,18 @@ use Rattle.turn_client_runs.specs.Granted.{HoldsThrough}
 use Rattle.turn_client_runs.specs.Inputs.{IsAmong, handled_in}
 
 -- its request is no longer outstanding
-abbrev pub IsAnswered : Input → Type 0
-IsAnswered one = IsNotAwaited one.bytes (processed one).1
+abbrev pub HasTransactionEnded : Input → Type 0
+HasTransactionEnded one = IsNotAwaited one.bytes (processed one).1
 
 -- One of these inputs bound the stream at this local address to this peer: by a signed success to the
 -- outstanding CONNECTION_BIND that was made for it, which is no longer outstanding after the input (RFC
 -- 6062, section 4.3).
 abbrev pub HasSuccess : SocketAddr → SocketAddr → List Input → Type 0
-HasSuccess local peer turns = IsAmong (λ one. IsBindInput local peer one × IsAnswered one) turns
+HasSuccess local peer turns = IsAmong (λ one. IsBindInput local peer one × HasTransactionEnded one) turns
 
 -- so did one of these inputs for the data connection
 abbrev pub HasConnectionSuccess : DataConnection → List Input → Type 0
-HasConnectionSuccess c turns = IsAmong (λ one. IsConnecting c one × IsAnswered one) turns
+HasConnectionSuccess c turns = IsAmong (λ one. IsConnecting c one × HasTransactionEnded one) turns
 
 -- one of these calls bound the stream at this local address to this peer by such an input, and it is bound
 -- since

@@ -9,7 +9,7 @@ use Rattle.turn_client_api.specs.Payloads.{is_message}
 use Rattle.turn_client_api.specs.Handled.{Input, processed}
 use Rattle.turn_client_api.specs.LawsHandled.{IsOverControl}
 use Rattle.turn_client_api.specs.LawsReplies.{IsReplyAccepted}
-use Rattle.turn_client_api.specs.LawsSteps.{IsCounted}
+use Rattle.turn_client_api.specs.LawsSteps.{IsChallengeCounted}
 use Rattle.turn_client_api.specs.declared.call.Call.{Call}
 use Rattle.turn_client_runs.specs.Inputs.{IsAmong, handled_in}
 
@@ -26,7 +26,7 @@ pub record IsChallengeInput (one : Input) : Type 0 where
 
 -- it is counted if it is answered
 abbrev pub CountsIt : Input → Type 0
-CountsIt one = IsCounted one.before (processed one).1
+CountsIt one = IsChallengeCounted one.before (processed one).1
 
 -- the input answers a challenge
 abbrev pub is_answer : Input → Bool

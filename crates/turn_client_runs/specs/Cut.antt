@@ -35,16 +35,16 @@ abbrev pub mode_at : SocketAddr → State → T.Mode
 mode_at local s = option_map_or (λ stream. meant stream.mode) (stream_at local s) T.Broken
 
 -- a payload of a peer, owned, or nothing
-abbrev pub given_by : Outcome → List Payload
-given_by (PeerData payload) = record payload { place = None } ∷ []
-given_by _ = []
+abbrev pub outcome_payloads : Outcome → List Payload
+outcome_payloads (PeerData payload) = record payload { place = None } ∷ []
+outcome_payloads _ = []
 
 -- A whole frame has four bytes at least. A byte alone is one with which no frame begins: it breaks the
 -- stream.
 abbrev pub framed_step : Stream → List ℕ → ℕ → State → State × List Payload
 framed_step stream frame now s =
     if length frame == 1 then (broken_at stream.local s, [])
-    else ((frame_step stream frame now s).1, given_by (frame_step stream frame now s).0)
+    else ((frame_step stream frame now s).1, outcome_payloads (frame_step stream frame now s).0)
 
 -- the effect of one frame of a stream, or of one byte of a bound one, and what it returns
 abbrev pub part_step : Stream → List ℕ → ℕ → State → State × List Payload
@@ -56,13 +56,13 @@ part_step stream part now s = by stream.mode
     by (Bound peer) = (s, sent_by peer part None ∷ [])
     by Broken = (s, [])
 
-abbrev pub part_at : SocketAddr → ℕ → State → List ℕ → State × List Payload
-part_at local now s part = option_map_or (λ stream. part_step stream part now s) (stream_at local s) (s, [])
+abbrev pub part_at_step : SocketAddr → ℕ → State → List ℕ → State × List Payload
+part_at_step local now s part = option_map_or (λ stream. part_step stream part now s) (stream_at local s) (s, [])
 
 -- The parts of these bytes, each processed in the state that the one before left, in which the stream holds
 -- nothing. The mode is read anew for each part.
 abbrev pub whole : SocketAddr → ℕ → State → List ℕ → Drained State Payload
-whole local now s bytes = drained (λ t. T.size_in (mode_at local t)) (part_at local now) s bytes
+whole local now s bytes = drained (λ t. T.size_in (mode_at local t)) (part_at_step local now) s bytes
 
 -- ---- the whole, read from its start
 
@@ -73,7 +73,7 @@ left s rest = record { state = s; given = []; rest = rest }
 -- the first frame has so many bytes: what it returns, and then the bytes after it
 abbrev pub after_frame : SocketAddr → Stream → ℕ → ℕ → State → List ℕ → Drained State Payload
 after_frame local stream len now s bytes =
-    let p = frame_step stream (take len bytes) now s in behind (given_by p.0) (whole local now p.1 (drop len bytes))
+    let p = frame_step stream (take len bytes) now s in behind (outcome_payloads p.0) (whole local now p.1 (drop len bytes))
 
 -- bytes that no frame begins with break the stream, and less than a frame is left
 abbrev pub framed_whole : SocketAddr → Stream → ℕ → State → List ℕ → Drained State Payload
@@ -115,16 +115,16 @@ and_then next (None, t) = ([], t)
 and_then next (Some payload, t) = (payload ∷ (next t).0, (next t).1)
 
 -- polled up to the first none, at most so often
-unfoldable pub polled : ℕ → ℕ → State → List Payload × State
-polled zero now s = ([], s)
-polled (suc n) now s = and_then (polled n now) (poll_recv_step now s)
+unfoldable pub polled_until_none : ℕ → ℕ → State → List Payload × State
+polled_until_none zero now s = ([], s)
+polled_until_none (suc n) now s = and_then (polled_until_none n now) (poll_recv_step now s)
 
 -- a piece is received from the server for this local address, and then the client is polled
 abbrev pub fed_piece : SocketAddr → List ℕ → ℕ → State → List Payload × State
 fed_piece local piece now s =
     let came = recv_step Tcp s.remote local piece now s in
-    let more = polled (max_steps came.1 + 1) now came.1 in
-    (given_by came.0 ++ more.0, more.1)
+    let more = polled_until_none (max_steps came.1 + 1) now came.1 in
+    (outcome_payloads came.0 ++ more.0, more.1)
 
 unfoldable pub fed_pieces : SocketAddr → List (List ℕ) → ℕ → State → List Payload × State
 fed_pieces local [] now s = ([], s)
@@ -133,9 +133,9 @@ fed_pieces local (piece ∷ pieces) now s =
     let others = fed_pieces local pieces now one.1 in
     (one.0 ++ others.0, others.1)
 
-abbrev pub is_control : Option Stream → Bool
-is_control None = false
-is_control (Some stream) = by stream.mode
+abbrev pub is_control_stream : Option Stream → Bool
+is_control_stream None = false
+is_control_stream (Some stream) = by stream.mode
   where
     by : Mode → Bool
     by Control = true
@@ -143,11 +143,11 @@ is_control (Some stream) = by stream.mode
 
 -- payloads of the control connection count one by one, those of a data connection byte by byte
 abbrev pub one_by_one : Bool → Payload → List Payload
-one_by_one is_control payload =
-    if is_control then payload ∷ [] else map (λ b. sent_by payload.peer (b ∷ []) None) payload.bytes
+one_by_one is_control_stream payload =
+    if is_control_stream then payload ∷ [] else map (λ b. sent_by payload.peer (b ∷ []) None) payload.bytes
 
 abbrev pub joined : SocketAddr → State → List Payload → List Payload
-joined local s payloads = flat_map (one_by_one (is_control (stream_at local s))) payloads
+joined local s payloads = flat_map (one_by_one (is_control_stream (stream_at local s))) payloads
 
 -- Pieces of a stream return what all their bytes return, and leave the state that these leave.
 abbrev pub IsSameForAnyCut : SocketAddr → List (List ℕ) → ℕ → State → Type 0
@@ -172,7 +172,7 @@ AreNonempty pieces = All (λ piece. piece ≢ []) pieces
 -- ---- the same as calls of a run
 
 abbrev pub given_in : Call → State → List Payload
-given_in (Recv packet now) s = given_by (packet_step packet now s).0
+given_in (Recv packet now) s = outcome_payloads (packet_step packet now s).0
 given_in (PollRecv now) s = option_to_list (poll_recv_step now s).0
 given_in _ s = []
 
@@ -189,14 +189,14 @@ ArePolls now (call ∷ calls) s =
     × MatchOption (poll_recv_step now s).0 (calls ≡ []) (λ payload. ArePolls now calls (poll_recv_step now s).1)
 
 -- from the server, for this local address
-abbrev pub piece_for : SocketAddr → List ℕ → State → Transmit (List ℕ)
-piece_for local piece s = record { payload = piece; transport = Tcp; from = s.remote; to = local }
+abbrev pub packet_with_piece : SocketAddr → List ℕ → State → Transmit (List ℕ)
+packet_with_piece local piece s = record { payload = piece; transport = Tcp; from = s.remote; to = local }
 
 -- each piece is received, none of them empty, and then the client is polled, all at this time
 abbrev pub ArePieces : SocketAddr → List (List ℕ) → ℕ → List Call → State → Type 0
 ArePieces local [] now calls s = calls ≡ []
 ArePieces local (piece ∷ pieces) now calls s =
-    (polls : List Call) × (later : List Call) × (calls ≡ Recv (piece_for local piece s) now ∷ (polls ++ later)) × (piece ≢ [])
+    (polls : List Call) × (later : List Call) × (calls ≡ Recv (packet_with_piece local piece s) now ∷ (polls ++ later)) × (piece ≢ [])
     × ArePolls now polls (recv_step Tcp s.remote local piece now s).1
     × ArePieces local pieces now later (state_after_all (recv_step Tcp s.remote local piece now s).1 polls)
 

@@ -33,7 +33,7 @@ use Rattle.turn_client_api.specs.LawsHandled.{IsDoneBy, IsOverControl, IsOverWai
 use Rattle.turn_client_api.specs.LawsReplies.{IsAwaited, IsNotAwaited}
 use Rattle.turn_client_api.specs.LawsRequests.{AsksFor, IsListedFor, IsMade}
 use Rattle.turn_client_api.specs.Requests.{fresh_id, request_for}
-use Rattle.turn_client_runs.specs.Received.{IsReceived}
+use Rattle.turn_client_runs.specs.Received.{HasArrived}
 
 -- ---- what a reply grants
 
@@ -177,7 +177,7 @@ pub record IsAnsweredIn (Did : Purpose → Input → Type 0) (P : State → Type
   pub back : List Input
   pub cut : handled call (state_after_all first earlier) ≡ front ++ turn ∷ back
   pub comes : ComesIn call turn
-  pub received : IsReceived (earlier ++ call ∷ []) first turn
+  pub received : HasArrived (earlier ++ call ∷ []) first turn
   pub purpose : Purpose
   pub did : Did purpose turn
   pub asked : WasAskedBefore (id_of turn.bytes) purpose earlier first front

@@ -20,15 +20,15 @@ payloads_in s [] = []
 payloads_in s (call ∷ calls) = payloads_by call s ++ payloads_in (state_after call s) calls
 
 -- the data of peers that a call returns
-abbrev pub answered : Call → State → List Payload
-answered (Recv packet now) s = option_to_list (payload_in (packet_step packet now s).0)
-answered (PollRecv now) s = option_to_list (poll_recv_step now s).0
-answered _ s = []
+abbrev pub delivered_by : Call → State → List Payload
+delivered_by (Recv packet now) s = option_to_list (payload_in (packet_step packet now s).0)
+delivered_by (PollRecv now) s = option_to_list (poll_recv_step now s).0
+delivered_by _ s = []
 
 -- the data of peers that the calls return, in order
 abbrev pub answered_in : State → List Call → List Payload
 answered_in s [] = []
-answered_in s (call ∷ calls) = answered call s ++ answered_in (state_after call s) calls
+answered_in s (call ∷ calls) = delivered_by call s ++ answered_in (state_after call s) calls
 
 -- one of these inputs did it
 abbrev pub IsAmong : (Input → Type 0) → List Input → Type 0

@@ -17,7 +17,7 @@ use Rattle.turn_client_runs.specs.Cut.{ArePieces, given_in_run, joined, whole_of
 use Rattle.turn_client_runs.specs.Granted.{ComesIn, HasReply}
 use Rattle.turn_client_runs.specs.Held.{HeldFromChallenge}
 use Rattle.turn_client_runs.specs.Peers.{IcmpIsOfPermitted, ReceivesOnlyPermitted}
-use Rattle.turn_client_runs.specs.Received.{IsReceived}
+use Rattle.turn_client_runs.specs.Received.{HasArrived}
 use Rattle.turn_client_runs.specs.Replies.{CountsOnce, EachReply, EndsItsRequest}
 use Rattle.turn_client_runs.specs.Inputs.{handled_in}
 use Rattle.turn_client_api.specs.Steps.{state_after_all}
@@ -51,7 +51,7 @@ BoundHaveSuccess first calls =
 abbrev pub TurnsCameIn : State → List Call → Type 0
 TurnsCameIn first calls =
     (earlier : List Call) (call : Call) (later : List Call) (one : Input) → calls ≡ earlier ++ call ∷ later
-    → Contains (handled call (state_after_all first earlier)) one → ComesIn call one × IsReceived (earlier ++ call ∷ []) first one
+    → Contains (handled call (state_after_all first earlier)) one → ComesIn call one × HasArrived (earlier ++ call ∷ []) first one
 
 -- each payload is of a permitted peer, and an ICMP report is about a permitted one
 abbrev pub DeliversOnlyPermitted : State → List Call → Type 0

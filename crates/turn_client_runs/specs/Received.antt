@@ -21,24 +21,24 @@ unless_broken Broken piece = []
 unless_broken mode piece = piece
 
 -- a piece that is received from the server over TCP, for the stream at this local address
-abbrev pub piece_for : SocketAddr → Call → State → List ℕ
-piece_for local (Recv packet now) s =
+abbrev pub piece_in_call : SocketAddr → Call → State → List ℕ
+piece_in_call local (Recv packet now) s =
     if is_from_server packet.transport packet.from s && same_address packet.to local then by s.transport (stream_at packet.to s) else []
   where
     by : TransportType → Option Stream → List ℕ
     by Tcp (Some stream) = unless_broken stream.mode packet.payload
     by _ _ = []
-piece_for local _ s = []
+piece_in_call local _ s = []
 
 -- all such pieces of these calls, joined
 abbrev pub pieces_for : SocketAddr → List Call → State → List ℕ
 pieces_for local [] s = []
-pieces_for local (call ∷ calls) s = piece_for local call s ++ pieces_for local calls (state_after call s)
+pieces_for local (call ∷ calls) s = piece_in_call local call s ++ pieces_for local calls (state_after call s)
 
 -- What the stream of the input holds ends what was received for it by these calls, so that its first frame
 -- was received unchanged. A datagram has no stream.
-abbrev pub IsReceived : List Call → State → Input → Type 0
-IsReceived calls first one = by one.stream
+abbrev pub HasArrived : List Call → State → Input → Type 0
+HasArrived calls first one = by one.stream
   where
     by : Option Stream → Type 0
     by None = ⊤

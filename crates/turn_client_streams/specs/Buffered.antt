@@ -7,8 +7,8 @@ use Rattle.turn_client_api.specs.declared.state.Mode.TheVariants.{Broken}
 use Rattle.turn_client_api.specs.declared.state.Stream.{Stream}
 
 -- the stream with these bytes
-abbrev pub holding : List ℕ → Stream → Stream
-holding bytes stream = record stream { bytes = bytes }
+abbrev pub with_content : List ℕ → Stream → Stream
+with_content bytes stream = record stream { bytes = bytes }
 
 -- its bytes have this mode
 abbrev pub meant : Mode → Stream → Stream
@@ -19,12 +19,12 @@ abbrev pub broken : Stream → Stream
 broken stream = record stream { mode = Broken; bytes = [] }
 
 -- the first frame, if the whole of it is present (RFC 8656, section 12.5)
-abbrev pub front_of : Stream → Option (List ℕ)
-front_of stream = option_map (λ len. take len stream.bytes) (frame_len stream.bytes)
+abbrev pub front_frame : Stream → Option (List ℕ)
+front_frame stream = option_map (λ len. take len stream.bytes) (frame_len stream.bytes)
 
 -- that frame is dropped
 abbrev pub passed : Stream → Stream
-passed stream = option_map_or (λ len. holding (drop len stream.bytes) stream) (frame_len stream.bytes) stream
+passed stream = option_map_or (λ len. with_content (drop len stream.bytes) stream) (frame_len stream.bytes) stream
 
 -- that frame is dropped, and bytes that no frame begins with break the stream
 abbrev pub without_front : Stream → Stream

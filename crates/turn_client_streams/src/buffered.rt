@@ -3,7 +3,7 @@
 ghost use Rattle.std.specs.Prelude.{◌≡◌, ◌<◌, ◌↔◌, ◌++◌, [], false, length, IsNone, IsTrue, OnOk, OnErr, option_copied};
 ghost use Rattle.turn_types.specs.Frames.{begins_no_frame};
 ghost use Rattle.turn_client_api.specs.Streams.{HoldsLittle, is_ready};
-ghost use Rattle.turn_client_streams.specs.Buffered.{broken, front_of, holding, meant, passed};
+ghost use Rattle.turn_client_streams.specs.Buffered.{broken, front_frame, with_content, meant, passed};
 
 mod incoming;
 
@@ -94,7 +94,7 @@ impl BufferedStream {
 
     /// The first frame, borrowed from the buffer, or `None` while it is not whole.
     pub fn front(&self) -> Option<&[u8]>
-        ensures exact { option_copied result ≡ front_of self.now }
+        ensures exact { option_copied result ≡ front_frame self.now }
         ensures little { IsNone result → begins_no_frame self.now.bytes ≡ false → length self.now.bytes < 65556 }
     {
         self.buffer.front()
@@ -123,7 +123,7 @@ impl BufferedStream {
     /// `AllocError` if memory allocation for the piece fails. The stream is then broken, since bytes of
     /// it are lost.
     pub fn feed(&mut self, piece: &[u8]) -> Result<(), AllocError>
-        ensures ok { OnOk result (self.new ≡ holding (self.old.bytes ++ piece.now) self.old) }
+        ensures ok { OnOk result (self.new ≡ with_content (self.old.bytes ++ piece.now) self.old) }
         ensures err { OnErr result (self.new ≡ broken self.old) }
     {
         match self.buffer.feed(piece) {
@@ -156,7 +156,7 @@ impl BufferedStream {
     /// The stream with its bytes; none of them remains here.
     pub(crate) fn take_out(&mut self) -> BufferedStream
         ensures stream { result ≡ self.old }
-        ensures after { self.new ≡ holding [] self.old }
+        ensures after { self.new ≡ with_content [] self.old }
     {
         BufferedStream {
             alloc: self.alloc,
@@ -168,7 +168,7 @@ impl BufferedStream {
 
     /// Holds the bytes of another stream, in place of its own.
     pub(crate) fn hold(&mut self, other: BufferedStream)
-        ensures { self.new ≡ holding other.bytes self.old }
+        ensures { self.new ≡ with_content other.bytes self.old }
     {
         let BufferedStream { buffer, .. } = other;
         self.buffer = buffer;

@@ -10,7 +10,7 @@ use Rattle.turn_client_api.specs.Streams.{payload_in, poll_recv_step}
 use Rattle.turn_client_api.specs.Steps.{packet_step}
 use Rattle.turn_client_api.specs.declared.call.Call.TheVariants as Calls
 use Rattle.turn_gather.specs.Gathering.{Gathering, is_checked_in}
-use Rattle.turn_gather.specs.Received.{gathered, given_up}
+use Rattle.turn_gather.specs.Received.{gathered, passed_or_dropped}
 use Rattle.turn_gather.specs.Drive.{after, all_replies, checked_payloads, client_after, gathered_reply, if_checked, passed_up, payload_given, polled_reply, reply_of, step}
 use Rattle.turn_gather.specs.declared.calls.call.GatherCall.{GatherCall}
 use Rattle.turn_gather.specs.declared.calls.call.GatherCall.TheVariants.{Candidates, IsChecked, Check, Recv, PollRecv, CreatePermission, SendTo, Poll, PollTransmit, PollEvent}
@@ -42,7 +42,7 @@ step-relays s t call reply e =
 abbrev one_passed : GatherReply → List PeerPayload
 one_passed reply = filter_map passed_up (reply ∷ [])
 
-given_up-passed : (b : Bool) (payload : Payload) (pairs : List (TransportType × SocketAddr)) → is_checked_in payload.transport payload.peer pairs ≡ b → one_passed (gathered_reply (given_up pairs payload)) ≡ if_checked pairs (Some payload)
+given_up-passed : (b : Bool) (payload : Payload) (pairs : List (TransportType × SocketAddr)) → is_checked_in payload.transport payload.peer pairs ≡ b → one_passed (gathered_reply (passed_or_dropped pairs payload)) ≡ if_checked pairs (Some payload)
 given_up-passed true payload pairs e = rw e refl
 given_up-passed false payload pairs e = rw e refl
 
@@ -52,7 +52,7 @@ gathered-passed O.Ignored pairs = refl
 gathered-passed (O.PeerData payload) pairs = given_up-passed (is_checked_in payload.transport payload.peer pairs) payload pairs refl
 gathered-passed (O.PeerIcmp transport peer icmp) pairs = refl
 
-polled-passed : (given : Option Payload) (pairs : List (TransportType × SocketAddr)) → one_passed (polled_reply (option_map (given_up pairs) given)) ≡ if_checked pairs given
+polled-passed : (given : Option Payload) (pairs : List (TransportType × SocketAddr)) → one_passed (polled_reply (option_map (passed_or_dropped pairs) given)) ≡ if_checked pairs given
 polled-passed None pairs = refl
 polled-passed (Some payload) pairs = given_up-passed (is_checked_in payload.transport payload.peer pairs) payload pairs refl
 

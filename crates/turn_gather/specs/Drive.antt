@@ -12,7 +12,7 @@ use Rattle.turn_client_api.specs.Transmit.{transmit_step}
 use Rattle.turn_client_api.specs.Answers.{event_step}
 use Rattle.turn_client_api.specs.Steps.{packet_step}
 use Rattle.turn_gather.specs.Gathering.{Gathering, check_step, is_checked_in}
-use Rattle.turn_gather.specs.Received.{Gathered, gathered, polled}
+use Rattle.turn_gather.specs.Received.{Gathered, gathered, gathered_poll}
 use Rattle.turn_gather.specs.Received as G
 use Rattle.turn_gather.specs.declared.calls.call.GatherCall.{GatherCall}
 use Rattle.turn_gather.specs.declared.calls.call.GatherCall.TheVariants.{Candidates, IsChecked, Check, Recv, PollRecv, CreatePermission, SendTo, Poll, PollTransmit, PollEvent}
@@ -44,7 +44,7 @@ reply_of Candidates s = Replies.Candidates (relayed_addresses_of s.client)
 reply_of (IsChecked transport peer) s = Replies.IsChecked (is_checked_in transport peer s.checked)
 reply_of (Check transport peer) s = Replies.Check (check_step transport peer s.checked).0
 reply_of (Recv packet now) s = gathered_reply (gathered s.checked (packet_step packet now s.client).0)
-reply_of (PollRecv now) s = polled_reply (polled now s)
+reply_of (PollRecv now) s = polled_reply (gathered_poll now s)
 reply_of (CreatePermission transport peer now) s = Replies.CreatePermission (create_permission_step transport peer now s.client).0
 reply_of (SendTo transport peer bytes now) s = Replies.SendTo (send_to_step transport peer bytes now s.client).0
 reply_of (Poll now) s = Replies.Poll (poll_step now s.client).0

@@ -28,15 +28,15 @@ pub data Gathered : Type 0 where
   Dropped : Gathered
 
 -- a payload is passed up if its pair is checked
-abbrev pub given_up : List (TransportType × SocketAddr) → Payload → Gathered
-given_up checked payload =
+abbrev pub passed_or_dropped : List (TransportType × SocketAddr) → Payload → Gathered
+passed_or_dropped checked payload =
     if is_checked_in payload.transport payload.peer checked then PassedUp payload else Dropped
 
 -- the result, from the client's outcome
 abbrev pub gathered : List (TransportType × SocketAddr) → Outcome → Gathered
 gathered checked O.Handled = Handled
 gathered checked O.Ignored = Ignored
-gathered checked (O.PeerData payload) = given_up checked payload
+gathered checked (O.PeerData payload) = passed_or_dropped checked payload
 gathered checked (O.PeerIcmp transport peer icmp) = Dropped
 
 -- the result that an answer stands for
@@ -66,5 +66,5 @@ abbrev pub received : {T : Type 0} → Transmit T → List ℕ → ℕ → Gathe
 received transmit bytes now s = gathered s.checked (client_step transmit bytes now s.client).0
 
 -- the result for the next payload in the buffered bytes of the streams
-abbrev pub polled : ℕ → Gathering → Option Gathered
-polled now s = option_map (given_up s.checked) (poll_recv_step now s.client).0
+abbrev pub gathered_poll : ℕ → Gathering → Option Gathered
+gathered_poll now s = option_map (passed_or_dropped s.checked) (poll_recv_step now s.client).0

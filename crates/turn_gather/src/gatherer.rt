@@ -10,7 +10,7 @@ ghost use Rattle.turn_client_api.specs.Poll.{poll_step};
 ghost use Rattle.turn_client_api.specs.Streams.{poll_recv_step};
 ghost use Rattle.turn_client_api.specs.Transmit.{transmit_step};
 ghost use Rattle.turn_gather.specs.Gathering.{Checks, is_checked_in};
-ghost use Rattle.turn_gather.specs.Received.{HandsOn, PassesUp, client_step, gathered_of, given_up, polled, received};
+ghost use Rattle.turn_gather.specs.Received.{HandsOn, PassesUp, client_step, gathered_of, passed_or_dropped, gathered_poll, received};
 
 use crate::error::GatherError;
 use crate::receive::GatherRecv;
@@ -156,7 +156,7 @@ impl<C: TurnClientApi> Gatherer<C> {
     /// [`TurnClientApi::poll_recv`].
     pub fn poll_recv(&mut self, now: Instant) -> Result<Option<GatherRecv<Vec<u8>>>, AllocError>
         requires now_in_range { now ≤ 2 ^ 62 }
-        ensures answer { IfOk result (λ given. option_map gathered_of given ≡ polled now self.old) }
+        ensures answer { IfOk result (λ given. option_map gathered_of given ≡ gathered_poll now self.old) }
         ensures after { OnOk result (self.new.client ≡ (poll_recv_step now self.old.client).1) }
         ensures no_memory { OnErr result (EndsAfterSteps now self.old.client self.new.client) }
         ensures checked { self.new.checked ≡ self.old.checked }
@@ -169,7 +169,7 @@ impl<C: TurnClientApi> Gatherer<C> {
 
     /// Passes up this data of a peer if its pair is checked, and drops it otherwise.
     fn pass_up<T: AsSlice<u8> + Debug + Drop>(&self, given: TurnPeerData<T>) -> GatherRecv<T>
-        ensures answer { gathered_of result ≡ given_up self.now.checked (given_payload given) }
+        ensures answer { gathered_of result ≡ passed_or_dropped self.now.checked (given_payload given) }
         ensures hands_on { PassesUp given result }
     {
         if self.is_checked(given.transport, given.peer) {

@@ -50,8 +50,8 @@ socket_of now fields = do
   Some (Calls.AllocatedTcpSocket tuple.0.0 tuple.0.1 places.0 places.1 now)
 
 -- T ADDR, of an allocation
-abbrev pub permissions_of : List (List ℕ) → Option Call
-permissions_of fields = option_map (λ a. Calls.Permissions a.0 a.1) (transport_and_address_of fields)
+abbrev pub permissions_call : List (List ℕ) → Option Call
+permissions_call fields = option_map (λ a. Calls.Permissions a.0 a.1) (transport_and_address_of fields)
 
 -- T IP, of a peer
 abbrev pub have_of : List (List ℕ) → Option Call
@@ -73,7 +73,7 @@ call_with now Name.Delete fields = without_arguments (Calls.Delete now) fields
 call_with now Name.Closed fields = option_map (λ e. Calls.TcpClosed e.0 e.1 now) (two_addresses_of fields)
 call_with now Name.Error fields = without_arguments Calls.ProtocolError fields
 call_with now Name.Relayed fields = without_arguments Calls.RelayedAddresses fields
-call_with now Name.Permissions fields = permissions_of fields
+call_with now Name.Permissions fields = permissions_call fields
 call_with now Name.Have fields = have_of fields
 
 -- the most that one message to the server carries for an allocation over UDP; over TCP there is no limit

@@ -3,7 +3,7 @@
 ghost use Rattle.std.specs.Prelude.{◌≡◌, Some, None, MatchOption};
 ghost use Rattle.turn_client_api.specs.declared.call.Call.{Call};
 ghost use Rattle.turn_lines.specs.Call.{call_of, call_with, has_short_payload, moment_of, name_of};
-ghost use Rattle.turn_lines.specs.Call.{have_of, is_short, permissions_of, without_arguments};
+ghost use Rattle.turn_lines.specs.Call.{have_of, is_short, permissions_call, without_arguments};
 ghost use Rattle.turn_lines.specs.Fault.{Reads};
 ghost use Rattle.turn_lines.specs.Field.{Gives};
 ghost use Rattle.turn_lines.specs.Parts.{next};
@@ -208,7 +208,7 @@ fn take_closed(now: Instant, fields: &mut Parts<'_>) -> Result<Call, FieldError>
 }
 
 fn take_permissions(fields: &mut Parts<'_>) -> Result<Call, FieldError>
-    ensures { Gives (λ call. call) result (permissions_of fields.old) }
+    ensures { Gives (λ call. call) result (permissions_call fields.old) }
 {
     let (transport, relayed) = take_transport_and_address(fields).ok_or(FieldError::Malformed)?;
     Ok(Call::Permissions { transport, relayed })

@@ -20,7 +20,7 @@ use Rattle.turn_lines.specs.declared.head.Head.{Head}
 use Rattle.turn_lines.proofs.CallableLemmas.{callable_line}
 use Rattle.turn_lines.proofs.HeadLemmas.{IsMade, made_line}
 use Rattle.turn_lines.proofs.StepLemmas.{of_else, of_needed, ok_is}
-use Rattle.turn_live.specs.Lines.{Calls, answered, calls_until, line_call, line_head, with_first}
+use Rattle.turn_live.specs.Lines.{Calls, answer_lines, calls_until, line_call, line_head, with_first}
 
 -- ---- one line
 
@@ -102,7 +102,7 @@ pub state_after_all-more : (s : State) (calls : List Call) (call : Call) → sta
 state_after_all-more s [] call = refl
 state_after_all-more s (first ∷ calls) call = state_after_all-more (state_after first s) calls call
 
-pub answered-more : (s : State) (calls : List Call) (call : Call) → answered s (calls ++ call ∷ []) ≡ answered s calls ++ answered (state_after_all s calls) (call ∷ [])
+pub answered-more : (s : State) (calls : List Call) (call : Call) → answer_lines s (calls ++ call ∷ []) ≡ answer_lines s calls ++ answer_lines (state_after_all s calls) (call ∷ [])
 answered-more s calls call =
     ap answers_text (replies_of-more s calls call)
     ∙ flat_map-append (λ reply. line_text (reply_fields reply)) (replies_of s calls) (replies_of (state_after_all s calls) (call ∷ []))

@@ -5,7 +5,7 @@ use Rattle.std.proofs.lemmas.List.Elements.{All-append}
 use Rattle.std.proofs.lemmas.Grind.{flat_map-append}
 use Rattle.std.specs.Io.KnownBytes.{Consumes}
 use Rattle.turn_live.specs.Line.{IsLine, IsTaken, feed_at, missing_at}
-use Rattle.turn_live.specs.Lines.{fed}
+use Rattle.turn_live.specs.Lines.{joined_lines}
 use Rattle.turn_live.specs.Session.{AreRead}
 use Rattle.turn_live.specs.declared.line.LineEnd.{LineEnd}
 use Rattle.turn_live.specs.declared.line.LineEnd.TheVariants.{Feed, Input, Size}
@@ -17,9 +17,9 @@ whole_line line Feed = append-nil (line ++ 10 ∷ [])
 whole_line line Input = ap (λ (front : List ℕ). front ++ 10 ∷ []) (append-nil line)
 whole_line line Size = ap (λ (front : List ℕ). front ++ 10 ∷ []) (append-nil line)
 
-fed-more : (lines : List (List ℕ)) (line : List ℕ) → fed (lines ++ line ∷ []) ≡ fed lines ++ (line ++ 10 ∷ [])
+fed-more : (lines : List (List ℕ)) (line : List ℕ) → joined_lines (lines ++ line ∷ []) ≡ joined_lines lines ++ (line ++ 10 ∷ [])
 fed-more lines line =
-    flat_map-append (λ (l : List ℕ). l ++ 10 ∷ []) lines (line ∷ []) ∙ ap (λ (rest : List ℕ). fed lines ++ rest) (append-nil (line ++ 10 ∷ []))
+    flat_map-append (λ (l : List ℕ). l ++ 10 ∷ []) lines (line ∷ []) ∙ ap (λ (rest : List ℕ). joined_lines lines ++ rest) (append-nil (line ++ 10 ∷ []))
 
 no_lines : All IsLine []
 no_lines k d low = absurd (omega arith)
@@ -29,8 +29,8 @@ one_line line clear zero d low = clear
 one_line line clear (suc k) d low = absurd (omega arith)
 
 -- the bytes of whole lines
-bytes_of_whole : (a b : Option (List ℕ)) (lines : List (List ℕ)) → (r : AreRead a b lines [] Feed) → r.bytes ≡ fed lines
-bytes_of_whole a b lines r = sym (append-nil r.bytes) ∙ sym r.whole ∙ append-nil (fed lines)
+bytes_of_whole : (a b : Option (List ℕ)) (lines : List (List ℕ)) → (r : AreRead a b lines [] Feed) → r.bytes ≡ joined_lines lines
+bytes_of_whole a b lines r = sym (append-nil r.bytes) ∙ sym r.whole ∙ append-nil (joined_lines lines)
 
 pub none_read : (a : Option (List ℕ)) → AreRead a a [] [] Feed
 none_read a = record { bytes = []; consumed = Consumes-none a; whole = refl; each = no_lines }
@@ -42,9 +42,9 @@ more_read a b c lines line end r t =
     record {
       bytes = r.bytes ++ behind;
       consumed = Consumes-then a b c r.bytes behind r.consumed t.consumed;
-      whole = append-nil (fed (lines ++ line ∷ []))
+      whole = append-nil (joined_lines (lines ++ line ∷ []))
           ∙ fed-more lines line
-          ∙ ap (λ (rest : List ℕ). fed lines ++ rest) (sym (whole_line line end))
+          ∙ ap (λ (rest : List ℕ). joined_lines lines ++ rest) (sym (whole_line line end))
           ∙ ap (λ (front : List ℕ). front ++ (behind ++ missing_at end)) (sym (bytes_of_whole a b lines r))
           ∙ sym (append_assoc r.bytes behind (missing_at end));
       each = All-append IsLine lines (line ∷ []) r.each (one_line line t.clear);
@@ -75,6 +75,6 @@ read_behind a b c line lines rest end t r =
     record {
       bytes = front ++ r.bytes;
       consumed = Consumes-then a b c front r.bytes t.consumed r.consumed;
-      whole = append_assoc front (fed lines) rest ∙ ap (λ (more : List ℕ). front ++ more) r.whole ∙ sym (append_assoc front r.bytes (missing_at end));
+      whole = append_assoc front (joined_lines lines) rest ∙ ap (λ (more : List ℕ). front ++ more) r.whole ∙ sym (append_assoc front r.bytes (missing_at end));
       each = first_line line lines t.clear r.each;
     }

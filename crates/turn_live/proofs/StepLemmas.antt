@@ -6,7 +6,7 @@ use Rattle.turn_client_api.specs.declared.call.Call.{Call}
 use Rattle.turn_client_api.specs.State.{State}
 use Rattle.turn_client_api.specs.Steps.{state_after}
 use Rattle.turn_live.specs.Line.{IsLost, IsTaken, feed_at}
-use Rattle.turn_live.specs.Lines.{answered, line_call, session_of}
+use Rattle.turn_live.specs.Lines.{answer_lines, line_call, session_of}
 use Rattle.turn_live.specs.Session.{AnswersLine, IsAnswered, ReadsCall, ReadsHead, Steps, Talks, Writes}
 use Rattle.turn_live.specs.declared.line.LineEnd.{LineEnd}
 use Rattle.turn_live.specs.declared.line.LineEnd.TheVariants.{Feed, Input, Size}
@@ -51,7 +51,7 @@ step_last relays number s after line Input a b w x taken answer last = (line, ta
 step_last relays number s after line Size a b w x taken answer last = absurd (long_is_no_call relays number line answer.call taken.ends answer.says)
 
 -- a call was made, and its answer written, or a prefix of it if the writer failed
-pub call_told : (relays : TransportType) (number : ℕ) (s after : State) (line : List ℕ) (call : Call) (text : List ℕ) (w x : Option (List ℕ)) (result : Result (Unit {0}) Stop) → line_call relays number line ≡ Ok call → text ≡ answered s (call ∷ []) → after ≡ state_after call s → Writes w x text result → AnswersLine relays number s after line w x result
+pub call_told : (relays : TransportType) (number : ℕ) (s after : State) (line : List ℕ) (call : Call) (text : List ℕ) (w x : Option (List ℕ)) (result : Result (Unit {0}) Stop) → line_call relays number line ≡ Ok call → text ≡ answer_lines s (call ∷ []) → after ≡ state_after call s → Writes w x text result → AnswersLine relays number s after line w x result
 call_told relays number s after line call text w x (Ok _) says same state wrote = record { call = call; says = says; told = subst (Appends w x) same wrote; state = state }
 call_told relays number s after line call text w x (Err (Stops.Bad bad)) says same state wrote = let wrong = wrote.0 in cc
 call_told relays number s after line call text w x (Err Stops.OutOfMemory) says same state wrote = let wrong = wrote.0 in cc

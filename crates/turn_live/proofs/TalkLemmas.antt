@@ -10,7 +10,7 @@ use Rattle.turn_client_proto.proofs.RunLemmas.{relays_stay}
 use Rattle.turn_lines.specs.declared.fault.BadLine.{BadLine}
 use Rattle.turn_lines.specs.declared.head.Head.{Head}
 use Rattle.turn_live.specs.Line.{IsLine, IsLost, IsTaken, feed_at}
-use Rattle.turn_live.specs.Lines.{Calls, answered, calls_said, calls_until, client_of, line_head, session_of, session_with}
+use Rattle.turn_live.specs.Lines.{Calls, answer_lines, calls_said, calls_until, client_of, line_head, session_of, session_with}
 use Rattle.turn_live.specs.Session.{AreRead, Goes, Steps, Talks}
 use Rattle.turn_live.specs.declared.line.LineEnd.{LineEnd}
 use Rattle.turn_live.specs.declared.line.LineEnd.TheVariants.{Feed, Input, Size}
@@ -27,7 +27,7 @@ pub record GoesOn (relays : TransportType) (s now : State) (number : ℕ) (input
   pub read : AreRead input left lines [] Feed
   pub good : calls_until relays 2 lines ≡ (calls, None)
   pub place : number ≡ 2 + length lines
-  pub told : Appends old new (answered s calls)
+  pub told : Appends old new (answer_lines s calls)
   pub state : now ≡ state_after_all s calls
   pub relaying : now.config.allocation_transport ≡ relays
 
@@ -49,26 +49,26 @@ kept : (a b c : Option (List ℕ)) (xs : List ℕ) → Appends a b xs → Append
 kept a b c xs h k = subst (Appends a c) (append-nil xs) (Appends-then a b c xs [] h k)
 
 -- one more answer
-told_more : (s now : State) (calls : List Call) (call : Call) (w x y : Option (List ℕ)) → now ≡ state_after_all s calls → Appends w x (answered s calls) → Appends x y (answered now (call ∷ [])) → Appends w y (answered s (calls ++ call ∷ []))
+told_more : (s now : State) (calls : List Call) (call : Call) (w x y : Option (List ℕ)) → now ≡ state_after_all s calls → Appends w x (answer_lines s calls) → Appends x y (answer_lines now (call ∷ [])) → Appends w y (answer_lines s (calls ++ call ∷ []))
 told_more s now calls call w x y state told more =
-    let one = answered (state_after_all s calls) (call ∷ []) in
-    let here : Appends x y one = subst (λ (at : State). Appends x y (answered at (call ∷ []))) state more in
-    subst (Appends w y) (sym (answered-more s calls call)) (Appends-then w x y (answered s calls) one told here)
+    let one = answer_lines (state_after_all s calls) (call ∷ []) in
+    let here : Appends x y one = subst (λ (at : State). Appends x y (answer_lines at (call ∷ []))) state more in
+    subst (Appends w y) (sym (answered-more s calls call)) (Appends-then w x y (answer_lines s calls) one told here)
 
 -- a prefix of one more answer
-cut_more : (s now : State) (calls : List Call) (call : Call) (count : ℕ) (w x y : Option (List ℕ)) → now ≡ state_after_all s calls → Appends w x (answered s calls) → Appends x y (take count (answered now (call ∷ []))) → Appends w y (take (length (answered s calls) + count) (answered s (calls ++ call ∷ [])))
+cut_more : (s now : State) (calls : List Call) (call : Call) (count : ℕ) (w x y : Option (List ℕ)) → now ≡ state_after_all s calls → Appends w x (answer_lines s calls) → Appends x y (take count (answer_lines now (call ∷ []))) → Appends w y (take (length (answer_lines s calls) + count) (answer_lines s (calls ++ call ∷ [])))
 cut_more s now calls call count w x y state told more =
-    let one = answered (state_after_all s calls) (call ∷ []) in
-    let here : Appends x y (take count one) = subst (λ (at : State). Appends x y (take count (answered at (call ∷ [])))) state more in
-    subst (λ (text : List ℕ). Appends w y (take (length (answered s calls) + count) text)) (sym (answered-more s calls call))
-    (Appends-cut w x y (answered s calls) one count told here)
+    let one = answer_lines (state_after_all s calls) (call ∷ []) in
+    let here : Appends x y (take count one) = subst (λ (at : State). Appends x y (take count (answer_lines at (call ∷ [])))) state more in
+    subst (λ (text : List ℕ). Appends w y (take (length (answer_lines s calls) + count) text)) (sym (answered-more s calls call))
+    (Appends-cut w x y (answer_lines s calls) one count told here)
 
 -- the answers to lines, by their calls
-said_of : (relays : TransportType) (s : State) (lines : List (List ℕ)) (calls : Calls) → calls_until relays 2 lines ≡ calls → calls_said relays s lines ≡ (answered s calls.0, calls.1)
-said_of relays s lines calls h = ap (λ (c : Calls). (answered s c.0, c.1)) h
+said_of : (relays : TransportType) (s : State) (lines : List (List ℕ)) (calls : Calls) → calls_until relays 2 lines ≡ calls → calls_said relays s lines ≡ (answer_lines s calls.0, calls.1)
+said_of relays s lines calls h = ap (λ (c : Calls). (answer_lines s c.0, c.1)) h
 
-text_of : (relays : TransportType) (s : State) (lines : List (List ℕ)) (calls : Calls) → calls_until relays 2 lines ≡ calls → answered s calls.0 ≡ (calls_said relays s lines).0
-text_of relays s lines calls h = sym (ap (λ (c : Calls). answered s c.0) h)
+text_of : (relays : TransportType) (s : State) (lines : List (List ℕ)) (calls : Calls) → calls_until relays 2 lines ≡ calls → answer_lines s calls.0 ≡ (calls_said relays s lines).0
+text_of relays s lines calls h = sym (ap (λ (c : Calls). answer_lines s c.0) h)
 
 goes : (relays : TransportType) (s : State) (a c : Option (List ℕ)) (lines : List (List ℕ)) (rest : List ℕ) (end : LineEnd) (calls : Calls) → AreRead a c lines rest end → calls_until relays 2 lines ≡ calls → Goes (calls_said relays s) a c lines rest end calls.1
 goes relays s a c lines rest end calls read h = record { read = read; bad_is = ap (λ (c : Calls). c.1) h }
@@ -95,7 +95,7 @@ ends relays s now after number a b c w x y k (line, taken, inl none) = (
   Feed,
   goes relays s a c k.lines [] Feed (k.calls, None) (end_read a b c k.lines line k.read none.0 taken) k.good,
   taken.ends,
-  subst (Appends w y) (text_of relays s k.lines (k.calls, None) k.good) (kept w x y (answered s k.calls) k.told none.1),
+  subst (Appends w y) (text_of relays s k.lines (k.calls, None) k.good) (kept w x y (answer_lines s k.calls) k.told none.1),
 )
 ends relays s now after number a b c w x y k (line, taken, inr answer) =
     let lines = k.lines ++ line ∷ [] in
@@ -113,7 +113,7 @@ stops relays s now after number a b c w x y (Stops.Bad bad) k (line, end, taken,
     let lines = k.lines ++ line ∷ [] in
     let calls = k.calls ++ [] in
     let good = calls_until-bad relays 2 number k.lines k.calls line bad k.place k.good says in
-    let told : Appends w y (answered s calls) = subst (λ (cs : List Call). Appends w y (answered s cs)) (sym (append-nil k.calls)) (kept w x y (answered s k.calls) k.told none) in (
+    let told : Appends w y (answer_lines s calls) = subst (λ (cs : List Call). Appends w y (answer_lines s cs)) (sym (append-nil k.calls)) (kept w x y (answer_lines s k.calls) k.told none) in (
       k.lines,
       line,
       end,
@@ -125,19 +125,19 @@ stops relays s now after number a b c w x y Stops.OutOfMemory k (rest, consumed,
   k.lines,
   rest,
   goes relays s a c k.lines rest Feed (k.calls, None) (rest_read a b c k.lines rest k.read consumed) k.good,
-  subst (Appends w y) (text_of relays s k.lines (k.calls, None) k.good) (kept w x y (answered s k.calls) k.told none),
+  subst (Appends w y) (text_of relays s k.lines (k.calls, None) k.good) (kept w x y (answer_lines s k.calls) k.told none),
 )
 stops relays s now after number a b c w x y Stops.ReadFailed k (rest, consumed, clear, none) = (
   k.lines,
   rest,
   goes relays s a c k.lines rest Feed (k.calls, None) (rest_read a b c k.lines rest k.read consumed) k.good,
   clear,
-  subst (Appends w y) (text_of relays s k.lines (k.calls, None) k.good) (kept w x y (answered s k.calls) k.told none),
+  subst (Appends w y) (text_of relays s k.lines (k.calls, None) k.good) (kept w x y (answer_lines s k.calls) k.told none),
 )
 stops relays s now after number a b c w x y Stops.WriteFailed k (line, end, taken, cut) =
     let lines = k.lines ++ line ∷ [] in
     let calls = k.calls ++ cut.call ∷ [] in
-    let count = length (answered s k.calls) + cut.count in
+    let count = length (answer_lines s k.calls) + cut.count in
     let good = calls_until-call relays 2 number k.lines k.calls line cut.call k.place k.good cut.says in (
       k.lines,
       line,

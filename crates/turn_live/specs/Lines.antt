@@ -15,8 +15,8 @@ use Rattle.turn_lines.specs.declared.fault.BadLine.{BadLine}
 use Rattle.turn_lines.specs.declared.head.Head.{Head}
 
 -- lines, each ended by LF
-abbrev pub fed : List (List ℕ) → List ℕ
-fed lines = flat_map (λ line. line ++ 10 ∷ []) lines
+abbrev pub joined_lines : List (List ℕ) → List ℕ
+joined_lines lines = flat_map (λ line. line ++ 10 ∷ []) lines
 
 -- the first line, of at most a mebibyte
 abbrev pub line_head : List ℕ → Result Head BadLine
@@ -42,13 +42,13 @@ calls_until relays number (line ∷ lines) = with_first (line_call relays number
 -- ---- answers
 
 -- one line for each answer of a client in this state
-abbrev pub answered : State → List Call → List ℕ
-answered s calls = answers_text (replies_of s calls)
+abbrev pub answer_lines : State → List Call → List ℕ
+answer_lines s calls = answers_text (replies_of s calls)
 
 -- for lines from the second of a session on: the client's answers to the calls up to the first bad line, and that
 -- line
 abbrev pub calls_said : TransportType → State → List (List ℕ) → List ℕ × Option BadLine
-calls_said relays s lines = (answered s (calls_until relays 2 lines).0, (calls_until relays 2 lines).1)
+calls_said relays s lines = (answer_lines s (calls_until relays 2 lines).0, (calls_until relays 2 lines).1)
 
 -- the new client of a head
 abbrev pub client_of : Head → State

@@ -12,7 +12,7 @@ use Rattle.turn_lines.specs.declared.head.Head.{Head}
 use Rattle.turn_lines.specs.declared.status.Status.{Status}
 use Rattle.turn_lines.specs.declared.status.Status.TheVariants.{Answered, Malformed, OutOfMemory, ReadFailed, WriteFailed}
 use Rattle.turn_live.specs.Line.{EndsSo, IsLine, IsTaken, missing_at}
-use Rattle.turn_live.specs.Lines.{answered, fed, line_call, line_head, session_of}
+use Rattle.turn_live.specs.Lines.{answer_lines, joined_lines, line_call, line_head, session_of}
 use Rattle.turn_live.specs.declared.line.LineEnd.{LineEnd}
 use Rattle.turn_live.specs.declared.line.LineEnd.TheVariants.{Feed, Input}
 use Rattle.turn_live.specs.declared.stop.Stop.{Stop}
@@ -31,8 +31,8 @@ WritesSome old new bytes (Ok count) = (count ≤ length bytes) × Appends old ne
 WritesSome old new bytes (Err stop) = (stop ≡ Stops.WriteFailed) × Appends old new []
 
 -- a text was written and the result is that status, or the writer failed
-abbrev pub Told : Option (List ℕ) → Option (List ℕ) → Status → List ℕ → Status → Type 0
-Told old new status text result =
+abbrev pub PrintsText : Option (List ℕ) → Option (List ℕ) → Status → List ℕ → Status → Type 0
+PrintsText old new status text result =
     ((result ≡ WriteFailed) × (count : ℕ) × Appends old new (take count text)) ⊎ ((result ≡ status) × Appends old new text)
 
 -- ---- one line
@@ -51,7 +51,7 @@ ReadsCall relays number line (Err stop) = stop ≡ Stops.OutOfMemory
 pub record IsAnswered (relays : TransportType) (number : ℕ) (s after : State) (line : List ℕ) (old new : Option (List ℕ)) : Type 0 where
   pub call : Call
   pub says : line_call relays number line ≡ Ok call
-  pub told : Appends old new (answered s (call ∷ []))
+  pub told : Appends old new (answer_lines s (call ∷ []))
   pub state : after ≡ state_after call s
 
 -- the writer failed during that answer
@@ -59,7 +59,7 @@ pub record IsCutOff (relays : TransportType) (number : ℕ) (s : State) (line : 
   pub call : Call
   pub says : line_call relays number line ≡ Ok call
   pub count : ℕ
-  pub told : Appends old new (take count (answered s (call ∷ [])))
+  pub told : Appends old new (take count (answer_lines s (call ∷ [])))
 
 abbrev pub AnswersLine : TransportType → ℕ → State → State → List ℕ → Option (List ℕ) → Option (List ℕ) → Result (Unit {0}) Stop → Type 0
 AnswersLine relays number s after line old new (Ok _) = IsAnswered relays number s after line old new
@@ -90,7 +90,7 @@ Steps relays number s after input left old new (Err Stops.WriteFailed) =
 pub record AreRead (input left : Option (List ℕ)) (lines : List (List ℕ)) (rest : List ℕ) (end : LineEnd) : Type 0 where
   pub bytes : List ℕ
   pub consumed : Consumes input left bytes
-  pub whole : fed lines ++ rest ≡ bytes ++ missing_at end
+  pub whole : joined_lines lines ++ rest ≡ bytes ++ missing_at end
   pub each : All IsLine lines
 
 -- the lines were read, and their first bad line is this one
@@ -119,24 +119,24 @@ Talks said input left old new (Err Stops.WriteFailed) =
     × EndsSo left line end × Appends old new (take count (said (lines ++ line ∷ [])).0)
 
 -- a session from its first line on
-abbrev pub IsHeld : Option (List ℕ) → Option (List ℕ) → Option (List ℕ) → Option (List ℕ) → Result (Unit {0}) Stop → Type 0
-IsHeld = Talks session_of
+abbrev pub IsSession : Option (List ℕ) → Option (List ℕ) → Option (List ℕ) → Option (List ℕ) → Result (Unit {0}) Stop → Type 0
+IsSession = Talks session_of
 
 -- ---- the program
 
 -- the last text of a session, by why it ended
 abbrev pub Closes : Stop → Option (List ℕ) → Option (List ℕ) → Status → Type 0
-Closes (Stops.Bad bad) old new status = Told old new Malformed (bad_text bad) status ⊎ Told old new OutOfMemory (codes "no memory\n") status
-Closes Stops.OutOfMemory old new status = Told old new OutOfMemory (codes "no memory\n") status
-Closes Stops.ReadFailed old new status = Told old new ReadFailed (codes "read failed\n") status
+Closes (Stops.Bad bad) old new status = PrintsText old new Malformed (bad_text bad) status ⊎ PrintsText old new OutOfMemory (codes "no memory\n") status
+Closes Stops.OutOfMemory old new status = PrintsText old new OutOfMemory (codes "no memory\n") status
+Closes Stops.ReadFailed old new status = PrintsText old new ReadFailed (codes "read failed\n") status
 Closes Stops.WriteFailed old new status = (status ≡ WriteFailed) × Appends old new []
 
 -- What a run of the program does. `input` is the content of the reader before, `left` after; `old` is the content of
 -- the writer before, `new` after, where these are known.
 abbrev pub Runs : Option (List ℕ) → Option (List ℕ) → Option (List ℕ) → Option (List ℕ) → Status → Type 0
 Runs input left old new status =
-    ((status ≡ Answered) × IsHeld input left old new (Ok tt))
-    ⊎ ((stop : Stop) × (answers : Option (List ℕ)) × IsHeld input left old answers (Err stop) × Closes stop answers new status)
+    ((status ≡ Answered) × IsSession input left old new (Ok tt))
+    ⊎ ((stop : Stop) × (answers : Option (List ℕ)) × IsSession input left old answers (Err stop) × Closes stop answers new status)
 
 -- a run with this exit status, and its effects
 abbrev pub Exits : Option (List ℕ) → Option (List ℕ) → Option (List ℕ) → Option (List ℕ) → ℕ → Type 0

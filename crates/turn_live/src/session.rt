@@ -3,7 +3,7 @@
 ghost use Rattle.std.specs.Prelude.{◌≡◌};
 ghost use Rattle.turn_lines.specs.Fault.{bad_line};
 ghost use Rattle.turn_live.specs.Lines.{calls_said};
-ghost use Rattle.turn_live.specs.Session.{AnswersLine, IsHeld, ReadsCall, ReadsHead, Steps, Talks};
+ghost use Rattle.turn_live.specs.Session.{AnswersLine, IsSession, ReadsCall, ReadsHead, Steps, Talks};
 
 use crate::client::new_client;
 use crate::line::{LineEnd, MAX_LINE, take_line};
@@ -31,7 +31,7 @@ pub fn hold_session<R: Read, W: Write>(
     reader: &mut R,
     writer: &mut W,
 ) -> Result<(), Stop>
-    ensures { IsHeld (R.remaining reader.old) (R.remaining reader.new) (W.contents writer.old) (W.contents writer.new) result }
+    ensures { IsSession (R.remaining reader.old) (R.remaining reader.new) (W.contents writer.old) (W.contents writer.new) result }
 {
     let (line, end) = take_line(alloc, reader)?;
     let head = read_head(alloc, line.as_slice())?;

@@ -1,6 +1,6 @@
 //! Writes text to a writer.
 
-ghost use Rattle.turn_live.specs.Session.{Told, Writes, WritesSome};
+ghost use Rattle.turn_live.specs.Session.{PrintsText, Writes, WritesSome};
 
 use crate::stop::Stop;
 use std::io::{ErrorKind, Write};
@@ -53,7 +53,7 @@ fn write_some<W: Write>(writer: &mut W, bytes: &[u8]) -> Result<usize, Stop>
 
 /// Writes the last text of a session. Returns its status, or `WriteFailed` if the writer fails.
 pub fn tell<W: Write>(writer: &mut W, status: Status, text: &str) -> Status
-    ensures { Told (W.contents writer.old) (W.contents writer.new) status text.now result }
+    ensures { PrintsText (W.contents writer.old) (W.contents writer.new) status text.now result }
 {
     if write_text(writer, text).is_err() {
         return Status::WriteFailed;

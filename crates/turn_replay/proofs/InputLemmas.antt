@@ -2,7 +2,7 @@
 use Rattle.std.proofs.Common.{◌≡◌, ℕ, ◌<◌, ◌≤◌, Bool, List, ◌++◌, length, Option, Some, None, sym, ap, ◌∙◌, arith, append_assoc}
 use Rattle.std.proofs.lemmas.List.{append-nil, take_all, take-append-le}
 use Rattle.std.specs.Io.KnownBytes.{Consumes, IsAtEnd}
-use Rattle.turn_replay.specs.Answer.{IsRead, ReadsMore, taken}
+use Rattle.turn_replay.specs.Answer.{IsRead, ReadsMore, trace_bytes}
 
 -- the bytes of two reads, joined
 Consumes-append : (old mid new : Option (List ℕ)) (a b : List ℕ) → Consumes old mid a → Consumes mid new b → Consumes old new (a ++ b)
@@ -25,7 +25,7 @@ read_when_full None new bytes k full = record { all = tt; consumed = tt }
 read_when_full (Some xs) None bytes k full = absurd k.0
 read_when_full (Some xs) (Some ys) bytes k full =
     let few = k.1 in
-    let all : bytes ≡ taken xs = sym (ap taken k.0 ∙ take-append-le 1048577 bytes ys (omega arith) ∙ take_all 1048577 bytes few) in
+    let all : bytes ≡ trace_bytes xs = sym (ap trace_bytes k.0 ∙ take-append-le 1048577 bytes ys (omega arith) ∙ take_all 1048577 bytes few) in
     record { all = all; consumed = k.0 }
 
 -- the end of the input is reached
@@ -35,4 +35,4 @@ read_at_end (Some xs) None bytes k end = absurd k.0
 read_at_end (Some xs) (Some ys) bytes k end =
     let few = k.1 in
     let same : xs ≡ bytes = k.0 ∙ ap (λ rest. bytes ++ rest) end ∙ append-nil bytes in
-    record { all = sym (ap taken same ∙ take_all 1048577 bytes few); consumed = k.0 }
+    record { all = sym (ap trace_bytes same ∙ take_all 1048577 bytes few); consumed = k.0 }

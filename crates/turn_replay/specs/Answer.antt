@@ -12,12 +12,12 @@ use Rattle.turn_lines.specs.declared.status.Status.{Status}
 use Rattle.turn_lines.specs.declared.status.Status.TheVariants.{Answered, Malformed, OutOfMemory, ReadFailed, WriteFailed}
 
 -- the whole input, or, of a longer input, one byte more than a trace may have
-abbrev pub taken : List ℕ → List ℕ
-taken input = take 1048577 input
+abbrev pub trace_bytes : List ℕ → List ℕ
+trace_bytes input = take 1048577 input
 
 -- these bytes were read from a reader, and no more
 pub record IsRead (old new : Option (List ℕ)) (bytes : List ℕ) : Type 0 where
-  pub all : IfSome old (λ input. bytes ≡ taken input)
+  pub all : IfSome old (λ input. bytes ≡ trace_bytes input)
   pub consumed : Consumes old new bytes
 
 -- a read appended some bytes; if it does not continue, no bytes are left
@@ -39,15 +39,15 @@ abbrev pub answer_to : List ℕ → Status × List ℕ
 answer_to trace = answer_of (trace_of trace)
 
 -- this text alone was written and the result is that status, or the writer failed
-abbrev pub Told : Option (List ℕ) → Option (List ℕ) → Status → List ℕ → Status → Type 0
-Told old new status text result = (result ≡ WriteFailed) ⊎ ((result ≡ status) × Appends old new text)
+abbrev pub PrintsText : Option (List ℕ) → Option (List ℕ) → Status → List ℕ → Status → Type 0
+PrintsText old new status text result = (result ≡ WriteFailed) ⊎ ((result ≡ status) × Appends old new text)
 
 -- the bytes read were answered, and nothing else was written
 abbrev pub Answers : Option (List ℕ) → Option (List ℕ) → Option (List ℕ) → Option (List ℕ) → Status → Type 0
 Answers input left old new status = IfSome input (λ bytes.
-    Consumes input left (taken bytes)
-    × (status ≡ (answer_to (taken bytes)).0)
-    × Appends old new (answer_to (taken bytes)).1)
+    Consumes input left (trace_bytes bytes)
+    × (status ≡ (answer_to (trace_bytes bytes)).0)
+    × Appends old new (answer_to (trace_bytes bytes)).1)
 
 -- What a run of the program does, by how it ends. `input` is the content of the reader before, `left` after; `old`
 -- is the content of the writer before, `new` after, where these are known.

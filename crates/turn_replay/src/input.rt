@@ -2,7 +2,7 @@
 
 ghost use Rattle.std.specs.Prelude.{◌≡◌, ◌+◌, ◌≤◌, ◌++◌, false, ℕ, List, [], IfOk, IfSome, Some, vec_len};
 ghost use Rattle.std.specs.Io.KnownBytes.{Consumes, IsAtEnd};
-ghost use Rattle.turn_replay.specs.Answer.{IsRead, ReadsMore, taken};
+ghost use Rattle.turn_replay.specs.Answer.{IsRead, ReadsMore, trace_bytes};
 
 use crate::trace::MAX_TRACE;
 use std::alloc::{AllocError, Global};

@@ -3,7 +3,7 @@
 ghost use Rattle.std.specs.Prelude.{◌≡◌, ◌⊎◌};
 ghost use Rattle.std.specs.Io.KnownBytes.{Appends};
 ghost use Rattle.std.specs.Process.{exit_status};
-ghost use Rattle.turn_replay.specs.Answer.{Told, Runs, Exits};
+ghost use Rattle.turn_replay.specs.Answer.{PrintsText, Runs, Exits};
 
 use crate::answer::answer;
 use crate::input::{InputError, read_input};
@@ -41,7 +41,7 @@ pub fn run<R: Read, W: Write>(alloc: Global, reader: &mut R, writer: &mut W) -> 
 
 /// Writes a text. Returns its status, or `WriteFailed` if it could not be written.
 fn tell<W: Write>(writer: &mut W, status: Status, text: &str) -> Status
-    ensures { Told (W.contents writer.old) (W.contents writer.new) status text.now result }
+    ensures { PrintsText (W.contents writer.old) (W.contents writer.new) status text.now result }
 {
     if writer.write_all(text.as_bytes()).is_err() {
         return Status::WriteFailed;

@@ -4,7 +4,7 @@ ghost use Rattle.std.specs.Prelude.{ℕ, false, List};
 ghost use Rattle.std.specs.declared.net.socket_addr.SocketAddr.{SocketAddr};
 ghost use Rattle.turn_client_api.specs.State.{State, Stream};
 ghost use Rattle.turn_client_api.specs.Streams.{next_frame_step};
-ghost use Rattle.turn_client_api.specs.Handled.{taken};
+ghost use Rattle.turn_client_api.specs.Handled.{stream_inputs_taken};
 ghost use Rattle.turn_client_api.specs.Steps.{Call, EndsWithoutMemory};
 ghost use Rattle.turn_client_api.specs.LawsHandled.{ProcessesInputs, EndsAmidInputs, IgnoresBytes, IgnoresStreams, IsInputOf, TakesInput};
 
@@ -18,7 +18,7 @@ pub fn messages_leave_streams()
 /// A step of a stream takes at most one frame (RFC 8656, section 12.5): the first one. It is processed in
 /// the state in which the stream holds nothing, and the bytes after it are put back.
 pub fn inputs_are_frames()
-    ensures { (stream : Stream) (now : ℕ) (s : State) → IsInputOf stream now s (taken false stream now s) (next_frame_step stream now s) }
+    ensures { (stream : Stream) (now : ℕ) (s : State) → IsInputOf stream now s (stream_inputs_taken false stream now s) (next_frame_step stream now s) }
 {}
 
 /// `recv` and `poll_recv` process their inputs one after the other, each in the state that the one before

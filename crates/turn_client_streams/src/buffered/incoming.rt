@@ -3,8 +3,8 @@
 ghost use Rattle.std.specs.Prelude.{◌≡◌, ◌<◌, [], length, option_map, Some, IfOk, IfSome, IsOk, OnOk, OnErr};
 ghost use Rattle.turn_types.specs.Frames.{frame_len};
 ghost use Rattle.turn_types.specs.Incoming.{ComesWith, IsNamedIncoming, incoming_bytes};
-ghost use Rattle.turn_client_api.specs.Handled.{fed};
-ghost use Rattle.turn_client_streams.specs.Buffered.{broken, front_of, without_front};
+ghost use Rattle.turn_client_api.specs.Handled.{stream_with_piece};
+ghost use Rattle.turn_client_streams.specs.Buffered.{broken, front_frame, without_front};
 
 use crate::buffered::BufferedStream;
 use std::alloc::AllocError;
@@ -31,10 +31,10 @@ impl BufferedStream {
         // An empty piece is no part of a stream: it reports that the server closed it.
         requires { 0 < length (T.items transmit.payload) }
 
-        ensures frame { IfOk result (λ given. option_map (incoming_bytes T.items) given ≡ front_of (fed self.old (T.items transmit.payload))) }
+        ensures frame { IfOk result (λ given. option_map (incoming_bytes T.items) given ≡ front_frame (stream_with_piece self.old (T.items transmit.payload))) }
         ensures named { IfOk result (λ given. IfSome given (IsNamedIncoming T.items)) }
         ensures place { IfOk result (λ given. IfSome given (ComesWith T.items self.old.bytes transmit)) }
-        ensures after { OnOk result (self.new ≡ without_front (fed self.old (T.items transmit.payload))) }
+        ensures after { OnOk result (self.new ≡ without_front (stream_with_piece self.old (T.items transmit.payload))) }
 
         // One whole frame needs no memory if the buffer is empty.
         ensures err { OnErr result (self.new ≡ broken self.old) }

@@ -5,7 +5,7 @@ ghost use Rattle.turn_client_api.specs.Answers.{IsNoWay, IsSent};
 ghost use Rattle.turn_client_api.specs.Calls.{active_channel, as_indication, bound_to, on_channel, on_connection, send_to_step};
 ghost use Rattle.turn_client_api.specs.Delayed.{delayed_send_bytes};
 ghost use Rattle.turn_client_api.specs.Grants.{as_connection};
-ghost use Rattle.turn_client_api.specs.Requests.{drawn, to_server};
+ghost use Rattle.turn_client_api.specs.Requests.{id_used, to_server};
 ghost use Rattle.turn_client_core.specs.Sent.{in_frame, number_by};
 ghost use Rattle.turn_stun.specs.declared.transport.TransportType.TheVariants.{Udp};
 
@@ -162,7 +162,7 @@ impl TurnClientProtocol {
 
     /// Takes the next ID of the seed.
     fn draw(&mut self)
-        ensures { self.new ≡ drawn self.old }
+        ensures { self.new ≡ id_used self.old }
     {
         self.outbox.draw();
     }

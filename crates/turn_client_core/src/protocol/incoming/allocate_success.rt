@@ -1,7 +1,7 @@
 //! What a success response to an ALLOCATE grants (RFC 8656, section 7.3).
 
 ghost use Rattle.std.specs.Prelude.{◌≡◌, [], OnErr, OnOk};
-ghost use Rattle.turn_client_api.specs.Effect.{allocate_granted, ended, phase_with};
+ghost use Rattle.turn_client_api.specs.Effect.{allocate_granted, transaction_ended, phase_with};
 ghost use Rattle.turn_client_core.specs.Allocated.{addresses_allocated};
 ghost use Rattle.turn_stun.specs.Message.{id_of};
 
@@ -29,7 +29,7 @@ impl TurnClientProtocol {
     ) -> Result<(), AllocError>
         requires phase { self.old.phase ≡ Phase.Authenticating }
         requires before { self.old.grants ≡ [] }
-        ensures ok { OnOk result (self.new ≡ allocate_granted message.now now (ended (id_of message.now) self.old)) }
+        ensures ok { OnOk result (self.new ≡ allocate_granted message.now now (transaction_ended (id_of message.now) self.old)) }
         ensures err { OnErr result (self.new ≡ self.old) }
     {
         let Some(lifetime) = lifetime_in(message) else {
@@ -51,7 +51,7 @@ impl TurnClientProtocol {
     ) -> Result<(), AllocError>
         requires phase { self.old.phase ≡ Phase.Authenticating }
         requires before { self.old.grants ≡ [] }
-        ensures ok { OnOk result (self.new ≡ addresses_allocated lifetime message.now now (ended (id_of message.now) self.old)) }
+        ensures ok { OnOk result (self.new ≡ addresses_allocated lifetime message.now now (transaction_ended (id_of message.now) self.old)) }
         ensures err { OnErr result (self.new ≡ self.old) }
     {
         let families = self.families.as_slice();

@@ -1,7 +1,7 @@
 //! The end of a client.
 
 ghost use Rattle.std.specs.Prelude.{◌≡◌, IfOk, OnErr, OnOk};
-ghost use Rattle.turn_client_api.specs.Effect.{closed, ended, fail_all};
+ghost use Rattle.turn_client_api.specs.Effect.{closed, transaction_ended, fail_all};
 ghost use Rattle.turn_client_api.specs.Payloads.{wrong_step};
 ghost use Rattle.turn_client_core.specs.ProtocolRecv.{IsPart, outcome_in};
 ghost use Rattle.turn_stun.specs.Message.{id_of};
@@ -40,7 +40,7 @@ impl TurnClientProtocol {
     ///
     /// If memory allocation fails. Nothing changes then.
     pub(crate) fn fail_with(&mut self, message: &Message<'_>) -> Result<(), AllocError>
-        ensures ok { OnOk result (self.new ≡ closed (fail_all (ended (id_of message.now) self.old))) }
+        ensures ok { OnOk result (self.new ≡ closed (fail_all (transaction_ended (id_of message.now) self.old))) }
         ensures err { OnErr result (self.new ≡ self.old) }
     {
         self.fail()?;

@@ -3,7 +3,7 @@
 
 ghost use Rattle.std.specs.Prelude.{◌≡◌, ◌∷◌, [], IfOk, OnErr, OnOk, true};
 ghost use Rattle.turn_agent.specs.Agent.{is_outstanding};
-ghost use Rattle.turn_client_api.specs.Effect.{allocate_denied, ended};
+ghost use Rattle.turn_client_api.specs.Effect.{allocate_denied, transaction_ended};
 ghost use Rattle.turn_client_api.specs.Payloads.{outcome_for, response_step};
 ghost use Rattle.turn_client_api.specs.Requests.{fresh_id, requested};
 ghost use Rattle.turn_client_api.specs.State.{State};
@@ -86,7 +86,7 @@ impl TurnClientProtocol {
     ) -> Result<(), AllocError>
         requires phase { self.old.phase ≡ Phase.Authenticating }
         requires outstanding { is_outstanding (id_of message.now) self.old.transactions ≡ true }
-        ensures ok { OnOk result (self.new ≡ allocate_denied (fresh_id self.old) message.now now (ended (id_of message.now) self.old)) }
+        ensures ok { OnOk result (self.new ≡ allocate_denied (fresh_id self.old) message.now now (transaction_ended (id_of message.now) self.old)) }
         ensures err { OnErr result (self.new ≡ self.old) }
     {
         if has_code(message, ErrorCode::ADDRESS_FAMILY_NOT_SUPPORTED) && self.families.len() >= 2 {
@@ -104,7 +104,7 @@ impl TurnClientProtocol {
     fn ask_ipv6(&mut self, message: &Message<'_>, now: Instant) -> Result<(), AllocError>
         requires phase { self.old.phase ≡ Phase.Authenticating }
         requires outstanding { is_outstanding (id_of message.now) self.old.transactions ≡ true }
-        ensures ok { OnOk result (self.new ≡ asks_ipv6 (fresh_id self.old) now (ended (id_of message.now) self.old)) }
+        ensures ok { OnOk result (self.new ≡ asks_ipv6 (fresh_id self.old) now (transaction_ended (id_of message.now) self.old)) }
         ensures err { OnErr result (self.new ≡ self.old) }
     {
         let fresh = self.fresh_id();

@@ -2,7 +2,7 @@
 
 ghost use Rattle.std.specs.Prelude.{◌≡◌, find, true, IsSome, OnErr, OnOk, Some};
 ghost use Rattle.turn_client_api.specs.Connections.{bind_answered, bind_step, bound, connection_at, not_bound};
-ghost use Rattle.turn_client_api.specs.Effect.{ended};
+ghost use Rattle.turn_client_api.specs.Effect.{transaction_ended};
 ghost use Rattle.turn_client_api.specs.Grants.{purposes_of};
 ghost use Rattle.turn_client_api.specs.Judgement.{bind_judgement, challenge_in, is_bind_of};
 ghost use Rattle.turn_client_api.specs.Memory.{bind_takes_memory, keeps_connection};
@@ -90,7 +90,7 @@ impl TurnClientProtocol {
         connection: &DataConnection,
         message: &Message<'_>,
     ) -> Result<(), AllocError>
-        ensures ok { OnOk result (self.new ≡ bound connection.now (ended (id_of message.now) self.old)) }
+        ensures ok { OnOk result (self.new ≡ bound connection.now (transaction_ended (id_of message.now) self.old)) }
         ensures err { OnErr result (self.new ≡ self.old) }
     {
         // Keeps the room for the failure events of families that are still requested.
@@ -108,7 +108,7 @@ impl TurnClientProtocol {
     /// The server did not bind the connection, as this message says. Allocates no memory.
     fn bind_refused(&mut self, connection: &DataConnection, message: &Message<'_>)
         requires { connection_at connection.now.local self.old ≡ Some connection.now }
-        ensures { self.new ≡ not_bound connection.now (ended (id_of message.now) self.old) }
+        ensures { self.new ≡ not_bound connection.now (transaction_ended (id_of message.now) self.old) }
     {
         self.outbox.end(message.transaction_id());
         self.not_bound(connection);

@@ -12,7 +12,7 @@ ghost use Rattle.turn_client_api.specs.Receive.{then_all};
 ghost use Rattle.turn_client_api.specs.Streams.{broken_at, frame_step, is_bound, owned, poll_recv_step};
 ghost use Rattle.turn_client_api.specs.declared.state.Mode.TheVariants.{Control, Waiting};
 ghost use Rattle.turn_client_core.specs.StreamSteps.{EndsBehind, IsFront, PieceEnds, bound_sent, came_with, fed_frame_step};
-ghost use Rattle.turn_client_core.specs.StreamSteps.{given_as, left_by, part_at, whole_piece_step, put_or_broken};
+ghost use Rattle.turn_client_core.specs.StreamSteps.{given_as, left_by, bytes_in_range, whole_piece_step, put_or_broken};
 ghost use Rattle.turn_types.specs.Frames.{frame_len};
 ghost use Rattle.turn_types.specs.Incoming.{incoming_bytes};
 
@@ -275,13 +275,13 @@ impl TurnClientProtocol {
     ) -> Result<TurnRecvRet<T>, AllocError>
         requires front { place.start ≡ 0 }
         requires inside { place.end ≤ length (T.items transmit.payload) }
-        requires whole { let frame = part_at (T.items transmit.payload) place in frame_len frame ≡ Some (length frame) }
+        requires whole { let frame = bytes_in_range (T.items transmit.payload) place in frame_len frame ≡ Some (length frame) }
         requires before { self.old.phase ≡ Phase.Authenticating → self.old.grants ≡ [] }
-        ensures answer { IfOk result (λ given. outcome_of given ≡ (frame_step stream (part_at (T.items transmit.payload) place) now self.old).0) }
+        ensures answer { IfOk result (λ given. outcome_of given ≡ (frame_step stream (bytes_in_range (T.items transmit.payload) place) now self.old).0) }
         ensures hands_back { IfOk result (HandsBack transmit) }
-        ensures after { OnOk result (self.new ≡ left_by stream (frame_step stream (part_at (T.items transmit.payload) place) now self.old).1) }
+        ensures after { OnOk result (self.new ≡ left_by stream (frame_step stream (bytes_in_range (T.items transmit.payload) place) now self.old).1) }
         ensures err { OnErr result (self.new ≡ self.old) }
-        ensures wanted { OnErr result (frame_takes_memory stream (part_at (T.items transmit.payload) place) self.old ≡ true) }
+        ensures wanted { OnErr result (frame_takes_memory stream (bytes_in_range (T.items transmit.payload) place) self.old ≡ true) }
     {
         let frame = &transmit.payload.as_slice()[place.start..place.end];
         let told = self.frame(&stream, frame, now)?;

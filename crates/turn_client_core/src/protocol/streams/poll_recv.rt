@@ -6,7 +6,7 @@ ghost use Rattle.turn_client_api.specs.LawsOrder.{IsUngranted};
 ghost use Rattle.turn_client_api.specs.Memory.{frame_takes_memory};
 ghost use Rattle.turn_client_api.specs.Streams.{HoldsLittle, broken_at, frame_step, framed_stream_step, is_ready, poll_recv_step, detached_frame_step, with_bytes};
 ghost use Rattle.turn_client_core.specs.ProtocolRecv.{IsPart, outcome_in};
-ghost use Rattle.turn_client_core.specs.StreamSteps.{data_of, given_by};
+ghost use Rattle.turn_client_core.specs.StreamSteps.{received_payload, owned_payload};
 ghost use Rattle.turn_client_streams.specs.Held.{taken_out};
 ghost use Rattle.turn_types.specs.Frames.{frame_len};
 
@@ -50,7 +50,7 @@ impl TurnClientProtocol {
     /// has ended.
     pub(crate) fn process_ready(&mut self, now: Instant) -> Result<Option<Received>, AllocError>
         requires before { IsUngranted self.old.phase → self.old.grants ≡ [] }
-        ensures answer { IfOk result (λ given. option_map data_of given ≡ (poll_recv_step now self.old).0) }
+        ensures answer { IfOk result (λ given. option_map received_payload given ≡ (poll_recv_step now self.old).0) }
         ensures little { IfOk result (λ given. IsNone given → All HoldsLittle self.new.streams) }
         ensures after { OnOk result (self.new ≡ (poll_recv_step now self.old).1) }
         ensures no_memory { OnErr result (EndsAfterSteps now self.old self.new) }
@@ -105,7 +105,7 @@ impl TurnClientProtocol {
         now: Instant,
     ) -> Result<Option<Received>, AllocError>
         requires before { self.old.phase ≡ Phase.Authenticating → self.old.grants ≡ [] }
-        ensures answer { IfOk result (λ given. option_map data_of given ≡ given_by (detached_frame_step stream now self.old).0) }
+        ensures answer { IfOk result (λ given. option_map received_payload given ≡ owned_payload (detached_frame_step stream now self.old).0) }
         ensures after { OnOk result (self.new ≡ (detached_frame_step stream now self.old).1) }
         ensures err { OnErr result (self.new ≡ self.old) }
     {
@@ -132,7 +132,7 @@ impl TurnClientProtocol {
         now: Instant,
     ) -> Result<Option<Received>, AllocError>
         requires before { self.old.phase ≡ Phase.Authenticating → self.old.grants ≡ [] }
-        ensures answer { IfOk result (λ given. option_map data_of given ≡ given_by (framed_stream_step stream now self.old).0) }
+        ensures answer { IfOk result (λ given. option_map received_payload given ≡ owned_payload (framed_stream_step stream now self.old).0) }
         ensures after { OnOk result (self.new ≡ (framed_stream_step stream now self.old).1) }
         ensures err { OnErr result (self.new ≡ self.old) }
     {
@@ -185,8 +185,8 @@ impl TurnClientProtocol {
     /// If memory allocation for the copy fails.
     fn owned(&self, frame: &[u8], told: TurnProtocolRecv) -> Result<Option<Received>, AllocError>
         requires part { IsPart frame.now self.now self.now told }
-        ensures answer { IfOk result (λ given. option_map data_of given ≡ given_by (outcome_in frame.now told)) }
-        ensures memory { given_by (outcome_in frame.now told) ≡ None → IsOk result }
+        ensures answer { IfOk result (λ given. option_map received_payload given ≡ owned_payload (outcome_in frame.now told)) }
+        ensures memory { owned_payload (outcome_in frame.now told) ≡ None → IsOk result }
     {
         match told {
             TurnProtocolRecv::Handled => Ok(None),

@@ -5,7 +5,7 @@ use Rattle.turn_auth.specs.Signature.{signed_text}
 use Rattle.turn_auth.proofs.SignLemmas.{begun_is_unsigned}
 use Rattle.turn_client_api.specs.Requests.{asked_attributes, message_of, method_for}
 use Rattle.turn_client_api.specs.State.{auth_of}
-use Rattle.turn_client_requests.specs.RequestAttributes.{asking}
+use Rattle.turn_client_requests.specs.RequestAttributes.{with_asked_families}
 use Rattle.turn_client_requests.proofs.AskedLemmas.{as_long_as_told}
 use Rattle.turn_client_requests.proofs.request.request_under.Goals as goal
 
@@ -23,7 +23,7 @@ prove-unreachable-requires c =
 
 pub returns : goal.returns
 returns c = λ s same.
-    let asked = asked_attributes (asking c.args.transport c.args.families.now s) c.args.purpose.now c.args.id in
+    let asked = asked_attributes (with_asked_families c.args.transport c.args.families.now s) c.args.purpose.now c.args.id in
     let text : c.add_asked.new.message ≡ message_of (method_for c.args.purpose.now) Request asked c.args.id =
     rw ((c.in_ok-add_asked.ensures.all s).text, c.in_ok-message.ensures.message.has_id, c.in_ok-message.ensures.text, c.method_for.ensures) refl in
     c.in_ok-text.ensures.text

@@ -1,6 +1,6 @@
 use Rattle.std.proofs.Common.{◌≡◌, ◌∙◌, ap}
 use Rattle.turn_stun.specs.Message.{id_of}
-use Rattle.turn_client_api.specs.Effect.{allocated, ended, relayed_in, taken_addresses}
+use Rattle.turn_client_api.specs.Effect.{allocated, transaction_ended, relayed_in, taken_addresses}
 use Rattle.turn_client_api.specs.State.{State}
 use Rattle.turn_client_grants.specs.Ledger.{with_ledger}
 use Rattle.turn_client_core.specs.contracts.protocol.TurnClientProtocol.{the_view}
@@ -20,7 +20,7 @@ allocated-requires-clause-new c =
 pub returns-clause-ok : goal.returns-clause-ok
 returns-clause-ok c =
     let s = the_view c.self.inside in
-    let gone = ended (id_of c.args.message.now) s in
+    let gone = transaction_ended (id_of c.args.message.now) s in
     let taken : c.as_slice.result.now ≡ taken_addresses s.families (relayed_in c.args.message.now) =
     c.as_slice.ensures.value ∙ (c.in_ok-addresses.ensures ∙ ap (λ families. taken_addresses families (relayed_in c.args.message.now)) c.as_slice-families.ensures) in
     let same : with_ledger c.reserve.new.self (record gone { families = c.as_slice-families.result.now }) ≡ gone =

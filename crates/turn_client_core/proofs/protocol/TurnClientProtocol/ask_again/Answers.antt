@@ -5,10 +5,10 @@ use Rattle.turn_agent.specs.Agent.{first_sent, without_transaction}
 use Rattle.turn_auth.specs.Challenge.{challenge_of}
 use Rattle.turn_auth.specs.LongTerm.{with_challenge}
 use Rattle.turn_client_api.specs.Grants.{purposes_of}
-use Rattle.turn_client_api.specs.Requests.{asked, drawn, fresh_id, queued, request_for}
+use Rattle.turn_client_api.specs.Requests.{request_started, id_used, fresh_id, queued, request_for}
 use Rattle.turn_client_api.specs.Retry.{state_after_retry}
 use Rattle.turn_client_api.specs.State.{auth_of}
-use Rattle.turn_client_requests.specs.RequestAttributes.{asking}
+use Rattle.turn_client_requests.specs.RequestAttributes.{with_asked_families}
 use Rattle.turn_client_grants.specs.Ledger.{with_ledger}
 use Rattle.turn_stun.specs.Message.{id_of}
 use Rattle.turn_client_core.specs.Outgoing.{Outgoing}
@@ -46,12 +46,12 @@ returns-clause-ok c = λ challenge is.
     let own = sym (auth-is s c.self.inside.auth c.self.invariant.credentials c.self.invariant.supported c.self.invariant.anonymous refl) in
     let other : (fresh == id) ≡ false = rw c.transaction_id-id.ensures (asked-other (id_of c.args.message.now) fresh c.args.self.now.listed purpose c.fresh_id-fresh.ensures.unlisted c.requires.asked) in
     let same : given ≡ challenge = same_Some given challenge (sym c.in-Some.is ∙ (c.in_ok-challenge.ensures.exact ∙ (ap (λ auth. challenge_of auth c.args.message.now) (own ∙ ap auth_of c.self.view_is) ∙ is))) in
-    let all : asking c.transport.result c.as_slice.result.now t ≡ t = rw (c.transport.ensures, c.as_slice.ensures) refl in
+    let all : with_asked_families c.transport.result c.as_slice.result.now t ≡ t = rw (c.transport.ensures, c.as_slice.ensures) refl in
     let written : text ≡ request_for t purpose fresh = c.in_ok-text.ensures t (sym (ap (with_challenge given) own)) ∙ ap (λ u. request_for u purpose fresh) all in
     rw (c.accept.ensures.taken, c.after_challenge-self-inside.ensures)
     (ap (λ o. with_ledger c.ask_again.new.self (with_outbox o t)) (c.end.ensures ∙ ap (λ (o : Outgoing). record o { transactions = without_transaction id o.transactions }) c.in_ok-ask.ensures.ok)
-    ∙ (ap (λ ts. queued true from text (with_ledger c.ask_again.new.self (record (drawn t) { transactions = ts }))) (without-other id new s.transactions other)
-    ∙ (ap (queued true from text) (c.ask_again.ensures.state t text now ∙ ap (λ u. asked fresh text (purposes_of id u) now u) (c.reserve.ensures.same t))
+    ∙ (ap (λ ts. queued true from text (with_ledger c.ask_again.new.self (record (id_used t) { transactions = ts }))) (without-other id new s.transactions other)
+    ∙ (ap (queued true from text) (c.ask_again.ensures.state t text now ∙ ap (λ u. request_started fresh text (purposes_of id u) now u) (c.reserve.ensures.same t))
     ∙ (again-is s id fresh from text purpose given now written c.local_addr-from.ensures (c.fresh_id-fresh.ensures.id ∙ ap fresh_id (sym c.self.view_is))
     ∙ (ap (λ u. state_after_retry u id purpose given now) c.self.view_is
     ∙ (ap (λ i. state_after_retry c.args.self.now i purpose given now) c.transaction_id-id.ensures

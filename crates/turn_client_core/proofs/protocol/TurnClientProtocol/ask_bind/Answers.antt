@@ -6,10 +6,10 @@ use Rattle.turn_auth.specs.LongTerm.{with_challenge}
 use Rattle.turn_client_api.specs.Connections.{bind_again}
 use Rattle.turn_client_api.specs.Grants.{purposes_of}
 use Rattle.turn_client_api.specs.Judgement.{is_bind_of}
-use Rattle.turn_client_api.specs.Requests.{asked, fresh_id, queued, request_for, sent_from}
+use Rattle.turn_client_api.specs.Requests.{request_started, fresh_id, queued, request_for, sent_from}
 use Rattle.turn_client_api.specs.Retry.{with_held}
 use Rattle.turn_client_api.specs.State.{auth_of}
-use Rattle.turn_client_requests.specs.RequestAttributes.{asking}
+use Rattle.turn_client_requests.specs.RequestAttributes.{with_asked_families}
 use Rattle.turn_client_grants.specs.Asked.{bind_retried}
 use Rattle.turn_client_grants.specs.Ledger.{with_ledger}
 use Rattle.turn_stun.specs.Message.{id_of}
@@ -46,13 +46,13 @@ returns-clause-ok c = λ challenge is.
     let t = with_held given s in
     let own = sym (auth-is s c.self.inside.auth c.self.invariant.credentials c.self.invariant.supported c.self.invariant.anonymous refl) in
     let same : given ≡ challenge = same_Some given challenge (sym c.in-Some.is ∙ (c.in_ok-challenge.ensures.exact ∙ (ap (λ auth. challenge_of auth c.args.message.now) (own ∙ ap auth_of c.self.view_is) ∙ is))) in
-    let all : asking c.transport.result c.as_slice.result.now t ≡ t = rw (c.transport.ensures, c.as_slice.ensures) refl in
+    let all : with_asked_families c.transport.result c.as_slice.result.now t ≡ t = rw (c.transport.ensures, c.as_slice.ensures) refl in
     let written : text ≡ request_for t purpose fresh = c.in_ok-text.ensures t (sym (ap (with_challenge given) own)) ∙ ap (λ u. request_for u purpose fresh) all in
     let listed : find (is_bind_of d.local) (purposes_of id s) ≡ Some purpose = ap (λ u. find (is_bind_of d.local) (purposes_of id u)) c.self.view_is ∙ c.requires.asked in
     let sent : from ≡ sent_from s purpose = c.sent_from-from.ensures ∙ ap (λ u. sent_from u purpose) (sym c.self.view_is) in
     rw c.accept.ensures.taken
     (ap (λ o. with_ledger c.bind_again.new.self (with_outbox o t)) c.in_ok-ask.ensures.ok
-    ∙ (ap (queued true from text) (c.bind_again.ensures.state t text ∙ ap (λ u. asked fresh text (purpose ∷ []) now (bind_retried d.local now u)) (c.reserve.ensures.same t))
+    ∙ (ap (queued true from text) (c.bind_again.ensures.state t text ∙ ap (λ u. request_started fresh text (purpose ∷ []) now (bind_retried d.local now u)) (c.reserve.ensures.same t))
     ∙ (bind-asked s d id fresh from text purpose given now listed written sent (c.fresh_id-fresh.ensures.id ∙ ap fresh_id (sym c.self.view_is))
     ∙ (ap (λ u. bind_again d id given now u) c.self.view_is
     ∙ ap (λ ch. bind_again d id ch now c.args.self.now) same))))

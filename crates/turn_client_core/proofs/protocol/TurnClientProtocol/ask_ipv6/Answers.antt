@@ -3,12 +3,12 @@ use Rattle.std.specs.Prelude.{◌==◌, ◌∷◌, [], ◌++◌, not}
 use Rattle.std.specs.List.{list_any}
 use Rattle.std.proofs.lemmas.List.{append-nil}
 use Rattle.turn_agent.specs.Agent.{first_sent, without_transaction}
-use Rattle.turn_client_api.specs.Effect.{ended, in_phase}
+use Rattle.turn_client_api.specs.Effect.{transaction_ended, in_phase}
 use Rattle.turn_client_api.specs.Grants.{is_for_allocation, wait}
-use Rattle.turn_client_api.specs.Requests.{asked, drawn, fresh_id, queued, request_for}
+use Rattle.turn_client_api.specs.Requests.{request_started, id_used, fresh_id, queued, request_for}
 use Rattle.turn_client_api.specs.declared.event.TurnEvent.TheVariants.{AllocationCreateFailed}
 use Rattle.turn_client_api.specs.declared.grant.Purpose.TheVariants.{ForAllocation}
-use Rattle.turn_client_requests.specs.RequestAttributes.{asking}
+use Rattle.turn_client_requests.specs.RequestAttributes.{with_asked_families}
 use Rattle.turn_client_grants.specs.Ledger.{with_ledger}
 use Rattle.turn_stun.specs.Message.{id_of}
 use Rattle.turn_types.specs.declared.family.AddressFamily.TheVariants.{IPV4, IPV6}
@@ -44,20 +44,20 @@ returns-clause-ok c =
     let from = c.local_addr-from.result in
     let text = c.in_ok-text.text in
     let now = c.args.now in
-    let v = record (ended id s) { families = IPV6 ∷ [] } in
-    let u = wait (AllocationCreateFailed IPV4 ∷ []) (record (in_phase s.phase (ended id s)) { families = IPV6 ∷ [] }) in
+    let v = record (transaction_ended id s) { families = IPV6 ∷ [] } in
+    let u = wait (AllocationCreateFailed IPV4 ∷ []) (record (in_phase s.phase (transaction_ended id s)) { families = IPV6 ∷ [] }) in
     let new = first_sent fresh s.remote now text in
     let own = sym (auth-is s c.self.inside.auth c.self.invariant.credentials c.self.invariant.supported c.self.invariant.anonymous refl) in
     let other : (fresh == id) ≡ false = rw c.transaction_id.ensures (answered-other (id_of c.args.message.now) fresh c.args.self.now.transactions c.fresh_id-fresh.ensures.unsent c.requires.outstanding) in
-    let all : asking c.transport.result (IPV6 ∷ []) u ≡ u = rw c.transport.ensures refl in
+    let all : with_asked_families c.transport.result (IPV6 ∷ []) u ≡ u = rw c.transport.ensures refl in
     let written : text ≡ request_for u ForAllocation fresh = c.in_ok-text.ensures u (sym own) ∙ ap (λ w. request_for w ForAllocation fresh) all in
     let told : with_ledger c.push_event.new.self v ≡ u = c.push_event.ensures.state v ∙ ap (wait (AllocationCreateFailed IPV4 ∷ [])) (c.unlist_allocates.ensures.state v v.phase ∙ ap (in_phase v.phase) (c.reserve.ensures.same v)) in
     let more : record (with_ledger c.push_event.new.self v) { grants = c.push_event.new.self.grants ++ [] } ≡ u = ap (λ gs. record (with_ledger c.push_event.new.self v) { grants = gs }) (append-nil c.push_event.new.self.grants) ∙ told in
     rw c.only_ipv6-families.ensures
     (ap (λ o. with_ledger c.ask-2.new.self (with_outbox o v)) (c.end.ensures ∙ ap (λ (o : Outgoing). record o { transactions = without_transaction id o.transactions }) c.in_ok-ask.ensures.ok)
-    ∙ (ap (λ ts. queued true from text (with_ledger c.ask-2.new.self (record (drawn v) { transactions = ts }))) (without-other id new s.transactions other)
-    ∙ (ap (queued true from text) ((rw c.one.ensures at (c.ask-2.ensures.state v text now)) ∙ ap (λ w. asked fresh text (ForAllocation ∷ []) now w) more)
+    ∙ (ap (λ ts. queued true from text (with_ledger c.ask-2.new.self (record (id_used v) { transactions = ts }))) (without-other id new s.transactions other)
+    ∙ (ap (queued true from text) ((rw c.one.ensures at (c.ask-2.ensures.state v text now)) ∙ ap (λ w. request_started fresh text (ForAllocation ∷ []) now w) more)
     ∙ (first-is u fresh from text now written c.local_addr-from.ensures
-    ∙ (ap (λ i. asks_ipv6 i now (ended id s)) (c.fresh_id-fresh.ensures.id)
-    ∙ (ap (λ i. asks_ipv6 (fresh_id c.args.self.now) now (ended i s)) c.transaction_id.ensures
-    ∙ ap (λ w. asks_ipv6 (fresh_id c.args.self.now) now (ended (id_of c.args.message.now) w)) c.self.view_is))))))
+    ∙ (ap (λ i. asks_ipv6 i now (transaction_ended id s)) (c.fresh_id-fresh.ensures.id)
+    ∙ (ap (λ i. asks_ipv6 (fresh_id c.args.self.now) now (transaction_ended i s)) c.transaction_id.ensures
+    ∙ ap (λ w. asks_ipv6 (fresh_id c.args.self.now) now (transaction_ended (id_of c.args.message.now) w)) c.self.view_is))))))

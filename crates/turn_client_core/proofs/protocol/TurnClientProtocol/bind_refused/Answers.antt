@@ -1,6 +1,6 @@
 use Rattle.std.proofs.Common.{◌∙◌, ap}
 use Rattle.turn_client_api.specs.Connections.{connection_at, not_bound}
-use Rattle.turn_client_api.specs.Effect.{ended}
+use Rattle.turn_client_api.specs.Effect.{transaction_ended}
 use Rattle.turn_stun.specs.Message.{id_of}
 use Rattle.turn_client_core.specs.contracts.protocol.TurnClientProtocol.{the_view}
 use Rattle.turn_client_core.proofs.AskLemmas.{with_outbox}
@@ -15,5 +15,5 @@ returns c =
     let d = c.args.connection.now in
     c.not_bound.ensures
     ∙ (ap (λ o. not_bound d (with_outbox o s)) c.end.ensures
-    ∙ (ap (λ i. not_bound d (ended i s)) c.transaction_id.ensures
-    ∙ ap (λ u. not_bound d (ended (id_of c.args.message.now) u)) c.self.view_is))
+    ∙ (ap (λ i. not_bound d (transaction_ended i s)) c.transaction_id.ensures
+    ∙ ap (λ u. not_bound d (transaction_ended (id_of c.args.message.now) u)) c.self.view_is))

@@ -1,4 +1,4 @@
-use Rattle.turn_client_api.specs.Handled.{fed}
+use Rattle.turn_client_api.specs.Handled.{stream_with_piece}
 use Rattle.turn_client_api.specs.Answers.{outcome_of}
 use Rattle.turn_client_core.proofs.ArrivalLemmas.{err-then}
 use Rattle.turn_client_core.proofs.FreePieceLemmas.{free-rests, rests-behind}
@@ -10,7 +10,7 @@ pub then_all-requires : goal.then_all-requires
 then_all-requires g c = record {
   before =
       rw c.in_ok-first.ensures.after
-      (framed-none-before (fed c.args.stream (g.T.AsSlice.items c.args.transmit.payload)) c.args.now c.args.self.now c.requires.before);
+      (framed-none-before (stream_with_piece c.args.stream (g.T.AsSlice.items c.args.transmit.payload)) c.args.now c.args.self.now c.requires.before);
 }
 
 pub returns-clause-hands_back : goal.returns-clause-hands_back

@@ -2,13 +2,13 @@ use Rattle.std.proofs.Common.{◌≡◌, ◌∙◌, ℕ, List, Some, ap, false, 
 use Rattle.std.specs.Prelude.{IfOk, OnErr}
 use Rattle.turn_types.specs.Incoming.{ComesWith, incoming_bytes}
 use Rattle.turn_client_api.specs.Answers.{outcome_of}
-use Rattle.turn_client_api.specs.Handled.{fed}
+use Rattle.turn_client_api.specs.Handled.{stream_with_piece}
 use Rattle.turn_client_api.specs.Memory.{frame_takes_memory}
 use Rattle.turn_client_api.specs.Payloads.{Outcome}
 use Rattle.turn_client_api.specs.Receive.{place_kept}
 use Rattle.turn_client_api.specs.Streams.{frame_step}
 use Rattle.turn_client_api.specs.declared.state.Stream.{Stream}
-use Rattle.turn_client_streams.specs.Buffered.{front_of, without_front}
+use Rattle.turn_client_streams.specs.Buffered.{front_frame, without_front}
 use Rattle.turn_client_core.proofs.ArrivalLemmas.{err-then}
 use Rattle.turn_client_core.proofs.FreePieceLemmas.{free-front, free-whole}
 use Rattle.turn_client_core.proofs.PieceLemmas.{comes-given, fed-some}
@@ -18,17 +18,17 @@ use Rattle.turn_client_core.proofs.protocol.TurnClientProtocol.first_frame_step.
 
 pub first_frame-requires-clause-whole : goal.first_frame-requires-clause-whole
 first_frame-requires-clause-whole g c =
-    front-whole (fed c.args.stream (g.T.AsSlice.items c.args.transmit.payload)) (incoming_bytes g.T.AsSlice.items c.in-Some.front) (rw c.in-Some.is at c.in_ok-front.ensures.frame)
+    front-whole (stream_with_piece c.args.stream (g.T.AsSlice.items c.args.transmit.payload)) (incoming_bytes g.T.AsSlice.items c.in-Some.front) (rw c.in-Some.is at c.in_ok-front.ensures.frame)
 
 pub returns-clause-answer : goal.returns-clause-answer
 returns-clause-answer g c =
     let items = g.T.AsSlice.items in
     let waited = c.args.stream.bytes in
-    let all : Stream = fed c.args.stream (items c.args.transmit.payload) in
+    let all : Stream = stream_with_piece c.args.stream (items c.args.transmit.payload) in
     let frame : List ℕ = incoming_bytes items c.in-Some.front in
     let now = c.args.now in
     let t = c.args.self.now in
-    let front : Some frame ≡ front_of all = rw c.in-Some.is at c.in_ok-front.ensures.frame in
+    let front : Some frame ≡ front_frame all = rw c.in-Some.is at c.in_ok-front.ensures.frame in
     let comes : ComesWith items waited c.args.transmit c.in-Some.front = rw c.in-Some.is at c.in_ok-front.ensures.place in
     let left : c.incoming_tcp.new.self ≡ without_front all = c.in_ok-front.ensures.after in
     let same = comes-given items waited c.args.transmit c.in-Some.front (frame_step c.incoming_tcp.new.self frame now t).0 comes
@@ -44,10 +44,10 @@ returns-in_err-front-clause-free g c = λ free.
 pub returns-clause-free : goal.returns-clause-free
 returns-clause-free g c = λ free.
     let items = g.T.AsSlice.items in
-    let all : Stream = fed c.args.stream (items c.args.transmit.payload) in
+    let all : Stream = stream_with_piece c.args.stream (items c.args.transmit.payload) in
     let frame : List ℕ = incoming_bytes items c.in-Some.front in
     let t = c.args.self.now in
-    let front : Some frame ≡ front_of all = rw c.in-Some.is at c.in_ok-front.ensures.frame in
+    let front : Some frame ≡ front_frame all = rw c.in-Some.is at c.in_ok-front.ensures.frame in
     let left : c.incoming_tcp.new.self ≡ without_front all = c.in_ok-front.ensures.after in
     let asks = subst (λ (u : Stream). OnErr c.first_frame.result (frame_takes_memory u frame t ≡ true)) left c.first_frame.ensures.wanted in
     no-err c.first_frame.result (err-then c.first_frame.result (free-front c.args.stream (items c.args.transmit.payload) frame t free front) asks)

@@ -1,18 +1,18 @@
 use Rattle.std.proofs.Common.{◌≡◌, ◌∙◌, ℕ, List, subst}
 use Rattle.turn_client_api.specs.Streams.{frame_step}
-use Rattle.turn_client_core.specs.ProtocolRecv.{IsPart, IsWithin, outcome_in}
-use Rattle.turn_client_core.specs.StreamSteps.{part_at}
+use Rattle.turn_client_core.specs.ProtocolRecv.{IsPart, IsRangeWithin, outcome_in}
+use Rattle.turn_client_core.specs.StreamSteps.{bytes_in_range}
 use Rattle.turn_client_core.proofs.PieceLemmas.{lent-outcome, part-IsWithin}
 use Rattle.turn_client_core.proofs.protocol.TurnClientProtocol.lent_frame.Goals as goal
 
 pub returns-clause-answer : goal.returns-clause-answer
 returns-clause-answer g c =
     let bytes : List ℕ = g.T.AsSlice.items c.args.transmit.payload in
-    let frame : List ℕ = part_at bytes c.args.place in
+    let frame : List ℕ = bytes_in_range bytes c.args.place in
     let told = c.in_ok-told.told in
     let part : IsPart frame c.args.self.now c.frame.new.self told =
-    subst (λ (xs : List ℕ). IsPart (part_at xs c.args.place) c.args.self.now c.frame.new.self told) c.as_slice.ensures c.in_ok-told.ensures.part in
+    subst (λ (xs : List ℕ). IsPart (bytes_in_range xs c.args.place) c.args.self.now c.frame.new.self told) c.as_slice.ensures c.in_ok-told.ensures.part in
     let answer : outcome_in frame told ≡ (frame_step c.args.stream frame c.args.now c.args.self.now).0 =
-    subst (λ (xs : List ℕ). outcome_in (part_at xs c.args.place) told ≡ (frame_step c.args.stream (part_at xs c.args.place) c.args.now c.args.self.now).0) c.as_slice.ensures c.in_ok-told.ensures.answer in
-    let within : IsWithin frame told = part-IsWithin frame c.args.self.now c.frame.new.self told part in
+    subst (λ (xs : List ℕ). outcome_in (bytes_in_range xs c.args.place) told ≡ (frame_step c.args.stream (bytes_in_range xs c.args.place) c.args.now c.args.self.now).0) c.as_slice.ensures c.in_ok-told.ensures.answer in
+    let within : IsRangeWithin frame told = part-IsWithin frame c.args.self.now c.frame.new.self told part in
     c.lent.ensures.outcome ∙ (lent-outcome bytes c.args.place told c.requires.front c.requires.inside within ∙ answer)

@@ -4,7 +4,7 @@ use Rattle.std.specs.Option.{option_map}
 use Rattle.turn_client_api.proofs.StreamDrainLemmas.{turn-lighter}
 use Rattle.turn_client_api.specs.Streams.{is_ready, next_frame_step, detached_frame_step, with_bytes}
 use Rattle.turn_client_streams.specs.Held.{taken_out}
-use Rattle.turn_client_core.specs.StreamSteps.{data_of, given_by}
+use Rattle.turn_client_core.specs.StreamSteps.{received_payload, owned_payload}
 use Rattle.turn_client_core.proofs.TurnLemmas.{ends, first-Rests, leads-on, rests-none, rests-on, rests-some, stays-led}
 use Rattle.turn_client_core.proofs.UngrantedLemmas.{before-authenticating, led-none}
 use Rattle.turn_client_core.proofs.protocol.TurnClientProtocol.process_ready.Goals as goal
@@ -35,7 +35,7 @@ loop-stream-preserved c =
     let is : c.process_detached.new.self ≡ (next_frame_step c.in-Some.stream c.args.now c.loop-stream.self).1 =
     c.in-Ok-None.ensures.after ∙ ap (λ t. (detached_frame_step c.in-Some.stream c.args.now t).1) out in
     let told =
-    sym (ap (λ t. given_by (detached_frame_step c.in-Some.stream c.args.now t).0) out) ∙ (sym c.in-Ok-None.ensures.answer ∙ ap (λ o. option_map data_of o) c.in-Ok-None.field-0-is) in
+    sym (ap (λ t. owned_payload (detached_frame_step c.in-Some.stream c.args.now t).0) out) ∙ (sym c.in-Ok-None.ensures.answer ∙ ap (λ o. option_map received_payload o) c.in-Ok-None.field-0-is) in
     record {
       rests = rw is (rests-on c.args.now c.args.self.now c.loop-stream.self c.in-Some.stream e told c.loop-stream.invariant.rests);
       led = rw is (leads-on c.args.now c.args.self.now c.loop-stream.self c.in-Some.stream e told c.loop-stream.invariant.led);
@@ -46,8 +46,8 @@ returns-in-Ok-Some-clause-answer c =
     let e : find is_ready c.loop-stream.self.streams ≡ Some c.in-Some.stream = (sym c.take_ready.ensures.stream ∙ c.in-Some.is) in
     let out : c.take_ready.new.self ≡ with_bytes c.in-Some.stream.local [] c.loop-stream.self = (c.take_ready.ensures.after ∙ ap (λ o. taken_out o c.loop-stream.self) c.in-Some.is) in
     let told =
-    sym (ap (λ t. given_by (detached_frame_step c.in-Some.stream c.args.now t).0) out) ∙ (sym c.in-Ok-Some.ensures.answer ∙ ap (λ o. option_map data_of o) c.in-Ok-Some.field-0-is) in
-    ap (λ g. Some (data_of g)) c.in-Ok-Some.given-is ∙ sym (ap (λ p. p.0) (rests-some c.args.now c.args.self.now c.loop-stream.self c.in-Some.stream _ e told c.loop-stream.invariant.rests))
+    sym (ap (λ t. owned_payload (detached_frame_step c.in-Some.stream c.args.now t).0) out) ∙ (sym c.in-Ok-Some.ensures.answer ∙ ap (λ o. option_map received_payload o) c.in-Ok-Some.field-0-is) in
+    ap (λ g. Some (received_payload g)) c.in-Ok-Some.given-is ∙ sym (ap (λ p. p.0) (rests-some c.args.now c.args.self.now c.loop-stream.self c.in-Some.stream _ e told c.loop-stream.invariant.rests))
 
 pub returns-in-Ok-Some-clause-after : goal.returns-in-Ok-Some-clause-after
 returns-in-Ok-Some-clause-after c =
@@ -56,7 +56,7 @@ returns-in-Ok-Some-clause-after c =
     let is : c.process_detached.new.self ≡ (next_frame_step c.in-Some.stream c.args.now c.loop-stream.self).1 =
     c.in-Ok-Some.ensures.after ∙ ap (λ t. (detached_frame_step c.in-Some.stream c.args.now t).1) out in
     let told =
-    sym (ap (λ t. given_by (detached_frame_step c.in-Some.stream c.args.now t).0) out) ∙ (sym c.in-Ok-Some.ensures.answer ∙ ap (λ o. option_map data_of o) c.in-Ok-Some.field-0-is) in
+    sym (ap (λ t. owned_payload (detached_frame_step c.in-Some.stream c.args.now t).0) out) ∙ (sym c.in-Ok-Some.ensures.answer ∙ ap (λ o. option_map received_payload o) c.in-Ok-Some.field-0-is) in
     is ∙ sym (ap (λ p. p.1) (rests-some c.args.now c.args.self.now c.loop-stream.self c.in-Some.stream _ e told c.loop-stream.invariant.rests))
 
 pub returns-in-Err-clause-no_memory : goal.returns-in-Err-clause-no_memory

@@ -1,5 +1,5 @@
 use Rattle.std.proofs.Common.{◌∙◌, ap, filter, fold}
-use Rattle.turn_client_api.specs.Effect.{effect, ended}
+use Rattle.turn_client_api.specs.Effect.{effect, transaction_ended}
 use Rattle.turn_client_api.specs.Judgement.{method_in}
 use Rattle.turn_client_api.specs.Payloads.{answered_purposes, is_answered, outcome_for}
 use Rattle.turn_client_core.specs.Effects.{after}
@@ -35,8 +35,8 @@ returns-clause-after c =
     let given = c.answer_all-effect.result in
     c.apply_effect.ensures
     ∙ (ap (λ o. after given (with_ledger c.answer_all-effect.new.ledger (with_outbox o s))) c.end.ensures
-    ∙ (c.answer_all-effect.ensures.state (ended id s)
-    ∙ (ap (λ u. fold f u ps) (c.reserve.ensures.same (ended id s))
-    ∙ (ap (λ qs. fold f (ended id s) qs) read
-    ∙ (ap (λ i. fold f (ended i s) (answered_purposes m c.args.self.now)) c.transaction_id-id.ensures
-    ∙ ap (λ u. fold f (ended (id_of m) u) (answered_purposes m c.args.self.now)) c.self.view_is)))))
+    ∙ (c.answer_all-effect.ensures.state (transaction_ended id s)
+    ∙ (ap (λ u. fold f u ps) (c.reserve.ensures.same (transaction_ended id s))
+    ∙ (ap (λ qs. fold f (transaction_ended id s) qs) read
+    ∙ (ap (λ i. fold f (transaction_ended i s) (answered_purposes m c.args.self.now)) c.transaction_id-id.ensures
+    ∙ ap (λ u. fold f (transaction_ended (id_of m) u) (answered_purposes m c.args.self.now)) c.self.view_is)))))

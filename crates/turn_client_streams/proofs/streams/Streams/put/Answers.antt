@@ -1,5 +1,5 @@
 use Rattle.std.proofs.Common.{refl, sym, ap, ◌∙◌}
-use Rattle.turn_client_streams.specs.Buffered.{holding}
+use Rattle.turn_client_streams.specs.Buffered.{with_content}
 use Rattle.turn_client_streams.specs.Held.{with_streams}
 use Rattle.turn_client_streams.proofs.StreamLemmas.{at_end-HasOwnEnds, none-local, set-local}
 use Rattle.turn_client_streams.proofs.streams.Streams.put.Goals as goal
@@ -9,18 +9,18 @@ invariant_of-self c =
     rw (
       c.hold.ensures,
       c.index_mut.ensures.value,
-      set-local c.args.stream.local (holding c.args.stream.bytes) c.self.inside.list.items c.in-Some.place _ c.self.invariant
+      set-local c.args.stream.local (with_content c.args.stream.bytes) c.self.inside.list.items c.in-Some.place _ c.self.invariant
           (rw (c.as_slice.ensures.value, c.local.ensures) at (sym c.place_at.ensures ∙ c.in-Some.is)),
     )
-    (at_end-HasOwnEnds c.args.stream.local (holding c.args.stream.bytes) (λ x. refl) c.self.inside.list.items c.self.invariant)
+    (at_end-HasOwnEnds c.args.stream.local (with_content c.args.stream.bytes) (λ x. refl) c.self.inside.list.items c.self.invariant)
 
 pub returns-in-Some : goal.returns-in-Some
 returns-in-Some c = λ s.
     rw (c.hold.ensures, c.index_mut.ensures.value, ← c.self.view_is)
-    (ap (λ xs. with_streams xs s) (set-local c.args.stream.local (holding c.args.stream.bytes) c.self.inside.list.items c.in-Some.place _ c.self.invariant
+    (ap (λ xs. with_streams xs s) (set-local c.args.stream.local (with_content c.args.stream.bytes) c.self.inside.list.items c.in-Some.place _ c.self.invariant
     (rw (c.as_slice.ensures.value, c.local.ensures) at (sym c.place_at.ensures ∙ c.in-Some.is))))
 
 pub returns-in_default : goal.returns-in_default
 returns-in_default c = λ s.
     rw (← c.self.view_is)
-    (ap (λ xs. with_streams xs s) (sym (none-local c.args.stream.local (holding c.args.stream.bytes) c.self.inside.list.items (rw (c.as_slice.ensures.value, c.local.ensures) at (sym c.place_at.ensures ∙ c.in_default.is)))))
+    (ap (λ xs. with_streams xs s) (sym (none-local c.args.stream.local (with_content c.args.stream.bytes) c.self.inside.list.items (rw (c.as_slice.ensures.value, c.local.ensures) at (sym c.place_at.ensures ∙ c.in_default.is)))))

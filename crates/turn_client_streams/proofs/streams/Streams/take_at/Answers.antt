@@ -1,6 +1,6 @@
 use Rattle.std.proofs.Common.{[], refl, sym, ap, ◌∙◌}
 use Rattle.turn_agent.proofs.AgentLemmas.{position-IsFirst, position-none}
-use Rattle.turn_client_streams.specs.Buffered.{holding}
+use Rattle.turn_client_streams.specs.Buffered.{with_content}
 use Rattle.turn_client_streams.specs.Held.{with_streams}
 use Rattle.turn_client_streams.proofs.StreamLemmas.{at_end-HasOwnEnds, set-first, is_at}
 use Rattle.turn_client_streams.proofs.streams.Streams.take_at.Goals as goal
@@ -10,10 +10,10 @@ invariant_of-self c =
     rw (
       c.take_out.ensures.after,
       c.index_mut.ensures.value,
-      set-first (is_at c.args.local) (holding []) c.self.inside.list.items c.in-Some.place _ c.self.invariant
+      set-first (is_at c.args.local) (with_content []) c.self.inside.list.items c.in-Some.place _ c.self.invariant
           (rw c.as_slice.ensures.value at (sym c.place_at.ensures ∙ c.in-Some.is)),
     )
-    (at_end-HasOwnEnds _ (holding []) (λ x. refl) c.self.inside.list.items c.self.invariant)
+    (at_end-HasOwnEnds _ (with_content []) (λ x. refl) c.self.inside.list.items c.self.invariant)
 
 pub returns-clause-stream : goal.returns-clause-stream
 returns-clause-stream c = λ s.
@@ -27,5 +27,5 @@ returns-in_default-clause-stream c = λ s.
 pub returns-clause-after : goal.returns-clause-after
 returns-clause-after c = λ s.
     rw (c.take_out.ensures.after, c.take_out.ensures.stream, c.index_mut.ensures.value, ← c.self.view_is)
-    (ap (λ xs. with_streams xs s) (set-first (is_at c.args.local) (holding []) c.self.inside.list.items c.in-Some.place _ c.self.invariant
+    (ap (λ xs. with_streams xs s) (set-first (is_at c.args.local) (with_content []) c.self.inside.list.items c.in-Some.place _ c.self.invariant
     (rw c.as_slice.ensures.value at (sym c.place_at.ensures ∙ c.in-Some.is))))
