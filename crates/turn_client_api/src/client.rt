@@ -43,7 +43,7 @@ use turn_types::transmit::TransmitBuild;
 /// `docs/MACHINE.md`. A call whose memory allocation fails returns an error; its doc comment says
 /// which state remains.
 ///
-/// A caller's loop over any client, which is proved too, is `turn_uses::turn`:
+/// A caller's loop over any client, which is proved too, is `turn_driver::turn`:
 ///
 /// ```rust
 /// loop {

@@ -1,4 +1,4 @@
-//! The loop of `turn_uses` over a client over UDP and over TCP: an allocation, a permission, and data both ways.
+//! The loop of `turn_driver` over a client over UDP and over TCP: an allocation, a permission, and data both ways.
 //!
 //! A response arrives 20 ms after its request, and requests are sent 50 ms apart. Times were added up by hand. An
 //! iteration that may poll the client only once has the same result as one that may poll it often.
@@ -13,7 +13,7 @@ use std::test::Fail;
 use turn_client_api::{TurnClientApi, TurnEvent};
 use turn_stun::transport::{Transmit, TransportType};
 use turn_types::transmit::DelayedTransmitBuild;
-use turn_uses::{Rest, Task, drive_client};
+use turn_driver::{Rest, Task, drive_client};
 
 /// The time from a request to its response, in milliseconds.
 const DELAY: u32 = 20;

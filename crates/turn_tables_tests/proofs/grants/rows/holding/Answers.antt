@@ -1,0 +1,14 @@
+use Rattle.std.proofs.Common.{◌≡◌, ◌∙◌, [], ap, refl}
+use Rattle.turn_client_api.specs.LawsRows.{peer}
+use Rattle.turn_client_grants.proofs.ThereLemmas.{someone}
+use Rattle.turn_tables_tests.proofs.grants.rows.holding.Goals as goal
+
+pub ask-requires-clause-new : goal.ask-requires-clause-new
+ask-requires-clause-new c =
+    let none : c.reserve.new.self.grants ≡ [] = ap (λ t. t.grants) (c.reserve.ensures.same (someone peer)) ∙ c.new-ledger.ensures.grants in
+    rw none c.requires.new
+
+pub ask-requires-clause-new_id : goal.ask-requires-clause-new_id
+ask-requires-clause-new_id c =
+    let none : c.reserve.new.self.listed ≡ [] = ap (λ t. t.listed) (c.reserve.ensures.same (someone peer)) ∙ c.new-ledger.ensures.listed in
+    rw none refl
