@@ -45,9 +45,9 @@
 //! A caller makes a [`TurnConfig`] for a client. Data of a peer is a range of the caller's own
 //! bytes ([`TurnPeerData`]), and a packet for a peer is built when it is sent ([`TransmitBuild`]).
 //!
-//! The functions of [`laws`] do nothing: their contracts say what holds for every client that meets
-//! the trait, for example that a caller that sleeps until the time that `poll` returns misses no
-//! deadline. The clients themselves are in the crates above.
+//! What holds for every client that meets the trait, for example that a caller that sleeps until the
+//! time that `poll` returns misses no deadline, is in the crate `turn_client_laws`. The clients themselves
+//! are in the crates above.
 #![tactic(auto)]
 
 mod addresses;
@@ -58,7 +58,6 @@ mod config;
 mod error;
 mod event;
 mod grant;
-pub mod laws;
 mod poll;
 mod receive;
 mod send;

@@ -8,7 +8,7 @@ use Rattle.turn_types.specs.declared.family.AddressFamily.TheVariants.{IPV4, IPV
 use Rattle.turn_client_api.specs.Config.{same_family}
 use Rattle.turn_client_api.specs.Effect.{new_allocation, taken_addresses}
 use Rattle.turn_client_api.specs.declared.grant.Grant.{Grant}
-use Rattle.turn_client_api.proofs.NumberLemmas.{none-filter}
+use Rattle.turn_client_laws.proofs.NumberLemmas.{none-filter}
 use Rattle.turn_client_grants.specs.Table.{are_apart, are_new, has_no_double}
 use Rattle.turn_client_api.specs.Grants.{family_of, is_of_family}
 use Rattle.turn_client_core.specs.Allocated.{IsRead, missing}

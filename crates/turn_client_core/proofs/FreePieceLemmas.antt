@@ -13,7 +13,7 @@ use Rattle.turn_auth.specs.LongTerm.{Challenge}
 use Rattle.turn_client_api.specs.Answers.{EndsAfterSteps, is_free_piece}
 use Rattle.turn_client_api.specs.Connections.{attempt_indicated, accepts_attempt}
 use Rattle.turn_client_api.specs.Grants.{purposes_of}
-use Rattle.turn_client_api.specs.Handled.{stream_with_piece}
+use Rattle.turn_client_laws.specs.Handled.{stream_with_piece}
 use Rattle.turn_client_api.specs.Judgement as J
 use Rattle.turn_client_api.specs.Judgement.{Judgement, connection_id_in, judgement_of, peer_in}
 use Rattle.turn_client_api.specs.Memory.{challenge_takes_memory, frame_takes_memory, is_free_frame, is_whole_frame, message_takes_memory, packet_takes_memory}
@@ -25,7 +25,7 @@ use Rattle.turn_client_api.specs.declared.grant.Purpose.{Purpose}
 use Rattle.turn_client_api.specs.declared.state.Mode.{Mode}
 use Rattle.turn_client_api.specs.declared.state.Mode.TheVariants.{Control, Waiting, Bound, Broken}
 use Rattle.turn_client_api.specs.declared.state.Stream.{Stream}
-use Rattle.turn_client_api.proofs.StreamDrainLemmas.{ready-waits}
+use Rattle.turn_client_laws.proofs.StreamDrainLemmas.{ready-waits}
 use Rattle.turn_client_streams.specs.Buffered.{broken, front_frame, passed, without_front}
 use Rattle.turn_client_core.specs.StreamSteps.{EndsBehind, fed_frame_step, is_broken, piece_takes_none}
 use Rattle.turn_client_core.proofs.PieceLemmas.{front-begins, passed-local, passed-mode}

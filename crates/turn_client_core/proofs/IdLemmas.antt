@@ -4,7 +4,7 @@ use Rattle.std.specs.List.{list_any, range_with_len}
 use Rattle.std.specs.Prelude.{◌==◌, ◌||◌, find, Some, unwrap_or, if◌then◌else◌}
 use Rattle.turn_agent.specs.Agent.{is_outstanding}
 use Rattle.turn_agent.specs.TransactionIds.{next_id}
-use Rattle.turn_client_api.proofs.NewIdLemmas.{counted-small, fresh-free}
+use Rattle.turn_client_laws.proofs.NewIdLemmas.{counted-small, fresh-free}
 use Rattle.turn_client_api.specs.Grants.{is_listed, is_of_request}
 use Rattle.turn_client_api.specs.Requests.{counted_up, fresh_id, is_taken, max_ids_taken}
 use Rattle.turn_client_api.specs.State.{State}

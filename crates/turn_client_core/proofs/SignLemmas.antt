@@ -1,7 +1,7 @@
 -- Clients that can sign.
 use Rattle.std.specs.Prelude.{Option, IsSome}
 use Rattle.turn_auth.specs.LongTerm.{Challenge}
-use Rattle.turn_client_api.specs.LawsStates.{IsHeldIn}
+use Rattle.turn_client_laws.specs.LawsStates.{IsHeldIn}
 use Rattle.turn_client_api.specs.declared.state.Phase.{Phase}
 use Rattle.turn_client_api.specs.declared.state.Phase.TheVariants.{New, Requesting, Authenticating, Allocated, Closed}
 use Rattle.turn_client_core.specs.Attempts.{CanSign}

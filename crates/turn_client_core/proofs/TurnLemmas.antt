@@ -15,8 +15,8 @@ use Rattle.turn_client_api.specs.declared.state.Mode.TheVariants.{Broken}
 use Rattle.turn_client_api.specs.declared.state.Stream.{Stream}
 use Rattle.turn_client_api.specs.Payloads.{Payload, Outcome, Handled, Ignored, PeerData, PeerIcmp}
 use Rattle.turn_client_api.specs.Streams.{broken_at, frame_step, framed_by, framed_stream_step, go_on, is_ready, max_steps, poll_recv_step, put_back, next_frame_step, first_ready_step, steps_until_payload, with_bytes}
-use Rattle.turn_client_api.proofs.StreamDrainLemmas.{turn-lighter}
-use Rattle.turn_client_api.proofs.StreamWeightLemmas.{weight, weight-le}
+use Rattle.turn_client_laws.proofs.StreamDrainLemmas.{turn-lighter}
+use Rattle.turn_client_laws.proofs.StreamWeightLemmas.{weight, weight-le}
 use Rattle.turn_client_streams.specs.Buffered.{front_frame, passed}
 use Rattle.turn_client_core.specs.StreamSteps.{owned_payload}
 

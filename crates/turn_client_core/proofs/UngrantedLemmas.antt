@@ -11,16 +11,16 @@ use Rattle.turn_client_api.specs.Answers.{LeadsTo}
 use Rattle.turn_client_api.specs.Calls.{is_offer_of, without_first}
 use Rattle.turn_client_api.specs.Effect.{relayed_in, taken_addresses}
 use Rattle.turn_client_api.specs.Grants.{is_of}
-use Rattle.turn_client_api.specs.LawsOrder.{IsUngranted}
-use Rattle.turn_client_api.specs.LawsSteps.{GoesOn, rank}
+use Rattle.turn_client_laws.specs.LawsOrder.{IsUngranted}
+use Rattle.turn_client_laws.specs.LawsSteps.{GoesOn, rank}
 use Rattle.turn_client_api.specs.Payloads.{Payload, Outcome, Handled}
 use Rattle.turn_client_api.specs.Retry.{phase_after}
 use Rattle.turn_client_api.specs.Streams.{broken_at, framed_by, framed_stream_step}
 use Rattle.turn_types.specs.Frames.{begins_no_frame, frame_len}
-use Rattle.turn_client_api.proofs.Edits.{KeepsAllEdits, KeepsEdits, aged-outlines, outline}
-use Rattle.turn_client_api.proofs.EditsOfMessages.{edits-IsKept, granted-with}
-use Rattle.turn_client_api.proofs.PhasesGoOn.{Keeps, Keeps-KeepsAllEdits, Keeps-KeepsEdits, keeps-same, keeps-trans}
-use Rattle.turn_client_api.proofs.RunKeepLemmas.{IsKept, frame-kept, turns-kept}
+use Rattle.turn_client_laws.proofs.Edits.{KeepsAllEdits, KeepsEdits, aged-outlines, outline}
+use Rattle.turn_client_laws.proofs.EditsOfMessages.{edits-IsKept, granted-with}
+use Rattle.turn_client_laws.proofs.PhasesGoOn.{Keeps, Keeps-KeepsAllEdits, Keeps-KeepsEdits, keeps-same, keeps-trans}
+use Rattle.turn_client_laws.proofs.RunKeepLemmas.{IsKept, frame-kept, turns-kept}
 
 abbrev pub HasNoneBefore : State → Type 0
 HasNoneBefore s = IsUngranted s.phase → s.grants ≡ []

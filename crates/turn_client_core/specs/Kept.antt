@@ -3,7 +3,7 @@ use Rattle.std.specs.Prelude.{◌≡◌, ◌≤◌, ℕ, List, Some, length}
 use Rattle.turn_auth.specs.LongTerm.{ClientAuth}
 use Rattle.turn_agent.specs.Schedule.{Timers}
 use Rattle.turn_client_api.specs.Config.{Config, timers_of}
-use Rattle.turn_client_api.specs.LawsStates.{IsHeldIn}
+use Rattle.turn_client_laws.specs.LawsStates.{IsHeldIn}
 use Rattle.turn_client_api.specs.declared.state.Phase.{Phase}
 use Rattle.turn_client_api.specs.declared.state.Phase.TheVariants.{Requesting}
 use Rattle.turn_types.specs.declared.family.AddressFamily.{AddressFamily}

@@ -9,7 +9,7 @@ use Rattle.turn_types.specs.declared.tcp.incoming.IncomingTcp.TheVariants.{Compl
 use Rattle.turn_agent.specs.Agent.{same_address}
 use Rattle.turn_client_api.specs.Answers.{EndsAfterSteps, stream_takes_none}
 use Rattle.turn_client_api.specs.Effect.{closed}
-use Rattle.turn_client_api.specs.Handled.{stream_with_piece}
+use Rattle.turn_client_laws.specs.Handled.{stream_with_piece}
 use Rattle.turn_client_api.specs.Payloads.{Payload, Outcome, Handled, Ignored, PeerData, PeerIcmp}
 use Rattle.turn_client_api.specs.Receive.{place_kept, stream_step, then_all, whole_piece}
 use Rattle.turn_client_api.specs.State.{State}

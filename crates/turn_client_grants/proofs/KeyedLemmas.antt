@@ -7,7 +7,7 @@ use Rattle.std.proofs.Common.{sym, ◌∙◌, ap, subst}
 use Rattle.std.proofs.lemmas.Bool.{eqb-true}
 use Rattle.std.proofs.lemmas.Option.{same_Some}
 use Rattle.turn_agent.specs.Agent.{same_address}
-use Rattle.turn_client_api.proofs.AddressLemmas.{same_address-self, same_address-true, same_ip-true}
+use Rattle.turn_client_laws.proofs.AddressLemmas.{same_address-self, same_address-true, same_ip-true}
 use Rattle.turn_client_api.specs.Calls.{is_in_progress}
 use Rattle.turn_client_api.specs.Effect.{lasting}
 use Rattle.turn_client_api.specs.Grants.{channel_at, is_channel_of, is_permission_of, same_ip}

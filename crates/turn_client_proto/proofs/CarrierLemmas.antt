@@ -3,8 +3,8 @@ use Rattle.std.proofs.Common.{◌≡◌, ◌∙◌, refl}
 use Rattle.turn_client_api.specs.State.{State}
 use Rattle.turn_client_api.specs.Steps.{Leaves}
 use Rattle.turn_client_api.specs.declared.call.Call.{Call}
-use Rattle.turn_client_api.proofs.Edits.{KeepsAllEdits, KeepsEdits}
-use Rattle.turn_client_api.proofs.EditsOfCalls.{leaves-walk}
+use Rattle.turn_client_laws.proofs.Edits.{KeepsAllEdits, KeepsEdits}
+use Rattle.turn_client_laws.proofs.EditsOfCalls.{leaves-walk}
 
 abbrev pub SameCarriers : State → State → Type 0
 SameCarriers s t = (t.transport ≡ s.transport) × (t.config.allocation_transport ≡ s.config.allocation_transport)

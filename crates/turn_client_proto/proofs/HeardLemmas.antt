@@ -9,12 +9,12 @@ use Rattle.turn_client_api.specs.Streams.{payload_in, poll_recv_step}
 use Rattle.turn_client_api.specs.Steps.{packet_step, state_after}
 use Rattle.turn_client_api.specs.declared.call.Call.{Call}
 use Rattle.turn_client_api.specs.declared.call.Call.TheVariants.{Delete, CreatePermission, BindChannel, TcpConnect, AllocatedTcpSocket, TcpClosed, SendTo, Recv, PollRecv, Poll, PollTransmit, PollEvent, ProtocolError, RelayedAddresses, Permissions, HavePermission}
-use Rattle.turn_client_api.proofs.HasLemmas.{Has, has-left, has-right}
-use Rattle.turn_client_api.proofs.StandLemmas.{contains-has, has-contains}
+use Rattle.turn_client_laws.proofs.HasLemmas.{Has, has-left, has-right}
+use Rattle.turn_client_laws.proofs.StandLemmas.{contains-has, has-contains}
 use Rattle.turn_client_runs.specs.Inputs.{IsAmong, delivered_by, answered_in, handled_in}
-use Rattle.turn_client_api.proofs.HandledLemmas.{recv-IsToldBy}
-use Rattle.turn_client_api.specs.Handled.{Input, handled, processed}
-use Rattle.turn_client_api.specs.LawsPeers.{IsToldBy}
+use Rattle.turn_client_laws.proofs.HandledLemmas.{recv-IsToldBy}
+use Rattle.turn_client_laws.specs.Handled.{Input, handled, processed}
+use Rattle.turn_client_laws.specs.LawsPeers.{IsToldBy}
 use Rattle.turn_client_runs.specs.Peers.{TellsOfPermitted}
 use Rattle.turn_client_runs.proofs.TurnsOfRuns.{among-left, among-right}
 use Rattle.std.specs.declared.net.socket_addr.SocketAddr.{SocketAddr}

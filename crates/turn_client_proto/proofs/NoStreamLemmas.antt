@@ -15,8 +15,8 @@ use Rattle.turn_client_api.specs.Streams.{broken_at, max_steps, poll_recv_step, 
 use Rattle.turn_client_api.specs.declared.call.Call.{Call}
 use Rattle.turn_client_api.specs.declared.call.Call.TheVariants.{AllocatedTcpSocket, Delete, HavePermission, Permissions, Poll, PollEvent, PollRecv, PollTransmit, ProtocolError, Recv, RelayedAddresses, SendTo}
 use Rattle.turn_client_api.specs.declared.state.Stream.{Stream}
-use Rattle.turn_client_api.proofs.EditsOfCalls.{delete-walk, quiet-walk}
-use Rattle.turn_client_api.proofs.StreamMessageLemmas.{Same, Same-KeepsEdits, message-same}
+use Rattle.turn_client_laws.proofs.EditsOfCalls.{delete-walk, quiet-walk}
+use Rattle.turn_client_laws.proofs.StreamMessageLemmas.{Same, Same-KeepsEdits, message-same}
 
 -- ---- nothing is read
 

@@ -9,9 +9,9 @@ use Rattle.turn_client_api.specs.Receive.{recv_step}
 use Rattle.turn_client_api.specs.State.{State, initial}
 use Rattle.turn_client_api.specs.Steps.{Leaves}
 use Rattle.turn_client_api.specs.declared.call.Call.{Call}
-use Rattle.turn_client_api.proofs.AddressLemmas.{same_address-self}
-use Rattle.turn_client_api.proofs.InAllocation.{initial-GrantsHaveAllocations, leaves-GrantsHaveAllocations}
-use Rattle.turn_client_api.proofs.SendOrderLemmas.{initial-steady, leaves-steadies}
+use Rattle.turn_client_laws.proofs.AddressLemmas.{same_address-self}
+use Rattle.turn_client_laws.proofs.InAllocation.{initial-GrantsHaveAllocations, leaves-GrantsHaveAllocations}
+use Rattle.turn_client_laws.proofs.SendOrderLemmas.{initial-steady, leaves-steadies}
 use Rattle.turn_client_proto.specs.OverUdp.{IsUdpClient}
 use Rattle.turn_client_proto.proofs.CarrierLemmas.{leaves-SameCarriers}
 use Rattle.turn_client_proto.proofs.NoStreamLemmas.{leaves-no_streams}

@@ -7,7 +7,7 @@ use Rattle.turn_client_api.specs.Payloads.{Payload, PeerIcmp}
 use Rattle.std.specs.declared.net.socket_addr.SocketAddr.{SocketAddr}
 use Rattle.turn_stun.specs.declared.transport.TransportType.{TransportType}
 use Rattle.turn_types.specs.declared.attribute.icmp_report.Icmp.{Icmp}
-use Rattle.turn_client_api.specs.Handled.{processed}
+use Rattle.turn_client_laws.specs.Handled.{processed}
 use Rattle.turn_client_runs.specs.Inputs.{IsAmong, handled_in}
 use Rattle.turn_client_api.specs.declared.call.Call.{Call}
 use Rattle.turn_client_runs.specs.Peers.{IsDeliveredIn, TellsOfPermitted}

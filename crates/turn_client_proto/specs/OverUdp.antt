@@ -1,8 +1,8 @@
 -- What holds for every client over UDP, and what it returns for a datagram.
 use Rattle.std.specs.Prelude.{◌≡◌, ◌≤◌, ℕ, List, [], length, ⊤}
 use Rattle.turn_stun.specs.declared.transport.TransportType.TheVariants.{Udp}
-use Rattle.turn_client_api.specs.LawsGrantAllocations.{GrantsHaveAllocations}
-use Rattle.turn_client_api.specs.LawsOrder.{FitsPhase}
+use Rattle.turn_client_laws.specs.LawsGrantAllocations.{GrantsHaveAllocations}
+use Rattle.turn_client_laws.specs.LawsOrder.{FitsPhase}
 use Rattle.turn_client_api.specs.State.{State}
 use Rattle.turn_client_core.specs.declared.protocol_recv.TurnProtocolRecv.{TurnProtocolRecv}
 use Rattle.turn_client_core.specs.declared.protocol_recv.TurnProtocolRecv.TheVariants as T

@@ -6,10 +6,10 @@ use Rattle.turn_client_api.specs.declared.state.Stream.{Stream}
 use Rattle.turn_client_api.specs.Payloads.{Payload, Outcome, Handled, Ignored, PeerData, PeerIcmp}
 use Rattle.turn_client_api.specs.Streams.{go_on, is_ready, max_steps, poll_recv_step, next_frame_step, first_ready_step, steps_until_payload}
 use Rattle.turn_client_api.specs.Receive.{then_all}
-use Rattle.turn_client_api.proofs.RestingStreamLemmas.{turns-rest}
-use Rattle.turn_client_api.proofs.StreamDrainLemmas.{IsDone, turn-lighter, turns-done, turns-enough}
-use Rattle.turn_client_api.proofs.StreamFewerLemmas.{IsLessThan, turns-less}
-use Rattle.turn_client_api.proofs.StreamWeightLemmas.{weight, weight-le}
+use Rattle.turn_client_laws.proofs.RestingStreamLemmas.{turns-rest}
+use Rattle.turn_client_laws.proofs.StreamDrainLemmas.{IsDone, turn-lighter, turns-done, turns-enough}
+use Rattle.turn_client_laws.proofs.StreamFewerLemmas.{IsLessThan, turns-less}
+use Rattle.turn_client_laws.proofs.StreamWeightLemmas.{weight, weight-le}
 use Rattle.turn_client_runs.specs.Cut.{and_then, outcome_payloads, polled_until_none}
 
 -- what an outcome returns, and then the rest in the state after it

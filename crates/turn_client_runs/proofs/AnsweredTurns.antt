@@ -16,11 +16,11 @@ use Rattle.turn_client_api.specs.declared.state.Mode.TheVariants.{Control, Waiti
 use Rattle.turn_client_api.specs.declared.state.Stream.{Stream}
 use Rattle.turn_client_api.specs.Connections.{bind_step}
 use Rattle.turn_client_api.specs.Effect.{transaction_ended}
-use Rattle.turn_client_api.specs.Handled.{Input, processed}
+use Rattle.turn_client_laws.specs.Handled.{Input, processed}
 use Rattle.turn_client_api.specs.Judgement.{SignedSuccess, judgement_of}
-use Rattle.turn_client_api.specs.LawsHandled.{IsOverControl}
+use Rattle.turn_client_laws.specs.LawsHandled.{IsOverControl}
 use Rattle.turn_client_api.specs.Payloads.{is_message, message_step, signed_step}
-use Rattle.turn_client_api.proofs.NewIdMessageLemmas.{AsksNothing, granted-asks, reply-asks}
+use Rattle.turn_client_laws.proofs.NewIdMessageLemmas.{AsksNothing, granted-asks, reply-asks}
 
 -- ---- an accepted success ends its request, whatever it grants
 

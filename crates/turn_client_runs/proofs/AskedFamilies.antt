@@ -12,13 +12,13 @@ use Rattle.turn_client_api.specs.declared.grant.Purpose.TheVariants.{ForAllocati
 use Rattle.turn_client_api.specs.declared.state.Phase.{Phase}
 use Rattle.turn_client_api.specs.declared.state.Phase.TheVariants.{New, Requesting, Authenticating, Allocated, Closed}
 use Rattle.turn_client_api.specs.Grants.{purposes_of}
-use Rattle.turn_client_api.specs.Handled.{Input, handled}
-use Rattle.turn_client_api.specs.LawsAllocates.{AllocatesInOrder, IsAllocate}
-use Rattle.turn_client_api.specs.LawsReplies.{IsAwaited}
-use Rattle.turn_client_api.proofs.Edits.{listing}
-use Rattle.turn_client_api.proofs.StandLemmas.{contains-has, has-contains}
-use Rattle.turn_client_api.proofs.TurnKeepLemmas.{before-kept}
-use Rattle.turn_client_api.proofs.TwoPurposes.{purpose-with}
+use Rattle.turn_client_laws.specs.Handled.{Input, handled}
+use Rattle.turn_client_laws.specs.LawsAllocates.{AllocatesInOrder, IsAllocate}
+use Rattle.turn_client_laws.specs.LawsReplies.{IsAwaited}
+use Rattle.turn_client_laws.proofs.Edits.{listing}
+use Rattle.turn_client_laws.proofs.StandLemmas.{contains-has, has-contains}
+use Rattle.turn_client_laws.proofs.TurnKeepLemmas.{before-kept}
+use Rattle.turn_client_laws.proofs.TwoPurposes.{purpose-with}
 use Rattle.turn_client_runs.specs.Granted.{AsksForItsFamily}
 use Rattle.turn_client_runs.proofs.SignedLemmas.{AreSigned, Signs, SignsIn, StaySigned, StaySigned-IsKept}
 

@@ -11,20 +11,20 @@ use Rattle.turn_client_api.specs.declared.grant.Listing.{Listing}
 use Rattle.turn_client_api.specs.declared.grant.Purpose.{Purpose}
 use Rattle.turn_client_api.specs.declared.grant.Purpose.TheVariants.{ForAllocation, ForRefresh, ForPermission, ForChannel, ForConnect, ForBind}
 use Rattle.turn_client_api.specs.Grants.{purposes_of}
-use Rattle.turn_client_api.specs.Handled.{Input, handled, processed}
-use Rattle.turn_client_api.specs.LawsGone.{GivesBack}
-use Rattle.turn_client_api.specs.LawsHandled.{DiffersInStreams, ProcessesInputs, TakesInput, InputsLead}
-use Rattle.turn_client_api.specs.LawsRequests.{IsListedFor, IsListingOf}
+use Rattle.turn_client_laws.specs.Handled.{Input, handled, processed}
+use Rattle.turn_client_laws.specs.LawsGone.{GivesBack}
+use Rattle.turn_client_laws.specs.LawsHandled.{DiffersInStreams, ProcessesInputs, TakesInput, InputsLead}
+use Rattle.turn_client_laws.specs.LawsRequests.{IsListedFor, IsListingOf}
 use Rattle.turn_client_api.specs.Retry.{first_or, is_allocate_or_connect, is_channel_bind, is_create_permission, is_refresh, retried}
 use Rattle.turn_client_api.specs.Steps.{state_after, state_after_all}
-use Rattle.turn_client_api.proofs.Edits.{listing}
-use Rattle.turn_client_api.proofs.EditsOfMessages.{retried-has}
-use Rattle.turn_client_api.proofs.HasLemmas.{Has, has-found}
-use Rattle.turn_client_api.proofs.MoveSocketLemmas.{gone-settles}
-use Rattle.turn_client_api.proofs.MoveTurnLemmas.{listings-made}
-use Rattle.turn_client_api.proofs.StandLemmas.{contains-has, has-contains}
-use Rattle.turn_client_api.proofs.TurnChainLemmas.{calls-do}
-use Rattle.turn_client_api.proofs.TwoPurposes.{purpose-with}
+use Rattle.turn_client_laws.proofs.Edits.{listing}
+use Rattle.turn_client_laws.proofs.EditsOfMessages.{retried-has}
+use Rattle.turn_client_laws.proofs.HasLemmas.{Has, has-found}
+use Rattle.turn_client_laws.proofs.MoveSocketLemmas.{gone-settles}
+use Rattle.turn_client_laws.proofs.MoveTurnLemmas.{listings-made}
+use Rattle.turn_client_laws.proofs.StandLemmas.{contains-has, has-contains}
+use Rattle.turn_client_laws.proofs.TurnChainLemmas.{calls-do}
+use Rattle.turn_client_laws.proofs.TwoPurposes.{purpose-with}
 use Rattle.turn_client_runs.specs.Granted.{IsAskedInCall, IsRequestedByInput, WasAsked, WasAskedBefore}
 use Rattle.turn_client_runs.proofs.CallGrants.{quiet, taking}
 use Rattle.turn_client_runs.proofs.RelistLemmas.{IsRelisted, IsRetriedFor, turn-relists}

@@ -13,20 +13,20 @@ use Rattle.turn_client_api.specs.declared.grant.Listing.{Listing}
 use Rattle.turn_client_api.specs.declared.grant.Progress.{Progress}
 use Rattle.turn_client_api.specs.declared.grant.Purpose.TheVariants.{ForChannel}
 use Rattle.turn_client_api.specs.Grants.{purposes_of}
-use Rattle.turn_client_api.specs.Handled.{Input, handled}
-use Rattle.turn_client_api.specs.LawsGranted.{HasChannelTo}
-use Rattle.turn_client_api.specs.LawsNumbers.{HasDistinctNumbers}
-use Rattle.turn_client_api.specs.LawsStates.{HasGrantsAsked, HasItsGrant, is_asked_by}
-use Rattle.turn_client_api.proofs.AddressLemmas.{same_address-true}
-use Rattle.turn_client_api.proofs.DistinctNumbers.{AreApart-KeepsGrants}
-use Rattle.turn_client_api.proofs.EditsOfMessages.{edits-IsKept, purposes-listed}
-use Rattle.turn_client_api.proofs.GrantEdits.{grants-KeepsAllEdits}
-use Rattle.turn_client_api.proofs.HasLemmas.{Has, has-all}
-use Rattle.turn_client_api.proofs.InAllocationLemmas.{any-has}
-use Rattle.turn_client_api.proofs.ListedGrants.{AllHaveGrant, StayFounded, StayFounded-KeepsAllEdits, HasGrant}
-use Rattle.turn_client_api.proofs.NumberLemmas.{AreApart, numbers}
-use Rattle.turn_client_api.proofs.StandLemmas.{contains-has}
-use Rattle.turn_client_api.proofs.TurnKeepLemmas.{before-kept}
+use Rattle.turn_client_laws.specs.Handled.{Input, handled}
+use Rattle.turn_client_laws.specs.LawsGranted.{HasChannelTo}
+use Rattle.turn_client_laws.specs.LawsNumbers.{HasDistinctNumbers}
+use Rattle.turn_client_laws.specs.LawsStates.{HasGrantsAsked, HasItsGrant, is_asked_by}
+use Rattle.turn_client_laws.proofs.AddressLemmas.{same_address-true}
+use Rattle.turn_client_laws.proofs.DistinctNumbers.{AreApart-KeepsGrants}
+use Rattle.turn_client_laws.proofs.EditsOfMessages.{edits-IsKept, purposes-listed}
+use Rattle.turn_client_laws.proofs.GrantEdits.{grants-KeepsAllEdits}
+use Rattle.turn_client_laws.proofs.HasLemmas.{Has, has-all}
+use Rattle.turn_client_laws.proofs.InAllocationLemmas.{any-has}
+use Rattle.turn_client_laws.proofs.ListedGrants.{AllHaveGrant, StayFounded, StayFounded-KeepsAllEdits, HasGrant}
+use Rattle.turn_client_laws.proofs.NumberLemmas.{AreApart, numbers}
+use Rattle.turn_client_laws.proofs.StandLemmas.{contains-has}
+use Rattle.turn_client_laws.proofs.TurnKeepLemmas.{before-kept}
 
 -- ---- channels of one number
 

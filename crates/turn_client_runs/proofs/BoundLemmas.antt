@@ -11,11 +11,11 @@ use Rattle.turn_client_api.specs.Requests.{connection_bind_method}
 use Rattle.turn_client_api.specs.Judgement.{bind_judgement, method_in}
 use Rattle.turn_client_api.specs.Connections.{bind_answered, bind_step, connection_at}
 use Rattle.turn_client_api.specs.Payloads.{is_message}
-use Rattle.turn_client_api.specs.Handled.{Input, handled, processed}
-use Rattle.turn_client_api.specs.LawsBound.{IsBindInput, IsBoundConnection, IsConnectedBy, IsConnecting}
-use Rattle.turn_client_api.specs.LawsGranted.{WasActive}
-use Rattle.turn_client_api.specs.LawsHandled.{IsBoundAt, IsDoneBy, IsOverControl, IsOverWaiting, TakesInput}
-use Rattle.turn_client_api.specs.LawsReplies.{IsAccepted, IsNotAwaited}
+use Rattle.turn_client_laws.specs.Handled.{Input, handled, processed}
+use Rattle.turn_client_laws.specs.LawsBound.{IsBindInput, IsBoundConnection, IsConnectedBy, IsConnecting}
+use Rattle.turn_client_laws.specs.LawsGranted.{WasActive}
+use Rattle.turn_client_laws.specs.LawsHandled.{IsBoundAt, IsDoneBy, IsOverControl, IsOverWaiting, TakesInput}
+use Rattle.turn_client_laws.specs.LawsReplies.{IsAccepted, IsNotAwaited}
 use Rattle.turn_client_api.specs.Steps.{state_after, state_after_all}
 use Rattle.turn_client_api.specs.declared.call.Call.{Call}
 use Rattle.turn_client_api.specs.declared.grant.DataConnection.{DataConnection}
@@ -25,13 +25,13 @@ use Rattle.turn_client_api.specs.declared.state.Mode.TheVariants.{Control, Waiti
 use Rattle.turn_client_api.specs.declared.state.Phase.{Phase}
 use Rattle.turn_client_api.specs.declared.state.Phase.TheVariants.{New, Requesting, Authenticating, Allocated, Closed}
 use Rattle.turn_client_api.specs.declared.state.Stream.{Stream}
-use Rattle.turn_client_api.proofs.AcceptedReplyLemmas.{bind-ended}
-use Rattle.turn_client_api.proofs.BoundStreamLemmas as Streams
-use Rattle.turn_client_api.proofs.GrantOriginCallLemmas.{Binds, BindsOrLeaves, bind-leaves}
-use Rattle.turn_client_api.proofs.GrantedLemmas as Grants
-use Rattle.turn_client_api.proofs.StandLemmas as Stand
-use Rattle.turn_client_api.proofs.StandLemmas.{Covers, contains-has, covers-has, covers-left, covers-stood}
-use Rattle.turn_client_api.proofs.TurnBringLemmas.{IsBrought, leaves-bring}
+use Rattle.turn_client_laws.proofs.AcceptedReplyLemmas.{bind-ended}
+use Rattle.turn_client_laws.proofs.BoundStreamLemmas as Streams
+use Rattle.turn_client_laws.proofs.GrantOriginCallLemmas.{Binds, BindsOrLeaves, bind-leaves}
+use Rattle.turn_client_laws.proofs.GrantedLemmas as Grants
+use Rattle.turn_client_laws.proofs.StandLemmas as Stand
+use Rattle.turn_client_laws.proofs.StandLemmas.{Covers, contains-has, covers-has, covers-left, covers-stood}
+use Rattle.turn_client_laws.proofs.TurnBringLemmas.{IsBrought, leaves-bring}
 use Rattle.turn_client_runs.specs.Bound.{BoundConnectionsHaveSuccess, BoundStreamsHaveSuccess, HasConnectionSuccess, HasSuccess, HasTransactionEnded, IsBoundSince, StreamsAreBoundBefore}
 use Rattle.turn_client_runs.specs.Inputs.{IsAmong, handled_in}
 use Rattle.turn_client_runs.proofs.MadeLemmas.{waiting-made}

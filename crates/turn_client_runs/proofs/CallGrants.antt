@@ -9,13 +9,13 @@ use Rattle.turn_client_api.specs.declared.grant.Grant.{Grant}
 use Rattle.turn_client_api.specs.declared.grant.Grant.TheVariants.{Allocation, Permission, Channel, Connect, Offer, Connection}
 use Rattle.turn_client_api.specs.declared.grant.Relay.{Relay}
 use Rattle.turn_client_api.specs.Calls.{delete_step, is_allocated}
-use Rattle.turn_client_api.specs.Handled.{Input, handled}
-use Rattle.turn_client_api.specs.LawsGranted.{IsEndedNow, IsGrantedIn, IsSameGrant, WasActive}
-use Rattle.turn_client_api.specs.LawsHandled.{IsDoneBy, TakesInput}
+use Rattle.turn_client_laws.specs.Handled.{Input, handled}
+use Rattle.turn_client_laws.specs.LawsGranted.{IsEndedNow, IsGrantedIn, IsSameGrant, WasActive}
+use Rattle.turn_client_laws.specs.LawsHandled.{IsDoneBy, TakesInput}
 use Rattle.turn_client_api.specs.Steps.{state_after}
-use Rattle.turn_client_api.proofs.GrantedLemmas.{leaves-grants}
-use Rattle.turn_client_api.proofs.StandLemmas.{Covers, contains-has, covers-stood, has-contains, kept-stood, kept-trans}
-use Rattle.turn_client_api.proofs.TurnBringLemmas.{leaves-bring}
+use Rattle.turn_client_laws.proofs.GrantedLemmas.{leaves-grants}
+use Rattle.turn_client_laws.proofs.StandLemmas.{Covers, contains-has, covers-stood, has-contains, kept-stood, kept-trans}
+use Rattle.turn_client_laws.proofs.TurnBringLemmas.{leaves-bring}
 use Rattle.turn_client_runs.specs.Granted.{IsRelayed}
 use Rattle.turn_client_runs.proofs.GrantTurns.{AreAllocations, Granting, granting-brought, kept-alike}
 

@@ -4,19 +4,19 @@ use Rattle.std.proofs.lemmas.Bool.{ltb-true, ltb-false}
 use Rattle.turn_auth.specs.LongTerm.{Challenge}
 use Rattle.turn_client_api.specs.State.{State}
 use Rattle.turn_client_api.specs.Payloads.{Outcome, is_message}
-use Rattle.turn_client_api.specs.Handled.{Input, handled, processed}
-use Rattle.turn_client_api.specs.LawsHandled.{ProcessesInputs, TakesInput, InputsLead}
-use Rattle.turn_client_api.specs.LawsReplies.{IsReplyAccepted}
-use Rattle.turn_client_api.specs.LawsStates.{HoldsAtFirst, StaysInCalls}
-use Rattle.turn_client_api.specs.LawsSteps.{IsChallengeCounted, KeepsRealm}
+use Rattle.turn_client_laws.specs.Handled.{Input, handled, processed}
+use Rattle.turn_client_laws.specs.LawsHandled.{ProcessesInputs, TakesInput, InputsLead}
+use Rattle.turn_client_laws.specs.LawsReplies.{IsReplyAccepted}
+use Rattle.turn_client_laws.specs.LawsStates.{HoldsAtFirst, StaysInCalls}
+use Rattle.turn_client_laws.specs.LawsSteps.{IsChallengeCounted, KeepsRealm}
 use Rattle.turn_client_api.specs.Retry.{max_challenges}
 use Rattle.turn_client_api.specs.Steps.{state_after, state_after_all}
 use Rattle.turn_client_api.specs.declared.call.Call.{Call}
-use Rattle.turn_client_api.proofs.CountLemmas.{bringing, leaves-heeded}
-use Rattle.turn_client_api.proofs.PhasesGoOn.{challenge-IsCounted, leaves-keeps}
-use Rattle.turn_client_api.proofs.TurnBringLemmas.{turn-brings}
-use Rattle.turn_client_api.proofs.TurnChainLemmas.{calls-do}
-use Rattle.turn_client_api.proofs.TurnLemmas.{brought}
+use Rattle.turn_client_laws.proofs.CountLemmas.{bringing, leaves-heeded}
+use Rattle.turn_client_laws.proofs.PhasesGoOn.{challenge-IsCounted, leaves-keeps}
+use Rattle.turn_client_laws.proofs.TurnBringLemmas.{turn-brings}
+use Rattle.turn_client_laws.proofs.TurnChainLemmas.{calls-do}
+use Rattle.turn_client_laws.proofs.TurnLemmas.{brought}
 use Rattle.turn_client_runs.specs.Challenges.{CountsIt, IsChallengeInput, IsHeededAmong, IsWithinChallengeLimit, answers_in, is_answer}
 use Rattle.turn_client_runs.specs.Holds.{Reaches}
 use Rattle.turn_client_runs.specs.Inputs.{IsAmong, handled_in}

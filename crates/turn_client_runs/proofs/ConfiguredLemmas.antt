@@ -4,9 +4,9 @@ use Rattle.turn_client_api.specs.State.{State}
 use Rattle.turn_client_api.specs.declared.call.Call.{Call}
 use Rattle.turn_client_api.specs.Payloads.{message_step}
 use Rattle.turn_client_api.specs.Steps.{state_after}
-use Rattle.turn_client_api.proofs.Edits.{KeepsAllEdits, KeepsEdits}
-use Rattle.turn_client_api.proofs.EditsOfCalls.{calls-walk}
-use Rattle.turn_client_api.proofs.EditsOfMessages.{edits-IsKept}
+use Rattle.turn_client_laws.proofs.Edits.{KeepsAllEdits, KeepsEdits}
+use Rattle.turn_client_laws.proofs.EditsOfCalls.{calls-walk}
+use Rattle.turn_client_laws.proofs.EditsOfMessages.{edits-IsKept}
 
 abbrev StayConfigured : State → State → Type 0
 StayConfigured s t = t.config ≡ s.config

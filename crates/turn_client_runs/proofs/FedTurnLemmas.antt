@@ -13,10 +13,10 @@ use Rattle.turn_client_api.specs.declared.state.Mode.TheVariants.{Control, Waiti
 use Rattle.turn_client_api.specs.declared.state.Stream.{Stream}
 use Rattle.turn_client_api.specs.Payloads.{Payload, Outcome, Handled}
 use Rattle.turn_client_api.specs.Streams.{broken_at, frame_step, is_ready, put_back, sent_by, stream_at, next_frame_step, detached_frame_step, with_bytes}
-use Rattle.turn_client_api.specs.LawsBodies.{IsAsideFrom}
-use Rattle.turn_client_api.proofs.FrameRestLemmas.{frame-bytes}
-use Rattle.turn_client_api.proofs.OtherStreamLemmas.{frame-aside}
-use Rattle.turn_client_api.proofs.TurnFrameLemmas.{bytes-twice}
+use Rattle.turn_client_laws.specs.LawsBodies.{IsAsideFrom}
+use Rattle.turn_client_laws.proofs.FrameRestLemmas.{frame-bytes}
+use Rattle.turn_client_laws.proofs.OtherStreamLemmas.{frame-aside}
+use Rattle.turn_client_laws.proofs.TurnFrameLemmas.{bytes-twice}
 use Rattle.turn_client_runs.specs.Cut.{bytes_at, outcome_payloads, left, one_by_one, whole}
 use Rattle.turn_client_runs.proofs.AllTurnsLemmas.{all-first, all-rest, all_turns, gives_then}
 use Rattle.turn_client_runs.proofs.FollowLemmas.{IsFramed, IsThere, Suits, SuitsMode, control-framed, waiting-framed}

@@ -22,23 +22,23 @@ use Rattle.turn_client_api.specs.declared.state.Mode.TheVariants.{Waiting}
 use Rattle.turn_client_api.specs.declared.state.Stream.{Stream}
 use Rattle.turn_client_api.specs.Grants.{purposes_of}
 use Rattle.turn_client_api.specs.Connections.{bind_answered, bind_step, deadline_set}
-use Rattle.turn_client_api.specs.Handled.{Input, processed}
+use Rattle.turn_client_laws.specs.Handled.{Input, processed}
 use Rattle.turn_client_api.specs.Judgement.{Fatal, SignedSuccess, Unrelated, answers_one, bind_judgement, challenge_in, challenged_or, class_in, judgement_of, requesting_judgement}
-use Rattle.turn_client_api.specs.LawsBound.{IsBindInput}
-use Rattle.turn_client_api.specs.LawsGranted.{IsGivenFor, IsGrant, IsGrantedBy, IsSameGrant}
-use Rattle.turn_client_api.specs.LawsHandled.{IsOverControl}
-use Rattle.turn_client_api.specs.LawsReplies.{IsAccepted, IsAwaited, IsNotAwaited}
+use Rattle.turn_client_laws.specs.LawsBound.{IsBindInput}
+use Rattle.turn_client_laws.specs.LawsGranted.{IsGivenFor, IsGrant, IsGrantedBy, IsSameGrant}
+use Rattle.turn_client_laws.specs.LawsHandled.{IsOverControl}
+use Rattle.turn_client_laws.specs.LawsReplies.{IsAccepted, IsAwaited, IsNotAwaited}
 use Rattle.turn_client_api.specs.Payloads.{is_message, message_step}
 use Rattle.turn_client_api.specs.Receive.{connection_gone}
-use Rattle.turn_client_api.proofs.AcceptedReplyLemmas.{bind-ended}
-use Rattle.turn_client_api.proofs.AddressLemmas.{same_address-true}
-use Rattle.turn_client_api.proofs.BoundLemmas.{binds-turn, found-local}
-use Rattle.turn_client_api.proofs.GrantOriginCallLemmas.{Binds, BindsOrLeaves, bind-leaves, gone-leaves}
-use Rattle.turn_client_api.proofs.GrantOriginLemmas.{has-mapped}
-use Rattle.turn_client_api.proofs.GrantOriginMessageLemmas.{message-grants}
-use Rattle.turn_client_api.proofs.HasLemmas.{Has}
-use Rattle.turn_client_api.proofs.StandLemmas.{Covers, covers-left}
-use Rattle.turn_client_api.proofs.TurnBringLemmas.{IsBrought}
+use Rattle.turn_client_laws.proofs.AcceptedReplyLemmas.{bind-ended}
+use Rattle.turn_client_laws.proofs.AddressLemmas.{same_address-true}
+use Rattle.turn_client_laws.proofs.BoundLemmas.{binds-turn, found-local}
+use Rattle.turn_client_laws.proofs.GrantOriginCallLemmas.{Binds, BindsOrLeaves, bind-leaves, gone-leaves}
+use Rattle.turn_client_laws.proofs.GrantOriginLemmas.{has-mapped}
+use Rattle.turn_client_laws.proofs.GrantOriginMessageLemmas.{message-grants}
+use Rattle.turn_client_laws.proofs.HasLemmas.{Has}
+use Rattle.turn_client_laws.proofs.StandLemmas.{Covers, covers-left}
+use Rattle.turn_client_laws.proofs.TurnBringLemmas.{IsBrought}
 use Rattle.turn_client_runs.specs.Granted.{IsGivenIn, IsOverIts}
 use Rattle.turn_client_runs.proofs.AnsweredTurns.{made-control, made-waiting, success-ends}
 

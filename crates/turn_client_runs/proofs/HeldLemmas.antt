@@ -16,19 +16,19 @@ use Rattle.turn_client_api.specs.Retry.{max_challenges, retried, state_after_ret
 use Rattle.turn_client_api.specs.Connections.{bind_step, connection_at}
 use Rattle.turn_client_api.specs.Payloads.{Outcome, Handled, Ignored, is_message, message_step}
 use Rattle.turn_client_api.specs.Receive.{connection_gone}
-use Rattle.turn_client_api.specs.Handled.{Input, handled, processed}
+use Rattle.turn_client_laws.specs.Handled.{Input, handled, processed}
 use Rattle.turn_client_api.specs.Steps.{state_after, state_after_all}
 use Rattle.turn_client_api.specs.Transmit.{sent}
-use Rattle.turn_client_api.specs.LawsHandled.{DiffersInStreams, IsDoneBy, IsOverControl, TakesInput}
+use Rattle.turn_client_laws.specs.LawsHandled.{DiffersInStreams, IsDoneBy, IsOverControl, TakesInput}
 use Rattle.turn_client_api.specs.declared.call.Call.{Call}
 use Rattle.turn_client_api.specs.declared.call.Call.TheVariants.{Delete, CreatePermission, BindChannel, TcpConnect, AllocatedTcpSocket, TcpClosed, SendTo, Recv, PollRecv, Poll, PollTransmit, PollEvent, ProtocolError, RelayedAddresses, Permissions, HavePermission}
 use Rattle.turn_client_api.specs.declared.grant.Purpose.{Purpose}
 use Rattle.turn_client_api.specs.declared.state.Phase.{Phase}
 use Rattle.turn_client_api.specs.declared.state.Phase.TheVariants.{New, Requesting, Authenticating, Allocated, Closed}
 use Rattle.turn_client_api.specs.declared.state.Stream.{Stream}
-use Rattle.turn_client_api.proofs.Edits.{IgnoresAll, KeepsEdits}
-use Rattle.turn_client_api.proofs.EditsOfCalls.{delete-walk, quiet-walk, tcp_socket-walk}
-use Rattle.turn_client_api.proofs.TurnBringLemmas.{IsBrought, leaves-bring}
+use Rattle.turn_client_laws.proofs.Edits.{IgnoresAll, KeepsEdits}
+use Rattle.turn_client_laws.proofs.EditsOfCalls.{delete-walk, quiet-walk, tcp_socket-walk}
+use Rattle.turn_client_laws.proofs.TurnBringLemmas.{IsBrought, leaves-bring}
 use Rattle.turn_client_runs.specs.Held.{HeldFromChallenge, IsFirstAnswer, IsOfChallenge}
 use Rattle.turn_client_runs.specs.Inputs.{IsAmong, handled_in}
 use Rattle.turn_client_runs.proofs.MadeLemmas.{control-made}

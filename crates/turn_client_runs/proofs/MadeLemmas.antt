@@ -8,8 +8,8 @@ use Rattle.turn_stun.proofs.FaultLemmas.{no_fault-IsFaultless}
 use Rattle.turn_types.specs.Frames.{begins_message}
 use Rattle.turn_client_api.specs.Connections.{bind_step}
 use Rattle.turn_client_api.specs.Payloads.{is_message, message_step}
-use Rattle.turn_client_api.specs.Handled.{Input, processed}
-use Rattle.turn_client_api.specs.LawsHandled.{IsOverControl, IsOverWaiting}
+use Rattle.turn_client_laws.specs.Handled.{Input, processed}
+use Rattle.turn_client_laws.specs.LawsHandled.{IsOverControl, IsOverWaiting}
 use Rattle.turn_client_api.specs.declared.state.Mode.TheVariants.{Control, Waiting}
 use Rattle.turn_client_api.specs.declared.state.Stream.{Stream}
 

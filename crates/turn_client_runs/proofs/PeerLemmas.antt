@@ -13,18 +13,18 @@ use Rattle.turn_client_api.specs.State.{State}
 use Rattle.turn_client_api.specs.Payloads.{Payload, Outcome, Handled, Ignored, PeerData, PeerIcmp}
 use Rattle.turn_client_api.specs.Streams.{is_ready, owned, payload_in, stream_at, next_frame_step, with_bytes}
 use Rattle.turn_client_api.specs.Receive.{first_frame_step, is_from_server}
-use Rattle.turn_client_api.specs.Handled.{Input, stream_with_piece, fed_taken, frame_taken, handled, is_front, processed, payloads_by, piece_inputs, poll_recv_inputs, recv_inputs, stream_inputs, stream_inputs_taken, taken_first, taken_in, taken_of_len, then_taken, stream_input, input_payload, inputs_taken, unless_given}
-use Rattle.turn_client_api.specs.LawsHandled.{IsBoundAt}
-use Rattle.turn_client_api.specs.LawsPeers.{IsPermittedInput, IsMessageFromPermitted, HasNoPeer}
+use Rattle.turn_client_laws.specs.Handled.{Input, stream_with_piece, fed_taken, frame_taken, handled, is_front, processed, payloads_by, piece_inputs, poll_recv_inputs, recv_inputs, stream_inputs, stream_inputs_taken, taken_first, taken_in, taken_of_len, then_taken, stream_input, input_payload, inputs_taken, unless_given}
+use Rattle.turn_client_laws.specs.LawsHandled.{IsBoundAt}
+use Rattle.turn_client_laws.specs.LawsPeers.{IsPermittedInput, IsMessageFromPermitted, HasNoPeer}
 use Rattle.turn_client_api.specs.Steps.{state_after}
 use Rattle.turn_client_api.specs.declared.call.Call.{Call}
 use Rattle.turn_client_api.specs.declared.call.Call.TheVariants.{Recv, PollRecv}
 use Rattle.turn_client_api.specs.declared.state.Mode.{Mode}
 use Rattle.turn_client_api.specs.declared.state.Mode.TheVariants.{Control, Waiting, Bound, Broken}
 use Rattle.turn_client_api.specs.declared.state.Stream.{Stream}
-use Rattle.turn_client_api.proofs.HandledLemmas.{poll_recv-Gives, recv-AreOf, turn-IsFromPermitted}
-use Rattle.turn_client_api.proofs.HasLemmas.{Has, has-append, has-filter_map, has-found, map-has}
-use Rattle.turn_client_api.proofs.StandLemmas.{contains-has, has-contains}
+use Rattle.turn_client_laws.proofs.HandledLemmas.{poll_recv-Gives, recv-AreOf, turn-IsFromPermitted}
+use Rattle.turn_client_laws.proofs.HasLemmas.{Has, has-append, has-filter_map, has-found, map-has}
+use Rattle.turn_client_laws.proofs.StandLemmas.{contains-has, has-contains}
 use Rattle.turn_client_runs.specs.Peers.{InputDelivers, IsPeerPermitted, IsDeliveredIn, TellsOfPermitted}
 use Rattle.turn_client_runs.specs.Inputs.{IsAmong, delivered_by, answered_in, handled_in, payloads_in}
 use Rattle.turn_client_runs.proofs.TurnsOfRuns.{among-left, among-right, has-among}

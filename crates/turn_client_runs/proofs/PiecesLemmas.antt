@@ -15,7 +15,7 @@ use Rattle.turn_client_api.specs.declared.state.Mode.TheVariants.{Control, Waiti
 use Rattle.turn_client_api.specs.declared.state.Stream.{Stream}
 use Rattle.turn_client_api.specs.Payloads.{Payload}
 use Rattle.turn_client_api.specs.Streams.{stream_at, with_bytes}
-use Rattle.turn_client_api.proofs.TurnFrameLemmas.{bytes-twice}
+use Rattle.turn_client_laws.proofs.TurnFrameLemmas.{bytes-twice}
 use Rattle.turn_client_runs.specs.Cut.{AreNonempty, IsQuiet, IsSameForAnyCut, bytes_at, fed_piece, fed_pieces, is_control_stream, left, mode_at, one_by_one, part_at_step, whole, whole_of}
 use Rattle.turn_client_runs.proofs.FedTurnLemmas.{Agrees}
 use Rattle.turn_client_runs.proofs.FollowLemmas.{Suits, SuitsMode}

@@ -4,19 +4,19 @@ use Rattle.std.specs.declared.net.socket_addr.SocketAddr.{SocketAddr}
 use Rattle.turn_stun.specs.declared.transport.TransportType.{TransportType}
 use Rattle.turn_client_api.specs.Config.{Config}
 use Rattle.turn_client_api.specs.State.{State, initial}
-use Rattle.turn_client_api.specs.LawsNumbers.{HasDistinctNumbers}
+use Rattle.turn_client_laws.specs.LawsNumbers.{HasDistinctNumbers}
 use Rattle.turn_client_api.specs.declared.call.Call.{Call}
-use Rattle.turn_client_api.proofs.DistinctNumbers.{initial-numbers, leaves-apart}
+use Rattle.turn_client_laws.proofs.DistinctNumbers.{initial-numbers, leaves-apart}
 use Rattle.turn_client_runs.specs.Challenges.{IsWithinChallengeLimit}
 use Rattle.turn_client_runs.specs.Promises.{AfterEach, BoundHaveSuccess, CutsAgree, FewAreAnswered, GrantsHaveReplies, DeliversOnlyPermitted, NumbersAreDistinct, RealmIsAnswered, RealmStays, RepliesCountOnce}
 use Rattle.turn_client_runs.specs.Replies.{CountsOnce}
 use Rattle.turn_client_runs.specs.Cut.{IsQuiet}
 use Rattle.turn_client_api.specs.Streams.{poll_recv_step}
 use Rattle.turn_client_api.specs.Payloads.{Payload}
-use Rattle.turn_client_api.specs.LawsStreams.{AreApart}
+use Rattle.turn_client_laws.specs.LawsStreams.{AreApart}
 use Rattle.turn_stun.specs.declared.transport.TransportType.TheVariants.{Tcp}
 use Rattle.turn_client_runs.proofs.QuietLemmas.{calls-keep, poll-quiet}
-use Rattle.turn_client_api.proofs.StreamCallLemmas.{call-apart, initial-apart}
+use Rattle.turn_client_laws.proofs.StreamCallLemmas.{call-apart, initial-apart}
 use Rattle.turn_client_runs.proofs.BoundLemmas.{connections-have-success, streams-are-bound-before, streams-have-success}
 use Rattle.turn_client_runs.proofs.ChallengeLemmas.{challenge-counts, few-answered, initial-patient, leaves-patient, realm-stays}
 use Rattle.turn_client_runs.proofs.HeldLemmas.{held-from}
@@ -30,8 +30,8 @@ use Rattle.turn_client_runs.proofs.RunCutLemmas.{run-cut}
 use Rattle.turn_client_runs.proofs.RunGrants.{first-hold, grants-have-replies}
 use Rattle.turn_client_runs.proofs.ComingLemmas.{turns-come}
 use Rattle.turn_client_runs.proofs.ReceivedRuns.{turns-received}
-use Rattle.turn_client_api.proofs.StandLemmas.{contains-has}
-use Rattle.turn_client_api.specs.Handled.{handled}
+use Rattle.turn_client_laws.proofs.StandLemmas.{contains-has}
+use Rattle.turn_client_laws.specs.Handled.{handled}
 use Rattle.turn_client_api.specs.Steps.{state_after_all}
 
 once : (s : State) (calls : List Call) → CountsOnce s calls

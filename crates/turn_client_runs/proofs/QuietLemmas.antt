@@ -9,15 +9,15 @@ use Rattle.turn_client_api.specs.Streams.{is_ready, max_steps, poll_recv_step}
 use Rattle.turn_client_api.specs.Receive.{recv_step}
 use Rattle.turn_client_api.specs.Steps.{state_after, state_after_all}
 use Rattle.turn_client_api.specs.declared.call.Call.{Call}
-use Rattle.turn_client_api.specs.LawsStreams.{AreApart}
-use Rattle.turn_client_api.proofs.Edits.{IgnoresAll, KeepsAllEdits, KeepsEdits}
-use Rattle.turn_client_api.proofs.EditsOfCalls.{calls-walk}
-use Rattle.turn_client_api.proofs.EditsOfMessages.{edits-IsKept}
-use Rattle.turn_client_api.proofs.RunKeepLemmas.{IsKept, poll_recv-kept, recv-kept}
-use Rattle.turn_client_api.proofs.StreamCallLemmas.{call-apart, initial-apart}
-use Rattle.turn_client_api.proofs.StreamDrainLemmas.{turns-done}
-use Rattle.turn_client_api.proofs.StreamStepLemmas.{poll_recv-apart, recv-apart}
-use Rattle.turn_client_api.proofs.StreamWeightLemmas.{weight, weight-le}
+use Rattle.turn_client_laws.specs.LawsStreams.{AreApart}
+use Rattle.turn_client_laws.proofs.Edits.{IgnoresAll, KeepsAllEdits, KeepsEdits}
+use Rattle.turn_client_laws.proofs.EditsOfCalls.{calls-walk}
+use Rattle.turn_client_laws.proofs.EditsOfMessages.{edits-IsKept}
+use Rattle.turn_client_laws.proofs.RunKeepLemmas.{IsKept, poll_recv-kept, recv-kept}
+use Rattle.turn_client_laws.proofs.StreamCallLemmas.{call-apart, initial-apart}
+use Rattle.turn_client_laws.proofs.StreamDrainLemmas.{turns-done}
+use Rattle.turn_client_laws.proofs.StreamStepLemmas.{poll_recv-apart, recv-apart}
+use Rattle.turn_client_laws.proofs.StreamWeightLemmas.{weight, weight-le}
 use Rattle.turn_client_runs.specs.Cut.{GetsQuiet, IsQuiet, and_then, fed_piece, polled_until_none}
 use Rattle.turn_client_runs.proofs.AllTurnsLemmas.{all-done, polled_out, polled_out-all}
 

@@ -10,14 +10,14 @@ use Rattle.turn_client_api.specs.declared.state.Stream.{Stream}
 use Rattle.turn_client_api.specs.declared.call.Call.{Call}
 use Rattle.turn_client_api.specs.Connections.{bind_step}
 use Rattle.turn_client_api.specs.Payloads.{Outcome, Handled, Ignored, channel_sent, is_channel_frame, is_message, message_step}
-use Rattle.turn_client_api.specs.Handled.{Input, handled, processed}
-use Rattle.turn_client_api.specs.LawsHandled.{DiffersInStreams, ProcessesInputs, TakesInput, InputsLead}
-use Rattle.turn_client_api.specs.LawsSteps.{KeepsRealm}
+use Rattle.turn_client_laws.specs.Handled.{Input, handled, processed}
+use Rattle.turn_client_laws.specs.LawsHandled.{DiffersInStreams, ProcessesInputs, TakesInput, InputsLead}
+use Rattle.turn_client_laws.specs.LawsSteps.{KeepsRealm}
 use Rattle.turn_client_api.specs.Steps.{state_after, state_after_all}
-use Rattle.turn_client_api.proofs.HasLemmas.{Has, has-append}
-use Rattle.turn_client_api.proofs.PhasesGoOn.{bind-keeps, call-keeps, keeps-same, message-keeps}
-use Rattle.turn_client_api.proofs.StandLemmas.{contains-has}
-use Rattle.turn_client_api.proofs.TurnChainLemmas.{calls-do}
+use Rattle.turn_client_laws.proofs.HasLemmas.{Has, has-append}
+use Rattle.turn_client_laws.proofs.PhasesGoOn.{bind-keeps, call-keeps, keeps-same, message-keeps}
+use Rattle.turn_client_laws.proofs.StandLemmas.{contains-has}
+use Rattle.turn_client_laws.proofs.TurnChainLemmas.{calls-do}
 use Rattle.turn_client_runs.specs.Inputs.{handled_in}
 use Rattle.turn_client_runs.proofs.TurnsOfRuns.{takes-or}
 

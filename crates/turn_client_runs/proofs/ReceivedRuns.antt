@@ -14,16 +14,16 @@ use Rattle.turn_client_api.specs.declared.call.Call.TheVariants.{Delete, CreateP
 use Rattle.turn_client_api.specs.declared.state.Mode.{Mode}
 use Rattle.turn_client_api.specs.declared.state.Mode.TheVariants.{Control, Waiting, Bound, Broken}
 use Rattle.turn_client_api.specs.declared.state.Stream.{Stream}
-use Rattle.turn_client_api.specs.Handled.{Input, handled, recv_inputs, stream_inputs}
-use Rattle.turn_client_api.specs.LawsHandled.{TakesInput}
+use Rattle.turn_client_laws.specs.Handled.{Input, handled, recv_inputs, stream_inputs}
+use Rattle.turn_client_laws.specs.LawsHandled.{TakesInput}
 use Rattle.turn_client_api.specs.Payloads.{Outcome, Ignored, channel_sent, datagram_step, is_channel_frame, is_message, message_step}
 use Rattle.turn_client_api.specs.Receive.{is_from_server, recv_step, stream_step}
 use Rattle.turn_client_api.specs.Steps.{state_after, state_after_all}
 use Rattle.turn_client_api.specs.Streams.{stream_at}
-use Rattle.turn_client_api.proofs.AddressLemmas.{same_address-self, same_address-true}
-use Rattle.turn_client_api.proofs.HasLemmas.{Has, has-found}
-use Rattle.turn_client_api.proofs.StreamCallLemmas.{IsOpened, others-opened}
-use Rattle.turn_client_api.proofs.StreamMessageLemmas.{message-same}
+use Rattle.turn_client_laws.proofs.AddressLemmas.{same_address-self, same_address-true}
+use Rattle.turn_client_laws.proofs.HasLemmas.{Has, has-found}
+use Rattle.turn_client_laws.proofs.StreamCallLemmas.{IsOpened, others-opened}
+use Rattle.turn_client_laws.proofs.StreamMessageLemmas.{message-same}
 use Rattle.turn_client_runs.specs.Received.{HasArrived, piece_in_call, pieces_for, unless_broken}
 use Rattle.turn_client_runs.proofs.CallGrants.{quiet}
 use Rattle.turn_client_runs.proofs.ReceivedLemmas.{AllKnown, Goes, opened-known, poll-known, stream-known}

@@ -27,19 +27,19 @@ use Rattle.turn_client_api.specs.declared.state.Stream.{Stream}
 use Rattle.turn_client_api.specs.Connections.{attempt_indicated, attempt_requested, bind_again, bind_answered, bind_step, connection_at, is_connected, accepts_attempt, not_bound}
 use Rattle.turn_client_api.specs.Effect.{allocate_denied, allocate_granted, closed, transaction_ended, fail_all, family_not_supported, has_code, in_phase}
 use Rattle.turn_client_api.specs.Grants.{find_allocation_to, is_connection_from, is_for_allocation, purposes_of, unlisted, wait}
-use Rattle.turn_client_api.specs.Handled.{Input, processed}
+use Rattle.turn_client_laws.specs.Handled.{Input, processed}
 use Rattle.turn_client_api.specs.Judgement.{Judgement, Unrelated, Challenged, Fatal, LateResponse, DataIndication, ConnectionAttempt, SignedRequest, SignedSuccess, SignedError, bind_judgement, connection_id_in, is_bind_of, judgement_of, lifetime_in, method_in, peer_in}
-use Rattle.turn_client_api.specs.LawsRequests.{IsMade}
+use Rattle.turn_client_laws.specs.LawsRequests.{IsMade}
 use Rattle.turn_client_api.specs.Payloads.{Outcome, Handled, Ignored, challenge_step, channel_sent, datagram_step, is_channel_frame, is_message, message_step, response_step, signed_step, wrong_step}
 use Rattle.turn_client_api.specs.Requests.{connection_attempt_method, connection_bind_method, fresh_id, listings, request_for, requested}
 use Rattle.turn_client_api.specs.Retry.{max_challenges, retried, state_after_retry, with_held}
 use Rattle.turn_client_api.specs.Streams.{frame_step}
-use Rattle.turn_client_api.proofs.GrantOriginLemmas.{has-mapped}
-use Rattle.turn_client_api.proofs.HasLemmas.{Has, has-right}
-use Rattle.turn_client_api.proofs.MoveLemmas.{Adds, Never, adds-filter, adds-more, adds-same, adds-wider, by_test, on_test}
-use Rattle.turn_client_api.proofs.MoveMessageLemmas.{requested-made}
-use Rattle.turn_client_api.proofs.MoveReplyLemmas.{response-fits}
-use Rattle.turn_client_api.proofs.StandLemmas.{has-contains}
+use Rattle.turn_client_laws.proofs.GrantOriginLemmas.{has-mapped}
+use Rattle.turn_client_laws.proofs.HasLemmas.{Has, has-right}
+use Rattle.turn_client_laws.proofs.MoveLemmas.{Adds, Never, adds-filter, adds-more, adds-same, adds-wider, by_test, on_test}
+use Rattle.turn_client_laws.proofs.MoveMessageLemmas.{requested-made}
+use Rattle.turn_client_laws.proofs.MoveReplyLemmas.{response-fits}
+use Rattle.turn_client_laws.proofs.StandLemmas.{has-contains}
 
 -- the new request is for this alone, or for the first in order of what the old one is listed for
 abbrev pub IsRetriedFor : List ℕ → State → Purpose → Purpose → Type 0

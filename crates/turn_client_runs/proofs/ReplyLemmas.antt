@@ -8,17 +8,17 @@ use Rattle.turn_client_api.specs.Requests.{fresh_id}
 use Rattle.turn_client_api.specs.Judgement.{bind_judgement}
 use Rattle.turn_client_api.specs.Connections.{bind_answered, bind_step}
 use Rattle.turn_client_api.specs.Payloads.{Outcome, is_message, message_step}
-use Rattle.turn_client_api.specs.Handled.{Input, processed}
-use Rattle.turn_client_api.specs.LawsHandled.{InputsLead}
-use Rattle.turn_client_api.specs.LawsReplies.{IsAccepted, IsAwaited, IsDrawn, IsNotAwaited}
+use Rattle.turn_client_laws.specs.Handled.{Input, processed}
+use Rattle.turn_client_laws.specs.LawsHandled.{InputsLead}
+use Rattle.turn_client_laws.specs.LawsReplies.{IsAccepted, IsAwaited, IsDrawn, IsNotAwaited}
 use Rattle.turn_client_api.specs.Steps.{state_after, state_after_all}
 use Rattle.turn_client_api.specs.declared.call.Call.{Call}
-use Rattle.turn_client_api.proofs.AcceptedReplyLemmas.{accepted-gone, accepted-outstanding, bind-ended, bind-outstanding}
-use Rattle.turn_client_api.proofs.BoundLemmas.{found-local}
-use Rattle.turn_client_api.proofs.HasLemmas.{Has}
-use Rattle.turn_client_api.proofs.NewIdCallLemmas.{draws-IsBringing, leaves-draws}
-use Rattle.turn_client_api.proofs.TurnBringLemmas.{IsBrought, lead-brings}
-use Rattle.turn_client_api.proofs.TurnLemmas.{brought}
+use Rattle.turn_client_laws.proofs.AcceptedReplyLemmas.{accepted-gone, accepted-outstanding, bind-ended, bind-outstanding}
+use Rattle.turn_client_laws.proofs.BoundLemmas.{found-local}
+use Rattle.turn_client_laws.proofs.HasLemmas.{Has}
+use Rattle.turn_client_laws.proofs.NewIdCallLemmas.{draws-IsBringing, leaves-draws}
+use Rattle.turn_client_laws.proofs.TurnBringLemmas.{IsBrought, lead-brings}
+use Rattle.turn_client_laws.proofs.TurnLemmas.{brought}
 use Rattle.turn_client_runs.specs.Replies.{AreReplies, EndsItsRequest, IsBindReply, IsMadeAmong, IsMadeBetween, IsMadeIn, IsMadeSince, IsMadeUntil, IsReplyInput, InputMakesRequest}
 use Rattle.turn_client_runs.proofs.MadeLemmas.{control-made, waiting-made}
 use Rattle.turn_client_runs.proofs.TurnsOfRuns.{handled-leads, has-among, leads-from, leads-to}

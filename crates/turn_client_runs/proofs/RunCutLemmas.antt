@@ -10,8 +10,8 @@ use Rattle.turn_client_api.specs.Payloads.{Payload}
 use Rattle.turn_client_api.specs.Streams.{max_steps, poll_recv_step}
 use Rattle.turn_client_api.specs.Receive.{recv_step}
 use Rattle.turn_client_api.specs.Steps.{state_after, state_after_all}
-use Rattle.turn_client_api.proofs.StreamFewerLemmas.{IsLessThan, turns-less}
-use Rattle.turn_client_api.proofs.StreamWeightLemmas.{weight, weight-le}
+use Rattle.turn_client_laws.proofs.StreamFewerLemmas.{IsLessThan, turns-less}
+use Rattle.turn_client_laws.proofs.StreamWeightLemmas.{weight, weight-le}
 use Rattle.turn_client_runs.specs.Cut.{AreNonempty, ArePieces, ArePolls, IsQuiet, IsSameInRuns, and_then, fed_pieces, outcome_payloads, given_in, given_in_run, joined, polled_until_none}
 use Rattle.turn_client_runs.proofs.PiecesLemmas.{any-cut}
 

@@ -17,21 +17,21 @@ use Rattle.turn_client_api.specs.declared.grant.Purpose.{Purpose}
 use Rattle.turn_client_api.specs.declared.grant.Purpose.TheVariants.{ForAllocation, ForRefresh, ForPermission, ForChannel, ForConnect, ForBind}
 use Rattle.turn_client_api.specs.Calls.{delete_step}
 use Rattle.turn_client_api.specs.Grants.{purposes_of}
-use Rattle.turn_client_api.specs.Handled.{Input, handled}
-use Rattle.turn_client_api.specs.LawsAllocates.{AllocatesInOrder}
-use Rattle.turn_client_api.specs.LawsGranted.{HasChannelTo, IsSameGrant, IsActiveGrant, WasActive}
-use Rattle.turn_client_api.specs.LawsHandled.{IsDoneBy}
-use Rattle.turn_client_api.specs.LawsGone.{GivesBack}
-use Rattle.turn_client_api.specs.LawsNumbers.{HasDistinctNumbers}
-use Rattle.turn_client_api.specs.LawsOrder.{FitsPhase}
-use Rattle.turn_client_api.specs.LawsStates.{HasGrantsAsked}
+use Rattle.turn_client_laws.specs.Handled.{Input, handled}
+use Rattle.turn_client_laws.specs.LawsAllocates.{AllocatesInOrder}
+use Rattle.turn_client_laws.specs.LawsGranted.{HasChannelTo, IsSameGrant, IsActiveGrant, WasActive}
+use Rattle.turn_client_laws.specs.LawsHandled.{IsDoneBy}
+use Rattle.turn_client_laws.specs.LawsGone.{GivesBack}
+use Rattle.turn_client_laws.specs.LawsNumbers.{HasDistinctNumbers}
+use Rattle.turn_client_laws.specs.LawsOrder.{FitsPhase}
+use Rattle.turn_client_laws.specs.LawsStates.{HasGrantsAsked}
 use Rattle.turn_client_api.specs.Steps.{state_after, state_after_all}
-use Rattle.turn_client_api.proofs.AllocateFamilies.{initial-AllocatesInOrder, leaves-AllocatesInOrder}
-use Rattle.turn_client_api.proofs.DistinctNumbers.{initial-numbers, leaves-apart}
-use Rattle.turn_client_api.proofs.HasLemmas.{Has, has-right}
-use Rattle.turn_client_api.proofs.ListedGrants.{initial-HasGrantsAsked, leaves-HasGrantsAsked}
-use Rattle.turn_client_api.proofs.SendOrderLemmas.{initial-steady, leaves-steadies}
-use Rattle.turn_client_api.proofs.StandLemmas.{contains-has, covers-has, covers-stood}
+use Rattle.turn_client_laws.proofs.AllocateFamilies.{initial-AllocatesInOrder, leaves-AllocatesInOrder}
+use Rattle.turn_client_laws.proofs.DistinctNumbers.{initial-numbers, leaves-apart}
+use Rattle.turn_client_laws.proofs.HasLemmas.{Has, has-right}
+use Rattle.turn_client_laws.proofs.ListedGrants.{initial-HasGrantsAsked, leaves-HasGrantsAsked}
+use Rattle.turn_client_laws.proofs.SendOrderLemmas.{initial-steady, leaves-steadies}
+use Rattle.turn_client_laws.proofs.StandLemmas.{contains-has, covers-has, covers-stood}
 use Rattle.turn_client_runs.specs.Granted.{GrantsAddress, HasReply, IsAllocated, IsAnsweredIn, IsGivenBack, IsGivenIn, IsGranted, IsGranting, IsRelayed, HoldsThrough}
 use Rattle.turn_client_runs.proofs.AskedFamilies.{asks-family, turns-signed}
 use Rattle.turn_client_runs.proofs.AskedLemmas.{was-asked}

@@ -6,7 +6,7 @@ use Rattle.std.specs.declared.net.socket_addr.SocketAddr.{SocketAddr}
 use Rattle.std.proofs.lemmas.List.Elements.{All-contains, All-tail}
 use Rattle.turn_stun.specs.declared.transport.TransportType.{TransportType}
 use Rattle.turn_client_api.specs.Config.{Config}
-use Rattle.turn_client_api.specs.LawsStreams.{AreApart, NeedsMoreBytes, IsEmptyIfBroken}
+use Rattle.turn_client_laws.specs.LawsStreams.{AreApart, NeedsMoreBytes, IsEmptyIfBroken}
 use Rattle.turn_client_api.specs.State.{State, initial}
 use Rattle.turn_client_api.specs.Streams.{poll_recv_step}
 use Rattle.turn_client_api.specs.declared.call.Call.{Call}
@@ -14,10 +14,10 @@ use Rattle.turn_client_api.specs.declared.call.Call.TheVariants.{PollRecv}
 use Rattle.turn_client_api.specs.declared.state.Mode.{Mode}
 use Rattle.turn_client_api.specs.declared.state.Mode.TheVariants.{Control, Waiting, Bound, Broken}
 use Rattle.turn_client_api.specs.declared.state.Stream.{Stream}
-use Rattle.turn_client_api.proofs.StandLemmas.{contains-has}
-use Rattle.turn_client_api.proofs.StreamCallLemmas.{call-apart, initial-apart}
-use Rattle.turn_client_api.proofs.StreamDrainLemmas.{poll_recv-drained}
-use Rattle.turn_client_api.proofs.StreamShortLemmas.{drained-short}
+use Rattle.turn_client_laws.proofs.StandLemmas.{contains-has}
+use Rattle.turn_client_laws.proofs.StreamCallLemmas.{call-apart, initial-apart}
+use Rattle.turn_client_laws.proofs.StreamDrainLemmas.{poll_recv-drained}
+use Rattle.turn_client_laws.proofs.StreamShortLemmas.{drained-short}
 use Rattle.turn_client_runs.specs.Received.{pieces_for}
 use Rattle.turn_client_runs.specs.Short.{StreamsAreShort}
 use Rattle.turn_client_runs.proofs.QuietLemmas.{calls-keep}

@@ -19,21 +19,21 @@ use Rattle.turn_client_api.specs.declared.state.Phase.{Phase}
 use Rattle.turn_client_api.specs.declared.state.Phase.TheVariants.{New, Requesting, Authenticating, Allocated, Closed}
 use Rattle.turn_client_api.specs.Calls.{allocated_tcp_socket_step, bind_channel_step, create_permission_step, delete_step, is_allocated, is_control, tcp_connect_step}
 use Rattle.turn_client_api.specs.Grants.{find_allocation_to, same_transport}
-use Rattle.turn_client_api.specs.LawsAllocates.{AllocatesInOrder}
-use Rattle.turn_client_api.specs.LawsOrder.{FitsPhase, IsUngranted}
-use Rattle.turn_client_api.specs.LawsRequests.{AsksFor, IsMadeAs, IsRequestOf, IsSentAgain}
-use Rattle.turn_client_api.specs.LawsSteps.{rank}
+use Rattle.turn_client_laws.specs.LawsAllocates.{AllocatesInOrder}
+use Rattle.turn_client_laws.specs.LawsOrder.{FitsPhase, IsUngranted}
+use Rattle.turn_client_laws.specs.LawsRequests.{AsksFor, IsMadeAs, IsRequestOf, IsSentAgain}
+use Rattle.turn_client_laws.specs.LawsSteps.{rank}
 use Rattle.turn_client_api.specs.Requests.{fresh_id, request_for}
 use Rattle.turn_client_api.specs.Steps.{state_after}
-use Rattle.turn_client_api.proofs.Edits.{KeepsEdits}
-use Rattle.turn_client_api.proofs.EditsOfCalls.{IsQuiet, quiet-walk}
-use Rattle.turn_client_api.proofs.EditsOfReplies.{and-false}
-use Rattle.turn_client_api.proofs.HasLemmas.{Has}
-use Rattle.turn_client_api.proofs.MoveTurnLemmas.{requests-made}
-use Rattle.turn_client_api.proofs.PhasesGoOn.{call-keeps}
-use Rattle.turn_client_api.proofs.RunKeepLemmas.{poll_recv-kept, recv-kept}
-use Rattle.turn_client_api.proofs.SendOrderLemmas.{leaves-steadies}
-use Rattle.turn_client_api.proofs.StandLemmas.{contains-has, has-contains}
+use Rattle.turn_client_laws.proofs.Edits.{KeepsEdits}
+use Rattle.turn_client_laws.proofs.EditsOfCalls.{IsQuiet, quiet-walk}
+use Rattle.turn_client_laws.proofs.EditsOfReplies.{and-false}
+use Rattle.turn_client_laws.proofs.HasLemmas.{Has}
+use Rattle.turn_client_laws.proofs.MoveTurnLemmas.{requests-made}
+use Rattle.turn_client_laws.proofs.PhasesGoOn.{call-keeps}
+use Rattle.turn_client_laws.proofs.RunKeepLemmas.{poll_recv-kept, recv-kept}
+use Rattle.turn_client_laws.proofs.SendOrderLemmas.{leaves-steadies}
+use Rattle.turn_client_laws.proofs.StandLemmas.{contains-has, has-contains}
 use Rattle.turn_client_runs.specs.Granted.{IsSignedAllocate}
 use Rattle.turn_client_runs.proofs.ConfiguredLemmas.{call-configured}
 use Rattle.turn_client_runs.proofs.SignedLemmas.{AreSigned, Signs, SignsIn, StaySigned, StaySigned-IsKept, further-signs, later-signs, same-signs}

@@ -18,22 +18,22 @@ use Rattle.turn_client_api.specs.Connections.{bind_step, connection_at}
 use Rattle.turn_client_api.specs.Effect.{closed, transaction_ended, fail_all}
 use Rattle.turn_client_api.specs.Grants.{purposes_of}
 use Rattle.turn_client_api.specs.Judgement.{Challenged, Fatal, Unrelated, answers_one, challenge_in, class_in, judgement_of}
-use Rattle.turn_client_api.specs.LawsAllocates.{AllocatesInOrder}
-use Rattle.turn_client_api.specs.LawsOrder.{IsUngranted}
-use Rattle.turn_client_api.specs.LawsRequests.{IsMadeAgain, IsMadeAs}
-use Rattle.turn_client_api.specs.LawsSteps.{rank}
+use Rattle.turn_client_laws.specs.LawsAllocates.{AllocatesInOrder}
+use Rattle.turn_client_laws.specs.LawsOrder.{IsUngranted}
+use Rattle.turn_client_laws.specs.LawsRequests.{IsMadeAgain, IsMadeAs}
+use Rattle.turn_client_laws.specs.LawsSteps.{rank}
 use Rattle.turn_client_api.specs.Payloads.{challenge_step, message_step, wrong_step}
 use Rattle.turn_client_api.specs.Receive.{connection_gone}
 use Rattle.turn_client_api.specs.Requests.{first_allocate, fresh_id, request_for}
 use Rattle.turn_client_api.specs.Retry.{max_challenges, phase_after, retried, state_after_retry, with_held}
-use Rattle.turn_client_api.proofs.AllocateFamilies.{StayInOrder, StayInOrder-KeepsAllEdits, in_order-stated, stated-in_order}
-use Rattle.turn_client_api.proofs.EditsOfMessages.{edits-IsKept, purposes-listed, retried-has}
-use Rattle.turn_client_api.proofs.HasLemmas.{Has, has-append, has-filter}
-use Rattle.turn_client_api.proofs.InAllocationLemmas.{any-has, not-both}
-use Rattle.turn_client_api.proofs.MoveMessageLemmas.{message-turns}
-use Rattle.turn_client_api.proofs.PhasesGoOn.{Keeps, bind-keeps, message-keeps}
-use Rattle.turn_client_api.proofs.RunKeepLemmas.{IsKept}
-use Rattle.turn_client_api.proofs.StandLemmas.{contains-has, has-contains}
+use Rattle.turn_client_laws.proofs.AllocateFamilies.{StayInOrder, StayInOrder-KeepsAllEdits, in_order-stated, stated-in_order}
+use Rattle.turn_client_laws.proofs.EditsOfMessages.{edits-IsKept, purposes-listed, retried-has}
+use Rattle.turn_client_laws.proofs.HasLemmas.{Has, has-append, has-filter}
+use Rattle.turn_client_laws.proofs.InAllocationLemmas.{any-has, not-both}
+use Rattle.turn_client_laws.proofs.MoveMessageLemmas.{message-turns}
+use Rattle.turn_client_laws.proofs.PhasesGoOn.{Keeps, bind-keeps, message-keeps}
+use Rattle.turn_client_laws.proofs.RunKeepLemmas.{IsKept}
+use Rattle.turn_client_laws.proofs.StandLemmas.{contains-has, has-contains}
 use Rattle.turn_client_runs.specs.Granted.{HaveOneRealm, IsSignedAllocate}
 use Rattle.turn_client_runs.proofs.ConfiguredLemmas.{message-configured}
 

@@ -5,11 +5,11 @@ use Rattle.turn_client_api.specs.State.{State, initial}
 use Rattle.turn_client_api.specs.Steps.{state_after}
 use Rattle.turn_client_api.specs.declared.call.Call.{Call}
 use Rattle.turn_client_api.specs.declared.call.Call.TheVariants.{Poll}
-use Rattle.turn_client_api.specs.LawsOrder.{FitsPhase}
-use Rattle.turn_client_api.specs.LawsGrantAllocations.{GrantsHaveAllocations}
-use Rattle.turn_client_api.proofs.SendOrderLemmas.{initial-steady, leaves-steadies, steady-FitsPhaseForPoll}
-use Rattle.turn_client_api.proofs.InAllocation.{GrantsHaveAllocations-AllHaveAllocation, initial-GrantsHaveAllocations, leaves-GrantsHaveAllocations}
-use Rattle.turn_client_api.proofs.TimelyLemmas.{poll-timely}
+use Rattle.turn_client_laws.specs.LawsOrder.{FitsPhase}
+use Rattle.turn_client_laws.specs.LawsGrantAllocations.{GrantsHaveAllocations}
+use Rattle.turn_client_laws.proofs.SendOrderLemmas.{initial-steady, leaves-steadies, steady-FitsPhaseForPoll}
+use Rattle.turn_client_laws.proofs.InAllocation.{GrantsHaveAllocations-AllHaveAllocation, initial-GrantsHaveAllocations, leaves-GrantsHaveAllocations}
+use Rattle.turn_client_laws.proofs.TimelyLemmas.{poll-timely}
 use Rattle.turn_client_runs.specs.Holds.{HoldsInAnyRun, HoldsOfRuns}
 use Rattle.turn_client_runs.specs.Sleeps.{IsPolledInTime, SleepsInTime, SleepsThroughNothing, TellsTimely, TellsTimelyNext}
 use Rattle.turn_client_runs.proofs.HoldLemmas.{holds-any}

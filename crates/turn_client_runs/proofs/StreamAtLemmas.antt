@@ -8,12 +8,12 @@ use Rattle.turn_client_api.specs.State.{State}
 use Rattle.turn_client_api.specs.declared.state.Mode.TheVariants.{Broken}
 use Rattle.turn_client_api.specs.declared.state.Stream.{Stream}
 use Rattle.turn_client_api.specs.Streams.{broken_at, is_ready, stream_at, with_bytes}
-use Rattle.turn_client_api.specs.LawsBodies.{IsAsideFrom}
-use Rattle.turn_client_api.proofs.AddressLemmas.{same_address-true}
-use Rattle.turn_client_api.proofs.FrameRestLemmas.{bytes_by}
-use Rattle.turn_client_api.proofs.GrantOriginLemmas.{has-mapped}
-use Rattle.turn_client_api.proofs.HasLemmas.{Has, find-none, has-found}
-use Rattle.turn_client_api.proofs.StreamApartLemmas.{IsNoneOf, differ-sym, ends}
+use Rattle.turn_client_laws.specs.LawsBodies.{IsAsideFrom}
+use Rattle.turn_client_laws.proofs.AddressLemmas.{same_address-true}
+use Rattle.turn_client_laws.proofs.FrameRestLemmas.{bytes_by}
+use Rattle.turn_client_laws.proofs.GrantOriginLemmas.{has-mapped}
+use Rattle.turn_client_laws.proofs.HasLemmas.{Has, find-none, has-found}
+use Rattle.turn_client_laws.proofs.StreamApartLemmas.{IsNoneOf, differ-sym, ends}
 
 -- ---- lists
 

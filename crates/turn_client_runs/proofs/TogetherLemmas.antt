@@ -13,24 +13,24 @@ use Rattle.turn_client_api.specs.declared.grant.Purpose.{Purpose}
 use Rattle.turn_client_api.specs.declared.grant.Purpose.TheVariants.{ForAllocation, ForRefresh, ForPermission, ForChannel, ForConnect, ForBind}
 use Rattle.turn_client_api.specs.declared.state.Phase.TheVariants.{New, Allocated}
 use Rattle.turn_client_api.specs.Grants.{is_of_request, purposes_of}
-use Rattle.turn_client_api.specs.Handled.{Input, handled, processed}
-use Rattle.turn_client_api.specs.LawsGone.{GivesBack}
-use Rattle.turn_client_api.specs.LawsHandled.{DiffersInStreams, ProcessesInputs, TakesInput, InputsLead}
-use Rattle.turn_client_api.specs.LawsRequests.{AsksFor, IsListedAgain, IsListedAs, IsListedFor, IsListingOf}
+use Rattle.turn_client_laws.specs.Handled.{Input, handled, processed}
+use Rattle.turn_client_laws.specs.LawsGone.{GivesBack}
+use Rattle.turn_client_laws.specs.LawsHandled.{DiffersInStreams, ProcessesInputs, TakesInput, InputsLead}
+use Rattle.turn_client_laws.specs.LawsRequests.{AsksFor, IsListedAgain, IsListedAs, IsListedFor, IsListingOf}
 use Rattle.turn_client_api.specs.Receive.{connection_gone}
 use Rattle.turn_client_api.specs.Requests.{fresh_id}
 use Rattle.turn_client_api.specs.Steps.{state_after}
 use Rattle.turn_client_api.specs.Streams.{without_stream}
-use Rattle.turn_client_api.proofs.Edits.{listing}
-use Rattle.turn_client_api.proofs.HasLemmas.{Has}
-use Rattle.turn_client_api.proofs.InAllocationLemmas.{has-any}
-use Rattle.turn_client_api.proofs.MoveMessageLemmas.{turn-turns}
-use Rattle.turn_client_api.proofs.MoveSocketLemmas.{gone-settles}
-use Rattle.turn_client_api.proofs.MoveTurnLemmas.{listings-made}
-use Rattle.turn_client_api.proofs.NewIdLemmas.{fresh-free}
-use Rattle.turn_client_api.proofs.StandLemmas.{contains-has, has-contains}
-use Rattle.turn_client_api.proofs.TurnChainLemmas.{calls-do}
-use Rattle.turn_client_api.proofs.TwoPurposes.{purpose-with}
+use Rattle.turn_client_laws.proofs.Edits.{listing}
+use Rattle.turn_client_laws.proofs.HasLemmas.{Has}
+use Rattle.turn_client_laws.proofs.InAllocationLemmas.{has-any}
+use Rattle.turn_client_laws.proofs.MoveMessageLemmas.{turn-turns}
+use Rattle.turn_client_laws.proofs.MoveSocketLemmas.{gone-settles}
+use Rattle.turn_client_laws.proofs.MoveTurnLemmas.{listings-made}
+use Rattle.turn_client_laws.proofs.NewIdLemmas.{fresh-free}
+use Rattle.turn_client_laws.proofs.StandLemmas.{contains-has, has-contains}
+use Rattle.turn_client_laws.proofs.TurnChainLemmas.{calls-do}
+use Rattle.turn_client_laws.proofs.TwoPurposes.{purpose-with}
 
 -- ---- purposes of one request
 

@@ -18,16 +18,16 @@ use Rattle.turn_client_api.specs.Payloads.{Payload, Outcome, Handled, Ignored, P
 use Rattle.turn_client_api.specs.Streams.{broken_at, frame_step, framed_by, framed_stream_step, go_on, is_ready, max_steps, payload_in, poll_recv_step, stream_at, next_frame_step, first_ready_step, detached_frame_step, steps_until_payload, with_bytes, without_stream}
 use Rattle.turn_client_api.specs.Receive.{connection_gone, first_frame_step, is_from_server, piece_step, recv_step, stream_step, then_all}
 use Rattle.turn_client_api.specs.Connections.{connection_at}
-use Rattle.turn_client_api.specs.Handled.{Input, datagram_input, fed_taken, frame_taken, handled, is_front, piece_inputs, poll_recv_inputs, recv_inputs, stream_inputs, stream_inputs_taken, taken_first, taken_in, taken_of_len, then_taken, inputs_taken, unless_given}
-use Rattle.turn_client_api.specs.LawsHandled.{TakesInput}
+use Rattle.turn_client_laws.specs.Handled.{Input, datagram_input, fed_taken, frame_taken, handled, is_front, piece_inputs, poll_recv_inputs, recv_inputs, stream_inputs, stream_inputs_taken, taken_first, taken_in, taken_of_len, then_taken, inputs_taken, unless_given}
+use Rattle.turn_client_laws.specs.LawsHandled.{TakesInput}
 use Rattle.turn_client_api.specs.Steps.{state_after}
 use Rattle.turn_client_api.specs.declared.call.Call.{Call}
 use Rattle.turn_client_api.specs.declared.call.Call.TheVariants.{Recv, PollRecv}
-use Rattle.turn_client_api.proofs.AddressLemmas.{same_address-true}
-use Rattle.turn_client_api.proofs.StreamCallLemmas.{IsOpened, others-opened}
-use Rattle.turn_client_api.proofs.StreamDrainLemmas.{broken_by, broken_by-Sets, bytes_by, bytes_by-Sets, found-ready, map-map, mode_by, mode_by-KeepsHeld, ready-waits}
-use Rattle.turn_client_api.proofs.StreamMessageLemmas.{Rebound, Same, frame-rebound, message-same, same-cond}
-use Rattle.turn_client_api.proofs.StreamWeightLemmas.{Sets, found-le-top, kept-Sets, later-Sets, top, top-set, weight, weight-set}
+use Rattle.turn_client_laws.proofs.AddressLemmas.{same_address-true}
+use Rattle.turn_client_laws.proofs.StreamCallLemmas.{IsOpened, others-opened}
+use Rattle.turn_client_laws.proofs.StreamDrainLemmas.{broken_by, broken_by-Sets, bytes_by, bytes_by-Sets, found-ready, map-map, mode_by, mode_by-KeepsHeld, ready-waits}
+use Rattle.turn_client_laws.proofs.StreamMessageLemmas.{Rebound, Same, frame-rebound, message-same, same-cond}
+use Rattle.turn_client_laws.proofs.StreamWeightLemmas.{Sets, found-le-top, kept-Sets, later-Sets, top, top-set, weight, weight-set}
 
 -- ---- one stream
 

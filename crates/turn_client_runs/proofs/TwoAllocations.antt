@@ -9,8 +9,8 @@ use Rattle.turn_client_api.specs.declared.grant.Grant.{Grant}
 use Rattle.turn_client_api.specs.declared.grant.Grant.TheVariants.{Allocation, Permission, Channel, Connect, Offer, Connection}
 use Rattle.turn_client_api.specs.declared.grant.Relay.{Relay}
 use Rattle.turn_client_api.specs.Grants.{as_allocation, allocations, family_of}
-use Rattle.turn_client_api.specs.LawsDoubles.{HasNoDoubles}
-use Rattle.turn_client_api.proofs.DoubleLemmas.{AreSingle, IsSingle}
+use Rattle.turn_client_laws.specs.LawsDoubles.{HasNoDoubles}
+use Rattle.turn_client_laws.proofs.DoubleLemmas.{AreSingle, IsSingle}
 
 -- how many of these are of the family
 of_family : AddressFamily → List Relay → ℕ

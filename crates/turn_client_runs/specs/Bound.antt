@@ -2,10 +2,10 @@
 use Rattle.std.specs.Prelude.{◌≡◌, ◌⊎◌, List, ◌∷◌, ◌++◌}
 use Rattle.std.specs.declared.net.socket_addr.SocketAddr.{SocketAddr}
 use Rattle.turn_client_api.specs.State.{State}
-use Rattle.turn_client_api.specs.Handled.{Input, handled, processed}
-use Rattle.turn_client_api.specs.LawsBound.{IsBindInput, IsBoundConnection, IsConnecting}
-use Rattle.turn_client_api.specs.LawsHandled.{IsBoundAt}
-use Rattle.turn_client_api.specs.LawsReplies.{IsNotAwaited}
+use Rattle.turn_client_laws.specs.Handled.{Input, handled, processed}
+use Rattle.turn_client_laws.specs.LawsBound.{IsBindInput, IsBoundConnection, IsConnecting}
+use Rattle.turn_client_laws.specs.LawsHandled.{IsBoundAt}
+use Rattle.turn_client_laws.specs.LawsReplies.{IsNotAwaited}
 use Rattle.turn_client_api.specs.declared.call.Call.{Call}
 use Rattle.turn_client_api.specs.declared.grant.DataConnection.{DataConnection}
 use Rattle.turn_client_api.specs.Steps.{state_after, state_after_all}

@@ -6,10 +6,10 @@ use Rattle.turn_client_api.specs.State.{State}
 use Rattle.turn_client_api.specs.Judgement.{Challenged, judgement_of}
 use Rattle.turn_client_api.specs.Retry.{max_challenges}
 use Rattle.turn_client_api.specs.Payloads.{is_message}
-use Rattle.turn_client_api.specs.Handled.{Input, processed}
-use Rattle.turn_client_api.specs.LawsHandled.{IsOverControl}
-use Rattle.turn_client_api.specs.LawsReplies.{IsReplyAccepted}
-use Rattle.turn_client_api.specs.LawsSteps.{IsChallengeCounted}
+use Rattle.turn_client_laws.specs.Handled.{Input, processed}
+use Rattle.turn_client_laws.specs.LawsHandled.{IsOverControl}
+use Rattle.turn_client_laws.specs.LawsReplies.{IsReplyAccepted}
+use Rattle.turn_client_laws.specs.LawsSteps.{IsChallengeCounted}
 use Rattle.turn_client_api.specs.declared.call.Call.{Call}
 use Rattle.turn_client_runs.specs.Inputs.{IsAmong, handled_in}
 

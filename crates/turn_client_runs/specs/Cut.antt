@@ -19,7 +19,7 @@ use Rattle.turn_client_api.specs.Payloads.{Payload, Outcome, PeerData}
 use Rattle.turn_client_api.specs.Streams.{broken_at, frame_step, is_ready, max_steps, poll_recv_step, sent_by, stream_at, with_bytes}
 use Rattle.turn_client_api.specs.Receive.{recv_step}
 use Rattle.turn_client_api.specs.Steps.{packet_step, state_after, state_after_all}
-use Rattle.turn_client_api.specs.LawsStreams.{AreApart}
+use Rattle.turn_client_laws.specs.LawsStreams.{AreApart}
 
 -- ---- the whole of what is received
 

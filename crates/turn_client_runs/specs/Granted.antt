@@ -25,13 +25,13 @@ use Rattle.turn_client_api.specs.Grants.{is_of_family, purposes_of, same_ip}
 use Rattle.turn_client_api.specs.Judgement.{class_in, lifetime_in}
 use Rattle.turn_client_api.specs.Effect.{channel_lifetime, min_lifetime, permission_lifetime, relayed_in}
 use Rattle.turn_client_api.specs.Payloads.{is_message}
-use Rattle.turn_client_api.specs.Handled.{Input, handled, processed}
+use Rattle.turn_client_laws.specs.Handled.{Input, handled, processed}
 use Rattle.turn_client_api.specs.Steps.{state_after, state_after_all}
-use Rattle.turn_client_api.specs.LawsAllocates.{IsAskedForFamilies}
-use Rattle.turn_client_api.specs.LawsGranted.{WasActive}
-use Rattle.turn_client_api.specs.LawsHandled.{IsDoneBy, IsOverControl, IsOverWaiting}
-use Rattle.turn_client_api.specs.LawsReplies.{IsAwaited, IsNotAwaited}
-use Rattle.turn_client_api.specs.LawsRequests.{AsksFor, IsListedFor, IsMade}
+use Rattle.turn_client_laws.specs.LawsAllocates.{IsAskedForFamilies}
+use Rattle.turn_client_laws.specs.LawsGranted.{WasActive}
+use Rattle.turn_client_laws.specs.LawsHandled.{IsDoneBy, IsOverControl, IsOverWaiting}
+use Rattle.turn_client_laws.specs.LawsReplies.{IsAwaited, IsNotAwaited}
+use Rattle.turn_client_laws.specs.LawsRequests.{AsksFor, IsListedFor, IsMade}
 use Rattle.turn_client_api.specs.Requests.{fresh_id, request_for}
 use Rattle.turn_client_runs.specs.Received.{HasArrived}
 

@@ -4,8 +4,8 @@ use Rattle.turn_auth.specs.LongTerm.{Challenge}
 use Rattle.turn_client_api.specs.State.{State}
 use Rattle.turn_client_api.specs.Judgement.{Challenged, judgement_of}
 use Rattle.turn_client_api.specs.Payloads.{is_message}
-use Rattle.turn_client_api.specs.Handled.{Input, processed}
-use Rattle.turn_client_api.specs.LawsHandled.{IsOverControl}
+use Rattle.turn_client_laws.specs.Handled.{Input, processed}
+use Rattle.turn_client_laws.specs.LawsHandled.{IsOverControl}
 use Rattle.turn_client_api.specs.declared.call.Call.{Call}
 use Rattle.turn_client_runs.specs.Inputs.{IsAmong, handled_in}
 use Rattle.turn_client_api.specs.Steps.{state_after_all}

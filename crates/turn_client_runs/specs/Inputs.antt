@@ -3,7 +3,7 @@ use Rattle.std.specs.Prelude.{List, [], ◌∷◌, ◌++◌, option_to_list}
 use Rattle.std.specs.List.{Contains}
 use Rattle.turn_client_api.specs.State.{State}
 use Rattle.turn_client_api.specs.Payloads.{Payload}
-use Rattle.turn_client_api.specs.Handled.{Input, handled, payloads_by}
+use Rattle.turn_client_laws.specs.Handled.{Input, handled, payloads_by}
 use Rattle.turn_client_api.specs.Streams.{payload_in, poll_recv_step}
 use Rattle.turn_client_api.specs.Steps.{packet_step, state_after}
 use Rattle.turn_client_api.specs.declared.call.Call.{Call}

@@ -5,9 +5,9 @@ use Rattle.std.specs.Net.Socket.{socket_ip}
 use Rattle.std.specs.declared.net.socket_addr.SocketAddr.{SocketAddr}
 use Rattle.turn_client_api.specs.State.{State}
 use Rattle.turn_client_api.specs.Payloads.{Payload, Outcome, PeerIcmp}
-use Rattle.turn_client_api.specs.Handled.{Input, processed, input_payload}
-use Rattle.turn_client_api.specs.LawsHandled.{IsBoundAt}
-use Rattle.turn_client_api.specs.LawsPeers.{HasChannel, HasPermission, IsIcmpAttribute, IsIndicated, IsPermittedInput}
+use Rattle.turn_client_laws.specs.Handled.{Input, processed, input_payload}
+use Rattle.turn_client_laws.specs.LawsHandled.{IsBoundAt}
+use Rattle.turn_client_laws.specs.LawsPeers.{HasChannel, HasPermission, IsIcmpAttribute, IsIndicated, IsPermittedInput}
 use Rattle.turn_client_api.specs.declared.call.Call.{Call}
 use Rattle.turn_client_api.specs.declared.state.Mode.TheVariants.{Bound}
 use Rattle.turn_client_api.specs.declared.state.Stream.{Stream}

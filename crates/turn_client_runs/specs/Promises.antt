@@ -4,10 +4,10 @@ use Rattle.std.specs.List.{Contains, concat}
 use Rattle.std.specs.declared.net.socket_addr.SocketAddr.{SocketAddr}
 use Rattle.turn_stun.specs.declared.transport.TransportType.TheVariants.{Tcp}
 use Rattle.turn_client_api.specs.State.{State}
-use Rattle.turn_client_api.specs.Handled.{Input, handled}
-use Rattle.turn_client_api.specs.LawsGranted.{IsActiveGrant}
-use Rattle.turn_client_api.specs.LawsNumbers.{HasDistinctNumbers}
-use Rattle.turn_client_api.specs.LawsSteps.{KeepsRealm}
+use Rattle.turn_client_laws.specs.Handled.{Input, handled}
+use Rattle.turn_client_laws.specs.LawsGranted.{IsActiveGrant}
+use Rattle.turn_client_laws.specs.LawsNumbers.{HasDistinctNumbers}
+use Rattle.turn_client_laws.specs.LawsSteps.{KeepsRealm}
 use Rattle.turn_client_api.specs.Streams.{poll_recv_step}
 use Rattle.turn_client_api.specs.declared.call.Call.{Call}
 use Rattle.turn_client_api.specs.declared.grant.Grant.{Grant}

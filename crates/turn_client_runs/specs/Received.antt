@@ -10,7 +10,7 @@ use Rattle.turn_client_api.specs.declared.call.Call.TheVariants.{Recv}
 use Rattle.turn_client_api.specs.declared.state.Mode.{Mode}
 use Rattle.turn_client_api.specs.declared.state.Mode.TheVariants.{Broken}
 use Rattle.turn_client_api.specs.declared.state.Stream.{Stream}
-use Rattle.turn_client_api.specs.Handled.{Input}
+use Rattle.turn_client_laws.specs.Handled.{Input}
 use Rattle.turn_client_api.specs.Receive.{is_from_server}
 use Rattle.turn_client_api.specs.Steps.{state_after}
 use Rattle.turn_client_api.specs.Streams.{stream_at}

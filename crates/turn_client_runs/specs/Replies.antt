@@ -9,9 +9,9 @@ use Rattle.turn_client_api.specs.Requests.{connection_bind_method, fresh_id}
 use Rattle.turn_client_api.specs.Judgement.{bind_judgement, judgement_of, method_in}
 use Rattle.turn_client_api.specs.Connections.{connection_at}
 use Rattle.turn_client_api.specs.Payloads.{is_message}
-use Rattle.turn_client_api.specs.Handled.{Input, handled, processed}
-use Rattle.turn_client_api.specs.LawsHandled.{IsOverControl, IsOverWaiting}
-use Rattle.turn_client_api.specs.LawsReplies.{IsAccepted, IsAwaited, IsDrawn, IsNotAwaited}
+use Rattle.turn_client_laws.specs.Handled.{Input, handled, processed}
+use Rattle.turn_client_laws.specs.LawsHandled.{IsOverControl, IsOverWaiting}
+use Rattle.turn_client_laws.specs.LawsReplies.{IsAccepted, IsAwaited, IsDrawn, IsNotAwaited}
 use Rattle.turn_client_api.specs.Steps.{state_after, state_after_all}
 use Rattle.turn_client_api.specs.declared.call.Call.{Call}
 use Rattle.turn_client_api.specs.declared.grant.DataConnection.{DataConnection}

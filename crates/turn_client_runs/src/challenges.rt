@@ -2,7 +2,7 @@
 
 ghost use Rattle.std.specs.Prelude.{List};
 ghost use Rattle.turn_client_api.specs.State.{State};
-ghost use Rattle.turn_client_api.specs.LawsSteps.{KeepsRealm};
+ghost use Rattle.turn_client_laws.specs.LawsSteps.{KeepsRealm};
 ghost use Rattle.turn_client_api.specs.declared.call.Call.{Call};
 ghost use Rattle.turn_client_runs.specs.Challenges.{AnswersFew, CountsAll, IsWithinChallengeLimit};
 ghost use Rattle.turn_client_runs.specs.Holds.{HoldsInAnyRun, HoldsInRuns, Reaches};

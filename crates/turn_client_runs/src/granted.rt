@@ -1,6 +1,6 @@
 //! What the server granted in a run.
 
-ghost use Rattle.turn_client_api.specs.LawsGranted.{IsActiveGrant};
+ghost use Rattle.turn_client_laws.specs.LawsGranted.{IsActiveGrant};
 ghost use Rattle.turn_client_runs.specs.Granted.{HaveReplies};
 
 /// After any list of calls, each allocation (one that is marked as expired too), active permission, active

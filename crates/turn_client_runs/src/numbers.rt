@@ -1,6 +1,6 @@
 //! The numbers of channels, over whole runs.
 
-ghost use Rattle.turn_client_api.specs.LawsNumbers.{HasDistinctNumbers};
+ghost use Rattle.turn_client_laws.specs.LawsNumbers.{HasDistinctNumbers};
 ghost use Rattle.turn_client_runs.specs.Holds.{HoldsInAnyRun, HoldsInRuns};
 
 /// After any list of calls no channel number names two peers (RFC 8656, section 12): the numbers of all

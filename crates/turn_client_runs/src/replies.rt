@@ -2,7 +2,7 @@
 
 ghost use Rattle.std.specs.Prelude.{List};
 ghost use Rattle.turn_client_api.specs.State.{State};
-ghost use Rattle.turn_client_api.specs.Handled.{Input};
+ghost use Rattle.turn_client_laws.specs.Handled.{Input};
 ghost use Rattle.turn_client_api.specs.declared.call.Call.{Call};
 ghost use Rattle.turn_client_runs.specs.Replies.{EachReply, EndsItsRequest, IsMadeBetween, IsMadeSince, IsMadeUntil, IsReplyInput, MakesNewOnesIn};
 

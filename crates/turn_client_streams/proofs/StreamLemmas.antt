@@ -7,8 +7,8 @@ use Rattle.turn_agent.proofs.AgentLemmas.{position-IsFirst, position-none}
 use Rattle.std.specs.declared.net.socket_addr.SocketAddr.{SocketAddr}
 use Rattle.turn_agent.specs.Agent.{same_address}
 use Rattle.turn_client_api.specs.declared.state.Stream.{Stream}
-use Rattle.turn_client_api.proofs.AddressLemmas.{same_address-true, same_address-self}
-use Rattle.turn_client_api.proofs.StreamApartLemmas.{differ-sym, ends, IsNoneOf}
+use Rattle.turn_client_laws.proofs.AddressLemmas.{same_address-true, same_address-self}
+use Rattle.turn_client_laws.proofs.StreamApartLemmas.{differ-sym, ends, IsNoneOf}
 use Rattle.turn_client_streams.specs.Held.{HasOwnEnds}
 
 abbrev pub is_at : SocketAddr → Stream → Bool

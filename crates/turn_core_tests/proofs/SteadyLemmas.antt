@@ -8,7 +8,7 @@ use Rattle.turn_client_api.specs.Answers.{BindsChannel, Connects, CreatesPermiss
 use Rattle.turn_client_api.specs.Calls.{allocated_tcp_socket_step, bind_channel_step, create_permission_step, delete_step, send_to_step, tcp_connect_step}
 use Rattle.turn_client_api.specs.Config.{Config}
 use Rattle.turn_client_api.specs.Effect.{closed}
-use Rattle.turn_client_api.specs.LawsOrder.{FitsPhase}
+use Rattle.turn_client_laws.specs.LawsOrder.{FitsPhase}
 use Rattle.turn_client_api.specs.Payloads.{Outcome, datagram_step}
 use Rattle.turn_client_api.specs.Poll.{poll_step}
 use Rattle.turn_client_api.specs.Receive.{recv_step}
@@ -26,8 +26,8 @@ use Rattle.turn_client_api.specs.declared.error.TcpAllocateError.TheVariants as 
 use Rattle.turn_client_api.specs.declared.error.TcpConnectError.{TcpConnectError}
 use Rattle.turn_client_api.specs.declared.error.TcpConnectError.TheVariants as Join
 use Rattle.turn_client_api.specs.declared.poll.Socket5Tuple.{Socket5Tuple}
-use Rattle.turn_client_api.proofs.AddressLemmas.{same_address-self}
-use Rattle.turn_client_api.proofs.SendOrderLemmas.{initial-steady, leaves-steadies}
+use Rattle.turn_client_laws.proofs.AddressLemmas.{same_address-self}
+use Rattle.turn_client_laws.proofs.SendOrderLemmas.{initial-steady, leaves-steadies}
 
 pub new_steady : (s : State) (transport : TransportType) (local remote : SocketAddr) (config : Config) (seed : List ℕ) → s ≡ initial transport local remote config seed → FitsPhase s
 new_steady s transport local remote config seed e = subst FitsPhase (sym e) (initial-steady transport local remote config seed)

@@ -1,7 +1,7 @@
 //! A client whose caller keeps the requirements of each call.
 
 ghost use Rattle.std.specs.Prelude.{◌≤◌, ◌^◌};
-ghost use Rattle.turn_client_api.specs.LawsOrder.{FitsPhase};
+ghost use Rattle.turn_client_laws.specs.LawsOrder.{FitsPhase};
 
 use std::alloc::AllocError;
 use std::marker::Model;
@@ -27,7 +27,7 @@ pub(crate) struct Client {
 }
 
 impl Model for Client {
-    ghost use Rattle.turn_client_api.specs.LawsOrder.{FitsPhase};
+    ghost use Rattle.turn_client_laws.specs.LawsOrder.{FitsPhase};
     ghost use Rattle.turn_client_api.specs.State.{State};
 
     ghost Value = { State };

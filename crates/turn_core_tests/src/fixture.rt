@@ -1,7 +1,7 @@
 //! A new client, and its server.
 
 ghost use Rattle.std.specs.Prelude.{◌≡◌, ◌≤◌, ◌*◌, ◌^◌, IfOk};
-ghost use Rattle.turn_client_api.specs.LawsOrder.{FitsPhase};
+ghost use Rattle.turn_client_laws.specs.LawsOrder.{FitsPhase};
 
 use std::alloc::Global;
 use std::net::{IpAddr, Ipv4Addr, SocketAddr};

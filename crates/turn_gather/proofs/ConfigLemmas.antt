@@ -3,8 +3,8 @@ use Rattle.std.proofs.Common.{◌≡◌, ◌∙◌, refl}
 use Rattle.turn_client_api.specs.State.{State}
 use Rattle.turn_client_api.specs.Steps.{state_after}
 use Rattle.turn_client_api.specs.declared.call.Call.{Call}
-use Rattle.turn_client_api.proofs.Edits.{KeepsAllEdits, KeepsEdits}
-use Rattle.turn_client_api.proofs.EditsOfCalls.{calls-walk}
+use Rattle.turn_client_laws.proofs.Edits.{KeepsAllEdits, KeepsEdits}
+use Rattle.turn_client_laws.proofs.EditsOfCalls.{calls-walk}
 
 abbrev KeepsConfig : State → State → Type 0
 KeepsConfig s t = t.config ≡ s.config

@@ -4,7 +4,7 @@ ghost use Rattle.std.specs.Prelude.{◌≡◌, ◌≤◌, ◌<◌, ◌⊎◌, []
 ghost use Rattle.std.specs.Option.{option_map_or};
 ghost use Rattle.turn_client_api.specs.Answers.{EndsAfterSteps, HandsBack, IsPartOf, given_payload, outcome_of};
 ghost use Rattle.turn_client_api.specs.Effect.{closed};
-ghost use Rattle.turn_client_api.specs.LawsOrder.{IsUngranted};
+ghost use Rattle.turn_client_laws.specs.LawsOrder.{IsUngranted};
 ghost use Rattle.turn_client_api.specs.Memory.{frame_takes_memory, is_free_frame};
 ghost use Rattle.turn_client_api.specs.PeerBytes.{held_in};
 ghost use Rattle.turn_client_api.specs.Payloads.{PeerData};

@@ -2,7 +2,7 @@
 
 ghost use Rattle.std.specs.Prelude.{◌≡◌, All, [], find, length, option_map, true, IfOk, IsNone, IsOk, None, OnErr, OnOk, Some};
 ghost use Rattle.turn_client_api.specs.Answers.{EndsAfterSteps, given_payload};
-ghost use Rattle.turn_client_api.specs.LawsOrder.{IsUngranted};
+ghost use Rattle.turn_client_laws.specs.LawsOrder.{IsUngranted};
 ghost use Rattle.turn_client_api.specs.Memory.{frame_takes_memory};
 ghost use Rattle.turn_client_api.specs.Streams.{HoldsLittle, broken_at, frame_step, framed_stream_step, is_ready, poll_recv_step, detached_frame_step, with_bytes};
 ghost use Rattle.turn_client_core.specs.ProtocolRecv.{IsPart, outcome_in};

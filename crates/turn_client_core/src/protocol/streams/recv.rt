@@ -5,7 +5,7 @@ ghost use Rattle.std.specs.Option.{option_map_or};
 ghost use Rattle.turn_agent.specs.Agent.{same_address};
 ghost use Rattle.turn_stun.specs.declared.transport.TransportType.TheVariants.{Tcp};
 ghost use Rattle.turn_client_api.specs.Answers.{EndsAfterSteps, HandsBack, RecvEnds, outcome_of};
-ghost use Rattle.turn_client_api.specs.LawsOrder.{IsUngranted};
+ghost use Rattle.turn_client_laws.specs.LawsOrder.{IsUngranted};
 ghost use Rattle.turn_client_api.specs.Streams.{stream_at, without_stream};
 ghost use Rattle.turn_client_core.specs.StreamSteps.{broken_piece_step, is_broken, piece_at, piece_takes_none};
 ghost use Rattle.turn_client_streams.specs.Held.{taken_out};

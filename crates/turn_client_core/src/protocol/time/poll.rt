@@ -2,8 +2,8 @@
 
 ghost use Rattle.std.specs.Prelude.{◌≡◌, ◌≤◌, ◌^◌, ◌++◌, drop, option_to_list, Some};
 ghost use Rattle.turn_client_api.specs.Alarm.{IsTimely};
-ghost use Rattle.turn_client_api.specs.LawsGrantAllocations.{GrantsHaveAllocations};
-ghost use Rattle.turn_client_api.specs.LawsOrder.{FitsPhase};
+ghost use Rattle.turn_client_laws.specs.LawsGrantAllocations.{GrantsHaveAllocations};
+ghost use Rattle.turn_client_laws.specs.LawsOrder.{FitsPhase};
 ghost use Rattle.turn_client_api.specs.Poll.{answer_step, timed_out_step, lapsed, next_offer, is_listed_for_allocation, offer_step, poll_step, timed_step};
 ghost use Rattle.turn_client_core.specs.Polled.{is_without_allocation, unallocated};
 

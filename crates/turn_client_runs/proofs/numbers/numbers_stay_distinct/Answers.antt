@@ -1,5 +1,5 @@
-use Rattle.turn_client_api.specs.LawsNumbers.{HasDistinctNumbers}
-use Rattle.turn_client_api.proofs.DistinctNumbers.{initial-numbers, leaves-apart}
+use Rattle.turn_client_laws.specs.LawsNumbers.{HasDistinctNumbers}
+use Rattle.turn_client_laws.proofs.DistinctNumbers.{initial-numbers, leaves-apart}
 use Rattle.turn_client_runs.proofs.HoldLemmas.{holds-any, holds-found}
 use Rattle.turn_client_runs.proofs.numbers.numbers_stay_distinct.Goals as goal
 

@@ -1,5 +1,5 @@
 use Rattle.std.proofs.Common.{◌≡◌, ◌∙◌, refl, sym, true}
-use Rattle.turn_client_api.proofs.ChallengeJudgement.{bind-is}
+use Rattle.turn_client_laws.proofs.ChallengeJudgement.{bind-is}
 use Rattle.turn_client_api.specs.Judgement.{bind_judgement}
 use Rattle.turn_client_api.specs.Memory.{keeps_connection}
 use Rattle.turn_client_core.specs.declared.protocol.incoming.judge.Judged.TheVariants.{SignedSuccess, SignedError}

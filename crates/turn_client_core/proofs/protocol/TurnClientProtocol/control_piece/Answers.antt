@@ -1,4 +1,4 @@
-use Rattle.turn_client_api.specs.Handled.{stream_with_piece}
+use Rattle.turn_client_laws.specs.Handled.{stream_with_piece}
 use Rattle.turn_client_api.specs.Answers.{outcome_of}
 use Rattle.turn_client_core.proofs.ArrivalLemmas.{err-then}
 use Rattle.turn_client_core.proofs.FreePieceLemmas.{free-rests, rests-behind}

@@ -2,7 +2,7 @@ use Rattle.std.proofs.Common.{◌≡◌, ◌∙◌, ℕ, List, Some, ap, false, 
 use Rattle.std.specs.Prelude.{IfOk, OnErr}
 use Rattle.turn_types.specs.Incoming.{ComesWith, incoming_bytes}
 use Rattle.turn_client_api.specs.Answers.{outcome_of}
-use Rattle.turn_client_api.specs.Handled.{stream_with_piece}
+use Rattle.turn_client_laws.specs.Handled.{stream_with_piece}
 use Rattle.turn_client_api.specs.Memory.{frame_takes_memory}
 use Rattle.turn_client_api.specs.Payloads.{Outcome}
 use Rattle.turn_client_api.specs.Receive.{place_kept}

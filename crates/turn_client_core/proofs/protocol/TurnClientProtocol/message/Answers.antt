@@ -1,5 +1,5 @@
 use Rattle.std.proofs.Common.{◌≡◌, ◌∙◌, refl, sym, true}
-use Rattle.turn_client_api.proofs.ChallengeJudgement.{Challenged-is}
+use Rattle.turn_client_laws.proofs.ChallengeJudgement.{Challenged-is}
 use Rattle.turn_client_api.specs.Judgement.{judgement_of}
 use Rattle.turn_client_api.specs.Memory.{message_takes_memory}
 use Rattle.turn_client_core.specs.declared.protocol.incoming.judge.Judged.TheVariants.{Unrelated, Challenged, Fatal, LateResponse, DataIndication, ConnectionAttempt, SignedRequest, SignedSuccess, SignedError}

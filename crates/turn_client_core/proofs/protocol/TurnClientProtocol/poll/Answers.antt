@@ -2,8 +2,8 @@ use Rattle.std.proofs.Common.{subst, sym}
 use Rattle.turn_client_api.specs.Alarm.{IsTimely}
 use Rattle.turn_client_api.specs.State.{State}
 use Rattle.turn_client_api.specs.declared.poll.TurnPollRet.{TurnPollRet}
-use Rattle.turn_client_api.proofs.SendOrderLemmas.{steady-FitsPhaseForPoll}
-use Rattle.turn_client_api.proofs.TimelyLemmas.{poll-timely}
+use Rattle.turn_client_laws.proofs.SendOrderLemmas.{steady-FitsPhaseForPoll}
+use Rattle.turn_client_laws.proofs.TimelyLemmas.{poll-timely}
 use Rattle.turn_client_core.proofs.protocol.TurnClientProtocol.poll.Goals as goal
 
 pub returns-clause-alarm : goal.returns-clause-alarm

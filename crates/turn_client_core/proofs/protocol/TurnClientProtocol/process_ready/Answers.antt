@@ -1,7 +1,7 @@
 use Rattle.std.proofs.Common.{◌≡◌, [], refl, sym, ap, ◌∙◌, Some}
 use Rattle.std.specs.Prelude.{find}
 use Rattle.std.specs.Option.{option_map}
-use Rattle.turn_client_api.proofs.StreamDrainLemmas.{turn-lighter}
+use Rattle.turn_client_laws.proofs.StreamDrainLemmas.{turn-lighter}
 use Rattle.turn_client_api.specs.Streams.{is_ready, next_frame_step, detached_frame_step, with_bytes}
 use Rattle.turn_client_streams.specs.Held.{taken_out}
 use Rattle.turn_client_core.specs.StreamSteps.{received_payload, owned_payload}

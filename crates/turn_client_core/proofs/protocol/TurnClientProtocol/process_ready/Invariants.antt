@@ -1,5 +1,5 @@
 use Rattle.turn_client_api.specs.Answers.{LeadsTo}
-use Rattle.turn_client_api.proofs.StreamWeightLemmas.{weight}
+use Rattle.turn_client_laws.proofs.StreamWeightLemmas.{weight}
 use Rattle.turn_client_core.proofs.TurnLemmas.{Rests}
 use Rattle.turn_client_core.proofs.protocol.TurnClientProtocol.process_ready.Given as goal
 

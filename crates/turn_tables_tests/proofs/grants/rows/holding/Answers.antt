@@ -1,5 +1,5 @@
 use Rattle.std.proofs.Common.{◌≡◌, ◌∙◌, [], ap, refl}
-use Rattle.turn_client_api.specs.LawsRows.{peer}
+use Rattle.turn_client_laws.specs.LawsRows.{peer}
 use Rattle.turn_client_grants.proofs.ThereLemmas.{someone}
 use Rattle.turn_tables_tests.proofs.grants.rows.holding.Goals as goal
 

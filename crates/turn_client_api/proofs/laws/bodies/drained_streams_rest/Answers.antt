@@ -1,8 +1,0 @@
-use Rattle.turn_client_api.proofs.RestingStreamLemmas.{poll_recv-handles_nothing, poll_recv-rests}
-use Rattle.turn_client_api.proofs.laws.bodies.drained_streams_rest.Goals as goal
-
-pub returns-clause-step : goal.returns-clause-step
-returns-clause-step c = poll_recv-rests
-
-pub returns-clause-handled : goal.returns-clause-handled
-returns-clause-handled c = poll_recv-handles_nothing

@@ -1,8 +1,0 @@
-use Rattle.turn_client_api.proofs.OtherStreamLemmas.{frame-aside, turn-aside}
-use Rattle.turn_client_api.proofs.laws.bodies.inputs_leave_other_streams.Goals as goal
-
-pub returns-clause-turn : goal.returns-clause-turn
-returns-clause-turn c = turn-aside
-
-pub returns-clause-frame : goal.returns-clause-frame
-returns-clause-frame c = frame-aside

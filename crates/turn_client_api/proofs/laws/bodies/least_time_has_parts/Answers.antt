@@ -1,5 +1,0 @@
-use Rattle.turn_client_api.proofs.WakeupPartLemmas.{due-parts}
-use Rattle.turn_client_api.proofs.laws.bodies.least_time_has_parts.Goals as goal
-
-pub returns : goal.returns
-returns c = due-parts

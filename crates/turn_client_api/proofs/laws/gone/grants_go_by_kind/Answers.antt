@@ -1,9 +1,0 @@
-use Rattle.turn_client_api.proofs.MoveTurnLemmas.{grants-taken}
-use Rattle.turn_client_api.proofs.OverLemmas.{poll-over}
-use Rattle.turn_client_api.proofs.laws.gone.grants_go_by_kind.Goals as goal
-
-pub returns-clause-call : goal.returns-clause-call
-returns-clause-call c = grants-taken
-
-pub returns-clause-poll : goal.returns-clause-poll
-returns-clause-poll c = poll-over

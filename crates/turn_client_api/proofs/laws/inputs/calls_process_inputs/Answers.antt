@@ -1,9 +1,0 @@
-use Rattle.turn_client_api.proofs.TurnChainLemmas.{calls-do}
-use Rattle.turn_client_api.proofs.TurnEndLemmas.{calls-end}
-use Rattle.turn_client_api.proofs.laws.inputs.calls_process_inputs.Goals as goal
-
-pub returns-clause-found : goal.returns-clause-found
-returns-clause-found c = calls-do
-
-pub returns-clause-none : goal.returns-clause-none
-returns-clause-none c = calls-end

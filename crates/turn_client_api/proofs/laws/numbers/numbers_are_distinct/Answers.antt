@@ -1,8 +1,0 @@
-use Rattle.turn_client_api.proofs.DistinctNumbers.{initial-numbers, leaves-apart}
-use Rattle.turn_client_api.proofs.laws.numbers.numbers_are_distinct.Goals as goal
-
-pub returns-clause-initial : goal.returns-clause-initial
-returns-clause-initial c = initial-numbers
-
-pub returns-clause-kept : goal.returns-clause-kept
-returns-clause-kept c = leaves-apart

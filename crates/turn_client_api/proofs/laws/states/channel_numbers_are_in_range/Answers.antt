@@ -1,8 +1,0 @@
-use Rattle.turn_client_api.proofs.ChannelRange.{initial-HasNumbersInRange, leaves-HasNumbersInRange}
-use Rattle.turn_client_api.proofs.laws.states.channel_numbers_are_in_range.Goals as goal
-
-pub returns-clause-initial : goal.returns-clause-initial
-returns-clause-initial c = initial-HasNumbersInRange
-
-pub returns-clause-kept : goal.returns-clause-kept
-returns-clause-kept c = leaves-HasNumbersInRange

@@ -1,8 +1,0 @@
-use Rattle.turn_client_api.proofs.ListedGrants.{initial-HasGrantsAsked, leaves-HasGrantsAsked}
-use Rattle.turn_client_api.proofs.laws.states.listings_have_grants.Goals as goal
-
-pub returns-clause-initial : goal.returns-clause-initial
-returns-clause-initial c = initial-HasGrantsAsked
-
-pub returns-clause-kept : goal.returns-clause-kept
-returns-clause-kept c = leaves-HasGrantsAsked

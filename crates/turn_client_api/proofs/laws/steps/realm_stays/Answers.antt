@@ -1,5 +1,0 @@
-use Rattle.turn_client_api.proofs.PhasesGoOn.{leaves-keeps}
-use Rattle.turn_client_api.proofs.laws.steps.realm_stays.Goals as goal
-
-pub returns : goal.returns
-returns c = λ call s t leaves. (leaves-keeps call s t leaves).2

@@ -1,8 +1,0 @@
-use Rattle.turn_client_api.proofs.PhasesGoOn.{closed-told, leaves-keeps}
-use Rattle.turn_client_api.proofs.laws.steps.stays_closed.Goals as goal
-
-pub returns-clause-stays : goal.returns-clause-stays
-returns-clause-stays c = λ call s t leaves. (leaves-keeps call s t leaves).0
-
-pub returns-clause-told : goal.returns-clause-told
-returns-clause-told c = closed-told

@@ -1,9 +1,0 @@
-use Rattle.turn_client_api.proofs.StreamCallLemmas.{initial-apart}
-use Rattle.turn_client_api.proofs.StreamMemoryLemmas.{leaves-apart}
-use Rattle.turn_client_api.proofs.laws.streams.streams_stay_apart.Goals as goal
-
-pub returns-clause-initial : goal.returns-clause-initial
-returns-clause-initial c = initial-apart
-
-pub returns-clause-kept : goal.returns-clause-kept
-returns-clause-kept c = leaves-apart

@@ -1,0 +1,103 @@
+-- A connection is bound by a signed success on it.
+use Rattle.std.proofs.Common.{◌≡◌, ℕ, Bool, true, false, cond, ◌&&◌, List, [], ◌∷◌, Some, refl, sym, subst, ap, inl, inr}
+use Rattle.std.specs.Prelude.{find}
+use Rattle.std.specs.List.{list_any}
+use Rattle.std.specs.declared.net.socket_addr.SocketAddr.{SocketAddr}
+use Rattle.turn_stun.specs.Message.{id_of}
+use Rattle.turn_auth.specs.Validation.{validation_of}
+use Rattle.turn_auth.specs.declared.validation.Validation.{Validation}
+use Rattle.turn_auth.specs.declared.validation.Validation.TheVariants.{Validated, ResendRequest, Refused}
+use Rattle.turn_agent.specs.Agent.{is_outstanding, is_response, same_address}
+use Rattle.turn_client_api.specs.State.{State, Waiting, Stream, DataConnection, Purpose, ForAllocation, ForRefresh, ForPermission, ForChannel, ForConnect, ForBind, auth_of}
+use Rattle.turn_client_api.specs.Grants.{purposes_of}
+use Rattle.turn_client_api.specs.Judgement.{Judgement, Fatal, SignedSuccess, bind_judgement, by_class, challenge_in, challenged_or, class_in, is_bind_of}
+use Rattle.turn_client_api.specs.Payloads.{is_message}
+use Rattle.turn_client_laws.specs.Handled.{Input}
+use Rattle.turn_client_laws.specs.LawsBound.{IsBindInput}
+use Rattle.turn_client_laws.proofs.AddressLemmas.{same_address-true}
+use Rattle.turn_client_laws.proofs.HasLemmas.{Has, has-found}
+use Rattle.turn_client_laws.proofs.StandLemmas.{has-contains}
+use Rattle.turn_client_laws.proofs.GrantOriginMessageLemmas.{IsSignedSuccess, &&-second, by_class-granted, challenged_or-granted, cond-granted, validated}
+use Rattle.turn_client_laws.proofs.GrantOriginCallLemmas.{Binds}
+
+-- ---- how it is judged
+
+-- a message binds the connection only as a signed success to the request that was made for it
+pub bind-granted : (s : State) (local : SocketAddr) (message : List ℕ) → bind_judgement s local message ≡ SignedSuccess → IsSignedSuccess message s × (list_any (is_bind_of local) (purposes_of (id_of message) s) ≡ true)
+bind-granted s local message = by (validation_of (auth_of s) message) refl
+  where
+    is_asked : Bool
+    is_asked = list_any (is_bind_of local) (purposes_of (id_of message) s)
+
+    answers : Bool
+    answers = is_response (class_in message) && is_asked
+
+    Goal : Type 0
+    Goal = IsSignedSuccess message s × (is_asked ≡ true)
+
+    once : (j : Judgement) → cond answers (challenged_or j (challenge_in s message)) Fatal ≡ SignedSuccess → (is_asked ≡ true) × (j ≡ SignedSuccess)
+    once j h =
+        let (is, e) = cond-granted answers (challenged_or j (challenge_in s message)) Fatal (λ e. cc) h in
+        (&&-second (is_response (class_in message)) is_asked is, challenged_or-granted j (challenge_in s message) e)
+
+    by : (v : Validation) → validation_of (auth_of s) message ≡ v → bind_judgement s local message ≡ SignedSuccess → Goal
+    by (Validated algorithm) e = rw e at
+      where
+        at : cond answers (challenged_or (cond (is_outstanding (id_of message) s.transactions) (by_class (class_in message)) Fatal) (challenge_in s message)) Fatal ≡ SignedSuccess → Goal
+        at h =
+            let (asked, g) = once _ h in
+            let (outstanding, k) = cond-granted (is_outstanding (id_of message) s.transactions) (by_class (class_in message)) Fatal (λ e. cc) g in
+            (record { success = by_class-granted (class_in message) k; signed = validated _ (Validated algorithm) e tt; outstanding = outstanding }, asked)
+    by (Refused integrity) e = rw e (λ h. let n : Fatal ≡ SignedSuccess = (once Fatal h).1 in cc)
+    by (ResendRequest algorithm) e = rw e (λ h. let n : Fatal ≡ SignedSuccess = (once Fatal h).1 in cc)
+
+-- ---- for which connection its request was made
+
+-- a purpose to bind the connection from this local address
+abbrev IsAsked : SocketAddr → List Purpose → Type 0
+IsAsked local purposes = (peer : SocketAddr) × (number : ℕ) × Has (ForBind local peer number) purposes
+
+asked-later : (local : SocketAddr) (p : Purpose) (purposes : List Purpose) → IsAsked local purposes → IsAsked local (p ∷ purposes)
+asked-later local p purposes (peer, number, there) = (peer, number, inr there)
+
+for-bind : (local : SocketAddr) (purposes : List Purpose) → list_any (is_bind_of local) purposes ≡ true → IsAsked local purposes
+for-bind local [] e = cc
+for-bind local (ForBind other peer number ∷ purposes) e = by (same_address other local) refl (for-bind local purposes)
+  where
+    by : (b : Bool) → same_address other local ≡ b → (list_any (is_bind_of local) purposes ≡ true → IsAsked local purposes) → IsAsked local (ForBind other peer number ∷ purposes)
+    by true f more = (peer, number, inl (ap (λ x. ForBind x peer number) (sym (same_address-true other local f))))
+    by false f more = asked-later local (ForBind other peer number) purposes (more (rw f at e))
+for-bind local (ForAllocation ∷ purposes) e = asked-later local ForAllocation purposes (for-bind local purposes e)
+for-bind local (ForRefresh family lifetime ∷ purposes) e = asked-later local (ForRefresh family lifetime) purposes (for-bind local purposes e)
+for-bind local (ForPermission ip ∷ purposes) e = asked-later local (ForPermission ip) purposes (for-bind local purposes e)
+for-bind local (ForChannel number peer ∷ purposes) e = asked-later local (ForChannel number peer) purposes (for-bind local purposes e)
+for-bind local (ForConnect peer ∷ purposes) e = asked-later local (ForConnect peer) purposes (for-bind local purposes e)
+
+pub found-local : (local : SocketAddr) (c : DataConnection) (cs : List DataConnection) → find (λ (d : DataConnection). same_address d.local local) cs ≡ Some c → c.local ≡ local
+found-local local c cs e = same_address-true c.local local (has-found (λ (d : DataConnection). same_address d.local local) c cs e).1
+
+-- the input of a message that binds the connection
+pub binds-turn : (one : Input) (stream : Stream) (t : State) → one.stream ≡ Some stream → stream.mode ≡ Waiting → is_message one.bytes ≡ true → (b : Binds stream.local one.bytes one.before t) → IsBindInput stream.local b.c.peer one
+binds-turn one stream t of waits whole b = record {
+  over = rw of (waits, refl);
+  whole = whole;
+  method = b.method;
+  connection = b.c;
+  found = b.found;
+  to = refl;
+  success = granted.0.success;
+  signed = granted.0.signed;
+  outstanding = granted.0.outstanding;
+  asked = asked.0;
+  number = asked.1;
+  listed = has-contains (ForBind stream.local asked.0 asked.1) purposes asked.2;
+}
+  where
+    purposes : List Purpose
+    purposes = purposes_of (id_of one.bytes) one.before
+
+    granted : IsSignedSuccess one.bytes one.before × (list_any (is_bind_of b.c.local) purposes ≡ true)
+    granted = bind-granted one.before b.c.local one.bytes b.judged
+
+    asked : IsAsked stream.local purposes
+    asked = for-bind stream.local purposes (subst (λ (x : SocketAddr). list_any (is_bind_of x) purposes ≡ true) (found-local stream.local b.c _ b.found) granted.1)

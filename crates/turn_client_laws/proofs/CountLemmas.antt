@@ -1,0 +1,114 @@
+-- Only a signed reply decreases the count of challenges.
+use Rattle.std.proofs.Common.{◌⊎◌, ◌<◌, ◌≤◌, ℕ, inl, inr, arith}
+use Rattle.turn_client_api.specs.State.{State}
+use Rattle.turn_client_api.specs.Connections.{bind_step}
+use Rattle.turn_client_api.specs.Payloads.{message_step}
+use Rattle.turn_client_api.specs.Receive.{connection_gone}
+use Rattle.turn_client_api.specs.Steps.{Call, Leaves, state_after, Delete, AllocatedTcpSocket, Recv, PollRecv}
+use Rattle.turn_client_laws.specs.LawsHandled.{TakesInput}
+use Rattle.turn_client_laws.specs.LawsReplies.{IsReplyAccepted}
+use Rattle.turn_client_laws.specs.LawsInputs.{IsBroughtBy}
+use Rattle.turn_client_laws.proofs.TurnLemmas.{IsBringing, message-brings}
+use Rattle.turn_client_laws.proofs.Edits.{IgnoresAll, KeepsEdits, KeepsHeeded}
+use Rattle.turn_client_laws.proofs.EditsOfReplies.{gone-walk}
+use Rattle.turn_client_laws.proofs.EditsOfMessages.{bind-walk, message-walk}
+use Rattle.turn_client_laws.proofs.EditsOfCalls.{delete-walk, expires-walk, quiet-walk, tcp_socket-walk}
+
+-- no fewer challenges were answered, or the message is accepted
+abbrev Grows : Type 0 → State → State → Type 0
+Grows Heeded s t = (s.challenges ≤ t.challenges) ⊎ Heeded
+
+grows-trans : (Heeded : Type 0) (s t u : State) → Grows Heeded s t → Grows Heeded t u → Grows Heeded s u
+grows-trans Heeded s t u (inl first) (inl second) = inl (omega (arith, first, second))
+grows-trans Heeded s t u (inl first) (inr heeded) = inr heeded
+grows-trans Heeded s t u (inr heeded) second = inr heeded
+
+Grows-KeepsEdits : (Heeded : Type 0) → KeepsEdits (Grows Heeded)
+Grows-KeepsEdits Heeded = record {
+  same = λ s. inl (omega arith);
+  trans = grows-trans Heeded;
+  aside = λ s t. inl (omega arith);
+  queues = λ queue s begun. inl (omega arith);
+  dequeues = λ queue s fewer. inl (omega arith);
+  families = λ families s may. inl (omega arith);
+  sends = λ now s waits. inl (omega arith);
+  begins = λ now s new. inl (omega arith);
+  ends = λ s none. inl (omega arith);
+  asks = λ id text purposes now s begun askable spelled. inl (omega arith);
+  finishes = λ id s. inl (omega arith);
+  resends = λ id now s. inl (omega arith);
+  unlists = λ which s. inl (omega arith);
+  removes = λ which s spares. inl (omega arith);
+  removes_family = λ family s. inl (omega arith);
+  takes_offer = λ id peer s. inl (omega arith);
+  ages = λ grants s e. inl (omega arith);
+  permission = λ ip s phase room none. inl (omega arith);
+  channel = λ number peer s phase room none within. inl (omega arith);
+  connect = λ peer s phase room none. inl (omega arith);
+  connection = λ id c origin s phase offer none waits. inl (omega arith);
+  reserves = λ number peer was until s there. inl (omega arith);
+}
+
+Grows-KeepsHeeded : (Heeded : Type 0) → KeepsHeeded Heeded (Grows Heeded)
+Grows-KeepsHeeded Heeded = record {
+  edits = Grows-KeepsEdits Heeded;
+  reshapes = λ grants s e. inl (omega arith);
+  rebinds = λ number peer was progress s there. inl (omega arith);
+  holds = λ message d s e. inl (omega arith);
+  counts = λ s held few. inl (omega arith);
+  resets = λ heeded s. inr heeded;
+  empties = λ s. inl (omega arith);
+  allocates = λ message lifetime now s e none. inl (omega arith);
+  permits = λ ip expiry s is. inl (omega arith);
+  connects = λ id connection_id peer s t since stay granted listed. since;
+  offers = λ id peer origin s room few. inl (omega arith);
+}
+
+any-streams : (Heeded : Type 0) → IgnoresAll (Grows Heeded)
+any-streams Heeded s streams = inl (omega arith)
+
+-- fewer than so many challenges were answered
+abbrev Fewer : ℕ → State → Type 0
+Fewer n s = s.challenges < n
+
+back : (Heeded : Type 0) (n : ℕ) (s t : State) → Grows Heeded s t → Fewer n t → Fewer n s ⊎ Heeded
+back Heeded n s t (inl no_less) fewer = inl (omega (arith, no_less, fewer))
+back Heeded n s t (inr heeded) fewer = inr heeded
+
+-- without a message that is accepted
+never : {X : Type 0} → X ⊎ ⊥ → X
+never (inl x) = x
+never (inr none) = absurd none
+
+pub bringing : (n : ℕ) → IsBringing (Fewer n) IsReplyAccepted
+bringing n = record {
+  streams = λ s streams fewer. fewer;
+  message = λ message now s is fewer.
+      let Heeded = IsReplyAccepted message now s in
+      back Heeded n s (message_step message now s).1 (message-walk Heeded (Grows Heeded) (Grows-KeepsHeeded Heeded) message now s (λ h. h)) fewer;
+  binds = λ local message now s is fewer.
+      inl (never (back ⊥ n s (bind_step local message now s) (bind-walk ⊥ (Grows ⊥) (Grows-KeepsHeeded ⊥) (any-streams ⊥) local message now s) fewer));
+  gone = λ local s fewer. never (back ⊥ n s (connection_gone local s) (gone-walk (Grows ⊥) (Grows-KeepsEdits ⊥) local s) fewer);
+  ended = λ s fewer. fewer;
+}
+
+-- no call that processes no input decreases it
+call-same : (n : ℕ) (call : Call) (s : State) → (TakesInput call → ⊥) → Fewer n (state_after call s) → Fewer n s ⊎ ⊥
+call-same n call s other fewer = back ⊥ n s (state_after call s) (by call other) fewer
+  where
+    by : (call : Call) → (TakesInput call → ⊥) → Grows ⊥ s (state_after call s)
+    by (Recv packet now) other = absurd (other tt)
+    by (PollRecv now) other = absurd (other tt)
+    by (Delete now) other = delete-walk (Grows ⊥) (Grows-KeepsEdits ⊥) (expires-walk ⊥ (Grows ⊥) (Grows-KeepsHeeded ⊥)) now s
+    by (AllocatedTcpSocket id tuple peer local now) other = tcp_socket-walk (Grows ⊥) (Grows-KeepsEdits ⊥) (any-streams ⊥) id tuple peer local now s
+    by call other = quiet-walk (Grows ⊥) (Grows-KeepsEdits ⊥) call s tt
+
+-- even if memory allocation fails
+pub leaves-heeded : (call : Call) (s t : State) → Leaves call s t → t.challenges < s.challenges → IsBroughtBy IsReplyAccepted call s
+leaves-heeded call s t leaves fewer =
+    by (message-brings (Fewer s.challenges) IsReplyAccepted (bringing s.challenges) (λ call s. ⊥) (call-same s.challenges) call s t leaves fewer)
+  where
+    by : Fewer s.challenges s ⊎ ⊥ ⊎ IsBroughtBy IsReplyAccepted call s → IsBroughtBy IsReplyAccepted call s
+    by (inl same) = absurd (omega (arith, same))
+    by (inr (inl none)) = absurd none
+    by (inr (inr did)) = did

@@ -1,0 +1,216 @@
+-- Before the earliest expiry, time changes nothing.
+use Rattle.std.proofs.Common.{◌≡◌, ℕ, ◌<◌, ◌+◌, Bool, true, false, ◌&&◌, ◌||◌, not, cond, leb, ltb, List, [], ◌∷◌, ◌++◌, map, filter, filter_map, fold, reverse, Option, Some, None, refl, ap, ◌∙◌, inl, inr, arith}
+use Rattle.std.specs.Prelude.{All, ⊤}
+use Rattle.std.specs.List.{list_any}
+use Rattle.std.specs.Option.{option_map_or}
+use Rattle.std.proofs.lemmas.List.{append-nil}
+use Rattle.std.proofs.lemmas.Option.{same_Some}
+use Rattle.std.proofs.lemmas.Bool.{leb-true, ltb-true, false_from_ne_true}
+use Rattle.turn_types.specs.declared.family.AddressFamily.{AddressFamily}
+use Rattle.turn_client_api.specs.State.{State, Grant, Allocation, Permission, Channel, Connect, Offer, Connection, DataConnection, Relay, Pending, Active, Reserved, Purpose}
+use Rattle.turn_client_api.specs.Grants.{as_allocation, allocations, as_connection, failures_among, family_of, has_request, in_sequence, is_connect, is_for, is_of, is_past, is_pending_channel, is_pending_permission, failure_of, unlisted, without_grants}
+use Rattle.turn_client_api.specs.Poll.{connections_unbound, failed, allocation_expires, failed_by_timeout, is_lapsed_channel, is_lapsed_permission, is_over, is_unbound, lapsed, lapsed_allocation, lapsed_in, last_channel_lapsed, offers_timed_out, permissions_lapsed, refreshes_timed_out, set_free, unbound}
+use Rattle.turn_client_laws.specs.LawsBodies.{lapse_of, expiry_times}
+use Rattle.turn_client_api.specs.declared.event.TurnEvent.{TurnEvent}
+use Rattle.turn_client_laws.proofs.HasLemmas.{Has, filter-none, filter_map-has, find-none, has-all, has-filter_map}
+use Rattle.turn_client_laws.proofs.LapseLemmas.{has-unreversed}
+
+-- none of these passes the test
+abbrev PassesNone : (Grant → Bool) → List Grant → Type 0
+PassesNone which gs = (g : Grant) → Has g gs → which g ≡ false
+
+-- ---- if nothing passes, nothing changes
+
+filter-all : {X : Type 0} (p : X → Bool) (xs : List X) → ((x : X) → Has x xs → p x ≡ true) → filter p xs ≡ xs
+filter-all p [] each = refl
+filter-all p (x ∷ xs) each = rw (each x (inl refl)) (ap (λ ys. x ∷ ys) (filter-all p xs (λ y h. each y (inr h))))
+
+any-none : (which : Grant → Bool) (purpose : Purpose) (gs : List Grant) → PassesNone which gs → list_any (λ g. which g && is_for purpose g) gs ≡ false
+any-none which purpose [] none = refl
+any-none which purpose (g ∷ gs) none = rw (none g (inl refl)) (any-none which purpose gs (λ x h. none x (inr h)))
+
+unlisted-none : (which : Grant → Bool) (s : State) → PassesNone which s.grants → unlisted which s ≡ s
+unlisted-none which s none = ap (λ ls. record s { listed = ls }) (filter-all _ s.listed (λ l h. rw (any-none which l.purpose s.grants none) refl))
+
+without-none : (which : Grant → Bool) (s : State) → PassesNone which s.grants → without_grants which s ≡ s
+without-none which s none =
+    ap (λ gs. record (unlisted which s) { grants = gs }) (filter-all _ s.grants (λ g h. rw (none g h) refl))
+    ∙ unlisted-none which s none
+
+-- no failure is reported
+none-among : (which : Grant → Bool) (s : State) → PassesNone which s.grants → failures_among which s ≡ []
+none-among which s none = ap (filter_map (failure_of s.config.allocation_transport)) (filter-none which s.grants none)
+
+failed-none : (which : Grant → Bool) (s : State) → PassesNone which s.grants → failed which s ≡ s
+failed-none which s none =
+    ap (λ (es : List TurnEvent). record (without_grants which s) { events = reverse es ++ s.events }) (none-among which s none)
+    ∙ without-none which s none
+
+unbound-none : (which : Grant → Bool) (s : State) → PassesNone which s.grants → unbound which s ≡ s
+unbound-none which s none =
+    ap (λ (gs : List Grant). record (failed which s) { closes = s.closes ++ map (λ (c : DataConnection). c.local) (filter_map as_connection gs) }) (filter-none which s.grants none)
+    ∙ (ap (λ ls. record (failed which s) { closes = ls }) (append-nil s.closes)
+    ∙ failed-none which s none)
+
+-- ---- in sequence
+
+-- each of these leaves the state unchanged
+abbrev Rest : List (State → State) → State → Type 0
+Rest [] s = ⊤
+Rest (step ∷ steps) s = (step s ≡ s) × Rest steps s
+
+in_sequence-rest : (steps : List (State → State)) (s : State) → Rest steps s → in_sequence steps s ≡ s
+in_sequence-rest [] s h = refl
+in_sequence-rest (step ∷ steps) s h = ap (in_sequence steps) h.0 ∙ in_sequence-rest steps s h.1
+
+fold-rest : {X : Type 0} (f : State → X → State) (xs : List X) (s : State) → ((x : X) → Has x xs → f s x ≡ s) → fold f s xs ≡ s
+fold-rest f [] s each = refl
+fold-rest f (x ∷ xs) s each = ap (λ t. fold f t xs) (each x (inl refl)) ∙ fold-rest f xs s (λ y h. each y (inr h))
+
+-- ---- before a grant expires
+
+-- the grant does not expire by now
+abbrev IsEarly : ℕ → State → Grant → Type 0
+IsEarly now s g = (moment : ℕ) → lapse_of s g ≡ Some moment → now < moment
+
+late-le : (a b : ℕ) → b < a → leb a b ≡ false
+late-le a b less = false_from_ne_true (leb a b) (λ e. let le = leb-true a b e in omega (arith, le, less))
+
+late-lt : (a b : ℕ) → b < a + 1 → ltb a b ≡ false
+late-lt a b less = false_from_ne_true (ltb a b) (λ e. let lt = ltb-true a b e in omega (arith, lt, less))
+
+early-permission : (now : ℕ) (s : State) (g : Grant) → IsEarly now s g → is_lapsed_permission now g ≡ false
+early-permission now s (Permission ip (Active expiry)) early = late-le expiry now (early expiry refl)
+early-permission now s (Permission ip Pending) early = refl
+early-permission now s (Permission ip (Reserved until)) early = refl
+early-permission now s (Allocation a) early = refl
+early-permission now s (Channel number peer progress) early = refl
+early-permission now s (Connect peer) early = refl
+early-permission now s (Offer offer) early = refl
+early-permission now s (Connection c) early = refl
+
+early-channel : (now : ℕ) (s : State) (g : Grant) → IsEarly now s g → is_lapsed_channel now g ≡ false
+early-channel now s (Channel number peer (Active expiry)) early = late-le expiry now (early expiry refl)
+early-channel now s (Channel number peer Pending) early = refl
+early-channel now s (Channel number peer (Reserved until)) early = refl
+early-channel now s (Allocation a) early = refl
+early-channel now s (Permission ip progress) early = refl
+early-channel now s (Connect peer) early = refl
+early-channel now s (Offer offer) early = refl
+early-channel now s (Connection c) early = refl
+
+early-over : (now : ℕ) (s : State) (g : Grant) → IsEarly now s g → is_over now g ≡ false
+early-over now s (Channel number peer (Reserved until)) early = late-lt until now (early (until + 1) refl)
+early-over now s (Channel number peer Pending) early = refl
+early-over now s (Channel number peer (Active expiry)) early = refl
+early-over now s (Allocation a) early = refl
+early-over now s (Permission ip progress) early = refl
+early-over now s (Connect peer) early = refl
+early-over now s (Offer offer) early = refl
+early-over now s (Connection c) early = refl
+
+early-unbound : (now : ℕ) (s : State) (g : Grant) → IsEarly now s g → is_unbound [] now g ≡ false
+early-unbound now s (Connection c) early = by c.deadline refl
+  where
+    by : (o : Option ℕ) → c.deadline ≡ o → option_map_or (λ deadline. leb deadline now || false) o false ≡ false
+    by None e = refl
+    by (Some deadline) e = rw (late-le deadline now (early deadline e)) refl
+early-unbound now s (Channel number peer progress) early = refl
+early-unbound now s (Allocation a) early = refl
+early-unbound now s (Permission ip progress) early = refl
+early-unbound now s (Connect peer) early = refl
+early-unbound now s (Offer offer) early = refl
+
+and-false : (a b : Bool) → (a && b && false) ≡ false
+and-false true true = refl
+and-false true false = refl
+and-false false b = refl
+
+and_then-false : (a b : Bool) → b ≡ false → (a && b) ≡ false
+and_then-false true b e = e
+and_then-false false b e = refl
+
+lapse-else : (b : Bool) (moment : ℕ) → b ≡ false → cond b None (Some moment) ≡ Some moment
+lapse-else true moment e = cc
+lapse-else false moment e = refl
+
+-- an expired allocation with a pending request stays, and else one whose expiry has not passed
+stays-by : (past expired asked : Bool) → ((expired && asked) ≡ false → past ≡ false) → (past && (false || not asked || not expired)) ≡ false
+stays-by past true true early = and_then-false past false refl
+stays-by past true false early = rw (early refl) refl
+stays-by past false asked early = rw (early refl) refl
+
+early-stays : (now : ℕ) (s : State) (a : Relay) → IsEarly now s (Allocation a) → allocation_expires [] now s a ≡ false
+early-stays now s a early =
+    stays-by (is_past now a) a.is_expired (has_request (Allocation a) s)
+    (λ e. late-le a.expiry now (early a.expiry (lapse-else (a.is_expired && has_request (Allocation a) s) a.expiry e)))
+
+-- ---- nothing timed out
+
+vain-none : (family : AddressFamily) (which : Grant → Bool) (s : State) → failed_by_timeout family [] which s ≡ s
+vain-none family which s = failed-none _ s (λ g h. and-false (is_of family g) (which g))
+
+module _ (now : ℕ) (s : State) (early : (g : Grant) → Has g s.grants → IsEarly now s g) (family : AddressFamily) where
+  channel-none : last_channel_lapsed family now s ≡ s
+  channel-none =
+      rw (find-none (λ g. is_of family g && is_lapsed_channel now g) (reverse s.grants) (λ g h. and_then-false (is_of family g) _ (early-channel now s g (early g (has-unreversed g s.grants h)))))
+      refl
+
+  abbrev steps : List (State → State)
+  steps =
+      failed_by_timeout family [] is_pending_channel
+      ∷ failed_by_timeout family [] is_pending_permission
+      ∷ last_channel_lapsed family now
+      ∷ permissions_lapsed family now
+      ∷ failed_by_timeout family [] is_connect
+      ∷ connections_unbound family [] now
+      ∷ offers_timed_out family None
+      ∷ refreshes_timed_out family []
+      ∷ set_free family now
+      ∷ []
+
+  lapsed_in-none : lapsed_in family None [] now s ≡ s
+  lapsed_in-none = in_sequence-rest steps s (
+    vain-none family is_pending_channel s,
+    (
+      vain-none family is_pending_permission s,
+      (
+        channel-none,
+        (
+          failed-none _ s (λ g h. and_then-false (is_of family g) _ (early-permission now s g (early g h))),
+          (
+            vain-none family is_connect s,
+            (
+              unbound-none _ s (λ g h. and_then-false (is_of family g) _ (early-unbound now s g (early g h))),
+              (
+                failed-none _ s (λ g h. and_then-false (is_of family g) false refl),
+                (
+                  unlisted-none _ s (λ g h. and_then-false (is_of family g) false refl),
+                  (without-none _ s (λ g h. and_then-false (is_of family g) _ (early-over now s g (early g h))), tt),
+                ),
+              ),
+            ),
+          ),
+        ),
+      ),
+    ),
+  )
+
+pub lapsed-none : (now : ℕ) (s : State) → All (λ moment. now < moment) (expiry_times s) → lapsed None now s ≡ s
+lapsed-none now s all = fold-rest (lapsed_allocation None [] now) (allocations s) s by
+  where
+    early : (g : Grant) → Has g s.grants → IsEarly now s g
+    early g h moment e = has-all (λ m. now < m) moment (expiry_times s) all (filter_map-has (lapse_of s) g moment s.grants h e)
+
+    is-allocation : (g : Grant) (a : Relay) → as_allocation g ≡ Some a → IsEarly now s g → IsEarly now s (Allocation a)
+    is-allocation (Allocation b) a e is = rw (← same_Some b a e) is
+    is-allocation (Permission ip progress) a e is = cc
+    is-allocation (Channel number peer progress) a e is = cc
+    is-allocation (Connect peer) a e is = cc
+    is-allocation (Offer offer) a e is = cc
+    is-allocation (Connection c) a e is = cc
+
+    by : (a : Relay) → Has a (allocations s) → lapsed_allocation None [] now s a ≡ s
+    by a h =
+        let (g, there, is) = has-filter_map as_allocation a s.grants h in
+        rw (early-stays now s a (is-allocation g a is (early g there))) (lapsed_in-none now s early (family_of a.relayed))

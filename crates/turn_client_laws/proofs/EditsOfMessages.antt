@@ -1,0 +1,381 @@
+-- The edits of which messages are made.
+use Rattle.std.proofs.Common.{◌≡◌, ◌≤◌, ◌∙◌, ◌+◌, ℕ, Bool, true, false, not, cond, ◌&&◌, ◌||◌, eqb, ltb, leb, List, [], ◌∷◌, filter, filter_map, length, Option, Some, None, inl, inr, refl, sym, subst}
+use Rattle.std.specs.Prelude.{codes, is_some, find, IfSome, ⊤}
+use Rattle.std.specs.List.{list_any}
+use Rattle.std.specs.Option.{option_map_or}
+use Rattle.std.specs.Net.Socket.{socket_ip}
+use Rattle.std.proofs.lemmas.Bool.{and_parts, leb-true, ltb-true}
+use Rattle.std.proofs.lemmas.Option.{none-some, same_Some}
+use Rattle.std.specs.declared.net.socket_addr.SocketAddr.{SocketAddr}
+use Rattle.turn_stun.specs.Message.{id_of}
+use Rattle.turn_stun.specs.declared.transport.TransportType.TheVariants.{Tcp}
+use Rattle.turn_types.specs.declared.family.AddressFamily.TheVariants.{IPV4, IPV6}
+use Rattle.turn_auth.specs.LongTerm.{Challenge}
+use Rattle.turn_agent.specs.Agent.{same_address}
+use Rattle.turn_client_api.specs.State.{State, Phase, New, Requesting, Authenticating, Allocated, Closed, Grant, Allocation, Permission, Channel, Connect, Offer, Connection, DataConnection, ServerIndication, ServerRequest, Purpose, ForAllocation, ForRefresh, ForPermission, ForChannel, ForConnect, ForBind, Listing, Bound, later_by}
+use Rattle.turn_client_api.specs.Grants.{find_allocation_to, as_connection, is_connection_from, has_active_permission, purposes_of, unlisted, wait}
+use Rattle.turn_client_api.specs.Requests.{request_started, bad_request, connection_already_exists, connection_attempt_method, connection_bind_method, fresh_id, refused_reply, replied, request_for, requested}
+use Rattle.turn_client_api.specs.Judgement.{Judgement, Unrelated, Challenged, Fatal, LateResponse, DataIndication, ConnectionAttempt, SignedRequest, SignedSuccess, SignedError, answers_one, challenge_in, challenged_or, judgement_of, bind_judgement, is_bind_of, connection_id_in, lifetime_in, method_in, peer_in}
+use Rattle.turn_client_api.specs.Effect.{allocate_denied, allocate_granted, allocated, closed, transaction_ended, fail_all, family_not_supported, has_code, in_phase, phase_with, relayed_in, taken_addresses, with_offer}
+use Rattle.turn_client_api.specs.Retry.{bind_time, first_or, is_allocate_or_connect, is_channel_bind, is_create_permission, is_refresh, max_challenges, phase_after, retried, state_after_retry, with_held}
+use Rattle.turn_client_api.specs.Connections.{attempt_indicated, attempt_requested, bind_again, bind_answered, bind_step, bound, connection_at, is_connected, is_connecting, accepts_attempt, is_indicated, max_indicated, not_bound, with_deadline, with_mode}
+use Rattle.turn_client_api.specs.Payloads.{Outcome, Handled, Ignored, answered_purposes, challenge_step, is_answered, message_step, response_step, signed_step, wrong_step}
+use Rattle.turn_client_api.specs.declared.event.TurnEvent.TheVariants.{AllocationCreateFailed}
+use Rattle.turn_client_laws.specs.LawsReplies.{IsAccepted, IsReplyAccepted}
+use Rattle.turn_client_laws.specs.LawsOrder.{IsBegun, IsUngranted}
+use Rattle.turn_client_laws.specs.LawsStates.{is_asked_by}
+use Rattle.turn_client_laws.proofs.AddressLemmas.{same_address-self, same_address-true}
+use Rattle.turn_client_laws.proofs.HasLemmas.{Has, has-filter, has-filter_map, has-found}
+use Rattle.turn_client_laws.proofs.InAllocationLemmas.{allocation-room, has-any}
+use Rattle.turn_client_laws.proofs.GrantOriginLemmas.{has-mapped}
+use Rattle.turn_client_laws.proofs.ChallengeJudgement.{Challenged-is, bind-is}
+use Rattle.turn_client_laws.proofs.StandLemmas.{has-contains}
+use Rattle.turn_client_laws.proofs.RunKeepLemmas.{IsKept}
+use Rattle.turn_client_laws.proofs.Edits.{IsAskable, KeepsAllEdits, IgnoresAll, KeepsHeeded}
+use Rattle.turn_client_laws.proofs.EditsOfReplies.{deadline-walk, effects-walk, fail-walk, gone-walk, one-of, removed, requested-walk, spelled-else, unlisted-walk, without-allocates}
+
+-- ---- what may be requested again
+
+-- the purposes of a request are listed
+pub purposes-listed : (id : ℕ) (s : State) (p : Purpose) → Has p (purposes_of id s) → (l : Listing) × Has l s.listed × (l.purpose ≡ p)
+purposes-listed id s p there =
+    let (l, kept, e) = has-mapped (λ (l : Listing). l.purpose) p (filter (λ (l : Listing). eqb l.id id) s.listed) there in
+    (l, (has-filter (λ (l : Listing). eqb l.id id) l s.listed kept).0, sym e)
+
+-- one request for an allocation
+pub asks-allocation : (s : State) (p : Purpose) → Has p (ForAllocation ∷ []) → IsAskable s p
+asks-allocation s p (inl e) = inl e
+asks-allocation s p (inr none) = absurd none
+
+-- the request that binds a connection that exists
+bind-askable : (c : DataConnection) (p : Purpose) (s : State) → Has (Connection c) s.grants → is_bind_of c.local p ≡ true → list_any (is_asked_by p) s.grants ≡ true
+bind-askable c (ForBind other peer id) s there e = has-any (is_connection_from other) (Connection c) s.grants there (rw (same_address-true other c.local e) (same_address-self c.local))
+bind-askable c ForAllocation s there e = cc
+bind-askable c (ForRefresh family lifetime) s there e = cc
+bind-askable c (ForPermission ip) s there e = cc
+bind-askable c (ForChannel number to) s there e = cc
+bind-askable c (ForConnect to) s there e = cc
+
+-- which is no ALLOCATE
+bind-other : (c : DataConnection) (p : Purpose) → is_bind_of c.local p ≡ true → p ≡ ForAllocation → ⊥
+bind-other c p e f = let no : is_bind_of c.local ForAllocation ≡ true = subst (λ (q : Purpose). is_bind_of c.local q ≡ true) f e in cc
+
+-- the connection at this local address exists
+connection-there : (local : SocketAddr) (c : DataConnection) (s : State) → connection_at local s ≡ Some c → Has (Connection c) s.grants
+connection-there local c s e =
+    let (g, there, reads) = has-filter_map as_connection c s.grants (has-found (λ (d : DataConnection). same_address d.local local) c (filter_map as_connection s.grants) e).0 in
+    of g reads there
+  where
+    of : (g : Grant) → as_connection g ≡ Some c → Has g s.grants → Has (Connection c) s.grants
+    of (Connection d) reads there = rw (sym (same_Some d c reads)) there
+    of (Allocation a) reads there = absurd (none-some c reads)
+    of (Permission ip p) reads there = absurd (none-some c reads)
+    of (Channel number to p) reads there = absurd (none-some c reads)
+    of (Connect to) reads there = absurd (none-some c reads)
+    of (Offer offer) reads there = absurd (none-some c reads)
+
+-- ---- the purpose for which a request is made again
+
+first-either : (P : Purpose → Type 0) (a b : Option Purpose) → ((p : Purpose) → a ≡ Some p → P p) → ((p : Purpose) → b ≡ Some p → P p) → (p : Purpose) → first_or a b ≡ Some p → P p
+first-either P None b of_a of_b p e = of_b p e
+first-either P (Some q) b of_a of_b p e = of_a p e
+
+pub found-has : (which : Purpose → Bool) (all : List Purpose) (p : Purpose) → find which all ≡ Some p → Has p all
+found-has which all p e = (has-found which p all e).0
+
+pub retried-has : (all : List Purpose) (p : Purpose) → retried all ≡ Some p → Has p all
+retried-has all p e =
+    first-either (λ q. Has q all) (find is_refresh all) _ (found-has is_refresh all)
+    (first-either (λ q. Has q all) (find is_channel_bind all) _ (found-has is_channel_bind all)
+    (first-either (λ q. Has q all) (find is_create_permission all) (find is_allocate_or_connect all) (found-has is_create_permission all) (found-has is_allocate_or_connect all)))
+    p e
+
+-- ---- what is judged to be signed
+
+abbrev IsSigned : Judgement → Type 0
+IsSigned j = IsAccepted j
+
+requesting-unsigned : (b : Bool) (o : Option Challenge) (j : Judgement) → cond b (challenged_or Fatal o) Unrelated ≡ j → IsSigned j → ⊥
+requesting-unsigned true (Some d) j e h = subst IsSigned (sym e) h
+requesting-unsigned true None j e h = subst IsSigned (sym e) h
+requesting-unsigned false o j e h = subst IsSigned (sym e) h
+
+new-unsigned : (j : Judgement) → Unrelated ≡ j → IsSigned j → ⊥
+new-unsigned j e h = subst IsSigned (sym e) h
+
+-- ---- a client that accepts messages has begun
+
+begun-after : (p : Phase) → IsBegun p → IsBegun (phase_after p)
+begun-after New begun = begun
+begun-after Requesting begun = tt
+begun-after Authenticating begun = tt
+begun-after Allocated begun = tt
+begun-after Closed begun = begun
+
+-- the message is for the client
+abbrev IsDelivered : Judgement → Type 0
+IsDelivered Unrelated = ⊥
+IsDelivered _ = ⊤
+
+judged-begun : (s : State) (message : List ℕ) (j : Judgement) → judgement_of s message ≡ j → IsDelivered j → IsBegun s.phase
+judged-begun s message j e heard = by s.phase refl
+  where
+    unheard : judgement_of s message ≡ Unrelated → ⊥
+    unheard f = subst IsDelivered (sym e ∙ f) heard
+
+    by : (p : Phase) → s.phase ≡ p → IsBegun p
+    by New f = unheard (rw f refl)
+    by Closed f = unheard (rw f refl)
+    by Requesting f = tt
+    by Authenticating f = tt
+    by Allocated f = tt
+
+-- a client that allocates is granted something, or ends
+pub granted-with : (addresses : List SocketAddr) → IsUngranted (phase_with addresses) → ⊥
+granted-with [] u = u
+granted-with (a ∷ others) u = u
+
+-- ---- a walk over messages
+
+module _ (Heeded : Type 0) (R : State → State → Type 0) (k : KeepsHeeded Heeded R) where
+  then : (s t u : State) → R s t → R t u → R s u
+  then s t u = k.edits.trans s t u
+
+  retry-walk : (s : State) (message : List ℕ) (id : ℕ) (purpose : Purpose) (d : Challenge) (now : ℕ) → IsBegun s.phase → challenge_in s message ≡ Some d → ltb s.challenges max_challenges ≡ true → Has purpose (purposes_of id s) → R s (state_after_retry s id purpose d now)
+  retry-walk s message id purpose d now begun e few answers =
+      let a = with_held d s in
+      let b = transaction_ended id a in
+      let c = record b { phase = phase_after s.phase; challenges = s.challenges + 1 } in
+      let text = request_for c purpose (fresh_id s) in
+      let end = state_after_retry s id purpose d now in
+      let f = request_started (fresh_id s) text (purposes_of id s) now c in
+      then s a end (k.holds message d s e)
+      (then a b end (k.edits.finishes id a)
+      (then b c end (k.counts b refl (ltb-true s.challenges max_challenges few))
+      (then c f end (k.edits.asks (fresh_id s) text (purposes_of id s) now c (begun-after s.phase begun) (λ p there. inr (inr (purposes-listed id s p there))) (inr (inr (purposes-listed id s, (purpose, answers, refl))))) (k.edits.queues end.queue f (begun-after s.phase begun)))))
+
+  challenge-walk : (message : List ℕ) (d : Challenge) (now : ℕ) (s : State) → IsBegun s.phase → challenge_in s message ≡ Some d → R s (challenge_step message d now s).1
+  challenge-walk message d now s begun e = by (ltb s.challenges max_challenges) refl (retried (purposes_of (id_of message) s)) refl
+    where
+      by : (b : Bool) → ltb s.challenges max_challenges ≡ b → (o : Option Purpose) → retried (purposes_of (id_of message) s) ≡ o → R s (challenge_step message d now s).1
+      by false f o g = rw f (fail-walk R k.edits s)
+      by true f None g = rw (f, g) (k.edits.same s)
+      by true f (Some purpose) g = rw (f, g) (retry-walk s message (id_of message) purpose d now begun e f (retried-has (purposes_of (id_of message) s) purpose g))
+
+  wrong-walk : (p : Phase) (message : List ℕ) (s : State) → R (record s { phase = p }) (wrong_step message (record s { phase = p })).1
+  wrong-walk New message s = fail-walk R k.edits (record s { phase = New })
+  wrong-walk Authenticating message s = fail-walk R k.edits (record s { phase = Authenticating })
+  wrong-walk Allocated message s = fail-walk R k.edits (record s { phase = Allocated })
+  wrong-walk Closed message s = fail-walk R k.edits (record s { phase = Closed })
+  wrong-walk Requesting message s =
+      let u = record s { phase = Requesting } in
+      then u (transaction_ended (id_of message) u) _ (k.edits.finishes (id_of message) u) (fail-walk R k.edits (transaction_ended (id_of message) u))
+
+  -- ---- signed replies
+
+  reply-walk : (is_granted : Bool) (message : List ℕ) (now : ℕ) (s : State) → ((p : Purpose) → Has p (answered_purposes message s) → Heeded) → (IsUngranted s.phase → ⊥) → R s (response_step is_granted message now s).1
+  reply-walk is_granted message now s heeded granted =
+      effects-walk Heeded R k s (id_of message) granted is_granted message now (method_in message) (answered_purposes message s) (transaction_ended (id_of message) s) (k.edits.finishes (id_of message) s)
+      (λ connect a there. there) heeded (λ p there. has-filter (is_answered (method_in message)) p (purposes_of (id_of message) s) there)
+
+  granted-walk : (message : List ℕ) (now : ℕ) (s : State) → s.phase ≡ Authenticating → R s (allocate_granted message now s)
+  granted-walk message now s e = by (lifetime_in message)
+    where
+      addresses : List SocketAddr
+      addresses = taken_addresses s.families (relayed_in message)
+
+      by : (o : Option ℕ) → R s (option_map_or (λ lifetime. allocated lifetime addresses now s) o (closed (fail_all s)))
+      by None = fail-walk R k.edits s
+      by (Some lifetime) =
+          let end = allocated lifetime addresses now s in
+          let a = record s { listed = end.listed } in
+          let b = record a { phase = phase_with addresses; grants = end.grants } in
+          let c = record b { families = [] } in
+          then s a _ (k.edits.unlists _ s)
+          (then a b _ (k.allocates message lifetime now a e (without-allocates s))
+          (then b c _ (k.edits.families [] b (inl (granted-with addresses))) (k.edits.aside c end)))
+
+  denied-walk : (fresh : ℕ) (message : List ℕ) (now : ℕ) (s : State) → s.phase ≡ Authenticating → R s (allocate_denied fresh message now s)
+  denied-walk fresh message now s e = by (has_code family_not_supported message && leb 2 (length s.families)) refl
+    where
+      begun : IsBegun s.phase
+      begun = rw e tt
+
+      ungranted : IsUngranted s.phase
+      ungranted = rw e tt
+
+      a : State
+      a = in_phase s.phase s
+
+      b : State
+      b = record a { families = IPV6 ∷ [] }
+
+      c : State
+      c = wait (AllocationCreateFailed IPV4 ∷ []) b
+
+      alone : (p : Purpose) → Has p (ForAllocation ∷ []) → p ≡ ForAllocation
+      alone p (inl is) = is
+      alone p (inr none) = absurd none
+
+      again : 2 ≤ length s.families → R s (requested fresh ForAllocation now c)
+      again two =
+          then s a _ (k.edits.unlists _ s)
+          (then a b _ (k.edits.families (IPV6 ∷ []) a (inr (refl, two, without-allocates s)))
+          (then b c _ (k.edits.aside b c) (requested-walk R k.edits fresh ForAllocation now c begun (inl refl) (inr (inl (ungranted, alone, inr refl))))))
+
+      by : (b : Bool) → (has_code family_not_supported message && leb 2 (length s.families)) ≡ b → R s (allocate_denied fresh message now s)
+      by true f = rw f (again (leb-true 2 (length s.families) (and_parts (has_code family_not_supported message) (leb 2 (length s.families)) f).1))
+      by false f = rw f (fail-walk R k.edits s)
+
+  signed-walk : (p : Phase) (is_granted : Bool) (message : List ℕ) (now : ℕ) (s : State) (j : Judgement) → judgement_of (record s { phase = p }) message ≡ j → IsSigned j
+      → ((q : Purpose) → Has q (answered_purposes message (record s { phase = p })) → Heeded) → R (record s { phase = p }) (signed_step is_granted message now (record s { phase = p })).1
+  signed-walk Authenticating true message now s j e h heeded =
+      let u = record s { phase = Authenticating } in
+      then u (transaction_ended (id_of message) u) _ (k.edits.finishes (id_of message) u) (granted-walk message now (transaction_ended (id_of message) u) refl)
+  signed-walk Authenticating false message now s j e h heeded =
+      let u = record s { phase = Authenticating } in
+      then u (transaction_ended (id_of message) u) _ (k.edits.finishes (id_of message) u) (denied-walk (fresh_id u) message now (transaction_ended (id_of message) u) refl)
+  signed-walk New g message now s j e h heeded = absurd (new-unsigned j e h)
+  signed-walk Requesting g message now s j e h heeded = absurd (requesting-unsigned (answers_one (record s { phase = Requesting }) message) (challenge_in (record s { phase = Requesting }) message) j e h)
+  signed-walk Allocated g message now s j e h heeded = reply-walk g message now (record s { phase = Allocated }) heeded (λ u. u)
+  signed-walk Closed g message now s j e h heeded = reply-walk g message now (record s { phase = Closed }) heeded (λ u. u)
+
+  -- ---- the server requests a connection
+
+  attempt-walk : (message : List ℕ) (s : State) → IsBegun s.phase → R s (attempt_requested message s)
+  attempt-walk message s begun = by (connection_id_in message) refl (peer_in message) refl
+    where
+      answers : (text : List ℕ) → R s (replied text s)
+      answers text = k.edits.queues (replied text s).queue s begun
+
+      room : (id : ℕ) (peer : SocketAddr) (b : Bool) → is_some (find_allocation_to Tcp (socket_ip peer) s) ≡ b → (refused taken : State) → R s refused → R s taken → R s (cond (not b) refused (cond (is_connected peer s) taken (with_offer id peer (ServerRequest (id_of message)) s)))
+      room id peer false e refused taken p q = p
+      room id peer true e refused taken p q = one-of R k.edits (is_connected peer s) s taken _ q (k.offers id peer (ServerRequest (id_of message)) s (allocation-room Tcp (socket_ip peer) s e) (λ f. cc))
+
+      by : (i : Option ℕ) → connection_id_in message ≡ i → (p : Option SocketAddr) → peer_in message ≡ p → R s (attempt_requested message s)
+      by (Some id) e (Some peer) f = rw (e, f) (room id peer (is_some (find_allocation_to Tcp (socket_ip peer) s)) refl _ _ (answers (refused_reply bad_request (codes "Bad Request") s (id_of message))) (answers (refused_reply connection_already_exists (codes "Connection Already Exists") s (id_of message))))
+      by (Some id) e None f = rw (e, f) (answers (refused_reply bad_request (codes "Bad Request") s (id_of message)))
+      by None e p f = rw e (answers (refused_reply bad_request (codes "Bad Request") s (id_of message)))
+
+  heeded-walk : (id : ℕ) (peer : SocketAddr) (s : State) → accepts_attempt peer s ≡ true → R s (with_offer id peer ServerIndication s)
+  heeded-walk id peer s e =
+      let few = and_parts _ (ltb (length (filter is_indicated s.grants)) max_indicated) e in
+      let free = and_parts _ (not (is_connected peer s || is_connecting peer s)) few.0 in
+      let let_in = and_parts (is_some (find_allocation_to Tcp (socket_ip peer) s)) (has_active_permission (socket_ip peer) s) free.0 in
+      k.offers id peer ServerIndication s (allocation-room Tcp (socket_ip peer) s let_in.0) (λ f. ltb-true (length (filter is_indicated s.grants)) max_indicated few.1)
+
+  indicated-walk : (message : List ℕ) (s : State) → IfSome (attempt_indicated message s) (R s)
+  indicated-walk message s = by (connection_id_in message) refl (peer_in message) refl
+    where
+      if_heeded : (id : ℕ) (peer : SocketAddr) (b : Bool) → accepts_attempt peer s ≡ b → IfSome (cond b (Some (with_offer id peer ServerIndication s)) None) (R s)
+      if_heeded id peer true e = heeded-walk id peer s e
+      if_heeded id peer false e = tt
+
+      by : (i : Option ℕ) → connection_id_in message ≡ i → (p : Option SocketAddr) → peer_in message ≡ p → IfSome (attempt_indicated message s) (R s)
+      by (Some id) e (Some peer) f = rw (e, f) (if_heeded id peer (accepts_attempt peer s) refl)
+      by (Some id) e None f = rw (e, f) tt
+      by None e p f = rw e tt
+
+  -- ---- messages
+
+  pub message-walk : (message : List ℕ) (now : ℕ) (s : State) → (IsReplyAccepted message now s → Heeded) → R s (message_step message now s).1
+  message-walk message now s allowed = by (judgement_of s message) refl
+    where
+      heeded : (j : Judgement) → judgement_of s message ≡ j → IsSigned j → (p : Purpose) → Has p (answered_purposes message s) → Heeded
+      heeded j e is p there = allowed (subst IsSigned (sym e) is, (p, has-contains p (answered_purposes message s) there))
+
+      indicated : (o : Option State) → IfSome o (R s) → R s (option_map_or {T = State} {U = Outcome × State} (λ t. (Handled, t)) o (Ignored, s)).1
+      indicated None r = k.edits.same s
+      indicated (Some t) r = r
+
+      if_asked : IsBegun s.phase → (b : Bool) → R s (cond {A = Outcome × State} b (Handled, attempt_requested message s) (Ignored, s)).1
+      if_asked begun true = attempt-walk message s begun
+      if_asked begun false = k.edits.same s
+
+      by : (j : Judgement) → judgement_of s message ≡ j → R s (message_step message now s).1
+      by Unrelated e = rw e (k.edits.same s)
+      by (Challenged d) e = rw e (challenge-walk message d now s (judged-begun s message (Challenged d) e tt) (Challenged-is s message d e))
+      by Fatal e = rw e (wrong-walk s.phase message s)
+      by LateResponse e = rw e (k.edits.same s)
+      by DataIndication e = rw e (k.edits.same s)
+      by ConnectionAttempt e = rw e (indicated (attempt_indicated message s) (indicated-walk message s))
+      by SignedRequest e = rw e (if_asked (judged-begun s message SignedRequest e tt) (eqb (method_in message) connection_attempt_method))
+      by SignedSuccess e = rw e (signed-walk s.phase true message now s SignedSuccess e tt (heeded SignedSuccess e tt))
+      by SignedError e = rw e (signed-walk s.phase false message now s SignedError e tt (heeded SignedError e tt))
+
+  -- ---- connections that wait to be bound
+
+  again-walk : (c : DataConnection) (message : List ℕ) (d : Challenge) (now : ℕ) (s : State) → s.phase ≡ Allocated → Has (Connection c) s.grants → challenge_in s message ≡ Some d → R s (bind_again c (id_of message) d now s)
+  again-walk c message d now s allocated there e = by (find (is_bind_of c.local) (purposes_of (id_of message) s)) refl
+    where
+      begun : IsBegun s.phase
+      begun = rw allocated tt
+
+      by : (o : Option Purpose) → find (is_bind_of c.local) (purposes_of (id_of message) s) ≡ o → R s (bind_again c (id_of message) d now s)
+      by None f = rw f (k.edits.same s)
+      by (Some purpose) f =
+          let a = with_held d s in
+          let b = unlisted (is_connection_from c.local) a in
+          let t = requested (fresh_id s) purpose now b in
+          let is = (has-found (is_bind_of c.local) purpose (purposes_of (id_of message) s) f).1 in
+          rw f
+          (then s a _ (k.holds message d s e)
+          (then a b _ (unlisted-walk R k.edits (is_connection_from c.local) a)
+          (then b t _ (requested-walk R k.edits (fresh_id s) purpose now b begun (inr (inl (bind-askable c purpose b there is))) (spelled-else (fresh_id s) (request_for b purpose (fresh_id s)) purpose b allocated (bind-other c purpose is))) (deadline-walk Heeded R k c.local (Some (later_by bind_time now)) t))))
+
+  bound-walk : IgnoresAll R → (c : DataConnection) (s : State) → R s (bound c s)
+  bound-walk streams c s =
+      let a = unlisted (is_connection_from c.local) s in
+      let b = with_deadline c.local None a in
+      let d = with_mode c.local (Bound c.peer) b in
+      then s a _ (unlisted-walk R k.edits (is_connection_from c.local) s) (then a b _ (deadline-walk Heeded R k c.local None a) (then b d _ (streams b d.streams) (k.edits.aside d (bound c s))))
+
+  not_bound-walk : (c : DataConnection) (s : State) → R s (not_bound c s)
+  not_bound-walk c s = removed R k.edits (is_connection_from c.local) (λ a. refl) s (not_bound c s)
+
+  answered-walk : IgnoresAll R → (c : DataConnection) (message : List ℕ) (now : ℕ) (s : State) → s.phase ≡ Allocated → Has (Connection c) s.grants → R s (bind_answered c message now s)
+  answered-walk streams c message now s allocated there = by (bind_judgement s c.local message) refl
+    where
+      less : State
+      less = transaction_ended (id_of message) s
+
+      by : (j : Judgement) → bind_judgement s c.local message ≡ j → R s (bind_answered c message now s)
+      by (Challenged d) e = rw e (again-walk c message d now s allocated there (bind-is s c.local message d e))
+      by SignedSuccess e = rw e (then s less _ (k.edits.finishes (id_of message) s) (bound-walk streams c less))
+      by SignedError e = rw e (then s less _ (k.edits.finishes (id_of message) s) (not_bound-walk c less))
+      by Unrelated e = rw e (not_bound-walk c s)
+      by Fatal e = rw e (not_bound-walk c s)
+      by LateResponse e = rw e (not_bound-walk c s)
+      by DataIndication e = rw e (not_bound-walk c s)
+      by ConnectionAttempt e = rw e (not_bound-walk c s)
+      by SignedRequest e = rw e (not_bound-walk c s)
+
+  bind_in_phase : IgnoresAll R → (p : Phase) (local : SocketAddr) (message : List ℕ) (now : ℕ) (s : State) → R (record s { phase = p }) (bind_step local message now (record s { phase = p }))
+  bind_in_phase streams New local message now s = k.edits.same (record s { phase = New })
+  bind_in_phase streams Requesting local message now s = k.edits.same (record s { phase = Requesting })
+  bind_in_phase streams Authenticating local message now s = k.edits.same (record s { phase = Authenticating })
+  bind_in_phase streams Closed local message now s = k.edits.same (record s { phase = Closed })
+  bind_in_phase streams Allocated local message now s = by (connection_at local s) refl
+    where
+      u : State
+      u = record s { phase = Allocated }
+
+      by : (o : Option DataConnection) → connection_at local s ≡ o → R u (bind_step local message now u)
+      by None e = rw e (k.edits.same u)
+      by (Some c) e = rw e (one-of R k.edits (eqb (method_in message) connection_bind_method) u _ _ (answered-walk streams c message now u refl (connection-there local c u e)) (k.edits.same u))
+
+  -- a message of a connection
+  pub bind-walk : IgnoresAll R → (local : SocketAddr) (message : List ℕ) (now : ℕ) (s : State) → R s (bind_step local message now s)
+  bind-walk streams local message now s = bind_in_phase streams s.phase local message now s
+
+-- ---- messages in sequence
+
+pub edits-IsKept : (R : State → State → Type 0) → KeepsAllEdits R → IgnoresAll R → IsKept R
+edits-IsKept R k streams = record {
+  same = k.edits.same;
+  trans = k.edits.trans;
+  streams = streams;
+  message = λ message now s. message-walk ⊤ R k message now s (λ h. tt);
+  binds = bind-walk ⊤ R k streams;
+  gone = gone-walk R k.edits;
+}

@@ -1,0 +1,250 @@
+-- The edits that time makes, and those of what is sent.
+use Rattle.std.proofs.Common.{◌≡◌, ℕ, Bool, true, false, cond, eqb, leb, ltb, ◌&&◌, ◌||◌, List, [], ◌∷◌, filter, Option, Some, None, refl, inl, inr, sym, subst, ◌∙◌}
+use Rattle.std.specs.Prelude.{drop, find, reverse, flat_map, slice_get}
+use Rattle.std.specs.List.{list_any}
+use Rattle.std.proofs.lemmas.Bool.{and_from, and_left, and_right, eq-eqb}
+use Rattle.std.proofs.lemmas.Option.{cond_some, none-some}
+use Rattle.std.specs.declared.net.socket_addr.SocketAddr.{SocketAddr}
+use Rattle.turn_types.specs.declared.family.AddressFamily.{AddressFamily}
+use Rattle.turn_agent.specs.Agent.{due, timed_out_transaction, resent, same_address}
+use Rattle.turn_agent.specs.declared.transaction.Transaction.{Transaction}
+use Rattle.turn_client_api.specs.State.{State, Phase, New, Requesting, Authenticating, Allocated, Closed, Grant, Allocation, Permission, Channel, Connect, Offer, Connection, Relay, Progress, Pending, Active, Reserved, Purpose, ForAllocation, ForRefresh, ForPermission, ForChannel, Queued, agent_of}
+use Rattle.turn_client_api.specs.Grants.{allocations, family_of, is_connect, is_for_any, is_of, is_pending_channel, is_pending_permission}
+use Rattle.turn_client_api.specs.Requests.{request_started, asked_lifetime, first_allocate, fresh_id, request_for}
+use Rattle.turn_client_api.specs.Effect.{closed, transaction_ended, reserved}
+use Rattle.turn_client_api.specs.Due.{has_event, has_reply, is_paused}
+use Rattle.turn_client_api.specs.Poll.{answer_step, channel_lapsed, connections_unbound, timed_out_purposes, timed_out_step, allocation_expires, failed_by_timeout, is_timed_out_offer, is_lapsed_channel, is_lapsed_permission, is_listed_for_allocation, is_over, is_unbound, lapsed, lapsed_allocation, lapsed_in, last_channel_lapsed, next_offer, offer_step, offers_timed_out, permissions_lapsed, poll_step, refreshes_timed_out, silent_step, timed_step}
+use Rattle.turn_client_api.specs.Transmit.{idle_step, is_due_in, queue_step, refresh_purpose, refreshes_in, refreshes_of_rank, sent, transmit_step}
+use Rattle.turn_client_api.specs.Transmit as T
+use Rattle.turn_client_laws.specs.LawsStates.{is_asked_by}
+use Rattle.turn_client_laws.proofs.AddressLemmas.{same_address-self}
+use Rattle.turn_client_laws.proofs.HasLemmas.{Has, has-filter, has-filter_map, has-flat_map, has-found}
+use Rattle.turn_client_laws.proofs.InAllocationLemmas.{has-any, same_family-self}
+use Rattle.turn_client_laws.proofs.GrantOriginEffectLemmas.{same_ip-same}
+use Rattle.turn_client_laws.proofs.LapseLemmas.{has-unreversed}
+use Rattle.turn_client_laws.proofs.Edits.{IsAskable, KeepsEdits, SparesAllocations}
+use Rattle.turn_client_laws.proofs.EditsOfReplies.{closed-walk, each, either, first-has, found, one-of, removed, asked-walk, reserved-walk, spares-kind, spelled-else, unlisted-walk, told-alike}
+
+-- ---- what is refreshed exists
+
+-- the request is for this grant
+pub for-there : (p : Purpose) (g : Grant) (s : State) → Has g s.grants → is_asked_by p g ≡ true → IsAskable s p
+for-there p g s there is = inr (inl (has-any (is_asked_by p) g s.grants there is))
+
+-- a channel by its number and its peer
+pub channel-asked : (number : ℕ) (peer : SocketAddr) (progress : Progress) → is_asked_by (ForChannel number peer) (Channel number peer progress) ≡ true
+channel-asked number peer progress = and_from (eqb number number) (same_address peer peer) (eq-eqb number number refl) (same_address-self peer)
+
+-- a request is for the grant that it refreshes
+refresh-for : (now : ℕ) (p : Purpose) (g : Grant) → refresh_purpose now g ≡ Some p → is_asked_by p g ≡ true
+refresh-for now p (Allocation a) e = subst (λ (x : Purpose). is_asked_by x (Allocation a) ≡ true) (cond_some (leb now a.expiry) (ForRefresh (family_of a.relayed) asked_lifetime) p e).1 (same_family-self (family_of a.relayed) (family_of a.relayed) refl)
+refresh-for now p (Permission ip (Active expiry)) e = subst (λ (x : Purpose). is_asked_by x (Permission ip (Active expiry)) ≡ true) (cond_some (ltb now expiry) (ForPermission ip) p e).1 (same_ip-same ip)
+refresh-for now p (Channel number peer (Active expiry)) e = subst (λ (x : Purpose). is_asked_by x (Channel number peer (Active expiry)) ≡ true) (cond_some (ltb now expiry) (ForChannel number peer) p e).1 (channel-asked number peer (Active expiry))
+refresh-for now p (Permission ip Pending) e = absurd (none-some p e)
+refresh-for now p (Permission ip (Reserved until)) e = absurd (none-some p e)
+refresh-for now p (Channel number peer Pending) e = absurd (none-some p e)
+refresh-for now p (Channel number peer (Reserved until)) e = absurd (none-some p e)
+refresh-for now p (Connect peer) e = absurd (none-some p e)
+refresh-for now p (Offer offer) e = absurd (none-some p e)
+refresh-for now p (Connection c) e = absurd (none-some p e)
+
+has-if : {X : Type 0} (b : Bool) (x : X) (xs : List X) → Has x (cond b xs []) → Has x xs
+has-if true x xs there = there
+has-if false x xs none = absurd none
+
+refreshes-there : (now : ℕ) (s : State) (p : Purpose) → Has p (flat_map (refreshes_in now s) (allocations s)) → list_any (is_asked_by p) s.grants ≡ true
+refreshes-there now s p there =
+    let came = has-flat_map (refreshes_in now s) p (allocations s) there in
+    of_one came.from came.gives
+  where
+    of_one : (a : Relay) → Has p (refreshes_in now s a) → list_any (is_asked_by p) s.grants ≡ true
+    of_one a request_started =
+        let came = has-flat_map of_rank p (0 ∷ 1 ∷ 2 ∷ []) (has-if (leb now a.expiry) p (flat_map of_rank (0 ∷ 1 ∷ 2 ∷ [])) request_started) in
+        let (g, here, asks) = has-filter_map (refresh_purpose now) p (filter (is_due_in came.from (family_of a.relayed) now s) s.grants) came.gives in
+        has-any (is_asked_by p) g s.grants (has-filter (is_due_in came.from (family_of a.relayed) now s) g s.grants here).0 (refresh-for now p g asks)
+      where
+        of_rank : ℕ → List Purpose
+        of_rank = refreshes_of_rank now s (family_of a.relayed)
+
+-- no grant is requested by an ALLOCATE
+none-allocates : (gs : List Grant) → list_any (is_asked_by ForAllocation) gs ≡ false
+none-allocates [] = refl
+none-allocates (g ∷ gs) = none-allocates gs
+
+-- a refresh is no ALLOCATE
+refresh-other : (now : ℕ) (s : State) (p : Purpose) → Has p (flat_map (refreshes_in now s) (allocations s)) → p ≡ ForAllocation → ⊥
+refresh-other now s p there e =
+    let some : list_any (is_asked_by ForAllocation) s.grants ≡ true = subst (λ (q : Purpose). list_any (is_asked_by q) s.grants ≡ true) e (refreshes-there now s p there) in
+    let no : true ≡ false = sym some ∙ none-allocates s.grants in
+    cc
+
+allocate-alone : (p : Purpose) → Has p (ForAllocation ∷ []) → p ≡ ForAllocation
+allocate-alone p (inl e) = e
+allocate-alone p (inr none) = absurd none
+
+-- ---- queued packets
+
+has-dropped : (queue : List Queued) (q : Queued) → Has q (drop 1 queue) → Has q queue
+has-dropped [] q there = there
+has-dropped (first ∷ queue) q there = inr there
+
+has-unreplied : (q : Queued) (queue : List Queued) → Has q (T.without_first_reply queue) → Has q queue
+has-unreplied q [] there = there
+has-unreplied q (first ∷ queue) there = by first.is_request there (has-unreplied q queue)
+  where
+    Further : Type 0
+    Further = Has q (T.without_first_reply queue) → Has q queue
+
+    further : Has q (first ∷ T.without_first_reply queue) → Further → Has q (first ∷ queue)
+    further (inl e) more = inl e
+    further (inr later) more = inr (more later)
+
+    by : (b : Bool) → Has q (cond b (first ∷ T.without_first_reply queue) queue) → Further → Has q (first ∷ queue)
+    by true here more = further here more
+    by false later more = inr later
+
+-- ---- as time passes
+
+no-given : (given : Option ℕ) → SparesAllocations (is_timed_out_offer given)
+no-given None a = refl
+no-given (Some id) a = refl
+
+module _ (R : State → State → Type 0) (k : KeepsEdits R) where
+  then : (s t u : State) → R s t → R t u → R s u
+  then s t u = k.trans s t u
+
+  vain-walk : (family : AddressFamily) (purposes : List Purpose) (which : Grant → Bool) (s : State) → SparesAllocations which → R s (failed_by_timeout family purposes which s)
+  vain-walk family purposes which s spares =
+      let end = failed_by_timeout family purposes which s in
+      removed R k (λ g. is_of family g && which g && is_for_any purposes g) (λ a. and_left (is_of family (Allocation a) && which (Allocation a)) _ (and_right (is_of family (Allocation a)) (which (Allocation a)) (spares a))) s end
+
+  channel_lapsed-walk : (o : Option Grant) (s : State) → ((g : Grant) → o ≡ Some g → Has g s.grants) → R s (channel_lapsed o s)
+  channel_lapsed-walk (Some (Channel number peer (Active expiry))) s there =
+      let t = reserved number peer expiry s in
+      let end = channel_lapsed (Some (Channel number peer (Active expiry))) s in
+      then s t end (reserved-walk R k number peer (Active expiry) expiry s (there (Channel number peer (Active expiry)) refl)) (k.aside t end)
+  channel_lapsed-walk None s there = k.same s
+  channel_lapsed-walk (Some (Channel number peer Pending)) s there = k.same s
+  channel_lapsed-walk (Some (Channel number peer (Reserved until))) s there = k.same s
+  channel_lapsed-walk (Some (Allocation a)) s there = k.same s
+  channel_lapsed-walk (Some (Permission ip progress)) s there = k.same s
+  channel_lapsed-walk (Some (Connect peer)) s there = k.same s
+  channel_lapsed-walk (Some (Offer offer)) s there = k.same s
+  channel_lapsed-walk (Some (Connection c)) s there = k.same s
+
+  -- in sequence, in the order of `lapsed_in`
+  lapsed_in-walk : (family : AddressFamily) (given : Option ℕ) (purposes : List Purpose) (now : ℕ) (s : State) → R s (lapsed_in family given purposes now s)
+  lapsed_in-walk family given purposes now s =
+      let a = failed_by_timeout family purposes is_pending_channel s in
+      let b = failed_by_timeout family purposes is_pending_permission a in
+      let c = last_channel_lapsed family now b in
+      let d = permissions_lapsed family now c in
+      let e = failed_by_timeout family purposes is_connect d in
+      let f = connections_unbound family purposes now e in
+      let g = offers_timed_out family given f in
+      let h = refreshes_timed_out family purposes g in
+      let end = lapsed_in family given purposes now s in
+      let lapses = λ (x : Grant). is_of family x && is_lapsed_channel now x in
+      then s a end (vain-walk family purposes is_pending_channel s (λ r. refl))
+      (then a b end (vain-walk family purposes is_pending_permission a (λ r. refl))
+      (then b c end (channel_lapsed-walk (find lapses (reverse b.grants)) b (λ x found. has-unreversed x b.grants (has-found lapses x (reverse b.grants) found).0))
+      (then c d end (removed R k (λ x. is_of family x && is_lapsed_permission now x) (spares-kind family (is_lapsed_permission now) (λ r. refl)) c d)
+      (then d e end (vain-walk family purposes is_connect d (λ r. refl))
+      (then e f end (removed R k (λ x. is_of family x && is_unbound purposes now x) (spares-kind family (is_unbound purposes now) (λ r. refl)) e f)
+      (then f g end (removed R k (λ x. is_of family x && is_timed_out_offer given x) (spares-kind family (is_timed_out_offer given) (no-given given)) f g)
+      (then g h end (unlisted-walk R k _ g) (k.removes _ h (spares-kind family (is_over now) (λ r. refl))))))))))
+
+  lapsed-walk : (given : Option ℕ) (now : ℕ) (s : State) → R s (lapsed given now s)
+  lapsed-walk given now s = each R k (lapsed_allocation given purposes now) by (allocations s) s
+    where
+      purposes : List Purpose
+      purposes = timed_out_purposes given s
+
+      by : (t : State) (a : Relay) → R t (lapsed_allocation given purposes now t a)
+      by t a = one-of R k (allocation_expires purposes now t a) t _ _ (k.removes_family (family_of a.relayed) t) (lapsed_in-walk (family_of a.relayed) given purposes now t)
+
+  answer_by : (closes : List SocketAddr) (p : Phase) (given : Option ℕ) (now : ℕ) (s : State) → R (record s { closes = closes; phase = p }) (answer_step given now (record s { closes = closes; phase = p })).1
+  answer_by (local ∷ others) p given now s = k.aside (record s { closes = local ∷ others; phase = p }) (record s { closes = others })
+  answer_by [] New given now s = k.same (record s { closes = []; phase = New })
+  answer_by [] Requesting given now s = k.same (record s { closes = []; phase = Requesting })
+  answer_by [] Authenticating given now s = k.same (record s { closes = []; phase = Authenticating })
+  answer_by [] Closed given now s = k.same (record s { closes = []; phase = Closed })
+  answer_by [] Allocated given now s = by (allocations s) refl
+    where
+      u : State
+      u = record s { closes = []; phase = Allocated }
+
+      by : (l : List Relay) → allocations s ≡ l → R u (answer_step given now u).1
+      by [] e = rw e (k.same u)
+      by (a ∷ others) e = rw e (k.same u)
+
+  answer-walk : (given : Option ℕ) (now : ℕ) (s : State) → R s (answer_step given now s).1
+  answer-walk given now s = answer_by s.closes s.phase given now s
+
+  silent-walk : (s : State) → R s (silent_step s).1
+  silent-walk s =
+      let t = closed s in
+      let u = record t { families = [] } in
+      let end = (silent_step s).1 in
+      then s t end (closed-walk R k s) (then t u end (k.families [] t (inl (λ none. none))) (k.aside u end))
+
+  timed_in_phase : (p : Phase) (given : Option ℕ) (now : ℕ) (s : State) → R (record s { phase = p }) (timed_step p given now (record s { phase = p })).1
+  timed_in_phase New given now s = k.same (record s { phase = New })
+  timed_in_phase Requesting (Some id) now s = silent-walk (record s { phase = Requesting })
+  timed_in_phase Requesting None now s = answer-walk None now (record s { phase = Requesting })
+  timed_in_phase Authenticating (Some id) now s =
+      let u = record s { phase = Authenticating } in
+      let t = cond (is_listed_for_allocation id u) (closed u) u in
+      then u t (answer_step (Some id) now t).1 (one-of R k (is_listed_for_allocation id u) u (closed u) u (closed-walk R k u) (k.same u)) (answer-walk (Some id) now t)
+  timed_in_phase Authenticating None now s = answer-walk None now (record s { phase = Authenticating })
+  timed_in_phase Allocated given now s =
+      let u = record s { phase = Allocated } in
+      then u (lapsed given now u) (answer_step given now (lapsed given now u)).1 (lapsed-walk given now u) (answer-walk given now (lapsed given now u))
+  timed_in_phase Closed given now s = k.same (record s { phase = Closed })
+
+  given_up-walk : (now : ℕ) (s : State) → R s (timed_out_step now s).1
+  given_up-walk now s =
+      found R k (λ (t : Transaction). timed_step s.phase (Some t.id) now (transaction_ended t.id s)) (timed_out_transaction (agent_of s) now) s (timed_step s.phase None now s)
+      (λ t e. then s (transaction_ended t.id s) _ (k.finishes t.id s) (timed_in_phase s.phase (Some t.id) now (transaction_ended t.id s))) (timed_in_phase s.phase None now s)
+
+  pub poll-walk : (now : ℕ) (s : State) → R s (poll_step now s).1
+  poll-walk now s =
+      either R k (has_event s || has_reply s) s _ _ (λ e. k.same s)
+      (λ e. found R k (λ offer. offer_step offer s) (next_offer s) s (timed_out_step now s)
+      (λ offer is. k.ages (offer_step offer s).1.grants s (told-alike (family_of offer.peer) s.grants)) (given_up-walk now s))
+
+  -- ---- what is sent
+
+  idle-walk : (p : Phase) (now : ℕ) (s : State) → R (record s { phase = p }) (idle_step p now (record s { phase = p })).1
+  idle-walk Requesting now s = k.same (record s { phase = Requesting })
+  idle-walk Authenticating now s = k.same (record s { phase = Authenticating })
+  idle-walk Closed now s = k.same (record s { phase = Closed })
+  idle-walk New now s =
+      let u = record s { phase = New } in
+      let t = record s { phase = Requesting; last_send = Some now } in
+      then u t _ (k.begins now u refl) (asked-walk R k (fresh_id u) (first_allocate u (fresh_id u)) ForAllocation now t tt (inl refl) (inr (inl (tt, allocate-alone, inl refl))))
+  idle-walk Allocated now s =
+      let u = record s { phase = Allocated } in
+      let wanted = flat_map (refreshes_in now u) (allocations u) in
+      found R k _ (slice_get wanted 0) u (None, u)
+      (λ p e. let text = request_for u p (fresh_id u) in
+      let t = request_started (fresh_id u) text (p ∷ []) now u in
+      then u t (sent now t) (asked-walk R k (fresh_id u) text p now u tt (inr (inl (refreshes-there now u p (first-has p wanted e)))) (spelled-else (fresh_id u) text p u refl (refresh-other now u p (first-has p wanted e)))) (k.sends now t (λ new. cc))) (k.same u)
+
+  queue-walk : (now : ℕ) (s : State) → R s (queue_step now s).1
+  queue-walk now s = found R k _ (slice_get s.queue 0) s (idle_step s.phase now s) by (idle-walk s.phase now s)
+    where
+      by : (q : Queued) → slice_get s.queue 0 ≡ Some q → R s (sent now (record s { queue = drop 1 s.queue }))
+      by q e =
+          let t = sent now s in
+          then s t (record t { queue = drop 1 s.queue }) (k.sends now s (λ new none. absurd (rw none at (first-has q s.queue e)))) (k.dequeues (drop 1 s.queue) t (has-dropped s.queue))
+
+  pub transmit-walk : (now : ℕ) (s : State) → R s (transmit_step now s).1
+  transmit-walk now s =
+      found R k _ (due (agent_of s) now) s _ by
+      (either R k (is_paused now s) s (T.reply_step s) (queue_step now s) (λ e. k.dequeues (T.without_first_reply s.queue) s (λ q. has-unreplied q s.queue)) (λ e. queue-walk now s))
+    where
+      by : (t : Transaction) → due (agent_of s) now ≡ Some t → R s (sent now (record s { transactions = resent t.id now s.transactions }))
+      by t e =
+          let u = sent now s in
+          then s u (record u { transactions = resent t.id now s.transactions }) (k.sends now s (λ new queue none. absurd (rw none at (has-found _ t s.transactions e).0))) (k.resends t.id now u)

@@ -1,0 +1,377 @@
+-- Each event that a poll queues reports a grant that can fail no more.
+use Rattle.std.proofs.Common.{◌≡◌, ◌≢◌, ℕ, ◌≤◌, ◌+◌, Bool, true, false, ◌&&◌, ◌||◌, not, cond, List, [], ◌∷◌, ◌++◌, map, length, filter, filter_map, find, fold, reverse, Option, Some, None, refl, sym, ◌∙◌, inl, inr, arith}
+use Rattle.std.specs.Prelude.{is_some, ⊤}
+use Rattle.std.specs.List.{cons_option}
+use Rattle.std.specs.Option.{option_map_or}
+use Rattle.std.proofs.lemmas.List.{length-append, length-map, length-reverse}
+use Rattle.std.proofs.lemmas.Bool.{eq-eqb}
+use Rattle.std.specs.declared.net.socket_addr.SocketAddr.{SocketAddr}
+use Rattle.turn_stun.specs.declared.transport.TransportType.{TransportType}
+use Rattle.turn_types.specs.declared.family.AddressFamily.{AddressFamily}
+use Rattle.turn_agent.specs.Agent.{timed_out_transaction}
+use Rattle.turn_client_api.specs.State.{State, DataOffer, Phase, New, Requesting, Authenticating, Allocated, Closed, Grant, Allocation, Permission, Channel, Connect, Offer, Connection, Relay, Pending, Active, Reserved, Purpose, agent_of}
+use Rattle.turn_client_api.specs.Grants.{allocations, failure_of, failures_among, family_of, in_sequence, is_channel_of, is_connect, is_for_any, is_of, is_pending_channel, is_pending_permission, without_grants}
+use Rattle.turn_client_api.specs.Effect.{closed, transaction_ended, reserved}
+use Rattle.turn_client_api.specs.Due.{has_event, has_reply}
+use Rattle.turn_client_api.specs.Poll.{answer_by, answer_step, channel_lapsed, connections_unbound, failed, timed_out_step, allocation_expires, failed_by_timeout, is_timed_out_offer, is_lapsed_channel, is_listed_for_allocation, is_over, lapsed, lapsed_allocation, lapsed_in, last_channel_lapsed, next_offer, offer_step, offers_timed_out, permissions_lapsed, poll_step, refreshes_timed_out, set_free, timed_step, told, first_reported, unbound, unreported_in, timed_out_purposes}
+use Rattle.turn_client_laws.specs.LawsBodies.{TellsOfFailed, can_fail, max_failures}
+use Rattle.turn_client_api.specs.declared.event.TurnEvent.{TurnEvent}
+use Rattle.turn_client_api.specs.declared.event.TurnEvent.TheVariants.{AllocationCreateFailed}
+use Rattle.turn_client_laws.proofs.HasLemmas.{Has, has-found}
+use Rattle.turn_client_laws.proofs.LapseLemmas.{IsReserved, has-unreversed}
+
+tells-self : (s : State) → TellsOfFailed s s
+tells-self s = omega arith
+
+tells-then : (s t u : State) → TellsOfFailed s t → TellsOfFailed t u → TellsOfFailed s u
+tells-then s t u first later = omega (arith, first, later)
+
+-- each of these reports only what can fail no more
+abbrev AllTell : List (State → State) → Type 0
+AllTell [] = ⊤
+AllTell (step ∷ steps) = ((s : State) → TellsOfFailed s (step s)) × AllTell steps
+
+in_sequence-tells : (steps : List (State → State)) (s : State) → AllTell steps → TellsOfFailed s (in_sequence steps s)
+in_sequence-tells [] s all = tells-self s
+in_sequence-tells (step ∷ steps) s all = tells-then s (step s) (in_sequence steps (step s)) (all.0 s) (in_sequence-tells steps (step s) all.1)
+
+-- ---- grants that can fail
+
+-- how many of these can fail
+count : List Grant → ℕ
+count gs = length (filter can_fail gs)
+
+-- as many as one grant counts for
+one : Grant → ℕ
+one g = cond (can_fail g) 1 0
+
+count-cons : (g : Grant) (gs : List Grant) → count (g ∷ gs) ≡ one g + count gs
+unfolding count one
+count-cons g gs = by (can_fail g)
+  where
+    by : (b : Bool) → length (cond b (g ∷ filter can_fail gs) (filter can_fail gs)) ≡ cond b 1 0 + length (filter can_fail gs)
+    by true = omega arith
+    by false = omega arith
+
+count-append : (xs ys : List Grant) → count (xs ++ ys) ≡ count xs + count ys
+unfolding count
+count-append [] ys = omega arith
+count-append (g ∷ xs) ys = omega (arith, count-append xs ys, count-cons g (xs ++ ys), count-cons g xs)
+
+count-filter : (p : Grant → Bool) (gs : List Grant) → count (filter p gs) ≤ count gs
+unfolding count
+count-filter p [] = omega arith
+count-filter p (g ∷ gs) = by (p g) refl (count-filter p gs)
+  where
+    by : (b : Bool) → p g ≡ b → count (filter p gs) ≤ count gs → count (filter p (g ∷ gs)) ≤ count (g ∷ gs)
+    by true e later = rw e (omega (arith, later, count-cons g (filter p gs), count-cons g gs))
+    by false e later = rw e (omega (arith, later, count-cons g gs))
+
+-- one that exists and does not stay
+count-without : (p : Grant → Bool) (g : Grant) (gs : List Grant) → Has g gs → p g ≡ false → can_fail g ≡ true → count (filter p gs) + 1 ≤ count gs
+unfolding count one
+count-without p g [] h fails can = absurd h
+count-without p g (x ∷ gs) (inl e) fails can =
+    rw (rw e at fails)
+    (let can_here : can_fail x ≡ true = rw e at can in
+    let more : count (x ∷ gs) ≡ 1 + count gs = count-cons x gs ∙ rw can_here refl in
+    omega (arith, more, count-filter p gs))
+count-without p g (x ∷ gs) (inr h) fails can = by (p x) refl (count-without p g gs h fails can)
+  where
+    by : (b : Bool) → p x ≡ b → count (filter p gs) + 1 ≤ count gs → count (filter p (x ∷ gs)) + 1 ≤ count (x ∷ gs)
+    by true e later = rw e (omega (arith, later, count-cons x (filter p gs), count-cons x gs))
+    by false e later = rw e (omega (arith, later, count-cons x gs))
+
+-- ---- failures
+
+-- none that is reserved passes the test
+abbrev Spares : (Grant → Bool) → Type 0
+Spares which = (g : Grant) → which g ≡ true → IsReserved g → ⊥
+
+-- so many events are queued for these
+told_of : TransportType → (Grant → Bool) → List Grant → ℕ
+told_of transport which gs = length (filter_map (failure_of transport) (filter which gs))
+
+-- one that fails could fail
+failure-one : (transport : TransportType) (g : Grant) (more : List TurnEvent) → (IsReserved g → ⊥) → length (cons_option (failure_of transport g) more) ≡ one g + length more
+unfolding one
+failure-one transport (Allocation a) more spared = omega arith
+failure-one transport (Permission ip progress) more spared = omega arith
+failure-one transport (Channel number peer Pending) more spared = omega arith
+failure-one transport (Channel number peer (Active expiry)) more spared = omega arith
+failure-one transport (Channel number peer (Reserved until)) more spared = absurd (spared tt)
+failure-one transport (Connect peer) more spared = omega arith
+failure-one transport (Offer offer) more spared = omega arith
+failure-one transport (Connection c) more spared = omega arith
+
+-- those that are removed, and those that stay
+told-count : (transport : TransportType) (which : Grant → Bool) (gs : List Grant) → Spares which → told_of transport which gs + count (filter (λ g. not (which g)) gs) ≤ count gs
+unfolding told_of
+told-count transport which [] spares = omega arith
+told-count transport which (g ∷ gs) spares = by (which g) refl (told-count transport which gs spares)
+  where
+    Claim : List Grant → Type 0
+    Claim list = length (filter_map (failure_of transport) (filter which list)) + count (filter (λ g. not (which g)) list) ≤ count list
+
+    by : (b : Bool) → which g ≡ b → Claim gs → Claim (g ∷ gs)
+    by true e later = rw e (omega (arith, later, failure-one transport g (filter_map (failure_of transport) (filter which gs)) (spares g e), count-cons g gs))
+    by false e later = rw e (omega (arith, later, count-cons g (filter (λ g. not (which g)) gs), count-cons g gs))
+
+failed-tells : (which : Grant → Bool) (s : State) → Spares which → TellsOfFailed s (failed which s)
+unfolding count told_of
+failed-tells which s spares =
+    let told = told-count s.config.allocation_transport which s.grants spares in
+    let front = length-append (reverse (failures_among which s)) s.events in
+    let turned = length-reverse (failures_among which s) in
+    omega (arith, told, front, turned)
+
+unbound-tells : (which : Grant → Bool) (s : State) → Spares which → TellsOfFailed s (unbound which s)
+unbound-tells which s spares = failed-tells which s spares
+
+without-tells : (which : Grant → Bool) (s : State) → TellsOfFailed s (without_grants which s)
+unfolding count
+without-tells which s = let fewer = count-filter (λ g. not (which g)) s.grants in omega (arith, fewer)
+
+-- ---- one channel
+
+active-tells : (number : ℕ) (peer : SocketAddr) (expiry : ℕ) (s : State) → Has (Channel number peer (Active expiry)) s.grants → TellsOfFailed s (channel_lapsed (Some (Channel number peer (Active expiry))) s)
+unfolding count
+active-tells number peer expiry s there =
+    let kept = filter (λ g. not (is_channel_of number g)) s.grants in
+    let fewer = count-without (λ g. not (is_channel_of number g)) (Channel number peer (Active expiry)) s.grants there (rw (eq-eqb number number refl) refl) refl in
+    let more = count-append kept ((reserved number peer expiry (record s { grants = [] })).grants) in
+    omega (arith, fewer, more)
+
+channel-tells : (o : Option Grant) (s : State) → ((g : Grant) → o ≡ Some g → Has g s.grants) → TellsOfFailed s (channel_lapsed o s)
+channel-tells None s there = tells-self s
+channel-tells (Some (Channel number peer (Active expiry))) s there = active-tells number peer expiry s (there (Channel number peer (Active expiry)) refl)
+channel-tells (Some (Channel number peer Pending)) s there = tells-self s
+channel-tells (Some (Channel number peer (Reserved until))) s there = tells-self s
+channel-tells (Some (Allocation a)) s there = tells-self s
+channel-tells (Some (Permission ip progress)) s there = tells-self s
+channel-tells (Some (Connect peer)) s there = tells-self s
+channel-tells (Some (Offer offer)) s there = tells-self s
+channel-tells (Some (Connection c)) s there = tells-self s
+
+last-tells : (family : AddressFamily) (now : ℕ) (s : State) → TellsOfFailed s (last_channel_lapsed family now s)
+last-tells family now s =
+    channel-tells (find test (reverse s.grants)) s (λ g e. has-unreversed g s.grants (has-found test g (reverse s.grants) e).0)
+  where
+    test : Grant → Bool
+    test g = is_of family g && is_lapsed_channel now g
+
+-- ---- what expires is not reserved
+
+-- a reserved channel passes none of these tests
+spared : (which : Grant → Bool) → ((number : ℕ) (peer : SocketAddr) (until : ℕ) → which (Channel number peer (Reserved until)) ≡ false) → Spares which
+spared which none (Channel number peer (Reserved until)) e is = let no : true ≡ false = sym e ∙ none number peer until in cc
+spared which none (Channel number peer Pending) e is = is
+spared which none (Channel number peer (Active expiry)) e is = is
+spared which none (Allocation a) e is = is
+spared which none (Permission ip progress) e is = is
+spared which none (Connect peer) e is = is
+spared which none (Offer offer) e is = is
+spared which none (Connection c) e is = is
+
+and-none : (a : Bool) → (a && false) ≡ false
+and-none true = refl
+and-none false = refl
+
+and-none-between : (a b : Bool) → (a && false && b) ≡ false
+and-none-between true b = refl
+and-none-between false b = refl
+
+-- ---- an allocation
+
+module _ (family : AddressFamily) (purposes : List Purpose) where
+  vain-tells : (which : Grant → Bool) (s : State) → ((number : ℕ) (peer : SocketAddr) (until : ℕ) → which (Channel number peer (Reserved until)) ≡ false) → TellsOfFailed s (failed_by_timeout family purposes which s)
+  vain-tells which s none =
+      failed-tells _ s (spared _ (λ number peer until. by number peer until (is_of family (Channel number peer (Reserved until))) (is_for_any purposes (Channel number peer (Reserved until)))))
+    where
+      by : (number : ℕ) (peer : SocketAddr) (until : ℕ) (a b : Bool) → (a && which (Channel number peer (Reserved until)) && b) ≡ false
+      by number peer until a b = rw (none number peer until) (and-none-between a b)
+
+  permissions-tell : (now : ℕ) (s : State) → TellsOfFailed s (permissions_lapsed family now s)
+  permissions-tell now s = failed-tells _ s (spared _ (λ number peer until. and-none (is_of family (Channel number peer (Reserved until)))))
+
+  connections-tell : (now : ℕ) (s : State) → TellsOfFailed s (connections_unbound family purposes now s)
+  connections-tell now s = unbound-tells _ s (spared _ (λ number peer until. and-none (is_of family (Channel number peer (Reserved until)))))
+
+  offers-tell : (given : Option ℕ) (s : State) → TellsOfFailed s (offers_timed_out family given s)
+  offers-tell given s = failed-tells _ s (spared _ (λ number peer until. by number peer until given))
+    where
+      by : (number : ℕ) (peer : SocketAddr) (until : ℕ) (o : Option ℕ) → (is_of family (Channel number peer (Reserved until)) && is_timed_out_offer o (Channel number peer (Reserved until))) ≡ false
+      by number peer until None = and-none (is_of family (Channel number peer (Reserved until)))
+      by number peer until (Some id) = and-none (is_of family (Channel number peer (Reserved until)))
+
+  vain-all : (which : Grant → Bool) → ((number : ℕ) (peer : SocketAddr) (until : ℕ) → which (Channel number peer (Reserved until)) ≡ false) → (s : State) → TellsOfFailed s (failed_by_timeout family purposes which s)
+  vain-all which none s = vain-tells which s none
+
+  lapsed_in-tells : (given : Option ℕ) (now : ℕ) (s : State) → TellsOfFailed s (lapsed_in family given purposes now s)
+  lapsed_in-tells given now s = in_sequence-tells steps s (
+    vain-all is_pending_channel (λ number peer until. refl),
+    (
+      vain-all is_pending_permission (λ number peer until. refl),
+      (
+        last-tells family now,
+        (
+          permissions-tell now,
+          (
+            vain-all is_connect (λ number peer until. refl),
+            (
+              connections-tell now,
+              (
+                offers-tell given,
+                (
+                  tells-self,
+                  (without-tells (λ g. is_of family g && is_over now g), tt),
+                ),
+              ),
+            ),
+          ),
+        ),
+      ),
+    ),
+  )
+    where
+      steps : List (State → State)
+      steps =
+          failed_by_timeout family purposes is_pending_channel
+          ∷ failed_by_timeout family purposes is_pending_permission
+          ∷ last_channel_lapsed family now
+          ∷ permissions_lapsed family now
+          ∷ failed_by_timeout family purposes is_connect
+          ∷ connections_unbound family purposes now
+          ∷ offers_timed_out family given
+          ∷ refreshes_timed_out family purposes
+          ∷ set_free family now
+          ∷ []
+
+allocation-tells : (given : Option ℕ) (purposes : List Purpose) (now : ℕ) (s : State) (a : Relay) → TellsOfFailed s (lapsed_allocation given purposes now s a)
+allocation-tells given purposes now s a = by (allocation_expires purposes now s a)
+  where
+    by : (b : Bool) → TellsOfFailed s (cond b (without_grants (is_of (family_of a.relayed)) s) (lapsed_in (family_of a.relayed) given purposes now s))
+    by true = without-tells (is_of (family_of a.relayed)) s
+    by false = lapsed_in-tells (family_of a.relayed) purposes given now s
+
+each-tells : (given : Option ℕ) (purposes : List Purpose) (now : ℕ) (relays : List Relay) (s : State) → TellsOfFailed s (fold (lapsed_allocation given purposes now) s relays)
+each-tells given purposes now [] s = tells-self s
+each-tells given purposes now (a ∷ relays) s =
+    let t = lapsed_allocation given purposes now s a in
+    tells-then s t (fold (lapsed_allocation given purposes now) t relays) (allocation-tells given purposes now s a) (each-tells given purposes now relays t)
+
+lapsed-tells : (given : Option ℕ) (now : ℕ) (s : State) → TellsOfFailed s (lapsed given now s)
+lapsed-tells given now s = each-tells given (timed_out_purposes given s) now (allocations s) s
+
+-- ---- poll
+
+told-can_fail : (family : AddressFamily) (gs : List Grant) → count (first_reported family gs) ≡ count gs
+unfolding count
+told-can_fail family [] = refl
+told-can_fail family (g ∷ gs) = by (is_some (unreported_in family g)) (told-can_fail family gs)
+  where
+    same : (g : Grant) → count (told g ∷ gs) ≡ count (g ∷ gs)
+    same (Offer offer) = refl
+    same (Allocation a) = refl
+    same (Permission ip progress) = refl
+    same (Channel number peer progress) = refl
+    same (Connect peer) = refl
+    same (Connection c) = refl
+
+    by : (b : Bool) → count (first_reported family gs) ≡ count gs → count (cond b (told g ∷ gs) (g ∷ first_reported family gs)) ≡ count (g ∷ gs)
+    by true later = same g
+    by false later = omega (arith, later, count-cons g (first_reported family gs), count-cons g gs)
+
+answer-tells : (given : Option ℕ) (now : ℕ) (s : State) → TellsOfFailed s (answer_step given now s).1
+answer-tells given now s = by s.closes s.phase (allocations s)
+  where
+    by : (closes : List SocketAddr) (p : Phase) (relays : List Relay) → TellsOfFailed s (answer_by closes p relays given now s).1
+    by (local ∷ others) p relays = tells-self s
+    by [] Allocated [] = tells-self s
+    by [] Allocated (a ∷ relays) = tells-self s
+    by [] New relays = tells-self s
+    by [] Requesting relays = tells-self s
+    by [] Authenticating relays = tells-self s
+    by [] Closed relays = tells-self s
+
+timed-tells : (p : Phase) (given : Option ℕ) (now : ℕ) (s : State) → p ≢ Requesting → TellsOfFailed s (timed_step p given now s).1
+timed-tells New given now s other = tells-self s
+timed-tells Requesting given now s other = absurd (other refl)
+timed-tells Authenticating None now s other = answer-tells None now s
+timed-tells Authenticating (Some id) now s other = by (is_listed_for_allocation id s)
+  where
+    by : (b : Bool) → TellsOfFailed s (answer_step (Some id) now (cond b (closed s) s)).1
+    by true = tells-then s (closed s) (answer_step (Some id) now (closed s)).1 (tells-self s) (answer-tells (Some id) now (closed s))
+    by false = answer-tells (Some id) now s
+timed-tells Allocated given now s other = tells-then s (lapsed given now s) (answer_step given now (lapsed given now s)).1 (lapsed-tells given now s) (answer-tells given now (lapsed given now s))
+timed-tells Closed given now s other = tells-self s
+
+-- a pair by a test, or by the result of a look-up
+by_test : {A : Type 0} (P : State → Type 0) (b : Bool) (x y : A × State) → P x.1 → P y.1 → P (cond b x y).1
+by_test P true x y k l = k
+by_test P false x y k l = l
+
+by_found : {A X : Type 0} (P : State → Type 0) (f : X → A × State) (o : Option X) (y : A × State) → ((x : X) → P (f x).1) → P y.1 → P (option_map_or f o y).1
+by_found P f None y k l = l
+by_found P f (Some x) y k l = k x
+
+offer-tells : (offer : DataOffer) (s : State) → TellsOfFailed s (offer_step offer s).1
+unfolding count
+offer-tells offer s = let same = told-can_fail (family_of offer.peer) s.grants in omega (arith, same)
+
+pub poll-tells : (now : ℕ) (s : State) → s.phase ≢ Requesting → TellsOfFailed s (poll_step now s).1
+poll-tells now s other =
+    by_test (TellsOfFailed s) (has_event s || has_reply s) _ _ (tells-self s)
+    (by_found (TellsOfFailed s) (λ offer. offer_step offer s) (next_offer s) (timed_out_step now s) (λ offer. offer-tells offer s)
+    (by_found (TellsOfFailed s) (λ t. timed_step s.phase (Some t.id) now (transaction_ended t.id s)) (timed_out_transaction (agent_of s) now) (timed_step s.phase None now s)
+    (λ t. timed-tells s.phase (Some t.id) now (transaction_ended t.id s) other) (timed-tells s.phase None now s other)))
+
+-- ---- families
+
+-- at most one event more for each requested family
+abbrev TellsOfFamilies : State → State → Type 0
+TellsOfFamilies s t = length t.events ≤ length s.events + length s.families
+
+answer-families : (given : Option ℕ) (now : ℕ) (s : State) → TellsOfFamilies s (answer_step given now s).1
+answer-families given now s = by s.closes s.phase (allocations s)
+  where
+    same : TellsOfFamilies s s
+    same = omega arith
+
+    by : (closes : List SocketAddr) (p : Phase) (relays : List Relay) → TellsOfFamilies s (answer_by closes p relays given now s).1
+    by (local ∷ others) p relays = same
+    by [] Allocated [] = same
+    by [] Allocated (a ∷ relays) = same
+    by [] New relays = same
+    by [] Requesting relays = same
+    by [] Authenticating relays = same
+    by [] Closed relays = same
+
+timed-families : (p : Phase) (given : Option ℕ) (now : ℕ) (s : State) → p ≡ Requesting → TellsOfFamilies s (timed_step p given now s).1
+timed-families New given now s e = cc
+timed-families Requesting None now s e = answer-families None now s
+timed-families Requesting (Some id) now s e =
+    let events = map AllocationCreateFailed s.families in
+    let more = length-append (reverse events) s.events in
+    omega (arith, more, length-reverse events, length-map s.families AllocationCreateFailed)
+timed-families Authenticating given now s e = cc
+timed-families Allocated given now s e = cc
+timed-families Closed given now s e = cc
+
+pub poll-tells_families : (now : ℕ) (s : State) → s.phase ≡ Requesting → TellsOfFamilies s (poll_step now s).1
+poll-tells_families now s e =
+    by_test (TellsOfFamilies s) (has_event s || has_reply s) _ _ (omega arith)
+    (by_found (TellsOfFamilies s) (λ offer. offer_step offer s) (next_offer s) (timed_out_step now s) (λ offer. omega arith)
+    (by_found (TellsOfFamilies s) (λ t. timed_step s.phase (Some t.id) now (transaction_ended t.id s)) (timed_out_transaction (agent_of s) now) (timed_step s.phase None now s)
+    (λ t. timed-families s.phase (Some t.id) now (transaction_ended t.id s) e) (timed-families s.phase None now s e)))
+
+pub most-failures : (s : State) → max_failures s ≤ length s.grants
+most-failures s = by s.grants
+  where
+    by : (gs : List Grant) → length (filter can_fail gs) ≤ length gs
+    by [] = omega arith
+    by (g ∷ gs) = at (can_fail g) (by gs)
+      where
+        at : (b : Bool) → length (filter can_fail gs) ≤ length gs → length (cond b (g ∷ filter can_fail gs) (filter can_fail gs)) ≤ length (g ∷ gs)
+        at true later = omega (arith, later)
+        at false later = omega (arith, later)

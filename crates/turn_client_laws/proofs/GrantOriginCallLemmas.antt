@@ -1,0 +1,195 @@
+-- What is active after a call: without a message of the server nothing is granted.
+use Rattle.std.proofs.Common.{◌≡◌, ◌⊎◌, ℕ, Bool, true, false, cond, eqb, List, [], ◌∷◌, map, Option, Some, None, refl, sym, subst, inl, inr}
+use Rattle.std.specs.Prelude.{find, IsSome}
+use Rattle.std.proofs.lemmas.Bool.{eqb-true}
+use Rattle.std.proofs.lemmas.Option.{none-some}
+use Rattle.std.specs.declared.net.socket_addr.SocketAddr.{SocketAddr}
+use Rattle.turn_stun.specs.Message.{id_of}
+use Rattle.turn_auth.specs.LongTerm.{Challenge}
+use Rattle.turn_agent.specs.Agent.{same_address}
+use Rattle.turn_client_api.specs.State.{State, Bound, Phase, New, Requesting, Authenticating, Allocated, Closed}
+use Rattle.turn_client_api.specs.State.{Grant, Allocation, Permission, Channel, Connect, Offer, Connection, DataConnection, Pending, Reserved, Purpose, later_by}
+use Rattle.turn_client_api.specs.Grants.{is_channel_of, purposes_of, without_grants}
+use Rattle.turn_client_api.specs.Requests.{connection_bind_method}
+use Rattle.turn_client_api.specs.Judgement.{Judgement, Unrelated, Challenged, Fatal, LateResponse, DataIndication, ConnectionAttempt, SignedRequest, SignedSuccess, SignedError, bind_judgement, is_bind_of, method_in}
+use Rattle.turn_client_api.specs.Connections.{deadline_set, with_deadline, with_mode, bind_again, bind_answered, bind_step, connection_at}
+use Rattle.turn_client_api.specs.Calls.{is_offer_of, offer_taken, without_first}
+use Rattle.turn_client_api.specs.Retry.{bind_time}
+use Rattle.turn_client_api.specs.Receive.{connection_gone}
+use Rattle.turn_client_laws.proofs.Edits.{KeepsEdits, aged}
+use Rattle.turn_client_laws.proofs.EditsOfReplies.{gone-walk}
+use Rattle.turn_client_laws.specs.LawsGranted.{IsActiveGrant, IsSameGrant}
+use Rattle.turn_client_laws.proofs.StandLemmas.{Leaves, Left, kept-same, kept-trans, leaves-same, leaves-trans, left-cons, left-filter, left-map, left-skip, left-trans, left-one, left-same}
+
+-- ---- data connections
+
+deadline-kept : (local : SocketAddr) (moment : ℕ) (g : Grant) → IsActiveGrant (deadline_set local (Some moment) g) → IsSameGrant g (deadline_set local (Some moment) g)
+deadline-kept local moment (Connection c) = by (same_address c.local local)
+  where
+    waits : Grant
+    waits = Connection (record c { deadline = Some moment })
+
+    by : (b : Bool) → IsActiveGrant (cond b waits (Connection c)) → IsSameGrant (Connection c) (cond b waits (Connection c))
+    by true stands = absurd (none-some moment (sym stands))
+    by false stands = kept-same (Connection c) stands
+deadline-kept local moment (Allocation a) = kept-same (Allocation a)
+deadline-kept local moment (Permission ip progress) = kept-same (Permission ip progress)
+deadline-kept local moment (Channel number peer progress) = kept-same (Channel number peer progress)
+deadline-kept local moment (Connect peer) = kept-same (Connect peer)
+deadline-kept local moment (Offer offer) = kept-same (Offer offer)
+
+deadline-left : (local : SocketAddr) (moment : ℕ) (grants : List Grant) → Left grants (map (deadline_set local (Some moment)) grants)
+deadline-left local moment grants = left-map (deadline_set local (Some moment)) (deadline-kept local moment) grants
+
+again-leaves : (c : DataConnection) (id : ℕ) (d : Challenge) (now : ℕ) (s : State) → Leaves s (bind_again c id d now s)
+again-leaves c id d now s = by (find (is_bind_of c.local) (purposes_of id s)) refl
+  where
+    by : (o : Option Purpose) → find (is_bind_of c.local) (purposes_of id s) ≡ o → Leaves s (bind_again c id d now s)
+    by None f = rw f (leaves-same s)
+    by (Some purpose) f = rw f (deadline-left c.local (later_by bind_time now) s.grants)
+
+-- The connection at the local address is bound, by a signed success on it.
+pub record Binds (local : SocketAddr) (message : List ℕ) (s t : State) : Type 0 where
+  pub c : DataConnection
+  pub found : connection_at local s ≡ Some c
+  pub method : method_in message ≡ connection_bind_method
+  pub judged : bind_judgement s c.local message ≡ SignedSuccess
+  pub grants : t.grants ≡ (with_deadline c.local None s).grants
+  pub streams : t.streams ≡ (with_mode c.local (Bound c.peer) s).streams
+
+-- a message of the connection binds it, or leaves the streams and the active grants unchanged
+abbrev pub BindsOrLeaves : SocketAddr → List ℕ → State → State → Type 0
+BindsOrLeaves local message s t = Binds local message s t ⊎ (Leaves s t × (t.streams ≡ s.streams))
+
+again-streams : (c : DataConnection) (id : ℕ) (d : Challenge) (now : ℕ) (s : State) → (bind_again c id d now s).streams ≡ s.streams
+again-streams c id d now s = by (find (is_bind_of c.local) (purposes_of id s)) refl
+  where
+    by : (o : Option Purpose) → find (is_bind_of c.local) (purposes_of id s) ≡ o → (bind_again c id d now s).streams ≡ s.streams
+    by None f = rw f refl
+    by (Some purpose) f = rw f refl
+
+answered-leaves : (local : SocketAddr) (c : DataConnection) (message : List ℕ) (now : ℕ) (s : State) → connection_at local s ≡ Some c → method_in message ≡ connection_bind_method → BindsOrLeaves local message s (bind_answered c message now s)
+answered-leaves local c message now s found method = by (bind_judgement s c.local message) refl
+  where
+    by : (j : Judgement) → bind_judgement s c.local message ≡ j → BindsOrLeaves local message s (bind_answered c message now s)
+    by (Challenged d) e = rw e (inr (again-leaves c (id_of message) d now s, again-streams c (id_of message) d now s))
+    by SignedSuccess e = inl (record { c = c; found = found; method = method; judged = e; grants = rw e refl; streams = rw e refl })
+    by SignedError e = rw e (inr (left-filter _ s.grants, refl))
+    by Unrelated e = rw e (inr (left-filter _ s.grants, refl))
+    by Fatal e = rw e (inr (left-filter _ s.grants, refl))
+    by LateResponse e = rw e (inr (left-filter _ s.grants, refl))
+    by DataIndication e = rw e (inr (left-filter _ s.grants, refl))
+    by ConnectionAttempt e = rw e (inr (left-filter _ s.grants, refl))
+    by SignedRequest e = rw e (inr (left-filter _ s.grants, refl))
+
+bind_in_phase : (p : Phase) (local : SocketAddr) (message : List ℕ) (now : ℕ) (s : State) → BindsOrLeaves local message (record s { phase = p }) (bind_step local message now (record s { phase = p }))
+bind_in_phase New local message now s = inr (leaves-same s, refl)
+bind_in_phase Requesting local message now s = inr (leaves-same s, refl)
+bind_in_phase Authenticating local message now s = inr (leaves-same s, refl)
+bind_in_phase Closed local message now s = inr (leaves-same s, refl)
+bind_in_phase Allocated local message now s = by (connection_at local s) refl (eqb (method_in message) connection_bind_method) refl
+  where
+    u : State
+    u = record s { phase = Allocated }
+
+    by : (o : Option DataConnection) → connection_at local s ≡ o → (b : Bool) → eqb (method_in message) connection_bind_method ≡ b → BindsOrLeaves local message u (bind_step local message now u)
+    by None e b f = rw e (inr (leaves-same u, refl))
+    by (Some c) e false f = rw (e, f) (inr (leaves-same u, refl))
+    by (Some c) e true f = subst (BindsOrLeaves local message u) (rw (e, f) refl) (answered-leaves local c message now u e (eqb-true (method_in message) connection_bind_method f))
+
+pub bind-leaves : (local : SocketAddr) (message : List ℕ) (now : ℕ) (s : State) → BindsOrLeaves local message s (bind_step local message now s)
+bind-leaves local message now s = bind_in_phase s.phase local message now s
+
+-- ---- the edits of calls
+
+first-left : (which : Grant → Bool) (grants : List Grant) → Left grants (without_first which grants)
+first-left which [] = left-same []
+first-left which (g ∷ others) = by (which g) (first-left which others)
+  where
+    by : (b : Bool) → Left others (without_first which others) → Left (g ∷ others) (cond b others (g ∷ without_first which others))
+    by true later = left-skip g others others (left-same others)
+    by false later = left-cons g g others (without_first which others) (kept-same g) later
+
+-- whether a grant was reported does not count
+aged-stands : (g : Grant) → IsActiveGrant (aged g) → IsActiveGrant g
+aged-stands (Allocation a) = λ h. h
+aged-stands (Permission ip progress) = λ h. h
+aged-stands (Channel number peer progress) = λ h. h
+aged-stands (Connect peer) = λ h. h
+aged-stands (Offer offer) = λ h. h
+aged-stands (Connection c) = λ h. h
+
+stands-aged : (g : Grant) → IsActiveGrant g → IsActiveGrant (aged g)
+stands-aged (Allocation a) = λ h. h
+stands-aged (Permission ip progress) = λ h. h
+stands-aged (Channel number peer progress) = λ h. h
+stands-aged (Connect peer) = λ h. h
+stands-aged (Offer offer) = λ h. h
+stands-aged (Connection c) = λ h. h
+
+kept-aged : (g : Grant) → IsActiveGrant g → IsSameGrant g (aged g)
+kept-aged (Allocation a) = λ h. (refl, refl)
+kept-aged (Permission ip progress) = kept-same (Permission ip progress)
+kept-aged (Channel number peer progress) = kept-same (Channel number peer progress)
+kept-aged (Connect peer) = λ h. absurd h
+kept-aged (Offer offer) = λ h. absurd h
+kept-aged (Connection c) = kept-same (Connection c)
+
+aged-kept : (g : Grant) → IsActiveGrant g → IsSameGrant (aged g) g
+aged-kept (Allocation a) = λ h. (refl, refl)
+aged-kept (Permission ip progress) = kept-same (Permission ip progress)
+aged-kept (Channel number peer progress) = kept-same (Channel number peer progress)
+aged-kept (Connect peer) = λ h. absurd h
+aged-kept (Offer offer) = λ h. absurd h
+aged-kept (Connection c) = kept-same (Connection c)
+
+alike-kept : (g h : Grant) → aged h ≡ aged g → IsActiveGrant h → IsSameGrant g h
+alike-kept g h e stands =
+    let was : IsActiveGrant (aged g) = subst IsActiveGrant e (stands-aged h stands) in
+    let is : IsSameGrant (aged g) h = subst (λ (x : Grant). IsSameGrant x h) e (aged-kept h stands) in
+    kept-trans g (aged g) h (kept-aged g (aged-stands g was)) is
+
+alike-left : (gs hs : List Grant) → map aged hs ≡ map aged gs → Left gs hs
+alike-left [] [] e = left-same []
+alike-left [] (h ∷ hs) e = cc
+alike-left (g ∷ gs) [] e = cc
+alike-left (g ∷ gs) (h ∷ hs) e =
+    let first : aged h ≡ aged g = cc in
+    let later : map aged hs ≡ map aged gs = cc in
+    left-cons g h gs hs (alike-kept g h first) (alike-left gs hs later)
+
+pub Leaves-KeepsEdits : KeepsEdits Leaves
+Leaves-KeepsEdits = record {
+  same = leaves-same;
+  trans = leaves-trans;
+  aside = λ s t. leaves-same s;
+  queues = λ queue s begun. leaves-same s;
+  dequeues = λ queue s fewer. leaves-same s;
+  families = λ families s may. leaves-same s;
+  sends = λ now s waits. leaves-same s;
+  begins = λ now s new. leaves-same s;
+  ends = λ s none. leaves-same s;
+  asks = λ id text purposes now s begun askable spelled. leaves-same s;
+  finishes = λ id s. leaves-same s;
+  resends = λ id now s. leaves-same s;
+  unlists = λ which s. leaves-same s;
+  removes = λ which s spares. left-filter _ s.grants;
+  removes_family = λ family s. left-filter _ s.grants;
+  takes_offer = λ id peer s. first-left (is_offer_of id peer) s.grants;
+  ages = λ grants s e. alike-left s.grants grants e;
+  permission = λ ip s phase room none. left-one s.grants (Permission ip Pending) (λ stands. stands);
+  channel = λ number peer s phase room none within. left-one s.grants (Channel number peer Pending) (λ stands. stands);
+  connect = λ peer s phase room none. left-one s.grants (Connect peer) (λ stands. stands);
+  connection = λ id c origin s phase offer none waits. left-trans s.grants (offer_taken id c.peer s).grants _ (first-left (is_offer_of id c.peer) s.grants) (left-one (offer_taken id c.peer s).grants (Connection c) (unbound c waits));
+  reserves = λ number peer was until s there. left-trans s.grants (without_grants (is_channel_of number) s).grants _ (left-filter _ s.grants) (left-one (without_grants (is_channel_of number) s).grants (Channel number peer (Reserved until)) (λ stands. stands));
+}
+  where
+    unbound : (c : DataConnection) → IsSome c.deadline → IsActiveGrant (Connection c) → ⊥
+    unbound c waits none = by c.deadline waits none
+      where
+        by : (o : Option ℕ) → IsSome o → o ≡ None → ⊥
+        by None waits none = cc
+        by (Some deadline) waits none = none-some deadline (sym none)
+
+pub gone-leaves : (local : SocketAddr) (s : State) → Leaves s (connection_gone local s)
+gone-leaves = gone-walk Leaves Leaves-KeepsEdits

@@ -1,0 +1,376 @@
+-- What is active after a message: only a signed success grants more.
+use Rattle.std.proofs.Common.{◌≡◌, ℕ, Bool, true, false, not, cond, ◌&&◌, ◌||◌, eqb, ltb, leb, List, [], ◌∷◌, map, filter, length, Option, Some, None, ◌⊎◌, inl, inr, refl}
+use Rattle.std.specs.Prelude.{is_some, IfSome}
+use Rattle.std.specs.List.{list_any}
+use Rattle.std.specs.Option.{option_map_or}
+use Rattle.std.specs.Net.Socket.{socket_ip}
+use Rattle.std.specs.declared.net.socket_addr.SocketAddr.{SocketAddr}
+use Rattle.turn_types.specs.declared.family.AddressFamily.{AddressFamily}
+use Rattle.turn_stun.specs.Message.{id_of}
+use Rattle.turn_stun.specs.declared.message.header.MessageClass.{MessageClass}
+use Rattle.turn_stun.specs.declared.message.header.MessageClass.TheVariants.{Request, Indication, Success, Error}
+use Rattle.turn_stun.specs.declared.transport.TransportType.TheVariants.{Tcp}
+use Rattle.turn_auth.specs.LongTerm.{Challenge}
+use Rattle.turn_auth.specs.Validation.{IsValidated, validation_of}
+use Rattle.turn_auth.specs.declared.validation.Validation.{Validation}
+use Rattle.turn_auth.specs.declared.validation.Validation.TheVariants.{Validated, ResendRequest, Refused}
+use Rattle.turn_agent.specs.Agent.{is_outstanding, is_response}
+use Rattle.turn_client_api.specs.State.{State, Phase, New, Requesting, Authenticating, Allocated, Closed, Grant, Offer, Origin, ServerRequest, ServerIndication, Purpose, ForAllocation, ForRefresh, ForPermission, ForChannel, ForConnect, ForBind, auth_of}
+use Rattle.turn_client_api.specs.Grants.{find_allocation_to, is_for_allocation, is_of_family, purposes_of}
+use Rattle.turn_client_api.specs.Requests.{connection_attempt_method, data_method}
+use Rattle.turn_client_api.specs.Judgement.{Judgement, Unrelated, Challenged, Fatal, LateResponse, DataIndication, ConnectionAttempt, SignedRequest, SignedSuccess, SignedError, judgement_of, by_class, challenged_or, challenge_in, answers_one, answers_allocate, authenticating_judgement, allocated_judgement, requesting_judgement, indication_judgement, class_in, connection_id_in, lifetime_in, method_in, peer_in}
+use Rattle.turn_client_api.specs.Effect.{allocate_granted, effect, transaction_ended, family_not_supported, has_code, new_allocation, relayed_in, taken_addresses, with_offer}
+use Rattle.turn_client_api.specs.Retry.{max_challenges, retried}
+use Rattle.turn_client_api.specs.Connections.{attempt_indicated, attempt_requested, is_connected, accepts_attempt}
+use Rattle.turn_client_api.specs.Payloads.{Outcome, Handled, Ignored, answered_purposes, challenge_step, is_answered, message_step, response_step, signed_step, wrong_step}
+use Rattle.turn_client_laws.specs.LawsGranted.{IsGivenFor, IsGrant, IsActiveGrant}
+use Rattle.turn_client_laws.proofs.HasLemmas.{Has, has-filter}
+use Rattle.turn_client_laws.proofs.StandLemmas.{Covers, Leaves, Left, covers-left, has-contains, leaves-cond, leaves-same, left-one, left-same}
+use Rattle.turn_client_laws.proofs.GrantOriginLemmas.{ChannelsWithin, Gives, IsGiven, IsGivenOf, Takes, gives-append, gives-covers, gives-left, has-mapped, purposes-within, takes-fold}
+use Rattle.turn_client_laws.proofs.GrantOriginEffectLemmas.{effect-takes}
+
+-- ---- what is judged to be granted
+
+-- the message is a success that is signed as the client requires, and answers an outstanding request
+pub record IsSignedSuccess (message : List ℕ) (s : State) : Type 0 where
+  pub success : class_in message ≡ Success
+  pub signed : IsValidated (validation_of (auth_of s) message)
+  pub outstanding : is_outstanding (id_of message) s.transactions ≡ true
+
+pub by_class-granted : (class : MessageClass) → by_class class ≡ SignedSuccess → class ≡ Success
+by_class-granted Request e = cc
+by_class-granted Indication e = cc
+by_class-granted Success e = refl
+by_class-granted Error e = cc
+
+pub challenged_or-granted : (j : Judgement) (o : Option Challenge) → challenged_or j o ≡ SignedSuccess → j ≡ SignedSuccess
+challenged_or-granted j None e = e
+challenged_or-granted j (Some challenge) e = cc
+
+pub cond-granted : (b : Bool) (j k : Judgement) → (k ≡ SignedSuccess → ⊥) → cond b j k ≡ SignedSuccess → (b ≡ true) × (j ≡ SignedSuccess)
+cond-granted true j k not_k e = (refl, e)
+cond-granted false j k not_k e = absurd (not_k e)
+
+cond-ungranted : (b : Bool) (j k : Judgement) → (j ≡ SignedSuccess → ⊥) → (k ≡ SignedSuccess → ⊥) → cond b j k ≡ SignedSuccess → ⊥
+cond-ungranted true j k not_j not_k e = not_j e
+cond-ungranted false j k not_j not_k e = not_k e
+
+-- a signed message that is granted is a success, and what it answers is outstanding
+stray-granted : (class : MessageClass) (outstanding : Bool) → cond (is_response class && not outstanding) Unrelated (by_class class) ≡ SignedSuccess → (class ≡ Success) × (outstanding ≡ true)
+stray-granted Request b e = cc
+stray-granted Indication b e = cc
+stray-granted Success true e = (refl, refl)
+stray-granted Success false e = cc
+stray-granted Error true e = cc
+stray-granted Error false e = cc
+
+-- the result of the validation
+pub validated : (v w : Validation) → v ≡ w → IsValidated w → IsValidated v
+validated v w e is = rw e is
+
+authenticating-granted : (s : State) (message : List ℕ) → authenticating_judgement s message ≡ SignedSuccess → (answers_allocate s message ≡ true) × IsSignedSuccess message s
+authenticating-granted s message = by (validation_of (auth_of s) message) refl
+  where
+    Goal : Type 0
+    Goal = (answers_allocate s message ≡ true) × IsSignedSuccess message s
+
+    -- the judgement if it answers an ALLOCATE, unless it is a challenge
+    judged : Judgement → Judgement
+    judged j = cond (answers_allocate s message) (challenged_or j (challenge_in s message)) Unrelated
+
+    once : (j : Judgement) → judged j ≡ SignedSuccess → (answers_allocate s message ≡ true) × (j ≡ SignedSuccess)
+    once j h =
+        let (answers, e) = cond-granted (answers_allocate s message) (challenged_or j (challenge_in s message)) Unrelated (λ e. cc) h in
+        (answers, challenged_or-granted j (challenge_in s message) e)
+
+    by : (v : Validation) → validation_of (auth_of s) message ≡ v → authenticating_judgement s message ≡ SignedSuccess → Goal
+    by (Validated algorithm) e = rw e at
+      where
+        at : judged (cond (is_outstanding (id_of message) s.transactions) (by_class (class_in message)) LateResponse) ≡ SignedSuccess → Goal
+        at h =
+            let (answers, g) = once _ h in
+            let (outstanding, k) = cond-granted (is_outstanding (id_of message) s.transactions) (by_class (class_in message)) LateResponse (λ e. cc) g in
+            (answers, record { success = by_class-granted (class_in message) k; signed = validated _ (Validated algorithm) e tt; outstanding = outstanding })
+    by (Refused integrity) e = rw e (λ h. absurd (cond-ungranted integrity Fatal Unrelated (λ e. cc) (λ e. cc) (once _ h).1))
+    by (ResendRequest algorithm) e = rw e (λ h. let n : Unrelated ≡ SignedSuccess = (once Unrelated h).1 in cc)
+
+indication-ungranted : (message : List ℕ) → indication_judgement message ≡ SignedSuccess → ⊥
+indication-ungranted message =
+    cond-ungranted (eqb (method_in message) data_method) DataIndication _ (λ e. cc)
+    (cond-ungranted (eqb (method_in message) connection_attempt_method) ConnectionAttempt Unrelated (λ e. cc) (λ e. cc))
+
+allocated-granted : (s : State) (message : List ℕ) → allocated_judgement s message ≡ SignedSuccess → IsSignedSuccess message s
+allocated-granted s message = by (class_in message) refl (validation_of (auth_of s) message) refl
+  where
+    Valid : Type 0
+    Valid = cond (is_response (class_in message) && not (is_outstanding (id_of message) s.transactions)) Unrelated (by_class (class_in message)) ≡ SignedSuccess
+
+    valid : (v : Validation) → validation_of (auth_of s) message ≡ v → IsValidated v → Valid → IsSignedSuccess message s
+    valid v f is h =
+        let (success, outstanding) = stray-granted (class_in message) (is_outstanding (id_of message) s.transactions) h in
+        record { success = success; signed = validated _ v f is; outstanding = outstanding }
+
+    by : (k : MessageClass) → class_in message ≡ k → (v : Validation) → validation_of (auth_of s) message ≡ v → allocated_judgement s message ≡ SignedSuccess → IsSignedSuccess message s
+    by Indication e v f = rw e (λ h. absurd (indication-ungranted message h))
+    by Request e (Validated algorithm) f = rw (e, f) (valid (Validated algorithm) f tt)
+    by Request e (Refused integrity) f = rw (e, f) (λ h. cc)
+    by Request e (ResendRequest algorithm) f = rw (e, f) (λ h. cc)
+    by Success e (Validated algorithm) f = rw (e, f) (valid (Validated algorithm) f tt)
+    by Success e (Refused integrity) f = rw (e, f) (λ h. cc)
+    by Success e (ResendRequest algorithm) f = rw (e, f) (λ h. cc)
+    by Error e (Validated algorithm) f = rw (e, f) (λ h. valid (Validated algorithm) f tt (challenged_or-granted _ (challenge_in s message) h))
+    by Error e (Refused integrity) f = rw (e, f) (λ h. let n : Unrelated ≡ SignedSuccess = challenged_or-granted Unrelated (challenge_in s message) h in cc)
+    by Error e (ResendRequest algorithm) f = rw (e, f) (λ h. let n : Unrelated ≡ SignedSuccess = challenged_or-granted Unrelated (challenge_in s message) h in cc)
+
+requesting-ungranted : (s : State) (message : List ℕ) → requesting_judgement s message ≡ SignedSuccess → ⊥
+requesting-ungranted s message h = let n : Fatal ≡ SignedSuccess = challenged_or-granted Fatal (challenge_in s message) (cond-granted (answers_one s message) _ Unrelated (λ e. cc) h).1 in cc
+
+for-allocation : (purposes : List Purpose) → list_any is_for_allocation purposes ≡ true → Has ForAllocation purposes
+for-allocation [] e = cc
+for-allocation (ForAllocation ∷ purposes) e = inl refl
+for-allocation (ForRefresh family lifetime ∷ purposes) e = inr (for-allocation purposes e)
+for-allocation (ForPermission ip ∷ purposes) e = inr (for-allocation purposes e)
+for-allocation (ForChannel number peer ∷ purposes) e = inr (for-allocation purposes e)
+for-allocation (ForConnect peer ∷ purposes) e = inr (for-allocation purposes e)
+for-allocation (ForBind local peer id ∷ purposes) e = inr (for-allocation purposes e)
+
+-- what the request that the message answers was made for
+abbrev pub asked_for : List ℕ → State → List Purpose
+asked_for message s = purposes_of (id_of message) s
+
+pub &&-second : (a b : Bool) → (a && b) ≡ true → b ≡ true
+&&-second true b e = e
+&&-second false b e = cc
+
+-- a signed ALLOCATE that is answered was made for an allocation
+abbrev pub IsForAllocation : Phase → List ℕ → State → Type 0
+IsForAllocation phase message s = phase ≡ Authenticating → Has ForAllocation (asked_for message s)
+
+granted_in_phase : (p : Phase) (s : State) (message : List ℕ) → judgement_of (record s { phase = p }) message ≡ SignedSuccess → IsSignedSuccess message (record s { phase = p }) × IsForAllocation p message s
+granted_in_phase New s message h = cc
+granted_in_phase Requesting s message h = absurd (requesting-ungranted (record s { phase = Requesting }) message h)
+granted_in_phase Authenticating s message h =
+    let (answers, is) = authenticating-granted (record s { phase = Authenticating }) message h in
+    (is, λ e. for-allocation (asked_for message s) (&&-second (is_response (class_in message)) _ answers))
+granted_in_phase Allocated s message h = (allocated-granted (record s { phase = Allocated }) message h, λ e. cc)
+granted_in_phase Closed s message h = cc
+
+-- before anything is allocated, a request for an allocation is answered
+pub SignedSuccess-is : (s : State) (message : List ℕ) → judgement_of s message ≡ SignedSuccess → IsSignedSuccess message s × IsForAllocation s.phase message s
+SignedSuccess-is s message = granted_in_phase s.phase s message
+
+-- ---- signed replies
+
+takes-left : (message : List ℕ) (now : ℕ) (before : State) (grants later : List Grant) → Gives [] message now before grants later → Left grants later
+takes-left message now before grants later gives g there stands = by (gives g there stands)
+  where
+    by : Covers grants g ⊎ IsGiven [] message now before g → Covers grants g
+    by (inl covers) = covers
+    by (inr (was, given, kept)) = absurd given.one
+
+-- if the reply is a success, all that was requested are these purposes
+abbrev AllAsked : List Purpose → Bool → List ℕ → State → Type 0
+AllAsked purposes is_granted message s = is_granted ≡ true → (p : Purpose) → Has p (asked_for message s) → Has p purposes
+
+reply-takes : (purposes : List Purpose) (is_granted : Bool) (message : List ℕ) (now : ℕ) (before s : State) → ChannelsWithin before.grants s.grants → AllAsked purposes is_granted message s → Takes purposes message now before s (response_step is_granted message now s).1
+reply-takes purposes is_granted message now before s known all =
+    takes-fold purposes message now before (effect (id_of message) is_granted message now) s (answered_purposes message s)
+    (λ t p within there.
+    effect-takes purposes message now before (id_of message) is_granted t p (λ number peer h. known number peer (within.1 number peer h))
+    (λ granted. all granted p (has-filter (is_answered (method_in message)) p (asked_for message s) there).0)
+    (λ granted q still. all granted q (purposes-within (id_of message) s t within.0 q still)))
+    (answered_purposes message s) (λ p there. there) (transaction_ended (id_of message) s) (λ l there. there, λ number peer h. h)
+
+-- each address that is chosen is among those of the message
+taken-relayed : (families : List AddressFamily) (addresses : List SocketAddr) (a : SocketAddr) → Has a (taken_addresses families addresses) → Has a addresses
+taken-relayed families [] a there = absurd there
+taken-relayed families (b ∷ later) a there = by (list_any (λ family. is_of_family family b) families) (taken-relayed others later a) (taken-relayed families later a) there
+  where
+    others : List AddressFamily
+    others = filter (λ family. not (is_of_family family b)) families
+
+    Taken : List AddressFamily → Type 0
+    Taken left = Has a (taken_addresses left later) → Has a later
+
+    by : (c : Bool) → Taken others → Taken families → Has a (cond c (b ∷ taken_addresses others later) (taken_addresses families later)) → Has a (b ∷ later)
+    by true less same (inl e) = inl e
+    by true less same (inr there) = inr (less there)
+    by false less same there = inr (same there)
+
+any-filter : {X : Type 0} (p q : X → Bool) (xs : List X) → list_any p (filter q xs) ≡ true → list_any p xs ≡ true
+any-filter p q [] h = h
+any-filter p q (x ∷ xs) h = by (q x) (any-filter p q xs) h
+  where
+    by : (b : Bool) → (list_any p (filter q xs) ≡ true → list_any p xs ≡ true) → list_any p (cond b (x ∷ filter q xs) (filter q xs)) ≡ true → list_any p (x ∷ xs) ≡ true
+    by true later e = at (p x) later e
+      where
+        at : (c : Bool) → (list_any p (filter q xs) ≡ true → list_any p xs ≡ true) → (c || list_any p (filter q xs)) ≡ true → (c || list_any p xs) ≡ true
+        at true later e = refl
+        at false later e = later e
+    by false later e = at (p x)
+      where
+        at : (c : Bool) → (c || list_any p xs) ≡ true
+        at true = refl
+        at false = later e
+
+-- it is of a requested family
+taken-family : (families : List AddressFamily) (addresses : List SocketAddr) (a : SocketAddr) → Has a (taken_addresses families addresses) → list_any (λ family. is_of_family family a) families ≡ true
+taken-family families [] a there = absurd there
+taken-family families (b ∷ later) a there = by (list_any (λ family. is_of_family family b) families) refl (taken-family others later a) (taken-family families later a) there
+  where
+    others : List AddressFamily
+    others = filter (λ family. not (is_of_family family b)) families
+
+    Asked : List AddressFamily → Type 0
+    Asked left = Has a (taken_addresses left later) → list_any (λ family. is_of_family family a) left ≡ true
+
+    by : (c : Bool) → list_any (λ family. is_of_family family b) families ≡ c → Asked others → Asked families → Has a (cond c (b ∷ taken_addresses others later) (taken_addresses families later)) → list_any (λ family. is_of_family family a) families ≡ true
+    by true e less same (inl is) = rw is e
+    by true e less same (inr there) = any-filter (λ family. is_of_family family a) (λ family. not (is_of_family family b)) families (less there)
+    by false e less same there = same there
+
+allocate-gives : (message : List ℕ) (now : ℕ) (before s : State) (purposes : List Purpose) → before.families ≡ s.families → Has ForAllocation purposes → Gives purposes message now before s.grants (allocate_granted message now s).grants
+allocate-gives message now before s purposes same one = by (lifetime_in message) refl
+  where
+    taken : List SocketAddr
+    taken = taken_addresses s.families (relayed_in message)
+
+    by : (o : Option ℕ) → lifetime_in message ≡ o → Gives purposes message now before s.grants (allocate_granted message now s).grants
+    by None e = rw e (gives-left purposes message now before s.grants s.grants (left-same s.grants))
+    by (Some n) e = rw e (gives-append purposes message now before s.grants (map (new_allocation n now) taken) new)
+      where
+        new : (g : Grant) → Has g (map (new_allocation n now) taken) → IsActiveGrant g → IsGivenOf purposes message now before g
+        new g there stands = at (has-mapped (new_allocation n now) g taken there)
+          where
+            given : (a : SocketAddr) → Has a taken → IsGivenFor ForAllocation message now before (new_allocation n now a)
+            given a among = (n, e, refl, has-contains a (relayed_in message) (taken-relayed s.families (relayed_in message) a among), rw same (taken-family s.families (relayed_in message) a among))
+
+            at : (a : SocketAddr) × Has a taken × (g ≡ new_allocation n now a) → IsGivenOf purposes message now before g
+            at (a, among, is) = rw is (record { purpose = ForAllocation; one = one; given = given a among })
+
+granted-gives : (p : Phase) (message : List ℕ) (now : ℕ) (s : State) → IsForAllocation p message s → Gives (asked_for message s) message now (record s { phase = p }) s.grants (signed_step true message now (record s { phase = p })).1.grants
+granted-gives Authenticating message now s one = allocate-gives message now (record s { phase = Authenticating }) (transaction_ended (id_of message) (record s { phase = Authenticating })) (asked_for message s) refl (one refl)
+granted-gives New message now s one = (reply-takes (asked_for message s) true message now (record s { phase = New }) (record s { phase = New }) (λ number peer h. h) (λ e p there. there)).1
+granted-gives Requesting message now s one = (reply-takes (asked_for message s) true message now (record s { phase = Requesting }) (record s { phase = Requesting }) (λ number peer h. h) (λ e p there. there)).1
+granted-gives Allocated message now s one = (reply-takes (asked_for message s) true message now (record s { phase = Allocated }) (record s { phase = Allocated }) (λ number peer h. h) (λ e p there. there)).1
+granted-gives Closed message now s one = (reply-takes (asked_for message s) true message now (record s { phase = Closed }) (record s { phase = Closed }) (λ number peer h. h) (λ e p there. there)).1
+
+refused-leaves : (message : List ℕ) (now : ℕ) (s : State) → Leaves s (response_step false message now s).1
+refused-leaves message now s = takes-left message now s s.grants _ (reply-takes [] false message now s s (λ number peer h. h) (λ e. cc)).1
+
+denied-leaves : (p : Phase) (message : List ℕ) (now : ℕ) (s : State) → Leaves s (signed_step false message now (record s { phase = p })).1
+denied-leaves Authenticating message now s = leaves-cond (has_code family_not_supported message && leb 2 (length s.families)) s _ _ (leaves-same s) (leaves-same s)
+denied-leaves New message now s = refused-leaves message now (record s { phase = New })
+denied-leaves Requesting message now s = refused-leaves message now (record s { phase = Requesting })
+denied-leaves Allocated message now s = refused-leaves message now (record s { phase = Allocated })
+denied-leaves Closed message now s = refused-leaves message now (record s { phase = Closed })
+
+-- ---- other messages
+
+challenge-leaves : (message : List ℕ) (d : Challenge) (now : ℕ) (s : State) → Leaves s (challenge_step message d now s).1
+challenge-leaves message d now s = by (ltb s.challenges max_challenges) refl (retried (asked_for message s)) refl
+  where
+    by : (b : Bool) → ltb s.challenges max_challenges ≡ b → (o : Option Purpose) → retried (asked_for message s) ≡ o → Leaves s (challenge_step message d now s).1
+    by false f o g = rw f (leaves-same s)
+    by true f None g = rw (f, g) (leaves-same s)
+    by true f (Some purpose) g = rw (f, g) (leaves-same s)
+
+wrong-leaves : (p : Phase) (message : List ℕ) (s : State) → Leaves s (wrong_step message (record s { phase = p })).1
+wrong-leaves New message s = leaves-same s
+wrong-leaves Requesting message s = leaves-same s
+wrong-leaves Authenticating message s = leaves-same s
+wrong-leaves Allocated message s = leaves-same s
+wrong-leaves Closed message s = leaves-same s
+
+-- an offer is not active
+offer-leaves : (id : ℕ) (peer : SocketAddr) (origin : Origin) (s : State) → Leaves s (with_offer id peer origin s)
+offer-leaves id peer origin s = left-one s.grants (Offer (record { connection_id = id; peer = peer; is_reported = false; origin = origin })) (λ stands. stands)
+
+requested-leaves : (message : List ℕ) (s : State) → Leaves s (attempt_requested message s)
+requested-leaves message s = by (connection_id_in message) refl (peer_in message) refl
+  where
+    by : (i : Option ℕ) → connection_id_in message ≡ i → (p : Option SocketAddr) → peer_in message ≡ p → Leaves s (attempt_requested message s)
+    by (Some id) e (Some peer) f =
+        rw (e, f) (leaves-cond (not (is_some (find_allocation_to Tcp (socket_ip peer) s))) s _ _ (leaves-same s)
+        (leaves-cond (is_connected peer s) s _ _ (leaves-same s) (offer-leaves id peer (ServerRequest (id_of message)) s)))
+    by (Some id) e None f = rw (e, f) (leaves-same s)
+    by None e p f = rw e (leaves-same s)
+
+indicated-leaves : (message : List ℕ) (s : State) → IfSome (attempt_indicated message s) (Leaves s)
+indicated-leaves message s = by (connection_id_in message) refl (peer_in message) refl
+  where
+    heeded_if : (b : Bool) (t : State) → Leaves s t → IfSome (cond b (Some t) None) (Leaves s)
+    heeded_if true t k = k
+    heeded_if false t k = tt
+
+    by : (i : Option ℕ) → connection_id_in message ≡ i → (p : Option SocketAddr) → peer_in message ≡ p → IfSome (attempt_indicated message s) (Leaves s)
+    by (Some id) e (Some peer) f = rw (e, f) (heeded_if (accepts_attempt peer s) _ (offer-leaves id peer ServerIndication s))
+    by (Some id) e None f = rw (e, f) tt
+    by None e p f = rw e tt
+
+-- ---- a whole message
+
+-- a success that is judged so grants it
+pub message-grants : (g : Grant) (message : List ℕ) (now : ℕ) (s : State) → Covers (message_step message now s).1.grants g → Covers s.grants g ⊎ ((judgement_of s message ≡ SignedSuccess) × IsGrant g message now s)
+message-grants g message now s = by (judgement_of s message) refl
+  where
+    Brings : Judgement → Type 0
+    Brings j = Covers (message_step message now s).1.grants g → Covers s.grants g ⊎ ((j ≡ SignedSuccess) × IsGrant g message now s)
+
+    left : {X : Type 0} (t : State) → Leaves s t → Covers t.grants g → Covers s.grants g ⊎ X
+    left t leaves covers = inl (covers-left s.grants t.grants g leaves covers)
+
+    indicated : (o : Option State) → IfSome o (Leaves s) → Leaves s (option_map_or {T = State} {U = Outcome × State} (λ t. (Handled, t)) o (Ignored, s)).1
+    indicated None k = leaves-same s
+    indicated (Some t) k = k
+
+    asked : (b : Bool) → Leaves s (cond {A = Outcome × State} b (Handled, attempt_requested message s) (Ignored, s)).1
+    asked true = requested-leaves message s
+    asked false = leaves-same s
+
+    granted : judgement_of s message ≡ SignedSuccess → Covers s.grants g ⊎ IsGiven (asked_for message s) message now s g → Covers s.grants g ⊎ ((SignedSuccess ≡ SignedSuccess) × IsGrant g message now s)
+    granted e (inl covers) = inl covers
+    granted e (inr (was, given, kept)) =
+        let is = (SignedSuccess-is s message e).0 in
+        inr (
+          refl,
+          (
+            was,
+            record {
+              success = is.success;
+              signed = is.signed;
+              outstanding = is.outstanding;
+              purpose = given.purpose;
+              listed = has-contains given.purpose (asked_for message s) given.one;
+              given = given.given;
+            },
+            kept,
+          ),
+        )
+
+    attempt : Outcome × State
+    attempt = option_map_or {T = State} {U = Outcome × State} (λ t. (Handled, t)) (attempt_indicated message s) (Ignored, s)
+
+    request : Outcome × State
+    request = cond {A = Outcome × State} (eqb (method_in message) connection_attempt_method) (Handled, attempt_requested message s) (Ignored, s)
+
+    gives : judgement_of s message ≡ SignedSuccess → Gives (asked_for message s) message now s s.grants (signed_step true message now s).1.grants
+    gives e = granted-gives s.phase message now s (SignedSuccess-is s message e).1
+
+    by : (j : Judgement) → judgement_of s message ≡ j → Brings j
+    by Unrelated e = rw e (left s (leaves-same s))
+    by (Challenged d) e = rw e (left (challenge_step message d now s).1 (challenge-leaves message d now s))
+    by Fatal e = rw e (left (wrong_step message s).1 (wrong-leaves s.phase message s))
+    by LateResponse e = rw e (left s (leaves-same s))
+    by DataIndication e = rw e (left s (leaves-same s))
+    by ConnectionAttempt e = rw e (left attempt.1 (indicated (attempt_indicated message s) (indicated-leaves message s)))
+    by SignedRequest e = rw e (left request.1 (asked (eqb (method_in message) connection_attempt_method)))
+    by SignedSuccess e = rw e (λ covers. granted e (gives-covers (asked_for message s) message now s s.grants (signed_step true message now s).1.grants g (gives e) covers))
+    by SignedError e = rw e (left (signed_step false message now s).1 (denied-leaves s.phase message now s))
+
+pub message-brings : (g : Grant) (message : List ℕ) (now : ℕ) (s : State) → Covers (message_step message now s).1.grants g → Covers s.grants g ⊎ IsGrant g message now s
+message-brings g message now s covers = by (message-grants g message now s covers)
+  where
+    by : Covers s.grants g ⊎ ((judgement_of s message ≡ SignedSuccess) × IsGrant g message now s) → Covers s.grants g ⊎ IsGrant g message now s
+    by (inl covers) = inl covers
+    by (inr (e, is)) = inr is

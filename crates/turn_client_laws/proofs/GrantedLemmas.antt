@@ -1,0 +1,192 @@
+-- What is active after all calls: only a signed success grants more.
+use Rattle.std.proofs.Common.{◌≡◌, ℕ, Bool, true, false, not, cond, List, filter, Some, None, Result, Ok, Err, refl, subst, sym, ap, ◌∙◌, inl, inr, ◌⊎◌}
+use Rattle.std.specs.List.{Contains}
+use Rattle.turn_client_api.specs.State.{State}
+use Rattle.std.specs.declared.net.socket_addr.SocketAddr.{SocketAddr}
+use Rattle.turn_client_api.specs.State.{Grant, Allocation, Permission, Channel, Connect, Offer, Connection, DataConnection, Purpose, ForAllocation, ForRefresh, ForPermission, ForChannel, ForConnect, ForBind, Waiting, Pending, Active, Reserved, Stream}
+use Rattle.turn_client_api.specs.Grants.{changed_allocation}
+use Rattle.turn_client_api.specs.declared.error.DeleteError.{DeleteError}
+use Rattle.turn_client_api.specs.declared.error.DeleteError.TheVariants as No
+use Rattle.turn_client_api.specs.Connections.{bind_step, deadline_set}
+use Rattle.turn_agent.specs.Agent.{same_address}
+use Rattle.turn_client_api.specs.Receive.{connection_gone}
+use Rattle.turn_client_api.specs.Calls.{deleted, is_allocated, is_granted_in}
+use Rattle.turn_client_laws.specs.Handled.{Input}
+use Rattle.turn_client_api.specs.Payloads.{is_message, message_step}
+use Rattle.turn_client_laws.specs.LawsHandled.{IsDoneBy, IsOverControl, TakesInput}
+use Rattle.turn_client_laws.specs.LawsBound.{IsBindInput}
+use Rattle.turn_client_laws.specs.LawsGranted.{HasCause, IsEndedNow, IsGivenFor, IsGrant, IsGrantInput, IsGrantedBy, IsGrantedIn, IsSameGrant, IsActiveGrant, WasActive}
+use Rattle.turn_client_api.specs.Steps.{Call, state_after, Delete, CreatePermission, BindChannel, TcpConnect, AllocatedTcpSocket, TcpClosed, SendTo, Recv, PollRecv, Poll, PollTransmit, PollEvent, RelayedAddresses, Permissions, HavePermission, ProtocolError}
+use Rattle.turn_client_api.specs.Steps as S
+use Rattle.turn_client_laws.proofs.HasLemmas.{Has, has-filter}
+use Rattle.turn_client_laws.proofs.StandLemmas.{Covers, Leaves, contains-has, covers-has, covers-left, covers-stood, has-contains, kept-stood, kept-trans, leaves-same}
+use Rattle.turn_client_laws.proofs.GrantOriginLemmas.{has-mapped}
+use Rattle.turn_client_laws.proofs.GrantOriginMessageLemmas.{message-brings}
+use Rattle.turn_client_laws.proofs.GrantOriginCallLemmas.{Binds, BindsOrLeaves, Leaves-KeepsEdits, bind-leaves, gone-leaves}
+use Rattle.turn_client_laws.proofs.EditsOfCalls.{quiet-walk, tcp_socket-walk}
+use Rattle.turn_client_laws.proofs.AddressLemmas.{same_address-true}
+use Rattle.turn_client_laws.proofs.BoundLemmas.{binds-turn, found-local}
+use Rattle.turn_client_laws.proofs.TurnBringLemmas.{IsBrought, leaves-bring}
+
+-- ---- all of them
+
+-- what the caller deletes expires now
+delete-ends : (now : ℕ) (s : State) (g : Grant) → Has g (state_after (Delete now) s).grants → IsActiveGrant g → WasActive s g ⊎ IsEndedNow (Delete now) s g
+delete-ends now s g = by (is_allocated s.phase)
+  where
+    all : Grant → Grant
+    all = changed_allocation (λ a. true) (λ a. record a { expiry = now; is_expired = true })
+
+    at : (x : Grant) → Has x s.grants → IsActiveGrant (all x) → WasActive s (all x) ⊎ IsEndedNow (Delete now) s (all x)
+    at (Allocation a) there stands = inr (refl, (a, has-contains (Allocation a) s.grants there, refl))
+    at (Permission ip progress) there stands = inl (covers-stood s (Permission ip progress) (covers-has s.grants (Permission ip progress) there stands))
+    at (Channel number peer progress) there stands = inl (covers-stood s (Channel number peer progress) (covers-has s.grants (Channel number peer progress) there stands))
+    at (Connect peer) there stands = absurd stands
+    at (Offer offer) there stands = absurd stands
+    at (Connection c) there stands = inl (covers-stood s (Connection c) (covers-has s.grants (Connection c) there stands))
+
+    by : (b : Bool) → Has g (cond {A = Result Unit DeleteError × State} b (Ok tt, deleted now s) (Err No.NoAllocation, s)).1.grants → IsActiveGrant g → WasActive s g ⊎ IsEndedNow (Delete now) s g
+    by false there stands = inl (covers-stood s g (covers-has s.grants g there stands))
+    by true there stands = from (has-mapped all g (filter (λ g. not (is_granted_in g)) s.grants) there)
+      where
+        from : (x : Grant) × Has x (filter (λ g. not (is_granted_in g)) s.grants) × (g ≡ all x) → WasActive s g ⊎ IsEndedNow (Delete now) s g
+        from (x, before, e) = rw e (at x (has-filter (λ g. not (is_granted_in g)) x s.grants before).0 (rw (sym e) stands))
+
+-- ---- what the inputs of a call grant
+
+-- an allocation, a permission or a channel is granted over the control connection
+control-grants : (g : Grant) (one : Input) → IsOverControl one → is_message one.bytes ≡ true → Covers (message_step one.bytes one.moment one.before).1.grants g → Covers one.before.grants g ⊎ IsGrantedIn g one
+control-grants g one over whole covers = by g (message-brings g one.bytes one.moment one.before covers)
+  where
+    Grants : Grant → Type 0
+    Grants g = IsGrant g one.bytes one.moment one.before
+
+    turn : (g : Grant) → Grants g → IsGrantInput g one
+    turn g grant = record { over = over; whole = whole; grant = grant }
+
+    -- a connection is not
+    connection : (c : DataConnection) (was : Grant) → IsGrantedBy one.bytes one.moment one.before was → IsSameGrant was (Connection c) → ⊥
+    connection c (Connection d) is kept = unlike is.purpose is.given
+      where
+        unlike : (p : Purpose) → IsGivenFor p one.bytes one.moment one.before (Connection d) → ⊥
+        unlike ForAllocation given = given
+        unlike (ForRefresh family lifetime) given = given
+        unlike (ForPermission ip) given = given
+        unlike (ForChannel number peer) given = given
+        unlike (ForConnect peer) given = given
+        unlike (ForBind local peer number) given = given
+    connection c (Allocation a) is kept = kept
+    connection c (Permission ip Pending) is kept = kept
+    connection c (Permission ip (Active expiry)) is kept = kept
+    connection c (Permission ip (Reserved until)) is kept = kept
+    connection c (Channel number peer Pending) is kept = kept
+    connection c (Channel number peer (Active expiry)) is kept = kept
+    connection c (Channel number peer (Reserved until)) is kept = kept
+    connection c (Connect peer) is kept = kept
+    connection c (Offer offer) is kept = kept
+
+    by : (g : Grant) → Covers one.before.grants g ⊎ Grants g → Covers one.before.grants g ⊎ IsGrantedIn g one
+    by g (inl there) = inl there
+    by (Allocation a) (inr grant) = inr (turn (Allocation a) grant)
+    by (Permission ip progress) (inr grant) = inr (turn (Permission ip progress) grant)
+    by (Channel number peer progress) (inr grant) = inr (turn (Channel number peer progress) grant)
+    by (Connect peer) (inr grant) = inr (turn (Connect peer) grant)
+    by (Offer offer) (inr grant) = inr (turn (Offer offer) grant)
+    by (Connection c) (inr (was, is, kept)) = absurd (connection c was is kept)
+
+-- a grant that a map leaves existed before, or is a connection at this local address
+deadline-has : (local : SocketAddr) (g x : Grant) → g ≡ deadline_set local None x → (g ≡ x) ⊎ ((c : DataConnection) × (g ≡ Connection c) × (c.local ≡ local))
+deadline-has local g (Connection c) e = by (same_address c.local local) refl
+  where
+    by : (b : Bool) → same_address c.local local ≡ b → (g ≡ Connection c) ⊎ ((d : DataConnection) × (g ≡ Connection d) × (d.local ≡ local))
+    by true f = inr (record c { deadline = None }, e ∙ rw f refl, same_address-true c.local local f)
+    by false f = inl (e ∙ rw f refl)
+deadline-has local g (Allocation a) e = inl e
+deadline-has local g (Permission ip progress) e = inl e
+deadline-has local g (Channel number peer progress) e = inl e
+deadline-has local g (Connect peer) e = inl e
+deadline-has local g (Offer offer) e = inl e
+
+bind-covers : (one : Input) (stream : Stream) (g : Grant) (t : State) → one.stream ≡ Some stream → stream.mode ≡ Waiting → is_message one.bytes ≡ true → Binds stream.local one.bytes one.before t → Covers t.grants g → Covers one.before.grants g ⊎ IsGrantedIn g one
+bind-covers one stream g t of waits whole b (is, there, kept) = by (has-mapped (deadline_set b.c.local None) is one.before.grants (subst (Has is) b.grants there))
+  where
+    bound : (c : DataConnection) (h : Grant) → c.local ≡ b.c.local → IsSameGrant (Connection c) h → IsGrantedIn h one
+    bound c (Connection d) at (same, none) =
+        let ends : stream.local ≡ d.local = sym (found-local stream.local b.c _ b.found) ∙ (sym at ∙ ap (λ (x : DataConnection). x.local) same) in
+        (b.c.peer, subst (λ (local : SocketAddr). IsBindInput local b.c.peer one) ends (binds-turn one stream t of waits whole b))
+    bound c (Allocation a) at k = absurd k
+    bound c (Permission ip progress) at k = absurd k
+    bound c (Channel number peer progress) at k = absurd k
+    bound c (Connect peer) at k = absurd k
+    bound c (Offer offer) at k = absurd k
+
+    by : (x : Grant) × Has x one.before.grants × (is ≡ deadline_set b.c.local None x) → Covers one.before.grants g ⊎ IsGrantedIn g one
+    by (x, before, e) = at (deadline-has b.c.local is x e)
+      where
+        at : (is ≡ x) ⊎ ((c : DataConnection) × (is ≡ Connection c) × (c.local ≡ b.c.local)) → Covers one.before.grants g ⊎ IsGrantedIn g one
+        at (inl same) = inl (is, rw same before, kept)
+        at (inr (c, connection, ends)) = inr (bound c g ends (rw connection at kept))
+
+-- for each grant: it was active, or an input granted it
+pub bringing : (g : Grant) → IsBrought (λ s. Covers s.grants g) (IsGrantedIn g)
+bringing g = record {
+  differs = λ s t differs covers. subst (λ (x : List Grant). Covers x g) (ap (λ (x : State). x.grants) differs.others) covers;
+  message = control-grants g;
+  binds = λ one stream of waits whole. binds one stream of waits whole (bind-leaves stream.local one.bytes one.moment one.before);
+  gone = λ local s. covers-left s.grants (connection_gone local s).grants g (gone-leaves local s);
+  ended = λ s covers. covers;
+}
+  where
+    binds : (one : Input) (stream : Stream) → one.stream ≡ Some stream → stream.mode ≡ Waiting → is_message one.bytes ≡ true
+        → BindsOrLeaves stream.local one.bytes one.before (bind_step stream.local one.bytes one.moment one.before)
+        → Covers (bind_step stream.local one.bytes one.moment one.before).grants g → Covers one.before.grants g ⊎ IsGrantedIn g one
+    binds one stream of waits whole (inl b) covers = bind-covers one stream g _ of waits whole b covers
+    binds one stream of waits whole (inr (leaves, same)) covers = inl (covers-left one.before.grants _ g leaves covers)
+
+module _ (s : State) (g : Grant) where
+  abbrev Before : Call → Type 0
+  Before call = Covers s.grants g ⊎ IsEndedNow call s g
+
+  -- what grants nothing
+  left : (call : Call) → Leaves s (state_after call s) → Covers (state_after call s).grants g → Before call
+  left call leaves covers = inl (covers-left s.grants (state_after call s).grants g leaves covers)
+
+  -- what is deleted now existed before
+  deleted-covers : (now : ℕ) → Covers (state_after (Delete now) s).grants g → Before (Delete now)
+  deleted-covers now (is, there, kept) = by (delete-ends now s is there (kept-stood is g kept))
+    where
+      ended : (h i : Grant) → IsEndedNow (Delete now) s h → IsSameGrant h i → IsEndedNow (Delete now) s i
+      ended (Allocation a) (Allocation b) (e, (was, before, same)) (f, d) = (sym d ∙ e, (was, before, same ∙ f))
+      ended (Allocation a) (Permission ip progress) e k = absurd k
+      ended (Allocation a) (Channel number peer progress) e k = absurd k
+      ended (Allocation a) (Connect peer) e k = absurd k
+      ended (Allocation a) (Offer offer) e k = absurd k
+      ended (Allocation a) (Connection c) e k = absurd k
+      ended (Permission ip progress) i e k = absurd e
+      ended (Channel number peer progress) i e k = absurd e
+      ended (Connect peer) i e k = absurd e
+      ended (Offer offer) i e k = absurd e
+      ended (Connection c) i e k = absurd e
+
+      stood : WasActive s is → Before (Delete now)
+      stood (was, before, k) = inl (was, contains-has was s.grants before, kept-trans was is g k kept)
+
+      by : WasActive s is ⊎ IsEndedNow (Delete now) s is → Before (Delete now)
+      by (inl was) = stood was
+      by (inr e) = inr (ended is g e kept)
+
+  call-grants : (call : Call) → (TakesInput call → ⊥) → Covers (state_after call s).grants g → Before call
+  call-grants (Recv packet now) other covers = absurd (other tt)
+  call-grants (PollRecv now) other covers = absurd (other tt)
+  call-grants (Delete now) other covers = deleted-covers now covers
+  call-grants (AllocatedTcpSocket id tuple peer local now) other covers =
+      left (AllocatedTcpSocket id tuple peer local now) (tcp_socket-walk Leaves Leaves-KeepsEdits (λ s streams. leaves-same s) id tuple peer local now s) covers
+  call-grants call other covers = left call (quiet-walk Leaves Leaves-KeepsEdits call s tt) covers
+
+pub leaves-grants : (call : Call) (s t : State) (g : Grant) → S.Leaves call s t → Contains t.grants g → IsActiveGrant g → HasCause call s g
+leaves-grants call s t g leaves there stands =
+    by (leaves-bring (λ u. Covers u.grants g) (IsGrantedIn g) (bringing g) (λ call s. IsEndedNow call s g) (λ call s. call-grants s g call) call s t leaves (covers-has t.grants g (contains-has g t.grants there) stands))
+  where
+    by : Covers s.grants g ⊎ IsEndedNow call s g ⊎ IsDoneBy (IsGrantedIn g) call s → WasActive s g ⊎ IsEndedNow call s g ⊎ IsDoneBy (IsGrantedIn g) call s
+    by (inl covers) = inl (covers-stood s g covers)
+    by (inr other) = inr other

@@ -1,0 +1,297 @@
+-- The payloads that a call returns are those of its inputs.
+use Rattle.std.proofs.Common.{◌≡◌, ℕ, zero, suc, Bool, true, false, cond, List, [], ◌∷◌, ◌++◌, take, Option, Some, None, refl, sym, subst, ap, ◌∙◌, inl}
+use Rattle.std.specs.Prelude.{find, option_to_list, IfSome, ⊤}
+use Rattle.std.specs.List.{cons_option}
+use Rattle.std.specs.Option.{option_map_or}
+use Rattle.std.proofs.lemmas.List.Elements.{filter_map-append}
+use Rattle.std.specs.declared.net.socket_addr.SocketAddr.{SocketAddr}
+use Rattle.turn_stun.specs.declared.transport.Transmit.{Transmit}
+use Rattle.turn_stun.specs.declared.transport.TransportType.{TransportType}
+use Rattle.turn_stun.specs.declared.transport.TransportType.TheVariants.{Udp, Tcp}
+use Rattle.turn_types.specs.Frames.{begins_no_frame, frame_len}
+use Rattle.turn_agent.specs.Agent.{same_address}
+use Rattle.turn_client_api.specs.State.{State, Mode, Control, Waiting, Bound, Broken, Stream}
+use Rattle.turn_client_api.specs.Payloads.{Payload, Outcome, Handled, Ignored, PeerData, PeerIcmp, datagram_step}
+use Rattle.turn_client_api.specs.Streams.{broken_at, framed_by, framed_stream_step, go_on, is_ready, max_steps, owned, payload_in, poll_recv_step, stream_at, next_frame_step, first_ready_step, detached_frame_step, steps_until_payload, with_bytes}
+use Rattle.turn_client_api.specs.Receive.{first_frame_step, is_from_server, piece_step, place_kept, recv_step, stream_step, then_all}
+use Rattle.turn_client_api.specs.Steps.{Call, PollRecv, Recv, packet_step}
+use Rattle.turn_client_laws.specs.Handled.{Input, stream_with_piece, fed_taken, frame_taken, handled, is_front, processed, payloads, piece_inputs, poll_recv_inputs, recv_inputs, stream_inputs, stream_inputs_taken, taken_first, taken_in, taken_of_len, then_taken, stream_input, input_payload, inputs_taken, unless_given}
+use Rattle.turn_client_laws.specs.LawsPeers.{IsDeliveredByInput, IsPermittedInput, IsToldBy}
+use Rattle.turn_client_laws.proofs.HasLemmas.{Has, has-filter_map, has-left}
+use Rattle.turn_client_laws.proofs.StandLemmas.{has-contains}
+use Rattle.turn_client_laws.proofs.PeerLemmas.{datagram-IsMessageFromPermitted, frame-IsFromPermitted}
+
+-- these inputs return what the outcome has, and no more
+abbrev AreOf : List Input → Outcome → Type 0
+AreOf turns o = payloads turns ≡ option_to_list (payload_in o)
+
+one-AreOf : (t : Input) → payloads (t ∷ []) ≡ option_to_list (input_payload t)
+one-AreOf t = by (input_payload t)
+  where
+    by : (o : Option Payload) → cons_option o [] ≡ option_to_list o
+    by None = refl
+    by (Some payload) = refl
+
+payloads-append : (front later : List Input) → payloads (front ++ later) ≡ payloads front ++ payloads later
+payloads-append front later = filter_map-append input_payload front later
+
+-- ---- the step of a stream
+
+abbrev given : Bool → Outcome → Outcome
+given is_lent o = cond is_lent o (owned o)
+
+handled-AreOf : (is_lent : Bool) → AreOf [] (given is_lent Handled)
+handled-AreOf true = refl
+handled-AreOf false = refl
+
+frame-AreOf : (is_lent : Bool) (stream : Stream) (now : ℕ) (t : State) (o : Option ℕ) → AreOf (taken_of_len is_lent stream now t o) (given is_lent (framed_by stream now t o).0)
+frame-AreOf is_lent stream now t None = handled-AreOf is_lent
+frame-AreOf is_lent stream now t (Some len) = one-AreOf (stream_input is_lent stream (take len stream.bytes) now t)
+
+framed-AreOf : (is_lent : Bool) (stream : Stream) (now : ℕ) (t : State) → AreOf (frame_taken is_lent stream now t) (given is_lent (framed_stream_step stream now t).0)
+framed-AreOf is_lent stream now t = by (begins_no_frame stream.bytes) (frame_len stream.bytes)
+  where
+    by : (b : Bool) (o : Option ℕ) → AreOf (cond b [] (taken_of_len is_lent stream now t o)) (given is_lent (cond {A = Outcome × State} b (Handled, broken_at stream.local t) (framed_by stream now t o)).0)
+    by true o = handled-AreOf is_lent
+    by false o = frame-AreOf is_lent stream now t o
+
+turned_in_mode : (m : Mode) (stream : Stream) (now : ℕ) (t : State) → AreOf (taken_in false (record stream { mode = m }) now t) (owned (detached_frame_step (record stream { mode = m }) now t).0)
+turned_in_mode Control stream now t = framed-AreOf false (record stream { mode = Control }) now t
+turned_in_mode Waiting stream now t = framed-AreOf false (record stream { mode = Waiting }) now t
+turned_in_mode (Bound peer) stream now t = refl
+turned_in_mode Broken stream now t = refl
+
+turn-AreOf : (stream : Stream) (now : ℕ) (s : State) → AreOf (stream_inputs_taken false stream now s) (owned (next_frame_step stream now s).0)
+turn-AreOf stream now s = turned_in_mode stream.mode stream now (with_bytes stream.local [] s)
+
+-- ---- all streams
+
+-- what inputs return, until a payload
+abbrev Gives : List Input → Option Payload × State → Type 0
+Gives turns p = payloads turns ≡ option_to_list p.0
+
+go_on-Gives : (next : State → Option Payload × State) (later : State → List Input) (front : List Input) (p : Outcome × State) → AreOf front (owned p.0) → ((t : State) → Gives (later t) (next t)) → Gives (front ++ unless_given (payload_in p.0) (later p.1)) (go_on next p)
+go_on-Gives next later front (PeerData payload, t) first more = payloads-append front [] ∙ ap (λ ps. ps ++ []) first
+go_on-Gives next later front (Handled, t) first more = payloads-append front (later t) ∙ (ap (λ ps. ps ++ payloads (later t)) first ∙ more t)
+go_on-Gives next later front (Ignored, t) first more = payloads-append front (later t) ∙ (ap (λ ps. ps ++ payloads (later t)) first ∙ more t)
+go_on-Gives next later front (PeerIcmp transport peer icmp, t) first more = payloads-append front (later t) ∙ (ap (λ ps. ps ++ payloads (later t)) first ∙ more t)
+
+turns-Gives : (n now : ℕ) (s : State) → Gives (inputs_taken n now s) (steps_until_payload n now s)
+unfolding steps_until_payload inputs_taken
+turns-Gives zero now s = refl
+turns-Gives (suc n) now s = by (find is_ready s.streams) (λ t. turns-Gives n now t)
+  where
+    by : (o : Option Stream) → ((t : State) → Gives (inputs_taken n now t) (steps_until_payload n now t)) → Gives (taken_first (inputs_taken n now) now s o) (first_ready_step (steps_until_payload n now) now s o)
+    by None more = refl
+    by (Some stream) more = go_on-Gives (steps_until_payload n now) (inputs_taken n now) (stream_inputs_taken false stream now s) (next_frame_step stream now s) (turn-AreOf stream now s) more
+
+pub poll_recv-Gives : (now : ℕ) (s : State) → payloads (poll_recv_inputs now s) ≡ option_to_list (poll_recv_step now s).0
+poll_recv-Gives now s = turns-Gives (max_steps s) now s
+
+-- ---- a piece of a stream
+
+-- a payload replaces the result
+others-AreOf : (now : ℕ) (t : State) (o : Outcome) → payload_in o ≡ None → AreOf (poll_recv_inputs now t) (option_map_or PeerData (poll_recv_step now t).0 o)
+others-AreOf now t o none = poll_recv-Gives now t ∙ by (poll_recv_step now t).0
+  where
+    by : (p : Option Payload) → option_to_list p ≡ option_to_list (payload_in (option_map_or PeerData p o))
+    by None = ap option_to_list (sym none)
+    by (Some payload) = refl
+
+then_all-AreOf : (now : ℕ) (front : List Input) (p : Outcome × State) → AreOf front p.0 → AreOf (front ++ then_taken now p) (then_all now p).0
+then_all-AreOf now front (PeerData payload, t) first = payloads-append front [] ∙ ap (λ ps. ps ++ []) first
+then_all-AreOf now front (PeerIcmp transport peer icmp, t) first = payloads-append front [] ∙ ap (λ ps. ps ++ []) first
+then_all-AreOf now front (Handled, t) first =
+    payloads-append front (poll_recv_inputs now t) ∙ (ap (λ ps. ps ++ payloads (poll_recv_inputs now t)) first ∙ others-AreOf now t Handled refl)
+then_all-AreOf now front (Ignored, t) first =
+    payloads-append front (poll_recv_inputs now t) ∙ (ap (λ ps. ps ++ payloads (poll_recv_inputs now t)) first ∙ others-AreOf now t Ignored refl)
+
+kept-given : (waited : List ℕ) (o : Outcome) → given (is_front waited) o ≡ place_kept waited o
+kept-given [] o = refl
+kept-given (b ∷ bs) o = refl
+
+framed-fed : (stream : Stream) (piece : List ℕ) (now : ℕ) (t : State) → AreOf (frame_taken (is_front stream.bytes) (stream_with_piece stream piece) now t) (place_kept stream.bytes (framed_stream_step (stream_with_piece stream piece) now t).0)
+framed-fed stream piece now t =
+    framed-AreOf (is_front stream.bytes) (stream_with_piece stream piece) now t
+    ∙ ap (λ o. option_to_list (payload_in o)) (kept-given stream.bytes (framed_stream_step (stream_with_piece stream piece) now t).0)
+
+bound-AreOf : (peer : SocketAddr) (waited piece : List ℕ) (stream : Stream) (now : ℕ) (s : State) → AreOf (piece_inputs (record stream { mode = Bound peer; bytes = waited }) piece now s) (piece_step (record stream { mode = Bound peer; bytes = waited }) piece now s).0
+bound-AreOf peer [] piece stream now s = refl
+bound-AreOf peer (b ∷ bs) piece stream now s = refl
+
+piece_in_mode : (m : Mode) (stream : Stream) (piece : List ℕ) (now : ℕ) (s : State) → AreOf (piece_inputs (record stream { mode = m }) piece now s) (piece_step (record stream { mode = m }) piece now s).0
+piece_in_mode Control stream piece now s =
+    let u = record stream { mode = Control } in
+    then_all-AreOf now (fed_taken u piece now s) (first_frame_step u piece now s) (framed-fed u piece now (with_bytes stream.local [] s))
+piece_in_mode Waiting stream piece now s = framed-fed (record stream { mode = Waiting }) piece now (with_bytes stream.local [] s)
+piece_in_mode (Bound peer) stream piece now s = bound-AreOf peer stream.bytes piece stream now s
+piece_in_mode Broken stream piece now s = by (same_address stream.local s.local)
+  where
+    by : (b : Bool) → AreOf (cond b (poll_recv_inputs now s) []) (cond {A = Outcome × State} b (then_all now (Handled, s)) (Handled, s)).0
+    by true = others-AreOf now s Handled refl
+    by false = refl
+
+stream-AreOf : (stream : Stream) (piece : List ℕ) (now : ℕ) (s : State) → AreOf (stream_inputs stream piece now s) (stream_step stream piece now s).0
+stream-AreOf stream [] now s = refl
+stream-AreOf stream (b ∷ bs) now s = piece_in_mode stream.mode stream (b ∷ bs) now s
+
+-- ---- input
+
+recv_over : (carrier : TransportType) (transport : TransportType) (from to : SocketAddr) (bytes : List ℕ) (now : ℕ) (s : State) → AreOf (recv_inputs transport from to bytes now (record s { transport = carrier })) (recv_step transport from to bytes now (record s { transport = carrier })).0
+recv_over Udp transport from to bytes now s = by (is_from_server transport from u) (same_address to s.local)
+  where
+    u : State
+    u = record s { transport = Udp }
+
+    one : Input
+    one = record { stream = None; bytes = bytes; is_lent = true; moment = now; before = u }
+
+    by : (b c : Bool) → AreOf (cond b (cond c (one ∷ []) []) []) (cond {A = Outcome × State} b (cond {A = Outcome × State} c (datagram_step bytes now u) (Ignored, u)) (Ignored, u)).0
+    by true true = one-AreOf one
+    by true false = refl
+    by false c = refl
+recv_over Tcp transport from to bytes now s = by (is_from_server transport from u) (stream_at to s)
+  where
+    u : State
+    u = record s { transport = Tcp }
+
+    by_stream : Option Stream → Outcome × State
+    by_stream None = (Ignored, u)
+    by_stream (Some stream) = stream_step stream bytes now u
+
+    turns_by : Option Stream → List Input
+    turns_by None = []
+    turns_by (Some stream) = stream_inputs stream bytes now u
+
+    by : (b : Bool) (o : Option Stream) → AreOf (cond b (turns_by o) []) (cond {A = Outcome × State} b (by_stream o) (Ignored, u)).0
+    by true (Some stream) = stream-AreOf stream bytes now u
+    by true None = refl
+    by false o = refl
+
+pub recv-AreOf : (packet : Transmit (List ℕ)) (now : ℕ) (s : State) → payloads (handled (Recv packet now) s) ≡ option_to_list (payload_in (packet_step packet now s).0)
+recv-AreOf packet now s = recv_over s.transport packet.transport packet.from packet.to packet.payload now s
+
+-- ---- its sender
+
+pub turn-IsFromPermitted : (t : Input) → IsPermittedInput t
+turn-IsFromPermitted t = by t.stream t
+  where
+    by : (o : Option Stream) (t : Input) → IsPermittedInput (record t { stream = o })
+    by None t = datagram-IsMessageFromPermitted t.bytes t.moment t.before
+    by (Some stream) t = frame-IsFromPermitted stream t.bytes t.moment t.before
+
+-- ---- the input that returns it
+
+-- one input of a list returns the payload that the list returns
+given-among : (turns : List Input) (o : Option Payload) → payloads turns ≡ option_to_list o → IfSome o (λ payload. (one : Input) × Has one turns × (input_payload one ≡ Some payload))
+given-among turns None e = tt
+given-among turns (Some payload) e = has-filter_map input_payload payload turns (subst (Has payload) (sym e) (inl refl))
+
+given-by : (call : Call) (s : State) (o : Option Payload) → IfSome o (λ payload. (one : Input) × Has one (handled call s) × (input_payload one ≡ Some payload)) → IsDeliveredByInput o call s
+given-by call s None h = tt
+given-by call s (Some payload) (one, there, gives) = (one, has-contains one (handled call s) there, (gives, turn-IsFromPermitted one))
+
+pub recv-IsGivenBy : (packet : Transmit (List ℕ)) (now : ℕ) (s : State) → IsDeliveredByInput (payload_in (packet_step packet now s).0) (Recv packet now) s
+recv-IsGivenBy packet now s =
+    let o = payload_in (packet_step packet now s).0 in
+    given-by (Recv packet now) s o (given-among (handled (Recv packet now) s) o (recv-AreOf packet now s))
+
+pub poll_recv-IsGivenBy : (now : ℕ) (s : State) → IsDeliveredByInput (poll_recv_step now s).0 (PollRecv now) s
+poll_recv-IsGivenBy now s =
+    let o = (poll_recv_step now s).0 in
+    given-by (PollRecv now) s o (given-among (handled (PollRecv now) s) o (poll_recv-Gives now s))
+
+-- ---- ICMP reports
+
+abbrev IsIcmp : Outcome → Type 0
+IsIcmp (PeerIcmp transport peer icmp) = ⊤
+IsIcmp _ = ⊥
+
+-- if the outcome is an ICMP report, one of these inputs returns it
+abbrev Tells : List Input → Outcome → Type 0
+Tells turns o = IsIcmp o → (one : Input) × Has one turns × ((processed one).0 ≡ o)
+
+tells-kept : (waited : List ℕ) (turns : List Input) (o : Outcome) → Tells turns o → Tells turns (place_kept waited o)
+tells-kept [] turns o tells = tells
+tells-kept (b ∷ bs) turns (PeerIcmp transport peer icmp) tells = tells
+tells-kept (b ∷ bs) turns (PeerData payload) tells = λ h. absurd h
+tells-kept (b ∷ bs) turns Handled tells = λ h. absurd h
+tells-kept (b ∷ bs) turns Ignored tells = λ h. absurd h
+
+framed-tells : (is_lent : Bool) (stream : Stream) (now : ℕ) (t : State) → Tells (frame_taken is_lent stream now t) (framed_stream_step stream now t).0
+framed-tells is_lent stream now t = by (begins_no_frame stream.bytes) (frame_len stream.bytes)
+  where
+    by : (b : Bool) (o : Option ℕ) → Tells (cond b [] (taken_of_len is_lent stream now t o)) (cond {A = Outcome × State} b (Handled, broken_at stream.local t) (framed_by stream now t o)).0
+    by true o h = absurd h
+    by false None h = absurd h
+    by false (Some len) h = (stream_input is_lent stream (take len stream.bytes) now t, inl refl, refl)
+
+fed-tells : (stream : Stream) (piece : List ℕ) (now : ℕ) (t : State) → Tells (frame_taken (is_front stream.bytes) (stream_with_piece stream piece) now t) (place_kept stream.bytes (framed_stream_step (stream_with_piece stream piece) now t).0)
+fed-tells stream piece now t = tells-kept stream.bytes _ (framed_stream_step (stream_with_piece stream piece) now t).0 (framed-tells (is_front stream.bytes) (stream_with_piece stream piece) now t)
+
+-- what all streams return is no ICMP report
+no-icmp : (o : Option Payload) (p : Outcome) → (IsIcmp p → ⊥) → IsIcmp (option_map_or PeerData o p) → ⊥
+no-icmp None p no_more h = no_more h
+no-icmp (Some payload) p no_more h = h
+
+then_all-tells : (now : ℕ) (front : List Input) (p : Outcome × State) → Tells front p.0 → Tells (front ++ then_taken now p) (then_all now p).0
+then_all-tells now front (PeerData payload, t) first h = absurd h
+then_all-tells now front (PeerIcmp transport peer icmp, t) first h = let (one, there, is) = first h in (one, has-left one front [] there, is)
+then_all-tells now front (Handled, t) first h = absurd (no-icmp (poll_recv_step now t).0 Handled (λ k. k) h)
+then_all-tells now front (Ignored, t) first h = absurd (no-icmp (poll_recv_step now t).0 Ignored (λ k. k) h)
+
+piece-tells : (m : Mode) (stream : Stream) (piece : List ℕ) (now : ℕ) (s : State) → Tells (piece_inputs (record stream { mode = m }) piece now s) (piece_step (record stream { mode = m }) piece now s).0
+piece-tells Control stream piece now s =
+    let u = record stream { mode = Control } in
+    then_all-tells now (fed_taken u piece now s) (first_frame_step u piece now s) (fed-tells u piece now (with_bytes stream.local [] s))
+piece-tells Waiting stream piece now s = fed-tells (record stream { mode = Waiting }) piece now (with_bytes stream.local [] s)
+piece-tells (Bound peer) stream piece now s = λ h. absurd h
+piece-tells Broken stream piece now s = by (same_address stream.local s.local)
+  where
+    by : (b : Bool) → Tells (cond b (poll_recv_inputs now s) []) (cond {A = Outcome × State} b (then_all now (Handled, s)) (Handled, s)).0
+    by true h = absurd (no-icmp (poll_recv_step now s).0 Handled (λ k. k) h)
+    by false h = absurd h
+
+stream-tells : (stream : Stream) (piece : List ℕ) (now : ℕ) (s : State) → Tells (stream_inputs stream piece now s) (stream_step stream piece now s).0
+stream-tells stream [] now s h = absurd h
+stream-tells stream (b ∷ bs) now s h = piece-tells stream.mode stream (b ∷ bs) now s h
+
+tells_over : (carrier : TransportType) (transport : TransportType) (from to : SocketAddr) (bytes : List ℕ) (now : ℕ) (s : State) → Tells (recv_inputs transport from to bytes now (record s { transport = carrier })) (recv_step transport from to bytes now (record s { transport = carrier })).0
+tells_over Udp transport from to bytes now s = by (is_from_server transport from u) (same_address to s.local)
+  where
+    u : State
+    u = record s { transport = Udp }
+
+    one : Input
+    one = record { stream = None; bytes = bytes; is_lent = true; moment = now; before = u }
+
+    by : (b c : Bool) → Tells (cond b (cond c (one ∷ []) []) []) (cond {A = Outcome × State} b (cond {A = Outcome × State} c (datagram_step bytes now u) (Ignored, u)) (Ignored, u)).0
+    by true true h = (one, inl refl, refl)
+    by true false h = absurd h
+    by false c h = absurd h
+tells_over Tcp transport from to bytes now s = by (is_from_server transport from u) (stream_at to s)
+  where
+    u : State
+    u = record s { transport = Tcp }
+
+    by_stream : Option Stream → Outcome × State
+    by_stream None = (Ignored, u)
+    by_stream (Some stream) = stream_step stream bytes now u
+
+    turns_by : Option Stream → List Input
+    turns_by None = []
+    turns_by (Some stream) = stream_inputs stream bytes now u
+
+    by : (b : Bool) (o : Option Stream) → Tells (cond b (turns_by o) []) (cond {A = Outcome × State} b (by_stream o) (Ignored, u)).0
+    by true (Some stream) h = stream-tells stream bytes now u h
+    by true None h = absurd h
+    by false o h = absurd h
+
+told : (call : Call) (s : State) (o : Outcome) → Tells (handled call s) o → IsToldBy o call s
+told call s (PeerIcmp transport peer icmp) tells = let (one, there, is) = tells tt in (one, has-contains one (handled call s) there, (is, turn-IsFromPermitted one))
+told call s (PeerData payload) tells = tt
+told call s Handled tells = tt
+told call s Ignored tells = tt
+
+pub recv-IsToldBy : (packet : Transmit (List ℕ)) (now : ℕ) (s : State) → IsToldBy (packet_step packet now s).0 (Recv packet now) s
+recv-IsToldBy packet now s = told (Recv packet now) s (packet_step packet now s).0 (tells_over s.transport packet.transport packet.from packet.to packet.payload now s)

@@ -1,0 +1,251 @@
+-- All grants have allocations, and so does what a reply may add.
+use Rattle.std.proofs.Common.{◌≡◌, ℕ, Bool, true, false, eqb, ◌&&◌, List, [], ◌∷◌, ◌++◌, map, filter, filter_map, Option, Some, None, inl, inr, refl, sym, subst, ap, ◌∙◌}
+use Rattle.std.specs.Prelude.{IfSome, slice_get}
+use Rattle.std.proofs.lemmas.Bool.{and_from, and_parts}
+use Rattle.std.proofs.lemmas.Option.{cond_some, none-some, same_Some}
+use Rattle.std.specs.declared.net.ip_addr.IpAddr.{IpAddr}
+use Rattle.std.specs.declared.net.socket_addr.SocketAddr.{SocketAddr}
+use Rattle.std.specs.declared.net.socket_addr.SocketAddr.TheVariants.{V4, V6}
+use Rattle.turn_stun.specs.declared.transport.TransportType.{TransportType}
+use Rattle.turn_types.specs.declared.family.AddressFamily.{AddressFamily}
+use Rattle.turn_agent.specs.Agent.{same_address}
+use Rattle.turn_client_api.specs.Config.{Config, same_family}
+use Rattle.turn_client_api.specs.Alarm.{AllHaveAllocation, HasAllocation}
+use Rattle.turn_client_api.specs.State.{State, initial, DataOffer, Grant, Allocation, Permission, Channel, Connect, Offer, Connection, Progress, Pending, Active, Reserved, Origin, OwnConnect, Purpose, ForAllocation, ForRefresh, ForPermission, ForChannel, ForConnect, ForBind, Listing}
+use Rattle.turn_client_api.specs.Grants.{family_of, family_of_grant, family_of_ip, is_channel_of, is_connect_to, is_for, is_of, is_permission_of, as_offer, permission_state, permission_progress, purposes_of, same_ip, with_grant, without_grants}
+use Rattle.turn_client_api.specs.Effect.{new_allocation, relayed_in, taken_addresses}
+use Rattle.turn_client_api.specs.Calls.{is_offer_of, offer_origin, offer_taken}
+use Rattle.turn_client_api.specs.Steps.{Call, Leaves}
+use Rattle.turn_client_laws.specs.LawsGrantAllocations.{asked_family, IsAskedIn, ReplyHasAllocation, GrantsHaveAllocations}
+use Rattle.turn_client_laws.specs.LawsStates.{is_asked_by}
+use Rattle.turn_client_laws.proofs.AddressLemmas.{same_ip-true}
+use Rattle.turn_client_laws.proofs.HasLemmas.{Has, all-has, has-all, has-filter, has-filter_map, has-right}
+use Rattle.turn_client_laws.proofs.InAllocationLemmas.{Backed, Housed, Houses, Room, Spares, SparesAll, all-spared, any-has, asked-more, has-any, housed-filter, housed-grant, housed-grants, housed-listings, housed-shaped, housed-without, of-room, room-more, room-of, room-without, same_family-self, same_family-true, shape}
+use Rattle.turn_client_laws.proofs.TakenOfferLemmas.{no-offer, stays-first, was-first}
+use Rattle.turn_client_laws.proofs.GrantOriginLemmas.{has-mapped}
+use Rattle.turn_client_laws.proofs.Edits.{IsAskable, KeepsAllEdits, KeepsEdits, aged-outlines, outline}
+use Rattle.turn_client_laws.proofs.EditsOfReplies.{first-has}
+use Rattle.turn_client_laws.proofs.EditsOfMessages.{purposes-listed}
+use Rattle.turn_client_laws.proofs.EditsOfCalls.{leaves-walk}
+
+-- ---- grants are added and removed
+
+without-houses : (which : Grant → Bool) → Spares which → (s : State) → Houses s (without_grants which s)
+without-houses which spares s h = housed-without which spares s.grants s.listed h
+
+with_grant-houses : (g : Grant) (s : State) → Room s.grants (family_of_grant g) → Houses s (with_grant g s)
+with_grant-houses g s room h = housed-grant s.grants g s.listed h room
+
+-- one of a family that has an allocation replaces these
+replaced-houses : (which : Grant → Bool) → SparesAll which → (g : Grant) (s : State) → (Housed s.grants s.listed → Room s.grants (family_of_grant g)) → Houses s (with_grant g (without_grants which s))
+replaced-houses which spares g s room h =
+    with_grant-houses g (without_grants which s) (room-without which spares s.grants (family_of_grant g) (room h)) (without-houses which (all-spared which spares) s h)
+
+family-spares : (family : AddressFamily) → Spares (is_of family)
+family-spares family a g goes same = subst (λ (f : AddressFamily). same_family f family ≡ true) same goes
+
+taken-room : (id : ℕ) (peer : SocketAddr) (s : State) (family : AddressFamily) → Room s.grants family → Room (offer_taken id peer s).grants family
+taken-room id peer s = room-more s.grants _ (λ a there. stays-first (is_offer_of id peer) (Allocation a) s.grants there refl)
+
+taken-houses : (id : ℕ) (peer : SocketAddr) (s : State) → Houses s (offer_taken id peer s)
+taken-houses id peer s h = record {
+  stands = λ g there. taken-room id peer s (family_of_grant g) (h.stands g (was-first (is_offer_of id peer) g s.grants there));
+  backed = λ l there. asked-more s.grants _ l.purpose (λ g here for. stays-first (is_offer_of id peer) g s.grants here (no-offer id peer l.purpose g for)) (h.backed l there);
+}
+
+same_address-family : (a b : SocketAddr) → same_address a b ≡ true → family_of a ≡ family_of b
+same_address-family (V4 a) (V4 b) e = refl
+same_address-family (V6 a) (V6 b) e = refl
+same_address-family (V4 a) (V6 b) e = cc
+same_address-family (V6 a) (V4 b) e = cc
+
+-- an offer that exists has an allocation
+offer-room : (id : ℕ) (peer : SocketAddr) (origin : Origin) (s : State) → offer_origin id peer s ≡ Some origin → Housed s.grants s.listed → Room s.grants (family_of peer)
+offer-room id peer origin s e h = by (slice_get (filter_map as_offer (filter (is_offer_of id peer) s.grants)) 0) refl
+  where
+    of : (offer : DataOffer) (g : Grant) → as_offer g ≡ Some offer → is_offer_of id peer g ≡ true → Room s.grants (family_of_grant g) → Room s.grants (family_of peer)
+    of offer (Offer other) reads is room =
+        subst (λ (f : AddressFamily). Room s.grants f) (same_address-family other.peer peer (and_parts (eqb other.connection_id id) (same_address other.peer peer) is).1) room
+    of offer (Allocation a) reads is room = cc
+    of offer (Permission ip progress) reads is room = cc
+    of offer (Channel number to progress) reads is room = cc
+    of offer (Connect to) reads is room = cc
+    of offer (Connection c) reads is room = cc
+
+    by : (o : Option DataOffer) → slice_get (filter_map as_offer (filter (is_offer_of id peer) s.grants)) 0 ≡ o → Room s.grants (family_of peer)
+    by None f = absurd (none-some origin (rw f at e))
+    by (Some offer) f =
+        let (g, there, reads) = has-filter_map as_offer offer (filter (is_offer_of id peer) s.grants) (first-has offer _ f) in
+        let (was, is) = has-filter (is_offer_of id peer) g s.grants there in
+        of offer g reads is (h.stands g was)
+
+-- a permission that exists has an allocation
+permission-room : (ip : IpAddr) (p : Progress) (s : State) → permission_state ip s ≡ Some p → Housed s.grants s.listed → Room s.grants (family_of_ip ip)
+permission-room ip p s e h =
+    let (g, there, reads) = has-filter_map (permission_progress ip) p s.grants (first-has p (filter_map (permission_progress ip) s.grants) e) in
+    of g reads (h.stands g there)
+  where
+    of : (g : Grant) → permission_progress ip g ≡ Some p → Room s.grants (family_of_grant g) → Room s.grants (family_of_ip ip)
+    of (Permission other progress) reads room =
+        subst (λ (x : IpAddr). Room s.grants (family_of_ip x)) (same_ip-true other ip (cond_some (same_ip other ip) progress p reads).0) room
+    of (Allocation a) reads room = absurd (none-some p reads)
+    of (Channel number peer progress) reads room = absurd (none-some p reads)
+    of (Connect peer) reads room = absurd (none-some p reads)
+    of (Offer offer) reads room = absurd (none-some p reads)
+    of (Connection c) reads room = absurd (none-some p reads)
+
+-- ---- grants change
+
+shape-outline : (g : Grant) → shape (outline g) ≡ shape g
+shape-outline (Allocation a) = refl
+shape-outline (Permission ip progress) = refl
+shape-outline (Channel number peer progress) = refl
+shape-outline (Connect peer) = refl
+shape-outline (Offer offer) = refl
+shape-outline (Connection c) = refl
+
+shapes-outline : (gs : List Grant) → map shape (map outline gs) ≡ map shape gs
+shapes-outline [] = refl
+shapes-outline (g ∷ gs) = rw (shape-outline g, shapes-outline gs) refl
+
+reshaped-houses : (grants : List Grant) (s : State) → map outline grants ≡ map outline s.grants → Houses s (record s { grants = grants })
+reshaped-houses grants s e = housed-shaped s.grants grants s.listed (sym (shapes-outline s.grants) ∙ (ap (map shape) (sym e) ∙ shapes-outline grants))
+
+-- ---- requests
+
+-- no channel and no connection is requested
+unbacked : (gs : List Grant) (p : Purpose) → asked_family p ≡ None → Backed gs p
+unbacked gs p e family asked = absurd (none-some family (sym e ∙ asked))
+
+asked-backed : (gs : List Grant) (p : Purpose) (g : Grant) → Has g gs → is_asked_by p g ≡ true → Backed gs p
+asked-backed gs ForAllocation g there is = unbacked gs ForAllocation refl
+asked-backed gs (ForRefresh family lifetime) g there is = unbacked gs (ForRefresh family lifetime) refl
+asked-backed gs (ForPermission ip) g there is = unbacked gs (ForPermission ip) refl
+asked-backed gs (ForBind local peer id) g there is = unbacked gs (ForBind local peer id) refl
+asked-backed gs (ForChannel number peer) (Channel other to progress) there is = λ family e.
+    let (same, ends) = and_parts (eqb other number) (same_address to peer) is in
+    (Channel other to progress, there, same, same_address-family to peer ends ∙ same_Some (family_of peer) family e)
+asked-backed gs (ForChannel number peer) (Allocation a) there is = cc
+asked-backed gs (ForChannel number peer) (Permission ip progress) there is = cc
+asked-backed gs (ForChannel number peer) (Connect to) there is = cc
+asked-backed gs (ForChannel number peer) (Offer offer) there is = cc
+asked-backed gs (ForChannel number peer) (Connection c) there is = cc
+asked-backed gs (ForConnect peer) (Connect to) there is = λ family e. (Connect to, there, is, same_address-family to peer is ∙ same_Some (family_of peer) family e)
+asked-backed gs (ForConnect peer) (Allocation a) there is = cc
+asked-backed gs (ForConnect peer) (Permission ip progress) there is = cc
+asked-backed gs (ForConnect peer) (Channel number to progress) there is = cc
+asked-backed gs (ForConnect peer) (Offer offer) there is = cc
+asked-backed gs (ForConnect peer) (Connection c) there is = cc
+
+askable-backed : (s : State) (p : Purpose) → Housed s.grants s.listed → IsAskable s p → Backed s.grants p
+askable-backed s p h (inl e) = subst (λ (x : Purpose). Backed s.grants x) (sym e) (unbacked s.grants ForAllocation refl)
+askable-backed s p h (inr (inl asked)) = let (g, there, is) = any-has (is_asked_by p) s.grants asked in asked-backed s.grants p g there is
+askable-backed s p h (inr (inr (l, there, e))) = subst (λ (x : Purpose). Backed s.grants x) e (h.backed l there)
+
+-- the peer of a CONNECT that is listed has an allocation
+connect-room : (id : ℕ) (peer : SocketAddr) (s : State) → Has (ForConnect peer) (purposes_of id s) → Housed s.grants s.listed → Room s.grants (family_of peer)
+connect-room id peer s listed h =
+    let (l, there, e) = purposes-listed id s (ForConnect peer) listed in
+    let (g, here, for, is) = subst (λ (x : Purpose). Backed s.grants x) e (h.backed l there) (family_of peer) refl in
+    subst (λ (f : AddressFamily). Room s.grants f) is (h.stands g here)
+
+-- the server allocates
+allocates-houses : (lifetime now : ℕ) (addresses : List SocketAddr) (s : State) → Housed s.grants s.listed → Housed (s.grants ++ map (new_allocation lifetime now) addresses) s.listed
+allocates-houses lifetime now addresses s h = housed-grants s.grants made s.listed h own
+  where
+    made : List Grant
+    made = map (new_allocation lifetime now) addresses
+
+    own : (g : Grant) → Has g made → Room (s.grants ++ made) (family_of_grant g)
+    own g there =
+        let (address, here, is) = has-mapped (new_allocation lifetime now) g addresses there in
+        (_, has-right (new_allocation lifetime now address) s.grants made (subst (λ (x : Grant). Has x made) is there), ap family_of_grant (sym is))
+
+-- ---- each edit
+
+Houses-KeepsEdits : KeepsEdits Houses
+Houses-KeepsEdits = record {
+  same = λ s h. h;
+  trans = λ s t u first second h. second (first h);
+  aside = λ s t h. h;
+  queues = λ queue s begun h. h;
+  dequeues = λ queue s fewer h. h;
+  families = λ families s may h. h;
+  sends = λ now s waits h. h;
+  begins = λ now s new h. h;
+  ends = λ s none h. h;
+  asks = λ id text purposes now s begun askable spelled h. housed-listings s.grants s.listed id purposes h (λ p there. askable-backed s p h (askable p there));
+  finishes = λ id s h. h;
+  resends = λ id now s h. h;
+  unlists = λ which s. housed-filter s.grants which s.listed;
+  removes = λ which s spares. without-houses which (all-spared which spares) s;
+  removes_family = λ family s. without-houses (is_of family) (family-spares family) s;
+  takes_offer = taken-houses;
+  ages = λ grants s e. reshaped-houses grants s (aged-outlines grants s.grants e);
+  permission = λ ip s phase room none. with_grant-houses (Permission ip Pending) s room;
+  channel = λ number peer s phase room none within. with_grant-houses (Channel number peer Pending) s room;
+  connect = λ peer s phase room none. with_grant-houses (Connect peer) s room;
+  connection = λ id c origin s phase offer none waits h.
+      with_grant-houses (Connection c) (offer_taken id c.peer s) (taken-room id c.peer s (family_of c.peer) (offer-room id c.peer origin s offer h)) (taken-houses id c.peer s h);
+  reserves = λ number peer was until s there. replaced-houses (is_channel_of number) (λ a. refl) (Channel number peer (Reserved until)) s (λ h. h.stands (Channel number peer was) there);
+}
+
+Houses-KeepsAllEdits : KeepsAllEdits Houses
+Houses-KeepsAllEdits = record {
+  edits = Houses-KeepsEdits;
+  reshapes = reshaped-houses;
+  rebinds = λ number peer was progress s there. replaced-houses (is_channel_of number) (λ a. refl) (Channel number peer progress) s (λ h. h.stands (Channel number peer was) there);
+  holds = λ message d s e h. h;
+  counts = λ s held few h. h;
+  resets = λ heeded s h. h;
+  empties = λ s. without-houses (λ g. true) (λ a g goes same. refl) s;
+  allocates = λ message lifetime now s e none. allocates-houses lifetime now (taken_addresses s.families (relayed_in message)) s;
+  permits = λ ip expiry s is. replaced-houses (is_permission_of ip) (λ a. refl) (Permission ip (Active expiry)) s (permission-room ip Pending s is);
+  connects = λ id connection_id peer s t since stay granted listed h.
+      replaced-houses (is_connect_to peer) (λ a. refl) (Offer (record { connection_id = connection_id; peer = peer; is_reported = false; origin = OwnConnect })) t
+      (λ k. room-more s.grants t.grants stay (family_of peer) (connect-room id peer s listed h)) (since h);
+  offers = λ id peer origin s room few. with_grant-houses (Offer (record { connection_id = id; peer = peer; is_reported = false; origin = origin })) s room;
+}
+
+-- ---- the statement of the law
+
+if-some : {X : Type 0} (P : X → Type 0) (o : Option X) (x : X) → IfSome o P → o ≡ Some x → P x
+if-some P None x p e = absurd (none-some x e)
+if-some P (Some y) x p e = subst P (same_Some y x e) p
+
+some-if : {X : Type 0} (P : X → Type 0) (o : Option X) → ((x : X) → o ≡ Some x → P x) → IfSome o P
+some-if P None each = tt
+some-if P (Some x) each = each x refl
+
+GrantsHaveAllocations-housed : (s : State) → GrantsHaveAllocations s → Housed s.grants s.listed
+GrantsHaveAllocations-housed s (stand, back) = record { stands = λ g there. room-of (family_of_grant g) s (has-all (HasAllocation s) g s.grants stand there); backed = backed }
+  where
+    backed : (l : Listing) → Has l s.listed → Backed s.grants l.purpose
+    backed l there family e =
+        let asked = if-some (IsAskedIn s l.purpose) (asked_family l.purpose) family (has-all (ReplyHasAllocation s) l s.listed back there) e in
+        let (g, here, passes) = any-has (λ (x : Grant). is_for l.purpose x && is_of family x) s.grants asked in
+        let (for, is) = and_parts (is_for l.purpose g) (is_of family g) passes in
+        (g, here, for, same_family-true (family_of_grant g) family is)
+
+housed-GrantsHaveAllocations : (s : State) → Housed s.grants s.listed → GrantsHaveAllocations s
+housed-GrantsHaveAllocations s h = (
+  all-has (HasAllocation s) s.grants (λ g there. of-room (family_of_grant g) s (h.stands g there)),
+  all-has (ReplyHasAllocation s) s.listed (λ l there. some-if (IsAskedIn s l.purpose) (asked_family l.purpose) (backed l there)),
+)
+  where
+    backed : (l : Listing) → Has l s.listed → (family : AddressFamily) → asked_family l.purpose ≡ Some family → IsAskedIn s l.purpose family
+    backed l there family e =
+        let (g, here, for, is) = h.backed l there family e in
+        has-any (λ (x : Grant). is_for l.purpose x && is_of family x) g s.grants here
+        (and_from (is_for l.purpose g) (is_of family g) for (same_family-self (family_of_grant g) family is))
+
+pub initial-GrantsHaveAllocations : (transport : TransportType) (local remote : SocketAddr) (config : Config) (seed : List ℕ) → GrantsHaveAllocations (initial transport local remote config seed)
+initial-GrantsHaveAllocations transport local remote config seed =
+    let s = initial transport local remote config seed in
+    housed-GrantsHaveAllocations s (record { stands = λ g none. absurd none; backed = λ l none. absurd none })
+
+pub leaves-GrantsHaveAllocations : (call : Call) (s t : State) → Leaves call s t → GrantsHaveAllocations s → GrantsHaveAllocations t
+leaves-GrantsHaveAllocations call s t leaves h = housed-GrantsHaveAllocations t (leaves-walk Houses Houses-KeepsAllEdits (λ s streams h. h) call s t leaves (GrantsHaveAllocations-housed s h))
+
+pub GrantsHaveAllocations-AllHaveAllocation : (s : State) → GrantsHaveAllocations s → AllHaveAllocation s
+GrantsHaveAllocations-AllHaveAllocation s h = h.0

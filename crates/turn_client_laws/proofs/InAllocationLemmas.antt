@@ -1,0 +1,282 @@
+-- Grants that have allocations: what happens to lists of grants and of listings.
+use Rattle.std.proofs.Common.{◌≡◌, ℕ, Bool, true, false, not, cond, ◌&&◌, List, [], ◌∷◌, ◌++◌, map, filter, find, Option, Some, None, ◌⊎◌, inl, inr, refl, sym, subst, ap, ◌∙◌}
+use Rattle.std.specs.Prelude.{is_some}
+use Rattle.std.specs.List.{list_any}
+use Rattle.std.proofs.lemmas.Bool.{and_from, not_from_false, or_left, or_right}
+use Rattle.std.specs.declared.net.ip_addr.IpAddr.{IpAddr}
+use Rattle.turn_stun.specs.declared.transport.TransportType.{TransportType}
+use Rattle.turn_types.specs.declared.family.AddressFamily.{AddressFamily}
+use Rattle.turn_types.specs.declared.family.AddressFamily.TheVariants.{IPV4, IPV6}
+use Rattle.turn_client_api.specs.Config.{same_family}
+use Rattle.turn_client_api.specs.State.{State, Grant, Allocation, Permission, Channel, Connect, Offer, Connection, Relay, Pending, OwnConnect, Purpose, ForAllocation, ForRefresh, ForPermission, ForChannel, ForConnect, ForBind, Listing}
+use Rattle.turn_client_api.specs.Grants.{find_allocation_to, as_allocation, find_allocation, allocations, family_of, family_of_grant, family_of_ip, is_for, same_transport}
+use Rattle.turn_client_api.specs.Requests.{listings}
+use Rattle.turn_client_laws.specs.LawsGrantAllocations.{asked_family}
+use Rattle.turn_client_laws.proofs.HasLemmas.{Has, has-left, has-append, has-filter, filter-has, map-has, filter_map-has, has-filter_map, has-found}
+
+-- ---- families and tests
+
+pub same_family-true : (a b : AddressFamily) → same_family a b ≡ true → a ≡ b
+same_family-true IPV4 IPV4 e = refl
+same_family-true IPV6 IPV6 e = refl
+same_family-true IPV4 IPV6 e = cc
+same_family-true IPV6 IPV4 e = cc
+
+pub same_family-self : (a b : AddressFamily) → a ≡ b → same_family a b ≡ true
+same_family-self IPV4 IPV4 e = refl
+same_family-self IPV6 IPV6 e = refl
+same_family-self IPV4 IPV6 e = cc
+same_family-self IPV6 IPV4 e = cc
+
+pub not-both : (b : Bool) → b ≡ true → not b ≡ true → ⊥
+not-both true e f = cc
+not-both false e f = cc
+
+-- one that passes
+pub any-has : {X : Type 0} (p : X → Bool) (xs : List X) → list_any p xs ≡ true → (x : X) × Has x xs × (p x ≡ true)
+any-has p [] e = cc
+any-has {X = X} p (y ∷ xs) e = by (p y) refl (any-has p xs)
+  where
+    by : (b : Bool) → p y ≡ b → (list_any p xs ≡ true → (x : X) × Has x xs × (p x ≡ true)) → (x : X) × Has x (y ∷ xs) × (p x ≡ true)
+    by true here later = (y, inl refl, here)
+    by false fails later = let (x, there, passes) = later (rw fails at e) in (x, inr there, passes)
+
+pub has-any : {X : Type 0} (p : X → Bool) (x : X) (xs : List X) → Has x xs → p x ≡ true → list_any p xs ≡ true
+has-any p x [] h passes = absurd h
+has-any p x (y ∷ xs) (inl e) passes = or_left (p y) (list_any p xs) (rw e at passes)
+has-any p x (y ∷ xs) (inr h) passes = or_right (p y) (list_any p xs) (has-any p x xs h passes)
+
+-- ---- what is kept
+
+-- an allocation of this family
+abbrev pub Room : List Grant → AddressFamily → Type 0
+Room gs family = (a : Relay) × Has (Allocation a) gs × (family_of a.relayed ≡ family)
+
+-- a grant that the request is for, in an allocation of this family
+abbrev pub Asked : List Grant → Purpose → AddressFamily → Type 0
+Asked gs p family = (g : Grant) × Has g gs × (is_for p g ≡ true) × (family_of_grant g ≡ family)
+
+-- what a reply may add is requested in an allocation
+abbrev pub Backed : List Grant → Purpose → Type 0
+Backed gs p = (family : AddressFamily) → asked_family p ≡ Some family → Asked gs p family
+
+pub record Housed (gs : List Grant) (ls : List Listing) : Type 0 where
+  pub stands : (g : Grant) → Has g gs → Room gs (family_of_grant g)
+  pub backed : (l : Listing) → Has l ls → Backed gs l.purpose
+
+-- what has an allocation keeps it
+abbrev pub Houses : State → State → Type 0
+Houses s t = Housed s.grants s.listed → Housed t.grants t.listed
+
+pub room-of : (family : AddressFamily) (s : State) → is_some (find_allocation family s) ≡ true → Room s.grants family
+room-of family s = by (find_allocation family s) refl
+  where
+    by : (o : Option Relay) → find_allocation family s ≡ o → is_some o ≡ true → Room s.grants family
+    by None e h = cc
+    by (Some a) e h =
+        let f = has-found (λ (r : Relay). same_family (family_of r.relayed) family) a (allocations s) e in
+        let (g, there, is) = has-filter_map as_allocation a s.grants f.0 in
+        (a, subst (λ (x : Grant). Has x s.grants) (the g is) there, same_family-true (family_of a.relayed) family f.1)
+      where
+        the : (g : Grant) → as_allocation g ≡ Some a → g ≡ Allocation a
+        the (Allocation b) e = cc
+        the (Permission ip progress) e = cc
+        the (Channel number peer progress) e = cc
+        the (Connect peer) e = cc
+        the (Offer offer) e = cc
+        the (Connection c) e = cc
+
+-- an allocation that relays to this address
+pub allocation-room : (transport : TransportType) (ip : IpAddr) (s : State) → is_some (find_allocation_to transport ip s) ≡ true → Room s.grants (family_of_ip ip)
+allocation-room transport ip s e = room-of (family_of_ip ip) s (by (same_transport transport s.config.allocation_transport) (find_allocation (family_of_ip ip) s) e)
+  where
+    by : (b : Bool) (o : Option Relay) → is_some (cond b o None) ≡ true → is_some o ≡ true
+    by true o e = e
+    by false o e = cc
+
+find-some : {X : Type 0} (p : X → Bool) (x : X) (xs : List X) → Has x xs → p x ≡ true → is_some (find p xs) ≡ true
+find-some p x [] h passes = absurd h
+find-some p x (y ∷ xs) (inl e) passes = rw (rw e at passes) refl
+find-some p x (y ∷ xs) (inr h) passes = by (p y) refl (find-some p x xs h passes)
+  where
+    by : (b : Bool) → p y ≡ b → is_some (find p xs) ≡ true → is_some (find p (y ∷ xs)) ≡ true
+    by true here later = rw here refl
+    by false fails later = rw fails later
+
+pub of-room : (family : AddressFamily) (s : State) → Room s.grants family → is_some (find_allocation family s) ≡ true
+of-room family s (a, there, is) =
+    find-some (λ (r : Relay). same_family (family_of r.relayed) family) a (allocations s)
+    (filter_map-has as_allocation (Allocation a) a s.grants there refl) (same_family-self (family_of a.relayed) family is)
+
+-- ---- grants that stay
+
+pub room-more : (gs hs : List Grant) → ((a : Relay) → Has (Allocation a) gs → Has (Allocation a) hs) → (family : AddressFamily) → Room gs family → Room hs family
+room-more gs hs more family (a, there, is) = (a, more a there, is)
+
+pub asked-more : (gs hs : List Grant) (p : Purpose) → ((g : Grant) → Has g gs → is_for p g ≡ true → Has g hs) → Backed gs p → Backed hs p
+asked-more gs hs p more backed family e = let (g, there, for, is) = backed family e in (g, more g there for, for, is)
+
+-- ---- listings are added and removed
+
+pub housed-filter : (gs : List Grant) (which : Listing → Bool) (ls : List Listing) → Housed gs ls → Housed gs (filter which ls)
+housed-filter gs which ls h = record { stands = h.stands; backed = λ l there. h.backed l (has-filter which l ls there).0 }
+
+pub housed-listings : (gs : List Grant) (ls : List Listing) (id : ℕ) (ps : List Purpose) → Housed gs ls → ((p : Purpose) → Has p ps → Backed gs p) → Housed gs (ls ++ listings id ps)
+housed-listings gs ls id ps h each = record { stands = h.stands; backed = λ l there. by l (has-append l ls (listings id ps) there) }
+  where
+    new : (qs : List Purpose) → ((p : Purpose) → Has p qs → Backed gs p) → (l : Listing) → Has l (listings id qs) → Backed gs l.purpose
+    new [] each l there = absurd there
+    new (q ∷ qs) each l (inl e) = subst (λ (x : Listing). Backed gs x.purpose) (sym e) (each q (inl refl))
+    new (q ∷ qs) each l (inr later) = new qs (λ p h. each p (inr h)) l later
+
+    by : (l : Listing) → Has l ls ⊎ Has l (listings id ps) → Backed gs l.purpose
+    by l (inl old) = h.backed l old
+    by l (inr made) = new ps each l made
+
+-- ---- grants are added
+
+pub housed-grants : (gs hs : List Grant) (ls : List Listing) → Housed gs ls → ((g : Grant) → Has g hs → Room (gs ++ hs) (family_of_grant g)) → Housed (gs ++ hs) ls
+housed-grants gs hs ls h each = record {
+  stands = λ g there. by g (has-append g gs hs there);
+  backed = λ l there. asked-more gs (gs ++ hs) l.purpose (λ g here for. has-left g gs hs here) (h.backed l there);
+}
+  where
+    by : (g : Grant) → Has g gs ⊎ Has g hs → Room (gs ++ hs) (family_of_grant g)
+    by g (inl old) = room-more gs (gs ++ hs) (λ a there. has-left (Allocation a) gs hs there) (family_of_grant g) (h.stands g old)
+    by g (inr new) = each g new
+
+-- one grant more, of a family that has an allocation
+pub housed-grant : (gs : List Grant) (g : Grant) (ls : List Listing) → Housed gs ls → Room gs (family_of_grant g) → Housed (gs ++ g ∷ []) ls
+housed-grant gs g ls h room = housed-grants gs (g ∷ []) ls h by
+  where
+    by : (x : Grant) → Has x (g ∷ []) → Room (gs ++ g ∷ []) (family_of_grant x)
+    by x (inl e) = subst (λ (y : Grant). Room (gs ++ g ∷ []) (family_of_grant y)) (sym e) (room-more gs (gs ++ g ∷ []) (λ a there. has-left (Allocation a) gs (g ∷ []) there) (family_of_grant g) room)
+    by x (inr none) = absurd none
+
+-- ---- grants are removed
+
+-- an allocation is removed only with all grants in it
+abbrev pub Spares : (Grant → Bool) → Type 0
+Spares which = (a : Relay) (g : Grant) → which (Allocation a) ≡ true → family_of a.relayed ≡ family_of_grant g → which g ≡ true
+
+-- no allocation is removed
+abbrev pub SparesAll : (Grant → Bool) → Type 0
+SparesAll which = (a : Relay) → which (Allocation a) ≡ false
+
+pub all-spared : (which : Grant → Bool) → SparesAll which → Spares which
+all-spared which spares a g goes same = absurd (not-both (which (Allocation a)) goes (not_from_false (which (Allocation a)) (spares a)))
+
+pub stays : (which : Grant → Bool) (g : Grant) (gs : List Grant) → Has g gs → which g ≡ false → Has g (filter (λ x. not (which x)) gs)
+stays which g gs there kept = filter-has (λ x. not (which x)) g gs there (not_from_false (which g) kept)
+
+pub room-without : (which : Grant → Bool) → SparesAll which → (gs : List Grant) (family : AddressFamily) → Room gs family → Room (filter (λ x. not (which x)) gs) family
+room-without which spares gs = room-more gs (filter (λ x. not (which x)) gs) (λ a there. stays which (Allocation a) gs there (spares a))
+
+pub housed-without : (which : Grant → Bool) → Spares which → (gs : List Grant) (ls : List Listing) → Housed gs ls
+    → Housed (filter (λ g. not (which g)) gs) (filter (λ l. not (list_any (λ g. which g && is_for l.purpose g) gs)) ls)
+housed-without which spares gs ls h = record { stands = stands; backed = backed }
+  where
+    stands : (g : Grant) → Has g (filter (λ g. not (which g)) gs) → Room (filter (λ g. not (which g)) gs) (family_of_grant g)
+    stands g there = by (h.stands g f.0)
+      where
+        f : Has g gs × (not (which g) ≡ true)
+        f = has-filter (λ g. not (which g)) g gs there
+
+        by : Room gs (family_of_grant g) → Room (filter (λ g. not (which g)) gs) (family_of_grant g)
+        by (a, here, same) = of (which (Allocation a)) refl
+          where
+            of : (b : Bool) → which (Allocation a) ≡ b → Room (filter (λ g. not (which g)) gs) (family_of_grant g)
+            of true e = absurd (not-both (which g) (spares a g e same) f.1)
+            of false e = (a, stays which (Allocation a) gs here e, same)
+
+    backed : (l : Listing) → Has l (filter (λ l. not (list_any (λ g. which g && is_for l.purpose g) gs)) ls) → Backed (filter (λ g. not (which g)) gs) l.purpose
+    backed l there = asked-more gs (filter (λ g. not (which g)) gs) l.purpose by (h.backed l f.0)
+      where
+        f : Has l ls × (not (list_any (λ g. which g && is_for l.purpose g) gs) ≡ true)
+        f = has-filter (λ l. not (list_any (λ g. which g && is_for l.purpose g) gs)) l ls there
+
+        by : (g : Grant) → Has g gs → is_for l.purpose g ≡ true → Has g (filter (λ g. not (which g)) gs)
+        by g here for = of (which g) refl
+          where
+            of : (b : Bool) → which g ≡ b → Has g (filter (λ g. not (which g)) gs)
+            of true e =
+                let removed = has-any (λ g. which g && is_for l.purpose g) g gs here (and_from (which g) (is_for l.purpose g) e for) in
+                absurd (not-both (list_any (λ g. which g && is_for l.purpose g) gs) removed f.1)
+            of false e = stays which g gs here e
+
+-- ---- grants change
+
+-- the relevant parts of a grant here: its kind, its addresses and its number
+abbrev pub shape : Grant → Grant
+shape (Allocation a) = Allocation (record { relayed = a.relayed; first_lifetime = 0; expiry = 0; is_expired = false })
+shape (Permission ip progress) = Permission ip Pending
+shape (Channel number peer progress) = Channel number peer Pending
+shape (Connect peer) = Connect peer
+shape (Offer offer) = Offer (record { connection_id = 0; peer = offer.peer; is_reported = false; origin = OwnConnect })
+shape (Connection c) = Connection (record c { deadline = None })
+
+shape-family : (g : Grant) → family_of_grant (shape g) ≡ family_of_grant g
+shape-family (Allocation a) = refl
+shape-family (Permission ip progress) = refl
+shape-family (Channel number peer progress) = refl
+shape-family (Connect peer) = refl
+shape-family (Offer offer) = refl
+shape-family (Connection c) = refl
+
+shape-for : (p : Purpose) (family : AddressFamily) → asked_family p ≡ Some family → (g : Grant) → is_for p (shape g) ≡ is_for p g
+shape-for (ForChannel number peer) family e (Allocation a) = refl
+shape-for (ForChannel number peer) family e (Permission ip progress) = refl
+shape-for (ForChannel number peer) family e (Channel other to progress) = refl
+shape-for (ForChannel number peer) family e (Connect to) = refl
+shape-for (ForChannel number peer) family e (Offer offer) = refl
+shape-for (ForChannel number peer) family e (Connection c) = refl
+shape-for (ForConnect peer) family e (Allocation a) = refl
+shape-for (ForConnect peer) family e (Permission ip progress) = refl
+shape-for (ForConnect peer) family e (Channel other to progress) = refl
+shape-for (ForConnect peer) family e (Connect to) = refl
+shape-for (ForConnect peer) family e (Offer offer) = refl
+shape-for (ForConnect peer) family e (Connection c) = refl
+shape-for ForAllocation family e g = cc
+shape-for (ForRefresh of lifetime) family e g = cc
+shape-for (ForPermission ip) family e g = cc
+shape-for (ForBind local peer id) family e g = cc
+
+-- what has the shape of an allocation is one, of the same address
+shape-allocation : (a : Relay) (g : Grant) → shape g ≡ shape (Allocation a) → (b : Relay) × (g ≡ Allocation b) × (family_of b.relayed ≡ family_of a.relayed)
+shape-allocation a (Allocation b) e = (b, refl, ap family_of_grant e)
+shape-allocation a (Permission ip progress) e = cc
+shape-allocation a (Channel number peer progress) e = cc
+shape-allocation a (Connect peer) e = cc
+shape-allocation a (Offer offer) e = cc
+shape-allocation a (Connection c) e = cc
+
+shaped : (gs hs : List Grant) → map shape gs ≡ map shape hs → (g : Grant) → Has g gs → (h : Grant) × Has h hs × (shape h ≡ shape g)
+shaped gs hs e g there = from hs (subst (λ (l : List Grant). Has (shape g) l) e (map-has shape g gs there))
+  where
+    from : (xs : List Grant) → Has (shape g) (map shape xs) → (h : Grant) × Has h xs × (shape h ≡ shape g)
+    from [] none = absurd none
+    from (x ∷ xs) (inl same) = (x, inl refl, sym same)
+    from (x ∷ xs) (inr later) = let (h, there, same) = from xs later in (h, inr there, same)
+
+pub room-shaped : (gs hs : List Grant) → map shape gs ≡ map shape hs → (family : AddressFamily) → Room gs family → Room hs family
+room-shaped gs hs e family (a, there, is) =
+    let (h, here, same) = shaped gs hs e (Allocation a) there in
+    let (b, it, as_was) = shape-allocation a h same in
+    (b, subst (λ (x : Grant). Has x hs) it here, as_was ∙ is)
+
+pub housed-shaped : (gs hs : List Grant) (ls : List Listing) → map shape gs ≡ map shape hs → Housed gs ls → Housed hs ls
+housed-shaped gs hs ls e h = record { stands = stands; backed = backed }
+  where
+    like : (x g : Grant) → shape x ≡ shape g → family_of_grant x ≡ family_of_grant g
+    like x g same = sym (shape-family x) ∙ (ap family_of_grant same ∙ shape-family g)
+
+    stands : (g : Grant) → Has g hs → Room hs (family_of_grant g)
+    stands g there =
+        let (x, was, same) = shaped hs gs (sym e) g there in
+        subst (λ (f : AddressFamily). Room hs f) (like x g same) (room-shaped gs hs e (family_of_grant x) (h.stands x was))
+
+    backed : (l : Listing) → Has l ls → Backed hs l.purpose
+    backed l there family asked =
+        let (g, was, for, is) = h.backed l there family asked in
+        let (x, here, same) = shaped gs hs e g was in
+        (x, here, sym (shape-for l.purpose family asked x) ∙ (ap (is_for l.purpose) same ∙ (shape-for l.purpose family asked g ∙ for)), like x g same ∙ is)

@@ -1,0 +1,463 @@
+-- What remains after time has passed.
+use Rattle.std.proofs.Common.{◌≡◌, ℕ, suc, ◌<◌, Bool, true, false, ◌&&◌, ◌||◌, not, List, [], ◌∷◌, ◌++◌, length, filter, filter_map, find, fold, reverse, Option, Some, None, ◌⊎◌, inl, inr, refl, sym, subst, ◌∙◌, arith}
+use Rattle.std.specs.Prelude.{All, IfSome, ⊤, slice_get}
+use Rattle.std.proofs.lemmas.List.{length-reverse, reverse-append}
+use Rattle.std.proofs.lemmas.Option.{none-some, same_Some}
+use Rattle.std.proofs.lemmas.Bool.{not-true, leb-false, and_parts}
+use Rattle.std.specs.declared.net.socket_addr.SocketAddr.{SocketAddr}
+use Rattle.turn_types.specs.declared.family.AddressFamily.{AddressFamily}
+use Rattle.turn_types.specs.declared.family.AddressFamily.TheVariants.{IPV4, IPV6}
+use Rattle.turn_client_api.specs.Config.{same_family}
+use Rattle.turn_client_api.specs.Alarm.{HasAllocation}
+use Rattle.turn_client_api.specs.State.{State, DataOffer, Grant, Allocation, Permission, Channel, Connect, Offer, Connection, Relay, Pending, Active, Reserved, Purpose, agent_of, later_by}
+use Rattle.turn_client_api.specs.Grants.{allocations, as_allocation, find_allocation, family_of_grant, has_request, is_past, failures_among, family_of, is_channel_of, is_for_any, is_connect, is_of, is_pending_channel, is_pending_permission, jump, unlisted, without_grants}
+use Rattle.turn_client_api.specs.Effect.{reserved, reserved_time}
+use Rattle.turn_client_api.specs.Calls.{is_allocated}
+use Rattle.turn_client_api.specs.Poll.{first_unreported, timed_out_purposes, next_offer, unreported_in, channel_lapsed, connections_unbound, failed_by_timeout, last_channel_lapsed, offers_timed_out, permissions_lapsed, refreshes_timed_out, set_free, failed, allocation_expires, is_lapsed_channel, is_lapsed_permission, is_unbound, lapsed, lapsed_allocation, lapsed_in, unbound}
+use Rattle.turn_client_api.specs.declared.event.TurnEvent.{TurnEvent}
+use Rattle.turn_client_api.specs.declared.event.TurnEvent.TheVariants.{ChannelCreateFailed}
+use Rattle.turn_client_laws.proofs.HasLemmas.{Has, has-all, has-left, has-right, has-append, has-filter, filter_map-has, has-filter_map, has-found}
+use Rattle.turn_client_laws.proofs.ReadyLemmas.{Alive}
+
+-- a channel that is reserved
+abbrev pub IsReserved : Grant → Type 0
+IsReserved (Channel number peer (Reserved until)) = ⊤
+IsReserved _ = ⊥
+
+-- Grants are removed, or become reserved channels; events are queued, and nothing else changes but what is
+-- listed and is to be closed.
+pub record Shrinks (s t : State) : Type 0 where
+  pub agent : agent_of t ≡ agent_of s
+  pub transactions : t.transactions ≡ s.transactions
+  pub queue : t.queue ≡ s.queue
+  pub phase : t.phase ≡ s.phase
+  pub grants : (g : Grant) → Has g t.grants → Has g s.grants ⊎ IsReserved g
+  pub events : t.events ≡ [] → s.events ≡ []
+
+pub shrinks-self : (s : State) → Shrinks s s
+shrinks-self s = record { agent = refl; transactions = refl; queue = refl; phase = refl; grants = λ g h. inl h; events = λ e. e }
+
+pub shrinks-then : (s t u : State) → Shrinks s t → Shrinks t u → Shrinks s u
+shrinks-then s t u first later = record {
+  agent = later.agent ∙ first.agent;
+  transactions = later.transactions ∙ first.transactions;
+  queue = later.queue ∙ first.queue;
+  phase = later.phase ∙ first.phase;
+  grants = λ g h. back g (later.grants g h);
+  events = λ e. first.events (later.events e);
+}
+  where
+    back : (g : Grant) → Has g t.grants ⊎ IsReserved g → Has g s.grants ⊎ IsReserved g
+    back g (inl there) = first.grants g there
+    back g (inr is) = inr is
+
+append-empty : {X : Type 0} (xs ys : List X) → xs ++ ys ≡ [] → (xs ≡ []) × (ys ≡ [])
+append-empty [] ys e = (refl, e)
+append-empty (x ∷ xs) ys e = cc
+
+reverse-empty : {X : Type 0} (xs : List X) → reverse xs ≡ [] → xs ≡ []
+reverse-empty [] e = refl
+reverse-empty {X = X} (x ∷ xs) e =
+    let same : length {A = X} [] ≡ suc (length xs) = rw e at (length-reverse (x ∷ xs)) in
+    absurd (omega (arith, same))
+
+has-reverse : {X : Type 0} (x : X) (xs : List X) → Has x xs → Has x (reverse xs)
+has-reverse x [] h = absurd h
+has-reverse x (y ∷ xs) (inl e) = rw (reverse-append (y ∷ []) xs) (has-right x (reverse xs) (y ∷ []) (inl e))
+has-reverse x (y ∷ xs) (inr h) = rw (reverse-append (y ∷ []) xs) (has-left x (reverse xs) (y ∷ []) (has-reverse x xs h))
+
+pub has-unreversed : {X : Type 0} (x : X) (xs : List X) → Has x (reverse xs) → Has x xs
+has-unreversed x [] h = h
+has-unreversed x (y ∷ xs) h = by (has-unreversed x xs) (has-append x (reverse xs) (y ∷ []) (rw (reverse-append (y ∷ []) xs) at h))
+  where
+    by : (Has x (reverse xs) → Has x xs) → Has x (reverse xs) ⊎ Has x (y ∷ []) → Has x (y ∷ xs)
+    by later (inl there) = inr (later there)
+    by later (inr (inl e)) = inl e
+    by later (inr (inr none)) = absurd none
+
+-- ---- what each part of an expiry does
+
+unlisted-shrinks : (which : Grant → Bool) (s : State) → Shrinks s (unlisted which s)
+unlisted-shrinks which s = record { agent = refl; transactions = refl; queue = refl; phase = refl; grants = λ g h. inl h; events = λ e. e }
+
+without-shrinks : (which : Grant → Bool) (s : State) → Shrinks s (without_grants which s)
+without-shrinks which s = record { agent = refl; transactions = refl; queue = refl; phase = refl; grants = λ g h. inl (has-filter _ g s.grants h).0; events = λ e. e }
+
+jump-shrinks : (events : List TurnEvent) (s : State) → Shrinks s (jump events s)
+jump-shrinks events s = record { agent = refl; transactions = refl; queue = refl; phase = refl; grants = λ g h. inl h; events = λ e. (append-empty (reverse events) s.events e).1 }
+
+failed-shrinks : (which : Grant → Bool) (s : State) → Shrinks s (failed which s)
+failed-shrinks which s = shrinks-then s (without_grants which s) (failed which s) (without-shrinks which s) (jump-shrinks (failures_among which s) (without_grants which s))
+
+unbound-shrinks : (which : Grant → Bool) (s : State) → Shrinks s (unbound which s)
+unbound-shrinks which s =
+    let f = failed-shrinks which s in
+    record { agent = refl; transactions = refl; queue = refl; phase = refl; grants = f.grants; events = f.events }
+
+reserved-shrinks : (number : ℕ) (peer : SocketAddr) (expiry : ℕ) (s : State) → Shrinks s (reserved number peer expiry s)
+reserved-shrinks number peer expiry s = record { agent = refl; transactions = refl; queue = refl; phase = refl; grants = by; events = λ e. e }
+  where
+    kept : List Grant
+    kept = (without_grants (is_channel_of number) s).grants
+
+    held : Grant
+    held = Channel number peer (Reserved (later_by reserved_time expiry))
+
+    by : (g : Grant) → Has g (kept ++ held ∷ []) → Has g s.grants ⊎ IsReserved g
+    by g h = of (has-append g kept (held ∷ []) h)
+      where
+        of : Has g kept ⊎ Has g (held ∷ []) → Has g s.grants ⊎ IsReserved g
+        of (inl k) = inl (has-filter (λ x. not (is_channel_of number x)) g s.grants k).0
+        of (inr (inl e)) = inr (rw e tt)
+        of (inr (inr none)) = absurd none
+
+channel-shrinks : (o : Option Grant) (s : State) → Shrinks s (channel_lapsed o s)
+channel-shrinks None s = shrinks-self s
+channel-shrinks (Some (Channel number peer (Active expiry))) s =
+    let t = reserved number peer expiry s in
+    let failure = ChannelCreateFailed s.config.allocation_transport peer ∷ [] in
+    shrinks-then s t (jump failure t) (reserved-shrinks number peer expiry s) (jump-shrinks failure t)
+channel-shrinks (Some (Channel number peer Pending)) s = shrinks-self s
+channel-shrinks (Some (Channel number peer (Reserved until))) s = shrinks-self s
+channel-shrinks (Some (Allocation a)) s = shrinks-self s
+channel-shrinks (Some (Permission ip progress)) s = shrinks-self s
+channel-shrinks (Some (Connect peer)) s = shrinks-self s
+channel-shrinks (Some (Offer offer)) s = shrinks-self s
+channel-shrinks (Some (Connection c)) s = shrinks-self s
+
+-- ---- one allocation
+
+-- from its unbound connections on
+tail6 : AddressFamily → Option ℕ → List Purpose → ℕ → State → State
+tail6 family given purposes now s = set_free family now (refreshes_timed_out family purposes (offers_timed_out family given s))
+
+tail6-shrinks : (family : AddressFamily) (given : Option ℕ) (purposes : List Purpose) (now : ℕ) (s : State) → Shrinks s (tail6 family given purposes now s)
+unfolding tail6
+tail6-shrinks family given purposes now s6 =
+    let s7 = offers_timed_out family given s6 in
+    let s8 = refreshes_timed_out family purposes s7 in
+    shrinks-then s6 s7 (set_free family now s8) (failed-shrinks _ s6)
+    (shrinks-then s7 s8 (set_free family now s8) (unlisted-shrinks _ s7) (without-shrinks _ s8))
+
+-- from its expired permissions on
+tail4 : AddressFamily → Option ℕ → List Purpose → ℕ → State → State
+unfolding tail6
+tail4 family given purposes now s = tail6 family given purposes now (connections_unbound family purposes now (failed_by_timeout family purposes is_connect s))
+
+tail4-shrinks : (family : AddressFamily) (given : Option ℕ) (purposes : List Purpose) (now : ℕ) (s : State) → Shrinks s (tail4 family given purposes now s)
+unfolding tail6 tail4
+tail4-shrinks family given purposes now s4 =
+    let s5 = failed_by_timeout family purposes is_connect s4 in
+    let s6 = connections_unbound family purposes now s5 in
+    shrinks-then s4 s5 (tail6 family given purposes now s6) (failed-shrinks _ s4)
+    (shrinks-then s5 s6 (tail6 family given purposes now s6) (unbound-shrinks _ s5) (tail6-shrinks family given purposes now s6))
+
+lapsed_in-shrinks : (family : AddressFamily) (given : Option ℕ) (purposes : List Purpose) (now : ℕ) (s : State) → Shrinks s (lapsed_in family given purposes now s)
+unfolding tail6 tail4
+lapsed_in-shrinks family given purposes now s =
+    let s1 = failed_by_timeout family purposes is_pending_channel s in
+    let s2 = failed_by_timeout family purposes is_pending_permission s1 in
+    let s3 = last_channel_lapsed family now s2 in
+    let s4 = permissions_lapsed family now s3 in
+    let t = tail4 family given purposes now s4 in
+    shrinks-then s s1 t (failed-shrinks _ s)
+    (shrinks-then s1 s2 t (failed-shrinks _ s1)
+    (shrinks-then s2 s3 t (channel-shrinks _ s2)
+    (shrinks-then s3 s4 t (failed-shrinks _ s3) (tail4-shrinks family given purposes now s4))))
+
+-- what did not stay was not tested true
+not-passed : (p : Grant → Bool) (g : Grant) (gs : List Grant) → Has g (filter (λ x. not (p x)) gs) → p g ≡ false
+not-passed p g gs h = not-true (p g) (has-filter (λ x. not (p x)) g gs h).1
+
+-- the grants in between, from the end back
+back : (s t : State) → Shrinks s t → (g : Grant) → (IsReserved g → ⊥) → Has g t.grants → Has g s.grants
+back s t shrinks g not_reserved h = by (shrinks.grants g h)
+  where
+    by : Has g s.grants ⊎ IsReserved g → Has g s.grants
+    by (inl there) = there
+    by (inr is) = absurd (not_reserved is)
+
+-- a test that is false for a pair only by its second part
+what-false : (here what : Bool) → here ≡ true → (here && what) ≡ false → what ≡ false
+what-false true what e f = f
+what-false false what e f = let no : false ≡ true = e in cc
+
+-- if no event was queued, no channel had expired
+no_channel_lapsed : (family : AddressFamily) (now : ℕ) (s : State) → (last_channel_lapsed family now s).events ≡ [] → find (λ g. is_of family g && is_lapsed_channel now g) (reverse s.grants) ≡ None
+no_channel_lapsed family now s none = by (find test (reverse s.grants)) refl
+  where
+    test : Grant → Bool
+    test g = is_of family g && is_lapsed_channel now g
+
+    found : (g : Grant) → find test (reverse s.grants) ≡ Some g → Has g (reverse s.grants) × (test g ≡ true)
+    found g e = has-found test g (reverse s.grants) e
+
+    lapsed_is : (g : Grant) → Has g s.grants → is_lapsed_channel now g ≡ true → (channel_lapsed (Some g) s).events ≡ [] → ⊥
+    lapsed_is (Channel number peer (Active expiry)) h is e =
+        let no : ChannelCreateFailed s.config.allocation_transport peer ∷ s.events ≡ [] = e in cc
+    lapsed_is (Channel number peer Pending) h is e = cc
+    lapsed_is (Channel number peer (Reserved until)) h is e = cc
+    lapsed_is (Allocation a) h is e = cc
+    lapsed_is (Permission ip progress) h is e = cc
+    lapsed_is (Connect peer) h is e = cc
+    lapsed_is (Offer offer) h is e = cc
+    lapsed_is (Connection c) h is e = cc
+
+    by : (o : Option Grant) → find test (reverse s.grants) ≡ o → find test (reverse s.grants) ≡ None
+    by None e = e
+    by (Some g) e = absurd (lapsed_is g (has-unreversed g s.grants (found g e).0) (and_parts (is_of family g) (is_lapsed_channel now g) (found g e).1).1 (rw e at none))
+
+find-none-false : {X : Type 0} (p : X → Bool) (x : X) (xs : List X) → find p xs ≡ None → Has x xs → p x ≡ false
+find-none-false p x [] none h = absurd h
+find-none-false p x (y ∷ xs) none h = by (p y) refl h (find-none-false p x xs)
+  where
+    by : (b : Bool) → p y ≡ b → Has x (y ∷ xs) → (find p xs ≡ None → Has x xs → p x ≡ false) → p x ≡ false
+    by true e at later = absurd (none-some y (sym (rw e at none)))
+    by false e (inl same) later = rw same e
+    by false e (inr there) later = later (rw e at none) there
+
+or-left : (x y : Bool) → (x || y) ≡ false → x ≡ false
+or-left true y e = e
+or-left false y e = refl
+
+-- all but an allocation
+abbrev pub Outlives : ℕ → Grant → Type 0
+Outlives now (Allocation a) = ⊤
+Outlives now grant = Alive now grant
+
+-- what remains in an allocation without an event has not expired
+alive_in : (family : AddressFamily) (given : Option ℕ) (purposes : List Purpose) (now : ℕ) (s : State) → (lapsed_in family given purposes now s).events ≡ [] → (g : Grant) → Has g (lapsed_in family given purposes now s).grants → is_of family g ≡ true → Outlives now g
+unfolding tail6 tail4
+alive_in family given purposes now s none g h here = by g h here
+  where
+    s2 : State
+    s2 = failed_by_timeout family purposes is_pending_permission (failed_by_timeout family purposes is_pending_channel s)
+
+    s3 : State
+    s3 = last_channel_lapsed family now s2
+
+    s4 : State
+    s4 = permissions_lapsed family now s3
+
+    s5 : State
+    s5 = failed_by_timeout family purposes is_connect s4
+
+    s6 : State
+    s6 = connections_unbound family purposes now s5
+
+    t : State
+    t = lapsed_in family given purposes now s
+
+    from3 : Shrinks s3 t
+    from3 = shrinks-then s3 s4 t (failed-shrinks _ s3) (tail4-shrinks family given purposes now s4)
+
+    by : (g : Grant) → Has g t.grants → is_of family g ≡ true → Outlives now g
+    by (Permission ip (Active expiry)) h here =
+        let inside = back s4 t (tail4-shrinks family given purposes now s4) (Permission ip (Active expiry)) (λ is. is) h in
+        leb-false expiry now (what-false _ _ here (not-passed (λ x. is_of family x && is_lapsed_permission now x) (Permission ip (Active expiry)) s3.grants inside))
+    by (Channel number peer (Active expiry)) h here =
+        let g = Channel number peer (Active expiry) in
+        let no_event = from3.events none in
+        let not_found = no_channel_lapsed family now s2 no_event in
+        let inside3 = back s3 t from3 g (λ is. is) h in
+        let inside2 : Has g s2.grants = subst (λ o. Has g (channel_lapsed o s2).grants) not_found inside3 in
+        leb-false expiry now (what-false _ _ here (find-none-false (λ x. is_of family x && is_lapsed_channel now x) g (reverse s2.grants) not_found (has-reverse g s2.grants inside2)))
+    by (Connection c) h here =
+        let inside = back s6 t (tail6-shrinks family given purposes now s6) (Connection c) (λ is. is) h in
+        let bound = what-false _ _ here (not-passed (λ x. is_of family x && is_unbound purposes now x) (Connection c) s5.grants inside) in
+        of c.deadline refl bound
+      where
+        of : (d : Option ℕ) → c.deadline ≡ d → is_unbound purposes now (Connection c) ≡ false → IfSome c.deadline (λ deadline. now < deadline)
+        of None e f = rw e tt
+        of (Some deadline) e f = rw e (leb-false deadline now (or-left _ _ (rw e at f)))
+    by (Allocation a) h here = tt
+    by (Permission ip Pending) h here = tt
+    by (Permission ip (Reserved until)) h here = tt
+    by (Channel number peer Pending) h here = tt
+    by (Channel number peer (Reserved until)) h here = tt
+    by (Connect peer) h here = tt
+    by (Offer offer) h here = tt
+
+-- ---- all allocations
+
+lapsed_allocation-shrinks : (given : Option ℕ) (purposes : List Purpose) (now : ℕ) (s : State) (a : Relay) → Shrinks s (lapsed_allocation given purposes now s a)
+lapsed_allocation-shrinks given purposes now s a = by (allocation_expires purposes now s a) refl
+  where
+    by : (b : Bool) → allocation_expires purposes now s a ≡ b → Shrinks s (lapsed_allocation given purposes now s a)
+    by true e = rw e (without-shrinks (is_of (family_of a.relayed)) s)
+    by false e = rw e (lapsed_in-shrinks (family_of a.relayed) given purposes now s)
+
+each-shrinks : (given : Option ℕ) (purposes : List Purpose) (now : ℕ) (relays : List Relay) (s : State) → Shrinks s (fold (lapsed_allocation given purposes now) s relays)
+each-shrinks given purposes now [] s = shrinks-self s
+each-shrinks given purposes now (a ∷ relays) s =
+    let post = lapsed_allocation given purposes now s a in
+    shrinks-then s post (fold (lapsed_allocation given purposes now) post relays) (lapsed_allocation-shrinks given purposes now s a) (each-shrinks given purposes now relays post)
+
+pub lapsed-shrinks : (given : Option ℕ) (now : ℕ) (s : State) → Shrinks s (lapsed given now s)
+lapsed-shrinks given now s = each-shrinks given (timed_out_purposes given s) now (allocations s) s
+
+reserved-outlives : (now : ℕ) (g : Grant) → IsReserved g → Outlives now g
+reserved-outlives now (Channel number peer (Reserved until)) is = tt
+reserved-outlives now (Channel number peer Pending) is = absurd is
+reserved-outlives now (Channel number peer (Active expiry)) is = absurd is
+reserved-outlives now (Allocation a) is = absurd is
+reserved-outlives now (Permission ip progress) is = absurd is
+reserved-outlives now (Connect peer) is = absurd is
+reserved-outlives now (Offer offer) is = absurd is
+reserved-outlives now (Connection c) is = absurd is
+
+-- what remains of one allocation after it was processed
+after-turn : (given : Option ℕ) (purposes : List Purpose) (now : ℕ) (s : State) (a : Relay) (g : Grant) → (lapsed_allocation given purposes now s a).events ≡ [] → Has g (lapsed_allocation given purposes now s a).grants → is_of (family_of a.relayed) g ≡ true → Outlives now g
+after-turn given purposes now s a g none h here = by (allocation_expires purposes now s a) refl
+  where
+    by : (b : Bool) → allocation_expires purposes now s a ≡ b → Outlives now g
+    by true e =
+        let stayed : Has g (without_grants (is_of (family_of a.relayed)) s).grants = rw e at h in
+        let no : false ≡ true = sym (not-passed (is_of (family_of a.relayed)) g s.grants stayed) ∙ here in
+        cc
+    by false e = alive_in (family_of a.relayed) given purposes now s (rw e at none) g (rw e at h) here
+
+outlives : (given : Option ℕ) (purposes : List Purpose) (now : ℕ) (relays : List Relay) (s : State) → (fold (lapsed_allocation given purposes now) s relays).events ≡ [] → (a : Relay) → Has a relays → (g : Grant) → Has g (fold (lapsed_allocation given purposes now) s relays).grants → is_of (family_of a.relayed) g ≡ true → Outlives now g
+outlives given purposes now [] s none a inside g h here = absurd inside
+outlives given purposes now (b ∷ bs) s none a (inr inside) g h here = outlives given purposes now bs (lapsed_allocation given purposes now s b) none a inside g h here
+outlives given purposes now (b ∷ bs) s none a (inl e) g h here = by ((each-shrinks given purposes now bs post).grants g h)
+  where
+    post : State
+    post = lapsed_allocation given purposes now s b
+
+    by : Has g post.grants ⊎ IsReserved g → Outlives now g
+    by (inl there) = after-turn given purposes now s b g ((each-shrinks given purposes now bs post).events none) there (rw e at here)
+    by (inr is) = reserved-outlives now g is
+
+same_family-self : (a : AddressFamily) → same_family a a ≡ true
+same_family-self IPV4 = refl
+same_family-self IPV6 = refl
+
+same_family-swap : (a b : AddressFamily) → same_family a b ≡ true → same_family b a ≡ true
+same_family-swap IPV4 IPV4 e = refl
+same_family-swap IPV6 IPV6 e = refl
+same_family-swap IPV4 IPV6 e = e
+same_family-swap IPV6 IPV4 e = e
+
+-- an allocation in use is removed at its expiry
+stays-alive : (given : Option ℕ) (purposes : List Purpose) (now : ℕ) (s : State) (a : Relay) → Has (Allocation a) (lapsed_allocation given purposes now s a).grants → a.is_expired ≡ false → now < a.expiry
+stays-alive given purposes now s a h used = by (allocation_expires purposes now s a) refl
+  where
+    past : (p x y n : Bool) → n ≡ true → (p && (x || y || n)) ≡ false → p ≡ false
+    past false x y n e f = refl
+    past true true y n e f = let no : true ≡ false = f in cc
+    past true false true n e f = let no : true ≡ false = f in cc
+    past true false false n e f = let no : true ≡ false = sym e ∙ f in cc
+
+    by : (b : Bool) → allocation_expires purposes now s a ≡ b → now < a.expiry
+    by true e =
+        let stayed : Has (Allocation a) (without_grants (is_of (family_of a.relayed)) s).grants = rw e at h in
+        let no : false ≡ true = sym (not-passed (is_of (family_of a.relayed)) (Allocation a) s.grants stayed) ∙ same_family-self (family_of a.relayed) in
+        cc
+    by false e = leb-false a.expiry now (past (is_past now a) (is_for_any purposes (Allocation a)) (not (has_request (Allocation a) s)) (not a.is_expired) (rw used refl) e)
+
+allocation-alive : (given : Option ℕ) (purposes : List Purpose) (now : ℕ) (relays : List Relay) (s : State) (a : Relay) → Has a relays → Has (Allocation a) (fold (lapsed_allocation given purposes now) s relays).grants → a.is_expired ≡ false → now < a.expiry
+allocation-alive given purposes now [] s a inside h used = absurd inside
+allocation-alive given purposes now (b ∷ bs) s a (inr inside) h used = allocation-alive given purposes now bs (lapsed_allocation given purposes now s b) a inside h used
+allocation-alive given purposes now (b ∷ bs) s a (inl e) h used =
+    let post = lapsed_allocation given purposes now s b in
+    let there = back post (fold (lapsed_allocation given purposes now) post bs) (each-shrinks given purposes now bs post) (Allocation a) (λ is. is) h in
+    stays-alive given purposes now s a (subst (λ x. Has (Allocation a) (lapsed_allocation given purposes now s x).grants) (sym e) there) used
+
+-- all that remains after time has passed without an event has not expired
+pub lapsed-alive : (given : Option ℕ) (now : ℕ) (s : State) → All (HasAllocation s) s.grants → (lapsed given now s).events ≡ [] → (g : Grant) → Has g (lapsed given now s).grants → Alive now g
+lapsed-alive given now s stand none g h = by g h ((each-shrinks given purposes now (allocations s) s).grants g h)
+  where
+    purposes : List Purpose
+    purposes = timed_out_purposes given s
+
+    t : State
+    t = lapsed given now s
+
+    -- its allocation was processed
+    turn : (g : Grant) → Has g t.grants → Has g s.grants → Outlives now g
+    turn g h there = of (find_allocation (family_of_grant g) s) refl
+      where
+        of : (o : Option Relay) → find_allocation (family_of_grant g) s ≡ o → Outlives now g
+        of None e = let no : false ≡ true = rw e at (has-all (HasAllocation s) g s.grants stand there) in cc
+        of (Some a) e =
+            let found = has-found (λ a. same_family (family_of a.relayed) (family_of_grant g)) a (allocations s) e in
+            outlives given purposes now (allocations s) s none a found.0 g h (same_family-swap _ _ found.1)
+
+    other : (g : Grant) → Has g t.grants → Has g s.grants ⊎ IsReserved g → Outlives now g
+    other g h (inl there) = turn g h there
+    other g h (inr is) = reserved-outlives now g is
+
+    by : (g : Grant) → Has g t.grants → Has g s.grants ⊎ IsReserved g → Alive now g
+    by (Allocation a) h (inl there) =
+        allocation-alive given purposes now (allocations s) s a (filter_map-has as_allocation (Allocation a) a s.grants there refl) h
+    by (Allocation a) h (inr is) = absurd is
+    by (Permission ip progress) h o = other (Permission ip progress) h o
+    by (Channel number peer progress) h o = other (Channel number peer progress) h o
+    by (Connect peer) h o = tt
+    by (Offer offer) h o = tt
+    by (Connection c) h o = other (Connection c) h o
+
+-- no offer is added
+pub lapsed-no_offer : (s t : State) → Shrinks s t → next_offer s ≡ None → next_offer t ≡ None
+lapsed-no_offer s t shrinks none = by (is_allocated t.phase) refl
+  where
+    -- the first unreported offer of each allocation
+    offers : State → List DataOffer
+    offers u = filter_map (λ a. first_unreported (family_of a.relayed) u) (allocations u)
+
+    first : {X : Type 0} (xs : List X) (x : X) → Has x xs → slice_get xs 0 ≡ None → ⊥
+    first [] x h e = absurd h
+    first (y ∷ ys) x h e = none-some y (sym e)
+
+    empty : {X : Type 0} (xs : List X) → ((x : X) → Has x xs → ⊥) → slice_get xs 0 ≡ None
+    empty [] nothing = refl
+    empty (y ∷ ys) nothing = absurd (nothing y (inl refl))
+
+    first-has : {X : Type 0} (xs : List X) (x : X) → slice_get xs 0 ≡ Some x → Has x xs
+    first-has [] x e = absurd (none-some x e)
+    first-has (y ∷ ys) x e = inl (sym (same_Some y x e))
+
+    -- of a list that has one, there is a first
+    has-first : {X : Type 0} (xs : List X) (x : X) → Has x xs → (y : X) × (slice_get xs 0 ≡ Some y)
+    has-first [] x h = absurd h
+    has-first (y ∷ ys) x h = (y, refl)
+
+    is_offer : (family : AddressFamily) (g : Grant) (offer : DataOffer) → unreported_in family g ≡ Some offer → IsReserved g → ⊥
+    is_offer family (Channel number peer (Reserved until)) offer e is = none-some offer e
+    is_offer family (Channel number peer Pending) offer e is = is
+    is_offer family (Channel number peer (Active expiry)) offer e is = is
+    is_offer family (Allocation a) offer e is = is
+    is_offer family (Permission ip progress) offer e is = is
+    is_offer family (Connect peer) offer e is = is
+    is_offer family (Offer o) offer e is = is
+    is_offer family (Connection c) offer e is = is
+
+    is_allocation : (g : Grant) (a : Relay) → as_allocation g ≡ Some a → IsReserved g → ⊥
+    is_allocation (Channel number peer (Reserved until)) a e is = none-some a e
+    is_allocation (Channel number peer Pending) a e is = is
+    is_allocation (Channel number peer (Active expiry)) a e is = is
+    is_allocation (Allocation b) a e is = is
+    is_allocation (Permission ip progress) a e is = is
+    is_allocation (Connect peer) a e is = is
+    is_allocation (Offer o) a e is = is
+    is_allocation (Connection c) a e is = is
+
+    -- if an offer is pending, one was so before
+    before : (x : DataOffer) → Has x (offers t) → (y : DataOffer) × Has y (offers s)
+    before x h =
+        let (a, inside, gives) = has-filter_map (λ (a : Relay). first_unreported (family_of a.relayed) t) x (allocations t) h in
+        let relay = has-filter_map as_allocation a t.grants inside in
+        let relay_before = filter_map-has as_allocation relay.0 a s.grants (back s t shrinks relay.0 (is_allocation relay.0 a relay.2) relay.1) relay.2 in
+        let family = family_of a.relayed in
+        let grant = has-filter_map (unreported_in family) x t.grants (first-has (filter_map (unreported_in family) t.grants) x gives) in
+        let there = back s t shrinks grant.0 (is_offer family grant.0 x grant.2) grant.1 in
+        let (y, one) = has-first (filter_map (unreported_in family) s.grants) x (filter_map-has (unreported_in family) grant.0 x s.grants there grant.2) in
+        (y, filter_map-has (λ (a : Relay). first_unreported (family_of a.relayed) s) a y (allocations s) relay_before one)
+
+    nothing : next_offer s ≡ None → is_allocated s.phase ≡ true → (x : DataOffer) → Has x (offers t) → ⊥
+    nothing none is x h = let (y, there) = before x h in first (offers s) y there (rw is at none)
+
+    by : (b : Bool) → is_allocated t.phase ≡ b → next_offer t ≡ None
+    by false e = rw e refl
+    by true e = rw e (empty (offers t) (nothing none (rw shrinks.phase at e)))

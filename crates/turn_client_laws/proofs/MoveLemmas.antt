@@ -1,0 +1,151 @@
+-- How requests, listings and grants are added and removed.
+use Rattle.std.proofs.Common.{◌≡◌, ◌⊎◌, Bool, true, false, not, cond, List, [], ◌∷◌, ◌++◌, map, filter, refl, sym, subst, ◌∙◌, inl, inr}
+use Rattle.turn_agent.specs.declared.transaction.Transaction.{Transaction}
+use Rattle.turn_client_api.specs.State.{State, Grant, Listing}
+use Rattle.turn_client_laws.specs.LawsGone.{grant_identity}
+use Rattle.turn_client_laws.proofs.HasLemmas.{Has, filter-has, has-append, has-filter, has-left, map-has}
+
+-- ---- lists
+
+-- what exists later existed before, or was added
+abbrev pub Adds : {X : Type 0} → (X → Type 0) → List X → List X → Type 0
+Adds {X} Came xs ys = (x : X) → Has x ys → Has x xs ⊎ Came x
+
+-- whatever its progress
+abbrev pub Remains : Grant → List Grant → Type 0
+Remains g gs = (is : Grant) × Has is gs × (grant_identity g ≡ grant_identity is)
+
+-- what existed before exists later, or was removed
+abbrev pub Loses : (Grant → Type 0) → List Grant → List Grant → Type 0
+Loses Taken gs later = (g : Grant) → Has g gs → Remains g later ⊎ Taken g
+
+pub adds-same : {X : Type 0} (Came : X → Type 0) (xs : List X) → Adds Came xs xs
+adds-same Came xs x h = inl h
+
+pub adds-then : {X : Type 0} (Came : X → Type 0) (xs ys zs : List X) → Adds Came xs ys → Adds Came ys zs → Adds Came xs zs
+adds-then {X = X} Came xs ys zs first later x h = by (later x h)
+  where
+    by : Has x ys ⊎ Came x → Has x xs ⊎ Came x
+    by (inl there) = first x there
+    by (inr came) = inr came
+
+pub adds-filter : {X : Type 0} (Came : X → Type 0) (p : X → Bool) (xs : List X) → Adds Came xs (filter p xs)
+adds-filter Came p xs x h = inl (has-filter p x xs h).0
+
+-- more is added after
+pub adds-more : {X : Type 0} (Came : X → Type 0) (xs ys more : List X) → Adds Came xs ys → ((x : X) → Has x more → Came x) → Adds Came xs (ys ++ more)
+adds-more {X = X} Came xs ys more first came x h = by (has-append x ys more h)
+  where
+    by : Has x ys ⊎ Has x more → Has x xs ⊎ Came x
+    by (inl there) = first x there
+    by (inr new) = inr (came x new)
+
+pub adds-one : {X : Type 0} (Came : X → Type 0) (xs ys : List X) (one : X) → Adds Came xs ys → Came one → Adds Came xs (ys ++ one ∷ [])
+adds-one {X = X} Came xs ys one first came = adds-more Came xs ys (one ∷ []) first by
+  where
+    by : (x : X) → Has x (one ∷ []) → Came x
+    by x (inl e) = subst Came (sym e) came
+    by x (inr h) = absurd h
+
+-- what is added by the one is added by the other
+pub adds-wider : {X : Type 0} (Came Other : X → Type 0) (xs ys : List X) → ((x : X) → Came x → Other x) → Adds Came xs ys → Adds Other xs ys
+adds-wider {X = X} Came Other xs ys wider adds x h = by (adds x h)
+  where
+    by : Has x xs ⊎ Came x → Has x xs ⊎ Other x
+    by (inl there) = inl there
+    by (inr came) = inr (wider x came)
+
+-- ---- grants
+
+pub remains-here : (g : Grant) (gs : List Grant) → Has g gs → Remains g gs
+remains-here g gs h = (g, h, refl)
+
+pub loses-same : (Taken : Grant → Type 0) (gs : List Grant) → Loses Taken gs gs
+loses-same Taken gs g h = inl (remains-here g gs h)
+
+-- the progress of a grant does not count
+abbrev pub IsOfBare : (Grant → Type 0) → Type 0
+IsOfBare Taken = (g is : Grant) → grant_identity g ≡ grant_identity is → Taken is → Taken g
+
+pub loses-then : (Taken : Grant → Type 0) → IsOfBare Taken → (gs hs is : List Grant) → Loses Taken gs hs → Loses Taken hs is → Loses Taken gs is
+loses-then Taken whole gs hs later first second g h = by (first g h)
+  where
+    at : (k : Grant) → grant_identity g ≡ grant_identity k → Remains k later ⊎ Taken k → Remains g later ⊎ Taken g
+    at k same (inl (is, there, e)) = inl (is, there, same ∙ e)
+    at k same (inr taken) = inr (whole g k same taken)
+
+    by : Remains g hs ⊎ Taken g → Remains g later ⊎ Taken g
+    by (inl (k, there, same)) = at k same (second k there)
+    by (inr taken) = inr taken
+
+pub loses-filter : (Taken : Grant → Type 0) (which : Grant → Bool) (gs : List Grant) → ((g : Grant) → which g ≡ true → Taken g) → Loses Taken gs (filter (λ g. not (which g)) gs)
+loses-filter Taken which gs takes g h = by (which g) refl
+  where
+    by : (b : Bool) → which g ≡ b → Remains g (filter (λ x. not (which x)) gs) ⊎ Taken g
+    by true e = inr (takes g e)
+    by false e = inl (remains-here g _ (filter-has (λ x. not (which x)) g gs h (rw e refl)))
+
+pub loses-more : (Taken : Grant → Type 0) (gs hs more : List Grant) → Loses Taken gs hs → Loses Taken gs (hs ++ more)
+loses-more Taken gs hs more first g h = by (first g h)
+  where
+    by : Remains g hs ⊎ Taken g → Remains g (hs ++ more) ⊎ Taken g
+    by (inl (k, there, same)) = inl (k, has-left k hs more there, same)
+    by (inr taken) = inr taken
+
+pub loses-map : (Taken : Grant → Type 0) (f : Grant → Grant) (gs : List Grant) → ((g : Grant) → grant_identity g ≡ grant_identity (f g)) → Loses Taken gs (map f gs)
+loses-map Taken f gs same g h = inl (f g, map-has f g gs h, same g)
+
+pub loses-wider : (Taken Other : Grant → Type 0) (gs hs : List Grant) → ((g : Grant) → Taken g → Other g) → Loses Taken gs hs → Loses Other gs hs
+loses-wider Taken Other gs hs wider loses g h = by (loses g h)
+  where
+    by : Remains g hs ⊎ Taken g → Remains g hs ⊎ Other g
+    by (inl remains) = inl remains
+    by (inr taken) = inr (wider g taken)
+
+-- ---- states
+
+-- requests and listings are added so, and grants removed so
+abbrev pub Moves : (Transaction → Type 0) → (Listing → Type 0) → (Grant → Type 0) → State → State → Type 0
+Moves Made Listed Taken s t =
+    Adds Made s.transactions t.transactions × Adds Listed s.listed t.listed × Loses Taken s.grants t.grants
+
+abbrev pub Never : {X : Type 0} → X → Type 0
+Never x = ⊥
+
+-- nothing is requested, and grants are removed so
+abbrev pub Settles : (Grant → Type 0) → State → State → Type 0
+Settles Taken s t = Moves Never Never Taken s t
+
+pub settles-same : (Taken : Grant → Type 0) (s : State) → Settles Taken s s
+settles-same Taken s = (adds-same Never s.transactions, adds-same Never s.listed, loses-same Taken s.grants)
+
+pub settles-then : (Taken : Grant → Type 0) → IsOfBare Taken → (s t u : State) → Settles Taken s t → Settles Taken t u → Settles Taken s u
+settles-then Taken whole s t u first later = (
+  adds-then Never s.transactions t.transactions u.transactions first.0 later.0,
+  adds-then Never s.listed t.listed u.listed first.1 later.1,
+  loses-then Taken whole s.grants t.grants u.grants first.2 later.2,
+)
+
+pub moves-same : (Made : Transaction → Type 0) (Listed : Listing → Type 0) (Taken : Grant → Type 0) (s : State) → Moves Made Listed Taken s s
+moves-same Made Listed Taken s = (adds-same Made s.transactions, adds-same Listed s.listed, loses-same Taken s.grants)
+
+-- if nothing is requested, nothing is added in any way
+pub settles-moves : (Made : Transaction → Type 0) (Listed : Listing → Type 0) (Taken : Grant → Type 0) (s t : State) → Settles Taken s t → Moves Made Listed Taken s t
+settles-moves Made Listed Taken s t (made, listed, lost) = (
+  adds-wider Never Made s.transactions t.transactions (λ x never. absurd never) made,
+  adds-wider Never Listed s.listed t.listed (λ x never. absurd never) listed,
+  lost,
+)
+
+pub settles-wider : (Taken Other : Grant → Type 0) (s t : State) → ((g : Grant) → Taken g → Other g) → Settles Taken s t → Settles Other s t
+settles-wider Taken Other s t wider (made, listed, lost) = (made, listed, loses-wider Taken Other s.grants t.grants wider lost)
+
+-- a pair by a test
+pub by_test : {A : Type 0} (P : State → Type 0) (b : Bool) (x y : A × State) → P x.1 → P y.1 → P (cond b x y).1
+by_test P true x y k l = k
+by_test P false x y k l = l
+
+-- a state by a test
+pub on_test : (P : State → Type 0) (b : Bool) (s t : State) → P s → P t → P (cond b s t)
+on_test P true s t k l = k
+on_test P false s t k l = l

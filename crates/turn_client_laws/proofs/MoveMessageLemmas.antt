@@ -1,0 +1,391 @@
+-- What messages request, and what they remove.
+use Rattle.std.proofs.Common.{◌≡◌, ◌⊎◌, ℕ, eqb, ltb, leb, Bool, true, false, not, cond, ◌&&◌, List, [], ◌∷◌, ◌++◌, filter, length, Option, Some, None, refl, subst, inl, inr}
+use Rattle.std.specs.Prelude.{filter_map, find, is_some, IfSome}
+use Rattle.std.specs.List.{list_any}
+use Rattle.std.specs.Option.{option_map_or}
+use Rattle.std.proofs.lemmas.Bool.{and_parts}
+use Rattle.std.specs.Net.Socket.{socket_ip}
+use Rattle.turn_types.specs.declared.family.AddressFamily.TheVariants.{IPV4, IPV6}
+use Rattle.turn_client_api.specs.declared.event.TurnEvent.TheVariants.{AllocationCreateFailed}
+use Rattle.std.specs.declared.net.socket_addr.SocketAddr.{SocketAddr}
+use Rattle.turn_stun.specs.Message.{id_of}
+use Rattle.turn_stun.specs.declared.transport.TransportType.TheVariants.{Tcp}
+use Rattle.turn_types.specs.Frames.{begins_message}
+use Rattle.turn_auth.specs.LongTerm.{Challenge}
+use Rattle.turn_agent.specs.Agent as A
+use Rattle.turn_agent.specs.Agent.{first_sent, is_response, same_address}
+use Rattle.turn_agent.specs.declared.transaction.Transaction.{Transaction}
+use Rattle.turn_client_api.specs.State.{State, Grant, Allocation, Permission, Channel, Connect, Offer, Connection, DataConnection, Listing, Mode, Control, Waiting, Bound, Broken, Stream, Purpose, ForAllocation, ForRefresh, ForPermission, ForChannel, ForConnect, ForBind, Phase, New, Requesting, Authenticating, Allocated, Closed, later_by}
+use Rattle.turn_client_laws.specs.Handled.{Input, processed}
+use Rattle.turn_client_api.specs.Grants.{find_allocation_to, as_connection, is_connection_from, is_for, is_for_allocation, purposes_of, unlisted, wait}
+use Rattle.turn_client_api.specs.Requests.{connection_attempt_method, connection_bind_method, fresh_id, listings, request_for, requested}
+use Rattle.turn_client_api.specs.Judgement.{Judgement, Unrelated, Challenged, Fatal, LateResponse, DataIndication, ConnectionAttempt, SignedRequest, SignedSuccess, SignedError, answers_allocate, authenticating_judgement, bind_judgement, class_in, connection_id_in, is_bind_of, judgement_of, lifetime_in, method_in, peer_in}
+use Rattle.turn_client_api.specs.Effect.{allocate_denied, allocate_granted, transaction_ended, family_not_supported, has_code, in_phase}
+use Rattle.turn_client_api.specs.Retry.{bind_time, max_challenges, retried, state_after_retry, with_held}
+use Rattle.turn_client_api.specs.Connections.{attempt_indicated, attempt_requested, bind_again, bind_answered, bind_step, connection_at, deadline_set, is_connected, accepts_attempt, bound, not_bound, with_deadline}
+use Rattle.turn_client_api.specs.Payloads.{Outcome, Handled, Ignored, challenge_step, channel_sent, datagram_step, is_channel_frame, is_message, message_step, response_step, signed_step, wrong_step}
+use Rattle.turn_client_api.specs.Streams.{frame_step}
+use Rattle.turn_client_laws.specs.LawsReplies.{IsAccepted}
+use Rattle.turn_client_laws.specs.LawsRequests.{IsAnswer, IsListedAgain, IsMade, IsMadeAgain}
+use Rattle.turn_client_laws.specs.LawsGone.{GivesBack, IsOverItself, IsTakenByReply, IsRemovedByInput, grant_identity}
+use Rattle.turn_client_laws.proofs.AddressLemmas.{same_address-true}
+use Rattle.turn_client_laws.proofs.EditsOfMessages.{found-has, retried-has}
+use Rattle.turn_client_laws.proofs.HasLemmas.{Has, has-found, has-right}
+use Rattle.turn_client_laws.proofs.MoveLemmas.{Moves, Never, Settles, adds-filter, adds-more, adds-one, adds-same, by_test, loses-filter, loses-map, loses-more, loses-same, loses-wider, on_test, settles-moves, settles-same, settles-wider}
+use Rattle.turn_client_laws.proofs.MoveReplyLemmas.{IsFor, response-fits}
+use Rattle.turn_client_laws.proofs.GrantOriginLemmas.{has-mapped}
+use Rattle.turn_client_laws.proofs.StandLemmas.{has-contains}
+
+-- the message requests this, and removes grants so
+abbrev pub Turns : (Grant → Type 0) → List ℕ → ℕ → State → State → Type 0
+Turns Taken message now s t = Moves (IsMadeAgain message now s t) (IsListedAgain message now s t) Taken s t
+
+pub turns-settled : (Taken : Grant → Type 0) (message : List ℕ) (now : ℕ) (s t : State) → Settles Taken s t → Turns Taken message now s t
+turns-settled Taken message now s t settles = settles-moves (IsMadeAgain message now s t) (IsListedAgain message now s t) Taken s t settles
+
+pub turns-same : (Taken : Grant → Type 0) (message : List ℕ) (now : ℕ) (s : State) → Turns Taken message now s s
+turns-same Taken message now s = turns-settled Taken message now s s (settles-same Taken s)
+
+-- the request is made for one purpose, and listed for some
+module _ (message : List ℕ) (now : ℕ) (s t : State) (purpose : Purpose) (answers : Has purpose (purposes_of (id_of message) s)) (made : IsMade purpose now s t) where
+  made-again : IsMadeAgain message now s t (first_sent (fresh_id s) t.remote now made.text)
+  made-again = (purpose, has-contains purpose (purposes_of (id_of message) s) answers, (made, refl))
+
+  listed-again : (some : List Purpose) → ((p : Purpose) → Has p some → Has p (purposes_of (id_of message) s)) → (l : Listing) → Has l (listings (fresh_id s) some) → IsListedAgain message now s t l
+  listed-again some each l there = by (has-mapped (λ (p : Purpose). record { id = fresh_id s; purpose = p }) l some there)
+    where
+      by : (p : Purpose) × Has p some × (l ≡ record { id = fresh_id s; purpose = p }) → IsListedAgain message now s t l
+      by (p, h, e) = rw e (
+        purpose,
+        has-contains purpose (purposes_of (id_of message) s) answers,
+        has-contains p (purposes_of (id_of message) s) (each p h),
+        (made, refl),
+      )
+
+-- the transaction of a request for the purpose
+abbrev pub request_made : Purpose → ℕ → State → State → Transaction
+request_made purpose now s u = first_sent (fresh_id s) u.remote now (request_for u purpose (fresh_id s))
+
+-- whatever the state was in which it is requested
+abbrev pub requested-made : (purpose : Purpose) (now : ℕ) (s u : State) → IsMade purpose now s (requested (fresh_id s) purpose now u)
+requested-made purpose now s u = record {
+  text = request_for u purpose (fresh_id s);
+  spelled = inl refl;
+  outstanding = has-contains (request_made purpose now s u) (u.transactions ++ request_made purpose now s u ∷ []) (has-right (request_made purpose now s u) u.transactions (request_made purpose now s u ∷ []) (inl refl));
+}
+
+-- ---- over the control connection
+
+retry-turns : (Taken : Grant → Type 0) (message : List ℕ) (purpose : Purpose) (d : Challenge) (now : ℕ) (s : State) → Has purpose (purposes_of (id_of message) s) → Turns Taken message now s (state_after_retry s (id_of message) purpose d now)
+retry-turns Taken message purpose d now s answers = (
+  adds-one _ s.transactions (A.without_transaction (id_of message) s.transactions) _ (adds-filter _ _ s.transactions) (made-again message now s t purpose answers made),
+  adds-more _ s.listed s.listed _ (adds-same _ s.listed) (listed-again message now s t purpose answers made (purposes_of (id_of message) s) (λ p h. h)),
+  loses-same Taken s.grants,
+)
+  where
+    t : State
+    t = state_after_retry s (id_of message) purpose d now
+
+    x : Transaction
+    x = first_sent (fresh_id s) t.remote now (request_for t purpose (fresh_id s))
+
+    made : IsMade purpose now s t
+    made = record {
+      text = request_for t purpose (fresh_id s);
+      spelled = inl refl;
+      outstanding = has-contains x t.transactions (has-right x (A.without_transaction (id_of message) s.transactions) (x ∷ []) (inl refl));
+    }
+
+challenge-turns : (Taken : Grant → Type 0) (message : List ℕ) (d : Challenge) (now : ℕ) (s : State) → Turns Taken message now s (challenge_step message d now s).1
+challenge-turns Taken message d now s = by (ltb s.challenges max_challenges) refl (retried (purposes_of (id_of message) s)) refl
+  where
+    by : (b : Bool) → ltb s.challenges max_challenges ≡ b → (o : Option Purpose) → retried (purposes_of (id_of message) s) ≡ o → Turns Taken message now s (challenge_step message d now s).1
+    by false e o f =
+        rw e (turns-settled Taken message now s _ (adds-same Never s.transactions, adds-filter Never _ s.listed, loses-same Taken s.grants))
+    by true e None f = rw (e, f) (turns-same Taken message now s)
+    by true e (Some purpose) f = rw (e, f) (retry-turns Taken message purpose d now s (retried-has (purposes_of (id_of message) s) purpose f))
+
+wrong-turns : (Taken : Grant → Type 0) (p : Phase) (message : List ℕ) (now : ℕ) (s : State) → Turns Taken message now (record s { phase = p }) (wrong_step message (record s { phase = p })).1
+wrong-turns Taken New message now s = turns-settled Taken message now (record s { phase = New }) _ (adds-same Never s.transactions, adds-filter Never _ s.listed, loses-same Taken s.grants)
+wrong-turns Taken Requesting message now s = turns-settled Taken message now (record s { phase = Requesting }) _ (adds-filter Never _ s.transactions, adds-filter Never _ s.listed, loses-same Taken s.grants)
+wrong-turns Taken Authenticating message now s = turns-settled Taken message now (record s { phase = Authenticating }) _ (adds-same Never s.transactions, adds-filter Never _ s.listed, loses-same Taken s.grants)
+wrong-turns Taken Allocated message now s = turns-settled Taken message now (record s { phase = Allocated }) _ (adds-same Never s.transactions, adds-filter Never _ s.listed, loses-same Taken s.grants)
+wrong-turns Taken Closed message now s = turns-settled Taken message now (record s { phase = Closed }) _ (adds-same Never s.transactions, adds-filter Never _ s.listed, loses-same Taken s.grants)
+
+granted-turns : (Taken : Grant → Type 0) (message : List ℕ) (now : ℕ) (s : State) → Turns Taken message now s (allocate_granted message now (transaction_ended (id_of message) s))
+granted-turns Taken message now s = by (lifetime_in message) refl
+  where
+    by : (o : Option ℕ) → lifetime_in message ≡ o → Turns Taken message now s (allocate_granted message now (transaction_ended (id_of message) s))
+    by None e = rw e (turns-settled Taken message now s _ (adds-filter Never _ s.transactions, adds-filter Never _ s.listed, loses-same Taken s.grants))
+    by (Some lifetime) e = rw e (turns-settled Taken message now s _ (adds-filter Never _ s.transactions, adds-filter Never _ s.listed, loses-more Taken s.grants s.grants _ (loses-same Taken s.grants)))
+
+-- an ALLOCATE is refused, and may be made again for IPv6 alone
+denied-turns : (Taken : Grant → Type 0) (message : List ℕ) (now : ℕ) (s : State) → Has ForAllocation (purposes_of (id_of message) s) → Turns Taken message now s (allocate_denied (fresh_id s) message now (transaction_ended (id_of message) s))
+denied-turns Taken message now s answers = by (has_code family_not_supported message && leb 2 (length s.families)) refl
+  where
+    u : State
+    u = wait (AllocationCreateFailed IPV4 ∷ []) (record (in_phase s.phase (transaction_ended (id_of message) s)) { families = IPV6 ∷ [] })
+
+    made : IsMade ForAllocation now s (requested (fresh_id s) ForAllocation now u)
+    made = requested-made ForAllocation now s u
+
+    one : (p : Purpose) → Has p (ForAllocation ∷ []) → Has p (purposes_of (id_of message) s)
+    one p (inl e) = rw e answers
+    one p (inr h) = absurd h
+
+    by : (b : Bool) → (has_code family_not_supported message && leb 2 (length s.families)) ≡ b → Turns Taken message now s (allocate_denied (fresh_id s) message now (transaction_ended (id_of message) s))
+    by false e = rw e (turns-settled Taken message now s _ (adds-filter Never _ s.transactions, adds-filter Never _ s.listed, loses-same Taken s.grants))
+    by true e = rw e (
+      adds-one _ s.transactions (A.without_transaction (id_of message) s.transactions) _ (adds-filter _ _ s.transactions) (made-again message now s (requested (fresh_id s) ForAllocation now u) ForAllocation answers made),
+      adds-more _ s.listed (filter (λ l. not (is_for_allocation l.purpose)) s.listed) _ (adds-filter _ _ s.listed) (listed-again message now s (requested (fresh_id s) ForAllocation now u) ForAllocation answers made (ForAllocation ∷ []) one),
+      loses-same Taken s.grants,
+    )
+
+-- ---- what is so judged answers an ALLOCATE
+
+any-allocation : (all : List Purpose) → list_any is_for_allocation all ≡ true → Has ForAllocation all
+any-allocation [] e = cc
+any-allocation (ForAllocation ∷ all) e = inl refl
+any-allocation (ForRefresh family lifetime ∷ all) e = inr (any-allocation all e)
+any-allocation (ForPermission ip ∷ all) e = inr (any-allocation all e)
+any-allocation (ForChannel number peer ∷ all) e = inr (any-allocation all e)
+any-allocation (ForConnect peer ∷ all) e = inr (any-allocation all e)
+any-allocation (ForBind local peer id ∷ all) e = inr (any-allocation all e)
+
+error-answers : (s : State) (message : List ℕ) → authenticating_judgement s message ≡ SignedError → Has ForAllocation (purposes_of (id_of message) s)
+error-answers s message e = by (answers_allocate s message) refl
+  where
+    by : (b : Bool) → answers_allocate s message ≡ b → Has ForAllocation (purposes_of (id_of message) s)
+    by true f = any-allocation (purposes_of (id_of message) s) (and_parts (is_response (class_in message)) (list_any is_for_allocation (purposes_of (id_of message) s)) f).1
+    by false f = let no : Unrelated ≡ SignedError = rw f at e in cc
+
+-- ---- signed replies
+
+-- what its request was made for
+abbrev TakesFor : Judgement → List ℕ → State → Grant → Type 0
+TakesFor j message s g = IsAccepted j × ((p : Purpose) × IsAnswer message s p × ((is_for p g ≡ true) ⊎ GivesBack p))
+
+reply-turns : (j : Judgement) → IsAccepted j → (is_granted : Bool) (message : List ℕ) (now : ℕ) (s : State) → Turns (TakesFor j message s) message now s (response_step is_granted message now s).1
+reply-turns j accepted is_granted message now s =
+    turns-settled (TakesFor j message s) message now s (response_step is_granted message now s).1
+    (settles-wider (IsFor all) (TakesFor j message s) s (response_step is_granted message now s).1 wider (response-fits is_granted message now s))
+  where
+    all : List Purpose
+    all = purposes_of (id_of message) s
+
+    wider : (g : Grant) → IsFor all g → TakesFor j message s g
+    wider g (p, h, is) = (accepted, (p, has-contains p all h, is))
+
+success-turns : (p : Phase) (message : List ℕ) (now : ℕ) (s : State) → Turns (TakesFor SignedSuccess message (record s { phase = p })) message now (record s { phase = p }) (signed_step true message now (record s { phase = p })).1
+success-turns Authenticating message now s = granted-turns _ message now (record s { phase = Authenticating })
+success-turns New message now s = reply-turns SignedSuccess tt true message now (record s { phase = New })
+success-turns Requesting message now s = reply-turns SignedSuccess tt true message now (record s { phase = Requesting })
+success-turns Allocated message now s = reply-turns SignedSuccess tt true message now (record s { phase = Allocated })
+success-turns Closed message now s = reply-turns SignedSuccess tt true message now (record s { phase = Closed })
+
+error-turns : (p : Phase) (message : List ℕ) (now : ℕ) (s : State) → judgement_of (record s { phase = p }) message ≡ SignedError → Turns (TakesFor SignedError message (record s { phase = p })) message now (record s { phase = p }) (signed_step false message now (record s { phase = p })).1
+error-turns Authenticating message now s e =
+    let u = record s { phase = Authenticating } in denied-turns _ message now u (error-answers u message e)
+error-turns New message now s e = reply-turns SignedError tt false message now (record s { phase = New })
+error-turns Requesting message now s e = reply-turns SignedError tt false message now (record s { phase = Requesting })
+error-turns Allocated message now s e = reply-turns SignedError tt false message now (record s { phase = Allocated })
+error-turns Closed message now s e = reply-turns SignedError tt false message now (record s { phase = Closed })
+
+-- ---- what the server requests
+
+requested-turns : (Taken : Grant → Type 0) (message : List ℕ) (now : ℕ) (s : State) → Turns Taken message now s (attempt_requested message s)
+requested-turns Taken message now s = turns-settled Taken message now s _ (by (connection_id_in message) refl (peer_in message) refl)
+  where
+    same : Settles Taken s s
+    same = settles-same Taken s
+
+    by : (i : Option ℕ) → connection_id_in message ≡ i → (p : Option SocketAddr) → peer_in message ≡ p → Settles Taken s (attempt_requested message s)
+    by (Some id) e (Some peer) f =
+        rw (e, f)
+        (on_test (Settles Taken s) (not (is_some (find_allocation_to Tcp (socket_ip peer) s))) _ _ same
+        (on_test (Settles Taken s) (is_connected peer s) _ _ same
+        (adds-same Never s.transactions, adds-same Never s.listed, loses-more Taken s.grants s.grants _ (loses-same Taken s.grants))))
+    by (Some id) e None f = rw (e, f) same
+    by None e p f = rw e same
+
+indicated-settles : (Taken : Grant → Type 0) (message : List ℕ) (s : State) → IfSome (attempt_indicated message s) (Settles Taken s)
+indicated-settles Taken message s = by (connection_id_in message) refl (peer_in message) refl
+  where
+    heeded_if : (b : Bool) (t : State) → Settles Taken s t → IfSome (cond b (Some t) None) (Settles Taken s)
+    heeded_if true t k = k
+    heeded_if false t k = tt
+
+    by : (i : Option ℕ) → connection_id_in message ≡ i → (p : Option SocketAddr) → peer_in message ≡ p → IfSome (attempt_indicated message s) (Settles Taken s)
+    by (Some id) e (Some peer) f = rw (e, f) (heeded_if (accepts_attempt peer s) _ (adds-same Never s.transactions, adds-same Never s.listed, loses-more Taken s.grants s.grants _ (loses-same Taken s.grants)))
+    by (Some id) e None f = rw (e, f) tt
+    by None e p f = rw e tt
+
+-- ---- a whole message
+
+pub message-turns : (message : List ℕ) (now : ℕ) (s : State) → Turns (IsTakenByReply message s) message now s (message_step message now s).1
+message-turns message now s = by (judgement_of s message) refl
+  where
+    indicated : (Taken : Grant → Type 0) (o : Option State) → IfSome o (Settles Taken s) → Turns Taken message now s (option_map_or {T = State} {U = Outcome × State} (λ t. (Handled, t)) o (Ignored, s)).1
+    indicated Taken None k = turns-same Taken message now s
+    indicated Taken (Some t) k = turns-settled Taken message now s t k
+
+    asked : (Taken : Grant → Type 0) (b : Bool) → Turns Taken message now s (cond {A = Outcome × State} b (Handled, attempt_requested message s) (Ignored, s)).1
+    asked Taken true = requested-turns Taken message now s
+    asked Taken false = turns-same Taken message now s
+
+    by : (j : Judgement) → judgement_of s message ≡ j → Turns (TakesFor j message s) message now s (message_step message now s).1
+    by Unrelated e = rw e (turns-same _ message now s)
+    by (Challenged d) e = rw e (challenge-turns _ message d now s)
+    by Fatal e = rw e (wrong-turns _ s.phase message now s)
+    by LateResponse e = rw e (turns-same _ message now s)
+    by DataIndication e = rw e (turns-same _ message now s)
+    by ConnectionAttempt e = rw e (indicated _ (attempt_indicated message s) (indicated-settles _ message s))
+    by SignedRequest e = rw e (asked _ (eqb (method_in message) connection_attempt_method))
+    by SignedSuccess e = rw e (success-turns s.phase message now s)
+    by SignedError e = rw e (error-turns s.phase message now s e)
+
+-- ---- connections that wait to be bound
+
+deadline-grant_identity : (local : SocketAddr) (deadline : Option ℕ) (g : Grant) → grant_identity g ≡ grant_identity (deadline_set local deadline g)
+deadline-grant_identity local deadline (Connection c) = by (same_address c.local local)
+  where
+    by : (b : Bool) → grant_identity (Connection c) ≡ grant_identity (cond b (Connection (record c { deadline = deadline })) (Connection c))
+    by true = refl
+    by false = refl
+deadline-grant_identity local deadline (Allocation a) = refl
+deadline-grant_identity local deadline (Permission ip progress) = refl
+deadline-grant_identity local deadline (Channel number peer progress) = refl
+deadline-grant_identity local deadline (Connect peer) = refl
+deadline-grant_identity local deadline (Offer offer) = refl
+
+again-turns : (c : DataConnection) (message : List ℕ) (d : Challenge) (now : ℕ) (s : State) → Turns (λ g. is_connection_from c.local g ≡ true) message now s (bind_again c (id_of message) d now s)
+again-turns c message d now s = by (find (is_bind_of c.local) (purposes_of (id_of message) s)) refl
+  where
+    u : State
+    u = unlisted (is_connection_from c.local) (with_held d s)
+
+    by : (o : Option Purpose) → find (is_bind_of c.local) (purposes_of (id_of message) s) ≡ o → Turns (λ g. is_connection_from c.local g ≡ true) message now s (bind_again c (id_of message) d now s)
+    by None e = rw e (turns-same _ message now s)
+    by (Some purpose) e =
+        let answers = found-has (is_bind_of c.local) (purposes_of (id_of message) s) purpose e in
+        let t = with_deadline c.local (Some (later_by bind_time now)) (requested (fresh_id s) purpose now u) in
+        let made : IsMade purpose now s t = record { text = request_for u purpose (fresh_id s); spelled = inl refl; outstanding = (requested-made purpose now s u).outstanding } in
+        rw e (
+          adds-one _ s.transactions s.transactions (request_made purpose now s u) (adds-same _ s.transactions) (made-again message now s t purpose answers made),
+          adds-more _ s.listed u.listed (listings (fresh_id s) (purpose ∷ [])) (adds-filter _ _ s.listed) (listed-again message now s t purpose answers made (purpose ∷ []) (only purpose answers)),
+          loses-map _ (deadline_set c.local _) s.grants (deadline-grant_identity c.local _),
+        )
+      where
+        only : (purpose : Purpose) → Has purpose (purposes_of (id_of message) s) → (p : Purpose) → Has p (purpose ∷ []) → Has p (purposes_of (id_of message) s)
+        only purpose answers p (inl e) = rw e answers
+        only purpose answers p (inr h) = absurd h
+
+answered-turns : (c : DataConnection) (message : List ℕ) (now : ℕ) (s : State) → Turns (λ g. is_connection_from c.local g ≡ true) message now s (bind_answered c message now s)
+answered-turns c message now s = by (bind_judgement s c.local message) refl
+  where
+    Taken : Grant → Type 0
+    Taken g = is_connection_from c.local g ≡ true
+
+    unbound : Turns Taken message now s (not_bound c s)
+    unbound = turns-settled Taken message now s (not_bound c s)
+        (adds-same Never s.transactions, adds-filter Never _ s.listed, loses-filter Taken (is_connection_from c.local) s.grants (λ g e. e))
+
+    by : (j : Judgement) → bind_judgement s c.local message ≡ j → Turns Taken message now s (bind_answered c message now s)
+    by (Challenged d) e = rw e (again-turns c message d now s)
+    by SignedSuccess e = rw e (turns-settled Taken message now s (bound c (transaction_ended (id_of message) s))
+        (adds-filter Never _ s.transactions, adds-filter Never _ s.listed, loses-map Taken (deadline_set c.local None) s.grants (deadline-grant_identity c.local None)))
+    by SignedError e = rw e (turns-settled Taken message now s (not_bound c (transaction_ended (id_of message) s))
+        (adds-filter Never _ s.transactions, adds-filter Never _ s.listed, loses-filter Taken (is_connection_from c.local) s.grants (λ g e. e)))
+    by Unrelated e = rw e unbound
+    by Fatal e = rw e unbound
+    by LateResponse e = rw e unbound
+    by DataIndication e = rw e unbound
+    by ConnectionAttempt e = rw e unbound
+    by SignedRequest e = rw e unbound
+
+bind_in_phase : (p : Phase) (local : SocketAddr) (message : List ℕ) (now : ℕ) (s : State) → Turns (λ g. is_connection_from local g ≡ true) message now (record s { phase = p }) (bind_step local message now (record s { phase = p }))
+bind_in_phase New local message now s = turns-same _ message now (record s { phase = New })
+bind_in_phase Requesting local message now s = turns-same _ message now (record s { phase = Requesting })
+bind_in_phase Authenticating local message now s = turns-same _ message now (record s { phase = Authenticating })
+bind_in_phase Closed local message now s = turns-same _ message now (record s { phase = Closed })
+bind_in_phase Allocated local message now s = by (connection_at local s) refl
+  where
+    u : State
+    u = record s { phase = Allocated }
+
+    Claim : State → Type 0
+    Claim t = Turns (λ g. is_connection_from local g ≡ true) message now u t
+
+    about : (c : DataConnection) → c.local ≡ local → Claim (bind_answered c message now u)
+    about c e = subst (λ a. Turns (λ g. is_connection_from a g ≡ true) message now u (bind_answered c message now u)) e (answered-turns c message now u)
+
+    by : (o : Option DataConnection) → connection_at local s ≡ o → Claim (bind_step local message now u)
+    by None e = rw e (turns-same _ message now u)
+    by (Some c) e =
+        let found = has-found (λ (d : DataConnection). same_address d.local local) c (filter_map as_connection s.grants) e in
+        rw e (on_test Claim (eqb (method_in message) connection_bind_method) (bind_answered c message now u) u (about c (same_address-true c.local local found.1)) (turns-same _ message now u))
+
+bind-turns : (local : SocketAddr) (message : List ℕ) (now : ℕ) (s : State) → Turns (λ g. is_connection_from local g ≡ true) message now s (bind_step local message now s)
+bind-turns local message now s = bind_in_phase s.phase local message now s
+
+-- ---- datagrams and frames
+
+turns-wider : (Taken Other : Grant → Type 0) (message : List ℕ) (now : ℕ) (s t : State) → ((g : Grant) → Taken g → Other g) → Turns Taken message now s t → Turns Other message now s t
+turns-wider Taken Other message now s t wider (made, listed, lost) = (made, listed, loses-wider Taken Other s.grants t.grants wider lost)
+
+-- by the message, or since it was received over the connection itself
+abbrev TakenBy : Option Stream → List ℕ → State → Grant → Type 0
+TakenBy o bytes s g = IsTakenByReply bytes s g ⊎ IsOverItself o g
+
+whole-turns : (o : Option Stream) (bytes : List ℕ) (now : ℕ) (s : State) → Turns (TakenBy o bytes s) bytes now s (message_step bytes now s).1
+whole-turns o bytes now s = turns-wider (IsTakenByReply bytes s) (TakenBy o bytes s) bytes now s (message_step bytes now s).1 (λ g h. inl h) (message-turns bytes now s)
+
+datagram-turns : (bytes : List ℕ) (now : ℕ) (s : State) → Turns (TakenBy None bytes s) bytes now s (datagram_step bytes now s).1
+datagram-turns bytes now s =
+    by_test Claim (is_message bytes) (message_step bytes now s) _ (whole-turns None bytes now s)
+    (by_test Claim (is_channel_frame bytes) (channel_sent s bytes, s) (Ignored, s) same same)
+  where
+    Claim : State → Type 0
+    Claim t = Turns (TakenBy None bytes s) bytes now s t
+
+    same : Claim s
+    same = turns-same (TakenBy None bytes s) bytes now s
+
+frame_in_mode : (m : Mode) (stream : Stream) (bytes : List ℕ) (now : ℕ) (s : State) → Turns (TakenBy (Some (record stream { mode = m })) bytes s) bytes now s (frame_step (record stream { mode = m }) bytes now s).1
+frame_in_mode Control stream bytes now s =
+    by_test Claim (not (begins_message bytes)) (channel_sent s bytes, s) _ same
+    (by_test Claim (is_message bytes) (message_step bytes now s) (Handled, s) (whole-turns o bytes now s) same)
+  where
+    o : Option Stream
+    o = Some (record stream { mode = Control })
+
+    Claim : State → Type 0
+    Claim t = Turns (TakenBy o bytes s) bytes now s t
+
+    same : Claim s
+    same = turns-same (TakenBy o bytes s) bytes now s
+frame_in_mode Waiting stream bytes now s =
+    by_test Claim (not (begins_message bytes)) (Ignored, s) _ same
+    (by_test Claim (is_message bytes) (Handled, bind_step stream.local bytes now s) (Handled, s) bind same)
+  where
+    o : Option Stream
+    o = Some (record stream { mode = Waiting })
+
+    Claim : State → Type 0
+    Claim t = Turns (TakenBy o bytes s) bytes now s t
+
+    same : Claim s
+    same = turns-same (TakenBy o bytes s) bytes now s
+
+    bind : Claim (bind_step stream.local bytes now s)
+    bind = turns-wider (λ g. is_connection_from stream.local g ≡ true) (TakenBy o bytes s) bytes now s (bind_step stream.local bytes now s) (λ g h. inr (refl, h)) (bind-turns stream.local bytes now s)
+frame_in_mode (Bound peer) stream bytes now s = turns-same _ bytes now s
+frame_in_mode Broken stream bytes now s = turns-same _ bytes now s
+
+-- an input that is processed requests this, and removes grants so
+pub turn-turns : (one : Input) → Turns (λ g. IsRemovedByInput g one) one.bytes one.moment one.before (processed one).1
+turn-turns one = by one.stream
+  where
+    by : (o : Option Stream) → Turns (λ g. IsRemovedByInput g (record one { stream = o })) one.bytes one.moment one.before (processed (record one { stream = o })).1
+    by None = datagram-turns one.bytes one.moment one.before
+    by (Some stream) = frame_in_mode stream.mode stream one.bytes one.moment one.before

@@ -1,0 +1,320 @@
+-- What time removes, and what is requested as it passes.
+use Rattle.std.proofs.Common.{◌≡◌, ◌⊎◌, ℕ, ◌<◌, ◌≤◌, eqb, leb, Bool, true, false, cond, ◌&&◌, ◌||◌, List, [], ◌∷◌, ◌++◌, fold, Option, Some, None, refl, sym, subst, inl, inr}
+use Rattle.std.specs.Prelude.{All, IsSome, drop, find, flat_map, is_some, reverse, slice_get, ⊤}
+use Rattle.std.specs.List.{Contains}
+use Rattle.std.proofs.lemmas.Bool.{leb-false, leb-true}
+use Rattle.std.specs.declared.net.socket_addr.SocketAddr.{SocketAddr}
+use Rattle.turn_types.specs.declared.family.AddressFamily.{AddressFamily}
+use Rattle.turn_agent.specs.Agent.{due, first_sent, timed_out_transaction, resent, sent_again}
+use Rattle.turn_agent.specs.declared.transaction.Transaction.{Transaction}
+use Rattle.turn_client_api.specs.State.{State, DataOffer, Grant, Allocation, Permission, Channel, Connect, Offer, Connection, Relay, Pending, Active, Reserved, Purpose, ForAllocation, Phase, New, Requesting, Authenticating, Allocated, Closed, agent_of}
+use Rattle.turn_client_api.specs.Grants.{allocations, family_of, in_sequence, is_connect, is_of, is_pending_channel, is_pending_permission, without_grants}
+use Rattle.turn_client_api.specs.Requests.{first_allocate, fresh_id, request_for, to_server}
+use Rattle.turn_client_api.specs.Effect.{closed, transaction_ended}
+use Rattle.turn_client_api.specs.Due.{has_event, has_reply, is_paused}
+use Rattle.turn_client_api.specs.Poll.{answer_by, answer_step, channel_lapsed, connections_unbound, timed_out_purposes, timed_out_step, allocation_expires, failed_by_timeout, is_lapsed_channel, is_listed_for_allocation, lapsed, lapsed_allocation, lapsed_in, last_channel_lapsed, next_offer, offer_step, offers_timed_out, permissions_lapsed, poll_step, refreshes_timed_out, set_free, timed_step, told, first_reported, unreported_in}
+use Rattle.turn_client_api.specs.Transmit.{idle_step, queue_step, refreshes_in, reply_step, sent, sent_at_once, transmit_step}
+use Rattle.turn_client_api.specs.Steps.{Call, Poll, PollTransmit}
+use Rattle.turn_client_laws.specs.LawsBodies.{expiry_times}
+use Rattle.turn_client_laws.specs.LawsRequests.{AsksFor, IsMade}
+use Rattle.turn_client_laws.specs.LawsGone.{IsTakenBy, IsTimeUp, grant_identity}
+use Rattle.turn_client_laws.proofs.EarlyLapseLemmas.{lapsed-none}
+use Rattle.turn_client_laws.proofs.HasLemmas.{Has, all-has, has-found, has-right}
+use Rattle.turn_client_laws.proofs.LapseLemmas.{lapsed-shrinks}
+use Rattle.turn_client_laws.proofs.MoveCallLemmas.{Does, ListedAt, MadeAt, does-same, does-settled}
+use Rattle.turn_client_laws.proofs.MoveLemmas.{Adds, Loses, Never, Remains, Settles, adds-filter, adds-one, adds-same, adds-then, by_test, loses-same, on_test, settles-same}
+use Rattle.turn_client_laws.proofs.GrantOriginLemmas.{has-mapped}
+use Rattle.turn_client_laws.proofs.MoveSocketLemmas.{by_found}
+use Rattle.turn_client_laws.proofs.StandLemmas.{has-contains}
+
+-- ---- what is listed as time passes
+
+-- nothing is listed anew
+abbrev Fewer : State → State → Type 0
+Fewer s t = Adds Never s.listed t.listed
+
+fewer-same : (s : State) → Fewer s s
+fewer-same s = adds-same Never s.listed
+
+fewer-then : (s t u : State) → Fewer s t → Fewer t u → Fewer s u
+fewer-then s t u first later = adds-then Never s.listed t.listed u.listed first later
+
+abbrev AllFewer : List (State → State) → Type 0
+AllFewer [] = ⊤
+AllFewer (step ∷ steps) = ((s : State) → Fewer s (step s)) × AllFewer steps
+
+in_sequence-fewer : (steps : List (State → State)) (s : State) → AllFewer steps → Fewer s (in_sequence steps s)
+in_sequence-fewer [] s all = fewer-same s
+in_sequence-fewer (step ∷ steps) s all = fewer-then s (step s) (in_sequence steps (step s)) (all.0 s) (in_sequence-fewer steps (step s) all.1)
+
+channel-fewer : (o : Option Grant) (s : State) → Fewer s (channel_lapsed o s)
+channel-fewer None s = fewer-same s
+channel-fewer (Some (Channel number peer (Active expiry))) s = adds-filter Never _ s.listed
+channel-fewer (Some (Channel number peer Pending)) s = fewer-same s
+channel-fewer (Some (Channel number peer (Reserved until))) s = fewer-same s
+channel-fewer (Some (Allocation a)) s = fewer-same s
+channel-fewer (Some (Permission ip progress)) s = fewer-same s
+channel-fewer (Some (Connect peer)) s = fewer-same s
+channel-fewer (Some (Offer offer)) s = fewer-same s
+channel-fewer (Some (Connection c)) s = fewer-same s
+
+lapsed_in-fewer : (family : AddressFamily) (given : Option ℕ) (purposes : List Purpose) (now : ℕ) (s : State) → Fewer s (lapsed_in family given purposes now s)
+lapsed_in-fewer family given purposes now s = in_sequence-fewer steps s (
+  (λ t. adds-filter Never _ t.listed),
+  (
+    (λ t. adds-filter Never _ t.listed),
+    (
+      (λ t. channel-fewer (find (λ g. is_of family g && is_lapsed_channel now g) (reverse t.grants)) t),
+      (
+        (λ t. adds-filter Never _ t.listed),
+        (
+          (λ t. adds-filter Never _ t.listed),
+          (
+            (λ t. adds-filter Never _ t.listed),
+            (
+              (λ t. adds-filter Never _ t.listed),
+              (
+                (λ t. adds-filter Never _ t.listed),
+                ((λ t. adds-filter Never _ t.listed), tt),
+              ),
+            ),
+          ),
+        ),
+      ),
+    ),
+  ),
+)
+  where
+    steps : List (State → State)
+    steps =
+        failed_by_timeout family purposes is_pending_channel
+        ∷ failed_by_timeout family purposes is_pending_permission
+        ∷ last_channel_lapsed family now
+        ∷ permissions_lapsed family now
+        ∷ failed_by_timeout family purposes is_connect
+        ∷ connections_unbound family purposes now
+        ∷ offers_timed_out family given
+        ∷ refreshes_timed_out family purposes
+        ∷ set_free family now
+        ∷ []
+
+lapsed-fewer : (given : Option ℕ) (purposes : List Purpose) (now : ℕ) (relays : List Relay) (s : State) → Fewer s (fold (lapsed_allocation given purposes now) s relays)
+lapsed-fewer given purposes now [] s = fewer-same s
+lapsed-fewer given purposes now (a ∷ relays) s =
+    let t = lapsed_allocation given purposes now s a in
+    fewer-then s t (fold (lapsed_allocation given purposes now) t relays)
+    (on_test (Fewer s) (allocation_expires purposes now s a) (without_grants (is_of (family_of a.relayed)) s) (lapsed_in (family_of a.relayed) given purposes now s) (adds-filter Never _ s.listed) (lapsed_in-fewer (family_of a.relayed) given purposes now s))
+    (lapsed-fewer given purposes now relays t)
+
+-- ---- what time removes
+
+-- nothing has expired yet, or something has
+early-or : (now : ℕ) (ms : List ℕ) → All (λ m. now < m) ms ⊎ ((m : ℕ) × Contains ms m × (m ≤ now))
+early-or now ms = by (find (λ m. leb m now) ms) refl
+  where
+    by : (o : Option ℕ) → find (λ m. leb m now) ms ≡ o → All (λ m. now < m) ms ⊎ ((m : ℕ) × Contains ms m × (m ≤ now))
+    by None e = inl (all-has (λ m. now < m) ms (λ m h. leb-false m now (fails m ms e h)))
+      where
+        fails : (m : ℕ) (xs : List ℕ) → find (λ m. leb m now) xs ≡ None → Has m xs → leb m now ≡ false
+        fails m [] none h = absurd h
+        fails m (x ∷ xs) none h = at (leb x now) refl h (fails m xs)
+          where
+            at : (b : Bool) → leb x now ≡ b → Has m (x ∷ xs) → (find (λ m. leb m now) xs ≡ None → Has m xs → leb m now ≡ false) → leb m now ≡ false
+            at true f k later = let no : Some x ≡ None = rw f at none in cc
+            at false f (inl is) later = rw is f
+            at false f (inr there) later = later (rw f at none) there
+    by (Some m) e = let (there, le) = has-found (λ m. leb m now) m ms e in inr (m, has-contains m ms there, leb-true m now le)
+
+module _ (now : ℕ) (s : State) where
+  -- this remains
+  abbrev Ends : State → Type 0
+  Ends t = Settles (IsTakenBy (Poll now) s) s t
+
+  -- with the same requests and listings, and the grants are removed so
+  answer-ends : (given : Option ℕ) (t : State) → Ends t → Ends (answer_step given now t).1
+  answer-ends given t ends = by t.closes t.phase (allocations t)
+    where
+      by : (closes : List SocketAddr) (p : Phase) (relays : List Relay) → Ends (answer_by closes p relays given now t).1
+      by (local ∷ others) p relays = ends
+      by [] Allocated [] = ends
+      by [] Allocated (a ∷ relays) = ends
+      by [] New relays = ends
+      by [] Requesting relays = ends
+      by [] Authenticating relays = ends
+      by [] Closed relays = ends
+
+  up-loses : IsTimeUp now s → (gs : List Grant) → Loses (IsTakenBy (Poll now) s) s.grants gs
+  up-loses up gs g h = inr up
+
+  same-ends : Ends s
+  same-ends = settles-same (IsTakenBy (Poll now) s) s
+
+  -- no transaction timed out
+  none-ends : (p : Phase) → s.phase ≡ p → Ends (timed_step p None now s).1
+  none-ends New e = same-ends
+  none-ends Requesting e = answer-ends None s same-ends
+  none-ends Authenticating e = answer-ends None s same-ends
+  none-ends Closed e = same-ends
+  none-ends Allocated e = answer-ends None (lapsed None now s) (by (early-or now (expiry_times s)))
+    where
+      by : All (λ m. now < m) (expiry_times s) ⊎ ((m : ℕ) × Contains (expiry_times s) m × (m ≤ now)) → Ends (lapsed None now s)
+      by (inl early) = rw (lapsed-none now s early) same-ends
+      by (inr come) = (
+        subst (λ ts. Adds Never s.transactions ts) (sym (lapsed-shrinks None now s).transactions) (adds-same Never s.transactions),
+        lapsed-fewer None (timed_out_purposes None s) now (allocations s) s,
+        up-loses (inr (e, come)) (lapsed None now s).grants,
+      )
+
+  -- the transaction timed out
+  given-ends : (x : Transaction) → IsTimeUp now s → (p : Phase) → Ends (timed_step p (Some x.id) now (transaction_ended x.id s)).1
+  given-ends x up p = by p
+    where
+      u : State
+      u = transaction_ended x.id s
+
+      over : Ends u
+      over = (adds-filter Never _ s.transactions, adds-same Never s.listed, up-loses up s.grants)
+
+      shut : Ends (closed u)
+      shut = (adds-filter Never _ s.transactions, adds-filter Never _ s.listed, up-loses up s.grants)
+
+      by : (p : Phase) → Ends (timed_step p (Some x.id) now u).1
+      by New = over
+      by Requesting = shut
+      by Closed = over
+      by Authenticating = at (is_listed_for_allocation x.id u)
+        where
+          at : (b : Bool) → Ends (answer_step (Some x.id) now (cond b (closed u) u)).1
+          at true = answer-ends (Some x.id) (closed u) shut
+          at false = answer-ends (Some x.id) u over
+      by Allocated = answer-ends (Some x.id) (lapsed (Some x.id) now u) (
+        subst (λ ts. Adds Never s.transactions ts) (sym (lapsed-shrinks (Some x.id) now u).transactions) (adds-filter Never _ s.transactions),
+        lapsed-fewer (Some x.id) (timed_out_purposes (Some x.id) u) now (allocations u) u,
+        up-loses up (lapsed (Some x.id) now u).grants,
+      )
+
+pub told-loses : (Taken : Grant → Type 0) (family : AddressFamily) (gs : List Grant) → Loses Taken gs (first_reported family gs)
+told-loses Taken family [] g h = absurd h
+told-loses Taken family (x ∷ gs) g h = by (is_some (unreported_in family x)) h (told-loses Taken family gs g)
+  where
+    told-grant_identity : (g : Grant) → grant_identity g ≡ grant_identity (told g)
+    told-grant_identity (Offer offer) = refl
+    told-grant_identity (Allocation a) = refl
+    told-grant_identity (Permission ip progress) = refl
+    told-grant_identity (Channel number peer progress) = refl
+    told-grant_identity (Connect peer) = refl
+    told-grant_identity (Connection c) = refl
+
+    further : Remains g (first_reported family gs) ⊎ Taken g → Remains g (x ∷ first_reported family gs) ⊎ Taken g
+    further (inl (is, there, same)) = inl (is, inr there, same)
+    further (inr taken) = inr taken
+
+    by : (b : Bool) → Has g (x ∷ gs) → (Has g gs → Remains g (first_reported family gs) ⊎ Taken g) → Remains g (cond b (told x ∷ gs) (x ∷ first_reported family gs)) ⊎ Taken g
+    by true (inl is) later = inl (told x, inl refl, rw is (told-grant_identity x))
+    by true (inr there) later = inl (g, inr there, refl)
+    by false (inl is) later = inl (g, inl is, refl)
+    by false (inr there) later = further (later there)
+
+pub poll-does : (now : ℕ) (s : State) → Does (Poll now) s (poll_step now s).1
+poll-does now s =
+    by_test (Does (Poll now) s) (has_event s || has_reply s) _ _ (does-same (Poll now) s)
+    (by_found (Does (Poll now) s) (λ offer. offer_step offer s) (next_offer s) (timed_out_step now s) (λ offer e. offered offer)
+    (by_found (Does (Poll now) s) (λ t. timed_step s.phase (Some t.id) now (transaction_ended t.id s)) (timed_out_transaction (agent_of s) now) (timed_step s.phase None now s)
+    (λ x e. does-settled (Poll now) s _ (given-ends now s x (inl (some x e)) s.phase)) (does-settled (Poll now) s _ (none-ends now s s.phase refl))))
+  where
+    some : (x : Transaction) → timed_out_transaction (agent_of s) now ≡ Some x → IsSome (timed_out_transaction (agent_of s) now)
+    some x e = rw e refl
+
+    offered : (offer : DataOffer) → Does (Poll now) s (offer_step offer s).1
+    offered offer = does-settled (Poll now) s (offer_step offer s).1
+        (adds-same Never s.transactions, adds-same Never s.listed, told-loses (IsTakenBy (Poll now) s) (family_of offer.peer) s.grants)
+
+-- ---- what is sent
+
+module _ (now : ℕ) (s : State) where
+  abbrev sending : Call
+  sending = PollTransmit now
+
+  resent-does : (x : Transaction) → Does sending s (sent now (record s { transactions = resent x.id now s.transactions }))
+  resent-does x = (again, adds-same _ s.listed, loses-same (IsTakenBy sending s) s.grants)
+    where
+      t : State
+      t = sent now (record s { transactions = resent x.id now s.transactions })
+
+      again : Adds (MadeAt sending s t) s.transactions t.transactions
+      again y h = by (has-mapped (λ (z : Transaction). cond (eqb z.id x.id) (sent_again now z) z) y s.transactions h)
+        where
+          by : (z : Transaction) × Has z s.transactions × (y ≡ cond (eqb z.id x.id) (sent_again now z) z) → Has y s.transactions ⊎ MadeAt sending s t y
+          by (z, there, e) = at (eqb z.id x.id) e
+            where
+              at : (b : Bool) → y ≡ cond b (sent_again now z) z → Has y s.transactions ⊎ MadeAt sending s t y
+              at true f = inr (inl (z, has-contains z s.transactions there, f))
+              at false f = inl (rw f there)
+
+  -- a request is sent at once
+  at_once-does : (text : List ℕ) (purpose : Purpose) (u : State) → AsksFor sending s purpose now → Settles (IsTakenBy sending s) s u → (made : IsMade purpose now s (sent_at_once text purpose now u).1) → (first_sent (fresh_id u) u.remote now text ≡ first_sent (fresh_id s) u.remote now made.text) → fresh_id u ≡ fresh_id s → Does sending s (sent_at_once text purpose now u).1
+  at_once-does text purpose u asks settles made spelled fresh = (
+    adds-one (MadeAt sending s t) s.transactions u.transactions (first_sent (fresh_id u) u.remote now text) (λ y h. wider (settles.0 y h)) (inr (purpose, now, asks, (made, spelled))),
+    adds-one (ListedAt sending s t) s.listed u.listed (record { id = fresh_id u; purpose = purpose }) (λ l h. wider (settles.1 l h)) (purpose, now, asks, inl refl, (made, fresh)),
+    settles.2,
+  )
+    where
+      t : State
+      t = (sent_at_once text purpose now u).1
+
+      wider : {Y X : Type 0} → Y ⊎ ⊥ → Y ⊎ X
+      wider (inl h) = inl h
+      wider (inr never) = absurd never
+
+idle-does : (p : Phase) (now : ℕ) (s : State) → Does (PollTransmit now) (record s { phase = p }) (idle_step p now (record s { phase = p })).1
+idle-does Requesting now s = does-same (PollTransmit now) (record s { phase = Requesting })
+idle-does Authenticating now s = does-same (PollTransmit now) (record s { phase = Authenticating })
+idle-does Closed now s = does-same (PollTransmit now) (record s { phase = Closed })
+idle-does New now s =
+    at_once-does now was text ForAllocation u (refl, inl (refl, refl)) (settles-same (IsTakenBy (PollTransmit now) was) was) made refl refl
+  where
+    was : State
+    was = record s { phase = New }
+
+    u : State
+    u = record s { phase = Requesting }
+
+    text : List ℕ
+    text = first_allocate u (fresh_id u)
+
+    x : Transaction
+    x = first_sent (fresh_id u) u.remote now text
+
+    made : IsMade ForAllocation now was (sent_at_once text ForAllocation now u).1
+    made = record { text = text; spelled = inr (refl, refl, refl); outstanding = has-contains x (s.transactions ++ x ∷ []) (has-right x s.transactions (x ∷ []) (inl refl)) }
+idle-does Allocated now s =
+    by_found (Does (PollTransmit now) u) (λ purpose. sent_at_once (request_for u purpose (fresh_id u)) purpose now u)
+    (slice_get (flat_map (refreshes_in now u) (allocations u)) 0) (None, u) refreshed (does-same (PollTransmit now) u)
+  where
+    u : State
+    u = record s { phase = Allocated }
+
+    refreshed : (purpose : Purpose) → slice_get (flat_map (refreshes_in now u) (allocations u)) 0 ≡ Some purpose → Does (PollTransmit now) u (sent_at_once (request_for u purpose (fresh_id u)) purpose now u).1
+    refreshed purpose e =
+        at_once-does now u (request_for u purpose (fresh_id u)) purpose u (refl, inr (refl, e)) (settles-same (IsTakenBy (PollTransmit now) u) u) (made purpose) refl refl
+      where
+        made : (purpose : Purpose) → IsMade purpose now u (sent_at_once (request_for u purpose (fresh_id u)) purpose now u).1
+        made purpose = record {
+          text = request_for u purpose (fresh_id u);
+          spelled = inl refl;
+          outstanding = has-contains (first_sent (fresh_id u) u.remote now (request_for u purpose (fresh_id u))) (s.transactions ++ first_sent (fresh_id u) u.remote now (request_for u purpose (fresh_id u)) ∷ []) (has-right _ s.transactions _ (inl refl));
+        }
+
+pub transmit-does : (now : ℕ) (s : State) → Does (PollTransmit now) s (transmit_step now s).1
+transmit-does now s =
+    by_found Claim (λ t. (Some (record (to_server s s.local t.request) { to = t.to }), sent now (record s { transactions = resent t.id now s.transactions })))
+    (due (agent_of s) now) (cond (is_paused now s) (reply_step s) (queue_step now s)) (λ x e. resent-does now s x)
+    (by_test Claim (is_paused now s) (reply_step s) (queue_step now s) (does-settled (PollTransmit now) s (reply_step s).1 same)
+    (by_found Claim (λ q. (Some q.packet, sent now (record s { queue = drop 1 s.queue })))
+    (slice_get s.queue 0) (idle_step s.phase now s) (λ q e. does-settled (PollTransmit now) s (sent now (record s { queue = drop 1 s.queue })) same) (idle-does s.phase now s)))
+  where
+    Claim : State → Type 0
+    Claim t = Does (PollTransmit now) s t
+
+    same : Settles (IsTakenBy (PollTransmit now) s) s s
+    same = settles-same (IsTakenBy (PollTransmit now) s) s

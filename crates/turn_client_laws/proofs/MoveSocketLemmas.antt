@@ -1,0 +1,227 @@
+-- What is requested and removed with data connections, with data, and when allocations are deleted.
+use Rattle.std.proofs.Common.{◌≡◌, ◌⊎◌, ℕ, leb, Bool, true, false, not, cond, ◌&&◌, List, [], ◌∷◌, ◌++◌, map, filter, Option, Some, None, refl, ◌∙◌, inl, inr}
+use Rattle.std.specs.Prelude.{filter_map, find, is_some}
+use Rattle.std.specs.Option.{option_map_or}
+use Rattle.std.specs.Net.Socket.{socket_ip}
+use Rattle.std.specs.declared.net.socket_addr.SocketAddr.{SocketAddr}
+use Rattle.turn_stun.specs.declared.transport.TransportType.{TransportType}
+use Rattle.turn_stun.specs.declared.transport.TransportType.TheVariants.{Udp, Tcp}
+use Rattle.turn_types.specs.declared.family.AddressFamily.{AddressFamily}
+use Rattle.turn_types.specs.declared.family.AddressFamily.TheVariants.{IPV4}
+use Rattle.turn_agent.specs.Agent.{first_sent, same_address}
+use Rattle.turn_agent.specs.declared.transaction.Transaction.{Transaction}
+use Rattle.turn_client_api.specs.State.{State, Grant, Allocation, Permission, Channel, Connect, Offer, Connection, DataConnection, Listing, Origin, OwnConnect, ServerRequest, ServerIndication, Purpose, ForRefresh, ForBind, Relay, later_by}
+use Rattle.turn_client_api.specs.Grants.{allocations, changed_allocation, as_connection, family_of, is_connection_from, same_transport, with_grant}
+use Rattle.turn_client_api.specs.Requests.{accepted_reply, fresh_id, listings, request_for, requested}
+use Rattle.turn_client_api.specs.Retry.{bind_time}
+use Rattle.turn_client_api.specs.Connections.{connection_at}
+use Rattle.turn_client_api.specs.Receive.{connection_gone, tcp_closed_step}
+use Rattle.turn_client_api.specs.Streams.{without_stream}
+use Rattle.turn_client_api.specs.Calls.{active_channel, allocated_tcp_socket_step, answered_with, bound_to, delete_step, delete_text, deleted, can_send_to, is_allocated, is_closed, is_control, is_granted_in, is_local_taken, is_offer_of, offer_origin, offer_taken, on_channel, on_connection, protocol_error_step, send_over, send_to_step, socket_opened, socket_refused, socket_step, with_stream, without_first}
+use Rattle.turn_client_api.specs.declared.poll.Socket5Tuple.{Socket5Tuple}
+use Rattle.turn_client_api.specs.Steps.{Call, Delete, AllocatedTcpSocket, TcpClosed, SendTo, ProtocolError}
+use Rattle.turn_client_laws.specs.LawsRequests.{IsMade}
+use Rattle.turn_client_laws.specs.LawsGone.{IsTakenBy, grant_identity}
+use Rattle.turn_client_laws.proofs.HasLemmas.{Has, has-right}
+use Rattle.turn_client_laws.proofs.MoveLemmas.{Loses, Never, Remains, Settles, adds-filter, adds-more, adds-one, adds-same, by_test, loses-filter, loses-map, loses-more, loses-same, on_test, remains-here, settles-same}
+use Rattle.turn_client_laws.proofs.MoveCallLemmas.{Does, ListedAt, MadeAt, does-same, does-settled}
+use Rattle.turn_client_laws.proofs.MoveMessageLemmas.{request_made, requested-made}
+use Rattle.turn_client_laws.proofs.GrantOriginLemmas.{has-mapped}
+use Rattle.turn_client_laws.proofs.StandLemmas.{has-contains}
+
+-- a pair by the result of a look-up
+pub by_found : {A X : Type 0} (P : State → Type 0) (f : X → A × State) (o : Option X) (y : A × State) → ((x : X) → o ≡ Some x → P (f x).1) → P y.1 → P (option_map_or f o y).1
+by_found P f None y k l = l
+by_found P f (Some x) y k l = k x refl
+
+-- ---- a data connection ends
+
+gone-does : (call : Call) (local : SocketAddr) (s : State) → ((g : Grant) → is_connection_from local g ≡ true → IsTakenBy call s g) → Does call s (connection_gone local s)
+gone-does call local s takes =
+    on_test (Does call s) (is_some (connection_at local s)) _ s
+    (does-settled call s _ (adds-same Never s.transactions, adds-filter Never _ s.listed, loses-filter (IsTakenBy call s) (is_connection_from local) s.grants takes))
+    (does-same call s)
+
+-- the same, with its stream
+pub gone-settles : (local : SocketAddr) (s : State) → Settles (λ g. is_connection_from local g ≡ true) s (without_stream local (connection_gone local s))
+gone-settles local s = by (is_some (connection_at local s)) refl
+  where
+    by : (b : Bool) → is_some (connection_at local s) ≡ b → Settles (λ g. is_connection_from local g ≡ true) s (without_stream local (connection_gone local s))
+    by true e = rw e (adds-same Never s.transactions, adds-filter Never _ s.listed, loses-filter (λ g. is_connection_from local g ≡ true) (is_connection_from local) s.grants (λ g is. is))
+    by false e = rw e (settles-same (λ g. is_connection_from local g ≡ true) s)
+
+pub closed-does : (local remote : SocketAddr) (now : ℕ) (s : State) → Does (TcpClosed local remote now) s (tcp_closed_step local remote s)
+closed-does local remote now s =
+    on_test (Does (TcpClosed local remote now) s) (same_transport s.transport Tcp && same_address remote s.remote) _ s
+    (gone-does (TcpClosed local remote now) local s (λ g e. e)) (does-same (TcpClosed local remote now) s)
+
+-- ---- an offer is removed
+
+loses-first : (Taken : Grant → Type 0) (which : Grant → Bool) (gs : List Grant) → ((g : Grant) → which g ≡ true → Taken g) → Loses Taken gs (without_first which gs)
+loses-first Taken which [] takes g h = absurd h
+loses-first Taken which (x ∷ gs) takes g h = by (which x) refl h (loses-first Taken which gs takes g)
+  where
+    Left : List Grant → Type 0
+    Left later = Remains g later ⊎ Taken g
+
+    further : Left (without_first which gs) → Left (x ∷ without_first which gs)
+    further (inl (is, there, same)) = inl (is, inr there, same)
+    further (inr taken) = inr taken
+
+    by : (b : Bool) → which x ≡ b → Has g (x ∷ gs) → (Has g gs → Left (without_first which gs)) → Left (cond b gs (x ∷ without_first which gs))
+    by true e (inl is) later = inr (takes g (rw is e))
+    by true e (inr there) later = inl (remains-here g gs there)
+    by false e (inl is) later = inl (g, inl is, refl)
+    by false e (inr there) later = further (later there)
+
+module _ (id : ℕ) (tuple : Socket5Tuple) (peer : SocketAddr) (now : ℕ) (s : State) where
+  abbrev taking : Option SocketAddr → Call
+  taking local = AllocatedTcpSocket id tuple peer local now
+
+  taken-loses : (local : Option SocketAddr) → Loses (IsTakenBy (taking local) s) s.grants (offer_taken id peer s).grants
+  taken-loses local = loses-first (IsTakenBy (taking local) s) (is_offer_of id peer) s.grants (λ g e. e)
+
+  refused-does : (origin : Origin) → Does (taking None) s (socket_refused id peer origin s)
+  refused-does OwnConnect = does-settled (taking None) s _ (adds-same Never s.transactions, adds-same Never s.listed, taken-loses None)
+  refused-does ServerIndication = does-settled (taking None) s _ (adds-same Never s.transactions, adds-same Never s.listed, taken-loses None)
+  refused-does (ServerRequest request) = does-settled (taking None) s _ (adds-same Never s.transactions, adds-same Never s.listed, taken-loses None)
+
+  opened-does : (local : SocketAddr) (origin : Origin) → Does (taking (Some local)) s (socket_opened id peer local origin now s)
+  opened-does local origin = by origin
+    where
+      call : Call
+      call = taking (Some local)
+
+      purpose : Purpose
+      purpose = ForBind local peer id
+
+      c : Grant
+      c = Connection (record { local = local; peer = peer; deadline = Some (later_by bind_time now) })
+
+      lost : Loses (IsTakenBy call s) s.grants ((offer_taken id peer s).grants ++ c ∷ [])
+      lost = loses-more (IsTakenBy call s) s.grants (offer_taken id peer s).grants (c ∷ []) (taken-loses (Some local))
+
+      -- in whatever state it is requested
+      asked : (u : State) → Settles (IsTakenBy call s) s u → Does call s (with_stream local (requested (fresh_id s) purpose now u))
+      asked u settles =
+          let t = with_stream local (requested (fresh_id s) purpose now u) in
+          let made : IsMade purpose now s t = record { text = request_for u purpose (fresh_id s); spelled = inl refl; outstanding = (requested-made purpose now s u).outstanding } in
+          let x = request_made purpose now s u in (
+            adds-one (MadeAt call s t) s.transactions u.transactions x (λ y h. wider y (settles.0 y h)) (inr (purpose, now, (refl, refl), (made, refl))),
+            adds-one (ListedAt call s t) s.listed u.listed (record { id = fresh_id s; purpose = purpose }) (λ l h. further l (settles.1 l h)) (purpose, now, (refl, refl), inl refl, (made, refl)),
+            settles.2,
+          )
+        where
+          wider : {X : Type 0} (y : Transaction) → Has y s.transactions ⊎ ⊥ → Has y s.transactions ⊎ X
+          wider y (inl h) = inl h
+          wider y (inr never) = absurd never
+
+          further : {X : Type 0} (l : Listing) → Has l s.listed ⊎ ⊥ → Has l s.listed ⊎ X
+          further l (inl h) = inl h
+          further l (inr never) = absurd never
+
+      by : (origin : Origin) → Does call s (socket_opened id peer local origin now s)
+      by OwnConnect = asked (with_grant c (offer_taken id peer s)) (adds-same Never s.transactions, adds-same Never s.listed, lost)
+      by ServerIndication = asked (with_grant c (offer_taken id peer s)) (adds-same Never s.transactions, adds-same Never s.listed, lost)
+      by (ServerRequest request) =
+          asked (with_grant c (answered_with (accepted_reply (offer_taken id peer s)) (ServerRequest request) (offer_taken id peer s)))
+          (adds-same Never s.transactions, adds-same Never s.listed, lost)
+
+  socket-does : (local : Option SocketAddr) (origin : Origin) → Does (taking local) s (socket_step id peer local origin now s).1
+  socket-does None origin = refused-does origin
+  socket-does (Some local) origin =
+      by_test (Does (taking (Some local)) s) (is_local_taken local s) _ _ (does-same (taking (Some local)) s) (opened-does local origin)
+
+  pub taken-does : (local : Option SocketAddr) → Does (taking local) s (allocated_tcp_socket_step id tuple peer local now s).1
+  taken-does local =
+      by_test (Does (taking local) s) (same_transport s.config.allocation_transport Tcp && is_control tuple s && is_allocated s.phase) _ _
+      (by_found (Does (taking local) s) (λ origin. socket_step id peer local origin now s) (offer_origin id peer s) _ (λ origin e. socket-does local origin) (does-same (taking local) s))
+      (does-same (taking local) s)
+
+-- ---- allocations are deleted
+
+all-grant_identity : (now : ℕ) (g : Grant) → grant_identity g ≡ grant_identity (changed_allocation (λ a. true) (λ a. record a { expiry = now; is_expired = true }) g)
+all-grant_identity now (Allocation a) = refl
+all-grant_identity now (Permission ip progress) = refl
+all-grant_identity now (Channel number peer progress) = refl
+all-grant_identity now (Connect peer) = refl
+all-grant_identity now (Offer offer) = refl
+all-grant_identity now (Connection c) = refl
+
+module _ (now : ℕ) (s : State) where
+  left : List Grant
+  left = filter (λ g. not (is_granted_in g)) s.grants
+
+  -- what is removed, and then all allocations are expired
+  expired-loses : Loses (IsTakenBy (Delete now) s) s.grants (map (changed_allocation (λ a. true) (λ a. record a { expiry = now; is_expired = true })) left)
+  unfolding left
+  expired-loses g h = by (loses-filter (IsTakenBy (Delete now) s) is_granted_in s.grants (λ g e. e) g h)
+    where
+      by : Remains g left ⊎ (is_granted_in g ≡ true) → Remains g (map (changed_allocation (λ a. true) (λ a. record a { expiry = now; is_expired = true })) left) ⊎ (is_granted_in g ≡ true)
+      by (inl (is, there, same)) = inl (further (loses-map Never (changed_allocation (λ a. true) (λ a. record a { expiry = now; is_expired = true })) left (all-grant_identity now) is there))
+        where
+          further : Remains is (map (changed_allocation (λ a. true) (λ a. record a { expiry = now; is_expired = true })) left) ⊎ ⊥ → Remains g (map (changed_allocation (λ a. true) (λ a. record a { expiry = now; is_expired = true })) left)
+          further (inl (last, here, e)) = (last, here, same ∙ e)
+          further (inr never) = absurd never
+      by (inr taken) = inr taken
+
+  deleted-does : Does (Delete now) s (deleted now s)
+  unfolding left
+  deleted-does = (
+    adds-one (MadeAt (Delete now) s t) s.transactions s.transactions x (adds-same _ s.transactions) (inr (ForRefresh IPV4 0, now, (refl, (IPV4, refl)), (made IPV4, refl))),
+    adds-more (ListedAt (Delete now) s t) s.listed _ _ (adds-filter _ _ s.listed) listed,
+    expired-loses,
+  )
+    where
+      t : State
+      t = deleted now s
+
+      x : Transaction
+      x = first_sent (fresh_id s) s.remote now (delete_text s)
+
+      made : (family : AddressFamily) → IsMade (ForRefresh family 0) now s t
+      made family = record {
+        text = delete_text s;
+        spelled = inl refl;
+        outstanding = has-contains x (s.transactions ++ x ∷ []) (has-right x s.transactions (x ∷ []) (inl refl));
+      }
+
+      refresh_of : Relay → Purpose
+      refresh_of a = ForRefresh (family_of a.relayed) 0
+
+      listed : (l : Listing) → Has l (listings (fresh_id s) (map refresh_of (allocations s))) → ListedAt (Delete now) s t l
+      listed l there = by (has-mapped (λ (p : Purpose). record { id = fresh_id s; purpose = p }) l (map refresh_of (allocations s)) there)
+        where
+          of : (p : Purpose) → (a : Relay) × Has a (allocations s) × (p ≡ refresh_of a) → ListedAt (Delete now) s t (record { id = fresh_id s; purpose = p })
+          of p (a, h, e) = rw e (refresh_of a, now, (refl, (family_of a.relayed, refl)), inl refl, (made (family_of a.relayed), refl))
+
+          by : (p : Purpose) × Has p (map refresh_of (allocations s)) × (l ≡ record { id = fresh_id s; purpose = p }) → ListedAt (Delete now) s t l
+          by (p, h, e) = rw e (of p (has-mapped refresh_of p (allocations s) h))
+
+  pub delete-does : Does (Delete now) s (delete_step now s).1
+  delete-does = by_test (Does (Delete now) s) (is_allocated s.phase) _ _ deleted-does (does-same (Delete now) s)
+
+-- ---- data and errors
+
+channel_data-does : (call : Call) (channels : List (ℕ × ℕ)) (peer : SocketAddr) (bytes : List ℕ) (now : ℕ) (s : State) → Does call s (on_channel channels peer bytes now s).1
+channel_data-does call [] peer bytes now s = does-settled call s _ (settles-same (IsTakenBy call s) s)
+channel_data-does call ((number, expiry) ∷ others) peer bytes now s =
+    by_test (Does call s) (leb now expiry) _ _ (does-same call s) (does-settled call s _ (settles-same (IsTakenBy call s) s))
+
+connection_data-does : (call : Call) (o : Option DataConnection) (bytes : List ℕ) (s : State) → Does call s (on_connection o bytes s).1
+connection_data-does call (Some c) bytes s = does-same call s
+connection_data-does call None bytes s = does-same call s
+
+over-does : (call : Call) (transport : TransportType) (peer : SocketAddr) (bytes : List ℕ) (now : ℕ) (s : State) → Does call s (send_over transport peer bytes now s).1
+over-does call Tcp peer bytes now s = connection_data-does call (find (bound_to peer) (filter_map as_connection s.grants)) bytes s
+over-does call Udp peer bytes now s = channel_data-does call (filter_map (active_channel peer) s.grants) peer bytes now s
+
+pub send-does : (transport : TransportType) (peer : SocketAddr) (bytes : List ℕ) (now : ℕ) (s : State) → Does (SendTo transport peer bytes now) s (send_to_step transport peer bytes now s).1
+send-does transport peer bytes now s =
+    let call = SendTo transport peer bytes now in
+    by_test (Does call s) (can_send_to transport (socket_ip peer) s) (send_over transport peer bytes now s) _ (over-does call transport peer bytes now s) (does-same call s)
+
+pub error-does : (s : State) → Does ProtocolError s (protocol_error_step s)
+error-does s =
+    on_test (Does ProtocolError s) (is_closed s.phase) s _ (does-same ProtocolError s)
+    (does-settled ProtocolError s _ (adds-same Never s.transactions, adds-filter Never _ s.listed, loses-same (IsTakenBy ProtocolError s) s.grants))

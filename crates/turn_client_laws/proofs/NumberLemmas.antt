@@ -1,0 +1,92 @@
+-- Channels keep numbers of their own when grants are added and removed, and so in all calls.
+use Rattle.std.proofs.Common.{◌≡◌, ℕ, Bool, true, false, not, cond, eqb, List, [], ◌∷◌, ◌++◌, filter, filter_map, Option, Some, None, refl}
+use Rattle.std.specs.List.{list_any, IsDistinct, AllByRecursion}
+use Rattle.std.proofs.lemmas.Bool.{or_parts}
+use Rattle.std.proofs.lemmas.List.{append-nil}
+use Rattle.std.proofs.lemmas.List.Elements.{filter_map-append}
+use Rattle.std.specs.declared.net.socket_addr.SocketAddr.{SocketAddr}
+use Rattle.turn_client_api.specs.State.{Grant, Allocation, Permission, Channel, Connect, Offer, Connection}
+use Rattle.turn_client_api.specs.Grants.{is_channel_of}
+use Rattle.turn_client_api.specs.Calls.{is_offer_of, without_first}
+use Rattle.turn_client_laws.specs.LawsNumbers.{number_of_channel}
+
+-- the numbers of the channels among these grants
+abbrev pub numbers : List Grant → List ℕ
+numbers grants = filter_map number_of_channel grants
+
+-- no two of them have one number
+abbrev pub AreApart : List Grant → Type 0
+AreApart grants = IsDistinct eqb (numbers grants)
+
+-- what holds of all numbers holds of those that stay
+all-filter : (P : ℕ → Type 0) (p : Grant → Bool) (gs : List Grant) → AllByRecursion P (numbers gs) → AllByRecursion P (numbers (filter p gs))
+all-filter P p [] h = h
+all-filter P p (g ∷ gs) h = by (number_of_channel g) refl (p g) refl (all-filter P p gs)
+  where
+    by : (o : Option ℕ) → number_of_channel g ≡ o → (b : Bool) → p g ≡ b → (AllByRecursion P (numbers gs) → AllByRecursion P (numbers (filter p gs))) → AllByRecursion P (numbers (filter p (g ∷ gs)))
+    by None e true f later = rw (f, e) (later (rw e at h))
+    by None e false f later = rw f (later (rw e at h))
+    by (Some n) e true f later = rw (f, e) ((rw e at h).0, later (rw e at h).1)
+    by (Some n) e false f later = rw f (later (rw e at h).1)
+
+pub apart-filter : (p : Grant → Bool) (gs : List Grant) → AreApart gs → AreApart (filter p gs)
+unfolding IsDistinct
+apart-filter p [] h = h
+apart-filter p (g ∷ gs) h = by (number_of_channel g) refl (p g) refl (apart-filter p gs)
+  where
+    by : (o : Option ℕ) → number_of_channel g ≡ o → (b : Bool) → p g ≡ b → (AreApart gs → AreApart (filter p gs)) → AreApart (filter p (g ∷ gs))
+    by None e true f later = rw (f, e) (later (rw e at h))
+    by None e false f later = rw f (later (rw e at h))
+    by (Some n) e true f later = rw (f, e) (all-filter (λ m. eqb n m ≡ false) p gs (rw e at h).0, later (rw e at h).1)
+    by (Some n) e false f later = rw f (later (rw e at h).1)
+
+-- grants that are no channels
+pub apart-others : (gs hs : List Grant) → numbers hs ≡ [] → AreApart gs → AreApart (gs ++ hs)
+apart-others gs hs none h = rw (filter_map-append number_of_channel gs hs, none, append-nil (numbers gs)) h
+
+all-last : (P : ℕ → Type 0) (n : ℕ) (ns : List ℕ) → P n → AllByRecursion P ns → AllByRecursion P (ns ++ n ∷ [])
+all-last P n [] last h = (last, tt)
+all-last P n (m ∷ ns) last h = (h.0, all-last P n ns last h.1)
+
+distinct-last : (n : ℕ) (ns : List ℕ) → AllByRecursion (λ m. eqb m n ≡ false) ns → IsDistinct eqb ns → IsDistinct eqb (ns ++ n ∷ [])
+unfolding IsDistinct
+distinct-last n [] free h = (tt, tt)
+distinct-last n (m ∷ ns) free h = (all-last (λ k. eqb m k ≡ false) n ns free.0 h.0, distinct-last n ns free.1 h.1)
+
+-- no channel has the number
+all-free : (n : ℕ) (gs : List Grant) → list_any (is_channel_of n) gs ≡ false → AllByRecursion (λ m. eqb m n ≡ false) (numbers gs)
+all-free n [] free = tt
+all-free n (Channel m peer progress ∷ gs) free = let parts = or_parts (eqb m n) (list_any (is_channel_of n) gs) free in (parts.0, all-free n gs parts.1)
+all-free n (Allocation a ∷ gs) free = all-free n gs free
+all-free n (Permission ip progress ∷ gs) free = all-free n gs free
+all-free n (Connect peer ∷ gs) free = all-free n gs free
+all-free n (Offer offer ∷ gs) free = all-free n gs free
+all-free n (Connection c ∷ gs) free = all-free n gs free
+
+-- a channel of a number that none has
+pub apart-channel : (n : ℕ) (gs hs : List Grant) → list_any (is_channel_of n) gs ≡ false → numbers hs ≡ n ∷ [] → AreApart gs → AreApart (gs ++ hs)
+apart-channel n gs hs free one h =
+    rw (filter_map-append number_of_channel gs hs, one) (distinct-last n (numbers gs) (all-free n gs free) h)
+
+-- what was removed is not in the list
+pub none-filter : {X : Type 0} (p : X → Bool) (xs : List X) → list_any p (filter (λ x. not (p x)) xs) ≡ false
+none-filter p [] = refl
+none-filter p (x ∷ xs) = by (p x) refl (none-filter p xs)
+  where
+    by : (b : Bool) → p x ≡ b → list_any p (filter (λ y. not (p y)) xs) ≡ false → list_any p (filter (λ y. not (p y)) (x ∷ xs)) ≡ false
+    by true e later = rw e later
+    by false e later = rw (e, e) later
+
+-- an offer is removed
+pub numbers-without_first : (id : ℕ) (peer : SocketAddr) (gs : List Grant) → numbers (without_first (is_offer_of id peer) gs) ≡ numbers gs
+numbers-without_first id peer [] = refl
+numbers-without_first id peer (Channel number other progress ∷ gs) = rw (numbers-without_first id peer gs) refl
+numbers-without_first id peer (Allocation a ∷ gs) = numbers-without_first id peer gs
+numbers-without_first id peer (Permission ip progress ∷ gs) = numbers-without_first id peer gs
+numbers-without_first id peer (Connect other ∷ gs) = numbers-without_first id peer gs
+numbers-without_first id peer (Connection c ∷ gs) = numbers-without_first id peer gs
+numbers-without_first id peer (Offer offer ∷ gs) = by (is_offer_of id peer (Offer offer)) (numbers-without_first id peer gs)
+  where
+    by : (b : Bool) → numbers (without_first (is_offer_of id peer) gs) ≡ numbers gs → numbers (cond b gs (Offer offer ∷ without_first (is_offer_of id peer) gs)) ≡ numbers gs
+    by true later = refl
+    by false later = later

@@ -1,0 +1,442 @@
+-- As time passes, a grant is removed only when it has expired.
+use Rattle.std.proofs.Common.{◌≡◌, ◌⊎◌, ◌≤◌, ℕ, eqb, leb, Bool, true, false, not, cond, ◌&&◌, ◌||◌, List, [], ◌∷◌, ◌++◌, filter, find, fold, reverse, Option, Some, None, refl, sym, subst, ◌∙◌, inl, inr}
+use Rattle.std.specs.Option.{option_map_or}
+use Rattle.std.specs.List.{Contains, IsDistinct, AllByRecursion}
+use Rattle.std.proofs.lemmas.Bool.{and_parts, eqb-true, eq-eqb, leb-true, ltb-true}
+use Rattle.std.proofs.lemmas.Option.{none-some, same_Some}
+use Rattle.std.specs.declared.net.socket_addr.SocketAddr.{SocketAddr}
+use Rattle.turn_types.specs.declared.family.AddressFamily.{AddressFamily}
+use Rattle.turn_agent.specs.Agent.{timed_out_transaction}
+use Rattle.turn_agent.specs.declared.transaction.Transaction.{Transaction}
+use Rattle.turn_client_api.specs.State.{State, DataOffer, Grant, Allocation, Permission, Channel, Connect, Offer, Connection, DataConnection, Relay, Progress, Pending, Active, Reserved, Purpose, Phase, New, Requesting, Authenticating, Allocated, Closed, agent_of, later_by}
+use Rattle.turn_client_api.specs.Grants.{as_allocation, allocations, family_of, family_of_grant, is_channel_of, is_connect, is_for_any, is_of, is_of_request, is_pending_channel, is_pending_permission}
+use Rattle.turn_client_api.specs.Effect.{closed, transaction_ended, reserved_time}
+use Rattle.turn_client_api.specs.Due.{has_event, has_reply}
+use Rattle.turn_client_api.specs.Poll.{answer_by, answer_step, channel_lapsed, connections_unbound, timed_out_purposes, timed_out_step, allocation_expires, failed_by_timeout, is_timed_out_offer, is_lapsed_channel, is_lapsed_permission, is_listed_for_allocation, is_over, is_unbound, lapsed, lapsed_allocation, lapsed_in, last_channel_lapsed, next_offer, offer_step, offers_timed_out, permissions_lapsed, poll_step, timed_step}
+use Rattle.turn_client_api.specs.Steps.{Leaves, Poll}
+use Rattle.turn_client_laws.specs.LawsNumbers.{HasDistinctNumbers, number_of_channel}
+use Rattle.turn_client_laws.specs.LawsGone.{IsGivenUp, IsOver, IsPastWith, HasExpiredOrFailed, IsStillThere, grant_identity}
+use Rattle.turn_client_laws.proofs.HasLemmas.{Has, filter-has, has-append, has-filter, has-filter_map, has-found, has-left, has-right}
+use Rattle.turn_client_laws.proofs.InAllocationLemmas.{same_family-true}
+use Rattle.turn_client_laws.proofs.LapseLemmas.{has-unreversed}
+use Rattle.turn_client_laws.proofs.MoveLemmas.{Never, Remains, by_test, remains-here}
+use Rattle.turn_client_laws.proofs.MovePollLemmas.{told-loses}
+use Rattle.turn_client_laws.proofs.NumberLemmas.{AreApart, numbers}
+use Rattle.turn_client_laws.proofs.StandLemmas.{contains-has, has-contains}
+
+-- ---- channels of one number are one
+
+number-free : (n : ℕ) (peer : SocketAddr) (progress : Progress) (gs : List Grant) → AllByRecursion (λ m. eqb n m ≡ false) (numbers gs) → Has (Channel n peer progress) gs → ⊥
+number-free n peer progress [] free there = there
+number-free n peer progress (g ∷ gs) free there = by (number_of_channel g) refl there (number-free n peer progress gs)
+  where
+    by : (o : Option ℕ) → number_of_channel g ≡ o → Has (Channel n peer progress) (g ∷ gs) → (AllByRecursion (λ m. eqb n m ≡ false) (numbers gs) → Has (Channel n peer progress) gs → ⊥) → ⊥
+    by None e (inl is) more = none-some n (sym (rw (sym is) at e))
+    by None e (inr later) more = more (rw e at free) later
+    by (Some m) e (inl is) more =
+        let same : n ≡ m = same_Some n m (rw (sym is) at e) in
+        let no : eqb n m ≡ false = (rw e at free).0 in
+        let yes : eqb n m ≡ true = eq-eqb n m same in
+        let clash : true ≡ false = sym yes ∙ no in cc
+    by (Some m) e (inr later) more = more (rw e at free).1 later
+
+one-channel : (n : ℕ) (p q : SocketAddr) (a b : Progress) (gs : List Grant) → AreApart gs → Has (Channel n p a) gs → Has (Channel n q b) gs → Channel n p a ≡ Channel n q b
+unfolding IsDistinct
+one-channel n p q a b [] apart first second = absurd first
+one-channel n p q a b (g ∷ gs) apart (inl e) (inl f) = e ∙ sym f
+one-channel n p q a b (g ∷ gs) apart (inl e) (inr later) = absurd (number-free n q b gs (rw (sym e) at apart).0 later)
+one-channel n p q a b (g ∷ gs) apart (inr later) (inl f) = absurd (number-free n p a gs (rw (sym f) at apart).0 later)
+one-channel n p q a b (g ∷ gs) apart (inr first) (inr second) = one-channel n p q a b gs (by (number_of_channel g) refl) first second
+  where
+    by : (o : Option ℕ) → number_of_channel g ≡ o → AreApart gs
+    by None e = rw e at apart
+    by (Some m) e = (rw e at apart).1
+
+-- ---- how time leaves a grant
+
+-- unchanged, or as the reserved channel that it becomes at its expiry
+abbrev Ages : Grant → Grant → Type 0
+Ages g is =
+    (is ≡ g)
+    ⊎ ((n : ℕ) × (peer : SocketAddr) × (expiry : ℕ) × (g ≡ Channel n peer (Active expiry)) × (is ≡ Channel n peer (Reserved (later_by reserved_time expiry))))
+
+ages-grant_identity : (g is : Grant) → Ages g is → grant_identity g ≡ grant_identity is
+ages-grant_identity g is (inl e) = rw e refl
+ages-grant_identity g is (inr (n, peer, expiry, e, f)) = rw (e, f) refl
+
+ages-family : (g is : Grant) → Ages g is → family_of_grant is ≡ family_of_grant g
+ages-family g is (inl e) = rw e refl
+ages-family g is (inr (n, peer, expiry, e, f)) = rw (e, f) refl
+
+ages-number : (n : ℕ) (g is : Grant) → Ages g is → is_channel_of n is ≡ true → is_channel_of n g ≡ true
+ages-number n g is (inl e) of = rw e at of
+ages-number n g is (inr (m, peer, expiry, e, f)) of = rw e (rw f at of)
+
+-- a channel of the number
+channel-of : (n : ℕ) (g : Grant) → is_channel_of n g ≡ true → (peer : SocketAddr) × (progress : Progress) × (g ≡ Channel n peer progress)
+channel-of n (Channel other peer progress) e = (peer, progress, rw (eqb-true other n e) refl)
+channel-of n (Allocation a) e = cc
+channel-of n (Permission ip progress) e = cc
+channel-of n (Connect peer) e = cc
+channel-of n (Offer offer) e = cc
+channel-of n (Connection c) e = cc
+
+module _ (now : ℕ) (s : State) (apart : HasDistinctNumbers s) where
+  -- it has expired
+  abbrev Over : Grant → Type 0
+  Over g = HasExpiredOrFailed now s g ⊎ IsPastWith now s g
+
+  -- from the grants of the state these remain, and those that do not have expired
+  record Traces (gs : List Grant) : Type 0 where
+    pub left : (g : Grant) → Has g s.grants → ((is : Grant) × Has is gs × Ages g is) ⊎ Over g
+    pub came : (is : Grant) → Has is gs → (g : Grant) × Has g s.grants × Ages g is
+
+  traces-same : Traces s.grants
+  traces-same = record { left = λ g there. inl (g, there, inl refl); came = λ is there. (is, there, inl refl) }
+
+  -- these are removed, which have expired
+  abbrev TakesOver : (Grant → Bool) → Type 0
+  TakesOver which = (g is : Grant) → Ages g is → which is ≡ true → Over g
+
+  filtered : (which : Grant → Bool) (gs : List Grant) → TakesOver which → Traces gs → Traces (filter (λ g. not (which g)) gs)
+  filtered which gs over t = record {
+    left = λ g there. by g (t.left g there);
+    came = λ is there. t.came is (has-filter (λ g. not (which g)) is gs there).0;
+  }
+    where
+      Stays : Grant → Type 0
+      Stays g = ((is : Grant) × Has is (filter (λ g. not (which g)) gs) × Ages g is) ⊎ Over g
+
+      at : (g is : Grant) → Has is gs → Ages g is → (b : Bool) → which is ≡ b → Stays g
+      at g is here ages true e = inr (over g is ages e)
+      at g is here ages false e = inl (is, filter-has (λ g. not (which g)) is gs here (rw e refl), ages)
+
+      by : (g : Grant) → ((is : Grant) × Has is gs × Ages g is) ⊎ Over g → Stays g
+      by g (inl (is, here, ages)) = at g is here ages (which is) refl
+      by g (inr gone) = inr gone
+
+  -- the channel expires, and is reserved
+  reserved-traces : (n : ℕ) (peer : SocketAddr) (expiry : ℕ) (gs : List Grant) → Has (Channel n peer (Active expiry)) gs → Traces gs
+      → Traces (filter (λ g. not (is_channel_of n g)) gs ++ Channel n peer (Reserved (later_by reserved_time expiry)) ∷ [])
+  reserved-traces n peer expiry gs here t = record { left = λ g there. by g there (t.left g there); came = λ is there. from is (has-append is kept (held ∷ []) there) }
+    where
+      kept : List Grant
+      kept = filter (λ g. not (is_channel_of n g)) gs
+
+      was : Grant
+      was = Channel n peer (Active expiry)
+
+      held : Grant
+      held = Channel n peer (Reserved (later_by reserved_time expiry))
+
+      -- it existed from the start
+      first : Has was s.grants
+      first = of (t.came was here)
+        where
+          of : (g : Grant) × Has g s.grants × Ages g was → Has was s.grants
+          of (g, there, inl e) = rw e there
+          of (g, there, inr (m, to, end, e, f)) = cc
+
+      last : Has held (kept ++ held ∷ [])
+      last = has-right held kept (held ∷ []) (inl refl)
+
+      Stays : Grant → Type 0
+      Stays g = ((is : Grant) × Has is (kept ++ held ∷ []) × Ages g is) ⊎ Over g
+
+      one : (g : Grant) → Has g s.grants → is_channel_of n g ≡ true → Stays g
+      one g there of = let (to, progress, e) = channel-of n g of in
+          inl (held, last, inr (n, peer, expiry, e ∙ one-channel n to peer progress (Active expiry) s.grants apart (rw e at there) first, refl))
+
+      at : (g is : Grant) → Has g s.grants → Has is gs → Ages g is → (b : Bool) → is_channel_of n is ≡ b → Stays g
+      at g is there within ages true e = one g there (ages-number n g is ages e)
+      at g is there within ages false e = inl (is, has-left is kept (held ∷ []) (filter-has (λ g. not (is_channel_of n g)) is gs within (rw e refl)), ages)
+
+      by : (g : Grant) → Has g s.grants → ((is : Grant) × Has is gs × Ages g is) ⊎ Over g → Stays g
+      by g there (inl (is, within, ages)) = at g is there within ages (is_channel_of n is) refl
+      by g there (inr gone) = inr gone
+
+      from : (is : Grant) → Has is kept ⊎ Has is (held ∷ []) → (g : Grant) × Has g s.grants × Ages g is
+      from is (inl within) = t.came is (has-filter (λ g. not (is_channel_of n g)) is gs within).0
+      from is (inr (inl e)) = (was, first, inr (n, peer, expiry, refl, e))
+      from is (inr (inr none)) = absurd none
+
+  channel-traces : (o : Option Grant) (t : State) → ((g : Grant) → o ≡ Some g → Has g t.grants) → Traces t.grants → Traces (channel_lapsed o t).grants
+  channel-traces (Some (Channel n peer (Active expiry))) t there traces = reserved-traces n peer expiry t.grants (there (Channel n peer (Active expiry)) refl) traces
+  channel-traces None t there traces = traces
+  channel-traces (Some (Channel n peer Pending)) t there traces = traces
+  channel-traces (Some (Channel n peer (Reserved until))) t there traces = traces
+  channel-traces (Some (Allocation a)) t there traces = traces
+  channel-traces (Some (Permission ip progress)) t there traces = traces
+  channel-traces (Some (Connect peer)) t there traces = traces
+  channel-traces (Some (Offer offer)) t there traces = traces
+  channel-traces (Some (Connection c)) t there traces = traces
+
+  -- ---- what is removed has expired
+
+  -- the expiry of a permission
+  permission-over : (family : AddressFamily) → TakesOver (λ g. is_of family g && is_lapsed_permission now g)
+  permission-over family g is ages e = by is ages (and_parts (is_of family is) (is_lapsed_permission now is) e).1
+    where
+      by : (is : Grant) → Ages g is → is_lapsed_permission now is ≡ true → Over g
+      by (Permission ip (Active expiry)) (inl e) lapsed = inl (rw (sym e) (leb-true expiry now lapsed))
+      by (Permission ip (Active expiry)) (inr (n, peer, end, e, f)) lapsed = cc
+      by (Permission ip Pending) a lapsed = cc
+      by (Permission ip (Reserved until)) a lapsed = cc
+      by (Channel n peer progress) a lapsed = cc
+      by (Allocation a) b lapsed = cc
+      by (Connect peer) a lapsed = cc
+      by (Offer offer) a lapsed = cc
+      by (Connection c) a lapsed = cc
+
+  -- what was reserved long enough
+  free-over : (family : AddressFamily) → TakesOver (λ g. is_of family g && is_over now g)
+  free-over family g is ages e = by is ages (and_parts (is_of family is) (is_over now is) e).1
+    where
+      by : (is : Grant) → Ages g is → is_over now is ≡ true → Over g
+      by (Channel n peer (Reserved until)) (inl e) over = inl (rw (sym e) (ltb-true until now over))
+      by (Channel n peer (Reserved until)) (inr (m, to, expiry, e, f)) over =
+          let same : until ≡ later_by reserved_time expiry = cc in
+          inl (rw e (ltb-true (later_by reserved_time expiry) now (rw same at over)))
+      by (Channel n peer Pending) a over = cc
+      by (Channel n peer (Active expiry)) a over = cc
+      by (Permission ip progress) a over = cc
+      by (Allocation a) b over = cc
+      by (Connect peer) a over = cc
+      by (Offer offer) a over = cc
+      by (Connection c) a over = cc
+
+  -- all grants in an allocation whose expiry has passed
+  family-over : (a : Relay) → Has (Allocation a) s.grants → a.expiry ≤ now → TakesOver (is_of (family_of a.relayed))
+  family-over a there past g is ages e =
+      inr (a, has-contains (Allocation a) s.grants there, sym (ages-family g is ages) ∙ same_family-true (family_of_grant is) (family_of a.relayed) e, past)
+
+  module _ (x : Option Transaction) (e : timed_out_transaction (agent_of s) now ≡ x) where
+    abbrev given : Option ℕ
+    given = option_map_or (λ (t : Transaction). Some t.id) x None
+
+    abbrev purposes : List Purpose
+    purposes = timed_out_purposes given s
+
+    asked-vain : (g : Grant) → is_for_any purposes g ≡ true → IsGivenUp now s g
+    asked-vain g for = by x e for
+      where
+        by : (o : Option Transaction) → timed_out_transaction (agent_of s) now ≡ o → is_for_any (timed_out_purposes (option_map_or (λ (t : Transaction). Some t.id) o None) s) g ≡ true → IsGivenUp now s g
+        by (Some t) f for = (t, f, for)
+        by None f for = cc
+
+    -- a kind of grant that is pending, and that is removed when its request times out
+    abbrev IsVain : (Grant → Bool) → Type 0
+    IsVain which = (is : Grant) → which is ≡ true → (IsGivenUp now s is → HasExpiredOrFailed now s is) × ((n : ℕ) (peer : SocketAddr) (until : ℕ) → is ≡ Channel n peer (Reserved until) → ⊥)
+
+    vain-over : (family : AddressFamily) (which : Grant → Bool) → IsVain which → TakesOver (λ g. is_of family g && which g && is_for_any purposes g)
+    vain-over family which vain g is ages e =
+        let (first, for) = and_parts (is_of family is && which is) (is_for_any purposes is) e in
+        by ages (vain is (and_parts (is_of family is) (which is) first).1) (asked-vain is for)
+      where
+        by : Ages g is → (IsGivenUp now s is → HasExpiredOrFailed now s is) × ((n : ℕ) (peer : SocketAddr) (until : ℕ) → is ≡ Channel n peer (Reserved until) → ⊥) → IsGivenUp now s is → Over g
+        by (inl same) (spent, free) up = inl (subst (HasExpiredOrFailed now s) same (spent up))
+        by (inr (n, peer, expiry, e, f)) (spent, free) up = absurd (free n peer (later_by reserved_time expiry) f)
+
+    channel-vain : IsVain is_pending_channel
+    channel-vain (Channel n peer Pending) e = (λ up. up, λ m to until f. cc)
+    channel-vain (Channel n peer (Active expiry)) e = cc
+    channel-vain (Channel n peer (Reserved until)) e = cc
+    channel-vain (Allocation a) e = cc
+    channel-vain (Permission ip progress) e = cc
+    channel-vain (Connect peer) e = cc
+    channel-vain (Offer offer) e = cc
+    channel-vain (Connection c) e = cc
+
+    permission-vain : IsVain is_pending_permission
+    permission-vain (Permission ip Pending) e = (λ up. up, λ m to until f. cc)
+    permission-vain (Permission ip (Active expiry)) e = cc
+    permission-vain (Permission ip (Reserved until)) e = cc
+    permission-vain (Allocation a) e = cc
+    permission-vain (Channel n peer progress) e = cc
+    permission-vain (Connect peer) e = cc
+    permission-vain (Offer offer) e = cc
+    permission-vain (Connection c) e = cc
+
+    connect-vain : IsVain is_connect
+    connect-vain (Connect peer) e = (λ up. up, λ m to until f. cc)
+    connect-vain (Allocation a) e = cc
+    connect-vain (Permission ip progress) e = cc
+    connect-vain (Channel n peer progress) e = cc
+    connect-vain (Offer offer) e = cc
+    connect-vain (Connection c) e = cc
+
+    -- a connection that is not bound in time, or whose request timed out
+    unbound-over : (family : AddressFamily) → TakesOver (λ g. is_of family g && is_unbound purposes now g)
+    unbound-over family g is ages passes = by is ages (and_parts (is_of family is) (is_unbound purposes now is) passes).1
+      where
+        spent : (c : DataConnection) (o : Option ℕ) → c.deadline ≡ o → option_map_or (λ deadline. leb deadline now || is_for_any purposes (Connection c)) o false ≡ true → HasExpiredOrFailed now s (Connection c)
+        spent c None f unbound = cc
+        spent c (Some deadline) f unbound = (deadline, f, at (leb deadline now) refl unbound)
+          where
+            at : (b : Bool) → leb deadline now ≡ b → (b || is_for_any purposes (Connection c)) ≡ true → (deadline ≤ now) ⊎ IsGivenUp now s (Connection c)
+            at true h unbound = inl (leb-true deadline now h)
+            at false h unbound = inr (asked-vain (Connection c) unbound)
+
+        by : (is : Grant) → Ages g is → is_unbound purposes now is ≡ true → Over g
+        by (Connection c) (inl same) unbound = inl (subst (HasExpiredOrFailed now s) same (spent c c.deadline refl unbound))
+        by (Connection c) (inr (n, peer, expiry, e, f)) unbound = cc
+        by (Channel n peer progress) a unbound = cc
+        by (Permission ip progress) a unbound = cc
+        by (Allocation a) b unbound = cc
+        by (Connect peer) a unbound = cc
+        by (Offer offer) a unbound = cc
+
+    -- an offer whose request timed out
+    offer-over : (family : AddressFamily) → TakesOver (λ g. is_of family g && is_timed_out_offer given g)
+    offer-over family g is ages passes = by is ages (and_parts (is_of family is) (is_timed_out_offer given is) passes).1
+      where
+        up : (offer : DataOffer) (o : Option Transaction) → timed_out_transaction (agent_of s) now ≡ o → is_timed_out_offer (option_map_or (λ (t : Transaction). Some t.id) o None) (Offer offer) ≡ true → HasExpiredOrFailed now s (Offer offer)
+        up offer (Some t) f of = (t, f, of)
+        up offer None f of = cc
+
+        no : (is : Grant) (o : Option Transaction) → ((id : ℕ) → is_of_request id is ≡ false) → is_timed_out_offer (option_map_or (λ (t : Transaction). Some t.id) o None) is ≡ true → ⊥
+        no is (Some t) none of = let clash : true ≡ false = sym of ∙ none t.id in cc
+        no is None none of = cc
+
+        by : (is : Grant) → Ages g is → is_timed_out_offer given is ≡ true → Over g
+        by (Offer offer) (inl same) of = inl (subst (HasExpiredOrFailed now s) same (up offer x e of))
+        by (Offer offer) (inr (n, peer, expiry, e, f)) of = cc
+        by (Channel n peer progress) a of = absurd (no (Channel n peer progress) x (λ id. refl) of)
+        by (Permission ip progress) a of = absurd (no (Permission ip progress) x (λ id. refl) of)
+        by (Allocation b) a of = absurd (no (Allocation b) x (λ id. refl) of)
+        by (Connect peer) a of = absurd (no (Connect peer) x (λ id. refl) of)
+        by (Connection c) a of = absurd (no (Connection c) x (λ id. refl) of)
+
+    -- ---- one allocation after the other
+
+    lapsed_in-traces : (family : AddressFamily) (t : State) → Traces t.grants → Traces (lapsed_in family given purposes now t).grants
+    lapsed_in-traces family t traces =
+        let a = failed_by_timeout family purposes is_pending_channel t in
+        let b = failed_by_timeout family purposes is_pending_permission a in
+        let c = last_channel_lapsed family now b in
+        let d = permissions_lapsed family now c in
+        let f = failed_by_timeout family purposes is_connect d in
+        let g = connections_unbound family purposes now f in
+        let h = offers_timed_out family given g in
+        let lapses = λ (y : Grant). is_of family y && is_lapsed_channel now y in
+        let in_a = filtered _ t.grants (vain-over family is_pending_channel channel-vain) traces in
+        let in_b = filtered _ a.grants (vain-over family is_pending_permission permission-vain) in_a in
+        let in_c = channel-traces (find lapses (reverse b.grants)) b (λ y found. has-unreversed y b.grants (has-found lapses y (reverse b.grants) found).0) in_b in
+        let in_d = filtered _ c.grants (permission-over family) in_c in
+        let in_f = filtered _ d.grants (vain-over family is_connect connect-vain) in_d in
+        let in_g = filtered _ f.grants (unbound-over family) in_f in
+        let in_h = filtered _ g.grants (offer-over family) in_g in
+        filtered _ h.grants (free-over family) in_h
+
+    allocation-traces : (a : Relay) → Has (Allocation a) s.grants → (t : State) → Traces t.grants → Traces (lapsed_allocation given purposes now t a).grants
+    allocation-traces a there t traces = by (allocation_expires purposes now t a) refl
+      where
+        by : (b : Bool) → allocation_expires purposes now t a ≡ b → Traces (lapsed_allocation given purposes now t a).grants
+        by true f = rw f (filtered (is_of (family_of a.relayed)) t.grants (family-over a there (leb-true a.expiry now (and_parts (leb a.expiry now) _ f).0)) traces)
+        by false f = rw f (lapsed_in-traces (family_of a.relayed) t traces)
+
+    all-trace : (relays : List Relay) → ((a : Relay) → Has a relays → Has (Allocation a) s.grants) → (t : State) → Traces t.grants → Traces (fold (lapsed_allocation given purposes now) t relays).grants
+    all-trace [] there t traces = traces
+    all-trace (a ∷ relays) there t traces =
+        all-trace relays (λ b here. there b (inr here)) (lapsed_allocation given purposes now t a) (allocation-traces a (there a (inl refl)) t traces)
+
+    allocation-there : (a : Relay) → Has a (allocations s) → Has (Allocation a) s.grants
+    allocation-there a here = let (g, there, reads) = has-filter_map as_allocation a s.grants here in of g reads there
+      where
+        of : (g : Grant) → as_allocation g ≡ Some a → Has g s.grants → Has (Allocation a) s.grants
+        of (Allocation b) reads there = rw (sym (same_Some b a reads)) there
+        of (Permission ip progress) reads there = absurd (none-some a reads)
+        of (Channel n peer progress) reads there = absurd (none-some a reads)
+        of (Connect peer) reads there = absurd (none-some a reads)
+        of (Offer offer) reads there = absurd (none-some a reads)
+        of (Connection c) reads there = absurd (none-some a reads)
+
+    -- whatever is outstanding
+    lapsed-traces : (t : State) → t.grants ≡ s.grants → t.listed ≡ s.listed → Traces (fold (lapsed_allocation given purposes now) t (allocations s)).grants
+    lapsed-traces t same listed = all-trace (allocations s) allocation-there t (rw same traces-same)
+
+  -- ---- a poll
+
+  -- what no longer exists has expired
+  abbrev Spares : List Grant → Type 0
+  Spares gs = (g : Grant) → Has g s.grants → Remains g gs ⊎ IsOver now s g
+
+  spares-same : Spares s.grants
+  spares-same g there = inl (remains-here g s.grants there)
+
+  traces-spare : (gs : List Grant) → s.phase ≡ Allocated → Traces gs → Spares gs
+  traces-spare gs phase t g there = by (t.left g there)
+    where
+      by : ((is : Grant) × Has is gs × Ages g is) ⊎ Over g → Remains g gs ⊎ IsOver now s g
+      by (inl (is, here, ages)) = inl (is, here, ages-grant_identity g is ages)
+      by (inr over) = inr (phase, over)
+
+  answer-grants : (given : Option ℕ) (t : State) → (answer_step given now t).1.grants ≡ t.grants
+  answer-grants given t = by t.closes t.phase (allocations t)
+    where
+      by : (closes : List SocketAddr) (p : Phase) (relays : List Relay) → (answer_by closes p relays given now t).1.grants ≡ t.grants
+      by (local ∷ others) p relays = refl
+      by [] Allocated [] = refl
+      by [] Allocated (a ∷ relays) = refl
+      by [] New relays = refl
+      by [] Requesting relays = refl
+      by [] Authenticating relays = refl
+      by [] Closed relays = refl
+
+  none-spares : timed_out_transaction (agent_of s) now ≡ None → (p : Phase) → s.phase ≡ p → Spares (timed_step p None now s).1.grants
+  none-spares e New f = spares-same
+  none-spares e Requesting f = subst Spares (sym (answer-grants None s)) spares-same
+  none-spares e Authenticating f = subst Spares (sym (answer-grants None s)) spares-same
+  none-spares e Closed f = spares-same
+  none-spares e Allocated f = subst Spares (sym (answer-grants None (lapsed None now s))) (traces-spare (lapsed None now s).grants f (lapsed-traces None e s refl refl))
+
+  given-spares : (x : Transaction) → timed_out_transaction (agent_of s) now ≡ Some x → (p : Phase) → s.phase ≡ p → Spares (timed_step p (Some x.id) now (transaction_ended x.id s)).1.grants
+  given-spares x e New f = spares-same
+  given-spares x e Requesting f = spares-same
+  given-spares x e Closed f = spares-same
+  given-spares x e Authenticating f = by (is_listed_for_allocation x.id u)
+    where
+      u : State
+      u = transaction_ended x.id s
+
+      by : (b : Bool) → Spares (answer_step (Some x.id) now (cond b (closed u) u)).1.grants
+      by true = subst Spares (sym (answer-grants (Some x.id) (closed u))) spares-same
+      by false = subst Spares (sym (answer-grants (Some x.id) u)) spares-same
+  given-spares x e Allocated f =
+      let u = transaction_ended x.id s in
+      subst Spares (sym (answer-grants (Some x.id) (lapsed (Some x.id) now u))) (traces-spare (lapsed (Some x.id) now u).grants f (lapsed-traces (Some x) e u refl refl))
+
+  timed-spares : (o : Option Transaction) → timed_out_transaction (agent_of s) now ≡ o
+      → Spares (option_map_or (λ (t : Transaction). timed_step s.phase (Some t.id) now (transaction_ended t.id s)) o (timed_step s.phase None now s)).1.grants
+  timed-spares None e = none-spares e s.phase refl
+  timed-spares (Some x) e = given-spares x e s.phase refl
+
+  poll-spares : Spares (poll_step now s).1.grants
+  poll-spares =
+      by_test (λ t. Spares t.grants) (has_event s || has_reply s) _ _ spares-same (offered (next_offer s))
+    where
+      told : (offer : DataOffer) → Spares (offer_step offer s).1.grants
+      told offer g there = by (told-loses Never (family_of offer.peer) s.grants g there)
+        where
+          by : Remains g (offer_step offer s).1.grants ⊎ ⊥ → Remains g (offer_step offer s).1.grants ⊎ IsOver now s g
+          by (inl remains) = inl remains
+          by (inr never) = absurd never
+
+      offered : (o : Option DataOffer) → Spares (option_map_or (λ offer. offer_step offer s) o (timed_out_step now s)).1.grants
+      offered None = timed-spares (timed_out_transaction (agent_of s) now) refl
+      offered (Some offer) = told offer
+
+-- even if memory allocation fails
+pub poll-over : (now : ℕ) (s t : State) (g : Grant) → Leaves (Poll now) s t → HasDistinctNumbers s → Contains s.grants g → IsStillThere t g ⊎ IsOver now s g
+poll-over now s t g leaves apart there = by (of leaves)
+  where
+    here : Has g s.grants
+    here = contains-has g s.grants there
+
+    of : Leaves (Poll now) s t → Remains g t.grants ⊎ IsOver now s g
+    of (inl e) = subst (λ (u : State). Remains g u.grants ⊎ IsOver now s g) (sym e) (poll-spares now s apart g here)
+    of (inr e) = subst (λ (u : State). Remains g u.grants ⊎ IsOver now s g) (sym e) (inl (remains-here g s.grants here))
+
+    by : Remains g t.grants ⊎ IsOver now s g → IsStillThere t g ⊎ IsOver now s g
+    by (inl (is, h, same)) = inl (is, has-contains is t.grants h, same)
+    by (inr over) = inr over

@@ -1,0 +1,178 @@
+-- What calls keep: that the client has ended, its phase, how many challenges were answered, realm and
+-- algorithm.
+use Rattle.std.proofs.Common.{◌≡◌, ℕ, Bool, true, false, ltb, List, [], ◌∷◌, Option, Some, None, refl, ap, ◌∙◌, inl, inr, arith, ◌≤◌}
+use Rattle.std.specs.Option.{option_map_or}
+use Rattle.std.proofs.lemmas.Bool.{ltb-true, ltb-false}
+use Rattle.std.proofs.lemmas.Option.{none-some, same_Some}
+use Rattle.std.specs.declared.net.socket_addr.SocketAddr.{SocketAddr}
+use Rattle.turn_stun.specs.Message.{id_of}
+use Rattle.turn_auth.specs.Challenge.{challenge_of}
+use Rattle.turn_auth.proofs.ChallengeLemmas.{challenge_of-sound}
+use Rattle.turn_auth.specs.LongTerm.{Challenge}
+use Rattle.turn_agent.specs.Agent.{timed_out_transaction}
+use Rattle.turn_agent.specs.declared.transaction.Transaction.{Transaction}
+use Rattle.turn_client_api.specs.State.{State, Phase, New, Requesting, Authenticating, Allocated, Closed, Purpose, agent_of, auth_of}
+use Rattle.turn_client_api.specs.Grants.{purposes_of}
+use Rattle.turn_client_api.specs.Judgement.{Challenged, challenge_in, judgement_of}
+use Rattle.turn_client_api.specs.Connections.{bind_step}
+use Rattle.turn_client_api.specs.Due.{has_reply}
+use Rattle.turn_client_api.specs.Effect.{transaction_ended, phase_with, relayed_in, taken_addresses}
+use Rattle.turn_client_api.specs.Payloads.{challenge_step, message_step}
+use Rattle.turn_client_api.specs.Poll.{poll_step, timed_step}
+use Rattle.turn_client_api.specs.Retry.{max_challenges, phase_after, retried}
+use Rattle.turn_client_api.specs.Steps.{Call, Leaves, state_after}
+use Rattle.turn_client_laws.specs.LawsSteps.{GoesOn, IsChallengeCounted, KeepsRealm, StaysClosed, KeepsChallengeLimit, rank}
+use Rattle.turn_client_api.specs.declared.event.TurnEvent.{TurnEvent}
+use Rattle.turn_client_api.specs.declared.poll.TurnPollRet.TheVariants as Do
+use Rattle.turn_client_laws.proofs.Edits.{KeepsAllEdits, KeepsEdits}
+use Rattle.turn_client_laws.proofs.EditsOfMessages.{edits-IsKept}
+use Rattle.turn_client_laws.proofs.EditsOfCalls.{calls-walk, leaves-walk}
+
+abbrev pub Keeps : State → State → Type 0
+Keeps s t = StaysClosed s t × KeepsChallengeLimit s t × KeepsRealm s t × GoesOn s t
+
+pub rank-le : (p : Phase) → rank p ≤ 4
+rank-le New = omega arith
+rank-le Requesting = omega arith
+rank-le Authenticating = omega arith
+rank-le Allocated = omega arith
+rank-le Closed = omega arith
+
+pub keeps-same : (s : State) → Keeps s s
+keeps-same s = (λ h. h, λ h. h, λ c e. (c, e, refl, refl), (omega arith, λ h. h))
+
+pub keeps-trans : (s t u : State) → Keeps s t → Keeps t u → Keeps s u
+keeps-trans s t u first second = (λ h. second.0 (first.0 h), λ h. second.1 (first.1 h), realm, (omega (arith, first.3.0, second.3.0), λ h. second.3.1 (first.3.1 h)))
+  where
+    realm : KeepsRealm s u
+    realm c e = by (first.2 c e)
+      where
+        by : (d : Challenge) × (t.held ≡ Some d) × (d.realm ≡ c.realm) × (d.algorithm ≡ c.algorithm) → (d : Challenge) × (u.held ≡ Some d) × (d.realm ≡ c.realm) × (d.algorithm ≡ c.algorithm)
+        by (d, f, r, a) = let (d', f', r', a') = second.2 d f in (d', f', r' ∙ r, a' ∙ a)
+
+-- ---- challenges
+
+-- with something held, a challenge keeps realm and algorithm
+challenge-realm : (held : Option Challenge) (s : State) (message : List ℕ) (d c : Challenge) → challenge_of (record (auth_of s) { held = held }) message ≡ Some d → held ≡ Some c → (d.realm ≡ c.realm) × (d.algorithm ≡ c.algorithm)
+challenge-realm None s message d c e f = absurd (none-some c f)
+challenge-realm (Some h) s message d c e f =
+    let same = same_Some h c f in
+    let is = (challenge_of-sound (record (auth_of s) { held = Some h }) message d e).follows.1 in
+    (ap (λ (x : Challenge). x.realm) is ∙ ap (λ (x : Challenge). x.realm) same, ap (λ (x : Challenge). x.algorithm) is ∙ ap (λ (x : Challenge). x.algorithm) same)
+
+-- what a challenge makes the client hold
+takes-realm : (s : State) (message : List ℕ) (d : Challenge) → challenge_in s message ≡ Some d → (c : Challenge) → s.held ≡ Some c → (x : Challenge) × (◌≡◌ {A = Option Challenge} (Some d) (Some x)) × (x.realm ≡ c.realm) × (x.algorithm ≡ c.algorithm)
+takes-realm s message d e c f = let (r, a) = challenge-realm s.held s message d c e f in (d, refl, r, a)
+
+rank-after : (p : Phase) → rank p ≤ rank (phase_after p)
+rank-after New = omega arith
+rank-after Requesting = omega arith
+rank-after Authenticating = omega arith
+rank-after Allocated = omega arith
+rank-after Closed = omega arith
+
+pub rank-with : (addresses : List SocketAddr) → 3 ≤ rank (phase_with addresses)
+rank-with [] = omega arith
+rank-with (a ∷ others) = omega arith
+
+-- a challenge that is answered is counted
+pub challenge-IsCounted : (message : List ℕ) (now : ℕ) (s : State) (d : Challenge) → judgement_of s message ≡ Challenged d → IsChallengeCounted s (message_step message now s).1
+challenge-IsCounted message now s d e = rw e (by (ltb s.challenges max_challenges) refl (retried (purposes_of (id_of message) s)) refl)
+  where
+    by : (b : Bool) → ltb s.challenges max_challenges ≡ b → (o : Option Purpose) → retried (purposes_of (id_of message) s) ≡ o → IsChallengeCounted s (challenge_step message d now s).1
+    by false f o g = rw f (inr (inr (ltb-false s.challenges max_challenges f, refl, refl)))
+    by true f None g = rw (f, g) (inl refl)
+    by true f (Some purpose) g = rw (f, g) (inr (inl (ltb-true s.challenges max_challenges f, refl)))
+
+-- ---- each edit
+
+-- the client begins
+begins-keeps : (p : Phase) (now : ℕ) (s : State) → p ≡ New → Keeps (record s { phase = p }) (record s { phase = Requesting; last_send = Some now })
+begins-keeps New now s e = (λ h. cc, λ h. h, (keeps-same s).2, (omega arith, λ h. refl))
+begins-keeps Requesting now s e = cc
+begins-keeps Authenticating now s e = cc
+begins-keeps Allocated now s e = cc
+begins-keeps Closed now s e = cc
+
+-- the server allocates
+allocates-keeps : (addresses : List SocketAddr) (p : Phase) (s : State) → p ≡ Authenticating → Keeps (record s { phase = p }) (record s { phase = phase_with addresses })
+allocates-keeps addresses Authenticating s e = (λ h. cc, λ h. h, (keeps-same s).2, (omega (arith, rank-with addresses), λ h. h))
+allocates-keeps addresses New s e = cc
+allocates-keeps addresses Requesting s e = cc
+allocates-keeps addresses Allocated s e = cc
+allocates-keeps addresses Closed s e = cc
+
+pub Keeps-KeepsEdits : KeepsEdits Keeps
+Keeps-KeepsEdits = record {
+  same = keeps-same;
+  trans = keeps-trans;
+  aside = λ s t. keeps-same s;
+  queues = λ queue s begun. keeps-same s;
+  dequeues = λ queue s fewer. keeps-same s;
+  families = λ families s may. keeps-same s;
+  sends = λ now s waits. (λ h. h, λ h. h, (keeps-same s).2, (omega arith, λ h. refl));
+  begins = λ now s new. begins-keeps s.phase now s new;
+  ends = λ s none. (λ h. refl, λ h. h, (keeps-same s).2, (rank-le s.phase, λ h. h));
+  asks = λ id text purposes now s begun askable spelled. keeps-same s;
+  finishes = λ id s. keeps-same s;
+  resends = λ id now s. keeps-same s;
+  unlists = λ which s. keeps-same s;
+  removes = λ which s spares. keeps-same s;
+  removes_family = λ family s. keeps-same s;
+  takes_offer = λ id peer s. keeps-same s;
+  ages = λ grants s e. keeps-same s;
+  permission = λ ip s phase room none. keeps-same s;
+  channel = λ number peer s phase room none within. keeps-same s;
+  connect = λ peer s phase room none. keeps-same s;
+  connection = λ id c origin s phase offer none waits. keeps-same s;
+  reserves = λ number peer was until s there. keeps-same s;
+}
+
+pub Keeps-KeepsAllEdits : KeepsAllEdits Keeps
+Keeps-KeepsAllEdits = record {
+  edits = Keeps-KeepsEdits;
+  reshapes = λ grants s e. keeps-same s;
+  rebinds = λ number peer was progress s there. keeps-same s;
+  holds = λ message d s e. (λ h. h, λ h. h, takes-realm s message d e, (keeps-same s).3);
+  counts = λ s held few. (λ h. ap phase_after h, λ h. omega (arith, few), (keeps-same s).2, (rank-after s.phase, λ h. h));
+  resets = λ heeded s. (λ h. h, λ h. omega arith, (keeps-same s).2, (keeps-same s).3);
+  empties = λ s. keeps-same s;
+  allocates = λ message lifetime now s e none. allocates-keeps (taken_addresses s.families (relayed_in message)) s.phase s e;
+  permits = λ ip expiry s is. keeps-same s;
+  connects = λ id connection_id peer s t since stay granted listed. since;
+  offers = λ id peer origin s room few. keeps-same s;
+}
+
+-- ---- all of them
+
+pub message-keeps : (message : List ℕ) (now : ℕ) (s : State) → Keeps s (message_step message now s).1
+message-keeps = (edits-IsKept Keeps Keeps-KeepsAllEdits (λ s streams. keeps-same s)).message
+
+pub bind-keeps : (local : SocketAddr) (message : List ℕ) (now : ℕ) (s : State) → Keeps s (bind_step local message now s)
+bind-keeps = (edits-IsKept Keeps Keeps-KeepsAllEdits (λ s streams. keeps-same s)).binds
+
+pub call-keeps : (call : Call) (s : State) → Keeps s (state_after call s)
+call-keeps = calls-walk Keeps Keeps-KeepsAllEdits (λ s streams. keeps-same s)
+
+-- even if memory allocation fails
+pub leaves-keeps : (call : Call) (s t : State) → Leaves call s t → Keeps s t
+leaves-keeps = leaves-walk Keeps Keeps-KeepsAllEdits (λ s streams. keeps-same s)
+
+-- a client that has ended reports so when nothing is pending
+told_of : (p : Phase) (events : List TurnEvent) (now : ℕ) (s : State) → p ≡ Closed → events ≡ [] → has_reply s ≡ false → (poll_step now (record s { phase = p; events = events })).0 ≡ Do.Closed
+told_of New events now s e f g = cc
+told_of Requesting events now s e f g = cc
+told_of Authenticating events now s e f g = cc
+told_of Allocated events now s e f g = cc
+told_of Closed (x ∷ xs) now s e f g = cc
+told_of Closed [] now s e f g = rw g (by (timed_out_transaction (agent_of s) now))
+  where
+    u : State
+    u = record s { phase = Closed; events = [] }
+
+    by : (o : Option Transaction) → (option_map_or (λ (t : Transaction). timed_step Closed (Some t.id) now (transaction_ended t.id u)) o (timed_step Closed None now u)).0 ≡ Do.Closed
+    by None = refl
+    by (Some t) = refl
+
+pub closed-told : (now : ℕ) (s : State) → s.phase ≡ Closed → s.events ≡ [] → has_reply s ≡ false → (poll_step now s).0 ≡ Do.Closed
+closed-told now s = told_of s.phase s.events now s

@@ -1,0 +1,531 @@
+-- When a client with nothing pending is idle, and when it has something to send.
+use Rattle.std.proofs.Common.{◌≡◌, ◌≢◌, ℕ, suc, ◌+◌, ◌*◌, ◌-◌, ◌^◌, ◌<◌, ◌≤◌, min, max, Bool, true, false, ◌&&◌, not, ltb, leb, List, [], ◌∷◌, ◌++◌, length, map, filter, flat_map, filter_map, find, fold, Option, Some, None, ◌⊎◌, inl, inr, refl, sym, subst, ◌∙◌, arith}
+use Rattle.std.specs.Prelude.{if◌then◌else◌, is_some, IsSome, IfSome, ⊤, slice_get, option_and_then}
+use Rattle.std.specs.List.{list_any}
+use Rattle.std.specs.Option.{option_map_or}
+use Rattle.std.proofs.Math.Nat.{max-le, le-min, le-max_left, le-max_right}
+use Rattle.std.proofs.lemmas.Option.{none-some, same_Some}
+use Rattle.std.proofs.lemmas.Bool.{not-true, false_from_ne_true, leb-true, lt-ltb, le-leb, ltb-true, ltb-false, and_right, lt-leb, leb-false}
+use Rattle.turn_agent.specs.Agent.{Agent, timed_out_transaction, due, is_due, is_timed_out, transaction_timeout}
+use Rattle.turn_agent.specs.declared.transaction.Transaction.{Transaction}
+use Rattle.turn_stun.specs.declared.transport.TransportType.{TransportType}
+use Rattle.turn_agent.specs.Schedule.{Timers, resends_of}
+use Rattle.turn_types.specs.declared.family.AddressFamily.{AddressFamily}
+use Rattle.turn_types.specs.declared.family.AddressFamily.TheVariants.{IPV4, IPV6}
+use Rattle.turn_client_api.specs.Config.{same_family}
+use Rattle.turn_client_api.specs.State.{State, Purpose, ForRefresh, ForPermission, ForChannel, Phase, New, Requesting, Authenticating, Allocated, Closed, Grant, Allocation, Permission, Channel, Connect, Offer, Connection, Relay, Pending, Active, Reserved, Queued, agent_of, max_time}
+use Rattle.turn_client_api.specs.Grants.{allocations, as_allocation, find_allocation, family_of, family_of_grant, family_of_ip, has_request, is_of}
+use Rattle.turn_client_api.specs.Requests.{asked_lifetime}
+use Rattle.turn_client_api.specs.Due.{due_times, end_of, is_refreshable, has_queued_request, has_reply, is_paused, least_due, pause_end, refresh_of, refresh_time, refresh_time_by_kind}
+use Rattle.turn_client_api.specs.Poll.{next_offer}
+use Rattle.turn_client_api.specs.Transmit.{idle_step, is_due_in, is_ranked, is_refresh_due, next_transmit, queue_step, refresh_purpose, refresh_step, refreshes_in, refreshes_of_rank, reply_in, reply_step, transmit_step, without_first_reply}
+use Rattle.turn_client_api.specs.Alarm.{IsIdleUntil, Lasts}
+use Rattle.turn_client_laws.proofs.HasLemmas.{Has, has-append, has-left, has-right, map-has, flat_map-has, has-flat_map, has-found, filter-has, filter_map-has, has-filter_map, find-none, filter-none, least-le, all-has}
+
+-- the grant has not expired by now, if its expiry is one to wait for
+abbrev pub Alive : ℕ → Grant → Type 0
+Alive now (Allocation a) = a.is_expired ≡ false → now < a.expiry
+Alive now (Permission ip (Active expiry)) = now < expiry
+Alive now (Channel number peer (Active expiry)) = now < expiry
+Alive now (Connection c) = IfSome c.deadline (λ deadline. now < deadline)
+Alive now _ = ⊤
+
+-- nothing is pending, and what was past has expired
+pub record IsReady (now : ℕ) (t : State) : Type 0 where
+  pub no_event : t.events ≡ []
+  pub no_reply : has_reply t ≡ false
+  pub no_offer : next_offer t ≡ None
+  pub no_close : t.closes ≡ []
+  pub not_new : t.phase ≢ New
+  pub none_over : timed_out_transaction (agent_of t) now ≡ None
+  pub alive : (g : Grant) → Has g t.grants → Alive now g
+  pub grants_later : (t.phase ≡ Allocated) ⊎ (t.grants ≡ [])
+
+-- ---- due times
+
+-- what is due is not before the least
+least-member : (now m : ℕ) (t : State) → Has m (due_times now t) → least_due now t ≤ m
+least-member now m t h = least-le max_time m (due_times now t) h
+
+abbrev queued_part : State → List ℕ
+queued_part t = if has_queued_request t then pause_end t ∷ [] else []
+
+abbrev transactions_part : State → List ℕ
+transactions_part t = map (transaction_timeout (agent_of t).timers t.transport) t.transactions
+
+abbrev grant_part : ℕ → State → Grant → List ℕ
+grant_part now t g = end_of now g ++ refresh_of t g
+
+least-queued : (now : ℕ) (t : State) → has_queued_request t ≡ true → least_due now t ≤ pause_end t
+least-queued now t queued =
+    let others = flat_map (grant_part now t) t.grants in
+    least-member now (pause_end t) t (inr (has-left (pause_end t) (queued_part t ++ transactions_part t) others (has-left (pause_end t) (queued_part t) (transactions_part t) (rw queued (inl refl)))))
+
+least-transaction : (now : ℕ) (t : State) (x : Transaction) → Has x t.transactions → least_due now t ≤ transaction_timeout (agent_of t).timers t.transport x
+least-transaction now t x h =
+    let next = transaction_timeout (agent_of t).timers t.transport in
+    let others = flat_map (grant_part now t) t.grants in
+    least-member now (next x) t (inr (has-left (next x) (queued_part t ++ transactions_part t) others (has-right (next x) (queued_part t) (transactions_part t) (map-has next x t.transactions h))))
+
+least-grant : (now m : ℕ) (t : State) (g : Grant) → Has g t.grants → Has m (end_of now g ++ refresh_of t g) → least_due now t ≤ m
+least-grant now m t g h inside =
+    let others = flat_map (grant_part now t) t.grants in
+    least-member now m t (inr (has-right m (queued_part t ++ transactions_part t) others (flat_map-has (grant_part now t) g m t.grants h inside)))
+
+-- ---- before the least of them
+
+not_due : (now m : ℕ) (t : State) → m < least_due now t → due (agent_of t) m ≡ None
+not_due now m t before =
+    find-none _ t.transactions (λ x h. and_right _ _ (lt-leb _ m (omega (arith, before, least-transaction now t x h))))
+
+not_over : (now m : ℕ) (t : State) → m < least_due now t → timed_out_transaction (agent_of t) m ≡ None
+not_over now m t before =
+    find-none _ t.transactions (λ x h. and_right _ _ (lt-leb _ m (omega (arith, before, least-transaction now t x h))))
+
+-- with no reply in the queue none is sent, and with no request either it is empty
+no_replies : (qs : List Queued) → list_any (λ q. not q.is_request) qs ≡ false → filter_map reply_in qs ≡ []
+no_replies [] none = refl
+no_replies (q ∷ qs) none = by q.is_request refl (no_replies qs)
+  where
+    by : (b : Bool) → q.is_request ≡ b → (list_any (λ q. not q.is_request) qs ≡ false → filter_map reply_in qs ≡ []) → filter_map reply_in (q ∷ qs) ≡ []
+    by true is later = rw is (later (rw is at none))
+    by false is later = let h : true ≡ false = rw is at none in cc
+
+empty : (qs : List Queued) → list_any (λ q. not q.is_request) qs ≡ false → list_any (λ q. q.is_request) qs ≡ false → qs ≡ []
+empty [] no_reply no_request = refl
+empty (q ∷ qs) no_reply no_request = by q.is_request refl
+  where
+    by : (b : Bool) → q.is_request ≡ b → q ∷ qs ≡ []
+    by true is = let h : true ≡ false = rw is at no_request in cc
+    by false is = let h : true ≡ false = rw is at no_reply in cc
+
+-- what is before the later of two times, and not before the first, is before the second
+early : (m moment least pause : ℕ) → m < least → least ≤ max pause moment → pause ≤ m → leb moment m ≡ false
+early m moment least pause before later over = by (leb moment m) refl
+  where
+    by : (b : Bool) → leb moment m ≡ b → leb moment m ≡ false
+    by false e = e
+    by true e = absurd (omega (arith, before, later, max-le {a = pause} {b = moment} {k = m} over (leb-true moment m e)))
+
+-- no refresh is due before the pause is over and its own time has come
+not_refreshed : (now m : ℕ) (t : State) → m < least_due now t → is_paused m t ≡ false → (g : Grant) → Has g t.grants → is_refresh_due m t g ≡ false
+unfolding is_refresh_due
+not_refreshed now m t before idle g h = by (refresh_time t g) refl
+  where
+    by : (r : Option ℕ) → refresh_time t g ≡ r → is_refresh_due m t g ≡ false
+    by None none = rw none refl
+    by (Some moment) some =
+        let later : least_due now t ≤ max (pause_end t) moment = least-grant now (max (pause_end t) moment) t g h (has-right _ (end_of now g) _ (rw some (inl refl))) in
+        rw some (early m moment (least_due now t) (pause_end t) before later (ltb-false m (pause_end t) idle))
+
+-- ---- an idle client
+
+no_refreshes : (now m : ℕ) (t : State) → m < least_due now t → is_paused m t ≡ false → (a : Relay) → refreshes_in m t a ≡ []
+no_refreshes now m t before idle a = by (leb m a.expiry) refl
+  where
+    none : (rank : ℕ) → filter (is_due_in rank (family_of a.relayed) m t) t.grants ≡ []
+    none rank = filter-none _ t.grants (λ g h. and_right _ _ (not_refreshed now m t before idle g h))
+
+    by : (b : Bool) → leb m a.expiry ≡ b → refreshes_in m t a ≡ []
+    by true e = rw (e, none 0, none 1, none 2) refl
+    by false e = rw e refl
+
+flat_map-none : {X Y : Type 0} (f : X → List Y) (xs : List X) → ((x : X) → f x ≡ []) → flat_map f xs ≡ []
+flat_map-none f [] none = refl
+flat_map-none f (x ∷ xs) none = rw (none x) (flat_map-none f xs none)
+
+idle_silent : (now m : ℕ) (t : State) → m < least_due now t → is_paused m t ≡ false → (p : Phase) → p ≢ New → idle_step p m t ≡ (None, t)
+idle_silent now m t before idle New old = absurd (old refl)
+idle_silent now m t before idle Requesting old = refl
+idle_silent now m t before idle Authenticating old = refl
+idle_silent now m t before idle Closed old = refl
+idle_silent now m t before idle Allocated old =
+    rw (flat_map-none (refreshes_in m t) (allocations t) (no_refreshes now m t before idle)) refl
+
+-- what is sent if nothing is to be retransmitted
+not_due-transmit : (m : ℕ) (t : State) → due (agent_of t) m ≡ None → transmit_step m t ≡ (if is_paused m t then reply_step t else queue_step m t)
+not_due-transmit m t none = rw (none, transmit_step) refl
+
+no_reply-kept : (qs : List Queued) → list_any (λ q. not q.is_request) qs ≡ false → without_first_reply qs ≡ qs
+no_reply-kept [] none = refl
+no_reply-kept (q ∷ qs) none = by q.is_request (no_reply-kept qs) none
+  where
+    has : Bool → List Queued
+    has b = record q { is_request = b } ∷ qs
+
+    by : (b : Bool) → (list_any (λ q. not q.is_request) qs ≡ false → without_first_reply qs ≡ qs) → list_any (λ q. not q.is_request) (has b) ≡ false → without_first_reply (has b) ≡ has b
+    by true later none = rw (later none) refl
+    by false later none = absurd (some none)
+      where
+        some : true ≡ false → ⊥
+        some e = cc
+
+reply-none : (t : State) → has_reply t ≡ false → reply_step t ≡ (None, t)
+reply-none t none = rw (no_replies t.queue none, no_reply-kept t.queue none) refl
+
+queue-empty : (m : ℕ) (t : State) → t.queue ≡ [] → queue_step m t ≡ idle_step t.phase m t
+queue-empty m t e = rw (e, queue_step) refl
+
+sends_nothing : (now m : ℕ) (t : State) → IsReady now t → m < least_due now t → transmit_step m t ≡ (None, t)
+sends_nothing now m t ready before = rw (not_due-transmit m t (not_due now m t before)) (by (is_paused m t) refl)
+  where
+    by : (b : Bool) → is_paused m t ≡ b → (if is_paused m t then reply_step t else queue_step m t) ≡ (None, t)
+    by true e = rw e (reply-none t ready.no_reply)
+    by false e =
+        let no_request = false_from_ne_true (has_queued_request t) (λ queued. absurd (omega (arith, before, least-queued now t queued, ltb-false m (pause_end t) e))) in
+        rw (e, queue-empty m t (empty t.queue ready.no_reply no_request)) (idle_silent now m t before e t.phase ready.not_new)
+
+lasts : (now m : ℕ) (t : State) → IsReady now t → m ≤ least_due now t → (g : Grant) → Has g t.grants → Lasts m g
+lasts now m t ready until g h = by g h (ready.alive g h)
+  where
+    due_end : (g : Grant) → Has g t.grants → (expiry : ℕ) → Has expiry (end_of now g) → m ≤ expiry
+    due_end g h expiry inside = omega (arith, until, least-grant now expiry t g h (has-left expiry (end_of now g) (refresh_of t g) inside))
+
+    by : (g : Grant) → Has g t.grants → Alive now g → Lasts m g
+    by (Allocation a) h alive = λ used. due_end (Allocation a) h a.expiry (rw (lt-ltb now a.expiry (alive used)) (inl refl))
+    by (Permission ip (Active expiry)) h alive = due_end (Permission ip (Active expiry)) h expiry (inl refl)
+    by (Channel number peer (Active expiry)) h alive = due_end (Channel number peer (Active expiry)) h expiry (inl refl)
+    by (Permission ip Pending) h alive = tt
+    by (Permission ip (Reserved until)) h alive = tt
+    by (Channel number peer Pending) h alive = tt
+    by (Channel number peer (Reserved until)) h alive = tt
+    by (Connect peer) h alive = tt
+    by (Offer offer) h alive = tt
+    by (Connection c) h alive = of c.deadline refl
+      where
+        of : (d : Option ℕ) → c.deadline ≡ d → IfSome c.deadline (λ deadline. m ≤ deadline)
+        of None e = rw e tt
+        of (Some deadline) e = rw e (due_end (Connection c) h deadline (rw e (inl refl)))
+
+-- a client that is ready is idle before the earliest of the times at which something is due
+pub ready-silent : (now m : ℕ) (t : State) → IsReady now t → m ≤ least_due now t → IsIdleUntil now m t
+ready-silent now m t ready until = record {
+  sends_nothing = λ k from before. sends_nothing now k t ready (omega (arith, before, until));
+  ends_nothing = λ k from before. not_over now k t (omega (arith, before, until));
+  no_event = ready.no_event;
+  no_offer = ready.no_offer;
+  no_close = ready.no_close;
+  grants_last = all-has (Lasts m) t.grants (lasts now m t ready until);
+}
+
+-- ---- something to send
+
+-- every time at which something is due is later than now
+later-least : (now start : ℕ) (ms : List ℕ) → now < start → ((m : ℕ) → Has m ms → now < m) → now < fold min start ms
+later-least now start [] first later = first
+later-least now start (m ∷ ms) first later =
+    later-least now (min start m) ms (omega (arith, le-min {k = suc now} {a = start} {b = m} (omega (arith, first)) (omega (arith, later m (inl refl))))) (λ k h. later k (inr h))
+
+pub record AreLater (now : ℕ) (t : State) : Type 0 where
+  pub in_range : now ≤ 2 ^ 62
+  pub queued : has_queued_request t ≡ true → now < pause_end t
+  pub none_due : due (agent_of t) now ≡ None
+  pub none_over : timed_out_transaction (agent_of t) now ≡ None
+  pub grants : (g : Grant) → Has g t.grants → (m : ℕ) → Has m (grant_part now t g) → now < m
+
+has-queued : (now m : ℕ) (t : State) → (has_queued_request t ≡ true → now < pause_end t) → Has m (queued_part t) → now < m
+has-queued now m t queued h = by (has_queued_request t) refl
+  where
+    by : (b : Bool) → has_queued_request t ≡ b → now < m
+    by true e = at (rw e at h)
+      where
+        at : (m ≡ pause_end t) ⊎ ⊥ → now < m
+        at (inl same) = rw same (queued e)
+        at (inr none) = absurd none
+    by false e = absurd (rw e at h)
+
+and_false_left : (x y : Bool) → y ≡ true → (x && y) ≡ false → x ≡ false
+and_false_left true y passes fails = sym passes ∙ fails
+and_false_left false y passes fails = refl
+
+waits_on : (timers : Timers) (transport : TransportType) (now : ℕ) (t : Transaction) → is_due timers transport now t ≡ false → is_timed_out timers transport now t ≡ false → now < transaction_timeout timers transport t
+waits_on timers transport now t not_due not_over = by (leb (transaction_timeout timers transport t) now) refl
+  where
+    by : (b : Bool) → leb (transaction_timeout timers transport t) now ≡ b → now < transaction_timeout timers transport t
+    by false later = leb-false (transaction_timeout timers transport t) now later
+    by true past =
+        let more : ltb t.resends (resends_of timers transport) ≡ false = and_false_left _ _ past not_due in
+        let last : leb (resends_of timers transport) t.resends ≡ false = and_false_left _ _ past not_over in
+        absurd (omega (arith, ltb-false _ _ more, leb-false _ _ last))
+
+-- what is neither to be retransmitted nor timed out waits on
+transactions-later : (now m : ℕ) (a : Agent) (xs : List Transaction) → find (is_due a.timers a.transport now) xs ≡ None → find (is_timed_out a.timers a.transport now) xs ≡ None → Has m (map (transaction_timeout a.timers a.transport) xs) → now < m
+transactions-later now m a [] none_due none_over h = absurd h
+transactions-later now m a (x ∷ xs) none_due none_over h = by (is_due a.timers a.transport now x) (is_timed_out a.timers a.transport now x) refl refl (transactions-later now m a xs)
+  where
+    by : (d o : Bool) → is_due a.timers a.transport now x ≡ d → is_timed_out a.timers a.transport now x ≡ o → (find (is_due a.timers a.transport now) xs ≡ None → find (is_timed_out a.timers a.transport now) xs ≡ None → Has m (map (transaction_timeout a.timers a.transport) xs) → now < m) → now < m
+    by true o e f others = absurd (none-some x (sym (rw e at none_due)))
+    by false true e f others = absurd (none-some x (sym (rw f at none_over)))
+    by false false e f others = at h
+      where
+        at : (m ≡ transaction_timeout a.timers a.transport x) ⊎ Has m (map (transaction_timeout a.timers a.transport) xs) → now < m
+        at (inl same) = rw same (waits_on a.timers a.transport now x e f)
+        at (inr there) = others (rw e at none_due) (rw f at none_over) there
+
+all-later : (now : ℕ) (t : State) → AreLater now t → now < least_due now t
+all-later now t l = later-least now max_time (due_times now t) (omega (arith, l.in_range)) by
+  where
+    by : (m : ℕ) → Has m (due_times now t) → now < m
+    by m (inl e) = rw e (omega (arith, l.in_range, le-min {k = suc now} {a = now + 9999 * 1_000_000_000} {b = 2 ^ 63 - 1} (omega arith) (omega (arith, l.in_range))))
+    by m (inr h) = grants (has-append m (queued_part t ++ transactions_part t) (flat_map (grant_part now t) t.grants) h)
+      where
+        sends : Has m (queued_part t) ⊎ Has m (transactions_part t) → now < m
+        sends (inl q) = has-queued now m t l.queued q
+        sends (inr x) = transactions-later now m (agent_of t) t.transactions l.none_due l.none_over x
+
+        grants : Has m (queued_part t ++ transactions_part t) ⊎ Has m (flat_map (grant_part now t) t.grants) → now < m
+        grants (inl s) = sends (has-append m (queued_part t) (transactions_part t) s)
+        grants (inr g) = let came = has-flat_map (grant_part now t) m t.grants g in l.grants came.from came.there m came.gives
+
+refresh-sends : (now : ℕ) (t : State) (ps : List Purpose) → flat_map (refreshes_in now t) (allocations t) ≡ ps → (p : Purpose) → Has p ps → IsSome (refresh_step now t).0
+refresh-sends now t [] e p h = absurd h
+refresh-sends now t (q ∷ qs) e p h = rw e refl
+
+same_family-swap : (a b : AddressFamily) → same_family a b ≡ true → same_family b a ≡ true
+same_family-swap IPV4 IPV4 e = refl
+same_family-swap IPV6 IPV6 e = refl
+same_family-swap IPV4 IPV6 e = e
+same_family-swap IPV6 IPV4 e = e
+
+same_family-self : (a : AddressFamily) → same_family a a ≡ true
+same_family-self IPV4 = refl
+same_family-self IPV6 = refl
+
+-- a grant in use whose allocation is active, and which may be refreshed, is refreshed when its time has
+-- come
+refreshed-once : (now : ℕ) (t : State) (g : Grant) (a : Relay) (rank : ℕ) (p : Purpose) → Has g t.grants → Has a (allocations t) → now ≤ a.expiry → is_of (family_of a.relayed) g ≡ true → Has rank (0 ∷ 1 ∷ 2 ∷ []) → is_ranked rank g ≡ true → is_refresh_due now t g ≡ true → refresh_purpose now g ≡ Some p → IsSome (refresh_step now t).0
+refreshed-once now t g a rank p h inside goes_on here ranked is due gives =
+    let test = is_due_in rank (family_of a.relayed) now t in
+    let of_rank = refreshes_of_rank now t (family_of a.relayed) in
+    let passes : is_due_in rank (family_of a.relayed) now t g ≡ true = rw (is, here, due) refl in
+    let in_rank : Has p (of_rank rank) = filter_map-has (refresh_purpose now) g p (filter test t.grants) (filter-has test g t.grants h passes) gives in
+    let in_allocation : Has p (refreshes_in now t a) = rw (le-leb now a.expiry goes_on) (flat_map-has of_rank rank p (0 ∷ 1 ∷ 2 ∷ []) ranked in_rank) in
+    refresh-sends now t _ refl p (flat_map-has (refreshes_in now t) a p (allocations t) inside in_allocation)
+
+untimed : (now : ℕ) (t : State) (g : Grant) → refresh_time t g ≡ None → is_refresh_due now t g ≡ true → ⊥
+unfolding is_refresh_due
+untimed now t g none due = let no : false ≡ true = rw none at due in cc
+
+used-due : (now : ℕ) (t : State) (g : Grant) → is_refresh_due now t g ≡ true → is_refreshable g t ≡ true
+unfolding refresh_time
+used-due now t g due = by (is_refreshable g t) refl
+  where
+    none : (used request : Bool) (o : Option ℕ) → used ≡ false → option_and_then (λ (moment : ℕ). if used && request then Some moment else None) o ≡ None
+    none false request None e = refl
+    none false request (Some moment) e = refl
+    none true request o e = let no : true ≡ false = e in cc
+
+    by : (b : Bool) → is_refreshable g t ≡ b → is_refreshable g t ≡ true
+    by true e = e
+    by false e = absurd (untimed now t g (none (is_refreshable g t) (not (has_request g t)) (refresh_time_by_kind g) e) due)
+
+-- in `Allocated`, with nothing queued and the pause over, a refresh whose time has come is sent
+refresh-busy : (now : ℕ) (t : State) → IsReady now t → (g : Grant) → Has g t.grants → is_refresh_due now t g ≡ true → IsSome (refresh_step now t).0
+unfolding refresh_time
+refresh-busy now t ready g h due = by g h due
+  where
+    Sends : Type 0
+    Sends = IsSome (refresh_step now t).0
+
+    -- of a permission or channel, its allocation is in use and has not expired
+    within : (g : Grant) → Has g t.grants → is_refresh_due now t g ≡ true → (rank : ℕ) → Has rank (0 ∷ 1 ∷ 2 ∷ []) → is_ranked rank g ≡ true → (p : Purpose) → refresh_purpose now g ≡ Some p → (o : Option Relay) → find_allocation (family_of_grant g) t ≡ o → option_map_or (λ a. not a.is_expired) o false ≡ true → Sends
+    within g h due rank ranked is p gives None e used = let no : false ≡ true = used in cc
+    within g h due rank ranked is p gives (Some a) e used =
+        let found = has-found (λ a. same_family (family_of a.relayed) (family_of_grant g)) a (allocations t) e in
+        let there = has-filter_map as_allocation a t.grants found.0 in
+        let alive : now < a.expiry = lives a there (not-true _ used) in
+        refreshed-once now t g a rank p h found.0 (omega (arith, alive)) (same_family-swap _ _ found.1) ranked is due gives
+      where
+        lives : (a : Relay) → ((x : Grant) × Has x t.grants × (as_allocation x ≡ Some a)) → a.is_expired ≡ false → now < a.expiry
+        lives a (Allocation b, inside, same) used =
+            let equal : b ≡ a = same_Some b a same in
+            rw equal at (ready.alive (Allocation b) inside) used
+        lives a (Permission ip progress, inside, same) used = absurd (none-some _ same)
+        lives a (Channel number peer progress, inside, same) used = absurd (none-some _ same)
+        lives a (Connect peer, inside, same) used = absurd (none-some _ same)
+        lives a (Offer offer, inside, same) used = absurd (none-some _ same)
+        lives a (Connection c, inside, same) used = absurd (none-some _ same)
+
+    by : (g : Grant) → Has g t.grants → is_refresh_due now t g ≡ true → Sends
+    by (Allocation a) h due =
+        let alive : now < a.expiry = ready.alive (Allocation a) h (not-true a.is_expired (used-due now t (Allocation a) due)) in
+        refreshed-once now t (Allocation a) a 0 (ForRefresh (family_of a.relayed) asked_lifetime) h (filter_map-has as_allocation (Allocation a) a t.grants h refl) (omega (arith, alive)) (same_family-self (family_of a.relayed)) (inl refl) refl due (rw (le-leb now a.expiry (omega (arith, alive))) refl)
+    by (Permission ip (Active expiry)) h due =
+        within (Permission ip (Active expiry)) h due 2 (inr (inr (inl refl))) refl (ForPermission ip) (rw (lt-ltb now expiry (ready.alive (Permission ip (Active expiry)) h)) refl) (find_allocation (family_of_ip ip) t) refl (used-due now t (Permission ip (Active expiry)) due)
+    by (Channel number peer (Active expiry)) h due =
+        within (Channel number peer (Active expiry)) h due 1 (inr (inl refl)) refl (ForChannel number peer) (rw (lt-ltb now expiry (ready.alive (Channel number peer (Active expiry)) h)) refl) (find_allocation (family_of peer) t) refl (used-due now t (Channel number peer (Active expiry)) due)
+    by (Permission ip Pending) h due = absurd (untimed now t (Permission ip Pending) refl due)
+    by (Permission ip (Reserved until)) h due = absurd (untimed now t (Permission ip (Reserved until)) refl due)
+    by (Channel number peer Pending) h due = absurd (untimed now t (Channel number peer Pending) refl due)
+    by (Channel number peer (Reserved until)) h due = absurd (untimed now t (Channel number peer (Reserved until)) refl due)
+    by (Connect peer) h due = absurd (untimed now t (Connect peer) refl due)
+    by (Offer offer) h due = absurd (untimed now t (Offer offer) refl due)
+    by (Connection c) h due = absurd (untimed now t (Connection c) refl due)
+
+-- the expiry of a grant that is active
+end-later : (now m : ℕ) (g : Grant) → Alive now g → Has m (end_of now g) → now < m
+end-later now m (Allocation a) alive h = by (ltb now a.expiry) refl
+  where
+    by : (b : Bool) → ltb now a.expiry ≡ b → now < m
+    by true e = at (rw e at h)
+      where
+        at : (m ≡ a.expiry) ⊎ ⊥ → now < m
+        at (inl same) = rw same (ltb-true now a.expiry e)
+        at (inr none) = absurd none
+    by false e = absurd (rw e at h)
+end-later now m (Permission ip (Active expiry)) alive (inl same) = rw same alive
+end-later now m (Permission ip (Active expiry)) alive (inr none) = absurd none
+end-later now m (Channel number peer (Active expiry)) alive (inl same) = rw same alive
+end-later now m (Channel number peer (Active expiry)) alive (inr none) = absurd none
+end-later now m (Permission ip Pending) alive h = absurd h
+end-later now m (Permission ip (Reserved until)) alive h = absurd h
+end-later now m (Channel number peer Pending) alive h = absurd h
+end-later now m (Channel number peer (Reserved until)) alive h = absurd h
+end-later now m (Connect peer) alive h = absurd h
+end-later now m (Offer offer) alive h = absurd h
+end-later now m (Connection c) alive h = by c.deadline refl
+  where
+    by : (d : Option ℕ) → c.deadline ≡ d → now < m
+    by None e = absurd (rw e at h)
+    by (Some deadline) e = at (rw e at h)
+      where
+        at : (m ≡ deadline) ⊎ ⊥ → now < m
+        at (inl same) = rw same (rw e at alive)
+        at (inr none) = absurd none
+
+-- the time to refresh it, after the pause
+refresh-later : (now m : ℕ) (t : State) (g : Grant) → (is_refresh_due now t g ≡ true → now < pause_end t) → Has m (refresh_of t g) → now < m
+unfolding is_refresh_due
+refresh-later now m t g pause h = by (refresh_time t g) refl
+  where
+    by : (o : Option ℕ) → refresh_time t g ≡ o → now < m
+    by None e = absurd (rw e at h)
+    by (Some moment) e = at (rw e at h)
+      where
+        later : (b : Bool) → leb moment now ≡ b → now < max (pause_end t) moment
+        later true f = omega (arith, pause (rw e (rw f refl)), le-max_left (pause_end t) moment)
+        later false f = omega (arith, leb-false moment now f, le-max_right (pause_end t) moment)
+
+        at : (m ≡ max (pause_end t) moment) ⊎ ⊥ → now < m
+        at (inl same) = rw same (later (leb moment now) refl)
+        at (inr none) = absurd none
+
+-- what is due of a grant that is active is later than now, except a refresh whose time has come
+grant-later : (now m : ℕ) (t : State) (g : Grant) → Alive now g → (is_refresh_due now t g ≡ true → now < pause_end t) → Has m (grant_part now t g) → now < m
+grant-later now m t g alive pause h = parts (has-append m (end_of now g) (refresh_of t g) h)
+  where
+    parts : Has m (end_of now g) ⊎ Has m (refresh_of t g) → now < m
+    parts (inl end) = end-later now m g alive end
+    parts (inr again) = refresh-later now m t g pause again
+
+-- ---- a client that is ready and has something due has something to send
+
+front-sends : (now : ℕ) (t : State) (qs : List Queued) → t.queue ≡ qs → 0 < length qs → IsSome (queue_step now t).0
+front-sends now t [] e some = absurd (omega (arith, some))
+front-sends now t (q ∷ qs) e some = rw e refl
+
+-- while nothing is queued and the pause is over, what is due is a refresh
+refresh-or-later : (now : ℕ) (t : State) → IsReady now t → now ≤ 2 ^ 62 → due (agent_of t) now ≡ None → is_paused now t ≡ false → t.queue ≡ [] → least_due now t ≤ now → IsSome (idle_step t.phase now t).0
+refresh-or-later now t ready range none_due idle e reached = by ready.grants_later
+  where
+    nothing_queued : has_queued_request t ≡ true → now < pause_end t
+    nothing_queued queued = let no : false ≡ true = rw e at queued in cc
+
+    by : (t.phase ≡ Allocated) ⊎ (t.grants ≡ []) → IsSome (idle_step t.phase now t).0
+    by (inr no_grants) =
+        absurd (omega (
+          arith,
+          reached,
+          all-later now t (record {
+            in_range = range;
+            queued = nothing_queued;
+            none_due = none_due;
+            none_over = ready.none_over;
+            grants = λ g h. absurd (rw no_grants at h);
+          }),
+        ))
+    by (inl live) = subst (λ p. IsSome (idle_step p now t).0) (sym live) (found (is_some (refresh_step now t).0) refl)
+      where
+        no_refresh : is_some (refresh_step now t).0 ≡ false → (g : Grant) → Has g t.grants → is_refresh_due now t g ≡ true → now < pause_end t
+        no_refresh none g h due = let no : false ≡ true = sym none ∙ refresh-busy now t ready g h due in cc
+
+        found : (b : Bool) → is_some (refresh_step now t).0 ≡ b → IsSome (refresh_step now t).0
+        found true f = f
+        found false f =
+            absurd (omega (
+              arith,
+              reached,
+              all-later now t (record {
+                in_range = range;
+                queued = nothing_queued;
+                none_due = none_due;
+                none_over = ready.none_over;
+                grants = λ g h m inside. grant-later now m t g (ready.alive g h) (no_refresh f g h) inside;
+              }),
+            ))
+
+-- if a client that is ready returns a time not later than now, it has something to send
+pub ready-busy : (now : ℕ) (t : State) → IsReady now t → now ≤ 2 ^ 62 → least_due now t ≤ now → IsSome (next_transmit now t)
+ready-busy now t ready range reached = again (due (agent_of t) now) refl
+  where
+    chosen : due (agent_of t) now ≡ None → (b : Bool) → is_paused now t ≡ b → IsSome (if is_paused now t then reply_step t else queue_step now t).0
+    chosen none true idle =
+        absurd (omega (
+          arith,
+          reached,
+          all-later now t (record {
+            in_range = range;
+            queued = λ q. ltb-true now (pause_end t) idle;
+            none_due = none;
+            none_over = ready.none_over;
+            grants = λ g h m inside. grant-later now m t g (ready.alive g h) (λ d. ltb-true now (pause_end t) idle) inside;
+          }),
+        ))
+    chosen none false idle = rw idle (sends t.queue refl)
+      where
+        sends : (qs : List Queued) → t.queue ≡ qs → IsSome (queue_step now t).0
+        sends [] e = rw (queue-empty now t e) (refresh-or-later now t ready range none idle e reached)
+        sends (q ∷ qs) e = front-sends now t (q ∷ qs) e (omega arith)
+
+    again : (o : Option Transaction) → due (agent_of t) now ≡ o → IsSome (next_transmit now t)
+    again (Some x) e = rw (next_transmit, transmit_step, e) refl
+    again None e = rw (next_transmit, not_due-transmit now t e) (chosen e (is_paused now t) refl)
+
+-- a queued reply can be sent
+pub reply-busy : (now : ℕ) (t : State) → has_reply t ≡ true → IsSome (next_transmit now t)
+reply-busy now t waits = again (due (agent_of t) now) refl
+  where
+    replies : (qs : List Queued) → list_any (λ q. not q.is_request) qs ≡ true → IsSome (slice_get (filter_map reply_in qs) 0)
+    replies [] e = let wrong : false ≡ true = e in cc
+    replies (q ∷ qs) e = by q.is_request refl (replies qs)
+      where
+        by : (b : Bool) → q.is_request ≡ b → (list_any (λ q. not q.is_request) qs ≡ true → IsSome (slice_get (filter_map reply_in qs) 0)) → IsSome (slice_get (filter_map reply_in (q ∷ qs)) 0)
+        by true is later = rw is (later (rw is at e))
+        by false is later = rw is refl
+
+    front : (qs : List Queued) → t.queue ≡ qs → list_any (λ q. not q.is_request) qs ≡ true → IsSome (queue_step now t).0
+    front [] e wrong = let impossible : false ≡ true = wrong in cc
+    front (q ∷ qs) e some = front-sends now t (q ∷ qs) e (omega arith)
+
+    chosen : (b : Bool) → is_paused now t ≡ b → IsSome (if is_paused now t then reply_step t else queue_step now t).0
+    chosen true paused = rw paused (replies t.queue waits)
+    chosen false idle = rw idle (front t.queue refl waits)
+
+    again : (o : Option Transaction) → due (agent_of t) now ≡ o → IsSome (next_transmit now t)
+    again (Some x) e = rw (next_transmit, transmit_step, e) refl
+    again None e = rw (next_transmit, not_due-transmit now t e) (chosen (is_paused now t) refl)
+
+-- a new client has something to send
+pub new-busy : (now : ℕ) (t : State) → t.phase ≡ New → t.last_send ≡ None → IsSome (next_transmit now t)
+new-busy now t new unsent = again (due (agent_of t) now) refl
+  where
+    idle : is_paused now t ≡ false
+    idle = rw unsent (false_from_ne_true (ltb now 0) (λ e. absurd (omega (arith, ltb-true now 0 e))))
+
+    front : (qs : List Queued) → t.queue ≡ qs → IsSome (queue_step now t).0
+    front [] e = rw (queue-empty now t e) (subst (λ p. IsSome (idle_step p now t).0) (sym new) refl)
+    front (q ∷ qs) e = front-sends now t (q ∷ qs) e (omega arith)
+
+    again : (o : Option Transaction) → due (agent_of t) now ≡ o → IsSome (next_transmit now t)
+    again (Some x) e = rw (next_transmit, transmit_step, e) refl
+    again None e = rw (next_transmit, not_due-transmit now t e, idle) (front t.queue refl)

@@ -1,0 +1,214 @@
+-- What is active in a list of grants, and what a change of the list leaves of it.
+use Rattle.std.proofs.Common.{◌≡◌, ℕ, zero, suc, Bool, true, false, cond, List, [], ◌∷◌, ◌++◌, map, filter, fold, ◌⊎◌, inl, inr, refl, sym, ◌∙◌, arith}
+use Rattle.std.specs.List.{Contains}
+use Rattle.std.specs.declared.net.ip_addr.IpAddr.{IpAddr}
+use Rattle.std.specs.declared.net.socket_addr.SocketAddr.{SocketAddr}
+use Rattle.turn_client_api.specs.State.{State, Grant, Allocation, Permission, Channel, Connect, Offer, Connection, DataConnection, Relay, Pending, Active, Reserved}
+use Rattle.turn_client_laws.specs.LawsGranted.{IsActiveGrant, IsSameGrant, WasActive}
+use Rattle.turn_client_laws.proofs.HasLemmas.{Has, has-append, has-filter}
+use Rattle.turn_client_laws.proofs.PeerLemmas.{Contains-here, Contains-later}
+
+-- ---- both ways to say that something is in a list
+
+pub has-contains : {X : Type 0} (x : X) (xs : List X) → Has x xs → Contains xs x
+has-contains x [] h = absurd h
+has-contains x (y ∷ xs) (inl e) = rw e (Contains-here y xs)
+has-contains x (y ∷ xs) (inr h) = Contains-later x y xs (has-contains x xs h)
+
+pub contains-has : {X : Type 0} (x : X) (xs : List X) → Contains xs x → Has x xs
+contains-has x [] (k, within, is) = absurd (omega (arith, within))
+contains-has x (y ∷ xs) (zero, within, is) = inl (sym is)
+contains-has x (y ∷ xs) (suc k, within, is) = inr (contains-has x xs (k, omega (arith, within), is))
+
+-- ---- one grant
+
+-- a grant that is active is kept as itself
+pub kept-same : (g : Grant) → IsActiveGrant g → IsSameGrant g g
+kept-same (Allocation a) h = (refl, refl)
+kept-same (Permission ip (Active expiry)) h = (refl, refl)
+kept-same (Permission ip Pending) h = absurd h
+kept-same (Permission ip (Reserved until)) h = absurd h
+kept-same (Channel number peer (Active expiry)) h = (refl, refl, refl)
+kept-same (Channel number peer Pending) h = absurd h
+kept-same (Channel number peer (Reserved until)) h = absurd h
+kept-same (Connect peer) h = absurd h
+kept-same (Offer offer) h = absurd h
+kept-same (Connection c) h = (refl, h)
+
+-- what is kept was active
+pub kept-stood : (g h : Grant) → IsSameGrant g h → IsActiveGrant g
+kept-stood (Allocation a) h k = tt
+kept-stood (Permission ip (Active expiry)) h k = tt
+kept-stood (Permission ip Pending) h k = absurd k
+kept-stood (Permission ip (Reserved until)) h k = absurd k
+kept-stood (Channel number peer (Active expiry)) h k = tt
+kept-stood (Channel number peer Pending) h k = absurd k
+kept-stood (Channel number peer (Reserved until)) h k = absurd k
+kept-stood (Connect peer) h k = absurd k
+kept-stood (Offer offer) h k = absurd k
+kept-stood (Connection c) (Connection d) (e, none) = none
+kept-stood (Connection c) (Allocation a) k = absurd k
+kept-stood (Connection c) (Permission ip progress) k = absurd k
+kept-stood (Connection c) (Channel number peer progress) k = absurd k
+kept-stood (Connection c) (Connect peer) k = absurd k
+kept-stood (Connection c) (Offer offer) k = absurd k
+
+allocation-kept : (a b : Relay) (i : Grant) → IsSameGrant (Allocation a) (Allocation b) → IsSameGrant (Allocation b) i → IsSameGrant (Allocation a) i
+allocation-kept a b (Allocation c) (e, d) (f, l) = (e ∙ f, d ∙ l)
+allocation-kept a b (Permission ip progress) k l = absurd l
+allocation-kept a b (Channel number peer progress) k l = absurd l
+allocation-kept a b (Connect peer) k l = absurd l
+allocation-kept a b (Offer offer) k l = absurd l
+allocation-kept a b (Connection c) k l = absurd l
+
+permission-kept : (a b : IpAddr) (m n : ℕ) (i : Grant) → (a ≡ b) × (m ≡ n) → IsSameGrant (Permission b (Active n)) i → IsSameGrant (Permission a (Active m)) i
+permission-kept a b m n (Permission ip (Active expiry)) (e, d) (f, l) = (e ∙ f, d ∙ l)
+permission-kept a b m n (Permission ip Pending) k l = absurd l
+permission-kept a b m n (Permission ip (Reserved until)) k l = absurd l
+permission-kept a b m n (Allocation c) k l = absurd l
+permission-kept a b m n (Channel number peer progress) k l = absurd l
+permission-kept a b m n (Connect peer) k l = absurd l
+permission-kept a b m n (Offer offer) k l = absurd l
+permission-kept a b m n (Connection c) k l = absurd l
+
+channel-kept : (a b : ℕ) (p q : SocketAddr) (m n : ℕ) (i : Grant) → (a ≡ b) × (p ≡ q) × (m ≡ n) → IsSameGrant (Channel b q (Active n)) i → IsSameGrant (Channel a p (Active m)) i
+channel-kept a b p q m n (Channel number peer (Active expiry)) (e, f, d) (g, h, l) = (e ∙ g, f ∙ h, d ∙ l)
+channel-kept a b p q m n (Channel number peer Pending) k l = absurd l
+channel-kept a b p q m n (Channel number peer (Reserved until)) k l = absurd l
+channel-kept a b p q m n (Allocation c) k l = absurd l
+channel-kept a b p q m n (Permission ip progress) k l = absurd l
+channel-kept a b p q m n (Connect peer) k l = absurd l
+channel-kept a b p q m n (Offer offer) k l = absurd l
+channel-kept a b p q m n (Connection c) k l = absurd l
+
+connection-kept : (c d : DataConnection) (i : Grant) → IsSameGrant (Connection c) (Connection d) → IsSameGrant (Connection d) i → IsSameGrant (Connection c) i
+connection-kept c d (Connection f) (e, none) (g, later) = (e ∙ g, none)
+connection-kept c d (Allocation a) k l = absurd l
+connection-kept c d (Permission ip progress) k l = absurd l
+connection-kept c d (Channel number peer progress) k l = absurd l
+connection-kept c d (Connect peer) k l = absurd l
+connection-kept c d (Offer offer) k l = absurd l
+
+pub kept-trans : (g h i : Grant) → IsSameGrant g h → IsSameGrant h i → IsSameGrant g i
+kept-trans (Allocation a) (Allocation b) i k l = allocation-kept a b i k l
+kept-trans (Allocation a) (Permission ip progress) i k l = absurd k
+kept-trans (Allocation a) (Channel number peer progress) i k l = absurd k
+kept-trans (Allocation a) (Connect peer) i k l = absurd k
+kept-trans (Allocation a) (Offer offer) i k l = absurd k
+kept-trans (Allocation a) (Connection c) i k l = absurd k
+kept-trans (Permission a (Active m)) (Permission b (Active n)) i k l = permission-kept a b m n i k l
+kept-trans (Permission a (Active m)) (Permission b Pending) i k l = absurd k
+kept-trans (Permission a (Active m)) (Permission b (Reserved until)) i k l = absurd k
+kept-trans (Permission a (Active m)) (Allocation b) i k l = absurd k
+kept-trans (Permission a (Active m)) (Channel number peer progress) i k l = absurd k
+kept-trans (Permission a (Active m)) (Connect peer) i k l = absurd k
+kept-trans (Permission a (Active m)) (Offer offer) i k l = absurd k
+kept-trans (Permission a (Active m)) (Connection c) i k l = absurd k
+kept-trans (Permission a Pending) h i k l = absurd k
+kept-trans (Permission a (Reserved until)) h i k l = absurd k
+kept-trans (Channel a p (Active m)) (Channel b q (Active n)) i k l = channel-kept a b p q m n i k l
+kept-trans (Channel a p (Active m)) (Channel b q Pending) i k l = absurd k
+kept-trans (Channel a p (Active m)) (Channel b q (Reserved until)) i k l = absurd k
+kept-trans (Channel a p (Active m)) (Allocation b) i k l = absurd k
+kept-trans (Channel a p (Active m)) (Permission ip progress) i k l = absurd k
+kept-trans (Channel a p (Active m)) (Connect peer) i k l = absurd k
+kept-trans (Channel a p (Active m)) (Offer offer) i k l = absurd k
+kept-trans (Channel a p (Active m)) (Connection c) i k l = absurd k
+kept-trans (Channel a p Pending) h i k l = absurd k
+kept-trans (Channel a p (Reserved until)) h i k l = absurd k
+kept-trans (Connect peer) h i k l = absurd k
+kept-trans (Offer offer) h i k l = absurd k
+kept-trans (Connection c) (Connection d) i k l = connection-kept c d i k l
+kept-trans (Connection c) (Allocation a) i k l = absurd k
+kept-trans (Connection c) (Permission ip progress) i k l = absurd k
+kept-trans (Connection c) (Channel number peer progress) i k l = absurd k
+kept-trans (Connection c) (Connect peer) i k l = absurd k
+kept-trans (Connection c) (Offer offer) i k l = absurd k
+
+-- ---- lists
+
+-- a grant of the list is kept as this one
+abbrev pub Covers : List Grant → Grant → Type 0
+Covers grants g = (is : Grant) × Has is grants × IsSameGrant is g
+
+pub covers-stood : (s : State) (g : Grant) → Covers s.grants g → WasActive s g
+covers-stood s g (is, there, kept) = (is, has-contains is s.grants there, kept)
+
+pub covers-has : (grants : List Grant) (g : Grant) → Has g grants → IsActiveGrant g → Covers grants g
+covers-has grants g there stands = (g, there, kept-same g stands)
+
+-- All that is active in the second list was so in the first, with no earlier expiry there.
+abbrev pub Left : List Grant → List Grant → Type 0
+Left grants later = (g : Grant) → Has g later → IsActiveGrant g → Covers grants g
+
+pub covers-left : (grants later : List Grant) (g : Grant) → Left grants later → Covers later g → Covers grants g
+covers-left grants later g left (is, there, kept) = by (left is there (kept-stood is g kept))
+  where
+    by : Covers grants is → Covers grants g
+    by (was, before, k) = (was, before, kept-trans was is g k kept)
+
+pub left-same : (grants : List Grant) → Left grants grants
+left-same grants = covers-has grants
+
+pub left-trans : (a b c : List Grant) → Left a b → Left b c → Left a c
+left-trans a b c first second g there stands = covers-left a b g first (second g there stands)
+
+pub left-filter : (p : Grant → Bool) (grants : List Grant) → Left grants (filter p grants)
+left-filter p grants g there stands = covers-has grants g (has-filter p g grants there).0 stands
+
+-- none of these is active
+abbrev pub IsIdle : List Grant → Type 0
+IsIdle grants = (g : Grant) → Has g grants → IsActiveGrant g → ⊥
+
+pub left-append : (grants more : List Grant) → IsIdle more → Left grants (grants ++ more)
+left-append grants more idle g there stands = by (has-append g grants more there)
+  where
+    by : Has g grants ⊎ Has g more → Covers grants g
+    by (inl here) = covers-has grants g here stands
+    by (inr behind) = absurd (idle g behind stands)
+
+-- one more that is not active
+pub left-one : (grants : List Grant) (one : Grant) → (IsActiveGrant one → ⊥) → Left grants (grants ++ one ∷ [])
+left-one grants one idle = left-append grants (one ∷ []) by
+  where
+    by : IsIdle (one ∷ [])
+    by g (inl e) stands = idle (rw (sym e) stands)
+    by g (inr h) stands = absurd h
+
+covers-later : (g h : Grant) (grants : List Grant) → Covers grants g → Covers (h ∷ grants) g
+covers-later g h grants (is, there, kept) = (is, inr there, kept)
+
+-- each is changed in a way that makes nothing active, nor extends it
+pub left-map : (f : Grant → Grant) → ((g : Grant) → IsActiveGrant (f g) → IsSameGrant g (f g)) → (grants : List Grant) → Left grants (map f grants)
+left-map f keeps [] g there stands = absurd there
+left-map f keeps (x ∷ grants) g (inl e) stands = (x, inl refl, rw e (keeps x (rw (sym e) stands)))
+left-map f keeps (x ∷ grants) g (inr there) stands = covers-later g x grants (left-map f keeps grants g there stands)
+
+-- one more grant before the first list
+pub left-skip : (x : Grant) (grants later : List Grant) → Left grants later → Left (x ∷ grants) later
+left-skip x grants later left g there stands = covers-later g x grants (left g there stands)
+
+-- the first grant is changed so too
+pub left-cons : (x y : Grant) (grants later : List Grant) → (IsActiveGrant y → IsSameGrant x y) → Left grants later → Left (x ∷ grants) (y ∷ later)
+left-cons x y grants later keeps left g (inl e) stands = (x, inl refl, rw e (keeps (rw (sym e) stands)))
+left-cons x y grants later keeps left g (inr there) stands = left-skip x grants later left g there stands
+
+-- ---- states
+
+-- all that is active in the second state was so in the first
+abbrev pub Leaves : State → State → Type 0
+Leaves s t = Left s.grants t.grants
+
+pub leaves-same : (s : State) → Leaves s s
+leaves-same s = left-same s.grants
+
+pub leaves-trans : (s t u : State) → Leaves s t → Leaves t u → Leaves s u
+leaves-trans s t u first second = left-trans s.grants t.grants u.grants first second
+
+pub leaves-cond : (b : Bool) (s t u : State) → Leaves s t → Leaves s u → Leaves s (cond b t u)
+leaves-cond true s t u k l = k
+leaves-cond false s t u k l = l
+
+pub leaves-fold : {X : Type 0} (f : State → X → State) → ((t : State) (x : X) → Leaves t (f t x)) → (xs : List X) (s : State) → Leaves s (fold f s xs)
+leaves-fold f step [] s = leaves-same s
+leaves-fold f step (x ∷ xs) s = leaves-trans s (f s x) (fold f (f s x) xs) (step s x) (leaves-fold f step xs (f s x))

@@ -1,0 +1,215 @@
+-- Streams keep distinct local addresses when their bytes and modes change and when they are added and
+-- removed.
+use Rattle.std.proofs.Common.{◌≡◌, ◌≢◌, ℕ, Bool, true, false, not, cond, List, [], ◌∷◌, ◌++◌, map, filter, Some, refl, sym, ◌∙◌}
+use Rattle.std.specs.Prelude.{All, find}
+use Rattle.std.specs.List.{IsDistinct, AllByRecursion}
+use Rattle.std.proofs.lemmas.Bool.{false_from_ne_true}
+use Rattle.std.proofs.lemmas.List.Elements.{All-nil, All-cons, All-head, All-tail, All-push}
+use Rattle.std.specs.declared.net.socket_addr.SocketAddr.{SocketAddr}
+use Rattle.turn_agent.specs.Agent.{same_address}
+use Rattle.turn_client_api.specs.State.{Waiting, Bound, Broken, Stream}
+use Rattle.turn_client_laws.specs.LawsStreams.{IsEmptyIfBroken}
+use Rattle.turn_client_laws.proofs.AddressLemmas.{same_address-true, same_address-self}
+use Rattle.turn_client_laws.proofs.StreamDrainLemmas.{broken_by, bytes_by, mode_by}
+
+abbrev pub ends : List Stream → List SocketAddr
+ends xs = map (λ stream. stream.local) xs
+
+abbrev pub Apart : List Stream → Type 0
+Apart xs = IsDistinct same_address (ends xs) × All IsEmptyIfBroken xs
+
+-- what differs one way differs the other
+pub differ-sym : (a b : SocketAddr) → same_address a b ≡ false → same_address b a ≡ false
+differ-sym a b differ = false_from_ne_true (same_address b a) by
+  where
+    by : same_address b a ≡ true → ⊥
+    by e =
+        let same : b ≡ a = same_address-true b a e in
+        let clash : true ≡ false = sym (same_address-self a) ∙ rw same at differ in
+        cc
+
+-- the local address is none of theirs
+abbrev pub IsNoneOf : SocketAddr → List Stream → Type 0
+IsNoneOf local xs = AllByRecursion (λ y. same_address local y ≡ false) (ends xs)
+
+-- and none of theirs is the local address
+abbrev AreOthers : SocketAddr → List Stream → Type 0
+AreOthers local xs = AllByRecursion (λ y. same_address y local ≡ false) (ends xs)
+
+-- ---- the streams at one local address
+
+-- it is not broken, if it is one of them
+abbrev pub IsWholeAt : SocketAddr → Stream → Type 0
+IsWholeAt local x = same_address x.local local ≡ true → x.mode ≢ Broken
+
+-- none of them is broken
+abbrev pub NotBroken : SocketAddr → List Stream → Type 0
+NotBroken local xs = All (IsWholeAt local) xs
+
+unlike : (a b : SocketAddr) → same_address a b ≡ false → same_address b a ≡ true → ⊥
+unlike a b differ e = let clash : true ≡ false = sym e ∙ differ-sym a b differ in cc
+
+none-there : (local : SocketAddr) (xs : List Stream) → IsNoneOf local xs → NotBroken local xs
+none-there local [] h = All-nil (IsWholeAt local)
+none-there local (x ∷ xs) h = All-cons (IsWholeAt local) x xs (λ e. absurd (unlike local x.local h.0 e)) (none-there local xs h.1)
+
+found-differs : (p : Stream → Bool) (local : SocketAddr) (xs : List Stream) (stream : Stream) → find p xs ≡ Some stream → IsNoneOf local xs → same_address local stream.local ≡ false
+found-differs p local [] stream e h = cc
+found-differs p local (x ∷ xs) stream e h = by (p x) refl (found-differs p local xs stream)
+  where
+    by : (b : Bool) → p x ≡ b → (find p xs ≡ Some stream → IsNoneOf local xs → same_address local stream.local ≡ false) → same_address local stream.local ≡ false
+    by true f later =
+        let is : Some x ≡ Some stream = rw f at e in
+        let same : x ≡ stream = cc in
+        rw (← same) h.0
+    by false f later = later (rw f at e) h.1
+
+-- with distinct local addresses, the one that is found is the one at its local address
+pub found-NotBroken : (p : Stream → Bool) (xs : List Stream) (stream : Stream) → find p xs ≡ Some stream → stream.mode ≢ Broken → IsDistinct same_address (ends xs) → NotBroken stream.local xs
+unfolding IsDistinct
+found-NotBroken p [] stream e whole h = cc
+found-NotBroken p (x ∷ xs) stream e whole h = by (p x) refl (found-NotBroken p xs stream)
+  where
+    by : (b : Bool) → p x ≡ b → (find p xs ≡ Some stream → stream.mode ≢ Broken → IsDistinct same_address (ends xs) → NotBroken stream.local xs) → NotBroken stream.local (x ∷ xs)
+    by true f later =
+        let is : Some x ≡ Some stream = rw f at e in
+        let same : x ≡ stream = cc in
+        rw (← same) (All-cons (IsWholeAt x.local) x xs (λ there. rw same whole) (none-there x.local xs h.0))
+    by false f later =
+        let found : find p xs ≡ Some stream = rw f at e in
+        let other = differ-sym x.local stream.local (found-differs p x.local xs stream found h.0) in
+        All-cons (IsWholeAt stream.local) x xs (λ there. absurd (unlike stream.local x.local other there)) (later found whole h.1)
+
+-- ---- a change of each stream
+
+ends-map : (f : Stream → Stream) → ((x : Stream) → (f x).local ≡ x.local) → (xs : List Stream) → ends (map f xs) ≡ ends xs
+ends-map f same [] = refl
+ends-map f same (x ∷ xs) = rw (same x, ends-map f same xs) refl
+
+all-map : (P Q : Stream → Type 0) (f : Stream → Stream) → ((x : Stream) → P x → Q (f x)) → (xs : List Stream) → All P xs → All Q (map f xs)
+all-map P Q f step [] h = All-nil Q
+all-map P Q f step (x ∷ xs) h = All-cons Q (f x) (map f xs) (step x (All-head P x xs h)) (all-map P Q f step xs (All-tail P x xs h))
+
+abbrev IsFineAt : SocketAddr → Stream → Type 0
+IsFineAt local x = IsWholeAt local x × IsEmptyIfBroken x
+
+all-fine : (local : SocketAddr) (xs : List Stream) → NotBroken local xs → All IsEmptyIfBroken xs → All (IsFineAt local) xs
+all-fine local [] h k = All-nil (IsFineAt local)
+all-fine local (x ∷ xs) h k =
+    All-cons (IsFineAt local) x xs (All-head (IsWholeAt local) x xs h, All-head IsEmptyIfBroken x xs k)
+    (all-fine local xs (All-tail (IsWholeAt local) x xs h) (All-tail IsEmptyIfBroken x xs k))
+
+local-cond : (b : Bool) (x y : Stream) → y.local ≡ x.local → (cond b y x).local ≡ x.local
+local-cond true x y e = e
+local-cond false x y e = refl
+
+pub bytes-apart : (local : SocketAddr) (bytes : List ℕ) (xs : List Stream) → NotBroken local xs → Apart xs → Apart (map (bytes_by local bytes) xs)
+unfolding IsDistinct bytes_by
+bytes-apart local bytes xs whole h = (
+  rw (ends-map (bytes_by local bytes) (λ x. local-cond (same_address x.local local) x (record x { bytes = bytes }) refl) xs) h.0,
+  all-map (IsFineAt local) IsEmptyIfBroken (bytes_by local bytes) (λ x fine. by x (same_address x.local local) fine.0 fine.1) xs (all-fine local xs whole h.1),
+)
+  where
+    by : (x : Stream) (b : Bool) → (b ≡ true → x.mode ≢ Broken) → IsEmptyIfBroken x → IsEmptyIfBroken (cond b (record x { bytes = bytes }) x)
+    by x true unbroken empty = λ e. absurd (unbroken refl e)
+    by x false unbroken empty = empty
+
+pub bytes-NotBroken : (local : SocketAddr) (bytes : List ℕ) (xs : List Stream) → NotBroken local xs → NotBroken local (map (bytes_by local bytes) xs)
+unfolding bytes_by
+bytes-NotBroken local bytes xs whole = all-map (IsWholeAt local) (IsWholeAt local) (bytes_by local bytes) (λ x. by x (same_address x.local local)) xs whole
+  where
+    by : (x : Stream) (b : Bool) → IsWholeAt local x → IsWholeAt local (cond b (record x { bytes = bytes }) x)
+    by x true unbroken = unbroken
+    by x false unbroken = unbroken
+
+pub bound-NotBroken : (at local peer : SocketAddr) (xs : List Stream) → NotBroken at xs → NotBroken at (map (mode_by local (Bound peer)) xs)
+unfolding mode_by
+bound-NotBroken at local peer xs whole = all-map (IsWholeAt at) (IsWholeAt at) (mode_by local (Bound peer)) (λ x. by x (same_address x.local local)) xs whole
+  where
+    by : (x : Stream) (b : Bool) → IsWholeAt at x → IsWholeAt at (cond b (record x { mode = Bound peer }) x)
+    by x true unbroken = λ e f. cc
+    by x false unbroken = unbroken
+
+-- a broken stream without bytes is allowed
+pub emptied-apart : (local : SocketAddr) (xs : List Stream) → Apart xs → Apart (map (bytes_by local []) xs)
+unfolding IsDistinct bytes_by
+emptied-apart local xs h = (
+  rw (ends-map (bytes_by local []) (λ x. local-cond (same_address x.local local) x (record x { bytes = [] }) refl) xs) h.0,
+  all-map IsEmptyIfBroken IsEmptyIfBroken (bytes_by local []) (λ x. by x (same_address x.local local)) xs h.1,
+)
+  where
+    by : (x : Stream) (b : Bool) → IsEmptyIfBroken x → IsEmptyIfBroken (cond b (record x { bytes = [] }) x)
+    by x true empty = λ e. refl
+    by x false empty = empty
+
+pub broken-apart : (local : SocketAddr) (xs : List Stream) → Apart xs → Apart (map (broken_by local) xs)
+unfolding IsDistinct broken_by
+broken-apart local xs h = (
+  rw (ends-map (broken_by local) (λ x. local-cond (same_address x.local local) x (record x { mode = Broken; bytes = [] }) refl) xs) h.0,
+  all-map IsEmptyIfBroken IsEmptyIfBroken (broken_by local) (λ x. by x (same_address x.local local)) xs h.1,
+)
+  where
+    by : (x : Stream) (b : Bool) → IsEmptyIfBroken x → IsEmptyIfBroken (cond b (record x { mode = Broken; bytes = [] }) x)
+    by x true empty = λ e. refl
+    by x false empty = empty
+
+pub bound-apart : (local peer : SocketAddr) (xs : List Stream) → Apart xs → Apart (map (mode_by local (Bound peer)) xs)
+unfolding IsDistinct mode_by
+bound-apart local peer xs h = (
+  rw (ends-map (mode_by local (Bound peer)) (λ x. local-cond (same_address x.local local) x (record x { mode = Bound peer }) refl) xs) h.0,
+  all-map IsEmptyIfBroken IsEmptyIfBroken (mode_by local (Bound peer)) (λ x. by x (same_address x.local local)) xs h.1,
+)
+  where
+    by : (x : Stream) (b : Bool) → IsEmptyIfBroken x → IsEmptyIfBroken (cond b (record x { mode = Bound peer }) x)
+    by x true empty = λ e. cc
+    by x false empty = empty
+
+-- ---- streams are removed and added
+
+ends-all-filter : (P : SocketAddr → Type 0) (p : Stream → Bool) (xs : List Stream) → AllByRecursion P (ends xs) → AllByRecursion P (ends (filter p xs))
+ends-all-filter P p [] h = h
+ends-all-filter P p (x ∷ xs) h = by (p x) refl (ends-all-filter P p xs h.1)
+  where
+    by : (b : Bool) → p x ≡ b → AllByRecursion P (ends (filter p xs)) → AllByRecursion P (ends (filter p (x ∷ xs)))
+    by true e later = rw e (h.0, later)
+    by false e later = rw e later
+
+pub filter-apart : (p : Stream → Bool) (xs : List Stream) → Apart xs → Apart (filter p xs)
+unfolding IsDistinct
+filter-apart p [] h = h
+filter-apart p (x ∷ xs) h = by (p x) refl (filter-apart p xs (h.0.1, All-tail IsEmptyIfBroken x xs h.1))
+  where
+    by : (b : Bool) → p x ≡ b → Apart (filter p xs) → Apart (filter p (x ∷ xs))
+    by true e later = rw e ((ends-all-filter (λ y. same_address x.local y ≡ false) p xs h.0.0, later.0), All-cons IsEmptyIfBroken x (filter p xs) (All-head IsEmptyIfBroken x xs h.1) later.1)
+    by false e later = rw e later
+
+is_other : SocketAddr → Stream → Bool
+is_other local x = not (same_address x.local local)
+
+others-differ : (local : SocketAddr) (xs : List Stream) → AreOthers local (filter (is_other local) xs)
+unfolding is_other
+others-differ local [] = tt
+others-differ local (x ∷ xs) = by (same_address x.local local) refl (others-differ local xs)
+  where
+    by : (b : Bool) → same_address x.local local ≡ b → AreOthers local (filter (is_other local) xs) → AreOthers local (filter (is_other local) (x ∷ xs))
+    by true e later = rw e later
+    by false e later = rw (e, e) (refl, later)
+
+all-last : (P : SocketAddr → Type 0) (a : SocketAddr) (xs : List Stream) (x : Stream) → P x.local → AllByRecursion P (ends xs) → AllByRecursion P (ends (xs ++ x ∷ []))
+all-last P a [] x last h = (last, tt)
+all-last P a (y ∷ ys) x last h = (h.0, all-last P a ys x last h.1)
+
+distinct-last : (xs : List Stream) (x : Stream) → AreOthers x.local xs → IsDistinct same_address (ends xs) → IsDistinct same_address (ends (xs ++ x ∷ []))
+unfolding IsDistinct
+distinct-last [] x differ h = (tt, tt)
+distinct-last (y ∷ ys) x differ h = (all-last (λ z. same_address y.local z ≡ false) y.local ys x differ.0 h.0, distinct-last ys x differ.1 h.1)
+
+-- a new one in place of any at its local address
+pub new-apart : (local : SocketAddr) (xs : List Stream) → Apart xs → Apart (filter (λ x. not (same_address x.local local)) xs ++ record { local = local; mode = Waiting; bytes = [] } ∷ [])
+unfolding is_other
+new-apart local xs h =
+    let others = filter-apart (is_other local) xs h in
+    let stream : Stream = record { local = local; mode = Waiting; bytes = [] } in (
+      distinct-last (filter (is_other local) xs) stream (others-differ local xs) others.0,
+      All-push IsEmptyIfBroken (filter (is_other local) xs) stream others.1 (λ e. refl),
+    )

@@ -1,0 +1,56 @@
+-- With each payload that `poll_recv` returns, the streams hold fewer bytes.
+use Rattle.std.proofs.Common.{◌≡◌, ℕ, zero, suc, ◌<◌, List, [], ◌∷◌, length, Option, Some, None, refl, arith}
+use Rattle.std.specs.Prelude.{IsSome, find, sum_by}
+use Rattle.std.specs.List.{IsDistinct}
+use Rattle.std.proofs.lemmas.List.Sums.{sum_by-cons}
+use Rattle.std.specs.declared.net.socket_addr.SocketAddr.{SocketAddr}
+use Rattle.turn_agent.specs.Agent.{same_address}
+use Rattle.turn_client_api.specs.State.{State, Stream}
+use Rattle.turn_client_api.specs.Payloads.{Payload, Outcome, Handled, Ignored, PeerData, PeerIcmp}
+use Rattle.turn_client_api.specs.Streams.{go_on, is_ready, max_steps, poll_recv_step, next_frame_step, first_ready_step, steps_until_payload}
+use Rattle.turn_client_laws.specs.LawsStreams.{AreApart}
+use Rattle.turn_client_laws.proofs.StreamApartLemmas.{IsNoneOf, differ-sym, ends}
+use Rattle.turn_client_laws.proofs.StreamDrainLemmas.{turn-lighter}
+use Rattle.turn_client_laws.proofs.StreamStepLemmas.{poll_recv-apart}
+use Rattle.turn_client_laws.proofs.StreamWeightLemmas.{top, weight}
+
+-- ---- with distinct local addresses, all bytes count
+
+top-none : (local : SocketAddr) (xs : List Stream) → IsNoneOf local xs → top local xs ≡ 0
+unfolding top
+top-none local [] h = refl
+top-none local (x ∷ xs) h = rw (differ-sym local x.local h.0) (omega (arith, top-none local xs h.1))
+
+weight-all : (xs : List Stream) → IsDistinct same_address (ends xs) → weight xs ≡ sum_by (λ stream. length stream.bytes) xs
+unfolding weight IsDistinct
+weight-all [] h = refl
+weight-all (x ∷ xs) h =
+    omega (arith, weight-all xs h.1, top-none x.local xs h.0, sum_by-cons (λ (stream : Stream). length stream.bytes) x xs)
+
+-- ---- steps
+
+-- so much weighs more than what the streams hold after a payload
+abbrev pub IsLessThan : ℕ → Option Payload × State → Type 0
+IsLessThan n p = IsSome p.0 → weight p.1.streams < n
+
+go_on-less : (next : State → Option Payload × State) (n : ℕ) (p : Outcome × State) → weight p.1.streams < n → IsLessThan (weight p.1.streams) (next p.1) → IsLessThan n (go_on next p)
+go_on-less next n (PeerData payload, t) first more = λ h. first
+go_on-less next n (Handled, t) first more = λ h. let less = more h in omega (arith, first, less)
+go_on-less next n (Ignored, t) first more = λ h. let less = more h in omega (arith, first, less)
+go_on-less next n (PeerIcmp transport peer icmp, t) first more = λ h. let less = more h in omega (arith, first, less)
+
+pub turns-less : (n now : ℕ) (s : State) → IsLessThan (weight s.streams) (steps_until_payload n now s)
+unfolding steps_until_payload
+turns-less zero now s = λ h. cc
+turns-less (suc n) now s = by (find is_ready s.streams) refl (λ t. turns-less n now t)
+  where
+    by : (o : Option Stream) → find is_ready s.streams ≡ o → ((t : State) → IsLessThan (weight t.streams) (steps_until_payload n now t)) → IsLessThan (weight s.streams) (first_ready_step (steps_until_payload n now) now s o)
+    by None e more = λ h. cc
+    by (Some stream) e more =
+        go_on-less (steps_until_payload n now) (weight s.streams) (next_frame_step stream now s) (turn-lighter stream now s e) (more (next_frame_step stream now s).1)
+
+pub poll_recv-fewer : (now : ℕ) (s : State) → AreApart s → IsSome (poll_recv_step now s).0 → max_steps (poll_recv_step now s).1 < max_steps s
+poll_recv-fewer now s apart some =
+    let t = (poll_recv_step now s).1 in
+    let later = poll_recv-apart now s apart in
+    omega (arith, weight-all s.streams apart.0, weight-all t.streams later.0, turns-less (max_steps s) now s some)

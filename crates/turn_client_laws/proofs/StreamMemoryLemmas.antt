@@ -1,0 +1,77 @@
+-- The streams keep distinct local addresses, even if memory allocation fails.
+use Rattle.std.proofs.Common.{◌≡◌, ◌≢◌, ℕ, List, Option, Some, None, refl, subst, sym, inl, inr}
+use Rattle.std.specs.Prelude.{IsSomeAnd, find}
+use Rattle.std.specs.declared.net.socket_addr.SocketAddr.{SocketAddr}
+use Rattle.turn_agent.specs.Agent.{same_address}
+use Rattle.turn_client_api.specs.State.{State, Mode, Control, Waiting, Bound, Broken, Stream}
+use Rattle.turn_client_api.specs.Effect.{closed}
+use Rattle.turn_client_api.specs.Payloads.{Payload}
+use Rattle.turn_client_api.specs.Streams.{broken_at, is_ready}
+use Rattle.turn_client_api.specs.Answers.{EndsAfterSteps, RecvEnds, before_others}
+use Rattle.turn_client_api.specs.Steps.{Call, EndsWithoutMemory, Leaves, state_after}
+use Rattle.turn_client_api.specs.Steps.{Delete, CreatePermission, BindChannel, TcpConnect, AllocatedTcpSocket, TcpClosed, SendTo, Recv, PollRecv, Poll, PollTransmit, PollEvent, RelayedAddresses, Permissions, HavePermission, ProtocolError}
+use Rattle.turn_client_laws.specs.LawsStreams.{AreApart}
+use Rattle.turn_client_laws.proofs.MemoryLemmas.{IsBehind, before-IsBehind}
+use Rattle.turn_client_laws.proofs.StreamApartLemmas.{broken-apart, found-NotBroken}
+use Rattle.turn_client_laws.proofs.StreamCallLemmas.{call-apart}
+use Rattle.turn_client_laws.proofs.StreamDrainLemmas.{broken_by}
+use Rattle.turn_client_laws.proofs.StreamStepLemmas.{StayApart, first_frame_step-apart, turns-apart}
+
+-- what a state is equal to that keeps them distinct
+equal-apart : (s t u : State) → u ≡ t → StayApart s t → StayApart s u
+equal-apart s t u e kept h = subst (λ (x : State). AreApart x) (sym e) (kept h)
+
+broken_at-apart : (local : SocketAddr) (s : State) → StayApart s (broken_at local s)
+unfolding broken_by
+broken_at-apart local s h = broken-apart local s.streams h
+
+turns_end-apart : (now : ℕ) (s u : State) → EndsAfterSteps now s u → StayApart s u
+turns_end-apart now s u (t, (n, led), broken) h = by (find is_ready t.streams) broken
+  where
+    by : (o : Option Stream) → IsSomeAnd o (λ stream. u ≡ closed (broken_at stream.local t)) → AreApart u
+    by None none = absurd none
+    by (Some stream) e =
+        equal-apart t (closed (broken_at stream.local t)) u e (broken_at-apart stream.local t)
+        (subst (λ (p : Option Payload × State). AreApart p.1) led (turns-apart n now s h))
+
+control-whole : (mode : Mode) → mode ≡ Control → mode ≢ Broken
+control-whole Control e = λ f. cc
+control-whole Waiting e = λ f. cc
+control-whole (Bound peer) e = λ f. cc
+control-whole Broken e = λ f. cc
+
+before-apart : (to : SocketAddr) (piece : List ℕ) (now : ℕ) (s u : State) → IsBehind to piece now s u → StayApart s u
+before-apart to piece now s u (stream, f, inl (mode, e)) h =
+    let whole = found-NotBroken (λ x. same_address x.local to) s.streams stream f (control-whole stream.mode mode) h.0 in
+    equal-apart s _ u e (first_frame_step-apart stream piece now s whole) h
+before-apart to piece now s u (stream, f, inr e) h = equal-apart s s u e (λ k. k) h
+
+recv_end-apart : (to : SocketAddr) (piece : List ℕ) (now : ℕ) (s t : State) → RecvEnds to piece now s t → StayApart s t
+recv_end-apart to piece now s t (inl e) h = equal-apart s _ t e (broken_at-apart to s) h
+recv_end-apart to piece now s t (inr (over, some, later)) h = by (before_others to piece now s) refl later
+  where
+    by : (o : Option State) → before_others to piece now s ≡ o → IsSomeAnd o (λ u. EndsAfterSteps now u t) → AreApart t
+    by None e none = absurd none
+    by (Some u) e end = turns_end-apart now u t end (before-apart to piece now s u (before-IsBehind to piece now s u e) h)
+
+memory-apart : (call : Call) (s t : State) → EndsWithoutMemory call s t → StayApart s t
+memory-apart (Delete now) s t e = equal-apart s s t e (λ h. h)
+memory-apart (CreatePermission transport peer now) s t e = equal-apart s s t e (λ h. h)
+memory-apart (BindChannel transport peer now) s t e = equal-apart s s t e (λ h. h)
+memory-apart (TcpConnect peer now) s t e = equal-apart s s t e (λ h. h)
+memory-apart (AllocatedTcpSocket id tuple peer local now) s t e = equal-apart s s t e (λ h. h)
+memory-apart (TcpClosed local remote now) s t e = equal-apart s s t e (λ h. h)
+memory-apart (SendTo transport peer bytes now) s t none = absurd none
+memory-apart (Recv packet now) s t (asks, end) = recv_end-apart packet.to packet.payload now s t end
+memory-apart (PollRecv now) s t h = turns_end-apart now s t h
+memory-apart (Poll now) s t e = equal-apart s _ t e (λ h. h)
+memory-apart (PollTransmit now) s t e = equal-apart s _ t e (λ h. h)
+memory-apart PollEvent s t none = absurd none
+memory-apart RelayedAddresses s t none = absurd none
+memory-apart (Permissions transport relayed) s t none = absurd none
+memory-apart (HavePermission transport to) s t none = absurd none
+memory-apart ProtocolError s t e = equal-apart s _ t e (λ h. h)
+
+pub leaves-apart : (call : Call) (s t : State) → Leaves call s t → StayApart s t
+leaves-apart call s t (inl e) = equal-apart s (state_after call s) t e (call-apart call s)
+leaves-apart call s t (inr h) = memory-apart call s t h

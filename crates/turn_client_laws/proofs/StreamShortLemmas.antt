@@ -1,0 +1,53 @@
+-- A stream that holds no whole frame holds less than the longest frame.
+use Rattle.std.proofs.Common.{◌≡◌, ◌≢◌, ℕ, ◌+◌, ◌<◌, ◌≤◌, Bool, true, false, cond, leb, ltb, List, length, take, drop, Option, Some, None, refl, sym, arith}
+use Rattle.std.specs.Prelude.{All}
+use Rattle.std.proofs.lemmas.Bool.{leb-false, ltb-true, ltb-false}
+use Rattle.std.proofs.lemmas.List.{take-append-drop}
+use Rattle.turn_stun.specs.Message.{padded_len}
+use Rattle.turn_stun.specs.Number.{u16_at}
+use Rattle.turn_types.specs.Frames.{begins_message, begins_no_frame, frame_len, frame_size}
+use Rattle.turn_types.proofs.FrameLemmas.{frame_len-IsWhole}
+use Rattle.turn_types.proofs.SplitLemmas.{IsWhole-IsFrame}
+use Rattle.turn_client_api.specs.State.{Mode, Control, Waiting, Bound, Broken, Stream}
+use Rattle.turn_client_laws.specs.LawsStreams.{HasNoFrame, NeedsMoreBytes}
+
+u16-most : (bytes : List ℕ) → 3 < length bytes → All (λ b. b < 256) bytes → u16_at bytes 2 ≤ 65535
+u16-most bytes there h = omega (arith, h 2 0 (omega (arith, there)), h 3 0 there)
+
+size-by : (b : Bool) (n : ℕ) → n ≤ 65535 → cond b (20 + n) (4 + padded_len n) ≤ 65555
+size-by true n h = omega (arith, h)
+size-by false n h = omega (arith, h)
+
+some-if : (b : Bool) (n : ℕ) → cond b (Some n) None ≡ None → b ≡ false
+some-if true n h = cc
+some-if false n h = refl
+
+-- it holds less than its size
+frame_len-none : (bytes : List ℕ) → begins_no_frame bytes ≡ false → frame_len bytes ≡ None → length bytes < frame_size bytes
+frame_len-none bytes begins none =
+    let short : leb (frame_size bytes) (length bytes) ≡ false = some-if _ (frame_size bytes) (rw begins at none) in
+    leb-false (frame_size bytes) (length bytes) short
+
+no_frame-none : (bytes : List ℕ) → HasNoFrame bytes → (o : Option ℕ) → frame_len bytes ≡ o → o ≡ None
+no_frame-none bytes h None e = refl
+no_frame-none bytes h (Some k) e =
+    absurd (h.1 (take k bytes) (drop k bytes) (sym (take-append-drop k bytes)) (IsWhole-IsFrame bytes k (frame_len-IsWhole bytes k e)))
+
+no_frame-short : (bytes : List ℕ) → HasNoFrame bytes → All (λ b. b < 256) bytes → length bytes < 65555
+no_frame-short bytes h are = by (ltb 3 (length bytes)) refl
+  where
+    size : length bytes < frame_size bytes
+    size = frame_len-none bytes h.0 (no_frame-none bytes h (frame_len bytes) refl)
+
+    by : (b : Bool) → ltb 3 (length bytes) ≡ b → length bytes < 65555
+    by true e = omega (arith, size, size-by (begins_message bytes) (u16_at bytes 2) (u16-most bytes (ltb-true 3 (length bytes) e) are))
+    by false e = omega (arith, ltb-false 3 (length bytes) e)
+
+short_in : (mode : Mode) (stream : Stream) → NeedsMoreBytes (record stream { mode = mode }) → mode ≢ Broken → All (λ b. b < 256) stream.bytes → length stream.bytes < 65555
+short_in Control stream h not_broken are = no_frame-short stream.bytes h are
+short_in Waiting stream h not_broken are = no_frame-short stream.bytes h are
+short_in (Bound peer) stream h not_broken are = rw h (omega arith)
+short_in Broken stream h not_broken are = absurd (not_broken refl)
+
+pub drained-short : (stream : Stream) → NeedsMoreBytes stream → stream.mode ≢ Broken → All (λ b. b < 256) stream.bytes → length stream.bytes < 65555
+drained-short stream = short_in stream.mode stream

@@ -1,0 +1,156 @@
+-- Bytes received over streams keep their local addresses distinct.
+use Rattle.std.proofs.Common.{◌≡◌, ◌≢◌, ℕ, zero, suc, ◌++◌, Bool, true, false, not, cond, ◌&&◌, List, [], ◌∷◌, take, drop, Option, Some, None, refl, subst, sym, inl, inr}
+use Rattle.std.specs.Prelude.{find, is_some}
+use Rattle.std.specs.declared.net.socket_addr.SocketAddr.{SocketAddr}
+use Rattle.turn_stun.specs.declared.transport.TransportType.{TransportType}
+use Rattle.turn_stun.specs.declared.transport.TransportType.TheVariants.{Udp, Tcp}
+use Rattle.turn_types.specs.Frames.{begins_no_frame, frame_len}
+use Rattle.turn_agent.specs.Agent.{same_address}
+use Rattle.turn_client_api.specs.State.{State, Mode, Control, Waiting, Bound, Broken, Stream}
+use Rattle.turn_client_api.specs.Grants.{same_transport}
+use Rattle.turn_client_api.specs.Connections.{connection_at}
+use Rattle.turn_client_api.specs.Payloads.{Payload, Outcome, Handled, Ignored, PeerData, PeerIcmp, channel_sent, datagram_step, is_channel_frame, is_message, message_step}
+use Rattle.turn_client_api.specs.Streams.{broken_at, frame_step, framed_by, framed_stream_step, go_on, is_ready, max_steps, poll_recv_step, stream_at, next_frame_step, detached_frame_step, first_ready_step, steps_until_payload, with_bytes}
+use Rattle.turn_client_api.specs.Receive.{connection_gone, first_frame_step, is_from_server, piece_step, recv_step, stream_step, tcp_closed_step, then_all}
+use Rattle.turn_client_laws.specs.LawsStreams.{AreApart}
+use Rattle.turn_client_laws.proofs.StreamApartLemmas.{Apart, NotBroken, bound-NotBroken, bound-apart, broken-apart, bytes-apart, bytes-NotBroken, emptied-apart, filter-apart, found-NotBroken}
+use Rattle.turn_client_laws.proofs.StreamDrainLemmas.{broken_by, bytes_by, found-ready, mode_by}
+use Rattle.turn_client_laws.proofs.StreamMessageLemmas.{Same, Rebound, frame-rebound, message-same, same-cond}
+
+-- if the streams were distinct, they are
+abbrev pub StayApart : State → State → Type 0
+StayApart s t = AreApart s → AreApart t
+
+pub same-apart : (s t : State) → Same s t → StayApart s t
+same-apart s t same h = subst Apart (sym same) h
+
+rebound-apart : (s t : State) → Rebound s t → StayApart s t
+unfolding mode_by
+rebound-apart s t (inl same) h = same-apart s t same h
+rebound-apart s t (inr (local, peer, is)) h = subst Apart (sym is) (bound-apart local peer s.streams h)
+
+apart-cond : {A : Type 0} (b : Bool) (s : State) (x y : A × State) → StayApart s x.1 → StayApart s y.1 → StayApart s (cond b x y).1
+apart-cond true s x y p q = p
+apart-cond false s x y p q = q
+
+-- ---- steps
+
+-- none at the local address is broken, nor is any after a frame
+rebound-NotBroken : (local : SocketAddr) (s t : State) → Rebound s t → NotBroken local s.streams → NotBroken local t.streams
+unfolding mode_by
+rebound-NotBroken local s t (inl same) whole = subst (NotBroken local) (sym same) whole
+rebound-NotBroken local s t (inr (other, peer, is)) whole = subst (NotBroken local) (sym is) (bound-NotBroken local other peer s.streams whole)
+
+framed_stream_step-apart : (stream : Stream) (now : ℕ) (t : State) → NotBroken stream.local t.streams → StayApart t (framed_stream_step stream now t).1
+unfolding bytes_by broken_by
+framed_stream_step-apart stream now t whole h = by (begins_no_frame stream.bytes) (frame_len stream.bytes)
+  where
+    by : (b : Bool) (o : Option ℕ) → AreApart (cond {A = Outcome × State} b (Handled, broken_at stream.local t) (framed_by stream now t o)).1
+    by true o = broken-apart stream.local t.streams h
+    by false None = bytes-apart stream.local stream.bytes t.streams whole h
+    by false (Some len) =
+        let u = (frame_step stream (take len stream.bytes) now t).1 in
+        let rebound = frame-rebound stream (take len stream.bytes) now t in
+        bytes-apart stream.local (drop len stream.bytes) u.streams (rebound-NotBroken stream.local t u rebound whole) (rebound-apart t u rebound h)
+
+turned_in_mode : (m : Mode) (stream : Stream) (now : ℕ) (t : State) → NotBroken stream.local t.streams → StayApart t (detached_frame_step (record stream { mode = m }) now t).1
+turned_in_mode Control stream now t whole h = framed_stream_step-apart (record stream { mode = Control }) now t whole h
+turned_in_mode Waiting stream now t whole h = framed_stream_step-apart (record stream { mode = Waiting }) now t whole h
+turned_in_mode (Bound peer) stream now t whole h = h
+turned_in_mode Broken stream now t whole h = h
+
+turn-apart : (stream : Stream) (now : ℕ) (s : State) → NotBroken stream.local s.streams → StayApart s (next_frame_step stream now s).1
+unfolding bytes_by
+turn-apart stream now s whole h =
+    let out = with_bytes stream.local [] s in
+    turned_in_mode stream.mode stream now out (bytes-NotBroken stream.local [] s.streams whole) (emptied-apart stream.local s.streams h)
+
+go_on-apart : (next : State → Option Payload × State) (s : State) (p : Outcome × State) → AreApart p.1 → ((t : State) → StayApart t (next t).1) → AreApart (go_on next p).1
+go_on-apart next s (PeerData payload, t) first more = first
+go_on-apart next s (Handled, t) first more = more t first
+go_on-apart next s (Ignored, t) first more = more t first
+go_on-apart next s (PeerIcmp transport peer icmp, t) first more = more t first
+
+-- what is broken is not ready
+ready-whole : (mode : Mode) (stream : Stream) → is_ready (record stream { mode = mode }) ≡ true → mode ≢ Broken
+ready-whole Control stream e = λ f. cc
+ready-whole Waiting stream e = λ f. cc
+ready-whole (Bound peer) stream e = λ f. cc
+ready-whole Broken stream e = cc
+
+pub turns-apart : (n now : ℕ) (s : State) → StayApart s (steps_until_payload n now s).1
+unfolding steps_until_payload
+turns-apart zero now s h = h
+turns-apart (suc n) now s h = by (find is_ready s.streams) refl (λ t. turns-apart n now t)
+  where
+    by : (o : Option Stream) → find is_ready s.streams ≡ o → ((t : State) → StayApart t (steps_until_payload n now t).1) → AreApart (first_ready_step (steps_until_payload n now) now s o).1
+    by None e more = h
+    by (Some stream) e more =
+        let whole = found-NotBroken is_ready s.streams stream e (ready-whole stream.mode stream (found-ready s.streams stream e)) h.0 in
+        go_on-apart (steps_until_payload n now) s (next_frame_step stream now s) (turn-apart stream now s whole h) more
+
+pub poll_recv-apart : (now : ℕ) (s : State) → StayApart s (poll_recv_step now s).1
+poll_recv-apart now s = turns-apart (max_steps s) now s
+
+-- ---- input
+
+then_all-apart : (now : ℕ) (p : Outcome × State) → StayApart p.1 (then_all now p).1
+then_all-apart now (PeerData payload, t) h = h
+then_all-apart now (PeerIcmp transport peer icmp, t) h = h
+then_all-apart now (Handled, t) h = poll_recv-apart now t h
+then_all-apart now (Ignored, t) h = poll_recv-apart now t h
+
+pub first_frame_step-apart : (stream : Stream) (piece : List ℕ) (now : ℕ) (s : State) → NotBroken stream.local s.streams → StayApart s (first_frame_step stream piece now s).1
+first_frame_step-apart stream piece now s whole h = turn-apart (record stream { bytes = stream.bytes ++ piece }) now s whole h
+
+piece_in_mode : (to : SocketAddr) (m : Mode) (stream : Stream) (piece : List ℕ) (now : ℕ) (s : State) → stream_at to s ≡ Some (record stream { mode = m }) → StayApart s (piece_step (record stream { mode = m }) piece now s).1
+unfolding bytes_by
+piece_in_mode to Control stream piece now s e h =
+    let u = record stream { mode = Control } in
+    let whole = found-NotBroken (λ x. same_address x.local to) s.streams u e (λ f. cc) h.0 in
+    then_all-apart now (first_frame_step u piece now s) (first_frame_step-apart u piece now s whole h)
+piece_in_mode to Waiting stream piece now s e h =
+    let u = record stream { mode = Waiting } in
+    let whole = found-NotBroken (λ x. same_address x.local to) s.streams u e (λ f. cc) h.0 in
+    first_frame_step-apart u piece now s whole h
+piece_in_mode to (Bound peer) stream piece now s e h = emptied-apart stream.local s.streams h
+piece_in_mode to Broken stream piece now s e h =
+    apart-cond (same_address stream.local s.local) s (then_all now (Handled, s)) (Handled, s) (then_all-apart now (Handled, s)) (λ k. k) h
+
+gone-same : (local : SocketAddr) (s : State) → Same s (connection_gone local s)
+gone-same local s = same-cond (is_some (connection_at local s)) s _ _ refl refl
+
+stream-apart : (to : SocketAddr) (stream : Stream) (piece : List ℕ) (now : ℕ) (s : State) → stream_at to s ≡ Some stream → StayApart s (stream_step stream piece now s).1
+stream-apart to stream [] now s e h =
+    let t = connection_gone stream.local s in
+    filter-apart (λ x. not (same_address x.local stream.local)) t.streams (same-apart s t (gone-same stream.local s) h)
+stream-apart to stream (b ∷ bs) now s e h = piece_in_mode to stream.mode stream (b ∷ bs) now s e h
+
+datagram-same : (bytes : List ℕ) (now : ℕ) (s : State) → Same s (datagram_step bytes now s).1
+datagram-same bytes now s = by (is_message bytes) (is_channel_frame bytes)
+  where
+    by : (b c : Bool) → Same s (cond {A = Outcome × State} b (message_step bytes now s) (cond {A = Outcome × State} c (channel_sent s bytes, s) (Ignored, s))).1
+    by true c = message-same bytes now s
+    by false true = refl
+    by false false = refl
+
+recv_over : (carrier : TransportType) (transport : TransportType) (from to : SocketAddr) (bytes : List ℕ) (now : ℕ) (s : State) → StayApart (record s { transport = carrier }) (recv_step transport from to bytes now (record s { transport = carrier })).1
+recv_over Udp transport from to bytes now s =
+    let u = record s { transport = Udp } in
+    apart-cond (is_from_server transport from u) u _ (Ignored, u)
+    (apart-cond (same_address to s.local) u (datagram_step bytes now u) (Ignored, u) (same-apart u (datagram_step bytes now u).1 (datagram-same bytes now u)) (λ h. h)) (λ h. h)
+recv_over Tcp transport from to bytes now s = by (is_from_server transport from u) refl (stream_at to s) refl
+  where
+    u : State
+    u = record s { transport = Tcp }
+
+    by : (b : Bool) → is_from_server transport from u ≡ b → (o : Option Stream) → stream_at to s ≡ o → StayApart u (recv_step transport from to bytes now u).1
+    by false e o f = rw e (λ h. h)
+    by true e None f = rw (e, f) (λ h. h)
+    by true e (Some stream) f = rw (e, f) (stream-apart to stream bytes now u f)
+
+pub recv-apart : (transport : TransportType) (from to : SocketAddr) (bytes : List ℕ) (now : ℕ) (s : State) → StayApart s (recv_step transport from to bytes now s).1
+recv-apart transport from to bytes now s = recv_over s.transport transport from to bytes now s
+
+pub tcp_closed-same : (local remote : SocketAddr) (s : State) → Same s (tcp_closed_step local remote s)
+tcp_closed-same local remote s = same-cond (same_transport s.transport Tcp && same_address remote s.remote) s (connection_gone local s) s (gone-same local s) refl

@@ -1,0 +1,139 @@
+-- How many bytes the streams hold, where those of one local address count once: a step decreases the
+-- number.
+use Rattle.std.proofs.Common.{◌≡◌, ℕ, ◌+◌, ◌-◌, ◌<◌, ◌≤◌, max, Bool, true, false, cond, List, [], ◌∷◌, length, map, Some, refl, sym, ap, ◌∙◌, arith}
+use Rattle.std.specs.Prelude.{find, sum_by}
+use Rattle.std.proofs.lemmas.Bool.{false_from_ne_true}
+use Rattle.std.proofs.lemmas.List.Sums.{sum_by-cons}
+use Rattle.std.specs.declared.net.socket_addr.SocketAddr.{SocketAddr}
+use Rattle.turn_agent.specs.Agent.{same_address}
+use Rattle.turn_client_api.specs.State.{Stream}
+use Rattle.turn_client_laws.proofs.AddressLemmas.{same_address-true, same_address-self}
+
+-- the most bytes of the streams at this local address
+unfoldable pub top : SocketAddr → List Stream → ℕ
+top local [] = 0
+top local (x ∷ xs) = max (cond (same_address x.local local) (length x.bytes) 0) (top local xs)
+
+-- the most bytes of each local address, together
+unfoldable pub weight : List Stream → ℕ
+weight [] = 0
+weight (x ∷ xs) = weight xs + (length x.bytes - top x.local xs)
+
+-- no more than all bytes of all streams
+pub weight-le : (xs : List Stream) → weight xs ≤ sum_by (λ stream. length stream.bytes) xs
+unfolding weight
+weight-le [] = omega arith
+weight-le (x ∷ xs) = omega (arith, weight-le xs, sum_by-cons (λ (stream : Stream). length stream.bytes) x xs)
+
+-- a stream in the list counts
+pub found-le-top : (p : Stream → Bool) (xs : List Stream) (stream : Stream) → find p xs ≡ Some stream → length stream.bytes ≤ top stream.local xs
+unfolding top
+found-le-top p [] stream h = cc
+found-le-top p (x ∷ xs) stream h = by (p x) refl (found-le-top p xs stream)
+  where
+    by : (b : Bool) → p x ≡ b → (find p xs ≡ Some stream → length stream.bytes ≤ top stream.local xs) → length stream.bytes ≤ top stream.local (x ∷ xs)
+    by true e later =
+        let is : Some x ≡ Some stream = rw e at h in
+        let same : x ≡ stream = cc in
+        rw (same, same_address-self stream.local) (omega arith)
+    by false e later = let more = later (rw e at h) in omega (arith, more)
+
+-- ---- a change of each stream that keeps its local address
+
+pub record KeepsHeld (f : Stream → Stream) : Type 0 where
+  pub local : (x : Stream) → (f x).local ≡ x.local
+  pub bytes : (x : Stream) → (f x).bytes ≡ x.bytes
+
+top-kept : (f : Stream → Stream) → KeepsHeld f → (local : SocketAddr) (xs : List Stream) → top local (map f xs) ≡ top local xs
+unfolding top
+top-kept f k local [] = refl
+top-kept f k local (x ∷ xs) = rw (k.local x, k.bytes x, top-kept f k local xs) refl
+
+pub weight-kept : (f : Stream → Stream) → KeepsHeld f → (xs : List Stream) → weight (map f xs) ≡ weight xs
+unfolding weight
+weight-kept f k [] = refl
+weight-kept f k (x ∷ xs) = rw (k.local x, k.bytes x, top-kept f k x.local xs, weight-kept f k xs) refl
+
+-- the streams at a local address, and no others, have these bytes now
+pub record Sets (local : SocketAddr) (bytes : List ℕ) (f : Stream → Stream) : Type 0 where
+  pub keeps : (x : Stream) → (f x).local ≡ x.local
+  pub at : (x : Stream) → same_address x.local local ≡ true → (f x).bytes ≡ bytes
+  pub others : (x : Stream) → same_address x.local local ≡ false → (f x).bytes ≡ x.bytes
+
+-- a change that leaves local addresses and bytes, after one that sets these bytes
+pub kept-Sets : (local : SocketAddr) (bytes : List ℕ) (f g : Stream → Stream) → Sets local bytes f → KeepsHeld g → Sets local bytes (λ x. g (f x))
+kept-Sets local bytes f g is k = record {
+  keeps = λ x. k.local (f x) ∙ is.keeps x;
+  at = λ x e. k.bytes (f x) ∙ is.at x e;
+  others = λ x e. k.bytes (f x) ∙ is.others x e;
+}
+
+-- of two that set bytes the later one counts
+pub later-Sets : (local : SocketAddr) (first later : List ℕ) (f g : Stream → Stream) → Sets local first f → Sets local later g → Sets local later (λ x. g (f x))
+later-Sets local first later f g is then = record {
+  keeps = λ x. then.keeps (f x) ∙ is.keeps x;
+  at = λ x e. then.at (f x) (ap (λ a. same_address a local) (is.keeps x) ∙ e);
+  others = λ x e. then.others (f x) (ap (λ a. same_address a local) (is.keeps x) ∙ e) ∙ is.others x e;
+}
+
+pub top-set : (local : SocketAddr) (bytes : List ℕ) (f : Stream → Stream) → Sets local bytes f → (xs : List Stream) → top local (map f xs) ≤ length bytes
+unfolding top
+top-set local bytes f is [] = omega arith
+top-set local bytes f is (x ∷ xs) = rw (is.keeps x) (by (same_address x.local local) refl (top-set local bytes f is xs))
+  where
+    later_top : ℕ
+    later_top = top local (map f xs)
+
+    by : (b : Bool) → same_address x.local local ≡ b → later_top ≤ length bytes → max (cond b (length (f x).bytes) 0) later_top ≤ length bytes
+    by true e later = rw (is.at x e) (omega (arith, later))
+    by false e later = omega (arith, later)
+
+-- what is at one local address is not at another
+apart : (local other : SocketAddr) (x : Stream) → same_address other local ≡ false → same_address x.local local ≡ true → same_address x.local other ≡ false
+apart local other x differ here = false_from_ne_true (same_address x.local other) by
+  where
+    by : same_address x.local other ≡ true → ⊥
+    by too =
+        let first = same_address-true x.local other too in
+        let there : same_address other local ≡ true = rw (← first) here in
+        let clash : true ≡ false = sym there ∙ differ in
+        cc
+
+top-other : (local other : SocketAddr) (bytes : List ℕ) (f : Stream → Stream) → Sets local bytes f → same_address other local ≡ false → (xs : List Stream) → top other (map f xs) ≡ top other xs
+unfolding top
+top-other local other bytes f is differ [] = refl
+top-other local other bytes f is differ (x ∷ xs) = rw (is.keeps x, top-other local other bytes f is differ xs) (by (same_address x.local local) refl)
+  where
+    counts : ℕ → ℕ
+    counts n = max (cond (same_address x.local other) n 0) (top other xs)
+
+    by : (b : Bool) → same_address x.local local ≡ b → counts (length (f x).bytes) ≡ counts (length x.bytes)
+    by true e = rw (apart local other x differ e) refl
+    by false e = rw (is.others x e) refl
+
+-- what counts at the local address is another part of the whole then
+abbrev IsMoved : (Stream → Stream) → SocketAddr → List Stream → Type 0
+IsMoved f local xs = weight (map f xs) + top local xs ≡ weight xs + top local (map f xs)
+
+-- the same with one stream more, of which so many bytes count at the local address, and so many then
+abbrev IsMovedBy : (Stream → Stream) → SocketAddr → Stream → List Stream → ℕ → ℕ → Type 0
+IsMovedBy f local x xs old new =
+    weight (map f xs) + (length (f x).bytes - top x.local (map f xs)) + max old (top local xs)
+    ≡ weight xs + (length x.bytes - top x.local xs) + max new (top local (map f xs))
+
+pub weight-set : (local : SocketAddr) (bytes : List ℕ) (f : Stream → Stream) → Sets local bytes f → (xs : List Stream) → IsMoved f local xs
+unfolding weight top
+weight-set local bytes f is [] = refl
+weight-set local bytes f is (x ∷ xs) = rw (is.keeps x) (by (same_address x.local local) refl (weight-set local bytes f is xs))
+  where
+    here : x.local ≡ local → IsMoved f local xs → IsMovedBy f local x xs (length x.bytes) (length (f x).bytes)
+    here same later = rw same (omega (arith, later))
+
+    by : (b : Bool) → same_address x.local local ≡ b → IsMoved f local xs → IsMovedBy f local x xs (cond b (length x.bytes) 0) (cond b (length (f x).bytes) 0)
+    by true e later = here (same_address-true x.local local e) later
+    by false e later = rw (is.others x e, top-other local x.local bytes f is e xs) (omega (arith, later))
+
+-- a stream with more bytes was in the list: the whole is less
+pub weight-less : (p : Stream → Bool) (xs : List Stream) (stream : Stream) (bytes : List ℕ) (f : Stream → Stream) → find p xs ≡ Some stream → Sets stream.local bytes f → length bytes < length stream.bytes → weight (map f xs) < weight xs
+weight-less p xs stream bytes f found is fewer =
+    omega (arith, weight-set stream.local bytes f is xs, top-set stream.local bytes f is xs, found-le-top p xs stream found, fewer)

@@ -1,0 +1,42 @@
+-- What remains when an offer is removed.
+use Rattle.std.proofs.Common.{◌≡◌, ℕ, Bool, true, false, List, [], ◌∷◌, ◌⊎◌, inl, inr, refl}
+use Rattle.std.specs.declared.net.socket_addr.SocketAddr.{SocketAddr}
+use Rattle.turn_client_api.specs.State.{Grant, Allocation, Permission, Channel, Connect, Offer, Connection, Purpose, ForAllocation, ForRefresh, ForPermission, ForChannel, ForConnect, ForBind}
+use Rattle.turn_client_api.specs.Grants.{is_for}
+use Rattle.turn_client_api.specs.Calls.{is_offer_of, without_first}
+use Rattle.turn_client_laws.proofs.HasLemmas.{Has}
+
+pub was-first : (which : Grant → Bool) (g : Grant) (gs : List Grant) → Has g (without_first which gs) → Has g gs
+was-first which g [] none = absurd none
+was-first which g (x ∷ xs) there = by (which x) refl (was-first which g xs)
+  where
+    by : (b : Bool) → which x ≡ b → (Has g (without_first which xs) → Has g xs) → Has g (x ∷ xs)
+    by true e later = inr (rw e at there)
+    by false e later = of (rw e at there)
+      where
+        of : (g ≡ x) ⊎ Has g (without_first which xs) → Has g (x ∷ xs)
+        of (inl same) = inl same
+        of (inr more) = inr (later more)
+
+pub stays-first : (which : Grant → Bool) (g : Grant) (gs : List Grant) → Has g gs → which g ≡ false → Has g (without_first which gs)
+stays-first which g [] none kept = absurd none
+stays-first which g (x ∷ xs) (inl e) kept = rw (rw e at kept) (inl e)
+stays-first which g (x ∷ xs) (inr there) kept = by (which x) refl (stays-first which g xs there kept)
+  where
+    by : (b : Bool) → which x ≡ b → Has g (without_first which xs) → Has g (without_first which (x ∷ xs))
+    by true e later = rw e there
+    by false e later = rw e (inr later)
+
+-- no request is for an offer
+pub no-offer : (id : ℕ) (peer : SocketAddr) (p : Purpose) (g : Grant) → is_for p g ≡ true → is_offer_of id peer g ≡ false
+no-offer id peer p (Allocation a) for = refl
+no-offer id peer p (Permission ip progress) for = refl
+no-offer id peer p (Channel number to progress) for = refl
+no-offer id peer p (Connect to) for = refl
+no-offer id peer p (Connection c) for = refl
+no-offer id peer ForAllocation (Offer offer) for = cc
+no-offer id peer (ForRefresh family lifetime) (Offer offer) for = cc
+no-offer id peer (ForPermission ip) (Offer offer) for = cc
+no-offer id peer (ForChannel number to) (Offer offer) for = cc
+no-offer id peer (ForConnect to) (Offer offer) for = cc
+no-offer id peer (ForBind local to other) (Offer offer) for = cc

@@ -1,0 +1,56 @@
+-- What messages keep, the inputs of a call keep, up to each of them.
+use Rattle.std.proofs.Common.{List, [], ◌∷◌, Option, Some, None, inl, inr, sym, subst}
+use Rattle.std.specs.List.{Contains}
+use Rattle.turn_client_api.specs.State.{State, Stream}
+use Rattle.turn_client_laws.specs.Handled.{Input, handled, processed}
+use Rattle.turn_client_api.specs.Steps.{Call, state_after, Delete, CreatePermission, BindChannel, TcpConnect, AllocatedTcpSocket, TcpClosed, SendTo, Recv, PollRecv, Poll, PollTransmit, PollEvent, RelayedAddresses, Permissions, HavePermission, ProtocolError}
+use Rattle.turn_client_laws.specs.LawsHandled.{DiffersInStreams, ProcessesInputs, InputsLead}
+use Rattle.turn_client_laws.proofs.HasLemmas.{Has}
+use Rattle.turn_client_laws.proofs.RunKeepLemmas.{IsKept, datagram-kept, frame-kept}
+use Rattle.turn_client_laws.proofs.StandLemmas.{contains-has}
+use Rattle.turn_client_laws.proofs.TurnChainLemmas.{calls-do}
+
+module _ (R : State → State → Type 0) (k : IsKept R) where
+  made-kept : (one : Input) → R one.before (processed one).1
+  made-kept one = by one.stream
+    where
+      by : (o : Option Stream) → R one.before (processed (record one { stream = o })).1
+      by None = datagram-kept R k one.bytes one.moment one.before
+      by (Some stream) = frame-kept R k stream one.bytes one.moment one.before
+
+  differs-kept : (s t : State) → DiffersInStreams s t → R s t
+  differs-kept s t differs = subst (R s) (sym differs.others) (k.streams s t.streams)
+
+  -- up to the input
+  lead-kept : (turns : List Input) (s t : State) → InputsLead turns s t → (one : Input) → Has one turns → R s one.before
+  lead-kept [] s t lead one none = absurd none
+  lead-kept (x ∷ later) s t (first, lead) one (inl e) = subst (λ (y : Input). R s y.before) (sym e) (differs-kept s x.before first)
+  lead-kept (x ∷ later) s t (first, lead) one (inr there) =
+      k.trans s x.before one.before (differs-kept s x.before first)
+      (k.trans x.before (processed x).1 one.before (made-kept x) (lead-kept later (processed x).1 t lead one there))
+
+  does-kept : (call : Call) (s : State) → ProcessesInputs call s → (one : Input) → Has one (handled call s) → R s one.before
+  does-kept call s (inl lead) one there = lead-kept (handled call s) s (state_after call s) lead one there
+  does-kept call s (inr end) one there = absurd (subst (Has one) end.nothing there)
+
+  by-call : (call : Call) (s : State) (one : Input) → Has one (handled call s) → R s one.before
+  by-call (Recv packet now) s one there = does-kept (Recv packet now) s (calls-do (Recv packet now) s tt) one there
+  by-call (PollRecv now) s one there = does-kept (PollRecv now) s (calls-do (PollRecv now) s tt) one there
+  by-call (Delete now) s one none = absurd none
+  by-call (CreatePermission transport peer now) s one none = absurd none
+  by-call (BindChannel transport peer now) s one none = absurd none
+  by-call (TcpConnect peer now) s one none = absurd none
+  by-call (AllocatedTcpSocket id tuple peer local now) s one none = absurd none
+  by-call (TcpClosed local remote now) s one none = absurd none
+  by-call (SendTo transport peer bytes now) s one none = absurd none
+  by-call (Poll now) s one none = absurd none
+  by-call (PollTransmit now) s one none = absurd none
+  by-call PollEvent s one none = absurd none
+  by-call RelayedAddresses s one none = absurd none
+  by-call (Permissions transport relayed) s one none = absurd none
+  by-call (HavePermission transport to) s one none = absurd none
+  by-call ProtocolError s one none = absurd none
+
+  -- the state in which one of the inputs of the call is processed
+  pub before-kept : (call : Call) (s : State) (one : Input) → Contains (handled call s) one → R s one.before
+  before-kept call s one there = by-call call s one (contains-has one (handled call s) there)

@@ -1,0 +1,151 @@
+-- When a caller is to call again.
+use Rattle.std.proofs.Common.{◌≡◌, ◌⊎◌, ℕ, ◌+◌, ◌<◌, ◌≤◌, Bool, true, false, cond, ltb, length, ◌||◌, List, [], ◌∷◌, fold, min, max, refl, ap, ◌∙◌, inl, inr, arith}
+use Rattle.std.specs.Prelude.{◌≢◌, All}
+use Rattle.std.specs.List.{Contains}
+use Rattle.std.proofs.Math.Nat.{min-le_left, min-le_right, min-eq_left}
+use Rattle.std.proofs.lemmas.Bool.{cases_lt, lt-ltb}
+use Rattle.std.proofs.lemmas.List.Elements.{All-nil, All-cons}
+use Rattle.turn_client_api.specs.State.{State, Phase, New, Requesting, Authenticating, Allocated, Closed, max_time, later_by}
+use Rattle.turn_client_api.specs.Due.{due_times, has_event, has_reply, is_new, least_due, max_wait, next_wakeup}
+use Rattle.turn_client_api.specs.Calls.{is_allocated}
+use Rattle.turn_client_laws.specs.LawsWakeup.{IsLeast}
+use Rattle.turn_client_api.specs.declared.event.TurnEvent.{TurnEvent}
+use Rattle.turn_client_laws.proofs.PeerLemmas.{Contains-here, Contains-later}
+
+-- the earliest of some times and one more
+pub record IsFolded (first least : ℕ) (moments : List ℕ) : Type 0 where
+  pub below : least ≤ first
+  pub below_all : All (λ other. least ≤ other) moments
+  pub one : (least ≡ first) ⊎ Contains moments least
+
+min-one : (a b : ℕ) → (min a b ≡ a) ⊎ (min a b ≡ b)
+min-one a b = by (cases_lt a b)
+  where
+    by : (a < b) ⊎ (b ≤ a) → (min a b ≡ a) ⊎ (min a b ≡ b)
+    by (inl h) = inl (min-eq_left (omega (arith, h)))
+    by (inr h) = inr (omega (arith, h))
+
+fold-IsFolded : (first : ℕ) (moments : List ℕ) → IsFolded first (fold min first moments) moments
+fold-IsFolded first [] = record { below = omega arith; below_all = All-nil _; one = inl refl }
+fold-IsFolded first (m ∷ moments) = by (fold-IsFolded (min first m) moments)
+  where
+    least : ℕ
+    least = fold min (min first m) moments
+
+    which : (least ≡ min first m) ⊎ Contains moments least → (least ≡ first) ⊎ Contains (m ∷ moments) least
+    which (inr there) = inr (Contains-later least m moments there)
+    which (inl is) = pick (min-one first m)
+      where
+        pick : (min first m ≡ first) ⊎ (min first m ≡ m) → (least ≡ first) ⊎ Contains (m ∷ moments) least
+        pick (inl e) = inl (is ∙ e)
+        pick (inr e) = inr (rw (is ∙ e) (Contains-here m moments))
+
+    by : IsFolded (min first m) least moments → IsFolded first least (m ∷ moments)
+    by f = record {
+      below = let b = f.below in omega (arith, b, min-le_left first m);
+      below_all = All-cons (λ other. least ≤ other) m moments (let b = f.below in omega (arith, b, min-le_right first m)) f.below_all;
+      one = which f.one;
+    }
+
+from_first : (greatest first : ℕ) (moments : List ℕ) → first ≤ greatest → IsLeast (fold min greatest (first ∷ moments)) (first ∷ moments)
+from_first greatest first moments h = rw e (by (fold-IsFolded first moments))
+  where
+    e : min greatest first ≡ first
+    e = omega (arith, h)
+
+    which : (fold min first moments ≡ first) ⊎ Contains moments (fold min first moments) → Contains (first ∷ moments) (fold min first moments)
+    which (inl is) = rw is (Contains-here first moments)
+    which (inr there) = Contains-later (fold min first moments) first moments there
+
+    by : IsFolded first (fold min first moments) moments → IsLeast (fold min first moments) (first ∷ moments)
+    by f = record { one = which f.one; least = All-cons (λ other. fold min first moments ≤ other) first moments f.below f.below_all }
+
+-- the longest wait ends at the greatest `Instant` at most, so the minimum is one of the times
+pub due-IsLeast : (now : ℕ) (s : State) → IsLeast (least_due now s) (due_times now s)
+due-IsLeast now s = from_first max_time (later_by max_wait now) _ (min-le_right (now + max_wait) max_time)
+
+pub wakeup-new : (has_given_up : Bool) (now : ℕ) (s : State) → s.phase ≡ New → next_wakeup has_given_up now s ≡ now
+wakeup-new given now s e = rw e refl
+
+wakeup-when : (b : Bool) (now other : ℕ) → b ≡ true → cond b now other ≡ now
+wakeup-when b now other e = rw e refl
+
+second_of : (a b c d : Bool) → b ≡ true → (a || b || c || d) ≡ true
+second_of true b c d e = refl
+second_of false b c d e = rw e refl
+
+third_of : (a b c d : Bool) → c ≡ true → (a || b || c || d) ≡ true
+third_of true b c d e = refl
+third_of false true c d e = refl
+third_of false false c d e = rw e refl
+
+fourth_of : (a b c : Bool) → (a || b || c || true) ≡ true
+fourth_of true b c = refl
+fourth_of false true c = refl
+fourth_of false false true = refl
+fourth_of false false false = refl
+
+events-waiting : (events : List TurnEvent) → events ≢ [] → ltb 0 (length events) ≡ true
+events-waiting [] h = absurd (h refl)
+events-waiting (e ∷ es) h = lt-ltb 0 (length (e ∷ es)) (omega arith)
+
+pub wakeup-event : (has_given_up : Bool) (now : ℕ) (s : State) → s.events ≢ [] → next_wakeup has_given_up now s ≡ now
+wakeup-event given now s h = wakeup-when _ now _ (second_of (is_new s.phase) (has_event s) (has_reply s) given (events-waiting s.events h))
+
+pub wakeup-reply : (has_given_up : Bool) (now : ℕ) (s : State) → has_reply s ≡ true → next_wakeup has_given_up now s ≡ now
+wakeup-reply given now s h = wakeup-when _ now _ (third_of (is_new s.phase) (has_event s) (has_reply s) given h)
+
+pub wakeup-given_up : (now : ℕ) (s : State) → next_wakeup true now s ≡ now
+wakeup-given_up now s = wakeup-when _ now _ (fourth_of (is_new s.phase) (has_event s) (has_reply s))
+
+-- ---- if nothing is pending
+
+waits_not : (events : List TurnEvent) → events ≡ [] → ltb 0 (length events) ≡ false
+waits_not [] e = refl
+waits_not (x ∷ xs) e = absurd (unlike e)
+  where
+    unlike : x ∷ xs ≡ [] → ⊥
+    unlike h = cc
+
+phase-old : (p : Phase) → p ≢ New → is_new p ≡ false
+phase-old New old = absurd (old refl)
+phase-old Requesting old = refl
+phase-old Authenticating old = refl
+phase-old Allocated old = refl
+phase-old Closed old = refl
+
+phase-other : (p : Phase) → p ≢ Allocated → is_allocated p ≡ false
+phase-other Allocated other = absurd (other refl)
+phase-other New other = refl
+phase-other Requesting other = refl
+phase-other Authenticating other = refl
+phase-other Closed other = refl
+
+quiet : (now : ℕ) (s : State) → is_new s.phase ≡ false → s.events ≡ [] → has_reply s ≡ false → next_wakeup false now s ≡ cond (is_allocated s.phase) (max now (least_due now s)) (least_due now s)
+quiet now s old none no_reply =
+    let no_event : has_event s ≡ false = waits_not s.events none in
+    rw (old, no_event, no_reply) refl
+
+pub wakeup-others : (now : ℕ) (s : State) → s.phase ≢ New → s.phase ≢ Allocated → s.events ≡ [] → has_reply s ≡ false → next_wakeup false now s ≡ least_due now s
+wakeup-others now s old other none no_reply =
+    let asleep = quiet now s (phase-old s.phase old) none no_reply in
+    asleep ∙ other_moment (is_allocated s.phase) (phase-other s.phase other)
+  where
+    other_moment : (b : Bool) → b ≡ false → cond b (max now (least_due now s)) (least_due now s) ≡ least_due now s
+    other_moment true e = absurd (wrong e)
+      where
+        wrong : true ≡ false → ⊥
+        wrong h = cc
+    other_moment false e = refl
+
+pub wakeup-allocated : (now : ℕ) (s : State) → s.phase ≡ Allocated → s.events ≡ [] → has_reply s ≡ false → next_wakeup false now s ≡ max now (least_due now s)
+wakeup-allocated now s live none no_reply =
+    let asleep = quiet now s (ap is_new live) none no_reply in
+    asleep ∙ later_moment (is_allocated s.phase) (ap is_allocated live)
+  where
+    later_moment : (b : Bool) → b ≡ true → cond b (max now (least_due now s)) (least_due now s) ≡ max now (least_due now s)
+    later_moment true e = refl
+    later_moment false e = absurd (wrong e)
+      where
+        wrong : false ≡ true → ⊥
+        wrong h = cc

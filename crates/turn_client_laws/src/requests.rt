@@ -1,0 +1,21 @@
+//! Which requests a call makes.
+
+ghost use Rattle.std.specs.Prelude.{◌⊎◌};
+ghost use Rattle.std.specs.List.{Contains};
+ghost use Rattle.turn_agent.specs.declared.transaction.Transaction.{Transaction};
+ghost use Rattle.turn_client_api.specs.State.{State, Listing};
+ghost use Rattle.turn_client_api.specs.Steps.{Call, Leaves};
+ghost use Rattle.turn_client_laws.specs.LawsRequests.{IsListingOf, IsOldOrMade};
+
+/// What is outstanding or listed after a call was so before, or the call made the request, which is
+/// outstanding then: under the ID that was the next one, to the server, and with the bytes that request its
+/// purpose. A call of the caller requests what its name says, `poll_transmit` requests the first ALLOCATE
+/// or refreshes the first grant that is due, and it retransmits requests. In `recv` and `poll_recv` a
+/// message that is processed causes it: the new request has a purpose of the request that the message
+/// answers, and is listed for purposes of that one alone (RFC 8489, section 9.2.5; RFC 8656, section 7.4).
+/// No other call makes one, and a call whose memory allocation fails makes none except by the inputs that
+/// it processed.
+pub fn requests_are_made()
+    ensures request { (call : Call) (s t : State) (x : Transaction) → Leaves call s t → Contains t.transactions x → IsOldOrMade call s x }
+    ensures listing { (call : Call) (s t : State) (l : Listing) → Leaves call s t → Contains t.listed l → Contains s.listed l ⊎ IsListingOf call s l }
+{}

@@ -1,0 +1,75 @@
+//! Worked states.
+
+ghost use Rattle.std.specs.Prelude.{◌≡◌, ◌∷◌, true, map, ℕ, List, [], Some, None};
+ghost use Rattle.std.specs.declared.net.socket_addr.SocketAddr.{SocketAddr};
+ghost use Rattle.turn_stun.specs.declared.transport.TransportType.TheVariants.{Udp, Tcp};
+ghost use Rattle.turn_types.specs.declared.family.AddressFamily.TheVariants.{IPV4, IPV6};
+ghost use Rattle.turn_auth.specs.LongTerm.{Challenge};
+ghost use Rattle.turn_client_api.specs.State.{State, Channel, ForRefresh, Pending};
+ghost use Rattle.turn_client_api.specs.Calls.{free_number, relayed_addresses_of};
+ghost use Rattle.turn_client_api.specs.Poll.{poll_step};
+ghost use Rattle.turn_client_api.specs.Transmit.{next_transmit};
+ghost use Rattle.turn_client_laws.specs.LawsRows.{IsFirstAllocate, WaitsInSilence, WhenGivenUp, asking_at_60_ms, challenged_once, deleted_in_silence, giving_back, granted_at, ip_of_peer, peer, short_timers, with_both_families, with_permission};
+ghost use Rattle.turn_client_api.specs.declared.event.TurnEvent.TheVariants.{ChannelCreateFailed, PermissionCreateFailed};
+ghost use Rattle.turn_client_api.specs.declared.poll.TurnPollRet.TheVariants as Do;
+
+/// The bytes of the first ALLOCATE (RFC 8656, sections 7.1 and 18): for IPv4 no family is named, for
+/// both the additional one is, and for IPv6 alone the requested one.
+pub fn first_allocate_is_spelled()
+    ensures ipv4 { IsFirstAllocate (IPV4 ∷ []) 0x14 [] }
+    ensures both { IsFirstAllocate (IPV4 ∷ IPV6 ∷ []) 0x1c (0x80 ∷ 0x00 ∷ 0x00 ∷ 0x04 ∷ 0x02 ∷ 0x00 ∷ 0x00 ∷ 0x00 ∷ []) }
+    ensures ipv6 { IsFirstAllocate (IPV6 ∷ []) 0x1c (0x00 ∷ 0x17 ∷ 0x00 ∷ 0x04 ∷ 0x02 ∷ 0x00 ∷ 0x00 ∷ 0x00 ∷ []) }
+{}
+
+/// Channel numbers are assigned from 0x4000 on (RFC 8656, section 12), each also while the one before is
+/// only pending.
+pub fn channel_numbers_count_up()
+    ensures first { (s : State) → free_number (granted_at 0 [] s) ≡ Some 0x4000 }
+    ensures second { (s : State) → free_number (granted_at 0 (Channel 0x4000 peer Pending ∷ []) s) ≡ Some 0x4001 }
+{}
+
+/// The time at which a caller is to call `poll` again.
+pub fn wakeups_are_reported()
+    // A challenge that is answered at 10 ms, after a first ALLOCATE at 0: the end of the pause.
+    ensures retry { (text : List ℕ) (challenge : Challenge) (s : State) → (poll_step 10_000_000 (challenged_once text challenge s)).0 ≡ Do.WaitUntil 50_000_000 }
+    // Two allocations of 1000 s that were granted at 50 ms: a minute before they expire.
+    ensures allocations { (s : State) → (poll_step 50_000_000 (with_both_families s)).0 ≡ Do.WaitUntil 940_050_000_000 }
+    // A permission that was granted at 100 ms: a minute before it expires.
+    ensures permission { (s : State) → (poll_step 100_000_000 (with_permission 50_000_000 s)).0 ≡ Do.WaitUntil 240_100_000_000 }
+    // A permission that expires at 300.1 s, before the pause ends at 300.12 s: its expiry.
+    ensures lapse { (s : State) → (poll_step 300_080_000_000 (with_permission 300_070_000_000 s)).0 ≡ Do.WaitUntil 300_100_000_000 }
+    // A permission that is requested at 60 ms, 10 ms after the last request: the end of the pause.
+    ensures queued { (s : State) → (poll_step 60_000_000 (asking_at_60_ms s)).0 ≡ Do.WaitUntil 100_000_000 }
+    ensures paused { (s : State) → next_transmit 99_999_999 (asking_at_60_ms s) ≡ None }
+{}
+
+/// A first ALLOCATE that was sent at time 0 and gets no response (RFC 8489, sections 6.2.1 and 6.2.2): the
+/// times that `poll` returns to a caller that calls it at each of them, and sends what is due.
+pub fn silence_is_timed()
+    // By default it is sent at 0, 0.5, 1.5, 3.5, 7.5, 15.5 and 31.5 s, and times out at 39.5 s.
+    ensures default { WaitsInSilence None Udp (500 ∷ 1_500 ∷ 3_500 ∷ 7_500 ∷ 15_500 ∷ 31_500 ∷ 39_500 ∷ []) }
+    // With 600 ms after the first send, at most 1 s after others, three sends, and 3 s after the last.
+    ensures set { WaitsInSilence (Some short_timers) Udp (600 ∷ 1_600 ∷ 4_600 ∷ []) }
+    // Over TCP it is sent once.
+    ensures tcp { WaitsInSilence None Tcp (39_500 ∷ []) }
+    ensures tcp_set { WaitsInSilence (Some short_timers) Tcp (4_600 ∷ []) }
+{}
+
+/// `delete` with two allocations (RFC 8656, section 8.1): one REFRESH deletes both, and neither is used
+/// from then on. Without a response, the client waits for 39.5 s from the first send, and then has ended.
+pub fn delete_is_one_request()
+    ensures one { (s : State) → map (λ q. q.is_request) (giving_back s).queue ≡ true ∷ [] }
+    ensures purposes { (s : State) → map (λ l. l.purpose) (giving_back s).listed ≡ ForRefresh IPV4 0 ∷ ForRefresh IPV6 0 ∷ [] }
+    ensures unused { (s : State) → relayed_addresses_of (giving_back s) ≡ [] }
+    ensures waits { (to : SocketAddr) (text : List ℕ) (s : State) → (poll_step 33_000_000_000 (deleted_in_silence to text s)).0 ≡ Do.WaitUntil 40_500_000_000 }
+    ensures ends { (to : SocketAddr) (text : List ℕ) (s : State) → (poll_step 40_500_000_000 (deleted_in_silence to text s)).0 ≡ Do.Closed }
+    ensures empty { (to : SocketAddr) (text : List ℕ) (s : State) → (poll_step 40_500_000_000 (deleted_in_silence to text s)).1.grants ≡ [] }
+{}
+
+/// Failures that the client detects by itself are queued before other events (our choice): of a channel and
+/// the permission requested with it, whose request got no response, the failure of the permission is first,
+/// and the time that `poll` returns is not in the future, since both are pending.
+pub fn failures_jump()
+    ensures events { WhenGivenUp (λ r. r.1.events ≡ PermissionCreateFailed Udp ip_of_peer ∷ ChannelCreateFailed Udp peer ∷ []) }
+    ensures now { WhenGivenUp (λ r. r.0 ≡ Do.WaitUntil 40_500_000_000) }
+{}
