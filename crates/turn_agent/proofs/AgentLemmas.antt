@@ -1,5 +1,6 @@
 -- The calls of an agent, by the place of the transaction that each is for.
-use Rattle.std.proofs.Common.{◌≡◌, ℕ, suc, add-one, drop-cons, ◌+◌, ◌-◌, ◌<◌, ◌≤◌, ◌^◌, Bool, true, false, eqb, leb, ltb, ◌&&◌, List, [], ◌∷◌, length, drop, get_or, set, map, find, fold, min, Option, Some, None, refl, sym, ◌∙◌, arith}
+use Rattle.std.proofs.Common.{◌≡◌, ℕ, suc, add-one, drop-cons, ◌+◌, ◌-◌, ◌<◌, ◌≤◌, ◌^◌, Bool, true, false, eqb, leb, ltb, ◌&&◌, List, [], ◌∷◌, length, drop, get_or, set, map, find, fold, min, Option}
+use Rattle.std.proofs.Common.{Some, None, refl, sym, ◌∙◌, arith}
 use Rattle.std.specs.Prelude.{slice_get, IsSome}
 use Rattle.std.specs.List.{list_any, position, position_or_len}
 use Rattle.std.proofs.Math.Nat.{min-le_left, min-le_right, min-eq_left, le-min}
@@ -14,7 +15,8 @@ use Rattle.turn_stun.specs.declared.transport.Transmit.{Transmit}
 use Rattle.turn_stun.specs.Message.{type_of, id_of}
 use Rattle.turn_stun.specs.MessageType.{class_of, IsResponse}
 use Rattle.turn_agent.specs.Schedule.{Timers, resends_of}
-use Rattle.turn_agent.specs.Agent.{Agent, AreDistinct, sent_again, answers, same_address, is_outstanding, is_response, handle_step, agent_poll_step, agent_transmit_step, due, timed_out_transaction, is_due, is_timed_out, transaction_timeout, earliest, transaction_removed, IsSilentAt, IsSoonest, IsQuietUntil}
+use Rattle.turn_agent.specs.Agent.{Agent, AreDistinct, sent_again, answers, same_address, is_outstanding, is_response, handle_step, agent_poll_step, agent_transmit_step, due, timed_out_transaction}
+use Rattle.turn_agent.specs.Agent.{is_due, is_timed_out, transaction_timeout, earliest, transaction_removed, IsSilentAt, IsSoonest, IsQuietUntil}
 use Rattle.turn_agent.specs.declared.agent.StunAgentPollRet.{StunAgentPollRet}
 use Rattle.turn_agent.specs.declared.agent.StunAgentPollRet.TheVariants.{TransactionTimedOut, WaitUntil}
 use Rattle.turn_agent.specs.declared.transaction.Transaction.{Transaction}
@@ -106,7 +108,8 @@ IsResponse-true Success is = refl
 IsResponse-true Error is = refl
 
 -- a response that answers no transaction
-pub handle_step-stray : (a : Agent) (message : List ℕ) (from : SocketAddr) → IsResponse (class_of (type_of message)) → position (answers (id_of message) from) a.transactions ≡ None → ◌≡◌ {A = Bool × Agent} (false, a) (handle_step a message from)
+pub handle_step-stray : (a : Agent) (message : List ℕ) (from : SocketAddr) → IsResponse (class_of (type_of message)) → position (answers (id_of message) from) a.transactions ≡ None
+    → ◌≡◌ {A = Bool × Agent} (false, a) (handle_step a message from)
 handle_step-stray a message from is none =
     let unanswered = list_any-none _ a.transactions (position-none _ a.transactions none) in
     rw (IsResponse-true (class_of (type_of message)) is, unanswered) refl
@@ -128,7 +131,8 @@ answers-id id from ts i t at taken =
     eqb-true t.id id (and_parts (eqb t.id id) (same_address t.to from) passes).0
 
 -- a response that answers the transaction at this place
-pub handle_step-ended : (a : Agent) (message : List ℕ) (from : SocketAddr) (i : ℕ) (t : Transaction) → IsResponse (class_of (type_of message)) → position (answers (id_of message) from) a.transactions ≡ Some i → slice_get a.transactions i ≡ Some t → ◌≡◌ {A = Bool × Agent} (true, transaction_removed t.id a) (handle_step a message from)
+pub handle_step-ended : (a : Agent) (message : List ℕ) (from : SocketAddr) (i : ℕ) (t : Transaction) → IsResponse (class_of (type_of message))
+    → position (answers (id_of message) from) a.transactions ≡ Some i → slice_get a.transactions i ≡ Some t → ◌≡◌ {A = Bool × Agent} (true, transaction_removed t.id a) (handle_step a message from)
 handle_step-ended a message from i t is at taken =
     let found = position-found (answers (id_of message) from) a.transactions i t at taken in
     let answered = list_any-some (answers (id_of message) from) a.transactions t found in
@@ -143,7 +147,8 @@ pub record IsScanned (timers : Timers) (transport : TransportType) (now : ℕ) (
   pub rest : fold min least (map (transaction_timeout timers transport) (drop i ts)) ≡ fold min (2 ^ 63 - 1) (map (transaction_timeout timers transport) ts)
 
 -- the one at the place is the first that times out
-pub IsScanned-found : (timers : Timers) (transport : TransportType) (now : ℕ) (ts : List Transaction) (i least : ℕ) (d : Transaction) → IsScanned timers transport now ts i least → i < length ts → is_timed_out timers transport now (get_or ts i d) ≡ true → find (is_timed_out timers transport now) ts ≡ slice_get ts i
+pub IsScanned-found : (timers : Timers) (transport : TransportType) (now : ℕ) (ts : List Transaction) (i least : ℕ) (d : Transaction) → IsScanned timers transport now ts i least → i < length ts
+    → is_timed_out timers transport now (get_or ts i d) ≡ true → find (is_timed_out timers transport now) ts ≡ slice_get ts i
 IsScanned-found timers transport now ts i least d is within over =
     let front : drop i ts ≡ get_or ts i d ∷ drop (i + 1) ts = rw add-one (drop-cons ts i d within) in
     let none = rw front at is.none in
@@ -152,7 +157,8 @@ IsScanned-found timers transport now ts i least d is within over =
 -- ---- poll
 
 -- the transaction at this place times out
-pub poll_step-over : (a : Agent) (now i : ℕ) (t : Transaction) → timed_out_transaction a now ≡ slice_get a.transactions i → slice_get a.transactions i ≡ Some t → ◌≡◌ {A = StunAgentPollRet × Agent} (TransactionTimedOut t.id, transaction_removed t.id a) (agent_poll_step a now)
+pub poll_step-over : (a : Agent) (now i : ℕ) (t : Transaction) → timed_out_transaction a now ≡ slice_get a.transactions i → slice_get a.transactions i ≡ Some t
+    → ◌≡◌ {A = StunAgentPollRet × Agent} (TransactionTimedOut t.id, transaction_removed t.id a) (agent_poll_step a now)
 poll_step-over a now i t first taken = rw (first ∙ taken) refl
 
 -- the least of all is not above the start value
@@ -161,7 +167,8 @@ fold_min-le start [] = omega arith
 fold_min-le start (m ∷ moments) = omega (arith, fold_min-le (min start m) moments, min-le_left start m)
 
 -- before the earliest time of all none is found, if each fails the test before its own time
-find-before : (next : Transaction → ℕ) (p : Transaction → Bool) (moment : ℕ) → ((t : Transaction) → moment < next t → p t ≡ false) → (start : ℕ) (ts : List Transaction) → moment < fold min start (map next ts) → find p ts ≡ None
+find-before : (next : Transaction → ℕ) (p : Transaction → Bool) (moment : ℕ) → ((t : Transaction) → moment < next t → p t ≡ false) → (start : ℕ) (ts : List Transaction)
+    → moment < fold min start (map next ts) → find p ts ≡ None
 find-before next p moment waits start [] before = refl
 find-before next p moment waits start (t ∷ ts) before =
     let here = waits t (omega (arith, before, fold_min-le (min start (next t)) (map next ts), min-le_right start (next t))) in
@@ -175,7 +182,8 @@ IsSilentAt-before a moment before =
     record { sends_nothing = rw none_due refl; gives_nothing_up = none_over }
 
 -- what is neither due nor timed out waits further
-waits_on : (timers : Timers) (transport : TransportType) (now : ℕ) (t : Transaction) → is_due timers transport now t ≡ false → is_timed_out timers transport now t ≡ false → now < transaction_timeout timers transport t
+waits_on : (timers : Timers) (transport : TransportType) (now : ℕ) (t : Transaction) → is_due timers transport now t ≡ false → is_timed_out timers transport now t ≡ false
+    → now < transaction_timeout timers transport t
 waits_on timers transport now t not_due not_over = by (leb (transaction_timeout timers transport t) now) refl
   where
     by : (b : Bool) → leb (transaction_timeout timers transport t) now ≡ b → now < transaction_timeout timers transport t
@@ -186,12 +194,15 @@ waits_on timers transport now t not_due not_over = by (leb (transaction_timeout 
         absurd (omega (arith, ltb-false _ _ more, leb-false _ _ last))
 
 -- if a wait is over and nothing times out, a request is due
-pub some_due : (timers : Timers) (transport : TransportType) (now start : ℕ) (ts : List Transaction) → find (is_timed_out timers transport now) ts ≡ None → now < start → fold min start (map (transaction_timeout timers transport) ts) ≤ now → IsSome (find (is_due timers transport now) ts)
+pub some_due : (timers : Timers) (transport : TransportType) (now start : ℕ) (ts : List Transaction) → find (is_timed_out timers transport now) ts ≡ None → now < start
+    → fold min start (map (transaction_timeout timers transport) ts) ≤ now → IsSome (find (is_due timers transport now) ts)
 some_due timers transport now start [] none below past = absurd (omega arith)
 some_due timers transport now start (t ∷ ts) none below past =
     by (some_due timers transport now (min start (transaction_timeout timers transport t)) ts) (is_timed_out timers transport now t) refl (is_due timers transport now t) refl
   where
-    by : (find (is_timed_out timers transport now) ts ≡ None → now < min start (transaction_timeout timers transport t) → fold min (min start (transaction_timeout timers transport t)) (map (transaction_timeout timers transport) ts) ≤ now → IsSome (find (is_due timers transport now) ts)) → (over : Bool) → is_timed_out timers transport now t ≡ over → (is : Bool) → is_due timers transport now t ≡ is → IsSome (find (is_due timers transport now) (t ∷ ts))
+    by : (find (is_timed_out timers transport now) ts ≡ None → now < min start (transaction_timeout timers transport t)
+        → fold min (min start (transaction_timeout timers transport t)) (map (transaction_timeout timers transport) ts) ≤ now → IsSome (find (is_due timers transport now) ts)) → (over : Bool)
+        → is_timed_out timers transport now t ≡ over → (is : Bool) → is_due timers transport now t ≡ is → IsSome (find (is_due timers transport now) (t ∷ ts))
     by later true over b is = absurd (none-some t (sym (rw over at none)))
     by later false over true is = rw is refl
     by later false over false is =
@@ -203,21 +214,28 @@ pub transmit_step-none : (a : Agent) (now : ℕ) → position (is_due a.timers a
 transmit_step-none a now none = rw (position-none _ a.transactions none) refl
 
 -- the request at this place is sent
-pub transmit_step-sent : (a : Agent) (now i : ℕ) (d : Transaction) → AreDistinct a.transactions → position (is_due a.timers a.transport now) a.transactions ≡ Some i → ◌≡◌ {A = Option (Transmit (List ℕ)) × Agent} (Some (record { payload = (get_or a.transactions i d).request; transport = a.transport; from = a.local; to = (get_or a.transactions i d).to }), record a { transactions = set a.transactions i (sent_again now (get_or a.transactions i d)) }) (agent_transmit_step a now)
+pub transmit_step-sent : (a : Agent) (now i : ℕ) (d : Transaction) → AreDistinct a.transactions → position (is_due a.timers a.transport now) a.transactions ≡ Some i
+    → ◌≡◌ {A = Option (Transmit (List ℕ)) × Agent} (
+      Some (record { payload = (get_or a.transactions i d).request; transport = a.transport; from = a.local; to = (get_or a.transactions i d).to }),
+      record a { transactions = set a.transactions i (sent_again now (get_or a.transactions i d)) },
+    ) (agent_transmit_step a now)
 transmit_step-sent a now i d distinct at =
     let first = position-IsFirst (is_due a.timers a.transport now) a.transactions i at in
     rw (first.found d, set-resent now a.transactions i d distinct first.within) refl
 
 -- a packet is its four parts
-pub same_transmit : (packet : Transmit (List ℕ)) (payload : List ℕ) (transport : TransportType) (from to : SocketAddr) → packet.payload ≡ payload → packet.transport ≡ transport → packet.from ≡ from → packet.to ≡ to → packet ≡ record { payload = payload; transport = transport; from = from; to = to }
+pub same_transmit : (packet : Transmit (List ℕ)) (payload : List ℕ) (transport : TransportType) (from to : SocketAddr) → packet.payload ≡ payload → packet.transport ≡ transport → packet.from ≡ from
+    → packet.to ≡ to → packet ≡ record { payload = payload; transport = transport; from = from; to = to }
 same_transmit packet payload transport from to p k f t = rw (← p, ← k, ← f, ← t) refl
 
 -- it is not sent more often than a number of 32 bits can count
-pub is_due-counted : (timers : Timers) (transport : TransportType) (now : ℕ) (ts : List Transaction) (i : ℕ) (d : Transaction) → position (is_due timers transport now) ts ≡ Some i → (get_or ts i d).resends < resends_of timers transport
+pub is_due-counted : (timers : Timers) (transport : TransportType) (now : ℕ) (ts : List Transaction) (i : ℕ) (d : Transaction) → position (is_due timers transport now) ts ≡ Some i
+    → (get_or ts i d).resends < resends_of timers transport
 is_due-counted timers transport now ts i d at =
     let first = position-IsFirst (is_due timers transport now) ts i at in
     let passes = find-passes (is_due timers transport now) ts (get_or ts i d) (first.found d) in
-    ltb-true (get_or ts i d).resends (resends_of timers transport) (and_parts (ltb (get_or ts i d).resends (resends_of timers transport)) (leb (transaction_timeout timers transport (get_or ts i d)) now) passes).0
+    ltb-true (get_or ts i d).resends (resends_of timers transport) (and_parts (ltb (get_or ts i d).resends (resends_of timers transport))
+    (leb (transaction_timeout timers transport (get_or ts i d)) now) passes).0
 
 -- ---- the time that is kept
 

@@ -42,7 +42,8 @@ take_nothing p (x ∷ xs) = refl
 pub IsFront-none : (timers : Timers) (transport : TransportType) (ts : List Transaction) → IsFront timers transport ts no_front
 IsFront-none timers transport ts = record { within = omega arith; waits = λ now before. take_nothing (is_due timers transport now) ts }
 
-pub IsPassed-start : (timers : Timers) (transport : TransportType) (now : ℕ) (ts : List Transaction) (front : Front) → IsFront timers transport ts front → IsPassed timers transport now ts (front_at front now).count (front_at front now).until
+pub IsPassed-start : (timers : Timers) (transport : TransportType) (now : ℕ) (ts : List Transaction) (front : Front) → IsFront timers transport ts front
+    → IsPassed timers transport now ts (front_at front now).count (front_at front now).until
 IsPassed-start timers transport now ts front is = by (ltb now front.until) refl
   where
     by : (b : Bool) → ltb now front.until ≡ b → IsPassed timers transport now ts (front_at front now).count (front_at front now).until
@@ -50,7 +51,9 @@ IsPassed-start timers transport now ts front is = by (ltb now front.until) refl
     by false past = rw past (record { front = IsFront-none timers transport ts; none = take_nothing (is_due timers transport now) ts })
 
 -- one more that is not due before a time, and not now
-IsPassed-more : (timers : Timers) (transport : TransportType) (now : ℕ) (ts : List Transaction) (place until after : ℕ) (d : Transaction) → IsPassed timers transport now ts place until → place < length ts → after ≤ until → ((m : ℕ) → m < after → is_due timers transport m (get_or ts place d) ≡ false) → is_due timers transport now (get_or ts place d) ≡ false → IsPassed timers transport now ts (place + 1) after
+IsPassed-more : (timers : Timers) (transport : TransportType) (now : ℕ) (ts : List Transaction) (place until after : ℕ) (d : Transaction) → IsPassed timers transport now ts place until
+    → place < length ts → after ≤ until → ((m : ℕ) → m < after → is_due timers transport m (get_or ts place d) ≡ false) → is_due timers transport now (get_or ts place d) ≡ false
+    → IsPassed timers transport now ts (place + 1) after
 IsPassed-more timers transport now ts place until after d is within earlier waits not_now = record {
   front = record {
     within = omega (arith, within);
@@ -60,12 +63,15 @@ IsPassed-more timers transport now ts place until after d is within earlier wait
 }
 
 -- one that was sent as often as configured
-pub IsPassed-last : (timers : Timers) (transport : TransportType) (now : ℕ) (ts : List Transaction) (place until : ℕ) (d : Transaction) → IsPassed timers transport now ts place until → place < length ts → ltb (get_or ts place d).resends (resends_of timers transport) ≡ false → IsPassed timers transport now ts (place + 1) until
+pub IsPassed-last : (timers : Timers) (transport : TransportType) (now : ℕ) (ts : List Transaction) (place until : ℕ) (d : Transaction) → IsPassed timers transport now ts place until
+    → place < length ts → ltb (get_or ts place d).resends (resends_of timers transport) ≡ false → IsPassed timers transport now ts (place + 1) until
 IsPassed-last timers transport now ts place until d is within last =
     IsPassed-more timers transport now ts place until until d is within (omega arith) (λ m before. rw last refl) (rw last refl)
 
 -- one that waits
-pub IsPassed-waiting : (timers : Timers) (transport : TransportType) (now : ℕ) (ts : List Transaction) (place until : ℕ) (d : Transaction) → IsPassed timers transport now ts place until → place < length ts → now < transaction_timeout timers transport (get_or ts place d) → IsPassed timers transport now ts (place + 1) (min until (transaction_timeout timers transport (get_or ts place d)))
+pub IsPassed-waiting : (timers : Timers) (transport : TransportType) (now : ℕ) (ts : List Transaction) (place until : ℕ) (d : Transaction) → IsPassed timers transport now ts place until
+    → place < length ts → now < transaction_timeout timers transport (get_or ts place d)
+    → IsPassed timers transport now ts (place + 1) (min until (transaction_timeout timers transport (get_or ts place d)))
 IsPassed-waiting timers transport now ts place until d is within later =
     let next = transaction_timeout timers transport (get_or ts place d) in
     IsPassed-more timers transport now ts place until (min until next) d is within (min-le_left until next)
@@ -73,7 +79,8 @@ IsPassed-waiting timers transport now ts place until d is within later =
     (and_right _ _ (lt-leb next now later))
 
 -- after the last place none is due
-pub IsPassed-all : (timers : Timers) (transport : TransportType) (now : ℕ) (ts : List Transaction) (place until : ℕ) → IsPassed timers transport now ts place until → length ts ≤ place → position (is_due timers transport now) ts ≡ None
+pub IsPassed-all : (timers : Timers) (transport : TransportType) (now : ℕ) (ts : List Transaction) (place until : ℕ) → IsPassed timers transport now ts place until → length ts ≤ place
+    → position (is_due timers transport now) ts ≡ None
 IsPassed-all timers transport now ts place until is past =
     let all : place ≡ length ts = omega (arith, past, is.front.within) in
     position-unpassed (is_due timers transport now) ts (rw (all, take-length ts) at is.none)
@@ -88,7 +95,8 @@ IsFront-push timers transport ts more front is = record {
 }
 
 -- a request at or behind the end of the front changes
-pub IsFront-set : (timers : Timers) (transport : TransportType) (ts : List Transaction) (front : Front) (i : ℕ) (t : Transaction) → IsFront timers transport ts front → front.count ≤ i → IsFront timers transport (set ts i t) front
+pub IsFront-set : (timers : Timers) (transport : TransportType) (ts : List Transaction) (front : Front) (i : ℕ) (t : Transaction) → IsFront timers transport ts front → front.count ≤ i
+    → IsFront timers transport (set ts i t) front
 IsFront-set timers transport ts front i t is behind = record {
   within = rw (length-set ts i t) is.within;
   waits = λ now before. rw (take-set-le front.count ts i t behind) (is.waits now before);
@@ -115,7 +123,8 @@ length-removed i [] within = absurd (omega arith)
 length-removed zero (x ∷ xs) within = omega arith
 length-removed (suc i) (x ∷ xs) within = omega (arith, length-removed i xs (omega arith))
 
-pub IsFront-removed : (timers : Timers) (transport : TransportType) (ts : List Transaction) (front less : Front) (i : ℕ) → IsFront timers transport ts front → i < length ts → less.count ≡ front.count - 1 → less.until ≡ front.until → IsFront timers transport (take i ts ++ drop (suc i) ts) less
+pub IsFront-removed : (timers : Timers) (transport : TransportType) (ts : List Transaction) (front less : Front) (i : ℕ) → IsFront timers transport ts front → i < length ts
+    → less.count ≡ front.count - 1 → less.until ≡ front.until → IsFront timers transport (take i ts ++ drop (suc i) ts) less
 IsFront-removed timers transport ts front less i is within count until = record {
   within = omega (arith, count, is.within, length-removed i ts within);
   waits = λ now before. rw count (list_any-one_less (is_due timers transport now) front.count i ts (is.waits now (omega (arith, before, until))));

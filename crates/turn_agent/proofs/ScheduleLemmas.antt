@@ -56,7 +56,8 @@ pub record IsDoubling (first greatest count turn wait left so_far : ℕ) : Type 
   pub whole : so_far + doubled_sum first greatest turn left ≡ doubled_sum first greatest 0 count
 
 -- one more wait
-pub IsDoubling-more : (first greatest count turn wait left so_far : ℕ) → IsDoubling first greatest count turn wait left so_far → (left ≡ 0 → ⊥) → wait < greatest → greatest < 2 ^ 64 → IsDoubling first greatest count (turn + 1) (wait * 2) (left - 1) (so_far + wait)
+pub IsDoubling-more : (first greatest count turn wait left so_far : ℕ) → IsDoubling first greatest count turn wait left so_far → (left ≡ 0 → ⊥) → wait < greatest → greatest < 2 ^ 64
+    → IsDoubling first greatest count (turn + 1) (wait * 2) (left - 1) (so_far + wait)
 IsDoubling-more first greatest count turn wait left so_far is some below small =
     let step = doubled_sum-first first greatest turn left (omega arith) in
     let here : doubled_wait first greatest turn ≡ first * 2 ^ turn = min-eq_left (omega (arith, is.next)) in
@@ -68,17 +69,20 @@ IsDoubling-more first greatest count turn wait left so_far is some below small =
     }
 
 -- the sum when no wait is left, when all others are the greatest, and after 64 iterations
-pub IsDoubling-none : (first greatest count turn wait left so_far : ℕ) → IsDoubling first greatest count turn wait left so_far → left ≡ 0 → so_far + left * greatest ≡ doubled_sum first greatest 0 count
+pub IsDoubling-none : (first greatest count turn wait left so_far : ℕ) → IsDoubling first greatest count turn wait left so_far → left ≡ 0
+    → so_far + left * greatest ≡ doubled_sum first greatest 0 count
 unfolding doubled_sum
 IsDoubling-none first greatest count turn wait left so_far is none =
     let whole : so_far + 0 ≡ doubled_sum first greatest 0 count = rw none at is.whole in
     rw none (omega (arith, whole))
 
-pub IsDoubling-greatest : (first greatest count turn wait left so_far : ℕ) → IsDoubling first greatest count turn wait left so_far → greatest ≤ wait → so_far + left * greatest ≡ doubled_sum first greatest 0 count
+pub IsDoubling-greatest : (first greatest count turn wait left so_far : ℕ) → IsDoubling first greatest count turn wait left so_far → greatest ≤ wait
+    → so_far + left * greatest ≡ doubled_sum first greatest 0 count
 IsDoubling-greatest first greatest count turn wait left so_far is above =
     omega (arith, is.whole, doubled_sum-greatest first greatest turn left (omega (arith, is.next)))
 
-pub IsDoubling-far : (first greatest count turn wait left so_far : ℕ) → IsDoubling first greatest count turn wait left so_far → 64 ≤ turn → greatest < 2 ^ 64 → (0 < count → 0 < first) → so_far + left * greatest ≡ doubled_sum first greatest 0 count
+pub IsDoubling-far : (first greatest count turn wait left so_far : ℕ) → IsDoubling first greatest count turn wait left so_far → 64 ≤ turn → greatest < 2 ^ 64 → (0 < count → 0 < first)
+    → so_far + left * greatest ≡ doubled_sum first greatest 0 count
 IsDoubling-far first greatest count turn wait zero so_far is far small some = IsDoubling-none first greatest count turn wait 0 so_far is refl
 IsDoubling-far first greatest count turn wait (suc n) so_far is far small some =
     IsDoubling-greatest first greatest count turn wait (suc n) so_far is

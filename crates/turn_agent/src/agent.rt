@@ -4,7 +4,8 @@ ghost use Rattle.std.specs.Prelude.{◌≡◌, ◌<◌, ◌==◌, false, [], Non
 ghost use Rattle.turn_stun.specs.Message.{type_of, id_of};
 ghost use Rattle.turn_stun.specs.MessageType.{class_of, IsResponse};
 ghost use Rattle.turn_agent.specs.Schedule.{wait_of, default_timers};
-ghost use Rattle.turn_agent.specs.Agent.{Agent, is_outstanding, request_sent, due, answers, agent_poll_step, agent_transmit_step, handle_step, IsEnded, IsSilentUntil, HasRequestDue, IsQuietUntil, earliest, transaction_removed};
+ghost use Rattle.turn_agent.specs.Agent.{Agent, is_outstanding, request_sent, due, answers, agent_poll_step, agent_transmit_step, handle_step, IsEnded};
+ghost use Rattle.turn_agent.specs.Agent.{IsSilentUntil, HasRequestDue, IsQuietUntil, earliest, transaction_removed};
 ghost use Rattle.std.specs.List.{position};
 
 use crate::front::{Front, first_due};
@@ -279,7 +280,7 @@ impl StunAgent {
     /// is accepted. Requests and indications are always accepted.
     pub fn handle_stun_message(&mut self, message: &Message<'_>, from: SocketAddr) -> bool
         ensures step { (result, self.new) ≡ handle_step self.old message.now from }
-        ensures transaction_removed { IsTrue result → IsResponse (class_of (type_of message.now))
+        ensures ended { IsTrue result → IsResponse (class_of (type_of message.now))
             → is_outstanding (id_of message.now) self.new.transactions ≡ false }
     {
         if !message.is_response() {
@@ -317,7 +318,7 @@ impl StunAgent {
     /// outstanding (our choice). Before that time `poll_transmit` returns none.
     pub fn poll(&mut self, now: Instant) -> StunAgentPollRet
         ensures step { (result, self.new) ≡ agent_poll_step self.old now }
-        ensures transaction_removed { IsEnded result self.new }
+        ensures ended { IsEnded result self.new }
         // Nothing is due before the returned time. A request is due if that is not later than now,
         // and now is not the greatest time.
         ensures alarm { IsSilentUntil result self.new }

@@ -32,7 +32,8 @@ is_error-Error Indication h = cc
 is_error-Error Success h = cc
 is_error-Error Error h = refl
 
-denial_with-parts : {denial : Denial} (realm nonce : Option (List ℕ)) (code : Option ℕ) → denial_with realm nonce code ≡ Some denial → (realm ≡ Some denial.realm) × (nonce ≡ Some denial.nonce) × (code ≡ Some denial.code)
+denial_with-parts : {denial : Denial} (realm nonce : Option (List ℕ)) (code : Option ℕ) → denial_with realm nonce code ≡ Some denial → (realm ≡ Some denial.realm) × (nonce ≡ Some denial.nonce)
+    × (code ≡ Some denial.code)
 denial_with-parts (Some realm) (Some nonce) (Some code) h = (cc, cc, cc)
 denial_with-parts (Some realm) (Some nonce) None h = cc
 denial_with-parts (Some realm) None _ h = cc
@@ -44,7 +45,8 @@ either false b h = inr h
 
 -- ---- what is computed is a challenge
 
-is_asked : (supported : List IntegrityAlgorithm) (held : Option Challenge) (offered : Option (List ℕ)) (denial : Denial) (algorithm : IntegrityAlgorithm) → chosen supported held offered denial ≡ Some algorithm → Follows supported offered (Some denial.code) (held_after held offered denial algorithm) held
+is_asked : (supported : List IntegrityAlgorithm) (held : Option Challenge) (offered : Option (List ℕ)) (denial : Denial) (algorithm : IntegrityAlgorithm)
+    → chosen supported held offered denial ≡ Some algorithm → Follows supported offered (Some denial.code) (held_after held offered denial algorithm) held
 is_asked supported None offered denial algorithm h =
     let passed = guard_some ((denial.code == 401) || (denial.code == 438)) (picked supported offered) h in (
       elim (either (denial.code == 401) (denial.code == 438) passed.0) [
@@ -59,7 +61,8 @@ is_asked supported (Some held) offered denial algorithm h =
     let both = and_parts (denial.code == 438) (bytes_eq denial.realm held.realm) passed.0 in
     (ap Some (eqb-true denial.code 438 both.0), refl)
 
-has_realm : (supported : List IntegrityAlgorithm) (held : Option Challenge) (offered : Option (List ℕ)) (denial : Denial) (algorithm : IntegrityAlgorithm) → chosen supported held offered denial ≡ Some algorithm → denial.realm ≡ (held_after held offered denial algorithm).realm
+has_realm : (supported : List IntegrityAlgorithm) (held : Option Challenge) (offered : Option (List ℕ)) (denial : Denial) (algorithm : IntegrityAlgorithm)
+    → chosen supported held offered denial ≡ Some algorithm → denial.realm ≡ (held_after held offered denial algorithm).realm
 has_realm supported None offered denial algorithm h = refl
 has_realm supported (Some held) offered denial algorithm h =
     let passed = guard_some ((denial.code == 438) && bytes_eq denial.realm held.realm) (Some held.algorithm) h in
@@ -70,7 +73,8 @@ has_nonce : (held : Option Challenge) (offered : Option (List ℕ)) (denial : De
 has_nonce None offered denial algorithm = refl
 has_nonce (Some held) offered denial algorithm = refl
 
-follows_from : (supported : List IntegrityAlgorithm) (held : Option Challenge) (offered : Option (List ℕ)) (denial : Denial) (algorithm : IntegrityAlgorithm) (code : Option ℕ) (challenge : Challenge) → code ≡ Some denial.code → challenge ≡ held_after held offered denial algorithm → chosen supported held offered denial ≡ Some algorithm → Follows supported offered code challenge held
+follows_from : (supported : List IntegrityAlgorithm) (held : Option Challenge) (offered : Option (List ℕ)) (denial : Denial) (algorithm : IntegrityAlgorithm) (code : Option ℕ) (challenge : Challenge)
+    → code ≡ Some denial.code → challenge ≡ held_after held offered denial algorithm → chosen supported held offered denial ≡ Some algorithm → Follows supported offered code challenge held
 follows_from supported held offered denial algorithm code challenge told gives h =
     rw (told, gives) (is_asked supported held offered denial algorithm h)
 
@@ -104,7 +108,8 @@ record IsComputed (supported : List IntegrityAlgorithm) (held : Option Challenge
   picks : chosen supported held offered (denial_of challenge number) ≡ Some algorithm
   gives : held_after held offered (denial_of challenge number) algorithm ≡ challenge
 
-follows-IsComputed : (supported : List IntegrityAlgorithm) (held : Option Challenge) (offered : Option (List ℕ)) (code : Option ℕ) (challenge : Challenge) → Follows supported offered code challenge held → IsComputed supported held offered code challenge
+follows-IsComputed : (supported : List IntegrityAlgorithm) (held : Option Challenge) (offered : Option (List ℕ)) (code : Option ℕ) (challenge : Challenge)
+    → Follows supported offered code challenge held → IsComputed supported held offered code challenge
 follows-IsComputed supported None offered code challenge h =
     let gives : held_after None offered (denial_of challenge 0) challenge.algorithm ≡ challenge = rw (← h.2) refl in
     elim h.0 [

@@ -10,7 +10,8 @@ found : (kind : ℕ) (value : List ℕ) (attributes : List Attribute) → fold (
 found kind value [] = refl
 found kind value (a ∷ others) = found kind value others
 
-either : (is : Bool) (kind : ℕ) (a : Attribute) (others : List Attribute) → fold (first_value kind) None others ≡ option_map (λ (a : Attribute). a.value) (first_of kind others) → fold (first_value kind) (cond is (Some a.value) None) others ≡ option_map (λ (a : Attribute). a.value) (cond is (Some a) (first_of kind others))
+either : (is : Bool) (kind : ℕ) (a : Attribute) (others : List Attribute) → fold (first_value kind) None others ≡ option_map (λ (a : Attribute). a.value) (first_of kind others)
+    → fold (first_value kind) (cond is (Some a.value) None) others ≡ option_map (λ (a : Attribute). a.value) (cond is (Some a) (first_of kind others))
 either true kind a others rest = found kind a.value others
 either false kind a others rest = rest
 

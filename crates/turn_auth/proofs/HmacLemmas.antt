@@ -5,7 +5,8 @@ use Rattle.std.specs.Prelude.{bit_xor}
 use Rattle.turn_auth.specs.Hmac.{padded}
 
 -- one more byte of the block is XORed
-pub padded_more : (pad : ℕ) (block : List ℕ) (i : ℕ) → i < length block → set (padded pad (take i block) ++ drop i block) i (bit_xor (get_or (padded pad (take i block) ++ drop i block) i 0) pad) ≡ padded pad (take (i + 1) block) ++ drop (i + 1) block
+pub padded_more : (pad : ℕ) (block : List ℕ) (i : ℕ) → i < length block → set (padded pad (take i block) ++ drop i block) i
+    (bit_xor (get_or (padded pad (take i block) ++ drop i block) i 0) pad) ≡ padded pad (take (i + 1) block) ++ drop (i + 1) block
 padded_more pad block i within =
     let front = padded pad (take i block) in
     let b = get_or block i 0 in

@@ -9,7 +9,8 @@ behind_length : (bytes : List ℕ) (offset rest : ℕ) → offset ≡ 4 + rest �
 behind_length bytes offset rest e = rw (e, drop-take 4 rest bytes) refl
 
 -- the covered text, as it is digested: the type, the length, and the bytes after it
-pub covered_pieces : (bytes : List ℕ) (offset : ℕ) (told : ℕ) (end : ℕ) → 20 ≤ offset → told ≡ end → (take 2 bytes ++ to_be_bytes w16 told) ++ take (offset - 4) (drop 4 bytes) ≡ with_length end (take offset bytes)
+pub covered_pieces : (bytes : List ℕ) (offset : ℕ) (told : ℕ) (end : ℕ) → 20 ≤ offset → told ≡ end
+    → (take 2 bytes ++ to_be_bytes w16 told) ++ take (offset - 4) (drop 4 bytes) ≡ with_length end (take offset bytes)
 covered_pieces bytes offset told end header same =
     let long : 2 ≤ offset = omega arith in
     rw (same, behind_length bytes offset (offset - 4) (omega arith), append_assoc, take-take 2 offset bytes long) refl

@@ -35,7 +35,8 @@ unsigned_more (b ∷ later) a h plain =
 
 -- ---- the text that integrity covers stays when its attribute is added
 
-pub covered-with_attribute : (algorithm : IntegrityAlgorithm) (kind : ℕ) (value message : List ℕ) → 4 ≤ length message → covered_text algorithm (length message) (with_attribute kind value message) ≡ covered_text algorithm (length message) message
+pub covered-with_attribute : (algorithm : IntegrityAlgorithm) (kind : ℕ) (value message : List ℕ) → 4 ≤ length message
+    → covered_text algorithm (length message) (with_attribute kind value message) ≡ covered_text algorithm (length message) message
 unfolding with_attribute
 covered-with_attribute algorithm kind value message header =
     let n = length message - 20 + written_len value in
@@ -55,7 +56,8 @@ another_kind : (algorithm : IntegrityAlgorithm) (kind : ℕ) → is_plain kind �
 another_kind Sha1 kind plain = (neither (is_sha1 kind) (is_sha256 kind) plain).0
 another_kind Sha256 kind plain = (neither (is_sha1 kind) (is_sha256 kind) plain).1
 
-pub found_behind : (algorithm : IntegrityAlgorithm) (attributes : List Attribute) (a : Attribute) → a.kind ≡ integrity_kind algorithm → is_unsigned attributes ≡ true → find (λ x. eqb x.kind (integrity_kind algorithm)) (seen_after false false (attributes ++ a ∷ [])) ≡ Some a
+pub found_behind : (algorithm : IntegrityAlgorithm) (attributes : List Attribute) (a : Attribute) → a.kind ≡ integrity_kind algorithm → is_unsigned attributes ≡ true
+    → find (λ x. eqb x.kind (integrity_kind algorithm)) (seen_after false false (attributes ++ a ∷ [])) ≡ Some a
 unfolding seen_after
 found_behind algorithm [] a kind h = rw (eq-eqb a.kind (integrity_kind algorithm) kind) refl
 found_behind algorithm (b ∷ later) a kind h =
@@ -64,7 +66,9 @@ found_behind algorithm (b ∷ later) a kind h =
     rw (another_kind algorithm b.kind both.0, flags.0, flags.1) (found_behind algorithm later a kind both.1)
 
 -- a message that is signed at its end meets the requirements on signed messages
-pub signed_behind : (algorithm : IntegrityAlgorithm) (key message value new : List ℕ) → value ≡ mac_of algorithm key (covered_text algorithm (length message) message) → new ≡ with_attribute (integrity_kind algorithm) value message → AddsAttribute message new (integrity_kind algorithm) value → is_unsigned (attributes_of message) ≡ true → 4 ≤ length message → IntegrityHolds new algorithm key
+pub signed_behind : (algorithm : IntegrityAlgorithm) (key message value new : List ℕ) → value ≡ mac_of algorithm key (covered_text algorithm (length message) message)
+    → new ≡ with_attribute (integrity_kind algorithm) value message → AddsAttribute message new (integrity_kind algorithm) value → is_unsigned (attributes_of message) ≡ true → 4 ≤ length message
+    → IntegrityHolds new algorithm key
 signed_behind algorithm key message value new is text added unsigned header =
     let covered : covered_text algorithm (length message) new ≡ covered_text algorithm (length message) message =
     rw text (covered-with_attribute algorithm (integrity_kind algorithm) value message header) in

@@ -1,5 +1,6 @@
 -- Which messages are challenges (RFC 8489, sections 9.2.3 to 9.2.5).
-use Rattle.std.specs.Prelude.{◌≡◌, ℕ, ◌==◌, Bool, true, false, ◌&&◌, ◌||◌, if◌then◌else◌, nat_le, List, [], length, Option, Some, None, is_some, unwrap_or, IsSome, IfSome, ◌⊎◌, option_map, option_and_then}
+use Rattle.std.specs.Prelude.{◌≡◌, ℕ, ◌==◌, Bool, true, false, ◌&&◌, ◌||◌, if◌then◌else◌, nat_le, List, [], length, Option, Some, None, is_some, unwrap_or}
+use Rattle.std.specs.Prelude.{IsSome, IfSome, ◌⊎◌, option_map, option_and_then}
 use Rattle.std.specs.Option.{option_map_or}
 use Rattle.std.specs.List.{list_any}
 use Rattle.std.specs.Str.{bytes_eq}

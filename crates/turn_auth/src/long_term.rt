@@ -1,6 +1,7 @@
 //! The client's side of the long-term credential mechanism (RFC 8489, section 9.2).
 
-ghost use Rattle.std.specs.Prelude.{◌≡◌, ◌≤◌, length, true, [], ◌∷◌, Some, None, is_some, option_map, ◌↔◌, IsTrue, IsSome, IsNone, IsSomeAnd, IfOk, IfSome, OnOk, OnErr};
+ghost use Rattle.std.specs.Prelude.{◌≡◌, ◌≤◌, length, true, [], ◌∷◌, Some, None, is_some, option_map, ◌↔◌, IsTrue, IsSome, IsNone, IsSomeAnd, IfOk, IfSome};
+ghost use Rattle.std.specs.Prelude.{OnOk, OnErr};
 ghost use Rattle.turn_auth.specs.LongTerm.{Challenge, with_challenge, with_algorithm};
 ghost use Rattle.turn_auth.specs.Challenge.{IsChallenge, value_in, MayTake, chosen, held_after, challenge_of};
 ghost use Rattle.turn_auth.specs.Validation.{IsResendRequest, IsSigned, IsValidated, validation_of};

@@ -4,7 +4,8 @@ ghost use Rattle.std.specs.Prelude.{◌≡◌, ◌+◌, ◌≤◌, ℕ, List, le
 ghost use Rattle.turn_stun.specs.Message.{attributes_from, type_of, id_of, attributes_of};
 ghost use Rattle.turn_stun.specs.MessageType.{class_of};
 ghost use Rattle.turn_stun.specs.Writer.{with_attribute, AddsAttribute, Extends};
-ghost use Rattle.turn_auth.specs.Signature.{AddsAll, additions_for, signed_by, signature_len_by, additions_len, written_len, is_plain, is_unsigned, request_additions, user_addition, algorithm_additions, with_integrity};
+ghost use Rattle.turn_auth.specs.Signature.{AddsAll, additions_for, signed_by, signature_len_by, additions_len, written_len, is_plain, is_unsigned};
+ghost use Rattle.turn_auth.specs.Signature.{request_additions, user_addition, algorithm_additions, with_integrity};
 ghost use Rattle.turn_auth.specs.Integrity.{IntegrityHolds, integrity_len};
 ghost use Rattle.turn_auth.specs.Keyed.{HoldsKey, HoldsSha1, HoldsSha256, algorithm_of};
 ghost use Rattle.turn_auth.specs.Validation.{held_key};

@@ -1,5 +1,6 @@
 -- What a caller requests of a client (RFC 8656, sections 8 to 12, and RFC 6062, sections 4.3 and 4.4).
-use Rattle.std.specs.Prelude.{ℕ, ◌==◌, nat_le, Bool, true, false, not, ◌&&◌, ◌||◌, if◌then◌else◌, List, [], ◌∷◌, ◌++◌, map, filter, find, filter_map, codes, Option, Some, None, Result, Ok, Err, is_some, is_none, option_map, slice_get}
+use Rattle.std.specs.Prelude.{ℕ, ◌==◌, nat_le, Bool, true, false, not, ◌&&◌, ◌||◌, if◌then◌else◌, List, [], ◌∷◌, ◌++◌, map, filter, find, filter_map, codes}
+use Rattle.std.specs.Prelude.{◌≡◌, ◌≤◌, length, Option, Some, None, Result, Ok, Err, is_some, is_none, option_map, slice_get}
 use Rattle.std.specs.List.{list_any, range_with_len}
 use Rattle.std.specs.Net.Socket.{socket_ip}
 use Rattle.std.specs.Option.{option_map_or}
@@ -14,9 +15,14 @@ use Rattle.turn_types.specs.Send.{send_indication}
 use Rattle.turn_types.specs.declared.family.AddressFamily.{AddressFamily}
 use Rattle.turn_agent.specs.Agent.{same_address}
 use Rattle.turn_client_api.specs.Config.{same_family}
-use Rattle.turn_client_api.specs.State.{State, Phase, Allocated, Closed, Grant, Permission, Channel, Connect, Connection, DataConnection, Relay, Progress, Pending, Active, Reserved, Origin, ServerRequest, ForRefresh, ForPermission, ForChannel, ForConnect, ForBind, Waiting, later_by}
-use Rattle.turn_client_api.specs.Grants.{allocations, find_allocation_to, as_connection, family_of, family_of_ip, in_sequence, is_channel_of, is_past, has_active_permission, as_offer, permission_state, same_transport, with_allocations, with_expired, with_grant, with_more_grants, without_grants}
-use Rattle.turn_client_api.specs.Requests.{request_started, connection_timed_out, id_used, fresh_id, lifetime_attribute, message_of, queued, refresh_method, request_for, requested, signed, to_server, accepted_reply, refused_reply, replied}
+use Rattle.turn_client_api.specs.State.{State, Phase, Allocated, Closed, Grant, Permission, Channel, Connect, Connection, DataConnection, Relay, Progress}
+use Rattle.turn_client_api.specs.State.{Pending, Active, Reserved, Origin, ServerRequest, ForRefresh, ForPermission, ForChannel, ForConnect, ForBind, Waiting}
+use Rattle.turn_client_api.specs.State.{later_by}
+use Rattle.turn_client_api.specs.Grants.{allocations, find_allocation_to, as_connection, family_of, family_of_ip, in_sequence, is_channel_of, is_past}
+use Rattle.turn_client_api.specs.Grants.{has_active_permission, as_offer, permission_state, same_transport, with_allocations, with_expired, with_grant}
+use Rattle.turn_client_api.specs.Grants.{with_more_grants, without_grants}
+use Rattle.turn_client_api.specs.Requests.{request_started, connection_timed_out, id_used, fresh_id, lifetime_attribute, message_of, queued, refresh_method}
+use Rattle.turn_client_api.specs.Requests.{request_for, requested, signed, to_server, accepted_reply, refused_reply, replied}
 use Rattle.turn_client_api.specs.Effect.{closed, fail_all}
 use Rattle.turn_client_api.specs.Retry.{bind_time}
 use Rattle.turn_client_api.specs.Connections.{connection_at, is_connected, is_connecting}

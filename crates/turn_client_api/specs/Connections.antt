@@ -1,5 +1,6 @@
 -- Data connections to peers (RFC 6062).
-use Rattle.std.specs.Prelude.{ℕ, ◌==◌, nat_lt, Bool, true, false, not, ◌&&◌, ◌||◌, if◌then◌else◌, List, [], ◌∷◌, ◌++◌, map, filter, find, filter_map, length, codes, Option, Some, None, is_some}
+use Rattle.std.specs.Prelude.{ℕ, ◌==◌, nat_lt, Bool, true, false, not, ◌&&◌, ◌||◌, if◌then◌else◌, List, [], ◌∷◌, ◌++◌, map, filter, find, filter_map, length}
+use Rattle.std.specs.Prelude.{codes, Option, Some, None, is_some}
 use Rattle.std.specs.List.{list_any}
 use Rattle.std.specs.Net.Socket.{socket_ip}
 use Rattle.std.specs.declared.net.socket_addr.SocketAddr.{SocketAddr}
@@ -7,9 +8,11 @@ use Rattle.turn_stun.specs.Message.{id_of}
 use Rattle.turn_stun.specs.declared.transport.TransportType.TheVariants.{Tcp}
 use Rattle.turn_auth.specs.LongTerm.{Challenge}
 use Rattle.turn_agent.specs.Agent.{same_address}
-use Rattle.turn_client_api.specs.State.{State, Phase, Allocated, Grant, Offer, Connection, DataConnection, Origin, ServerRequest, ServerIndication, Mode, Bound, Stream, Purpose, later_by}
+use Rattle.turn_client_api.specs.State.{State, Phase, Allocated, Grant, Offer, Connection, DataConnection, Origin, ServerRequest, ServerIndication, Mode, Bound}
+use Rattle.turn_client_api.specs.State.{Stream, Purpose, later_by}
 use Rattle.std.specs.Option.{option_map_or}
-use Rattle.turn_client_api.specs.Grants.{find_allocation_to, as_connection, is_connect_to, is_connection_from, has_active_permission, as_offer, purposes_of, unlisted, without_grants, wait}
+use Rattle.turn_client_api.specs.Grants.{find_allocation_to, as_connection, is_connect_to, is_connection_from, has_active_permission, as_offer, purposes_of}
+use Rattle.turn_client_api.specs.Grants.{unlisted, without_grants, wait}
 use Rattle.turn_client_api.specs.Requests.{bad_request, connection_already_exists, fresh_id, requested, refused_reply, replied, connection_bind_method}
 use Rattle.turn_client_api.specs.Judgement.{Judgement, Challenged, SignedSuccess, SignedError, bind_judgement, is_bind_of, connection_id_in, peer_in, method_in}
 use Rattle.turn_client_api.specs.Effect.{transaction_ended, with_offer}

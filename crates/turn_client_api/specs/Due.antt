@@ -1,9 +1,11 @@
 -- When something is due (RFC 8656, sections 7 to 12).
-use Rattle.std.specs.Prelude.{ℕ, ◌-◌, ◌/◌, min, max, nat_le, nat_lt, Bool, true, false, not, ◌&&◌, ◌||◌, if◌then◌else◌, List, [], ◌∷◌, ◌++◌, map, flat_map, fold, length, Option, Some, None, option_and_then, option_to_list}
+use Rattle.std.specs.Prelude.{ℕ, ◌-◌, ◌/◌, min, max, nat_le, nat_lt, Bool, true, false, not, ◌&&◌, ◌||◌, if◌then◌else◌, List, [], ◌∷◌, ◌++◌, map, flat_map}
+use Rattle.std.specs.Prelude.{fold, length, Option, Some, None, option_and_then, option_to_list}
 use Rattle.std.specs.Option.{option_map_or}
 use Rattle.std.specs.List.{list_any}
 use Rattle.turn_agent.specs.Agent.{transaction_timeout}
-use Rattle.turn_client_api.specs.State.{State, Phase, New, Grant, Allocation, Permission, Channel, Connection, Relay, Active, agent_of, max_time, later_by, seconds}
+use Rattle.turn_client_api.specs.State.{State, Phase, New, Grant, Allocation, Permission, Channel, Connection, Relay, Active, agent_of, max_time, later_by}
+use Rattle.turn_client_api.specs.State.{seconds}
 use Rattle.turn_client_api.specs.Grants.{find_allocation, family_of_grant, has_request}
 use Rattle.turn_client_api.specs.Calls.{is_allocated}
 

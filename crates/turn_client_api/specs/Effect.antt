@@ -1,6 +1,7 @@
 -- What the server's reply to a request changes (RFC 8656, sections 7.3 to 12.3, and RFC 6062, section
 -- 4.3).
-use Rattle.std.specs.Prelude.{ℕ, ◌==◌, nat_le, Bool, true, false, not, ◌&&◌, ◌||◌, if◌then◌else◌, List, [], ◌∷◌, map, filter, fold, length, Option, Some, None, is_some}
+use Rattle.std.specs.Prelude.{ℕ, ◌==◌, nat_le, Bool, true, false, not, ◌&&◌, ◌||◌, if◌then◌else◌, List, [], ◌∷◌, map, filter, fold, length, Option, Some, None}
+use Rattle.std.specs.Prelude.{is_some}
 use Rattle.std.specs.List.{list_any}
 use Rattle.std.specs.Option.{option_map_or}
 use Rattle.std.specs.declared.net.ip_addr.IpAddr.{IpAddr}
@@ -12,11 +13,15 @@ use Rattle.turn_types.specs.declared.family.AddressFamily.{AddressFamily}
 use Rattle.turn_types.specs.declared.family.AddressFamily.TheVariants.{IPV4, IPV6}
 use Rattle.turn_auth.specs.Challenge.{code_in}
 use Rattle.turn_agent.specs.Agent as A
-use Rattle.turn_client_api.specs.State.{State, Phase, Allocated, Closed, Grant, Allocation, Permission, Channel, Offer, Origin, OwnConnect, Progress, Pending, Active, Reserved, Purpose, ForAllocation, ForRefresh, ForPermission, ForChannel, ForConnect, later_by, seconds}
-use Rattle.turn_client_api.specs.Grants.{as_allocation, channel_at, first_in, in_sequence, is_channel_of, is_connect_to, is_for_any, is_of, is_of_family, is_pending_permission, is_permission_of, permission_state, purposes_of, is_for_allocation, unlisted, without_grants, with_allocations, with_grant, with_more_grants, jump, wait, failures_among}
+use Rattle.turn_client_api.specs.State.{State, Phase, Allocated, Closed, Grant, Allocation, Permission, Channel, Offer, Origin, OwnConnect, Progress, Pending}
+use Rattle.turn_client_api.specs.State.{Active, Reserved, Purpose, ForAllocation, ForRefresh, ForPermission, ForChannel, ForConnect, later_by, seconds}
+use Rattle.turn_client_api.specs.Grants.{as_allocation, channel_at, first_in, in_sequence, is_channel_of, is_connect_to, is_for_any, is_of, is_of_family}
+use Rattle.turn_client_api.specs.Grants.{is_pending_permission, is_permission_of, permission_state, purposes_of, is_for_allocation, unlisted, without_grants}
+use Rattle.turn_client_api.specs.Grants.{with_allocations, with_grant, with_more_grants, jump, wait, failures_among}
 use Rattle.turn_client_api.specs.Requests.{relayed_kind, requested}
 use Rattle.turn_client_api.specs.Judgement.{lifetime_in, connection_id_in}
-use Rattle.turn_client_api.specs.declared.event.TurnEvent.TheVariants.{AllocationCreated, AllocationCreateFailed, PermissionCreated, PermissionCreateFailed, ChannelCreated, ChannelCreateFailed, TcpConnectFailed}
+use Rattle.turn_client_api.specs.declared.event.TurnEvent.TheVariants.{AllocationCreated, AllocationCreateFailed, PermissionCreated, PermissionCreateFailed}
+use Rattle.turn_client_api.specs.declared.event.TurnEvent.TheVariants.{ChannelCreated, ChannelCreateFailed, TcpConnectFailed}
 
 -- ---- numbers of the standards
 

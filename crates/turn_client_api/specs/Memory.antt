@@ -7,7 +7,8 @@ use Rattle.turn_types.specs.Frames.{frame_len}
 use Rattle.turn_client_api.specs.State.{State, DataConnection, Mode, Control, Waiting, Bound, Broken, Stream}
 use Rattle.turn_client_api.specs.Grants.{purposes_of}
 use Rattle.turn_client_api.specs.Requests.{connection_attempt_method, connection_bind_method}
-use Rattle.turn_client_api.specs.Judgement.{Judgement, Unrelated, Challenged, Fatal, LateResponse, DataIndication, ConnectionAttempt, SignedRequest, SignedSuccess, SignedError, bind_judgement, judgement_of, method_in}
+use Rattle.turn_client_api.specs.Judgement.{Judgement, Unrelated, Challenged, Fatal, LateResponse, DataIndication, ConnectionAttempt, SignedRequest}
+use Rattle.turn_client_api.specs.Judgement.{SignedSuccess, SignedError, bind_judgement, judgement_of, method_in}
 use Rattle.turn_client_api.specs.Retry.{max_challenges, retried}
 use Rattle.turn_client_api.specs.Connections.{attempt_indicated, connection_at}
 use Rattle.turn_client_api.specs.Payloads.{is_message}

@@ -13,7 +13,8 @@ use Rattle.turn_auth.specs.LongTerm.{Challenge}
 use Rattle.turn_client_api.specs.State.{State, Phase, Requesting, Authenticating, Purpose, ForBind}
 use Rattle.turn_client_api.specs.Grants.{channel_peer, first_in, has_active_permission, purposes_of}
 use Rattle.turn_client_api.specs.Requests.{fresh_id, method_for, refresh_method, connection_attempt_method}
-use Rattle.turn_client_api.specs.Judgement.{Judgement, Unrelated, Challenged, Fatal, LateResponse, DataIndication, ConnectionAttempt, SignedRequest, SignedSuccess, SignedError, judgement_of, method_in, has_unknown, last_in, last_peer_in, last_icmp_in}
+use Rattle.turn_client_api.specs.Judgement.{Judgement, Unrelated, Challenged, Fatal, LateResponse, DataIndication, ConnectionAttempt, SignedRequest}
+use Rattle.turn_client_api.specs.Judgement.{SignedSuccess, SignedError, judgement_of, method_in, has_unknown, last_in, last_peer_in, last_icmp_in}
 use Rattle.turn_client_api.specs.Effect.{allocate_granted, allocate_denied, effect, transaction_ended, closed, fail_all}
 use Rattle.turn_client_api.specs.Retry.{max_challenges, retried, state_after_retry}
 use Rattle.turn_client_api.specs.Connections.{attempt_requested, attempt_indicated}

@@ -1,12 +1,16 @@
 -- What a client does as time passes (RFC 8656, sections 8 to 12; RFC 6062, section 4.3).
-use Rattle.std.specs.Prelude.{ℕ, nat_le, nat_lt, Bool, true, false, not, ◌&&◌, ◌||◌, if◌then◌else◌, List, [], ◌∷◌, ◌++◌, map, filter, find, filter_map, fold, reverse, slice_get, Option, Some, None, is_some}
+use Rattle.std.specs.Prelude.{ℕ, nat_le, nat_lt, Bool, true, false, not, ◌&&◌, ◌||◌, if◌then◌else◌, List, [], ◌∷◌, ◌++◌, map, filter, find, filter_map, fold}
+use Rattle.std.specs.Prelude.{reverse, slice_get, Option, Some, None, is_some}
 use Rattle.std.specs.List.{list_any}
 use Rattle.std.specs.Option.{option_map_or}
 use Rattle.std.specs.declared.net.socket_addr.SocketAddr.{SocketAddr}
 use Rattle.turn_types.specs.declared.family.AddressFamily.{AddressFamily}
 use Rattle.turn_agent.specs.Agent.{timed_out_transaction}
-use Rattle.turn_client_api.specs.State.{State, Phase, New, Requesting, Authenticating, Allocated, Closed, Grant, Allocation, Permission, Channel, Offer, Connection, Relay, DataOffer, Active, Reserved, Purpose, agent_of}
-use Rattle.turn_client_api.specs.Grants.{allocations, family_of, failures_among, first_in, as_connection, has_request, in_sequence, is_connect, is_for_allocation, is_for_any, is_of, is_of_family, is_of_request, is_past, is_pending_channel, is_pending_permission, jump, purposes_of, unlisted, without_grants}
+use Rattle.turn_client_api.specs.State.{State, Phase, New, Requesting, Authenticating, Allocated, Closed, Grant, Allocation, Permission, Channel, Offer}
+use Rattle.turn_client_api.specs.State.{Connection, Relay, DataOffer, Active, Reserved, Purpose, agent_of}
+use Rattle.turn_client_api.specs.Grants.{allocations, family_of, failures_among, first_in, as_connection, has_request, in_sequence, is_connect}
+use Rattle.turn_client_api.specs.Grants.{is_for_allocation, is_for_any, is_of, is_of_family, is_of_request, is_past, is_pending_channel, is_pending_permission}
+use Rattle.turn_client_api.specs.Grants.{jump, purposes_of, unlisted, without_grants}
 use Rattle.turn_client_api.specs.Effect.{closed, transaction_ended, reserved, without_families}
 use Rattle.turn_client_api.specs.Calls.{is_allocated}
 use Rattle.turn_client_api.specs.Due.{has_event, has_reply, next_wakeup}

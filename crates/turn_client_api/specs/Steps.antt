@@ -1,17 +1,20 @@
 -- Each call of a client, and the state after it.
-use Rattle.std.specs.Prelude.{◌≡◌, ◌⊎◌, ℕ, false, List}
+use Rattle.std.specs.Prelude.{◌≡◌, ◌⊎◌, ℕ, false, List, [], ◌∷◌}
 use Rattle.turn_stun.specs.declared.transport.Transmit.{Transmit}
 use Rattle.turn_client_api.specs.Payloads.{Outcome}
 use Rattle.turn_client_api.specs.State.{State}
 use Rattle.turn_client_api.specs.Effect.{closed}
 use Rattle.turn_client_api.specs.Streams.{poll_recv_step}
 use Rattle.turn_client_api.specs.Receive.{recv_step, tcp_closed_step}
-use Rattle.turn_client_api.specs.Calls.{allocated_tcp_socket_step, bind_channel_step, create_permission_step, delete_step, protocol_error_step, send_to_step, tcp_connect_step}
+use Rattle.turn_client_api.specs.Calls.{allocated_tcp_socket_step, bind_channel_step, create_permission_step, delete_step, protocol_error_step, send_to_step}
+use Rattle.turn_client_api.specs.Calls.{tcp_connect_step}
 use Rattle.turn_client_api.specs.Poll.{poll_step}
 use Rattle.turn_client_api.specs.Transmit.{transmit_step}
 use Rattle.turn_client_api.specs.Answers.{EndsAfterSteps, RecvEnds, event_step, takes_no_memory}
 pub use Rattle.turn_client_api.specs.declared.call.Call.{Call}
-pub use Rattle.turn_client_api.specs.declared.call.Call.TheVariants.{Delete, CreatePermission, BindChannel, TcpConnect, AllocatedTcpSocket, TcpClosed, SendTo, Recv, PollRecv, Poll, PollTransmit, PollEvent, ProtocolError, RelayedAddresses, Permissions, HavePermission}
+pub use Rattle.turn_client_api.specs.declared.call.Call.TheVariants.{Delete, CreatePermission, BindChannel, TcpConnect, AllocatedTcpSocket, TcpClosed, SendTo}
+pub use Rattle.turn_client_api.specs.declared.call.Call.TheVariants.{Recv, PollRecv, Poll, PollTransmit, PollEvent, ProtocolError, RelayedAddresses}
+pub use Rattle.turn_client_api.specs.declared.call.Call.TheVariants.{Permissions, HavePermission}
 
 -- what a packet, or a piece of a stream, does
 abbrev pub packet_step : Transmit (List ℕ) → ℕ → State → Outcome × State

@@ -1,10 +1,12 @@
 -- What a client sends next (RFC 8489, section 6.2; RFC 8656, sections 8 to 12).
-use Rattle.std.specs.Prelude.{ℕ, ◌==◌, slice_get, drop, nat_le, nat_lt, Bool, false, ◌&&◌, if◌then◌else◌, List, [], ◌∷◌, filter, filter_map, flat_map, Option, Some, None}
+use Rattle.std.specs.Prelude.{ℕ, ◌==◌, slice_get, drop, nat_le, nat_lt, Bool, false, ◌&&◌, if◌then◌else◌, List, [], ◌∷◌, filter, filter_map, flat_map, Option}
+use Rattle.std.specs.Prelude.{Some, None}
 use Rattle.turn_stun.specs.declared.transport.Transmit.{Transmit}
 use Rattle.std.specs.Option.{option_map_or}
 use Rattle.turn_types.specs.declared.family.AddressFamily.{AddressFamily}
 use Rattle.turn_agent.specs.Agent.{due, resent}
-use Rattle.turn_client_api.specs.State.{State, Phase, New, Requesting, Allocated, Grant, Allocation, Permission, Channel, Relay, Active, Purpose, ForAllocation, ForRefresh, ForPermission, ForChannel, Queued, agent_of}
+use Rattle.turn_client_api.specs.State.{State, Phase, New, Requesting, Allocated, Grant, Allocation, Permission, Channel, Relay, Active, Purpose, ForAllocation}
+use Rattle.turn_client_api.specs.State.{ForRefresh, ForPermission, ForChannel, Queued, agent_of}
 use Rattle.turn_client_api.specs.Grants.{allocations, family_of, is_of}
 use Rattle.turn_client_api.specs.Requests.{request_started, asked_lifetime, first_allocate, fresh_id, request_for, to_server}
 use Rattle.turn_client_api.specs.Due.{is_paused, refresh_time}

@@ -6,13 +6,15 @@ ghost use Rattle.turn_stun.specs.declared.transport.TransportType.TheVariants.{U
 ghost use Rattle.turn_client_api.specs.State.{State, Requesting};
 ghost use Rattle.turn_client_api.specs.Addresses.{relayed_left, permitted_left};
 ghost use Rattle.turn_client_api.specs.Effect.{closed};
-ghost use Rattle.turn_client_api.specs.Calls.{allocated_tcp_socket_step, bind_channel_step, create_permission_step, delete_step, can_send_to, permissions_of, protocol_error_step, relayed_addresses_of, send_to_step, tcp_connect_step};
+ghost use Rattle.turn_client_api.specs.Calls.{allocated_tcp_socket_step, bind_channel_step, create_permission_step, delete_step, can_send_to, permissions_of};
+ghost use Rattle.turn_client_api.specs.Calls.{protocol_error_step, relayed_addresses_of, send_to_step, tcp_connect_step};
 ghost use Rattle.turn_client_api.specs.Receive.{recv_step, tcp_closed_step};
 ghost use Rattle.turn_client_api.specs.Streams.{HoldsLittle, poll_recv_step};
 ghost use Rattle.turn_client_api.specs.Poll.{poll_step};
 ghost use Rattle.turn_client_api.specs.Transmit.{next_transmit, transmit_step};
 ghost use Rattle.turn_client_api.specs.Alarm.{IsTimely};
-ghost use Rattle.turn_client_api.specs.Answers.{BindsChannel, Connects, CreatesPermission, Deletes, EndsAfterSteps, HandsBack, IsNoWay, IsSent, RecvEnds, TakesSocket, event_step, given_payload, outcome_of, takes_no_memory};
+ghost use Rattle.turn_client_api.specs.Answers.{BindsChannel, Connects, CreatesPermission, Deletes, EndsAfterSteps, HandsBack, IsNoWay, IsSent, RecvEnds};
+ghost use Rattle.turn_client_api.specs.Answers.{TakesSocket, event_step, given_payload, outcome_of, takes_no_memory};
 
 use crate::addresses::{PermissionAddressesIter, RelayedAddressesIter};
 use crate::error::{

@@ -96,7 +96,8 @@ module _ (lifetime now : ℕ) where
   all-new (a ∷ others) = all-new others
 
   -- an address of a family that is no longer requested is not taken again
-  apart-from : (a : SocketAddr) (families : List AddressFamily) (addresses : List SocketAddr) → list_any (λ family. is_of_family family a) families ≡ false → list_all (has_no_double (new_allocation lifetime now a ∷ [])) (grants_of (taken_addresses families addresses)) ≡ true
+  apart-from : (a : SocketAddr) (families : List AddressFamily) (addresses : List SocketAddr) → list_any (λ family. is_of_family family a) families ≡ false
+      → list_all (has_no_double (new_allocation lifetime now a ∷ [])) (grants_of (taken_addresses families addresses)) ≡ true
   apart-from a families [] none = refl
   apart-from a families (b ∷ later) none = by (list_any (λ family. is_of_family family b) families) refl (apart-from a families later none) (apart-from a rest later (none-left _ _ families none))
     where

@@ -106,7 +106,8 @@ others-broken to Control stream piece now was s e broken local here ends = cc
 others-broken to Waiting stream piece now was s e broken local here ends = cc
 others-broken to (Bound peer) stream piece now was s e broken local here ends = cc
 
-pub broken-ends : (to : SocketAddr) (piece : List ℕ) (now : ℕ) (was s : State) → was.transport ≡ Tcp → option_map_or (λ (x : Stream). is_broken x.mode) (stream_at to was) false ≡ true → 0 < length piece
+pub broken-ends : (to : SocketAddr) (piece : List ℕ) (now : ℕ) (was s : State) → was.transport ≡ Tcp → option_map_or (λ (x : Stream). is_broken x.mode) (stream_at to was) false ≡ true
+    → 0 < length piece
     → (same_address to was.local ≡ true) × EndsAfterSteps now was s → RecvEnds to piece now was s
 broken-ends to piece now was s over e some (here, ends) = by (stream_at to was) refl e
   where
@@ -121,7 +122,8 @@ err-then (Err e) f h = f h
 
 -- ---- the end of a stream
 
-pub end-at : (to local : SocketAddr) (now : ℕ) (s : State) → Some local ≡ option_map (λ (x : Stream). x.local) (stream_at to s) → piece_at to [] now s ≡ (Handled, without_stream local (connection_gone local s))
+pub end-at : (to local : SocketAddr) (now : ℕ) (s : State) → Some local ≡ option_map (λ (x : Stream). x.local) (stream_at to s)
+    → piece_at to [] now s ≡ (Handled, without_stream local (connection_gone local s))
 end-at to local now s e = by (stream_at to s) refl e
   where
     by : (o : Option Stream) → stream_at to s ≡ o → Some local ≡ option_map (λ (x : Stream). x.local) o → piece_at to [] now s ≡ (Handled, without_stream local (connection_gone local s))

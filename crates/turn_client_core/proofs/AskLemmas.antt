@@ -25,12 +25,16 @@ with_outbox o s = record s {
 }
 
 -- the ledger was this client's
-pub asked-is : (s : State) (was ledger : Ledger) (id : ℕ) (from : SocketAddr) (text : List ℕ) (purposes : List Purpose) (now : ℕ) (step : State → State) → with_ledger was s ≡ s → Asks id purposes now step was ledger s text → queued true from text (with_ledger ledger (request_started id text purposes now s)) ≡ queued true from text (request_started id text purposes now (step s))
+pub asked-is : (s : State) (was ledger : Ledger) (id : ℕ) (from : SocketAddr) (text : List ℕ) (purposes : List Purpose) (now : ℕ) (step : State → State) → with_ledger was s ≡ s
+    → Asks id purposes now step was ledger s text → queued true from text (with_ledger ledger (request_started id text purposes now s)) ≡ queued true from text
+    (request_started id text purposes now (step s))
 asked-is s was ledger id from text purposes now step same made =
     ap (queued true from text) (made ∙ ap (λ t. request_started id text purposes now (step t)) same)
 
-pub asks-is : (s : State) (id : ℕ) (from : SocketAddr) (text : List ℕ) (purpose : Purpose) (purposes : List Purpose) (grants : List Grant) (now : ℕ) → text ≡ request_for s purpose id → from ≡ sent_from s purpose → id ≡ fresh_id s → queued true from text (request_started id text purposes now (with_more_grants grants s)) ≡ asks purpose purposes grants now s
+pub asks-is : (s : State) (id : ℕ) (from : SocketAddr) (text : List ℕ) (purpose : Purpose) (purposes : List Purpose) (grants : List Grant) (now : ℕ) → text ≡ request_for s purpose id
+    → from ≡ sent_from s purpose → id ≡ fresh_id s → queued true from text (request_started id text purposes now (with_more_grants grants s)) ≡ asks purpose purposes grants now s
 asks-is s id from text purpose purposes grants now is sent next = rw (is, sent, next) refl
 
-pub deletes-is : (s : State) (id : ℕ) (from : SocketAddr) (text : List ℕ) (now : ℕ) → text ≡ delete_text s → from ≡ s.local → id ≡ fresh_id s → queued true from text (request_started id text (all_back s) now (expired_now now s)) ≡ deleted now s
+pub deletes-is : (s : State) (id : ℕ) (from : SocketAddr) (text : List ℕ) (now : ℕ) → text ≡ delete_text s → from ≡ s.local → id ≡ fresh_id s
+    → queued true from text (request_started id text (all_back s) now (expired_now now s)) ≡ deleted now s
 deletes-is s id from text now is sent next = rw (is, sent, next) refl

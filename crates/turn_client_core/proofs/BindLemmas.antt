@@ -28,13 +28,15 @@ found_any p (x ∷ xs) = by (p x) refl (found_any p xs)
 
 -- ---- a challenge is answered
 
-pub bind-asked : (s : State) (d : DataConnection) (id fresh : ℕ) (from : SocketAddr) (text : List ℕ) (purpose : Purpose) (challenge : Challenge) (now : ℕ) → find (is_bind_of d.local) (purposes_of id s) ≡ Some purpose → text ≡ request_for (with_held challenge s) purpose fresh → from ≡ sent_from s purpose → fresh ≡ fresh_id s
+pub bind-asked : (s : State) (d : DataConnection) (id fresh : ℕ) (from : SocketAddr) (text : List ℕ) (purpose : Purpose) (challenge : Challenge) (now : ℕ)
+    → find (is_bind_of d.local) (purposes_of id s) ≡ Some purpose → text ≡ request_for (with_held challenge s) purpose fresh → from ≡ sent_from s purpose → fresh ≡ fresh_id s
     → queued true from text (request_started fresh text (purpose ∷ []) now (bind_retried d.local now (with_held challenge s))) ≡ bind_again d id challenge now s
 bind-asked s d id fresh from text purpose challenge now found is sent next = rw (found, is, sent, next) refl
 
 -- ---- a message that does not bind the connection ends it
 
-pub not_bound-otherwise : (d : DataConnection) (message : List ℕ) (now : ℕ) (s : State) → (kind_of (bind_judgement s d.local message) ≡ Challenged → ⊥) → (kind_of (bind_judgement s d.local message) ≡ SignedSuccess → ⊥)
+pub not_bound-otherwise : (d : DataConnection) (message : List ℕ) (now : ℕ) (s : State) → (kind_of (bind_judgement s d.local message) ≡ Challenged → ⊥)
+    → (kind_of (bind_judgement s d.local message) ≡ SignedSuccess → ⊥)
     → (kind_of (bind_judgement s d.local message) ≡ SignedError → ⊥) → bind_answered d message now s ≡ not_bound d s
 not_bound-otherwise d message now s = by (bind_judgement s d.local message) refl
   where

@@ -11,8 +11,10 @@ use Rattle.turn_client_api.specs.State.{State}
 use Rattle.turn_client_api.specs.declared.error.TcpConnectError.TheVariants as Join
 use Rattle.turn_client_api.specs.declared.grant.Relay.{Relay}
 
-pub past-is : {E : Type 0} (found : Option Relay) (relay : Relay) (ip : IpAddr) (now : ℕ) (refusal : E) (s : State) (otherwise : Result Unit E × State) → found ≡ Some relay → nat_le relay.expiry now ≡ true → in_allocation found ip now refusal s otherwise ≡ (Err refusal, with_expired (family_of_ip ip) s)
+pub past-is : {E : Type 0} (found : Option Relay) (relay : Relay) (ip : IpAddr) (now : ℕ) (refusal : E) (s : State) (otherwise : Result Unit E × State) → found ≡ Some relay
+    → nat_le relay.expiry now ≡ true → in_allocation found ip now refusal s otherwise ≡ (Err refusal, with_expired (family_of_ip ip) s)
 past-is found relay ip now refusal s otherwise is past = rw (is, past) refl
 
-pub connected-is : (peer : SocketAddr) (now : ℕ) (s : State) → is_allocated s.phase ≡ true → has_active_permission (socket_ip peer) s ≡ true → (is_connected peer s || is_connecting peer s) ≡ true → connect_step peer now s ≡ (Err Join.AlreadyExists, s)
+pub connected-is : (peer : SocketAddr) (now : ℕ) (s : State) → is_allocated s.phase ≡ true → has_active_permission (socket_ip peer) s ≡ true → (is_connected peer s || is_connecting peer s) ≡ true
+    → connect_step peer now s ≡ (Err Join.AlreadyExists, s)
 connected-is peer now s allocated permitted connected = rw (allocated, permitted, connected) refl

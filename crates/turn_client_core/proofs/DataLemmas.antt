@@ -21,7 +21,8 @@ use Rattle.turn_client_core.specs.declared.protocol_recv.TurnProtocolRecv.{TurnP
 use Rattle.turn_client_core.specs.declared.protocol_recv.TurnProtocolRecv.TheVariants as T
 
 module _ (s : State) (message : List ℕ) where
-  outcome-if_permitted : (has_active_permission : Bool) (told : TurnProtocolRecv) → outcome_in message (if_permitted has_active_permission told) ≡ (if has_active_permission then outcome_in message told else Ignored)
+  outcome-if_permitted : (has_active_permission : Bool) (told : TurnProtocolRecv)
+      → outcome_in message (if_permitted has_active_permission told) ≡ (if has_active_permission then outcome_in message told else Ignored)
   outcome-if_permitted true told = refl
   outcome-if_permitted false told = refl
 
@@ -35,10 +36,12 @@ module _ (s : State) (message : List ℕ) where
     abbrev permitted : Bool
     permitted = has_active_permission (socket_ip peer) s
 
-    data_at : (a : Attribute) → last_in data_kind message ≡ Some a → HoldsValue message a → outcome_in message (if_permitted permitted (T.PeerData s.config.allocation_transport peer (value_place a))) ≡ data_indicated s message
+    data_at : (a : Attribute) → last_in data_kind message ≡ Some a → HoldsValue message a
+        → outcome_in message (if_permitted permitted (T.PeerData s.config.allocation_transport peer (value_place a))) ≡ data_indicated s message
     data_at a data_is holds = outcome-if_permitted permitted (T.PeerData s.config.allocation_transport peer (value_place a)) ∙ rw (known, peer_is, data_is, holds) refl
 
-    pub data-is : (found : Option Attribute) (place : Range ℕ) → found ≡ last_in data_kind message → IfSome (last_in data_kind message) (HoldsValue message) → option_map value_place found ≡ Some place → outcome_in message (if_permitted permitted (T.PeerData s.config.allocation_transport peer place)) ≡ data_indicated s message
+    pub data-is : (found : Option Attribute) (place : Range ℕ) → found ≡ last_in data_kind message → IfSome (last_in data_kind message) (HoldsValue message)
+        → option_map value_place found ≡ Some place → outcome_in message (if_permitted permitted (T.PeerData s.config.allocation_transport peer place)) ≡ data_indicated s message
     data-is None place is holds e = cc
     data-is (Some a) place is holds e =
         let here : HoldsValue message a = subst (λ found. IfSome found (HoldsValue message)) (sym is) holds in
@@ -49,11 +52,13 @@ module _ (s : State) (message : List ℕ) where
     no_data None is e = sym is
     no_data (Some a) is e = cc
 
-    icmp_at : (icmp : Option Icmp) → last_in data_kind message ≡ None → icmp ≡ last_icmp_in message → outcome_in message (option_map_or (λ icmp. if_permitted permitted (T.PeerIcmp s.config.allocation_transport peer icmp)) icmp T.Ignored) ≡ data_indicated s message
+    icmp_at : (icmp : Option Icmp) → last_in data_kind message ≡ None → icmp ≡ last_icmp_in message
+        → outcome_in message (option_map_or (λ icmp. if_permitted permitted (T.PeerIcmp s.config.allocation_transport peer icmp)) icmp T.Ignored) ≡ data_indicated s message
     icmp_at None none is = rw (known, peer_is, none, ← is) refl
     icmp_at (Some icmp) none is = outcome-if_permitted permitted (T.PeerIcmp s.config.allocation_transport peer icmp) ∙ rw (known, peer_is, none, ← is) refl
 
-    pub icmp-is : (icmp : Option Icmp) (found : Option Attribute) → found ≡ last_in data_kind message → option_map value_place found ≡ None → icmp ≡ last_icmp_in message → outcome_in message (option_map_or (λ icmp. if_permitted permitted (T.PeerIcmp s.config.allocation_transport peer icmp)) icmp T.Ignored) ≡ data_indicated s message
+    pub icmp-is : (icmp : Option Icmp) (found : Option Attribute) → found ≡ last_in data_kind message → option_map value_place found ≡ None → icmp ≡ last_icmp_in message
+        → outcome_in message (option_map_or (λ icmp. if_permitted permitted (T.PeerIcmp s.config.allocation_transport peer icmp)) icmp T.Ignored) ≡ data_indicated s message
     icmp-is icmp found is e = icmp_at icmp (no_data found is e)
 
 -- ---- ChannelData messages
@@ -68,7 +73,8 @@ module _ (s : State) (frame : List ℕ) where
   payload-at =
       ap (λ n. take n (drop 4 frame)) (omega arith) ∙ take-front (u16_at frame 2) (drop 4 frame)
 
-  pub channel-is : (channel : Channel) → channel ≡ channel_frame_at frame → (peer : SocketAddr) → first_in (channel_peer channel.id) s ≡ Some peer → outcome_in frame (T.PeerData s.config.allocation_transport peer (record { start = 4; end = 4 + length channel.payload })) ≡ channel_sent s frame
+  pub channel-is : (channel : Channel) → channel ≡ channel_frame_at frame → (peer : SocketAddr) → first_in (channel_peer channel.id) s ≡ Some peer
+      → outcome_in frame (T.PeerData s.config.allocation_transport peer (record { start = 4; end = 4 + length channel.payload })) ≡ channel_sent s frame
   channel-is channel is peer e =
       let at : first_in (channel_peer (channel_frame_at frame).id) s ≡ Some peer = subst (λ channel. first_in (channel_peer channel.id) s ≡ Some peer) is e in
       rw (is, at, payload-at) refl

@@ -125,7 +125,8 @@ none-emptied : (local : SocketAddr) (xs : List Stream) → find is_ready xs ≡ 
 none-emptied local [] e = refl
 none-emptied local (x ∷ xs) e = by (is_ready x) refl (none-emptied local xs) e
   where
-    by : (b : Bool) → is_ready x ≡ b → (find is_ready xs ≡ None → find is_ready (map (emptied local) xs) ≡ None) → cond b (Some x) (find is_ready xs) ≡ None → find is_ready (map (emptied local) (x ∷ xs)) ≡ None
+    by : (b : Bool) → is_ready x ≡ b → (find is_ready xs ≡ None → find is_ready (map (emptied local) xs) ≡ None) → cond b (Some x) (find is_ready xs) ≡ None
+        → find is_ready (map (emptied local) (x ∷ xs)) ≡ None
     by true f later g = cc
     by false f later g = rw (emptied-unready local x f) (later g)
 
@@ -143,7 +144,8 @@ attempt-out message local bytes s = by (connection_id_in message) (peer_in messa
     heeded peer id e f true h = rw (e, f, h) refl
     heeded peer id e f false h = rw (e, f, h) refl
 
-    by : (id : Option ℕ) (peer : Option SocketAddr) → connection_id_in message ≡ id → peer_in message ≡ peer → is_some (attempt_indicated message (with_bytes local bytes s)) ≡ is_some (attempt_indicated message s)
+    by : (id : Option ℕ) (peer : Option SocketAddr) → connection_id_in message ≡ id → peer_in message ≡ peer
+        → is_some (attempt_indicated message (with_bytes local bytes s)) ≡ is_some (attempt_indicated message s)
     by None peer e f = rw e refl
     by (Some id) None e f = rw (e, f) refl
     by (Some id) (Some peer) e f = heeded peer id e f (accepts_attempt peer s) refl
@@ -278,7 +280,8 @@ control-rests stream piece now t whole rest free =
     ∙ (ap (λ (x : Stream). with_bytes x.local x.bytes (control_frame_step piece now t).1) left ∙ ap (with_bytes stream.local []) (control-stays piece now t free)) in
     subst (λ (x : State). find is_ready x.streams ≡ None) (sym led) (emptied-rest stream.local t rest)
 
-pub free-rests : (stream : Stream) (piece : List ℕ) (now : ℕ) (t : State) → stream.mode ≡ Control → is_free_frame piece t stream ≡ true → find is_ready (fed_frame_step stream piece now t).1.streams ≡ None
+pub free-rests : (stream : Stream) (piece : List ℕ) (now : ℕ) (t : State) → stream.mode ≡ Control → is_free_frame piece t stream ≡ true
+    → find is_ready (fed_frame_step stream piece now t).1.streams ≡ None
 free-rests stream piece now t control free = let is = free-is piece t stream free in by stream.mode stream.bytes control is.waits is.whole is.rest is.takes
   where
     by : (mode : Mode) (bytes : List ℕ) → mode ≡ Control → bytes ≡ [] → frame_len piece ≡ Some (length piece) → find is_ready t.streams ≡ None
@@ -293,7 +296,8 @@ free-rests stream piece now t control free = let is = free-is piece t stream fre
 -- ---- a broken stream
 
 -- its bytes allocate no memory if no stream is ready
-pub free-broken : (to : SocketAddr) (piece : List ℕ) (s : State) → option_map_or (λ (x : Stream). is_broken x.mode) (stream_at to s) false ≡ true → piece_takes_none to piece s ≡ true → find is_ready s.streams ≡ None
+pub free-broken : (to : SocketAddr) (piece : List ℕ) (s : State) → option_map_or (λ (x : Stream). is_broken x.mode) (stream_at to s) false ≡ true → piece_takes_none to piece s ≡ true
+    → find is_ready s.streams ≡ None
 free-broken to piece s broken free = by (stream_at to s) refl broken
   where
     of : (stream : Stream) → is_broken stream.mode ≡ true → (is_free_piece piece stream ≡ true) ⊎ (is_free_frame piece s stream ≡ true) → find is_ready s.streams ≡ None

@@ -21,7 +21,8 @@ use Rattle.turn_client_core.specs.Attempts.{CanSign}
 use Rattle.turn_client_core.specs.Judged.{kind_of}
 use Rattle.turn_client_core.specs.Replies.{is_authenticating}
 use Rattle.turn_client_core.specs.declared.protocol.incoming.judge.Judged.{Judged}
-use Rattle.turn_client_core.specs.declared.protocol.incoming.judge.Judged.TheVariants.{Unrelated, Challenged, Fatal, LateResponse, DataIndication, ConnectionAttempt, SignedRequest, SignedSuccess, SignedError}
+use Rattle.turn_client_core.specs.declared.protocol.incoming.judge.Judged.TheVariants.{Unrelated, Challenged, Fatal, LateResponse, DataIndication, ConnectionAttempt, SignedRequest, SignedSuccess}
+use Rattle.turn_client_core.specs.declared.protocol.incoming.judge.Judged.TheVariants.{SignedError}
 
 -- ---- the judgement, by its kind
 
@@ -83,7 +84,8 @@ request-signs s message = by s.phase refl
   where
     by : (p : Phase) → s.phase ≡ p → judgement_of s message ≡ J.SignedRequest → CanSign s.phase
     by New e = rw e (λ h. cc)
-    by Requesting e = rw e (λ h. let no : J.Fatal ≡ J.SignedRequest = challenged_or-plain J.Fatal (challenge_in s message) J.SignedRequest (λ c e. cc) (cond-first (answers_one s message) _ J.Unrelated J.SignedRequest (λ e. cc) h).1 in cc)
+    by Requesting e = rw e (λ h. let no : J.Fatal ≡ J.SignedRequest = challenged_or-plain J.Fatal (challenge_in s message) J.SignedRequest (λ c e. cc)
+        (cond-first (answers_one s message) _ J.Unrelated J.SignedRequest (λ e. cc) h).1 in cc)
     by Authenticating e = rw e (λ h. tt)
     by Allocated e = rw e (λ h. tt)
     by Closed e = rw e (λ h. cc)
@@ -108,7 +110,8 @@ error-answers s message h e = authenticating-outstanding s message (rw e at h)
 
 -- ---- signed replies, by the phase of the client
 
-pub granted-step : (message : List ℕ) (now : ℕ) (s : State) → is_authenticating s.phase ≡ true → signed_step true message now s ≡ (Handled, allocate_granted message now (transaction_ended (id_of message) s))
+pub granted-step : (message : List ℕ) (now : ℕ) (s : State) → is_authenticating s.phase ≡ true
+    → signed_step true message now s ≡ (Handled, allocate_granted message now (transaction_ended (id_of message) s))
 granted-step message now s = by s.phase refl
   where
     by : (p : Phase) → s.phase ≡ p → is_authenticating s.phase ≡ true → signed_step true message now s ≡ (Handled, allocate_granted message now (transaction_ended (id_of message) s))
@@ -118,7 +121,8 @@ granted-step message now s = by s.phase refl
     by Allocated e = rw e (λ h. cc)
     by Closed e = rw e (λ h. cc)
 
-pub denied-step : (message : List ℕ) (now : ℕ) (s : State) → is_authenticating s.phase ≡ true → signed_step false message now s ≡ (Handled, allocate_denied (fresh_id s) message now (transaction_ended (id_of message) s))
+pub denied-step : (message : List ℕ) (now : ℕ) (s : State) → is_authenticating s.phase ≡ true
+    → signed_step false message now s ≡ (Handled, allocate_denied (fresh_id s) message now (transaction_ended (id_of message) s))
 denied-step message now s = by s.phase refl
   where
     by : (p : Phase) → s.phase ≡ p → is_authenticating s.phase ≡ true → signed_step false message now s ≡ (Handled, allocate_denied (fresh_id s) message now (transaction_ended (id_of message) s))

@@ -58,10 +58,12 @@ part-front bytes range e =
     let whole : range.end - 0 ≡ range.end = omega arith in
     ap (λ n. take (range.end - n) (drop n bytes)) e ∙ ap (λ n. take n bytes) whole
 
-pub lent-IsWithin : (bytes : List ℕ) (range : Range ℕ) (told : TurnProtocolRecv) → range.start ≡ 0 → range.end ≤ length bytes → IsRangeWithin (bytes_in_range bytes range) told → IsRangeWithin bytes told
+pub lent-IsWithin : (bytes : List ℕ) (range : Range ℕ) (told : TurnProtocolRecv) → range.start ≡ 0 → range.end ≤ length bytes → IsRangeWithin (bytes_in_range bytes range) told
+    → IsRangeWithin bytes told
 lent-IsWithin bytes range told e inside is = front-within bytes range.end told inside (subst (λ part. IsRangeWithin part told) (part-front bytes range e) is)
 
-pub lent-outcome : (bytes : List ℕ) (range : Range ℕ) (told : TurnProtocolRecv) → range.start ≡ 0 → range.end ≤ length bytes → IsRangeWithin (bytes_in_range bytes range) told → outcome_in bytes told ≡ outcome_in (bytes_in_range bytes range) told
+pub lent-outcome : (bytes : List ℕ) (range : Range ℕ) (told : TurnProtocolRecv) → range.start ≡ 0 → range.end ≤ length bytes → IsRangeWithin (bytes_in_range bytes range) told
+    → outcome_in bytes told ≡ outcome_in (bytes_in_range bytes range) told
 lent-outcome bytes range told e inside is =
     front-outcome bytes range.end told inside (subst (λ part. IsRangeWithin part told) (part-front bytes range e) is)
     ∙ ap (λ part. outcome_in part told) (sym (part-front bytes range e))

@@ -27,7 +27,8 @@ Answer = TurnPollRet × State
 
 -- ---- the next wake-up time
 
-pub least_due-is : (now : ℕ) (s : State) → fold min (fold min (fold min max_time (later_by max_wait now ∷ (if has_queued_request s then pause_end s ∷ [] else []))) (map (transaction_timeout (timers_of s.config) s.transport) s.transactions)) (flat_map (times_of now (pause_end s) s) s.grants) ≡ least_due now s
+pub least_due-is : (now : ℕ) (s : State) → fold min (fold min (fold min max_time (later_by max_wait now ∷ (if has_queued_request s then pause_end s ∷ [] else [])))
+    (map (transaction_timeout (timers_of s.config) s.transport) s.transactions)) (flat_map (times_of now (pause_end s) s) s.grants) ≡ least_due now s
 least_due-is now s =
     let queued : List ℕ = if has_queued_request s then pause_end s ∷ [] else [] in
     let sends = map (transaction_timeout (timers_of s.config) s.transport) s.transactions in
@@ -40,25 +41,30 @@ least_due-is now s =
 abbrev Given : Type 0
 Given = Option ℕ × Outgoing
 
-pub given_up-is : (now : ℕ) (s : State) (o p : Outgoing) (given : Option ℕ) → o.timers ≡ timers_of s.config → (given, p) ≡ give_up_step now o → timed_out_step now (with_outbox o s) ≡ timed_step s.phase given now (with_outbox p s)
+pub given_up-is : (now : ℕ) (s : State) (o p : Outgoing) (given : Option ℕ) → o.timers ≡ timers_of s.config → (given, p) ≡ give_up_step now o
+    → timed_out_step now (with_outbox o s) ≡ timed_step s.phase given now (with_outbox p s)
 given_up-is now s o p given times step = by (find (is_timed_out o.timers o.transport now) o.transactions) refl step
   where
-    by : (found : Option Transaction) → find (is_timed_out o.timers o.transport now) o.transactions ≡ found → (given, p) ≡ give_up_step now o → timed_out_step now (with_outbox o s) ≡ timed_step s.phase given now (with_outbox p s)
+    by : (found : Option Transaction) → find (is_timed_out o.timers o.transport now) o.transactions ≡ found → (given, p) ≡ give_up_step now o
+        → timed_out_step now (with_outbox o s) ≡ timed_step s.phase given now (with_outbox p s)
     by None e step = rw (← times, e) (ap (λ (r : Given). timed_step s.phase r.0 now (with_outbox r.1 s)) (sym (rw e at step)))
     by (Some t) e step = rw (← times, e) (ap (λ (r : Given). timed_step s.phase r.0 now (with_outbox r.1 s)) (sym (rw e at step)))
 
 -- while the first ALLOCATE awaits its response
-pub requesting-waits : (now : ℕ) (s : State) (o p : Outgoing) → s.phase ≡ Requesting → o.timers ≡ timers_of s.config → (None, p) ≡ give_up_step now o → answer_step None now (with_outbox p s) ≡ timed_out_step now (with_outbox o s)
+pub requesting-waits : (now : ℕ) (s : State) (o p : Outgoing) → s.phase ≡ Requesting → o.timers ≡ timers_of s.config → (None, p) ≡ give_up_step now o
+    → answer_step None now (with_outbox p s) ≡ timed_out_step now (with_outbox o s)
 requesting-waits now s o p requesting times step =
     ap (λ (phase : Phase). timed_step phase None now (with_outbox p s)) (sym requesting) ∙ sym (given_up-is now s o p None times step)
 
-pub requesting-ends : (now : ℕ) (s : State) (o p : Outgoing) (id : ℕ) → s.phase ≡ Requesting → o.timers ≡ timers_of s.config → (Some id, p) ≡ give_up_step now o → silent_step (with_outbox p s) ≡ timed_out_step now (with_outbox o s)
+pub requesting-ends : (now : ℕ) (s : State) (o p : Outgoing) (id : ℕ) → s.phase ≡ Requesting → o.timers ≡ timers_of s.config → (Some id, p) ≡ give_up_step now o
+    → silent_step (with_outbox p s) ≡ timed_out_step now (with_outbox o s)
 requesting-ends now s o p id requesting times step =
     ap (λ (phase : Phase). timed_step phase (Some id) now (with_outbox p s)) (sym requesting) ∙ sym (given_up-is now s o p (Some id) times step)
 
 -- ---- what the caller is to do
 
-pub close-is : (given : Option ℕ) (now : ℕ) (s : State) (local : SocketAddr) (others : List SocketAddr) → s.closes ≡ local ∷ others → ◌≡◌ {A = Answer} (Do.TcpClose local s.remote, record s { closes = drop 1 s.closes }) (answer_step given now s)
+pub close-is : (given : Option ℕ) (now : ℕ) (s : State) (local : SocketAddr) (others : List SocketAddr) → s.closes ≡ local ∷ others
+    → ◌≡◌ {A = Answer} (Do.TcpClose local s.remote, record s { closes = drop 1 s.closes }) (answer_step given now s)
 close-is given now s local others e = rw e refl
 
 dropped_none : {X : Type 0} (xs : List X) → xs ≡ drop 1 xs → xs ≡ []
@@ -71,7 +77,8 @@ none_closed s t same after =
     let dropped : s.closes ≡ drop 1 s.closes = same ∙ ap (λ (u : State). u.closes) after in
     (dropped_none s.closes dropped, after ∙ ap (λ (closes : List SocketAddr). record s { closes = closes }) (sym dropped))
 
-let_go-by : (p : Phase) (relays : List Relay) (given : Option ℕ) (now : ℕ) (s : State) → (is_allocated p && is_none (slice_get relays 0)) ≡ true → ◌≡◌ {A = Answer} (Do.Closed, s) (answer_by [] p relays given now s)
+let_go-by : (p : Phase) (relays : List Relay) (given : Option ℕ) (now : ℕ) (s : State) → (is_allocated p && is_none (slice_get relays 0)) ≡ true
+    → ◌≡◌ {A = Answer} (Do.Closed, s) (answer_by [] p relays given now s)
 let_go-by Allocated [] given now s e = refl
 let_go-by Allocated (a ∷ relays) given now s e = cc
 let_go-by New relays given now s e = cc
@@ -84,7 +91,8 @@ let_go-is given now s none gone =
     let_go-by s.phase (allocations s) given now s gone
     ∙ ap (λ (closes : List SocketAddr). answer_by closes s.phase (allocations s) given now s) (sym none)
 
-waits-by : (p : Phase) (relays : List Relay) (given : Option ℕ) (now : ℕ) (s : State) → (is_allocated p && is_none (slice_get relays 0)) ≡ false → ◌≡◌ {A = Answer} (Do.WaitUntil (next_wakeup (is_some given) now s), s) (answer_by [] p relays given now s)
+waits-by : (p : Phase) (relays : List Relay) (given : Option ℕ) (now : ℕ) (s : State) → (is_allocated p && is_none (slice_get relays 0)) ≡ false
+    → ◌≡◌ {A = Answer} (Do.WaitUntil (next_wakeup (is_some given) now s), s) (answer_by [] p relays given now s)
 waits-by Allocated [] given now s e = cc
 waits-by Allocated (a ∷ relays) given now s e = refl
 waits-by New relays given now s e = refl
@@ -92,7 +100,8 @@ waits-by Requesting relays given now s e = refl
 waits-by Authenticating relays given now s e = refl
 waits-by Closed relays given now s e = refl
 
-pub waits-is : (given : Option ℕ) (now : ℕ) (s : State) → s.closes ≡ [] → is_without_allocation s ≡ false → ◌≡◌ {A = Answer} (Do.WaitUntil (next_wakeup (is_some given) now s), s) (answer_step given now s)
+pub waits-is : (given : Option ℕ) (now : ℕ) (s : State) → s.closes ≡ [] → is_without_allocation s ≡ false
+    → ◌≡◌ {A = Answer} (Do.WaitUntil (next_wakeup (is_some given) now s), s) (answer_step given now s)
 waits-is given now s none stays =
     waits-by s.phase (allocations s) given now s stays
     ∙ ap (λ (closes : List SocketAddr). answer_by closes s.phase (allocations s) given now s) (sym none)

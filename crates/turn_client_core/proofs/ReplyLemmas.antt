@@ -69,7 +69,8 @@ at-by (q ∷ queue) i d is less = by q.is_request refl is less (at-by queue (pla
         let here : 0 ≡ i = rw e at is in
         rw (← here) (record { first = rw e refl; rest = rw e refl })
 
-pub reply-at : (queue : List Queued) (i : ℕ) (reply : Queued) → position (λ q. not q.is_request) queue ≡ Some i → reply ≡ get_or queue i reply → (slice_get (filter_map reply_in queue) 0 ≡ Some reply.packet) × (without_first_reply queue ≡ remove queue i)
+pub reply-at : (queue : List Queued) (i : ℕ) (reply : Queued) → position (λ q. not q.is_request) queue ≡ Some i → reply ≡ get_or queue i reply
+    → (slice_get (filter_map reply_in queue) 0 ≡ Some reply.packet) × (without_first_reply queue ≡ remove queue i)
 reply-at queue i reply found is =
     let place = within _ queue i found in
     let at = at-by queue i reply place.is place.within in

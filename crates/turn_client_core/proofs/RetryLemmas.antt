@@ -19,11 +19,13 @@ use Rattle.turn_client_api.specs.declared.grant.Purpose.TheVariants.{ForAllocati
 use Rattle.turn_stun.specs.Message.{id_of}
 
 -- the old request is no longer outstanding, whether it ends before the new one is made or after it
-pub without-other : (id : ℕ) (t : Transaction) (transactions : List Transaction) → (t.id == id) ≡ false → without_transaction id (transactions ++ t ∷ []) ≡ without_transaction id transactions ++ t ∷ []
+pub without-other : (id : ℕ) (t : Transaction) (transactions : List Transaction) → (t.id == id) ≡ false
+    → without_transaction id (transactions ++ t ∷ []) ≡ without_transaction id transactions ++ t ∷ []
 without-other id t [] other = rw other refl
 without-other id t (u ∷ others) other = by (u.id == id) refl (without-other id t others other)
   where
-    by : (b : Bool) → (u.id == id) ≡ b → without_transaction id (others ++ t ∷ []) ≡ without_transaction id others ++ t ∷ [] → without_transaction id ((u ∷ others) ++ t ∷ []) ≡ without_transaction id (u ∷ others) ++ t ∷ []
+    by : (b : Bool) → (u.id == id) ≡ b → without_transaction id (others ++ t ∷ []) ≡ without_transaction id others ++ t ∷ []
+        → without_transaction id ((u ∷ others) ++ t ∷ []) ≡ without_transaction id (u ∷ others) ++ t ∷ []
     by true e rest = rw e rest
     by false e rest = rw e (ap (λ ts. u ∷ ts) rest)
 
@@ -31,7 +33,8 @@ without-other id t (u ∷ others) other = by (u.id == id) refl (without-other id
 abbrev pub taken : State → ℕ → Challenge → State
 taken s id challenge = with_held challenge (record (transaction_ended id s) { phase = phase_after s.phase; challenges = s.challenges + 1 })
 
-pub again-is : (s : State) (id fresh : ℕ) (from : SocketAddr) (text : List ℕ) (purpose : Purpose) (challenge : Challenge) (now : ℕ) → text ≡ request_for (taken s id challenge) purpose fresh → from ≡ s.local → fresh ≡ fresh_id s
+pub again-is : (s : State) (id fresh : ℕ) (from : SocketAddr) (text : List ℕ) (purpose : Purpose) (challenge : Challenge) (now : ℕ) → text ≡ request_for (taken s id challenge) purpose fresh
+    → from ≡ s.local → fresh ≡ fresh_id s
     → queued true from text (request_started fresh text (purposes_of id s) now (taken s id challenge)) ≡ state_after_retry s id purpose challenge now
 again-is s id fresh from text purpose challenge now is sent next = rw (is, sent, next) refl
 
@@ -55,7 +58,8 @@ none-filtered p q (x ∷ xs) none = by (p x) (q x) refl refl (none-filtered p q 
     by false false e f rest = rw f (rest (rw e at none))
 
 -- a request that is made again is listed, and a fresh one is not
-pub asked-other : (id fresh : ℕ) (listed : List Listing) (purpose : Purpose) → list_any (λ l. l.id == fresh) listed ≡ false → retried (map (λ l. l.purpose) (filter (λ l. l.id == id) listed)) ≡ Some purpose → (fresh == id) ≡ false
+pub asked-other : (id fresh : ℕ) (listed : List Listing) (purpose : Purpose) → list_any (λ l. l.id == fresh) listed ≡ false
+    → retried (map (λ l. l.purpose) (filter (λ l. l.id == id) listed)) ≡ Some purpose → (fresh == id) ≡ false
 asked-other id fresh listed purpose unlisted request_started = by (fresh == id) refl
   where
     by : (b : Bool) → (fresh == id) ≡ b → (fresh == id) ≡ false
@@ -83,7 +87,8 @@ pub answered-is : (s : State) (message : List ℕ) (challenge : Challenge) (now 
     → challenge_step message challenge now s ≡ (Handled, state_after_retry s (id_of message) purpose challenge now)
 answered-is s message challenge now purpose few found = rw (lt-ltb s.challenges 9 few, found) refl
 
-pub unknown-is : (s : State) (message : List ℕ) (challenge : Challenge) (now : ℕ) → s.challenges < 9 → retried (purposes_of (id_of message) s) ≡ None → challenge_step message challenge now s ≡ (Ignored, s)
+pub unknown-is : (s : State) (message : List ℕ) (challenge : Challenge) (now : ℕ) → s.challenges < 9 → retried (purposes_of (id_of message) s) ≡ None
+    → challenge_step message challenge now s ≡ (Ignored, s)
 unknown-is s message challenge now few found = rw (lt-ltb s.challenges 9 few, found) refl
 
 -- ---- an ALLOCATE is made again
@@ -94,7 +99,8 @@ first-is s fresh from text now is sent = rw (is, sent) refl
 
 -- ---- the purposes of a request, by the table
 
-pub purposes-are : (s t : State) (message : List ℕ) (id : ℕ) (listed : List Listing) (purposes : List Purpose) → purposes ≡ map (λ l. l.purpose) (filter (λ l. l.id == id) listed) → listed ≡ s.listed → id ≡ id_of message → s ≡ t
+pub purposes-are : (s t : State) (message : List ℕ) (id : ℕ) (listed : List Listing) (purposes : List Purpose) → purposes ≡ map (λ l. l.purpose) (filter (λ l. l.id == id) listed) → listed ≡ s.listed
+    → id ≡ id_of message → s ≡ t
     → purposes ≡ purposes_of (id_of message) t
 purposes-are s t message id listed purposes read all same is =
     read ∙ (ap (λ ls. map (λ l. l.purpose) (filter (λ l. l.id == id) ls)) all ∙ (ap (λ i. purposes_of i s) same ∙ ap (λ u. purposes_of (id_of message) u) is))

@@ -26,13 +26,17 @@ answered-is text OwnConnect s = rw (append-nil s.queue) refl
 answered-is text (ServerRequest request) s = refl
 answered-is text ServerIndication s = rw (append-nil s.queue) refl
 
-pub opened-is : (origin : Origin) (id : ℕ) (peer local : SocketAddr) (now : ℕ) (s : State) → opened_with (answer_to (accepted_reply s) origin) id peer local now s ≡ socket_opened id peer local origin now s
+pub opened-is : (origin : Origin) (id : ℕ) (peer local : SocketAddr) (now : ℕ) (s : State)
+    → opened_with (answer_to (accepted_reply s) origin) id peer local now s ≡ socket_opened id peer local origin now s
 opened-is OwnConnect id peer local now s = rw (append-nil s.queue) refl
 opened-is (ServerRequest request) id peer local now s = refl
 opened-is ServerIndication id peer local now s = rw (append-nil s.queue) refl
 
 -- the ledger and the streams were this client's
-pub opens-is : (s : State) (was ledger : Ledger) (streams : List Stream) (reply : Option (List ℕ)) (id request : ℕ) (peer local : SocketAddr) (text : List ℕ) (now : ℕ) → with_ledger was s ≡ s → with_streams streams s ≡ with_stream local s → Asks request (ForBind local peer id ∷ []) now (with_opened id peer local now) was ledger s text → text ≡ request_for s (ForBind local peer id) request → request ≡ fresh_id s → with_ledger ledger (with_streams streams (queued true local text (with_reply reply (request_started request text (ForBind local peer id ∷ []) now s)))) ≡ opened_with reply id peer local now s
+pub opens-is : (s : State) (was ledger : Ledger) (streams : List Stream) (reply : Option (List ℕ)) (id request : ℕ) (peer local : SocketAddr) (text : List ℕ) (now : ℕ) → with_ledger was s ≡ s
+    → with_streams streams s ≡ with_stream local s → Asks request (ForBind local peer id ∷ []) now (with_opened id peer local now) was ledger s text
+    → text ≡ request_for s (ForBind local peer id) request → request ≡ fresh_id s
+    → with_ledger ledger (with_streams streams (queued true local text (with_reply reply (request_started request text (ForBind local peer id ∷ []) now s)))) ≡ opened_with reply id peer local now s
 opens-is s was ledger streams reply id request peer local text now same opened made is next =
     let given : streams ≡ (with_stream local s).streams = ap (λ t. t.streams) opened in
     ap (λ t. with_streams streams (queued true local text (with_reply reply t))) (made ∙ ap (λ t. request_started request text (ForBind local peer id ∷ []) now (with_opened id peer local now t)) same)

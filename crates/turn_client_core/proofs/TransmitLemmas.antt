@@ -37,10 +37,12 @@ some_differs o p packet e = differ (ap (λ (r : Sent). r.0) e)
     differ e = cc
 
 -- a request was retransmitted
-pub resent-sends : (now : ℕ) (s : State) (o p : Outgoing) (packet : Transmit (List ℕ)) → o.timers ≡ timers_of s.config → (Some packet, p) ≡ resend_step now o → ◌≡◌ {A = Packet × State} (Some packet, with_outbox p s) (transmit_step now (with_outbox o s))
+pub resent-sends : (now : ℕ) (s : State) (o p : Outgoing) (packet : Transmit (List ℕ)) → o.timers ≡ timers_of s.config → (Some packet, p) ≡ resend_step now o
+    → ◌≡◌ {A = Packet × State} (Some packet, with_outbox p s) (transmit_step now (with_outbox o s))
 resent-sends now s o p packet times step = by (find (is_due o.timers o.transport now) o.transactions) refl step
   where
-    by : (found : Option Transaction) → find (is_due o.timers o.transport now) o.transactions ≡ found → (Some packet, p) ≡ resend_step now o → ◌≡◌ {A = Packet × State} (Some packet, with_outbox p s) (transmit_step now (with_outbox o s))
+    by : (found : Option Transaction) → find (is_due o.timers o.transport now) o.transactions ≡ found → (Some packet, p) ≡ resend_step now o
+        → ◌≡◌ {A = Packet × State} (Some packet, with_outbox p s) (transmit_step now (with_outbox o s))
     by None e step = absurd (some_differs o p packet (rw e at step))
     by (Some t) e step = rw (← times, e) (ap (λ (r : Sent). (r.0, with_outbox r.1 s)) (rw e at step))
 
@@ -48,12 +50,14 @@ resent-sends now s o p packet times step = by (find (is_due o.timers o.transport
 pub not_resent-sends : (now : ℕ) (s : State) (o p : Outgoing) → o.timers ≡ timers_of s.config → (None, p) ≡ resend_step now o → waiting_step now (with_outbox p s) ≡ transmit_step now (with_outbox o s)
 not_resent-sends now s o p times step = by (find (is_due o.timers o.transport now) o.transactions) refl step
   where
-    by : (found : Option Transaction) → find (is_due o.timers o.transport now) o.transactions ≡ found → (None, p) ≡ resend_step now o → waiting_step now (with_outbox p s) ≡ transmit_step now (with_outbox o s)
+    by : (found : Option Transaction) → find (is_due o.timers o.transport now) o.transactions ≡ found → (None, p) ≡ resend_step now o
+        → waiting_step now (with_outbox p s) ≡ transmit_step now (with_outbox o s)
     by None e step = rw (← times, e) (ap (λ (r : Sent). waiting_step now (with_outbox r.1 s)) (rw e at step))
     by (Some t) e step = absurd (some_differs _ _ _ (sym (rw e at step)))
 
 -- the first queued packet is sent
-pub front-sends : (now : ℕ) (s : State) (o p : Outgoing) (packet : Transmit (List ℕ)) → (Some packet, p) ≡ front_step now o → ◌≡◌ {A = Packet × State} (Some packet, with_outbox p s) (queue_step now (with_outbox o s))
+pub front-sends : (now : ℕ) (s : State) (o p : Outgoing) (packet : Transmit (List ℕ)) → (Some packet, p) ≡ front_step now o
+    → ◌≡◌ {A = Packet × State} (Some packet, with_outbox p s) (queue_step now (with_outbox o s))
 front-sends now s o p packet step = by (slice_get o.queue 0) refl step
   where
     by : (found : Option Queued) → slice_get o.queue 0 ≡ found → (Some packet, p) ≡ front_step now o → ◌≡◌ {A = Packet × State} (Some packet, with_outbox p s) (queue_step now (with_outbox o s))
@@ -70,7 +74,8 @@ no_front-sends now s o p step = by (slice_get o.queue 0) refl step
 
 -- ---- a request that is sent at once
 
-pub sends-is : (s : State) (was ledger : Ledger) (id : ℕ) (text : List ℕ) (purpose : Purpose) (now : ℕ) → with_ledger was s ≡ s → Asks id (purpose ∷ []) now (with_more_grants []) was ledger s text → id ≡ fresh_id s → ◌≡◌ {A = Packet × State} (Some (to_server s s.local text), sent now (with_ledger ledger (request_started id text (purpose ∷ []) now s))) (sent_at_once text purpose now s)
+pub sends-is : (s : State) (was ledger : Ledger) (id : ℕ) (text : List ℕ) (purpose : Purpose) (now : ℕ) → with_ledger was s ≡ s → Asks id (purpose ∷ []) now (with_more_grants []) was ledger s text
+    → id ≡ fresh_id s → ◌≡◌ {A = Packet × State} (Some (to_server s s.local text), sent now (with_ledger ledger (request_started id text (purpose ∷ []) now s))) (sent_at_once text purpose now s)
 sends-is s was ledger id text purpose now same made next =
     let made_from : State → State = λ t. request_started id text (purpose ∷ []) now t in
     let whole : with_ledger ledger (made_from s) ≡ made_from s =
@@ -80,14 +85,16 @@ sends-is s was ledger id text purpose now same made next =
     ∙ ap (λ (n : ℕ). (Some (to_server s s.local text), sent now (request_started n text (purpose ∷ []) now s))) next
 
 -- the first ALLOCATE is that of this client
-pub first-text-is : (s : State) (transport : TransportType) (families : List AddressFamily) (id : ℕ) (text : List ℕ) → transport ≡ s.config.allocation_transport → families ≡ s.families → id ≡ fresh_id s → text ≡ first_allocate (with_asked_families transport families s) id → text ≡ first_allocate s (fresh_id s)
+pub first-text-is : (s : State) (transport : TransportType) (families : List AddressFamily) (id : ℕ) (text : List ℕ) → transport ≡ s.config.allocation_transport → families ≡ s.families
+    → id ≡ fresh_id s → text ≡ first_allocate (with_asked_families transport families s) id → text ≡ first_allocate s (fresh_id s)
 first-text-is s transport families id text over request_started next is =
     is
     ∙ (ap (λ (t : TransportType). first_allocate (with_asked_families t families s) id) over
     ∙ (ap (λ (f : List AddressFamily). first_allocate (with_asked_families s.config.allocation_transport f s) id) request_started
     ∙ ap (λ (n : ℕ). first_allocate s n) next))
 
-pub refresh-some : (now : ℕ) (s : State) (purpose : Purpose) → slice_get (filter_map (first_refresh now s) (allocations s)) 0 ≡ Some purpose → refresh_step now s ≡ sent_at_once (request_for s purpose (fresh_id s)) purpose now s
+pub refresh-some : (now : ℕ) (s : State) (purpose : Purpose) → slice_get (filter_map (first_refresh now s) (allocations s)) 0 ≡ Some purpose
+    → refresh_step now s ≡ sent_at_once (request_for s purpose (fresh_id s)) purpose now s
 refresh-some now s purpose found = rw (next_first now s (allocations s), found) refl
 
 pub refresh-none : (now : ℕ) (s : State) → slice_get (filter_map (first_refresh now s) (allocations s)) 0 ≡ None → ◌≡◌ {A = Packet × State} (None, s) (refresh_step now s)

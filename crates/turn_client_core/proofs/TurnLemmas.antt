@@ -14,7 +14,8 @@ use Rattle.turn_client_api.specs.State.{State}
 use Rattle.turn_client_api.specs.declared.state.Mode.TheVariants.{Broken}
 use Rattle.turn_client_api.specs.declared.state.Stream.{Stream}
 use Rattle.turn_client_api.specs.Payloads.{Payload, Outcome, Handled, Ignored, PeerData, PeerIcmp}
-use Rattle.turn_client_api.specs.Streams.{broken_at, frame_step, framed_by, framed_stream_step, go_on, is_ready, max_steps, poll_recv_step, put_back, next_frame_step, first_ready_step, steps_until_payload, with_bytes}
+use Rattle.turn_client_api.specs.Streams.{broken_at, frame_step, framed_by, framed_stream_step, go_on, is_ready, max_steps, poll_recv_step, put_back, next_frame_step, first_ready_step}
+use Rattle.turn_client_api.specs.Streams.{steps_until_payload, with_bytes}
 use Rattle.turn_client_laws.proofs.StreamDrainLemmas.{turn-lighter}
 use Rattle.turn_client_laws.proofs.StreamWeightLemmas.{weight, weight-le}
 use Rattle.turn_client_streams.specs.Buffered.{front_frame, passed}
@@ -39,13 +40,15 @@ front_by s o = option_map (λ len. take len s.bytes) o
 passed_by : Stream → Option ℕ → Stream
 passed_by s o = option_map_or (λ len. record s { bytes = drop len s.bytes }) o s
 
-framed_by-some : (s : Stream) (frame : List ℕ) (now : ℕ) (t : State) (o : Option ℕ) → Some frame ≡ front_by s o → framed_by s now t o ≡ put_back (passed_by s o).local (passed_by s o).bytes (frame_step s frame now t)
+framed_by-some : (s : Stream) (frame : List ℕ) (now : ℕ) (t : State) (o : Option ℕ) → Some frame ≡ front_by s o
+    → framed_by s now t o ≡ put_back (passed_by s o).local (passed_by s o).bytes (frame_step s frame now t)
 unfolding front_by passed_by
 framed_by-some s frame now t None e = cc
 framed_by-some s frame now t (Some len) e = let same : frame ≡ take len s.bytes = cc in rw same refl
 
 -- it is processed, and the bytes behind it are put back
-pub framed-some : (s : Stream) (frame : List ℕ) (now : ℕ) (t : State) → begins_no_frame s.bytes ≡ false → Some frame ≡ front_frame s → framed_stream_step s now t ≡ put_back (passed s).local (passed s).bytes (frame_step s frame now t)
+pub framed-some : (s : Stream) (frame : List ℕ) (now : ℕ) (t : State) → begins_no_frame s.bytes ≡ false → Some frame ≡ front_frame s
+    → framed_stream_step s now t ≡ put_back (passed s).local (passed s).bytes (frame_step s frame now t)
 unfolding front_by passed_by
 framed-some s frame now t stuck e =
     ap (λ b. cond {A = Outcome × State} b (Handled, broken_at s.local t) (framed_by s now t (frame_len s.bytes))) stuck
@@ -77,7 +80,8 @@ given-some next (Ignored, t) given e = cc
 given-some next (PeerIcmp transport peer icmp, t) given e = cc
 
 -- a step first: the others are as if it had been made before
-pub turns-first : (n now : ℕ) (s : State) (stream : Stream) → find is_ready s.streams ≡ Some stream → steps_until_payload (suc n) now s ≡ go_on (steps_until_payload n now) (next_frame_step stream now s)
+pub turns-first : (n now : ℕ) (s : State) (stream : Stream) → find is_ready s.streams ≡ Some stream
+    → steps_until_payload (suc n) now s ≡ go_on (steps_until_payload n now) (next_frame_step stream now s)
 unfolding steps_until_payload
 turns-first n now s stream e = ap (λ o. first_ready_step (steps_until_payload n now) now s o) e
 
@@ -111,7 +115,8 @@ one-more (suc n) now was s t led last = by (find is_ready was.streams) refl (λ 
         ap (λ o. first_ready_step (steps_until_payload (suc n) now) now was o) e
         ∙ on (next_frame_step stream now was) more (sym (turns-first n now was stream e) ∙ led)
 
-pub leads-on : (now : ℕ) (was s : State) (stream : Stream) → find is_ready s.streams ≡ Some stream → owned_payload (next_frame_step stream now s).0 ≡ None → LeadsTo now was s → LeadsTo now was (next_frame_step stream now s).1
+pub leads-on : (now : ℕ) (was s : State) (stream : Stream) → find is_ready s.streams ≡ Some stream → owned_payload (next_frame_step stream now s).0 ≡ None → LeadsTo now was s
+    → LeadsTo now was (next_frame_step stream now s).1
 unfolding steps_until_payload
 leads-on now was s stream e none (n, led) =
     (suc n, one-more n now was s (next_frame_step stream now s).1 led (turns-first 0 now s stream e ∙ given-none (steps_until_payload 0 now) (next_frame_step stream now s) none))
@@ -127,7 +132,8 @@ Rests now was s = (k : ℕ) × (weight s.streams ≤ k) × (steps_until_payload 
 pub first-Rests : (now : ℕ) (s : State) → Rests now s s
 first-Rests now s = (max_steps s, weight-le s.streams, refl)
 
-pub rests-on : (now : ℕ) (was s : State) (stream : Stream) → find is_ready s.streams ≡ Some stream → owned_payload (next_frame_step stream now s).0 ≡ None → Rests now was s → Rests now was (next_frame_step stream now s).1
+pub rests-on : (now : ℕ) (was s : State) (stream : Stream) → find is_ready s.streams ≡ Some stream → owned_payload (next_frame_step stream now s).0 ≡ None → Rests now was s
+    → Rests now was (next_frame_step stream now s).1
 rests-on now was s stream e none (zero, least, same) = let less = turn-lighter stream now s e in absurd (omega (arith, less, least))
 rests-on now was s stream e none (suc k, least, same) =
     let less = turn-lighter stream now s e in
@@ -136,7 +142,8 @@ rests-on now was s stream e none (suc k, least, same) =
 pub rests-none : (now : ℕ) (was s : State) → find is_ready s.streams ≡ None → Rests now was s → poll_recv_step now was ≡ (None, s)
 rests-none now was s e (k, least, same) = sym same ∙ turns-none k now s e
 
-pub rests-some : (now : ℕ) (was s : State) (stream : Stream) (payload : Payload) → find is_ready s.streams ≡ Some stream → owned_payload (next_frame_step stream now s).0 ≡ Some payload → Rests now was s → poll_recv_step now was ≡ (Some payload, (next_frame_step stream now s).1)
+pub rests-some : (now : ℕ) (was s : State) (stream : Stream) (payload : Payload) → find is_ready s.streams ≡ Some stream → owned_payload (next_frame_step stream now s).0 ≡ Some payload
+    → Rests now was s → poll_recv_step now was ≡ (Some payload, (next_frame_step stream now s).1)
 rests-some now was s stream payload e given (zero, least, same) = let less = turn-lighter stream now s e in absurd (omega (arith, less, least))
 rests-some now was s stream payload e given (suc k, least, same) =
     sym same ∙ (turns-first k now s stream e ∙ given-some (steps_until_payload k now) (next_frame_step stream now s) payload given)
@@ -167,5 +174,6 @@ unfolding bytes_by broken_by
 emptied-broken local s = ap (λ (x : List Stream). record s { streams = x }) (broken-all local s.streams)
 
 -- the stream that was being processed is broken, and the client has ended
-pub ends : (now : ℕ) (was s t : State) (stream : Stream) → find is_ready s.streams ≡ Some stream → LeadsTo now was s → t ≡ closed (broken_at stream.local (with_bytes stream.local [] s)) → EndsAfterSteps now was t
+pub ends : (now : ℕ) (was s t : State) (stream : Stream) → find is_ready s.streams ≡ Some stream → LeadsTo now was s → t ≡ closed (broken_at stream.local (with_bytes stream.local [] s))
+    → EndsAfterSteps now was t
 ends now was s t stream e led is = (s, led, rw e (is ∙ ap closed (emptied-broken stream.local s)))

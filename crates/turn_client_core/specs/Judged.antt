@@ -5,7 +5,8 @@ use Rattle.turn_client_api.specs.Judgement as J
 use Rattle.turn_client_api.specs.Judgement.{Judgement, by_class}
 use Rattle.turn_client_api.specs.State.{State}
 use Rattle.turn_client_core.specs.declared.protocol.incoming.judge.Judged.{Judged}
-use Rattle.turn_client_core.specs.declared.protocol.incoming.judge.Judged.TheVariants.{Unrelated, Challenged, Fatal, LateResponse, DataIndication, ConnectionAttempt, SignedRequest, SignedSuccess, SignedError}
+use Rattle.turn_client_core.specs.declared.protocol.incoming.judge.Judged.TheVariants.{Unrelated, Challenged, Fatal, LateResponse, DataIndication}
+use Rattle.turn_client_core.specs.declared.protocol.incoming.judge.Judged.TheVariants.{ConnectionAttempt, SignedRequest, SignedSuccess, SignedError}
 use Rattle.turn_stun.specs.Message.{id_of, type_of}
 use Rattle.turn_stun.specs.MessageType.{class_of}
 

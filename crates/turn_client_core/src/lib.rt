@@ -31,9 +31,9 @@ mod effect;
 mod indication;
 mod outbox;
 mod protocol;
+mod protocol_recv;
 mod received;
 mod reply;
-mod protocol_recv;
 
 pub use protocol::TurnClientProtocol;
 pub use protocol_recv::TurnProtocolRecv;

@@ -1,5 +1,6 @@
 -- A map that leads to the rows of a list, as rows are added and removed.
-use Rattle.std.specs.Prelude.{◌≡◌, Bool, true, false, cond, not, ◌||◌, is_some, List, [], ◌∷◌, ◌++◌, map, filter, filter_map, slice_get, Option, Some, None, option_map, option_to_list, option_and_then, refl}
+use Rattle.std.specs.Prelude.{◌≡◌, Bool, true, false, cond, not, ◌||◌, is_some, List, [], ◌∷◌, ◌++◌, map, filter, filter_map, slice_get, Option, Some, None, option_map, option_to_list}
+use Rattle.std.specs.Prelude.{option_and_then, refl}
 use Rattle.std.specs.List.{list_any}
 use Rattle.std.proofs.lemmas.Map.Entries.{option_filter}
 use Rattle.std.proofs.Common.{sym, ◌∙◌, ap, append-nil, subst}
@@ -31,7 +32,8 @@ module _ {G : Type 0} where
   filter-filter_out test which false h [] = refl
   filter-filter_out test which b h (g ∷ gs) = by (filter-filter_out test which b h gs) (test g) (which g) refl refl
     where
-      by : filter test (filter (λ g. not (which g)) gs) ≡ cond b [] (filter test gs) → (t w : Bool) → test g ≡ t → which g ≡ w → filter test (cond (not w) (g ∷ filter (λ g. not (which g)) gs) (filter (λ g. not (which g)) gs)) ≡ cond b [] (cond t (g ∷ filter test gs) (filter test gs))
+      by : filter test (filter (λ g. not (which g)) gs) ≡ cond b [] (filter test gs) → (t w : Bool) → test g ≡ t → which g ≡ w
+          → filter test (cond (not w) (g ∷ filter (λ g. not (which g)) gs) (filter (λ g. not (which g)) gs)) ≡ cond b [] (cond t (g ∷ filter test gs) (filter test gs))
       by rest true true e d = let b-is : b ≡ true = sym (h g e) ∙ d in rw b-is (rw b-is at rest)
       by rest true false e d = let b-is : b ≡ false = sym (h g e) ∙ d in rw (e, b-is) (ap (λ (gs : List G). g ∷ gs) (rw b-is at rest))
       by rest false true e d = rest
@@ -49,7 +51,8 @@ module _ {G : Type 0} where
   filter-filter test passes [] = refl
   filter-filter test passes (g ∷ gs) = by (filter-filter test passes gs) (test g) (passes g) refl refl
     where
-      by : filter test (filter passes gs) ≡ filter passes (filter test gs) → (t p : Bool) → test g ≡ t → passes g ≡ p → filter test (cond p (g ∷ filter passes gs) (filter passes gs)) ≡ filter passes (cond t (g ∷ filter test gs) (filter test gs))
+      by : filter test (filter passes gs) ≡ filter passes (filter test gs) → (t p : Bool) → test g ≡ t → passes g ≡ p
+          → filter test (cond p (g ∷ filter passes gs) (filter passes gs)) ≡ filter passes (cond t (g ∷ filter test gs) (filter test gs))
       by rest true true e d = rw (e, d) (ap (λ (gs : List G). g ∷ gs) rest)
       by rest true false e d = rw d rest
       by rest false true e d = rw e rest
@@ -58,7 +61,8 @@ module _ {G : Type 0} where
   -- ---- reading
 
   module _ {K : Type 0} (test : K → G → Bool) where
-    pub first-by_index : {X : Type 0} (f : G → Option X) (find : K → Option G) (rows : List G) (k : K) → IsIndex test find rows → ((g : G) → test k g ≡ false → f g ≡ None) → slice_get (filter_map f rows) 0 ≡ option_and_then f (find k)
+    pub first-by_index : {X : Type 0} (f : G → Option X) (find : K → Option G) (rows : List G) (k : K) → IsIndex test find rows → ((g : G) → test k g ≡ false → f g ≡ None)
+        → slice_get (filter_map f rows) 0 ≡ option_and_then f (find k)
     unfolding IsIndex
     first-by_index {X} f find rows k is h = rw (filter_map-through f (test k) h rows, is k) (by (find k))
       where

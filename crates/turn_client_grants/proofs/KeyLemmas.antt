@@ -1,5 +1,6 @@
 -- The map of the grants, as it is filtered, and as grants are added and removed.
-use Rattle.std.specs.Prelude.{◌≡◌, ℕ, ◌==◌, Bool, true, false, cond, not, ◌||◌, ◌&&◌, List, [], ◌∷◌, ◌++◌, filter, filter_map, fold, map, Option, Some, None, is_none, is_some, option_and_then, option_map, option_to_list, refl}
+use Rattle.std.specs.Prelude.{◌≡◌, ℕ, ◌==◌, Bool, true, false, cond, not, ◌||◌, ◌&&◌, List, [], ◌∷◌, ◌++◌, filter, filter_map, fold, map, Option, Some, None, is_none, is_some, option_and_then}
+use Rattle.std.specs.Prelude.{option_map, option_to_list, refl}
 use Rattle.std.specs.List.{list_all, list_any, IsDistinct}
 use Rattle.std.specs.Map.{keys_of, lookup}
 use Rattle.std.specs.declared.net.ip_addr.IpAddr.{IpAddr}
@@ -104,7 +105,8 @@ no-permission ip (Connection c ∷ rows) none = no-permission ip rows none
 free-number : (rows : List Grant) (number other : ℕ) → list_any (is_channel_of number) rows ≡ false → (number == other) ≡ true → list_any (is_channel_of other) rows ≡ false
 free-number rows number other none same = subst (λ (n : ℕ). list_any (is_channel_of n) rows ≡ false) (eqb-true number other same) none
 
-free-peer : (rows : List Grant) (peer other : SocketAddr) → list_any is_in_progress (filter_map (progress_to peer) rows) ≡ false → same_address peer other ≡ true → list_any (is_open_to other) rows ≡ false
+free-peer : (rows : List Grant) (peer other : SocketAddr) → list_any is_in_progress (filter_map (progress_to peer) rows) ≡ false → same_address peer other ≡ true
+    → list_any (is_open_to other) rows ≡ false
 free-peer rows peer other none same = subst (λ (a : SocketAddr). list_any (is_open_to a) rows ≡ false) (same_address-true peer other same) (sym (open-any peer rows) ∙ none)
 
 pub free-keys : (rows : List Grant) (g : Grant) → has_no_double rows g ≡ true → IsFree rows g
@@ -188,7 +190,8 @@ offer-keys (By.Number n) offer = refl
 offer-keys (By.Peer p) offer = refl
 offer-keys (By.Ip p) offer = refl
 
-pub index-relays : (addresses : List SocketAddr) (lifetime now : ℕ) (rows : List Grant) (find : Key → Option Grant) → IsIndex is_found_by find rows → IsIndex is_found_by find (rows ++ map (new_allocation lifetime now) addresses)
+pub index-relays : (addresses : List SocketAddr) (lifetime now : ℕ) (rows : List Grant) (find : Key → Option Grant) → IsIndex is_found_by find rows
+    → IsIndex is_found_by find (rows ++ map (new_allocation lifetime now) addresses)
 index-relays [] lifetime now rows find is = subst (λ (gs : List Grant). IsIndex is_found_by find gs) (sym (append-nil rows)) is
 index-relays (a ∷ others) lifetime now rows find is =
     subst (λ (gs : List Grant). IsIndex is_found_by find gs) (append_assoc rows (new_allocation lifetime now a ∷ []) (map (new_allocation lifetime now) others))
@@ -204,7 +207,8 @@ found-told k family (Offer offer ∷ rows) = by (is_some (unreported_in family (
     by false e rest = rw (e, offer-keys k offer) rest
 found-told k family (Allocation a ∷ rows) = ap (λ (gs : List Grant). cond (is_found_by k (Allocation a)) (Allocation a ∷ gs) gs) (found-told k family rows)
 found-told k family (Permission ip progress ∷ rows) = ap (λ (gs : List Grant). cond (is_found_by k (Permission ip progress)) (Permission ip progress ∷ gs) gs) (found-told k family rows)
-found-told k family (Channel number peer progress ∷ rows) = ap (λ (gs : List Grant). cond (is_found_by k (Channel number peer progress)) (Channel number peer progress ∷ gs) gs) (found-told k family rows)
+found-told k family (Channel number peer progress ∷ rows) = ap (λ (gs : List Grant). cond (is_found_by k (Channel number peer progress)) (Channel number peer progress ∷ gs) gs)
+    (found-told k family rows)
 found-told k family (Connect peer ∷ rows) = ap (λ (gs : List Grant). cond (is_found_by k (Connect peer)) (Connect peer ∷ gs) gs) (found-told k family rows)
 found-told k family (Connection c ∷ rows) = ap (λ (gs : List Grant). cond (is_found_by k (Connection c)) (Connection c ∷ gs) gs) (found-told k family rows)
 
@@ -222,7 +226,8 @@ found-taken k id peer (Offer offer ∷ rows) = by (is_offer_of id peer (Offer of
     by false e rest = rw (e, offer-keys k offer) rest
 found-taken k id peer (Allocation a ∷ rows) = ap (λ (gs : List Grant). cond (is_found_by k (Allocation a)) (Allocation a ∷ gs) gs) (found-taken k id peer rows)
 found-taken k id peer (Permission ip progress ∷ rows) = ap (λ (gs : List Grant). cond (is_found_by k (Permission ip progress)) (Permission ip progress ∷ gs) gs) (found-taken k id peer rows)
-found-taken k id peer (Channel number other progress ∷ rows) = ap (λ (gs : List Grant). cond (is_found_by k (Channel number other progress)) (Channel number other progress ∷ gs) gs) (found-taken k id peer rows)
+found-taken k id peer (Channel number other progress ∷ rows) = ap (λ (gs : List Grant). cond (is_found_by k (Channel number other progress)) (Channel number other progress ∷ gs) gs)
+    (found-taken k id peer rows)
 found-taken k id peer (Connect other ∷ rows) = ap (λ (gs : List Grant). cond (is_found_by k (Connect other)) (Connect other ∷ gs) gs) (found-taken k id peer rows)
 found-taken k id peer (Connection c ∷ rows) = ap (λ (gs : List Grant). cond (is_found_by k (Connection c)) (Connection c ∷ gs) gs) (found-taken k id peer rows)
 
@@ -261,11 +266,13 @@ any-both p q (g ∷ rows) = by (p g) (q g) refl refl (any-both p q rows)
 abbrev pub IsKeyed : (Grant → Bool) → Grant → List Grant → Type 0
 IsKeyed which grant rows = (k : Key) → is_found_by k grant ≡ true → list_any (λ g. which g && is_found_by k g) rows ≡ true
 
-one-goes : (which : Grant → Bool) (rows : List Grant) (find : Key → Option Grant) (k : Key) → IsIndex is_found_by find rows → list_any (λ g. which g && is_found_by k g) rows ≡ true → list_any which (option_to_list (find k)) ≡ true
+one-goes : (which : Grant → Bool) (rows : List Grant) (find : Key → Option Grant) (k : Key) → IsIndex is_found_by find rows → list_any (λ g. which g && is_found_by k g) rows ≡ true
+    → list_any which (option_to_list (find k)) ≡ true
 unfolding IsIndex
 one-goes which rows find k is there = ap (λ (gs : List Grant). list_any which gs) (sym (is k)) ∙ (sym (any-both which (is_found_by k) rows) ∙ there)
 
-pub keyed-found : (which : Grant → Bool) (rows : List Grant) (find : Key → Option Grant) (grant : Grant) → IsIndex is_found_by find rows → IsKeyed which grant rows → (k : Key) → is_found_by k grant ≡ true → is_some (find k) ≡ true
+pub keyed-found : (which : Grant → Bool) (rows : List Grant) (find : Key → Option Grant) (grant : Grant) → IsIndex is_found_by find rows → IsKeyed which grant rows → (k : Key)
+    → is_found_by k grant ≡ true → is_some (find k) ≡ true
 keyed-found which rows find grant is keyed k at = by (find k) (one-goes which rows find k is (keyed k at))
   where
     by : (found : Option Grant) → list_any which (option_to_list found) ≡ true → is_some found ≡ true

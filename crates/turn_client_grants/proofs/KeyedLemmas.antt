@@ -43,11 +43,13 @@ keyed-permission ip progress rows there (By.Ip other) at =
 keyed-permission ip progress rows there (By.Number other) at = cc
 keyed-permission ip progress rows there (By.Peer other) at = cc
 
-keyed-number : (number other : ℕ) (rows : List Grant) → list_any (is_channel_of number) rows ≡ true → (number == other) ≡ true → list_any (λ g. is_channel_of number g && is_channel_of other g) rows ≡ true
+keyed-number : (number other : ℕ) (rows : List Grant) → list_any (is_channel_of number) rows ≡ true → (number == other) ≡ true
+    → list_any (λ g. is_channel_of number g && is_channel_of other g) rows ≡ true
 keyed-number number other rows there at =
     subst (λ (n : ℕ). list_any (λ g. is_channel_of number g && is_channel_of n g) rows ≡ true) (eqb-true number other at) (any-self (is_channel_of number) rows there)
 
-pub keyed-reserved : (number : ℕ) (peer : SocketAddr) (until : ℕ) (rows : List Grant) → list_any (is_channel_of number) rows ≡ true → IsKeyed (is_channel_of number) (Channel number peer (Reserved until)) rows
+pub keyed-reserved : (number : ℕ) (peer : SocketAddr) (until : ℕ) (rows : List Grant) → list_any (is_channel_of number) rows ≡ true
+    → IsKeyed (is_channel_of number) (Channel number peer (Reserved until)) rows
 keyed-reserved number peer until rows there (By.Number other) at = keyed-number number other rows there at
 keyed-reserved number peer until rows there (By.Peer other) at = cc
 keyed-reserved number peer until rows there (By.Ip other) at = cc
@@ -59,7 +61,8 @@ is_open_channel number peer g = is_channel_of number g && is_open_to peer g
 pub open-channel : (number : ℕ) (peer : SocketAddr) (rows : List Grant) → list_any (is_open_channel number peer) rows ≡ true → list_any (is_channel_of number) rows ≡ true
 open-channel number peer rows there = any-first (is_channel_of number) (is_open_to peer) rows there
 
-pub keyed-active : (number : ℕ) (peer : SocketAddr) (expiry : ℕ) (rows : List Grant) → list_any (is_open_channel number peer) rows ≡ true → IsKeyed (is_channel_of number) (Channel number peer (Active expiry)) rows
+pub keyed-active : (number : ℕ) (peer : SocketAddr) (expiry : ℕ) (rows : List Grant) → list_any (is_open_channel number peer) rows ≡ true
+    → IsKeyed (is_channel_of number) (Channel number peer (Active expiry)) rows
 keyed-active number peer expiry rows there (By.Number other) at = keyed-number number other rows (open-channel number peer rows there) at
 keyed-active number peer expiry rows there (By.Peer other) at =
     subst (λ (a : SocketAddr). list_any (λ g. is_channel_of number g && is_open_to a g) rows ≡ true) (same_address-true peer other at) there
@@ -70,7 +73,8 @@ or-right true b h = refl
 or-right false b h = h
 
 -- the first that a reader finds exists
-any-at : {X : Type 0} (reader : Grant → Option X) (which : Grant → Bool) (x : X) → ((g : Grant) → reader g ≡ Some x → which g ≡ true) → (rows : List Grant) → first_among reader rows ≡ Some x → list_any which rows ≡ true
+any-at : {X : Type 0} (reader : Grant → Option X) (which : Grant → Bool) (x : X) → ((g : Grant) → reader g ≡ Some x → which g ≡ true) → (rows : List Grant) → first_among reader rows ≡ Some x
+    → list_any which rows ≡ true
 any-at reader which x passes [] found = cc
 any-at {X} reader which x passes (g ∷ rows) found = by (reader g) refl found (any-at reader which x passes rows)
   where

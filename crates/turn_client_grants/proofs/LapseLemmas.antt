@@ -32,7 +32,8 @@ unfolding close_in
 closes-are which [] = refl
 closes-are which (g ∷ others) = by (holds which g) (as_connection g) refl refl (closes-are which others)
   where
-    by : (b : Bool) (found : Option DataConnection) → holds which g ≡ b → as_connection g ≡ found → filter_map (close_in which) others ≡ map (λ (c : DataConnection). c.local) (filter_map as_connection (filter (holds which) others))
+    by : (b : Bool) (found : Option DataConnection) → holds which g ≡ b → as_connection g ≡ found
+        → filter_map (close_in which) others ≡ map (λ (c : DataConnection). c.local) (filter_map as_connection (filter (holds which) others))
         → filter_map (close_in which) (g ∷ others) ≡ map (λ (c : DataConnection). c.local) (filter_map as_connection (filter (holds which) (g ∷ others)))
     by true None e f rest = rw (e, f) rest
     by true (Some c) e f rest = rw (e, f, rest) refl
@@ -57,7 +58,8 @@ count-of : (grants : List Grant) → length (filter_map as_allocation grants) �
 count-of [] = refl
 count-of (Allocation a ∷ others) = by (family_of a.relayed) refl (count-of others)
   where
-    by : (family : AddressFamily) → family_of a.relayed ≡ family → length (filter_map as_allocation others) ≡ length (filter (is_allocation_of IPV4) others) + length (filter (is_allocation_of IPV6) others)
+    by : (family : AddressFamily) → family_of a.relayed ≡ family → length (filter_map as_allocation others) ≡ length (filter (is_allocation_of IPV4) others) + length
+        (filter (is_allocation_of IPV6) others)
         → length (filter_map as_allocation (Allocation a ∷ others)) ≡ length (filter (is_allocation_of IPV4) (Allocation a ∷ others)) + length (filter (is_allocation_of IPV6) (Allocation a ∷ others))
     by IPV4 e rest = rw e (omega (arith, rest))
     by IPV6 e rest = rw e (omega (arith, rest))
@@ -80,15 +82,18 @@ both-allocations grants few = two-of (filter_map as_allocation grants) (omega (a
 
 -- ---- whether an allocation is removed
 
-pub goes-away : (given : Option ℕ) (purposes : List Purpose) (now : ℕ) (s : State) (a : Relay) → allocation_expires purposes now s a ≡ true → without_grants (is_of (family_of a.relayed)) s ≡ lapsed_allocation given purposes now s a
+pub goes-away : (given : Option ℕ) (purposes : List Purpose) (now : ℕ) (s : State) (a : Relay) → allocation_expires purposes now s a ≡ true
+    → without_grants (is_of (family_of a.relayed)) s ≡ lapsed_allocation given purposes now s a
 goes-away given purposes now s a e = rw e refl
 
-pub goes-not : (given : Option ℕ) (purposes : List Purpose) (now : ℕ) (s : State) (a : Relay) → allocation_expires purposes now s a ≡ false → lapsed_in (family_of a.relayed) given purposes now s ≡ lapsed_allocation given purposes now s a
+pub goes-not : (given : Option ℕ) (purposes : List Purpose) (now : ℕ) (s : State) (a : Relay) → allocation_expires purposes now s a ≡ false
+    → lapsed_in (family_of a.relayed) given purposes now s ≡ lapsed_allocation given purposes now s a
 goes-not given purposes now s a e = rw e refl
 
 -- ---- a channel that exists
 
-pub ended-is : (family : AddressFamily) (now : ℕ) (s : State) (number : ℕ) (peer : SocketAddr) (expiry : ℕ) → find (λ g. is_of family g && is_lapsed_channel now g) (reverse s.grants) ≡ Some (Channel number peer (Active expiry))
+pub ended-is : (family : AddressFamily) (now : ℕ) (s : State) (number : ℕ) (peer : SocketAddr) (expiry : ℕ)
+    → find (λ g. is_of family g && is_lapsed_channel now g) (reverse s.grants) ≡ Some (Channel number peer (Active expiry))
     → channel_ended number peer expiry s ≡ last_channel_lapsed family now s
 ended-is family now s number peer expiry found = rw found refl
 
@@ -96,7 +101,8 @@ has-fewer : {X : Type 0} (p : X → Bool) (g : X) (xs : List X) → Has g xs →
 has-fewer p g [] has passes = absurd has
 has-fewer p g (x ∷ xs) has passes = by (p x) refl has (few-of (λ y. not (p y)) xs) (λ later. has-fewer p g xs later passes)
   where
-    by : (b : Bool) → p x ≡ b → (g ≡ x) ⊎ Has g xs → length (filter (λ y. not (p y)) xs) ≤ length xs → (Has g xs → length (filter (λ y. not (p y)) xs) < length xs) → length (filter (λ y. not (p y)) (x ∷ xs)) < length (x ∷ xs)
+    by : (b : Bool) → p x ≡ b → (g ≡ x) ⊎ Has g xs → length (filter (λ y. not (p y)) xs) ≤ length xs → (Has g xs → length (filter (λ y. not (p y)) xs) < length xs)
+        → length (filter (λ y. not (p y)) (x ∷ xs)) < length (x ∷ xs)
     by true e has few rest = rw e (omega (arith, few))
     by false e (inl same) few rest = let no : false ≡ true = sym e ∙ (rw same at passes) in cc
     by false e (inr later) few rest = rw e (omega (arith, rest later))
@@ -113,14 +119,17 @@ has-any p g (x ∷ xs) has passes = by (p x) refl has (λ later. has-any p g xs 
 pub ended-there : (number : ℕ) (peer : SocketAddr) (expiry : ℕ) (grants : List Grant) → Has (Channel number peer (Active expiry)) grants → list_any (is_channel_of number) grants ≡ true
 ended-there number peer expiry grants has = has-any (is_channel_of number) (Channel number peer (Active expiry)) grants has (eq-eqb number number refl)
 
-pub ended-fewer : (number : ℕ) (peer : SocketAddr) (expiry : ℕ) (grants : List Grant) → Has (Channel number peer (Active expiry)) grants → length (filter (λ g. not (is_channel_of number g)) grants) < length grants
+pub ended-fewer : (number : ℕ) (peer : SocketAddr) (expiry : ℕ) (grants : List Grant) → Has (Channel number peer (Active expiry)) grants
+    → length (filter (λ g. not (is_channel_of number g)) grants) < length grants
 ended-fewer number peer expiry grants has = has-fewer (is_channel_of number) (Channel number peer (Active expiry)) grants has (eq-eqb number number refl)
 
-pub ended-aside : (number : ℕ) (peer : SocketAddr) (expiry : ℕ) (grants : List Grant) → Has (Channel number peer (Active expiry)) grants → event_room_for (filter (λ g. not (is_channel_of number g)) grants) + 2 ≤ event_room_for grants
+pub ended-aside : (number : ℕ) (peer : SocketAddr) (expiry : ℕ) (grants : List Grant) → Has (Channel number peer (Active expiry)) grants
+    → event_room_for (filter (λ g. not (is_channel_of number g)) grants) + 2 ≤ event_room_for grants
 ended-aside number peer expiry [] has = absurd has
 ended-aside number peer expiry (g ∷ others) has = by (is_channel_of number g) refl has (event_room_for-filtered (λ h. not (is_channel_of number h)) others) (ended-aside number peer expiry others)
   where
-    by : (b : Bool) → is_channel_of number g ≡ b → (Channel number peer (Active expiry) ≡ g) ⊎ Has (Channel number peer (Active expiry)) others → event_room_for (filter (λ h. not (is_channel_of number h)) others) ≤ event_room_for others
+    by : (b : Bool) → is_channel_of number g ≡ b → (Channel number peer (Active expiry) ≡ g) ⊎ Has (Channel number peer (Active expiry)) others
+        → event_room_for (filter (λ h. not (is_channel_of number h)) others) ≤ event_room_for others
         → (Has (Channel number peer (Active expiry)) others → event_room_for (filter (λ h. not (is_channel_of number h)) others) + 2 ≤ event_room_for others)
         → event_room_for (filter (λ h. not (is_channel_of number h)) (g ∷ others)) + 2 ≤ event_room_for (g ∷ others)
     by true e (inl same) less rest = let two : events_of g ≡ 2 = ap events_of (sym same) in rw e (omega (arith, two, less))

@@ -25,11 +25,13 @@ own-listings : (id k : ℕ) (purposes : List Purpose) → (id == k) ≡ true →
 own-listings id k [] same = refl
 own-listings id k (p ∷ purposes) same = rw (same, own-listings id k purposes same) refl
 
-pub ArePurposesOf-list : (listed : List Listing) (id : ℕ) (purposes : Purposes) (find found : ℕ → Option Purposes) → ArePurposesOf listed find → list_any (λ l. l.id == id) listed ≡ false → ((k : ℕ) → found k ≡ cond (id == k) (Some purposes) (find k)) → ArePurposesOf (listed ++ listings id (purposes_in purposes)) found
+pub ArePurposesOf-list : (listed : List Listing) (id : ℕ) (purposes : Purposes) (find found : ℕ → Option Purposes) → ArePurposesOf listed find → list_any (λ l. l.id == id) listed ≡ false
+    → ((k : ℕ) → found k ≡ cond (id == k) (Some purposes) (find k)) → ArePurposesOf (listed ++ listings id (purposes_in purposes)) found
 ArePurposesOf-list listed id purposes find found were new put = λ k.
     rw (put k, filter-append (λ (l : Listing). l.id == k) listed (listings id (purposes_in purposes))) (by k (id == k) refl)
   where
-    by : (k : ℕ) (b : Bool) → (id == k) ≡ b → option_map_or purposes_in (cond (id == k) (Some purposes) (find k)) [] ≡ map (λ (l : Listing). l.purpose) (filter (λ (l : Listing). l.id == k) listed ++ filter (λ (l : Listing). l.id == k) (listings id (purposes_in purposes)))
+    by : (k : ℕ) (b : Bool) → (id == k) ≡ b → option_map_or purposes_in (cond (id == k) (Some purposes) (find k)) [] ≡ map (λ (l : Listing). l.purpose)
+        (filter (λ (l : Listing). l.id == k) listed ++ filter (λ (l : Listing). l.id == k) (listings id (purposes_in purposes)))
     by k true same =
         let is = eqb-true id k same in
         let before = none-there (λ (l : Listing). l.id == id) listed new in
@@ -78,13 +80,15 @@ purposes_listed-only : (keep : Purpose → Bool) (id : ℕ) (listed : List Listi
 purposes_listed-only keep id [] = refl
 purposes_listed-only keep id (l ∷ listed) = by (purposes_listed-only keep id listed) (l.id == id) refl (keep l.purpose) refl
   where
-    by : filter keep (purposes_listed id listed) ≡ purposes_listed id (filter (λ l. keep l.purpose) listed) → (a : Bool) → (l.id == id) ≡ a → (b : Bool) → keep l.purpose ≡ b → filter keep (purposes_listed id (l ∷ listed)) ≡ purposes_listed id (filter (λ l. keep l.purpose) (l ∷ listed))
+    by : filter keep (purposes_listed id listed) ≡ purposes_listed id (filter (λ l. keep l.purpose) listed) → (a : Bool) → (l.id == id) ≡ a → (b : Bool) → keep l.purpose ≡ b
+        → filter keep (purposes_listed id (l ∷ listed)) ≡ purposes_listed id (filter (λ l. keep l.purpose) (l ∷ listed))
     by later true a true b = rw (a, b, a, later) refl
     by later true a false b = rw (a, b) later
     by later false a true b = rw (a, b, a) later
     by later false a false b = rw (a, b) later
 
-pub ArePurposesOf-only : (keep : Purpose → Bool) (listed : List Listing) (find left found : ℕ → Option Purposes) → ArePurposesOf listed find → ((k : ℕ) → left k ≡ option_map (with_only keep) (find k)) → ((k : ℕ) → found k ≡ option_filter has_some (left k)) → ArePurposesOf (filter (λ l. keep l.purpose) listed) found
+pub ArePurposesOf-only : (keep : Purpose → Bool) (listed : List Listing) (find left found : ℕ → Option Purposes) → ArePurposesOf listed find
+    → ((k : ℕ) → left k ≡ option_map (with_only keep) (find k)) → ((k : ℕ) → found k ≡ option_filter has_some (left k)) → ArePurposesOf (filter (λ l. keep l.purpose) listed) found
 ArePurposesOf-only keep listed find left found were kept filled_only = λ k.
     rw (filled_only k, filled (left k), kept k, only-found keep (find k), were k) (purposes_listed-only keep k listed)
 
@@ -94,7 +98,8 @@ any-listed : (p : Listing → Bool) (listed : List Listing) → list_any p liste
 any-listed p [] = refl
 any-listed p (l ∷ listed) = by (any-listed p listed) (p l) refl
   where
-    by : list_any p listed ≡ ltb 0 (length (map (λ (l : Listing). l.purpose) (filter p listed))) → (b : Bool) → p l ≡ b → list_any p (l ∷ listed) ≡ ltb 0 (length (map (λ (l : Listing). l.purpose) (filter p (l ∷ listed))))
+    by : list_any p listed ≡ ltb 0 (length (map (λ (l : Listing). l.purpose) (filter p listed))) → (b : Bool) → p l ≡ b
+        → list_any p (l ∷ listed) ≡ ltb 0 (length (map (λ (l : Listing). l.purpose) (filter p (l ∷ listed))))
     by later true e = rw e (sym (lt-ltb 0 (length (l.purpose ∷ map (λ (l : Listing). l.purpose) (filter p listed))) (omega arith)))
     by later false e = rw e later
 

@@ -50,7 +50,14 @@ fold-min-append n xs ys =
 fold-min-both : {G : Type 0} (n : ℕ) (f h : G → List ℕ) (gs : List G) → fold min n (flat_map (λ g. f g ++ h g) gs) ≡ min (fold min n (flat_map f gs)) (fold min n (flat_map h gs))
 fold-min-both n f h [] = omega arith
 fold-min-both n f h (g ∷ gs) =
-    rw (fold-min-append n (f g ++ h g) (flat_map (λ g. f g ++ h g) gs), fold-min-append n (f g) (h g), fold-min-both n f h gs, fold-min-append n (f g) (flat_map f gs), fold-min-append n (h g) (flat_map h gs))
+    rw (
+      fold-min-append n (f g ++ h g) (flat_map (λ g. f g ++ h g) gs),
+      fold-min-append n (f g) (h g),
+      fold-min-both n f h gs,
+      fold-min-append n (f g) (flat_map f gs),
+      fold-min-append n (h g)
+          (flat_map h gs),
+    )
     (turned (fold min n (f g)) (fold min n (h g)) (fold min n (flat_map f gs)) (fold min n (flat_map h gs)))
   where
     turned : (a b c d : ℕ) → min (min a b) (min c d) ≡ min (min a c) (min b d)
@@ -198,7 +205,8 @@ flat-relays now (Connect peer ∷ gs) = flat-relays now gs
 flat-relays now (Offer offer ∷ gs) = flat-relays now gs
 flat-relays now (Connection c ∷ gs) = flat-relays now gs
 
-relay_ends-both : (now : ℕ) (first second : Option Relay) → relay_ends now (option_to_list first ++ option_to_list second) ≡ relay_ends now (option_to_list first) ++ relay_ends now (option_to_list second)
+relay_ends-both : (now : ℕ) (first second : Option Relay) → relay_ends now (option_to_list first ++ option_to_list second) ≡ relay_ends now (option_to_list first) ++ relay_ends now
+    (option_to_list second)
 relay_ends-both now None second = refl
 relay_ends-both now (Some a) None = sym (ap (λ (xs : List ℕ). xs) (append-nil (relay_ends now (a ∷ []))))
 relay_ends-both now (Some a) (Some b) = by (nat_lt now a.expiry)
@@ -221,12 +229,14 @@ soonest-is now pause moment s first second low early relays =
     let one = relay_ends now (option_to_list first) in
     let two = relay_ends now (option_to_list second) in
     -- the parts of the sum
-    let whole : fold min moment (all_times now pause s) ≡ min (fold min moment (flat_map (end_of now) s.grants)) (fold min moment (flat_map (λ g. map (max pause) (option_to_list (refresh_time s g))) s.grants)) =
+    let whole : fold min moment (all_times now pause s) ≡ min (fold min moment (flat_map (end_of now) s.grants))
+    (fold min moment (flat_map (λ g. map (max pause) (option_to_list (refresh_time s g))) s.grants)) =
     fold-min-both moment (end_of now) (λ g. map (max pause) (option_to_list (refresh_time s g))) s.grants in
     let later : fold min moment (flat_map (λ g. map (max pause) (option_to_list (refresh_time s g))) s.grants) ≡ min moment (max pause refresh) =
     ap (λ (xs : List ℕ). fold min moment xs) (flat-mapped pause (refresh_time s) s.grants)
     ∙ (fold-min-from moment max_time (map (max pause) times) low ∙ ap (λ (k : ℕ). min moment k) (fold-min-max pause max_time times early)) in
-    let all_ends : fold min moment (flat_map (end_of now) s.grants) ≡ min (fold min moment (flat_map (relay_end_in now) s.grants)) (fold min moment (flat_map (λ g. option_to_list (end_in g)) s.grants)) =
+    let all_ends : fold min moment (flat_map (end_of now) s.grants) ≡ min (fold min moment (flat_map (relay_end_in now) s.grants))
+    (fold min moment (flat_map (λ g. option_to_list (end_in g)) s.grants)) =
     ap (λ (xs : List ℕ). fold min moment xs) (flat-same (end_of now) (λ g. relay_end_in now g ++ option_to_list (end_in g)) (end-parts now) s.grants)
     ∙ fold-min-both moment (relay_end_in now) (λ g. option_to_list (end_in g)) s.grants in
     let own_ends : fold min moment (flat_map (λ g. option_to_list (end_in g)) s.grants) ≡ min moment end =

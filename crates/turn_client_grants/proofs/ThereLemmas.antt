@@ -88,7 +88,8 @@ channel-passes number (Connect peer) x found = let no : None ≡ Some x = found 
 channel-passes number (Offer offer) x found = let no : None ≡ Some x = found in cc
 channel-passes number (Connection c) x found = let no : None ≡ Some x = found in cc
 
-pub channel-there : (number : ℕ) (grants : List Grant) (peer : SocketAddr) → option_map (λ (p : SocketAddr × Progress). p.0) (first_among (channel_at number) grants) ≡ Some peer → list_any (is_channel_of number) grants ≡ true
+pub channel-there : (number : ℕ) (grants : List Grant) (peer : SocketAddr) → option_map (λ (p : SocketAddr × Progress). p.0) (first_among (channel_at number) grants) ≡ Some peer
+    → list_any (is_channel_of number) grants ≡ true
 channel-there number grants peer found = by (first_among (channel_at number) grants) refl
   where
     by : (f : Option (SocketAddr × Progress)) → first_among (channel_at number) grants ≡ f → list_any (is_channel_of number) grants ≡ true

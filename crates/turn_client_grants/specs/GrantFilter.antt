@@ -1,6 +1,7 @@
 -- Which grants a change applies to, as tests of a grant.
 use Rattle.std.specs.Prelude.{Bool, true, ◌&&◌, List, ◌++◌, option_to_list, is_some}
-use Rattle.turn_client_api.specs.Grants.{as_allocation, is_channel_of, is_connect, is_connect_to, is_connection_from, is_for_any, is_of, is_pending_channel, is_pending_permission, is_permission_of}
+use Rattle.turn_client_api.specs.Grants.{as_allocation, is_channel_of, is_connect, is_connect_to, is_connection_from, is_for_any, is_of, is_pending_channel}
+use Rattle.turn_client_api.specs.Grants.{is_pending_permission, is_permission_of}
 use Rattle.turn_client_api.specs.Calls.{is_granted_in}
 use Rattle.turn_client_api.specs.Effect.{is_asked_permission}
 use Rattle.turn_client_api.specs.Poll.{is_timed_out_offer, is_lapsed_permission, is_over, is_unbound}

@@ -8,11 +8,11 @@ ghost use Rattle.turn_client_api.specs.Requests.{listings};
 ghost use Rattle.turn_client_grants.specs.Table.{changed, unlisted_in};
 ghost use Rattle.turn_client_grants.specs.GrantFilter.{holds, purposes_in};
 
+use crate::grant_filter::GrantFilter;
 use crate::kind::{is_for_allocation, is_of_family};
 use crate::listed::is_for_one;
-use crate::time::{NANOS_PER_SECOND, later};
 use crate::purposes::Purposes;
-use crate::grant_filter::GrantFilter;
+use crate::time::{NANOS_PER_SECOND, later};
 use std::net::SocketAddr;
 use turn_client_api::{DataConnection, Grant, Listing, Progress, Purpose, Relay};
 use turn_stun::instant::Instant;

@@ -7,7 +7,7 @@ use crate::kind::{
     is_active, is_allocation, is_channel_of, is_connect, is_connect_to, is_connection_from, is_of,
     is_pending_channel, is_pending_permission, is_permission_of,
 };
-use crate::lapsed::{is_timed_out_offer, is_lapsed_permission, is_over, is_unbound};
+use crate::lapsed::{is_lapsed_permission, is_over, is_timed_out_offer, is_unbound};
 use crate::purposes::Purposes;
 use std::net::{IpAddr, SocketAddr};
 use turn_client_api::Grant;
@@ -73,7 +73,8 @@ impl GrantFilter {
             GrantFilter::LapsedPermissions(family, now) => {
                 is_of(*family, grant) && is_lapsed_permission(*now, grant)
             }
-            GrantFilter::FreedChannels(family, now) => is_of(*family, grant) && is_over(*now, grant),
+            GrantFilter::FreedChannels(family, now) => is_of(*family, grant)
+                && is_over(*now, grant),
             GrantFilter::PendingPermissionsOf(purposes) => {
                 is_pending_permission(grant) && purposes.are_for(grant)
             }
@@ -89,8 +90,10 @@ impl GrantFilter {
             GrantFilter::UnboundIn(family, now, purposes) => {
                 is_of(*family, grant) && is_unbound(*now, purposes, grant)
             }
-            GrantFilter::OffersIn(family, given) => is_of(*family, grant) && is_timed_out_offer(given, grant),
-            GrantFilter::AskedIn(family, purposes) => is_of(*family, grant) && purposes.are_for(grant),
+            GrantFilter::OffersIn(family, given) => is_of(*family, grant)
+                && is_timed_out_offer(given, grant),
+            GrantFilter::AskedIn(family, purposes) => is_of(*family, grant)
+                && purposes.are_for(grant),
         }
     }
 }

@@ -10,8 +10,8 @@ ghost use Rattle.turn_client_grants.specs.Table.{changed};
 ghost use Rattle.turn_client_grants.specs.GrantFilter.{holds};
 
 use crate::changes::Change;
-use crate::kind::{is_channel_of, is_permission_of};
 use crate::grant_filter::GrantFilter;
+use crate::kind::{is_channel_of, is_permission_of};
 use std::alloc::AllocError;
 use std::collections::HashMap;
 use std::hash::Hash;

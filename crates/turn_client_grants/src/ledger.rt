@@ -13,9 +13,9 @@ ghost use Rattle.turn_client_grants.specs.Table.{is_numbered};
 ghost use Rattle.turn_client_grants.specs.GrantFilter.{holds};
 
 use crate::changes::Change;
+use crate::grant_filter::GrantFilter;
 use crate::kind::{family_of_ip, is_same_transport};
 use crate::table::GrantTable;
-use crate::grant_filter::GrantFilter;
 use std::alloc::{AllocError, Global};
 use std::collections::VecDeque;
 use std::marker::Model;

@@ -20,17 +20,18 @@
 //! How requests are written and when they are sent is left to the crates above.
 #![tactic(auto)]
 
+mod allocation_events;
 mod changes;
 mod connections;
 mod due;
 mod failures;
+mod grant_filter;
 mod key;
 mod kind;
 mod lapsed;
 mod ledger;
 mod listed;
 mod listings;
-mod time;
 mod numbers;
 mod offers;
 mod purposes;
@@ -38,11 +39,10 @@ mod reads;
 mod refresh;
 mod summary;
 mod table;
-mod allocation_events;
-mod grant_filter;
+mod time;
 
+pub use grant_filter::GrantFilter;
 pub use kind::{family_of, family_of_ip};
 pub use ledger::GrantLedger;
 pub use purposes::Purposes;
 pub use table::GrantTable;
-pub use grant_filter::GrantFilter;

@@ -11,9 +11,9 @@ ghost use Rattle.turn_client_grants.specs.Table.{unlisted_in};
 ghost use Rattle.turn_client_grants.specs.GrantFilter.{holds, purposes_in};
 
 use crate::changes;
+use crate::grant_filter::GrantFilter;
 use crate::listed::has_id;
 use crate::purposes::Purposes;
-use crate::grant_filter::GrantFilter;
 use std::alloc::{AllocError, Global};
 use std::collections::HashMap;
 use std::marker::Model;

@@ -22,12 +22,12 @@ ghost use Rattle.turn_client_grants.specs.GrantFilter.{holds, purposes_in};
 
 use crate::changes::{self, Change};
 use crate::failures::{push_closes_back, push_failures_back, push_failures_front};
+use crate::grant_filter::GrantFilter;
 use crate::key::{self, Key};
 use crate::listings::Listings;
 use crate::offers;
 use crate::purposes::Purposes;
 use crate::summary::{Summary, summary_of};
-use crate::grant_filter::GrantFilter;
 use std::alloc::{AllocError, Global};
 use std::collections::{HashMap, VecDeque};
 use std::marker::Model;

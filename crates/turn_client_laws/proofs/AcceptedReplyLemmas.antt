@@ -12,10 +12,15 @@ use Rattle.turn_auth.specs.declared.validation.Validation.TheVariants.{Validated
 use Rattle.turn_agent.specs.Agent.{is_outstanding, is_response, same_address}
 use Rattle.turn_agent.specs.Agent as A
 use Rattle.turn_agent.proofs.TransactionLemmas.{is_outstanding-without}
-use Rattle.turn_client_api.specs.State.{State, DataConnection, Phase, New, Requesting, Authenticating, Allocated, Closed, auth_of}
+use Rattle.turn_client_api.specs.State.{State, auth_of}
+use Rattle.turn_client_api.specs.declared.grant.DataConnection.{DataConnection}
+use Rattle.turn_client_api.specs.declared.state.Phase.{Phase}
+use Rattle.turn_client_api.specs.declared.state.Phase.TheVariants.{New, Requesting, Authenticating, Allocated, Closed}
 use Rattle.turn_client_api.specs.Grants.{purposes_of}
 use Rattle.turn_client_api.specs.Requests.{connection_attempt_method, data_method, fresh_id, is_taken}
-use Rattle.turn_client_api.specs.Judgement.{Judgement, Unrelated, Challenged, Fatal, LateResponse, DataIndication, ConnectionAttempt, SignedRequest, SignedSuccess, SignedError, allocated_judgement, answers_allocate, answers_one, authenticating_judgement, bind_judgement, by_class, challenge_in, challenged_or, class_in, indication_judgement, is_bind_of, judgement_of, method_in}
+use Rattle.turn_client_api.specs.Judgement.{Judgement, Unrelated, Challenged, Fatal, LateResponse, DataIndication, ConnectionAttempt, SignedRequest, SignedSuccess, SignedError, allocated_judgement}
+use Rattle.turn_client_api.specs.Judgement.{answers_allocate, answers_one, authenticating_judgement, bind_judgement, by_class, challenge_in, challenged_or, class_in, indication_judgement, is_bind_of}
+use Rattle.turn_client_api.specs.Judgement.{judgement_of, method_in}
 use Rattle.turn_client_api.specs.Connections.{bind_answered}
 use Rattle.turn_client_api.specs.Payloads.{message_step}
 use Rattle.turn_client_laws.specs.LawsReplies.{IsAccepted}
@@ -49,7 +54,8 @@ authenticating-accepted s message = by (validation_of (auth_of s) message) refl
     wrong false h = h
 
     by : (v : Validation) → validation_of (auth_of s) message ≡ v → IsAccepted (authenticating_judgement s message) → is_outstanding (id_of message) s.transactions ≡ true
-    by (Validated algorithm) e = rw e (if-accepted (answers_allocate s message) (is_outstanding (id_of message) s.transactions) (by_class (class_in message)) LateResponse Unrelated (challenge_in s message) (λ h. h) (λ h. h))
+    by (Validated algorithm) e = rw e (if-accepted (answers_allocate s message) (is_outstanding (id_of message) s.transactions) (by_class (class_in message)) LateResponse Unrelated
+        (challenge_in s message) (λ h. h) (λ h. h))
     by (Refused integrity) e = rw e (λ h. absurd (never-accepted (answers_allocate s message) (cond integrity Fatal Unrelated) Unrelated (challenge_in s message) (wrong integrity) (λ x. x) h))
     by (ResendRequest algorithm) e = rw e (λ h. absurd (never-accepted (answers_allocate s message) Unrelated Unrelated (challenge_in s message) (λ x. x) (λ x. x) h))
 
@@ -69,7 +75,8 @@ standing false j h = absurd h
 allocated-accepted : (s : State) (message : List ℕ) → IsAccepted (allocated_judgement s message) → is_outstanding (id_of message) s.transactions ≡ true
 allocated-accepted s message = by (class_in message) refl (validation_of (auth_of s) message) refl
   where
-    by : (k : MessageClass) → class_in message ≡ k → (v : Validation) → validation_of (auth_of s) message ≡ v → IsAccepted (allocated_judgement s message) → is_outstanding (id_of message) s.transactions ≡ true
+    by : (k : MessageClass) → class_in message ≡ k → (v : Validation) → validation_of (auth_of s) message ≡ v → IsAccepted (allocated_judgement s message)
+        → is_outstanding (id_of message) s.transactions ≡ true
     by Indication e v f = rw e (λ h. absurd (indication-accepted message h))
     by Request e (Validated algorithm) f = rw (e, f, e) (λ h. absurd h)
     by Request e (Refused integrity) f = rw (e, f) (λ h. absurd h)
@@ -104,7 +111,8 @@ bind-outstanding local message s = by (validation_of (auth_of s) message) refl
 
 -- ---- an accepted reply ends its request
 
-pub accepted-ended : (message : List ℕ) (now : ℕ) (s : State) → IsAccepted (judgement_of s message) → is_outstanding (id_of message) (message_step message now s).1.transactions ≡ true → id_of message ≡ fresh_id s
+pub accepted-ended : (message : List ℕ) (now : ℕ) (s : State) → IsAccepted (judgement_of s message) → is_outstanding (id_of message) (message_step message now s).1.transactions ≡ true
+    → id_of message ≡ fresh_id s
 accepted-ended message now s = by (judgement_of s message) refl
   where
     id : ℕ
@@ -125,7 +133,8 @@ accepted-ended message now s = by (judgement_of s message) refl
     by ConnectionAttempt e = rw e (λ h is. absurd h)
     by SignedRequest e = rw e (λ h is. absurd h)
 
-pub bind-ended : (c : DataConnection) (message : List ℕ) (now : ℕ) (s : State) → IsAccepted (bind_judgement s c.local message) → is_outstanding (id_of message) (bind_answered c message now s).transactions ≡ false
+pub bind-ended : (c : DataConnection) (message : List ℕ) (now : ℕ) (s : State) → IsAccepted (bind_judgement s c.local message)
+    → is_outstanding (id_of message) (bind_answered c message now s).transactions ≡ false
 bind-ended c message now s = by (bind_judgement s c.local message) refl
   where
     by : (j : Judgement) → bind_judgement s c.local message ≡ j → IsAccepted (bind_judgement s c.local message) → is_outstanding (id_of message) (bind_answered c message now s).transactions ≡ false

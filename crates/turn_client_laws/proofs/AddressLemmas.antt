@@ -40,7 +40,8 @@ same_address-true (At.V4 a) (At.V4 b) h =
     ap (λ o. socket_v4 o (v4_port a)) (same_text (ipv4_octets (v4_ip a)) (ipv4_octets (v4_ip b)) (sym parts.0))
     ∙ ap (socket_v4 (ipv4_octets (v4_ip b))) (eqb-true (v4_port a) (v4_port b) parts.1)
 same_address-true (At.V6 a) (At.V6 b) h =
-    let scope = and_parts (pointwise eqb (ipv6_segments (v6_ip a)) (ipv6_segments (v6_ip b)) && eqb (v6_port a) (v6_port b) && eqb (v6_flowinfo a) (v6_flowinfo b)) (eqb (v6_scope_id a) (v6_scope_id b)) h in
+    let scope = and_parts (pointwise eqb (ipv6_segments (v6_ip a)) (ipv6_segments (v6_ip b)) && eqb (v6_port a) (v6_port b) && eqb (v6_flowinfo a) (v6_flowinfo b))
+    (eqb (v6_scope_id a) (v6_scope_id b)) h in
     let flow = and_parts (pointwise eqb (ipv6_segments (v6_ip a)) (ipv6_segments (v6_ip b)) && eqb (v6_port a) (v6_port b)) (eqb (v6_flowinfo a) (v6_flowinfo b)) scope.0 in
     let ip = and_parts (pointwise eqb (ipv6_segments (v6_ip a)) (ipv6_segments (v6_ip b))) (eqb (v6_port a) (v6_port b)) flow.0 in
     ap (λ o. socket_v6 o (v6_port a) (v6_flowinfo a) (v6_scope_id a)) (same_text (ipv6_segments (v6_ip a)) (ipv6_segments (v6_ip b)) (sym ip.0))

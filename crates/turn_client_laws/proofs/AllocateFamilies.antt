@@ -10,13 +10,21 @@ use Rattle.turn_types.specs.declared.family.AddressFamily.TheVariants.{IPV6}
 use Rattle.turn_agent.specs.Agent.{first_sent, is_outstanding, resent, sent_again}
 use Rattle.turn_agent.specs.declared.transaction.Transaction.{Transaction}
 use Rattle.turn_client_api.specs.Config.{Config}
-use Rattle.turn_client_api.specs.State.{State, initial, Phase, New, Requesting, Authenticating, Allocated, Closed, Grant, Allocation, Purpose, ForAllocation, Listing}
+use Rattle.turn_client_api.specs.State.{State, initial}
+use Rattle.turn_client_api.specs.declared.state.Phase.{Phase}
+use Rattle.turn_client_api.specs.declared.state.Phase.TheVariants.{New, Requesting, Authenticating, Allocated, Closed}
+use Rattle.turn_client_api.specs.declared.grant.Grant.{Grant}
+use Rattle.turn_client_api.specs.declared.grant.Grant.TheVariants.{Allocation}
+use Rattle.turn_client_api.specs.declared.grant.Purpose.{Purpose}
+use Rattle.turn_client_api.specs.declared.grant.Purpose.TheVariants.{ForAllocation}
+use Rattle.turn_client_api.specs.declared.grant.Listing.{Listing}
 use Rattle.turn_client_api.specs.Grants.{is_channel_of, is_connect_to, is_for, is_of, is_permission_of, purposes_of, without_grants}
 use Rattle.turn_client_api.specs.Requests.{request_started, first_allocate, listings, request_for}
 use Rattle.turn_client_api.specs.Effect.{transaction_ended, phase_with, relayed_in, taken_addresses}
 use Rattle.turn_client_api.specs.Retry.{phase_after}
 use Rattle.turn_client_laws.specs.Handled.{Input, handled}
-use Rattle.turn_client_api.specs.Steps.{Call, Leaves}
+use Rattle.turn_client_api.specs.Steps.{Leaves}
+use Rattle.turn_client_api.specs.declared.call.Call.{Call}
 use Rattle.turn_client_laws.specs.LawsAllocates.{AllocatesAsAsked, AllocatesInOrder, AsksForFamilies, HasConfiguredFamilies, IsAllocate, IsAllocationInput, IsAskedForFamilies}
 use Rattle.turn_client_laws.specs.LawsGranted.{IsEndedNow, IsGrantInput, WasActive}
 use Rattle.turn_client_laws.specs.LawsHandled.{IsDoneBy}
@@ -164,7 +172,8 @@ module _ (id : ℕ) (text : List ℕ) (purposes : List Purpose) (now : ℕ) (s :
   asked-all y here there = of (ungranted-or s.phase)
     where
       -- under another ID all is unchanged
-      other : eqb y.id id ≡ false → Has y s.transactions ⊎ Has y (new ∷ []) → Has (listing y.id ForAllocation) s.listed ⊎ ((p : Purpose) × Has p purposes × (listing y.id ForAllocation ≡ listing id p)) → HasAsked y.id t
+      other : eqb y.id id ≡ false → Has y s.transactions ⊎ Has y (new ∷ []) → Has (listing y.id ForAllocation) s.listed
+          ⊎ ((p : Purpose) × Has p purposes × (listing y.id ForAllocation ≡ listing id p)) → HasAsked y.id t
       other f (inl old) (inl listed) = let (x, is, same, asks) = h.2 y old listed in (x, has-left x s.transactions (new ∷ []) is, same, asks)
       other f (inr (inl e)) listed = let no : false ≡ true = sym f ∙ eq-eqb y.id id (ap (λ (x : Transaction). x.id) e) in cc
       other f (inr (inr none)) listed = absurd none
@@ -299,7 +308,13 @@ in_order-stated s h = ((λ u l there. h.0 u l (contains-has l s.listed there), �
         (x, has-contains x s.transactions is, same ∙ named, asks)
 
 pub stated-in_order : (s : State) → AllocatesInOrder s → IsInOrder s
-stated-in_order s ((alone, none), request_started, configured) = (λ u l there. alone u l (has-contains l s.listed there), λ granted id there. none granted id (has-contains (listing id ForAllocation) s.listed there), all, configured)
+stated-in_order s ((alone, none), request_started, configured) = (
+  λ u l there. alone u l (has-contains l s.listed there),
+  λ granted id there. none granted id
+      (has-contains (listing id ForAllocation) s.listed there),
+  all,
+  configured,
+)
   where
     all : AllAsked s
     all y here there =
@@ -331,7 +346,8 @@ leaves-allocations call s t leaves h a there = by (leaves-grants call s t (Alloc
             let listed = purpose-with (id_of one.bytes) ForAllocation one.before (contains-has ForAllocation (purposes_of (id_of one.bytes) one.before) answers) in
             order.1 (id_of one.bytes) (has-contains (listing (id_of one.bytes) ForAllocation) one.before.listed listed) turn.grant.1.outstanding
 
-    by : WasActive s (Allocation a) ⊎ IsEndedNow call s (Allocation a) ⊎ IsDoneBy (IsGrantInput (Allocation a)) call s → WasActive s (Allocation a) ⊎ IsEndedNow call s (Allocation a) ⊎ IsDoneBy (IsAllocationInput a) call s
+    by : WasActive s (Allocation a) ⊎ IsEndedNow call s (Allocation a) ⊎ IsDoneBy (IsGrantInput (Allocation a)) call s → WasActive s (Allocation a) ⊎ IsEndedNow call s (Allocation a)
+        ⊎ IsDoneBy (IsAllocationInput a) call s
     by (inl stood) = inl stood
     by (inr (inl transaction_ended)) = inr (inl transaction_ended)
     by (inr (inr (one, among, turn))) = inr (inr (one, among, turned one among turn))

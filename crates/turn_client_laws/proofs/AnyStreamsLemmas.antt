@@ -9,14 +9,20 @@ use Rattle.turn_stun.specs.Message.{id_of}
 use Rattle.turn_stun.specs.declared.transport.TransportType.TheVariants.{Tcp}
 use Rattle.turn_types.specs.declared.family.AddressFamily.{AddressFamily}
 use Rattle.turn_auth.specs.LongTerm.{Challenge}
-use Rattle.turn_client_api.specs.State.{State, Stream, Progress, Pending, Active, Reserved, Phase, New, Requesting, Authenticating, Allocated, Closed}
-use Rattle.turn_client_api.specs.State.{Purpose, ForAllocation, ForRefresh, ForPermission, ForChannel, ForConnect, ForBind}
+use Rattle.turn_client_api.specs.State.{State}
+use Rattle.turn_client_api.specs.declared.state.Stream.{Stream}
+use Rattle.turn_client_api.specs.declared.grant.Progress.{Progress}
+use Rattle.turn_client_api.specs.declared.grant.Progress.TheVariants.{Pending, Active, Reserved}
+use Rattle.turn_client_api.specs.declared.state.Phase.{Phase}
+use Rattle.turn_client_api.specs.declared.state.Phase.TheVariants.{New, Requesting, Authenticating, Allocated, Closed}
+use Rattle.turn_client_api.specs.declared.grant.Purpose.{Purpose}
+use Rattle.turn_client_api.specs.declared.grant.Purpose.TheVariants.{ForAllocation, ForRefresh, ForPermission, ForChannel, ForConnect, ForBind}
 use Rattle.turn_client_api.specs.Grants.{find_allocation_to, channel_at, first_in, permission_state, purposes_of}
 use Rattle.turn_client_api.specs.Requests.{connection_attempt_method, fresh_id}
-use Rattle.turn_client_api.specs.Judgement.{Judgement, Unrelated, Challenged, Fatal, LateResponse, DataIndication, ConnectionAttempt, SignedRequest, SignedSuccess, SignedError, judgement_of, connection_id_in}
-use Rattle.turn_client_api.specs.Judgement.{lifetime_in, method_in, peer_in}
-use Rattle.turn_client_api.specs.Effect.{allocate_denied, allocate_granted, allocation_mismatch, channel_answered, connect_answered, effect, transaction_ended, family_not_supported, has_code, min_lifetime}
-use Rattle.turn_client_api.specs.Effect.{permission_answered, permission_answered_for, listed_permissions_answered, prolonged, refreshed}
+use Rattle.turn_client_api.specs.Judgement.{Judgement, Unrelated, Challenged, Fatal, LateResponse, DataIndication, ConnectionAttempt, SignedRequest, SignedSuccess, SignedError, judgement_of}
+use Rattle.turn_client_api.specs.Judgement.{connection_id_in, lifetime_in, method_in, peer_in}
+use Rattle.turn_client_api.specs.Effect.{allocate_denied, allocate_granted, allocation_mismatch, channel_answered, connect_answered, effect, transaction_ended, family_not_supported, has_code}
+use Rattle.turn_client_api.specs.Effect.{min_lifetime, permission_answered, permission_answered_for, listed_permissions_answered, prolonged, refreshed}
 use Rattle.turn_client_api.specs.Retry.{max_challenges, retried}
 use Rattle.turn_client_api.specs.Connections.{attempt_indicated, attempt_requested, is_connected, accepts_attempt}
 use Rattle.turn_client_api.specs.Payloads.{Outcome, Handled, Ignored, answered_purposes, challenge_step, message_step, response_step, signed_step, wrong_step}
@@ -38,7 +44,8 @@ module _ (x : List Stream) where
   pair-cond true t u v w k l = k
   pair-cond false t u v w k l = l
 
-  alike-fold : {X : Type 0} (f : State → X → State) → ((t : State) (y : X) → f (with_streams x t) y ≡ with_streams x (f t y)) → (ys : List X) (s : State) → fold f (with_streams x s) ys ≡ with_streams x (fold f s ys)
+  alike-fold : {X : Type 0} (f : State → X → State) → ((t : State) (y : X) → f (with_streams x t) y ≡ with_streams x (f t y)) → (ys : List X) (s : State)
+      → fold f (with_streams x s) ys ≡ with_streams x (fold f s ys)
   alike-fold f step [] s = refl
   alike-fold f step (y ∷ ys) s = ap (λ t. fold f t ys) (step s y) ∙ alike-fold f step ys (f s y)
 
@@ -55,7 +62,8 @@ module _ (x : List Stream) where
       by (Some (Active expiry)) e false = rw e refl
       by (Some (Reserved until)) e g = rw e refl
 
-  permission_state-alike : (is_granted : Bool) (now : ℕ) (t : State) (p : Purpose) → permission_answered_for is_granted now (with_streams x t) p ≡ with_streams x (permission_answered_for is_granted now t p)
+  permission_state-alike : (is_granted : Bool) (now : ℕ) (t : State) (p : Purpose)
+      → permission_answered_for is_granted now (with_streams x t) p ≡ with_streams x (permission_answered_for is_granted now t p)
   permission_state-alike is_granted now t (ForPermission ip) = permission-alike ip is_granted now t
   permission_state-alike is_granted now t ForAllocation = refl
   permission_state-alike is_granted now t (ForRefresh family lifetime) = refl
@@ -63,13 +71,16 @@ module _ (x : List Stream) where
   permission_state-alike is_granted now t (ForConnect peer) = refl
   permission_state-alike is_granted now t (ForBind local peer id) = refl
 
-  permissions-alike : (id : ℕ) (is_granted : Bool) (now : ℕ) (s : State) → listed_permissions_answered id is_granted now (with_streams x s) ≡ with_streams x (listed_permissions_answered id is_granted now s)
+  permissions-alike : (id : ℕ) (is_granted : Bool) (now : ℕ) (s : State) → listed_permissions_answered id is_granted now (with_streams x s) ≡ with_streams x
+      (listed_permissions_answered id is_granted now s)
   permissions-alike id is_granted now s = alike-fold (permission_answered_for is_granted now) (permission_state-alike is_granted now) (purposes_of id s) s
 
-  channel-alike : (number id : ℕ) (is_granted : Bool) (now : ℕ) (s : State) → channel_answered number id is_granted now (with_streams x s) ≡ with_streams x (channel_answered number id is_granted now s)
+  channel-alike : (number id : ℕ) (is_granted : Bool) (now : ℕ) (s : State) → channel_answered number id is_granted now (with_streams x s) ≡ with_streams x
+      (channel_answered number id is_granted now s)
   channel-alike number id is_granted now s = by (first_in (channel_at number) s) refl is_granted
     where
-      by : (o : Option (SocketAddr × Progress)) → first_in (channel_at number) s ≡ o → (g : Bool) → channel_answered number id g now (with_streams x s) ≡ with_streams x (channel_answered number id g now s)
+      by : (o : Option (SocketAddr × Progress)) → first_in (channel_at number) s ≡ o → (g : Bool)
+          → channel_answered number id g now (with_streams x s) ≡ with_streams x (channel_answered number id g now s)
       by None e g = rw e refl
       by (Some (peer, Pending)) e true = rw (e, permissions-alike id true now s) refl
       by (Some (peer, Pending)) e false = rw e refl
@@ -81,17 +92,20 @@ module _ (x : List Stream) where
   connect-alike peer (Some id) s = refl
   connect-alike peer None s = refl
 
-  refreshed-alike : (family : AddressFamily) (lifetime : ℕ) (is_granted : Bool) (message : List ℕ) (now : ℕ) (s : State) → refreshed family lifetime is_granted message now (with_streams x s) ≡ with_streams x (refreshed family lifetime is_granted message now s)
+  refreshed-alike : (family : AddressFamily) (lifetime : ℕ) (is_granted : Bool) (message : List ℕ) (now : ℕ) (s : State)
+      → refreshed family lifetime is_granted message now (with_streams x s) ≡ with_streams x (refreshed family lifetime is_granted message now s)
   refreshed-alike family lifetime is_granted message now s =
       alike-cond (eqb lifetime 0) _ _ _ _
       (alike-cond (is_granted || has_code allocation_mismatch message) _ _ _ _ refl refl)
       (alike-cond is_granted _ _ _ _ (by (lifetime_in message)) refl)
     where
-      by : (o : Option ℕ) → option_map_or (λ granted. prolonged family granted now (with_streams x s)) o (with_streams x s) ≡ with_streams x (option_map_or (λ granted. prolonged family granted now s) o s)
+      by : (o : Option ℕ) → option_map_or (λ granted. prolonged family granted now (with_streams x s)) o (with_streams x s) ≡ with_streams x
+          (option_map_or (λ granted. prolonged family granted now s) o s)
       by None = refl
       by (Some granted) = alike-cond (leb min_lifetime granted) _ _ _ _ refl refl
 
-  effect-alike : (id : ℕ) (is_granted : Bool) (message : List ℕ) (now : ℕ) (s : State) (p : Purpose) → effect id is_granted message now (with_streams x s) p ≡ with_streams x (effect id is_granted message now s p)
+  effect-alike : (id : ℕ) (is_granted : Bool) (message : List ℕ) (now : ℕ) (s : State) (p : Purpose)
+      → effect id is_granted message now (with_streams x s) p ≡ with_streams x (effect id is_granted message now s p)
   effect-alike id is_granted message now s (ForRefresh family lifetime) = refreshed-alike family lifetime is_granted message now s
   effect-alike id is_granted message now s (ForPermission ip) = ap (λ (t : State). record t { challenges = 0 }) (permission-alike ip is_granted now s)
   effect-alike id is_granted message now s (ForChannel number peer) = ap (λ (t : State). record t { challenges = 0 }) (channel-alike number id is_granted now s)
@@ -104,7 +118,8 @@ module _ (x : List Stream) where
   challenge-alike : (message : List ℕ) (d : Challenge) (now : ℕ) (s : State) → challenge_step message d now (with_streams x s) ≡ both_with x (challenge_step message d now s)
   challenge-alike message d now s = by (ltb s.challenges max_challenges) refl (retried (purposes_of (id_of message) s)) refl
     where
-      by : (b : Bool) → ltb s.challenges max_challenges ≡ b → (o : Option Purpose) → retried (purposes_of (id_of message) s) ≡ o → challenge_step message d now (with_streams x s) ≡ both_with x (challenge_step message d now s)
+      by : (b : Bool) → ltb s.challenges max_challenges ≡ b → (o : Option Purpose) → retried (purposes_of (id_of message) s) ≡ o
+          → challenge_step message d now (with_streams x s) ≡ both_with x (challenge_step message d now s)
       by false e o f = rw e refl
       by true e None f = rw (e, f) refl
       by true e (Some purpose) f = rw (e, f) refl
@@ -131,7 +146,8 @@ module _ (x : List Stream) where
   denied-alike : (fresh : ℕ) (message : List ℕ) (now : ℕ) (s : State) → allocate_denied fresh message now (with_streams x s) ≡ with_streams x (allocate_denied fresh message now s)
   denied-alike fresh message now s = alike-cond (has_code family_not_supported message && leb 2 (length s.families)) _ _ _ _ refl refl
 
-  signed-alike : (p : Phase) (is_granted : Bool) (message : List ℕ) (now : ℕ) (s : State) → signed_step is_granted message now (with_streams x (record s { phase = p })) ≡ both_with x (signed_step is_granted message now (record s { phase = p }))
+  signed-alike : (p : Phase) (is_granted : Bool) (message : List ℕ) (now : ℕ) (s : State)
+      → signed_step is_granted message now (with_streams x (record s { phase = p })) ≡ both_with x (signed_step is_granted message now (record s { phase = p }))
   signed-alike Authenticating true message now s = ap (λ (t : State). (Handled, t)) (granted-alike message now (transaction_ended (id_of message) (record s { phase = Authenticating })))
   signed-alike Authenticating false message now s = ap (λ (t : State). (Handled, t)) (denied-alike (fresh_id s) message now (transaction_ended (id_of message) (record s { phase = Authenticating })))
   signed-alike New g message now s = response-alike g message now (record s { phase = New })
@@ -150,17 +166,22 @@ module _ (x : List Stream) where
       by (Some id) e None f = rw (e, f) refl
       by None e p f = rw e refl
 
-  indicated-alike : (message : List ℕ) (s : State) → option_map_or {T = State} {U = Outcome × State} (λ t. (Handled, t)) (attempt_indicated message (with_streams x s)) (Ignored, with_streams x s) ≡ both_with x (option_map_or {T = State} {U = Outcome × State} (λ t. (Handled, t)) (attempt_indicated message s) (Ignored, s))
+  indicated-alike : (message : List ℕ) (s : State) → option_map_or {T = State} {U = Outcome × State} (λ t. (Handled, t)) (attempt_indicated message (with_streams x s))
+      (Ignored, with_streams x s) ≡ both_with x (option_map_or {T = State} {U = Outcome × State} (λ t. (Handled, t)) (attempt_indicated message s) (Ignored, s))
   indicated-alike message s = by (connection_id_in message) refl (peer_in message) refl
     where
       Goal : Type 0
-      Goal = option_map_or {T = State} {U = Outcome × State} (λ t. (Handled, t)) (attempt_indicated message (with_streams x s)) (Ignored, with_streams x s) ≡ both_with x (option_map_or {T = State} {U = Outcome × State} (λ t. (Handled, t)) (attempt_indicated message s) (Ignored, s))
+      Goal = option_map_or {T = State} {U = Outcome × State} (λ t. (Handled, t)) (attempt_indicated message (with_streams x s)) (Ignored, with_streams x s) ≡ both_with x
+          (option_map_or {T = State} {U = Outcome × State} (λ t. (Handled, t)) (attempt_indicated message s) (Ignored, s))
 
-      heeded_if : (b : Bool) (t : State) → option_map_or {T = State} {U = Outcome × State} (λ t. (Handled, t)) (cond b (Some (with_streams x t)) None) (Ignored, with_streams x s) ≡ both_with x (option_map_or {T = State} {U = Outcome × State} (λ t. (Handled, t)) (cond b (Some t) None) (Ignored, s))
+      heeded_if : (b : Bool) (t : State) → option_map_or {T = State} {U = Outcome × State} (λ t. (Handled, t)) (cond b (Some (with_streams x t)) None) (Ignored, with_streams x s) ≡ both_with x
+          (option_map_or {T = State} {U = Outcome × State} (λ t. (Handled, t)) (cond b (Some t) None) (Ignored, s))
       heeded_if true t = refl
       heeded_if false t = refl
 
-      by : (i : Option ℕ) → connection_id_in message ≡ i → (p : Option SocketAddr) → peer_in message ≡ p → option_map_or {T = State} {U = Outcome × State} (λ t. (Handled, t)) (attempt_indicated message (with_streams x s)) (Ignored, with_streams x s) ≡ both_with x (option_map_or {T = State} {U = Outcome × State} (λ t. (Handled, t)) (attempt_indicated message s) (Ignored, s))
+      by : (i : Option ℕ) → connection_id_in message ≡ i → (p : Option SocketAddr) → peer_in message ≡ p
+          → option_map_or {T = State} {U = Outcome × State} (λ t. (Handled, t)) (attempt_indicated message (with_streams x s)) (Ignored, with_streams x s) ≡ both_with x
+          (option_map_or {T = State} {U = Outcome × State} (λ t. (Handled, t)) (attempt_indicated message s) (Ignored, s))
       by (Some id) e (Some peer) f = rw (e, f) (heeded_if (accepts_attempt peer s) _)
       by (Some id) e None f = rw (e, f) refl
       by None e p f = rw e refl

@@ -8,7 +8,12 @@ use Rattle.turn_auth.specs.Validation.{validation_of}
 use Rattle.turn_auth.specs.declared.validation.Validation.{Validation}
 use Rattle.turn_auth.specs.declared.validation.Validation.TheVariants.{Validated, ResendRequest, Refused}
 use Rattle.turn_agent.specs.Agent.{is_outstanding, is_response, same_address}
-use Rattle.turn_client_api.specs.State.{State, Waiting, Stream, DataConnection, Purpose, ForAllocation, ForRefresh, ForPermission, ForChannel, ForConnect, ForBind, auth_of}
+use Rattle.turn_client_api.specs.State.{State, auth_of}
+use Rattle.turn_client_api.specs.declared.state.Mode.TheVariants.{Waiting}
+use Rattle.turn_client_api.specs.declared.state.Stream.{Stream}
+use Rattle.turn_client_api.specs.declared.grant.DataConnection.{DataConnection}
+use Rattle.turn_client_api.specs.declared.grant.Purpose.{Purpose}
+use Rattle.turn_client_api.specs.declared.grant.Purpose.TheVariants.{ForAllocation, ForRefresh, ForPermission, ForChannel, ForConnect, ForBind}
 use Rattle.turn_client_api.specs.Grants.{purposes_of}
 use Rattle.turn_client_api.specs.Judgement.{Judgement, Fatal, SignedSuccess, bind_judgement, by_class, challenge_in, challenged_or, class_in, is_bind_of}
 use Rattle.turn_client_api.specs.Payloads.{is_message}
@@ -23,7 +28,8 @@ use Rattle.turn_client_laws.proofs.GrantOriginCallLemmas.{Binds}
 -- ---- how it is judged
 
 -- a message binds the connection only as a signed success to the request that was made for it
-pub bind-granted : (s : State) (local : SocketAddr) (message : List ℕ) → bind_judgement s local message ≡ SignedSuccess → IsSignedSuccess message s × (list_any (is_bind_of local) (purposes_of (id_of message) s) ≡ true)
+pub bind-granted : (s : State) (local : SocketAddr) (message : List ℕ) → bind_judgement s local message ≡ SignedSuccess → IsSignedSuccess message s
+    × (list_any (is_bind_of local) (purposes_of (id_of message) s) ≡ true)
 bind-granted s local message = by (validation_of (auth_of s) message) refl
   where
     is_asked : Bool
@@ -77,7 +83,8 @@ pub found-local : (local : SocketAddr) (c : DataConnection) (cs : List DataConne
 found-local local c cs e = same_address-true c.local local (has-found (λ (d : DataConnection). same_address d.local local) c cs e).1
 
 -- the input of a message that binds the connection
-pub binds-turn : (one : Input) (stream : Stream) (t : State) → one.stream ≡ Some stream → stream.mode ≡ Waiting → is_message one.bytes ≡ true → (b : Binds stream.local one.bytes one.before t) → IsBindInput stream.local b.c.peer one
+pub binds-turn : (one : Input) (stream : Stream) (t : State) → one.stream ≡ Some stream → stream.mode ≡ Waiting → is_message one.bytes ≡ true → (b : Binds stream.local one.bytes one.before t)
+    → IsBindInput stream.local b.c.peer one
 binds-turn one stream t of waits whole b = record {
   over = rw of (waits, refl);
   whole = whole;

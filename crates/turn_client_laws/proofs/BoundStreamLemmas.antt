@@ -4,12 +4,21 @@ use Rattle.std.specs.Prelude.{filter, is_some}
 use Rattle.std.specs.List.{Contains}
 use Rattle.std.specs.declared.net.socket_addr.SocketAddr.{SocketAddr}
 use Rattle.turn_agent.specs.Agent.{same_address}
-use Rattle.turn_client_api.specs.State.{State, Mode, Waiting, Bound, Stream, Allocation, Permission, Channel, Connect, Offer, Connection, DataConnection, Pending, Active, Reserved}
+use Rattle.turn_client_api.specs.State.{State}
+use Rattle.turn_client_api.specs.declared.state.Mode.{Mode}
+use Rattle.turn_client_api.specs.declared.state.Mode.TheVariants.{Waiting, Bound}
+use Rattle.turn_client_api.specs.declared.state.Stream.{Stream}
+use Rattle.turn_client_api.specs.declared.grant.Grant.TheVariants.{Allocation, Permission, Channel, Connect, Offer, Connection}
+use Rattle.turn_client_api.specs.declared.grant.DataConnection.{DataConnection}
+use Rattle.turn_client_api.specs.declared.grant.Progress.TheVariants.{Pending, Active, Reserved}
 use Rattle.turn_client_api.specs.Connections.{bind_step, connection_at}
 use Rattle.turn_client_api.specs.Payloads.{is_message, message_step}
 use Rattle.turn_client_api.specs.Receive.{connection_gone}
 use Rattle.turn_client_laws.specs.Handled.{Input}
-use Rattle.turn_client_api.specs.Steps.{Call, Leaves, state_after, Delete, CreatePermission, BindChannel, TcpConnect, AllocatedTcpSocket, TcpClosed, SendTo, Recv, PollRecv, Poll, PollTransmit, PollEvent, RelayedAddresses, Permissions, HavePermission, ProtocolError}
+use Rattle.turn_client_api.specs.Steps.{Leaves, state_after}
+use Rattle.turn_client_api.specs.declared.call.Call.{Call}
+use Rattle.turn_client_api.specs.declared.call.Call.TheVariants.{Delete, CreatePermission, BindChannel, TcpConnect, AllocatedTcpSocket, TcpClosed, SendTo, Recv, PollRecv, Poll, PollTransmit}
+use Rattle.turn_client_api.specs.declared.call.Call.TheVariants.{PollEvent, RelayedAddresses, Permissions, HavePermission, ProtocolError}
 use Rattle.turn_client_laws.specs.LawsBound.{IsBindInput, IsBoundBy, IsBoundConnection, IsConnectedBy}
 use Rattle.turn_client_laws.specs.LawsGranted.{IsEndedNow, IsGrantedIn, WasActive}
 use Rattle.turn_client_laws.specs.LawsHandled.{IsBoundAt, IsDoneBy}
@@ -38,7 +47,8 @@ module _ (local peer : SocketAddr) where
       by true f = let is : x ≡ record z { mode = mode } = e ∙ rw f refl in inr (rw is (same_address-true z.local a f), rw is refl)
       by false f = inl (e ∙ rw f refl)
 
-  bind-bound : (one : Input) (stream : Stream) (t : State) → one.stream ≡ Some stream → stream.mode ≡ Waiting → is_message one.bytes ≡ true → Binds stream.local one.bytes one.before t → IsBoundAt local peer t → IsBoundAt local peer one.before ⊎ IsBindInput local peer one
+  bind-bound : (one : Input) (stream : Stream) (t : State) → one.stream ≡ Some stream → stream.mode ≡ Waiting → is_message one.bytes ≡ true → Binds stream.local one.bytes one.before t
+      → IsBoundAt local peer t → IsBoundAt local peer one.before ⊎ IsBindInput local peer one
   bind-bound one stream t of waits whole b (x, there, at, mode) = by (has-mapped f x one.before.streams (subst (Has x) b.streams (contains-has x t.streams there)))
     where
       f : Stream → Stream
@@ -98,7 +108,8 @@ module _ (local peer : SocketAddr) where
 
   pub leaves-bound : (call : Call) (s t : State) → Leaves call s t → IsBoundAt local peer t → IsBoundBy local peer call s
   leaves-bound call s t leaves h =
-      by (leaves-bring (IsBoundAt local peer) (IsBindInput local peer) bringing (λ call s. ⊥) (λ call s other there. inl (opened-bound s (state_after call s) (others-opened call s other) there)) call s t leaves h)
+      by (leaves-bring (IsBoundAt local peer) (IsBindInput local peer) bringing (λ call s. ⊥)
+      (λ call s other there. inl (opened-bound s (state_after call s) (others-opened call s other) there)) call s t leaves h)
     where
       by : IsBoundAt local peer s ⊎ ⊥ ⊎ IsDoneBy (IsBindInput local peer) call s → IsBoundAt local peer s ⊎ IsDoneBy (IsBindInput local peer) call s
       by (inl there) = inl there

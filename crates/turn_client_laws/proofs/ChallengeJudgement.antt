@@ -9,9 +9,12 @@ use Rattle.turn_auth.specs.Validation.{validation_of}
 use Rattle.turn_auth.specs.declared.validation.Validation.{Validation}
 use Rattle.turn_auth.specs.declared.validation.Validation.TheVariants.{Validated, ResendRequest, Refused}
 use Rattle.turn_agent.specs.Agent.{is_outstanding, is_response}
-use Rattle.turn_client_api.specs.State.{State, Phase, New, Requesting, Authenticating, Allocated, Closed, auth_of}
+use Rattle.turn_client_api.specs.State.{State, auth_of}
+use Rattle.turn_client_api.specs.declared.state.Phase.{Phase}
+use Rattle.turn_client_api.specs.declared.state.Phase.TheVariants.{New, Requesting, Authenticating, Allocated, Closed}
 use Rattle.turn_client_api.specs.Requests.{connection_attempt_method, data_method}
-use Rattle.turn_client_api.specs.Judgement.{Judgement, Unrelated, Challenged, Fatal, LateResponse, DataIndication, ConnectionAttempt, judgement_of, bind_judgement, by_class, challenged_or, challenge_in, answers_one, answers_allocate, authenticating_judgement, allocated_judgement, indication_judgement, class_in, method_in}
+use Rattle.turn_client_api.specs.Judgement.{Judgement, Unrelated, Challenged, Fatal, LateResponse, DataIndication, ConnectionAttempt, judgement_of, bind_judgement, by_class, challenged_or}
+use Rattle.turn_client_api.specs.Judgement.{challenge_in, answers_one, answers_allocate, authenticating_judgement, allocated_judgement, indication_judgement, class_in, method_in}
 
 -- ---- challenges
 
@@ -39,8 +42,10 @@ authenticating-is : (s : State) (message : List ℕ) (c : Challenge) → authent
 authenticating-is s message c = by (validation_of (auth_of s) message) refl
   where
     by : (v : Validation) → validation_of (auth_of s) message ≡ v → authenticating_judgement s message ≡ Challenged c → challenge_in s message ≡ Some c
-    by (Validated algorithm) e = rw e (if-is (answers_allocate s message) (cond (is_outstanding (id_of message) s.transactions) (by_class (class_in message)) LateResponse) Unrelated (challenge_in s message) c (cond-plain (is_outstanding (id_of message) s.transactions) (by_class (class_in message)) LateResponse c (by_class-plain (class_in message) c) (λ e. cc)) (λ e. cc))
-    by (Refused integrity) e = rw e (if-is (answers_allocate s message) (cond integrity Fatal Unrelated) Unrelated (challenge_in s message) c (cond-plain integrity Fatal Unrelated c (λ e. cc) (λ e. cc)) (λ e. cc))
+    by (Validated algorithm) e = rw e (if-is (answers_allocate s message) (cond (is_outstanding (id_of message) s.transactions) (by_class (class_in message)) LateResponse) Unrelated
+        (challenge_in s message) c (cond-plain (is_outstanding (id_of message) s.transactions) (by_class (class_in message)) LateResponse c (by_class-plain (class_in message) c) (λ e. cc)) (λ e. cc))
+    by (Refused integrity) e = rw e (if-is (answers_allocate s message) (cond integrity Fatal Unrelated) Unrelated (challenge_in s message) c
+        (cond-plain integrity Fatal Unrelated c (λ e. cc) (λ e. cc)) (λ e. cc))
     by (ResendRequest algorithm) e = rw e (if-is (answers_allocate s message) Unrelated Unrelated (challenge_in s message) c (λ e. cc) (λ e. cc))
 
 indication-plain : (message : List ℕ) (c : Challenge) → indication_judgement message ≡ Challenged c → ⊥
@@ -54,7 +59,8 @@ allocated-is s message c = by (challenge_in s message) refl (class_in message) r
     valid : cond (is_response (class_in message) && not (is_outstanding (id_of message) s.transactions)) Unrelated (by_class (class_in message)) ≡ Challenged c → ⊥
     valid = cond-plain (is_response (class_in message) && not (is_outstanding (id_of message) s.transactions)) Unrelated (by_class (class_in message)) c (λ e. cc) (by_class-plain (class_in message) c)
 
-    by : (o : Option Challenge) → challenge_in s message ≡ o → (k : MessageClass) → class_in message ≡ k → (v : Validation) → validation_of (auth_of s) message ≡ v → allocated_judgement s message ≡ Challenged c → challenge_in s message ≡ Some c
+    by : (o : Option Challenge) → challenge_in s message ≡ o → (k : MessageClass) → class_in message ≡ k → (v : Validation) → validation_of (auth_of s) message ≡ v
+        → allocated_judgement s message ≡ Challenged c → challenge_in s message ≡ Some c
     by o g Indication e v f = rw e (λ h. absurd (indication-plain message c h))
     by o g Request e (Validated algorithm) f = rw (e, f) (λ h. absurd (valid h))
     by o g Request e (Refused integrity) f = rw (e, f) (λ h. cc)
@@ -80,6 +86,7 @@ pub bind-is : (s : State) (local : SocketAddr) (message : List ℕ) (c : Challen
 bind-is s local message c = by (validation_of (auth_of s) message) refl
   where
     by : (v : Validation) → validation_of (auth_of s) message ≡ v → bind_judgement s local message ≡ Challenged c → challenge_in s message ≡ Some c
-    by (Validated algorithm) e = rw e (if-is _ (cond (is_outstanding (id_of message) s.transactions) (by_class (class_in message)) Fatal) Fatal (challenge_in s message) c (cond-plain (is_outstanding (id_of message) s.transactions) (by_class (class_in message)) Fatal c (by_class-plain (class_in message) c) (λ e. cc)) (λ e. cc))
+    by (Validated algorithm) e = rw e (if-is _ (cond (is_outstanding (id_of message) s.transactions) (by_class (class_in message)) Fatal) Fatal (challenge_in s message) c
+        (cond-plain (is_outstanding (id_of message) s.transactions) (by_class (class_in message)) Fatal c (by_class-plain (class_in message) c) (λ e. cc)) (λ e. cc))
     by (Refused integrity) e = rw e (if-is _ Fatal Fatal (challenge_in s message) c (λ e. cc) (λ e. cc))
     by (ResendRequest algorithm) e = rw e (if-is _ Fatal Fatal (challenge_in s message) c (λ e. cc) (λ e. cc))

@@ -5,10 +5,19 @@ use Rattle.std.proofs.lemmas.Bool.{and_parts, eq-eqb, eqb-true}
 use Rattle.std.specs.declared.net.socket_addr.SocketAddr.{SocketAddr}
 use Rattle.turn_stun.specs.Message.{id_of}
 use Rattle.turn_agent.specs.Agent.{same_address}
-use Rattle.turn_client_api.specs.State.{State, Grant, Allocation, Permission, Channel, Connect, Offer, Connection, Progress, Pending, Active, Reserved, Purpose, ForAllocation, ForRefresh, ForPermission, ForChannel, ForConnect, ForBind, Listing}
+use Rattle.turn_client_api.specs.State.{State}
+use Rattle.turn_client_api.specs.declared.grant.Grant.{Grant}
+use Rattle.turn_client_api.specs.declared.grant.Grant.TheVariants.{Allocation, Permission, Channel, Connect, Offer, Connection}
+use Rattle.turn_client_api.specs.declared.grant.Progress.{Progress}
+use Rattle.turn_client_api.specs.declared.grant.Progress.TheVariants.{Pending, Active, Reserved}
+use Rattle.turn_client_api.specs.declared.grant.Purpose.{Purpose}
+use Rattle.turn_client_api.specs.declared.grant.Purpose.TheVariants.{ForAllocation, ForRefresh, ForPermission, ForChannel, ForConnect, ForBind}
+use Rattle.turn_client_api.specs.declared.grant.Listing.{Listing}
 use Rattle.turn_client_api.specs.Grants.{purposes_of}
 use Rattle.turn_client_laws.specs.Handled.{Input, handled}
-use Rattle.turn_client_api.specs.Steps.{Call, Leaves, Delete}
+use Rattle.turn_client_api.specs.Steps.{Leaves}
+use Rattle.turn_client_api.specs.declared.call.Call.{Call}
+use Rattle.turn_client_api.specs.declared.call.Call.TheVariants.{Delete}
 use Rattle.turn_client_laws.specs.LawsGranted.{GrantsToPeers, HasChannelCause, HasChannelTo, IsChannelInput, IsEndedNow, IsGivenFor, IsGrantInput, IsGrantedBy, IsSameGrant, WasActive}
 use Rattle.turn_client_laws.specs.LawsHandled.{IsDoneBy}
 use Rattle.turn_client_laws.specs.LawsNumbers.{HasDistinctNumbers}
@@ -30,7 +39,8 @@ use Rattle.turn_client_laws.proofs.TurnKeepLemmas.{before-kept}
 -- the number is among those of the channels
 number-there : (P : ℕ → Type 0) (number : ℕ) (peer : SocketAddr) (progress : Progress) (gs : List Grant) → Has (Channel number peer progress) gs → AllByRecursion P (numbers gs) → P number
 number-there P number peer progress [] none h = absurd none
-number-there P number peer progress (g ∷ gs) (inl e) h = let at : AllByRecursion P (numbers (Channel number peer progress ∷ gs)) = subst (λ (x : Grant). AllByRecursion P (numbers (x ∷ gs))) (sym e) h in at.0
+number-there P number peer progress (g ∷ gs) (inl e) h = let at : AllByRecursion P (numbers (Channel number peer progress ∷ gs)) = subst (λ (x : Grant). AllByRecursion P (numbers (x ∷ gs)))
+    (sym e) h in at.0
 number-there P number peer progress (Channel other to p ∷ gs) (inr there) h = number-there P number peer progress gs there h.1
 number-there P number peer progress (Allocation a ∷ gs) (inr there) h = number-there P number peer progress gs there h
 number-there P number peer progress (Permission ip p ∷ gs) (inr there) h = number-there P number peer progress gs there h
@@ -69,7 +79,8 @@ one-peer number peer to was is (g ∷ gs) h (inl e) (inl f) = same (e ∙ sym f)
 -- ---- the channel that a request is for
 
 -- a channel of the number has the peer with which it was requested
-asked-peer : (number : ℕ) (peer to : SocketAddr) (s : State) → AllHaveGrant s → AreApart s.grants → (l : Listing) → Has l s.listed → l.purpose ≡ ForChannel number peer → HasChannelTo number to s → to ≡ peer
+asked-peer : (number : ℕ) (peer to : SocketAddr) (s : State) → AllHaveGrant s → AreApart s.grants → (l : Listing) → Has l s.listed → l.purpose ≡ ForChannel number peer → HasChannelTo number to s
+    → to ≡ peer
 asked-peer number peer to s founded apart l listed asks (progress, there) = by (subst (HasGrant s.grants) asks (founded l listed))
   where
     at : (g : Grant) → Has g s.grants → is_asked_by (ForChannel number peer) g ≡ true → to ≡ peer

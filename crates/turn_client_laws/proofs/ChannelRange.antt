@@ -5,11 +5,15 @@ use Rattle.std.proofs.lemmas.Option.{none-some, same_Some}
 use Rattle.std.specs.declared.net.socket_addr.SocketAddr.{SocketAddr}
 use Rattle.turn_stun.specs.declared.transport.TransportType.{TransportType}
 use Rattle.turn_client_api.specs.Config.{Config}
-use Rattle.turn_client_api.specs.State.{State, initial, Grant, Allocation, Permission, Channel, Connect, Offer, Connection, Pending}
+use Rattle.turn_client_api.specs.State.{State, initial}
+use Rattle.turn_client_api.specs.declared.grant.Grant.{Grant}
+use Rattle.turn_client_api.specs.declared.grant.Grant.TheVariants.{Allocation, Permission, Channel, Connect, Offer, Connection}
+use Rattle.turn_client_api.specs.declared.grant.Progress.TheVariants.{Pending}
 use Rattle.turn_client_api.specs.Grants.{is_channel_of}
 use Rattle.turn_client_api.specs.Effect.{new_allocation, taken_addresses}
 use Rattle.turn_client_api.specs.Calls.{channel_numbers, is_offer_of}
-use Rattle.turn_client_api.specs.Steps.{Call, Leaves}
+use Rattle.turn_client_api.specs.Steps.{Leaves}
+use Rattle.turn_client_api.specs.declared.call.Call.{Call}
 use Rattle.turn_client_laws.specs.LawsNumbers.{number_of_channel}
 use Rattle.turn_client_laws.specs.LawsStates.{HasNumbersInRange, IsInRange}
 use Rattle.turn_client_laws.proofs.HasLemmas.{Has, all-has, filter_map-has, has-all, has-append, has-filter, has-filter_map}
@@ -98,8 +102,10 @@ AllFit-KeepsGrants = record {
   connection = λ c gs none. fit-last (Connection c) gs (λ n is. absurd (none-some n is));
   offers = λ offer gs few. fit-last (Offer offer) gs (λ n is. absurd (none-some n is));
   rebinds = λ number peer was progress gs there fits.
-      fit-last (Channel number peer progress) (filter (λ g. not (is_channel_of number g)) gs) (channel-fits number peer (Channel number peer progress) refl (fits (Channel number peer was) there number refl)) (fit-filter (λ g. not (is_channel_of number g)) gs fits);
-  allocates = λ lifetime now families addresses gs fits. fit-append gs (map (new_allocation lifetime now) (taken_addresses families addresses)) fits (none-fit (taken_addresses families addresses) lifetime now);
+      fit-last (Channel number peer progress) (filter (λ g. not (is_channel_of number g)) gs)
+      (channel-fits number peer (Channel number peer progress) refl (fits (Channel number peer was) there number refl)) (fit-filter (λ g. not (is_channel_of number g)) gs fits);
+  allocates = λ lifetime now families addresses gs fits. fit-append gs (map (new_allocation lifetime now) (taken_addresses families addresses)) fits
+      (none-fit (taken_addresses families addresses) lifetime now);
 }
 
 range-fits : (s : State) → HasNumbersInRange s → AllFit s.grants

@@ -4,7 +4,9 @@ use Rattle.turn_client_api.specs.State.{State}
 use Rattle.turn_client_api.specs.Connections.{bind_step}
 use Rattle.turn_client_api.specs.Payloads.{message_step}
 use Rattle.turn_client_api.specs.Receive.{connection_gone}
-use Rattle.turn_client_api.specs.Steps.{Call, Leaves, state_after, Delete, AllocatedTcpSocket, Recv, PollRecv}
+use Rattle.turn_client_api.specs.Steps.{Leaves, state_after}
+use Rattle.turn_client_api.specs.declared.call.Call.{Call}
+use Rattle.turn_client_api.specs.declared.call.Call.TheVariants.{Delete, AllocatedTcpSocket, Recv, PollRecv}
 use Rattle.turn_client_laws.specs.LawsHandled.{TakesInput}
 use Rattle.turn_client_laws.specs.LawsReplies.{IsReplyAccepted}
 use Rattle.turn_client_laws.specs.LawsInputs.{IsBroughtBy}

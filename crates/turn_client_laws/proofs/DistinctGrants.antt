@@ -10,18 +10,28 @@ use Rattle.turn_stun.specs.declared.transport.TransportType.{TransportType}
 use Rattle.turn_types.specs.declared.family.AddressFamily.{AddressFamily}
 use Rattle.turn_types.specs.declared.family.AddressFamily.TheVariants.{IPV4, IPV6}
 use Rattle.turn_client_api.specs.Config.{Config, same_family}
-use Rattle.turn_client_api.specs.State.{State, initial, Phase, New, Requesting, Authenticating, Allocated, Closed, Grant, Allocation, Permission, Channel, Connect, Offer, Connection, Progress, Pending, Active, Reserved}
-use Rattle.turn_client_api.specs.Grants.{family_of, is_channel_of, is_connect_to, is_connection_from, is_of, is_of_family, is_permission_of, permission_state, permission_progress, with_grant, without_grants}
+use Rattle.turn_client_api.specs.State.{State, initial}
+use Rattle.turn_client_api.specs.declared.state.Phase.{Phase}
+use Rattle.turn_client_api.specs.declared.state.Phase.TheVariants.{New, Requesting, Authenticating, Allocated, Closed}
+use Rattle.turn_client_api.specs.declared.grant.Grant.{Grant}
+use Rattle.turn_client_api.specs.declared.grant.Grant.TheVariants.{Allocation, Permission, Channel, Connect, Offer, Connection}
+use Rattle.turn_client_api.specs.declared.grant.Progress.{Progress}
+use Rattle.turn_client_api.specs.declared.grant.Progress.TheVariants.{Pending, Active, Reserved}
+use Rattle.turn_client_api.specs.Grants.{family_of, is_channel_of, is_connect_to, is_connection_from, is_of, is_of_family, is_permission_of, permission_state, permission_progress, with_grant}
+use Rattle.turn_client_api.specs.Grants.{without_grants}
 use Rattle.turn_client_api.specs.Effect.{new_allocation, phase_with, relayed_in, taken_addresses}
 use Rattle.turn_client_api.specs.Retry.{phase_after}
 use Rattle.turn_client_api.specs.Calls.{is_offer_of, offer_taken, without_first}
-use Rattle.turn_client_api.specs.Steps.{Call, Leaves}
+use Rattle.turn_client_api.specs.Steps.{Leaves}
+use Rattle.turn_client_api.specs.declared.call.Call.{Call}
 use Rattle.turn_client_laws.specs.LawsDoubles.{HasNoDoubles, is_double}
 use Rattle.turn_client_laws.specs.LawsOrder.{FitsPhase, IsUngranted}
 use Rattle.turn_client_laws.proofs.HasLemmas.{Has}
 use Rattle.turn_client_laws.proofs.InAllocationLemmas.{Room}
 use Rattle.turn_client_laws.proofs.NumberLemmas.{none-filter}
-use Rattle.turn_client_laws.proofs.DoubleLemmas.{AreSingle, IsAlike, IsNew, IsSingle, alike-allocation, alike-channel, alike-connection, alike-offer, alike-permission, alike-same, channel-which, connect-which, connection-which, none-IsNew, none-without_first, offer-IsNew, permission-which, single-filter, single-last, single-map, single-unmap, single-without_first}
+use Rattle.turn_client_laws.proofs.DoubleLemmas.{AreSingle, IsAlike, IsNew, IsSingle, alike-allocation, alike-channel, alike-connection, alike-offer, alike-permission, alike-same, channel-which}
+use Rattle.turn_client_laws.proofs.DoubleLemmas.{connect-which, connection-which, none-IsNew, none-without_first, offer-IsNew, permission-which, single-filter, single-last, single-map, single-unmap}
+use Rattle.turn_client_laws.proofs.DoubleLemmas.{single-without_first}
 use Rattle.turn_client_laws.proofs.Edits.{aged-outlines, KeepsAllEdits, KeepsEdits, outline, stage}
 use Rattle.turn_client_laws.proofs.EditsOfCalls.{leaves-walk}
 use Rattle.turn_client_laws.proofs.EditsOfMessages.{granted-with}
@@ -50,7 +60,8 @@ module _ (lifetime now : ℕ) where
   abbrev new : List AddressFamily → List SocketAddr → List Grant
   new families addresses = map (new_allocation lifetime now) (taken_addresses families addresses)
 
-  others-single : (a : SocketAddr) (families : List AddressFamily) (addresses : List SocketAddr) → list_any (λ f. is_of_family f a) families ≡ false → IsSingle (new_allocation lifetime now a) (new families addresses)
+  others-single : (a : SocketAddr) (families : List AddressFamily) (addresses : List SocketAddr) → list_any (λ f. is_of_family f a) families ≡ false
+      → IsSingle (new_allocation lifetime now a) (new families addresses)
   others-single a families [] none = tt
   others-single a families (b ∷ later) none = by (list_any (λ f. is_of_family f b) families) refl (others-single a left later) (others-single a families later none)
     where
@@ -73,7 +84,8 @@ module _ (lifetime now : ℕ) where
       left : List AddressFamily
       left = filter (λ f. not (is_of_family f a)) families
 
-      by : (c : Bool) → AreSingle (new left later) → AreSingle (new families later) → AreSingle (map (new_allocation lifetime now) (cond c (a ∷ taken_addresses left later) (taken_addresses families later)))
+      by : (c : Bool) → AreSingle (new left later) → AreSingle (new families later)
+          → AreSingle (map (new_allocation lifetime now) (cond c (a ∷ taken_addresses left later) (taken_addresses families later)))
       by true less same = (others-single a left later (none-filter (λ f. is_of_family f a) families), less)
       by false less same = same
 
@@ -122,8 +134,13 @@ more : (g : Grant) (p : Phase) (gs : List Grant) → (IsUngranted p → ⊥) →
 more g p gs allocated new h = record { none = λ u. absurd (allocated u); single = single-last g gs new h.single }
 
 -- in place of others, where the server allocated
-replaced : (which : Grant → Bool) (g : Grant) → ((x : Grant) → is_double x g ≡ which x) → (s : State) → (HasDistinctGrants s.phase s.grants → IsUngranted s.phase → ⊥) → KeepsDistinctGrants s (with_grant g (without_grants which s))
-replaced which g is s allocated = (λ u. u, λ h. more g s.phase (without_grants which s).grants (allocated h) (none-IsNew which g is (without_grants which s).grants (none-filter which s.grants)) (filtered (λ x. not (which x)) s.phase s.grants h))
+replaced : (which : Grant → Bool) (g : Grant) → ((x : Grant) → is_double x g ≡ which x) → (s : State) → (HasDistinctGrants s.phase s.grants → IsUngranted s.phase → ⊥)
+    → KeepsDistinctGrants s (with_grant g (without_grants which s))
+replaced which g is s allocated = (
+  λ u. u,
+  λ h. more g s.phase (without_grants which s).grants (allocated h) (none-IsNew which g is (without_grants which s).grants (none-filter which s.grants))
+      (filtered (λ x. not (which x)) s.phase s.grants h),
+)
 
 -- if a grant exists, the server allocated
 there-granted : (g : Grant) (s : State) → Has g s.grants → HasDistinctGrants s.phase s.grants → IsUngranted s.phase → ⊥
@@ -144,7 +161,11 @@ ungranted-after Allocated u = u
 ungranted-after Closed u = u
 
 allocates-tidy : (message : List ℕ) (lifetime now : ℕ) (s : State) → s.phase ≡ Authenticating
-    → KeepsDistinctGrants s (record s { phase = phase_with (taken_addresses s.families (relayed_in message)); grants = s.grants ++ map (new_allocation lifetime now) (taken_addresses s.families (relayed_in message)) })
+    → KeepsDistinctGrants s (record s {
+      phase = phase_with (taken_addresses s.families (relayed_in message));
+      grants = s.grants ++ map (new_allocation lifetime now)
+          (taken_addresses s.families (relayed_in message));
+    })
 allocates-tidy message lifetime now s e = (λ u. absurd (granted-with addresses u), λ h. record { none = λ u. absurd (granted-with addresses u); single = by h })
   where
     addresses : List SocketAddr
@@ -189,14 +210,18 @@ KeepsDistinctGrants-KeepsEdits = record {
   ages = λ grants s e. reshaped-tidy grants s (aged-outlines grants s.grants e);
   permission = λ ip s phase room none.
       (λ u. u, more (Permission ip Pending) s.phase s.grants (granted s.phase phase) (none-IsNew (is_permission_of ip) (Permission ip Pending) (permission-which ip Pending) s.grants none));
-  channel = λ number peer s phase room none within.
-      (λ u. u, more (Channel number peer Pending) s.phase s.grants (granted s.phase phase) (none-IsNew (is_channel_of number) (Channel number peer Pending) (channel-which number peer Pending) s.grants none));
+  channel = λ number peer s phase room none within. (
+    λ u. u,
+    more (Channel number peer Pending) s.phase s.grants (granted s.phase phase)
+        (none-IsNew (is_channel_of number) (Channel number peer Pending) (channel-which number peer Pending) s.grants none),
+  );
   connect = λ peer s phase room none.
       (λ u. u, more (Connect peer) s.phase s.grants (granted s.phase phase) (none-IsNew (is_connect_to peer) (Connect peer) (connect-which peer) s.grants none));
   connection = λ id c origin s phase offer none waits. (
     λ u. u,
     λ h. more (Connection c) s.phase (offer_taken id c.peer s).grants (granted s.phase phase)
-        (none-IsNew (is_connection_from c.local) (Connection c) (connection-which c) (offer_taken id c.peer s).grants (none-without_first (is_connection_from c.local) (is_offer_of id c.peer) s.grants none))
+        (none-IsNew (is_connection_from c.local) (Connection c) (connection-which c) (offer_taken id c.peer s).grants
+        (none-without_first (is_connection_from c.local) (is_offer_of id c.peer) s.grants none))
         (taken id c.peer s.phase s.grants h),
   );
   reserves = λ number peer was until s there. rebound-tidy number peer was (Reserved until) s there;
@@ -214,8 +239,11 @@ KeepsDistinctGrants-KeepsAllEdits = record {
   allocates = λ message lifetime now s e none. allocates-tidy message lifetime now s e;
   permits = λ ip expiry s is.
       replaced (is_permission_of ip) (Permission ip (Active expiry)) (permission-which ip (Active expiry)) s (permission-granted ip Pending s is);
-  connects = λ id connection_id peer s t since stay granted listed.
-      (since.0, λ h. more _ t.phase (without_grants (is_connect_to peer) t).grants (λ u. granted (since.0 u)) (offer-IsNew _ (without_grants (is_connect_to peer) t).grants) (filtered (λ g. not (is_connect_to peer g)) t.phase t.grants (since.1 h)));
+  connects = λ id connection_id peer s t since stay granted listed. (
+    since.0,
+    λ h. more _ t.phase (without_grants (is_connect_to peer) t).grants (λ u. granted (since.0 u)) (offer-IsNew _ (without_grants (is_connect_to peer) t).grants)
+        (filtered (λ g. not (is_connect_to peer g)) t.phase t.grants (since.1 h)),
+  );
   offers = λ id peer origin s room few.
       (λ u. u, λ h. more _ s.phase s.grants (room-granted (family_of peer) s room h) (offer-IsNew _ s.grants) h);
 }
@@ -226,4 +254,5 @@ initial-single transport local remote config seed = tt
 
 -- even if memory allocation fails
 pub leaves-single : (call : Call) (s t : State) → Leaves call s t → FitsPhase s → HasNoDoubles s → HasNoDoubles t
-leaves-single call s t leaves steady h = ((leaves-walk KeepsDistinctGrants KeepsDistinctGrants-KeepsAllEdits (λ s streams. (λ u. u, λ h. h)) call s t leaves).1 (record { none = steady.3; single = h })).single
+leaves-single call s t leaves steady h = ((leaves-walk KeepsDistinctGrants KeepsDistinctGrants-KeepsAllEdits (λ s streams. (λ u. u, λ h. h)) call s t leaves).1
+    (record { none = steady.3; single = h })).single

@@ -4,10 +4,13 @@ use Rattle.std.specs.List.{IsDistinct}
 use Rattle.std.specs.declared.net.socket_addr.SocketAddr.{SocketAddr}
 use Rattle.turn_stun.specs.declared.transport.TransportType.{TransportType}
 use Rattle.turn_client_api.specs.Config.{Config}
-use Rattle.turn_client_api.specs.State.{State, initial, Permission, Channel, Connect, Offer, Connection, Pending}
+use Rattle.turn_client_api.specs.State.{State, initial}
+use Rattle.turn_client_api.specs.declared.grant.Grant.TheVariants.{Permission, Channel, Connect, Offer, Connection}
+use Rattle.turn_client_api.specs.declared.grant.Progress.TheVariants.{Pending}
 use Rattle.turn_client_api.specs.Grants.{is_channel_of}
 use Rattle.turn_client_api.specs.Effect.{new_allocation, taken_addresses}
-use Rattle.turn_client_api.specs.Steps.{Call, Leaves}
+use Rattle.turn_client_api.specs.Steps.{Leaves}
+use Rattle.turn_client_api.specs.declared.call.Call.{Call}
 use Rattle.turn_client_laws.specs.LawsNumbers.{HasDistinctNumbers}
 use Rattle.turn_client_laws.proofs.NumberLemmas.{AreApart, apart-channel, apart-filter, apart-others, none-filter, numbers, numbers-without_first}
 use Rattle.turn_client_laws.proofs.ChannelRange.{numbers-alike}
@@ -33,8 +36,10 @@ AreApart-KeepsGrants = record {
   connection = λ c gs none. apart-others gs (Connection c ∷ []) refl;
   offers = λ offer gs few. apart-others gs (Offer offer ∷ []) refl;
   rebinds = λ number peer was progress gs there h.
-      apart-channel number (filter (λ g. not (is_channel_of number g)) gs) (Channel number peer progress ∷ []) (none-filter (is_channel_of number) gs) refl (apart-filter (λ g. not (is_channel_of number g)) gs h);
-  allocates = λ lifetime now families addresses gs. apart-others gs (map (new_allocation lifetime now) (taken_addresses families addresses)) (numbers-allocations lifetime now (taken_addresses families addresses));
+      apart-channel number (filter (λ g. not (is_channel_of number g)) gs) (Channel number peer progress ∷ []) (none-filter (is_channel_of number) gs) refl
+      (apart-filter (λ g. not (is_channel_of number g)) gs h);
+  allocates = λ lifetime now families addresses gs. apart-others gs (map (new_allocation lifetime now) (taken_addresses families addresses))
+      (numbers-allocations lifetime now (taken_addresses families addresses));
 }
 
 pub leaves-apart : (call : Call) (s t : State) → Leaves call s t → HasDistinctNumbers s → HasDistinctNumbers t

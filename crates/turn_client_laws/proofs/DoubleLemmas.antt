@@ -6,7 +6,12 @@ use Rattle.std.proofs.lemmas.Bool.{or_parts}
 use Rattle.std.specs.declared.net.ip_addr.IpAddr.{IpAddr}
 use Rattle.std.specs.declared.net.socket_addr.SocketAddr.{SocketAddr}
 use Rattle.turn_agent.specs.Agent.{same_address}
-use Rattle.turn_client_api.specs.State.{Grant, Allocation, Permission, Channel, Connect, Offer, Connection, Progress, DataConnection, DataOffer, Relay}
+use Rattle.turn_client_api.specs.declared.grant.Grant.{Grant}
+use Rattle.turn_client_api.specs.declared.grant.Grant.TheVariants.{Allocation, Permission, Channel, Connect, Offer, Connection}
+use Rattle.turn_client_api.specs.declared.grant.Progress.{Progress}
+use Rattle.turn_client_api.specs.declared.grant.DataConnection.{DataConnection}
+use Rattle.turn_client_api.specs.declared.grant.DataOffer.{DataOffer}
+use Rattle.turn_client_api.specs.declared.grant.Relay.{Relay}
 use Rattle.turn_client_api.specs.Grants.{as_connection, is_channel_of, is_connect_to, is_connection_from, is_permission_of, permission_progress, same_ip}
 use Rattle.turn_client_api.specs.Calls.{without_first}
 use Rattle.turn_client_laws.specs.LawsDoubles.{is_double}
@@ -213,7 +218,8 @@ pub no-permission : (ip : IpAddr) (gs : List Grant) → is_some (slice_get (filt
 no-permission ip [] none = refl
 no-permission ip (Permission other progress ∷ gs) none = by (same_ip other ip) refl (no-permission ip gs)
   where
-    by : (b : Bool) → same_ip other ip ≡ b → (is_some (slice_get (filter_map (permission_progress ip) gs) 0) ≡ false → list_any (is_permission_of ip) gs ≡ false) → list_any (is_permission_of ip) (Permission other progress ∷ gs) ≡ false
+    by : (b : Bool) → same_ip other ip ≡ b → (is_some (slice_get (filter_map (permission_progress ip) gs) 0) ≡ false → list_any (is_permission_of ip) gs ≡ false)
+        → list_any (is_permission_of ip) (Permission other progress ∷ gs) ≡ false
     by true e later = let no : true ≡ false = rw e at none in cc
     by false e later = rw e (later (rw e at none))
 no-permission ip (Allocation a ∷ gs) none = no-permission ip gs none
@@ -226,7 +232,8 @@ pub no-connection : (local : SocketAddr) (gs : List Grant) → is_some (find (λ
 no-connection local [] none = refl
 no-connection local (Connection c ∷ gs) none = by (same_address c.local local) refl (no-connection local gs)
   where
-    by : (b : Bool) → same_address c.local local ≡ b → (is_some (find (λ c. same_address c.local local) (filter_map as_connection gs)) ≡ false → list_any (is_connection_from local) gs ≡ false) → list_any (is_connection_from local) (Connection c ∷ gs) ≡ false
+    by : (b : Bool) → same_address c.local local ≡ b → (is_some (find (λ c. same_address c.local local) (filter_map as_connection gs)) ≡ false → list_any (is_connection_from local) gs ≡ false)
+        → list_any (is_connection_from local) (Connection c ∷ gs) ≡ false
     by true e later = let no : true ≡ false = rw e at none in cc
     by false e later = rw e (later (rw e at none))
 no-connection local (Allocation a ∷ gs) none = no-connection local gs none

@@ -1,5 +1,6 @@
 -- Before the earliest expiry, time changes nothing.
-use Rattle.std.proofs.Common.{◌≡◌, ℕ, ◌<◌, ◌+◌, Bool, true, false, ◌&&◌, ◌||◌, not, cond, leb, ltb, List, [], ◌∷◌, ◌++◌, map, filter, filter_map, fold, reverse, Option, Some, None, refl, ap, ◌∙◌, inl, inr, arith}
+use Rattle.std.proofs.Common.{◌≡◌, ℕ, ◌<◌, ◌+◌, Bool, true, false, ◌&&◌, ◌||◌, not, cond, leb, ltb, List, [], ◌∷◌, ◌++◌, map, filter, filter_map, fold, reverse, Option, Some, None, refl, ap, ◌∙◌, inl}
+use Rattle.std.proofs.Common.{inr, arith}
 use Rattle.std.specs.Prelude.{All, ⊤}
 use Rattle.std.specs.List.{list_any}
 use Rattle.std.specs.Option.{option_map_or}
@@ -7,9 +8,17 @@ use Rattle.std.proofs.lemmas.List.{append-nil}
 use Rattle.std.proofs.lemmas.Option.{same_Some}
 use Rattle.std.proofs.lemmas.Bool.{leb-true, ltb-true, false_from_ne_true}
 use Rattle.turn_types.specs.declared.family.AddressFamily.{AddressFamily}
-use Rattle.turn_client_api.specs.State.{State, Grant, Allocation, Permission, Channel, Connect, Offer, Connection, DataConnection, Relay, Pending, Active, Reserved, Purpose}
-use Rattle.turn_client_api.specs.Grants.{as_allocation, allocations, as_connection, failures_among, family_of, has_request, in_sequence, is_connect, is_for, is_of, is_past, is_pending_channel, is_pending_permission, failure_of, unlisted, without_grants}
-use Rattle.turn_client_api.specs.Poll.{connections_unbound, failed, allocation_expires, failed_by_timeout, is_lapsed_channel, is_lapsed_permission, is_over, is_unbound, lapsed, lapsed_allocation, lapsed_in, last_channel_lapsed, offers_timed_out, permissions_lapsed, refreshes_timed_out, set_free, unbound}
+use Rattle.turn_client_api.specs.State.{State}
+use Rattle.turn_client_api.specs.declared.grant.Grant.{Grant}
+use Rattle.turn_client_api.specs.declared.grant.Grant.TheVariants.{Allocation, Permission, Channel, Connect, Offer, Connection}
+use Rattle.turn_client_api.specs.declared.grant.DataConnection.{DataConnection}
+use Rattle.turn_client_api.specs.declared.grant.Relay.{Relay}
+use Rattle.turn_client_api.specs.declared.grant.Progress.TheVariants.{Pending, Active, Reserved}
+use Rattle.turn_client_api.specs.declared.grant.Purpose.{Purpose}
+use Rattle.turn_client_api.specs.Grants.{as_allocation, allocations, as_connection, failures_among, family_of, has_request, in_sequence, is_connect, is_for, is_of, is_past, is_pending_channel}
+use Rattle.turn_client_api.specs.Grants.{is_pending_permission, failure_of, unlisted, without_grants}
+use Rattle.turn_client_api.specs.Poll.{connections_unbound, failed, allocation_expires, failed_by_timeout, is_lapsed_channel, is_lapsed_permission, is_over, is_unbound, lapsed, lapsed_allocation}
+use Rattle.turn_client_api.specs.Poll.{lapsed_in, last_channel_lapsed, offers_timed_out, permissions_lapsed, refreshes_timed_out, set_free, unbound}
 use Rattle.turn_client_laws.specs.LawsBodies.{lapse_of, expiry_times}
 use Rattle.turn_client_api.specs.declared.event.TurnEvent.{TurnEvent}
 use Rattle.turn_client_laws.proofs.HasLemmas.{Has, filter-none, filter_map-has, find-none, has-all, has-filter_map}

@@ -12,18 +12,39 @@ use Rattle.std.specs.Net.Socket.{socket_ip}
 use Rattle.turn_stun.specs.declared.transport.TransportType.{TransportType}
 use Rattle.turn_stun.specs.declared.transport.TransportType.TheVariants.{Udp, Tcp}
 use Rattle.turn_agent.specs.Agent.{same_address}
-use Rattle.turn_client_api.specs.State.{State, Phase, New, Requesting, Authenticating, Allocated, Closed, Grant, Allocation, Permission, Channel, Connect, Offer, Connection, DataConnection, Relay, Progress, Pending, Origin, OwnConnect, ServerRequest, ServerIndication, Purpose, ForAllocation, ForRefresh, ForPermission, ForChannel, ForConnect, ForBind, Queued, later_by}
-use Rattle.turn_client_api.specs.Grants.{find_allocation_to, as_allocation, allocations, changed_allocation, as_connection, family_of, family_of_ip, is_past, is_permission_of, has_active_permission, permission_state, same_transport, with_expired, with_grant, with_more_grants, without_grants}
+use Rattle.turn_client_api.specs.State.{State}
+use Rattle.turn_client_api.specs.declared.state.Phase.{Phase}
+use Rattle.turn_client_api.specs.declared.state.Phase.TheVariants.{New, Requesting, Authenticating, Allocated, Closed}
+use Rattle.turn_client_api.specs.declared.grant.Grant.{Grant}
+use Rattle.turn_client_api.specs.declared.grant.Grant.TheVariants.{Allocation, Permission, Channel, Connect, Offer, Connection}
+use Rattle.turn_client_api.specs.declared.grant.DataConnection.{DataConnection}
+use Rattle.turn_client_api.specs.declared.grant.Relay.{Relay}
+use Rattle.turn_client_api.specs.declared.grant.Progress.{Progress}
+use Rattle.turn_client_api.specs.declared.grant.Progress.TheVariants.{Pending}
+use Rattle.turn_client_api.specs.declared.grant.Origin.{Origin}
+use Rattle.turn_client_api.specs.declared.grant.Origin.TheVariants.{OwnConnect, ServerRequest, ServerIndication}
+use Rattle.turn_client_api.specs.declared.grant.Purpose.{Purpose}
+use Rattle.turn_client_api.specs.declared.grant.Purpose.TheVariants.{ForAllocation, ForRefresh, ForPermission, ForChannel, ForConnect, ForBind}
+use Rattle.turn_client_api.specs.State.{later_by}
+use Rattle.turn_client_api.specs.declared.state.Queued.{Queued}
+use Rattle.turn_client_api.specs.Grants.{find_allocation_to, as_allocation, allocations, changed_allocation, as_connection, family_of, family_of_ip, is_past, is_permission_of, has_active_permission}
+use Rattle.turn_client_api.specs.Grants.{permission_state, same_transport, with_expired, with_grant, with_more_grants, without_grants}
 use Rattle.turn_client_api.specs.Requests.{accepted_reply, request_started, fresh_id, replied, request_for, requested}
 use Rattle.turn_client_api.specs.Retry.{bind_time}
 use Rattle.turn_client_api.specs.Connections.{connection_at, is_connected, is_connecting}
-use Rattle.turn_client_api.specs.Calls.{active_channel, all_expired, allocated_tcp_socket_step, bind_channel, bind_channel_step, bound_by, bound_to, channel_numbers, channel_step, channels_to, connect_step, create_permission_step, delete_step, delete_text, deleted, free_number, can_send_to, in_allocation, is_allocated, is_closed, is_control, is_granted_in, is_in_progress, is_local_taken, is_number_taken, offer_origin, offer_taken, on_channel, on_connection, permission_step, protocol_error_step, reserved_from, send_over, send_to_step, socket_opened, socket_refused, socket_step, tcp_connect_step, with_stream}
+use Rattle.turn_client_api.specs.Calls.{active_channel, all_expired, allocated_tcp_socket_step, bind_channel, bind_channel_step, bound_by, bound_to, channel_numbers, channel_step, channels_to}
+use Rattle.turn_client_api.specs.Calls.{connect_step, create_permission_step, delete_step, delete_text, deleted, free_number, can_send_to, in_allocation, is_allocated, is_closed, is_control}
+use Rattle.turn_client_api.specs.Calls.{is_granted_in, is_in_progress, is_local_taken, is_number_taken, offer_origin, offer_taken, on_channel, on_connection, permission_step, protocol_error_step}
+use Rattle.turn_client_api.specs.Calls.{reserved_from, send_over, send_to_step, socket_opened, socket_refused, socket_step, tcp_connect_step, with_stream}
 use Rattle.turn_client_api.specs.declared.poll.Socket5Tuple.{Socket5Tuple}
 use Rattle.turn_client_api.specs.declared.error.BindChannelError.TheVariants as Bind
 use Rattle.turn_client_api.specs.Receive.{tcp_closed_step}
 use Rattle.turn_client_api.specs.Answers.{event_step}
 use Rattle.turn_client_laws.specs.LawsOrder.{IsBegun}
-use Rattle.turn_client_api.specs.Steps.{Call, Leaves, state_after, Delete, CreatePermission, BindChannel, TcpConnect, AllocatedTcpSocket, TcpClosed, SendTo, Recv, PollRecv, Poll, PollTransmit, PollEvent, RelayedAddresses, Permissions, HavePermission, ProtocolError}
+use Rattle.turn_client_api.specs.Steps.{Leaves, state_after}
+use Rattle.turn_client_api.specs.declared.call.Call.{Call}
+use Rattle.turn_client_api.specs.declared.call.Call.TheVariants.{Delete, CreatePermission, BindChannel, TcpConnect, AllocatedTcpSocket, TcpClosed, SendTo, Recv, PollRecv, Poll, PollTransmit}
+use Rattle.turn_client_api.specs.declared.call.Call.TheVariants.{PollEvent, RelayedAddresses, Permissions, HavePermission, ProtocolError}
 use Rattle.turn_client_laws.specs.LawsStates.{is_asked_by}
 use Rattle.turn_client_laws.proofs.AddressLemmas.{same_address-self}
 use Rattle.turn_client_laws.proofs.HasLemmas.{Has, filter-has, has-filter_map, has-found, has-left, has-right, map-has}
@@ -105,7 +126,8 @@ module _ (R : State → State → Type 0) (k : KeepsEdits R) where
 
   -- ---- what the caller requests
 
-  allocation-walk : {E : Type 0} (o : Option Relay) (ip : IpAddr) (now : ℕ) (refusal : E) (s : State) (otherwise : Result Unit E × State) → (is_some o ≡ true → R s otherwise.1) → R s (in_allocation o ip now refusal s otherwise).1
+  allocation-walk : {E : Type 0} (o : Option Relay) (ip : IpAddr) (now : ℕ) (refusal : E) (s : State) (otherwise : Result Unit E × State) → (is_some o ≡ true → R s otherwise.1)
+      → R s (in_allocation o ip now refusal s otherwise).1
   allocation-walk None ip now refusal s otherwise r = k.same s
   allocation-walk (Some a) ip now refusal s otherwise r =
       either R k (is_past now a) s _ otherwise (λ e. k.ages (with_expired (family_of_ip ip) s).grants s (expired-alike (family_of_ip ip) s)) (λ e. r refl)
@@ -136,7 +158,9 @@ module _ (R : State → State → Type 0) (k : KeepsEdits R) where
           either R k (is_some (permission_state ip s)) s _ _ (λ e. k.same s)
           (λ none. either R k (not (is_allocated s.phase)) s _ _ (λ e. k.same s)
           (λ there. then s t _ (k.permission ip s (is_allocated-true s.phase (not-false (is_allocated s.phase) there)) (allocation-room transport ip s room) (no-permission ip s.grants none))
-          (requested-walk R k (fresh_id s) (ForPermission ip) now t (allocated-begun s.phase (not-false (is_allocated s.phase) there)) (for-last (ForPermission ip) (Permission ip Pending) s (same_ip-same ip)) (spelled-else (fresh_id s) (request_for t (ForPermission ip) (fresh_id s)) (ForPermission ip) t (is_allocated-true s.phase (not-false (is_allocated s.phase) there)) (λ f. cc)))))
+          (requested-walk R k (fresh_id s) (ForPermission ip) now t (allocated-begun s.phase (not-false (is_allocated s.phase) there))
+          (for-last (ForPermission ip) (Permission ip Pending) s (same_ip-same ip))
+          (spelled-else (fresh_id s) (request_for t (ForPermission ip) (fresh_id s)) (ForPermission ip) t (is_allocated-true s.phase (not-false (is_allocated s.phase) there)) (λ f. cc)))))
 
   -- the requested number is free
   bind_channel-walk : (number : ℕ) (peer : SocketAddr) (now : ℕ) (s : State) → s.phase ≡ Allocated → Room s.grants (family_of peer) → free_number s ≡ Some number → R s (bind_channel number peer now s)
@@ -193,12 +217,15 @@ module _ (R : State → State → Type 0) (k : KeepsEdits R) where
       by : (o : Option Progress) → permission_state ip s ≡ o → R s (bind_channel number peer now s)
       by None e =
           let c = request_started (fresh_id s) text (ForChannel number peer ∷ ForPermission ip ∷ []) now b in
-          rw e (then s b _ (both (no-permission ip s.grants (rw e refl))) (then b c _ (k.asks (fresh_id s) text (ForChannel number peer ∷ ForPermission ip ∷ []) now b begun of_both (inl (there, both-other))) (k.queues (bind_channel number peer now s).queue c begun)))
+          rw e (then s b _ (both (no-permission ip s.grants (rw e refl))) (then b c _
+          (k.asks (fresh_id s) text (ForChannel number peer ∷ ForPermission ip ∷ []) now b begun of_both (inl (there, both-other))) (k.queues (bind_channel number peer now s).queue c begun)))
       by (Some progress) e =
           let c = request_started (fresh_id s) text (ForChannel number peer ∷ []) now a in
-          rw e (then s a _ first (then a c _ (asked-walk R k (fresh_id s) text (ForChannel number peer) now a begun (of_channel a (has-right channel s.grants (channel ∷ []) (inl refl))) (spelled-else (fresh_id s) text (ForChannel number peer) a there (λ f. cc))) (k.queues (bind_channel number peer now s).queue c begun)))
+          rw e (then s a _ first (then a c _ (asked-walk R k (fresh_id s) text (ForChannel number peer) now a begun (of_channel a (has-right channel s.grants (channel ∷ []) (inl refl)))
+          (spelled-else (fresh_id s) text (ForChannel number peer) a there (λ f. cc))) (k.queues (bind_channel number peer now s).queue c begun)))
 
-  bound_by-walk : (peer : SocketAddr) (now : ℕ) (s : State) → Room s.grants (family_of peer) → (l : List ℕ) (b : Bool) → is_allocated s.phase ≡ b → (o : Option ℕ) → free_number s ≡ o → R s (bound_by peer now s l b o).1
+  bound_by-walk : (peer : SocketAddr) (now : ℕ) (s : State) → Room s.grants (family_of peer) → (l : List ℕ) (b : Bool) → is_allocated s.phase ≡ b → (o : Option ℕ) → free_number s ≡ o
+      → R s (bound_by peer now s l b o).1
   bound_by-walk peer now s room (until ∷ others) b e o free = k.same s
   bound_by-walk peer now s room [] false e o free = k.same s
   bound_by-walk peer now s room [] true e None free = k.same s
@@ -226,10 +253,14 @@ module _ (R : State → State → Type 0) (k : KeepsEdits R) where
           either R k (not (is_allocated s.phase)) s _ _ (λ e. k.same s)
           (λ there. either R k (not (has_active_permission (socket_ip peer) s)) s _ _ (λ e. k.same s)
           (λ permitted. either R k (is_connected peer s || is_connecting peer s) s _ _ (λ e. k.same s)
-          (λ free. then s t _ (k.connect peer s (is_allocated-true s.phase (not-false (is_allocated s.phase) there)) (allocation-room Tcp (socket_ip peer) s room) (or_parts (is_connected peer s) (is_connecting peer s) free).1)
-          (requested-walk R k (fresh_id s) (ForConnect peer) now t (allocated-begun s.phase (not-false (is_allocated s.phase) there)) (for-last (ForConnect peer) (Connect peer) s (same_address-self peer)) (spelled-else (fresh_id s) (request_for t (ForConnect peer) (fresh_id s)) (ForConnect peer) t (is_allocated-true s.phase (not-false (is_allocated s.phase) there)) (λ f. cc))))))
+          (λ free. then s t _ (k.connect peer s (is_allocated-true s.phase (not-false (is_allocated s.phase) there)) (allocation-room Tcp (socket_ip peer) s room)
+          (or_parts (is_connected peer s) (is_connecting peer s) free).1)
+          (requested-walk R k (fresh_id s) (ForConnect peer) now t (allocated-begun s.phase (not-false (is_allocated s.phase) there))
+          (for-last (ForConnect peer) (Connect peer) s (same_address-self peer))
+          (spelled-else (fresh_id s) (request_for t (ForConnect peer) (fresh_id s)) (ForConnect peer) t (is_allocated-true s.phase (not-false (is_allocated s.phase) there)) (λ f. cc))))))
 
-  opened-walk : IgnoresAll R → (id : ℕ) (peer local : SocketAddr) (origin : Origin) (now : ℕ) (s : State) → s.phase ≡ Allocated → offer_origin id peer s ≡ Some origin → is_some (connection_at local s) ≡ false → R s (socket_opened id peer local origin now s)
+  opened-walk : IgnoresAll R → (id : ℕ) (peer local : SocketAddr) (origin : Origin) (now : ℕ) (s : State) → s.phase ≡ Allocated → offer_origin id peer s ≡ Some origin
+      → is_some (connection_at local s) ≡ false → R s (socket_opened id peer local origin now s)
   opened-walk streams id peer local origin now s there offer none = by origin
     where
       c : DataConnection
@@ -267,17 +298,20 @@ module _ (R : State → State → Type 0) (k : KeepsEdits R) where
       let end = socket_refused id peer (ServerRequest request) s in
       then s t end (k.takes_offer id peer s) (k.queues end.queue t begun)
 
-  socket-walk : IgnoresAll R → (id : ℕ) (peer : SocketAddr) (local : Option SocketAddr) (origin : Origin) (now : ℕ) (s : State) → s.phase ≡ Allocated → offer_origin id peer s ≡ Some origin → R s (socket_step id peer local origin now s).1
+  socket-walk : IgnoresAll R → (id : ℕ) (peer : SocketAddr) (local : Option SocketAddr) (origin : Origin) (now : ℕ) (s : State) → s.phase ≡ Allocated → offer_origin id peer s ≡ Some origin
+      → R s (socket_step id peer local origin now s).1
   socket-walk streams id peer None origin now s there offer = refused-walk id peer origin s (rw there tt)
   socket-walk streams id peer (Some local) origin now s there offer =
       either R k (is_local_taken local s) s _ _ (λ e. k.same s)
       (λ free. opened-walk streams id peer local origin now s there offer (or_parts (same_address local s.local) (is_some (connection_at local s)) free).1)
 
-  pub tcp_socket-walk : IgnoresAll R → (id : ℕ) (tuple : Socket5Tuple) (peer : SocketAddr) (local : Option SocketAddr) (now : ℕ) (s : State) → R s (allocated_tcp_socket_step id tuple peer local now s).1
+  pub tcp_socket-walk : IgnoresAll R → (id : ℕ) (tuple : Socket5Tuple) (peer : SocketAddr) (local : Option SocketAddr) (now : ℕ) (s : State)
+      → R s (allocated_tcp_socket_step id tuple peer local now s).1
   tcp_socket-walk streams id tuple peer local now s =
       either R k (same_transport s.config.allocation_transport Tcp && is_control tuple s && is_allocated s.phase) s _ _
       (λ e. found R k (λ origin. socket_step id peer local origin now s) (offer_origin id peer s) s _
-      (λ origin offer. socket-walk streams id peer local origin now s (is_allocated-true s.phase (and_parts (same_transport s.config.allocation_transport Tcp && is_control tuple s) (is_allocated s.phase) e).1) offer) (k.same s))
+      (λ origin offer. socket-walk streams id peer local origin now s (is_allocated-true s.phase
+      (and_parts (same_transport s.config.allocation_transport Tcp && is_control tuple s) (is_allocated s.phase) e).1) offer) (k.same s))
       (λ e. k.same s)
 
   channel_data-walk : (channels : List (ℕ × ℕ)) (peer : SocketAddr) (bytes : List ℕ) (now : ℕ) (s : State) → R s (on_channel channels peer bytes now s).1

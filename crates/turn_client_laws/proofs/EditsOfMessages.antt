@@ -12,13 +12,29 @@ use Rattle.turn_stun.specs.declared.transport.TransportType.TheVariants.{Tcp}
 use Rattle.turn_types.specs.declared.family.AddressFamily.TheVariants.{IPV4, IPV6}
 use Rattle.turn_auth.specs.LongTerm.{Challenge}
 use Rattle.turn_agent.specs.Agent.{same_address}
-use Rattle.turn_client_api.specs.State.{State, Phase, New, Requesting, Authenticating, Allocated, Closed, Grant, Allocation, Permission, Channel, Connect, Offer, Connection, DataConnection, ServerIndication, ServerRequest, Purpose, ForAllocation, ForRefresh, ForPermission, ForChannel, ForConnect, ForBind, Listing, Bound, later_by}
+use Rattle.turn_client_api.specs.State.{State}
+use Rattle.turn_client_api.specs.declared.state.Phase.{Phase}
+use Rattle.turn_client_api.specs.declared.state.Phase.TheVariants.{New, Requesting, Authenticating, Allocated, Closed}
+use Rattle.turn_client_api.specs.declared.grant.Grant.{Grant}
+use Rattle.turn_client_api.specs.declared.grant.Grant.TheVariants.{Allocation, Permission, Channel, Connect, Offer, Connection}
+use Rattle.turn_client_api.specs.declared.grant.DataConnection.{DataConnection}
+use Rattle.turn_client_api.specs.State.{later_by}
+use Rattle.turn_client_api.specs.declared.grant.Origin.TheVariants.{ServerIndication, ServerRequest}
+use Rattle.turn_client_api.specs.declared.grant.Purpose.{Purpose}
+use Rattle.turn_client_api.specs.declared.grant.Purpose.TheVariants.{ForAllocation, ForRefresh, ForPermission, ForChannel, ForConnect, ForBind}
+use Rattle.turn_client_api.specs.declared.grant.Listing.{Listing}
+use Rattle.turn_client_api.specs.declared.state.Mode.TheVariants.{Bound}
 use Rattle.turn_client_api.specs.Grants.{find_allocation_to, as_connection, is_connection_from, has_active_permission, purposes_of, unlisted, wait}
-use Rattle.turn_client_api.specs.Requests.{request_started, bad_request, connection_already_exists, connection_attempt_method, connection_bind_method, fresh_id, refused_reply, replied, request_for, requested}
-use Rattle.turn_client_api.specs.Judgement.{Judgement, Unrelated, Challenged, Fatal, LateResponse, DataIndication, ConnectionAttempt, SignedRequest, SignedSuccess, SignedError, answers_one, challenge_in, challenged_or, judgement_of, bind_judgement, is_bind_of, connection_id_in, lifetime_in, method_in, peer_in}
-use Rattle.turn_client_api.specs.Effect.{allocate_denied, allocate_granted, allocated, closed, transaction_ended, fail_all, family_not_supported, has_code, in_phase, phase_with, relayed_in, taken_addresses, with_offer}
-use Rattle.turn_client_api.specs.Retry.{bind_time, first_or, is_allocate_or_connect, is_channel_bind, is_create_permission, is_refresh, max_challenges, phase_after, retried, state_after_retry, with_held}
-use Rattle.turn_client_api.specs.Connections.{attempt_indicated, attempt_requested, bind_again, bind_answered, bind_step, bound, connection_at, is_connected, is_connecting, accepts_attempt, is_indicated, max_indicated, not_bound, with_deadline, with_mode}
+use Rattle.turn_client_api.specs.Requests.{request_started, bad_request, connection_already_exists, connection_attempt_method, connection_bind_method, fresh_id, refused_reply, replied, request_for}
+use Rattle.turn_client_api.specs.Requests.{requested}
+use Rattle.turn_client_api.specs.Judgement.{Judgement, Unrelated, Challenged, Fatal, LateResponse, DataIndication, ConnectionAttempt, SignedRequest, SignedSuccess, SignedError, answers_one}
+use Rattle.turn_client_api.specs.Judgement.{challenge_in, challenged_or, judgement_of, bind_judgement, is_bind_of, connection_id_in, lifetime_in, method_in, peer_in}
+use Rattle.turn_client_api.specs.Effect.{allocate_denied, allocate_granted, allocated, closed, transaction_ended, fail_all, family_not_supported, has_code, in_phase, phase_with, relayed_in}
+use Rattle.turn_client_api.specs.Effect.{taken_addresses, with_offer}
+use Rattle.turn_client_api.specs.Retry.{bind_time, first_or, is_allocate_or_connect, is_channel_bind, is_create_permission, is_refresh, max_challenges, phase_after, retried, state_after_retry}
+use Rattle.turn_client_api.specs.Retry.{with_held}
+use Rattle.turn_client_api.specs.Connections.{attempt_indicated, attempt_requested, bind_again, bind_answered, bind_step, bound, connection_at, is_connected, is_connecting, accepts_attempt}
+use Rattle.turn_client_api.specs.Connections.{is_indicated, max_indicated, not_bound, with_deadline, with_mode}
 use Rattle.turn_client_api.specs.Payloads.{Outcome, Handled, Ignored, answered_purposes, challenge_step, is_answered, message_step, response_step, signed_step, wrong_step}
 use Rattle.turn_client_api.specs.declared.event.TurnEvent.TheVariants.{AllocationCreateFailed}
 use Rattle.turn_client_laws.specs.LawsReplies.{IsAccepted, IsReplyAccepted}
@@ -141,7 +157,8 @@ module _ (Heeded : Type 0) (R : State → State → Type 0) (k : KeepsHeeded Hee
   then : (s t u : State) → R s t → R t u → R s u
   then s t u = k.edits.trans s t u
 
-  retry-walk : (s : State) (message : List ℕ) (id : ℕ) (purpose : Purpose) (d : Challenge) (now : ℕ) → IsBegun s.phase → challenge_in s message ≡ Some d → ltb s.challenges max_challenges ≡ true → Has purpose (purposes_of id s) → R s (state_after_retry s id purpose d now)
+  retry-walk : (s : State) (message : List ℕ) (id : ℕ) (purpose : Purpose) (d : Challenge) (now : ℕ) → IsBegun s.phase → challenge_in s message ≡ Some d → ltb s.challenges max_challenges ≡ true
+      → Has purpose (purposes_of id s) → R s (state_after_retry s id purpose d now)
   retry-walk s message id purpose d now begun e few answers =
       let a = with_held d s in
       let b = transaction_ended id a in
@@ -152,7 +169,8 @@ module _ (Heeded : Type 0) (R : State → State → Type 0) (k : KeepsHeeded Hee
       then s a end (k.holds message d s e)
       (then a b end (k.edits.finishes id a)
       (then b c end (k.counts b refl (ltb-true s.challenges max_challenges few))
-      (then c f end (k.edits.asks (fresh_id s) text (purposes_of id s) now c (begun-after s.phase begun) (λ p there. inr (inr (purposes-listed id s p there))) (inr (inr (purposes-listed id s, (purpose, answers, refl))))) (k.edits.queues end.queue f (begun-after s.phase begun)))))
+      (then c f end (k.edits.asks (fresh_id s) text (purposes_of id s) now c (begun-after s.phase begun) (λ p there. inr (inr (purposes-listed id s p there)))
+      (inr (inr (purposes-listed id s, (purpose, answers, refl))))) (k.edits.queues end.queue f (begun-after s.phase begun)))))
 
   challenge-walk : (message : List ℕ) (d : Challenge) (now : ℕ) (s : State) → IsBegun s.phase → challenge_in s message ≡ Some d → R s (challenge_step message d now s).1
   challenge-walk message d now s begun e = by (ltb s.challenges max_challenges) refl (retried (purposes_of (id_of message) s)) refl
@@ -173,9 +191,11 @@ module _ (Heeded : Type 0) (R : State → State → Type 0) (k : KeepsHeeded Hee
 
   -- ---- signed replies
 
-  reply-walk : (is_granted : Bool) (message : List ℕ) (now : ℕ) (s : State) → ((p : Purpose) → Has p (answered_purposes message s) → Heeded) → (IsUngranted s.phase → ⊥) → R s (response_step is_granted message now s).1
+  reply-walk : (is_granted : Bool) (message : List ℕ) (now : ℕ) (s : State) → ((p : Purpose) → Has p (answered_purposes message s) → Heeded) → (IsUngranted s.phase → ⊥)
+      → R s (response_step is_granted message now s).1
   reply-walk is_granted message now s heeded granted =
-      effects-walk Heeded R k s (id_of message) granted is_granted message now (method_in message) (answered_purposes message s) (transaction_ended (id_of message) s) (k.edits.finishes (id_of message) s)
+      effects-walk Heeded R k s (id_of message) granted is_granted message now (method_in message) (answered_purposes message s) (transaction_ended (id_of message) s)
+      (k.edits.finishes (id_of message) s)
       (λ connect a there. there) heeded (λ p there. has-filter (is_answered (method_in message)) p (purposes_of (id_of message) s) there)
 
   granted-walk : (message : List ℕ) (now : ℕ) (s : State) → s.phase ≡ Authenticating → R s (allocate_granted message now s)
@@ -236,7 +256,8 @@ module _ (Heeded : Type 0) (R : State → State → Type 0) (k : KeepsHeeded Hee
       let u = record s { phase = Authenticating } in
       then u (transaction_ended (id_of message) u) _ (k.edits.finishes (id_of message) u) (denied-walk (fresh_id u) message now (transaction_ended (id_of message) u) refl)
   signed-walk New g message now s j e h heeded = absurd (new-unsigned j e h)
-  signed-walk Requesting g message now s j e h heeded = absurd (requesting-unsigned (answers_one (record s { phase = Requesting }) message) (challenge_in (record s { phase = Requesting }) message) j e h)
+  signed-walk Requesting g message now s j e h heeded = absurd (requesting-unsigned (answers_one (record s { phase = Requesting }) message)
+      (challenge_in (record s { phase = Requesting }) message) j e h)
   signed-walk Allocated g message now s j e h heeded = reply-walk g message now (record s { phase = Allocated }) heeded (λ u. u)
   signed-walk Closed g message now s j e h heeded = reply-walk g message now (record s { phase = Closed }) heeded (λ u. u)
 
@@ -248,12 +269,15 @@ module _ (Heeded : Type 0) (R : State → State → Type 0) (k : KeepsHeeded Hee
       answers : (text : List ℕ) → R s (replied text s)
       answers text = k.edits.queues (replied text s).queue s begun
 
-      room : (id : ℕ) (peer : SocketAddr) (b : Bool) → is_some (find_allocation_to Tcp (socket_ip peer) s) ≡ b → (refused taken : State) → R s refused → R s taken → R s (cond (not b) refused (cond (is_connected peer s) taken (with_offer id peer (ServerRequest (id_of message)) s)))
+      room : (id : ℕ) (peer : SocketAddr) (b : Bool) → is_some (find_allocation_to Tcp (socket_ip peer) s) ≡ b → (refused taken : State) → R s refused → R s taken
+          → R s (cond (not b) refused (cond (is_connected peer s) taken (with_offer id peer (ServerRequest (id_of message)) s)))
       room id peer false e refused taken p q = p
-      room id peer true e refused taken p q = one-of R k.edits (is_connected peer s) s taken _ q (k.offers id peer (ServerRequest (id_of message)) s (allocation-room Tcp (socket_ip peer) s e) (λ f. cc))
+      room id peer true e refused taken p q = one-of R k.edits (is_connected peer s) s taken _ q
+          (k.offers id peer (ServerRequest (id_of message)) s (allocation-room Tcp (socket_ip peer) s e) (λ f. cc))
 
       by : (i : Option ℕ) → connection_id_in message ≡ i → (p : Option SocketAddr) → peer_in message ≡ p → R s (attempt_requested message s)
-      by (Some id) e (Some peer) f = rw (e, f) (room id peer (is_some (find_allocation_to Tcp (socket_ip peer) s)) refl _ _ (answers (refused_reply bad_request (codes "Bad Request") s (id_of message))) (answers (refused_reply connection_already_exists (codes "Connection Already Exists") s (id_of message))))
+      by (Some id) e (Some peer) f = rw (e, f) (room id peer (is_some (find_allocation_to Tcp (socket_ip peer) s)) refl _ _
+          (answers (refused_reply bad_request (codes "Bad Request") s (id_of message))) (answers (refused_reply connection_already_exists (codes "Connection Already Exists") s (id_of message))))
       by (Some id) e None f = rw (e, f) (answers (refused_reply bad_request (codes "Bad Request") s (id_of message)))
       by None e p f = rw e (answers (refused_reply bad_request (codes "Bad Request") s (id_of message)))
 
@@ -305,7 +329,8 @@ module _ (Heeded : Type 0) (R : State → State → Type 0) (k : KeepsHeeded Hee
 
   -- ---- connections that wait to be bound
 
-  again-walk : (c : DataConnection) (message : List ℕ) (d : Challenge) (now : ℕ) (s : State) → s.phase ≡ Allocated → Has (Connection c) s.grants → challenge_in s message ≡ Some d → R s (bind_again c (id_of message) d now s)
+  again-walk : (c : DataConnection) (message : List ℕ) (d : Challenge) (now : ℕ) (s : State) → s.phase ≡ Allocated → Has (Connection c) s.grants → challenge_in s message ≡ Some d
+      → R s (bind_again c (id_of message) d now s)
   again-walk c message d now s allocated there e = by (find (is_bind_of c.local) (purposes_of (id_of message) s)) refl
     where
       begun : IsBegun s.phase
@@ -321,7 +346,8 @@ module _ (Heeded : Type 0) (R : State → State → Type 0) (k : KeepsHeeded Hee
           rw f
           (then s a _ (k.holds message d s e)
           (then a b _ (unlisted-walk R k.edits (is_connection_from c.local) a)
-          (then b t _ (requested-walk R k.edits (fresh_id s) purpose now b begun (inr (inl (bind-askable c purpose b there is))) (spelled-else (fresh_id s) (request_for b purpose (fresh_id s)) purpose b allocated (bind-other c purpose is))) (deadline-walk Heeded R k c.local (Some (later_by bind_time now)) t))))
+          (then b t _ (requested-walk R k.edits (fresh_id s) purpose now b begun (inr (inl (bind-askable c purpose b there is)))
+          (spelled-else (fresh_id s) (request_for b purpose (fresh_id s)) purpose b allocated (bind-other c purpose is))) (deadline-walk Heeded R k c.local (Some (later_by bind_time now)) t))))
 
   bound-walk : IgnoresAll R → (c : DataConnection) (s : State) → R s (bound c s)
   bound-walk streams c s =

@@ -8,11 +8,25 @@ use Rattle.std.specs.declared.net.ip_addr.IpAddr.{IpAddr}
 use Rattle.std.specs.declared.net.socket_addr.SocketAddr.{SocketAddr}
 use Rattle.turn_types.specs.declared.family.AddressFamily.{AddressFamily}
 use Rattle.turn_agent.specs.Agent.{same_address}
-use Rattle.turn_client_api.specs.State.{State, Allocated, Grant, Allocation, Permission, Channel, Connect, Offer, Connection, Relay, Progress, Pending, Active, Reserved, Purpose, ForAllocation, ForRefresh, ForPermission, ForChannel, ForConnect, ForBind, Listing, later_by, seconds}
-use Rattle.turn_client_api.specs.Grants.{as_allocation, changed_allocation, channel_at, first_in, is_channel_of, is_connect_to, is_connection_from, is_for_allocation, is_of, is_of_family, is_permission_of, permission_state, purposes_of, unlisted, with_allocations, without_grants, with_expired}
+use Rattle.turn_client_api.specs.State.{State}
+use Rattle.turn_client_api.specs.declared.state.Phase.TheVariants.{Allocated}
+use Rattle.turn_client_api.specs.declared.grant.Grant.{Grant}
+use Rattle.turn_client_api.specs.declared.grant.Grant.TheVariants.{Allocation, Permission, Channel, Connect, Offer, Connection}
+use Rattle.turn_client_api.specs.declared.grant.Relay.{Relay}
+use Rattle.turn_client_api.specs.declared.grant.Progress.{Progress}
+use Rattle.turn_client_api.specs.declared.grant.Progress.TheVariants.{Pending, Active, Reserved}
+use Rattle.turn_client_api.specs.declared.grant.Purpose.{Purpose}
+use Rattle.turn_client_api.specs.declared.grant.Purpose.TheVariants.{ForAllocation}
+use Rattle.turn_client_api.specs.State.{later_by, seconds}
+use Rattle.turn_client_api.specs.declared.grant.Purpose.TheVariants.{ForRefresh, ForPermission, ForChannel, ForConnect, ForBind}
+use Rattle.turn_client_api.specs.declared.grant.Listing.{Listing}
+use Rattle.turn_client_api.specs.Grants.{as_allocation, changed_allocation, channel_at, first_in, is_channel_of, is_connect_to, is_connection_from, is_for_allocation, is_of, is_of_family}
+use Rattle.turn_client_api.specs.Grants.{is_permission_of, permission_state, purposes_of, unlisted, with_allocations, without_grants, with_expired}
 use Rattle.turn_client_api.specs.Judgement.{connection_id_in, lifetime_in}
 use Rattle.turn_client_api.specs.Connections.{connection_at, deadline_set, with_deadline}
-use Rattle.turn_client_api.specs.Effect.{active_channel_answered, active_permission_answered, all_gone, allocation_mismatch, challenges_reset, channel_answered, channel_lifetime, closed, connect_answered, effect, fail_all, has_code, is_asked_permission, lasting, lasting_if, min_lifetime, listed_permissions_answered, pending_channel_answered, pending_permission_answered, permission_answered, permission_answered_for, permission_lifetime, prolonged, refreshed, renewed, reserved}
+use Rattle.turn_client_api.specs.Effect.{active_channel_answered, active_permission_answered, all_gone, allocation_mismatch, challenges_reset, channel_answered, channel_lifetime, closed}
+use Rattle.turn_client_api.specs.Effect.{connect_answered, effect, fail_all, has_code, is_asked_permission, lasting, lasting_if, min_lifetime, listed_permissions_answered, pending_channel_answered}
+use Rattle.turn_client_api.specs.Effect.{pending_permission_answered, permission_answered, permission_answered_for, permission_lifetime, prolonged, refreshed, renewed, reserved}
 use Rattle.turn_client_api.specs.Receive.{connection_gone}
 use Rattle.turn_client_api.specs.Requests.{request_started, channel_bind_method, connect_method, create_permission_method, refresh_method, request_for, requested}
 use Rattle.turn_client_api.specs.Payloads.{is_answered}
@@ -205,11 +219,13 @@ module _ (R : State → State → Type 0) (k : KeepsEdits R) where
   asked_one s purpose askable p (inl e) = subst (IsAskable s) (sym e) askable
   asked_one s purpose askable p (inr none) = absurd none
 
-  pub asked-walk : (id : ℕ) (text : List ℕ) (purpose : Purpose) (now : ℕ) (s : State) → IsBegun s.phase → IsAskable s purpose → IsSpelled id text (purpose ∷ []) s → R s (request_started id text (purpose ∷ []) now s)
+  pub asked-walk : (id : ℕ) (text : List ℕ) (purpose : Purpose) (now : ℕ) (s : State) → IsBegun s.phase → IsAskable s purpose → IsSpelled id text (purpose ∷ []) s
+      → R s (request_started id text (purpose ∷ []) now s)
   asked-walk id text purpose now s begun askable spelled = k.asks id text (purpose ∷ []) now s begun (asked_one s purpose askable) spelled
 
   -- a request is made and queued
-  pub requested-walk : (id : ℕ) (purpose : Purpose) (now : ℕ) (s : State) → IsBegun s.phase → IsAskable s purpose → IsSpelled id (request_for s purpose id) (purpose ∷ []) s → R s (requested id purpose now s)
+  pub requested-walk : (id : ℕ) (purpose : Purpose) (now : ℕ) (s : State) → IsBegun s.phase → IsAskable s purpose → IsSpelled id (request_for s purpose id) (purpose ∷ []) s
+      → R s (requested id purpose now s)
   requested-walk id purpose now s begun askable spelled =
       let t = request_started id (request_for s purpose id) (purpose ∷ []) now s in
       let end = requested id purpose now s in
@@ -240,7 +256,8 @@ connect-stays : (peer : SocketAddr) (o : Option ℕ) (s : State) → Allocations
 connect-stays peer (Some id) s a there = has-left (Allocation a) (without_grants (is_connect_to peer) s).grants _ (filter-has (λ g. not (is_connect_to peer g)) (Allocation a) s.grants there refl)
 connect-stays peer None s a there = filter-has (λ g. not (is_connect_to peer g)) (Allocation a) s.grants there refl
 
-effect-stays : (id : ℕ) (is_granted : Bool) (message : List ℕ) (now method : ℕ) (s : State) (p : Purpose) → eqb connect_method method ≡ true → is_answered method p ≡ true → AllocationsStay s (effect id is_granted message now s p)
+effect-stays : (id : ℕ) (is_granted : Bool) (message : List ℕ) (now method : ℕ) (s : State) (p : Purpose) → eqb connect_method method ≡ true → is_answered method p ≡ true
+    → AllocationsStay s (effect id is_granted message now s p)
 effect-stays id is_granted message now method s (ForConnect peer) connect answers = connect-stays peer (cond is_granted (connection_id_in message) None) s
 effect-stays id is_granted message now method s ForAllocation connect answers = λ a there. there
 effect-stays id is_granted message now method s (ForBind local peer other) connect answers = λ a there. there
@@ -255,7 +272,8 @@ module _ (Heeded : Type 0) (R : State → State → Type 0) (k : KeepsHeeded Hee
   allocations-change which change same s = k.reshapes (with_allocations which change s).grants s (alike-map outline (changed_allocation which change) (changed-outline which change same) s.grants)
 
   renewed-walk : (which : Grant → Bool) (expiry : ℕ) (s : State) → R s (renewed which expiry s)
-  renewed-walk which expiry s = k.reshapes (renewed which expiry s).grants s (alike-map outline (lasting_if which expiry) (λ g. outline-cond (which g) g (lasting expiry g) (lasting-outline expiry g)) s.grants)
+  renewed-walk which expiry s = k.reshapes (renewed which expiry s).grants s (alike-map outline (lasting_if which expiry)
+      (λ g. outline-cond (which g) g (lasting expiry g) (lasting-outline expiry g)) s.grants)
 
   pub deadline-walk : (local : SocketAddr) (deadline : Option ℕ) (s : State) → R s (with_deadline local deadline s)
   deadline-walk local deadline s = k.reshapes (with_deadline local deadline s).grants s (alike-map outline (deadline_set local deadline) (deadline-outline local deadline) s.grants)
@@ -270,7 +288,8 @@ module _ (Heeded : Type 0) (R : State → State → Type 0) (k : KeepsHeeded Hee
       by None e g = rw e (k.edits.same s)
       by (Some Pending) e true = rw e (k.edits.trans s _ _ (k.permits ip (later_by permission_lifetime now) s e) (k.edits.aside _ (pending_permission_answered ip true now s)))
       by (Some Pending) e false = rw e (gone (pending_permission_answered ip false now s))
-      by (Some (Active expiry)) e true = rw e (k.edits.trans s (unlisted (is_permission_of ip) s) _ (unlisted-walk R k.edits (is_permission_of ip) s) (renewed-walk (is_permission_of ip) _ (unlisted (is_permission_of ip) s)))
+      by (Some (Active expiry)) e true = rw e (k.edits.trans s (unlisted (is_permission_of ip) s) _ (unlisted-walk R k.edits (is_permission_of ip) s)
+          (renewed-walk (is_permission_of ip) _ (unlisted (is_permission_of ip) s)))
       by (Some (Active expiry)) e false = rw e (gone (active_permission_answered ip false now s))
       by (Some (Reserved until)) e g = rw e (k.edits.same s)
 
@@ -282,7 +301,8 @@ module _ (Heeded : Type 0) (R : State → State → Type 0) (k : KeepsHeeded Hee
   permission_state-walk is_granted now t (ForConnect peer) = k.edits.same t
   permission_state-walk is_granted now t (ForBind local peer id) = k.edits.same t
 
-  pending_channel-walk : (number : ℕ) (peer : SocketAddr) (id : ℕ) (is_granted : Bool) (now : ℕ) (s : State) → Has (Channel number peer Pending) s.grants → R s (pending_channel_answered number peer id is_granted now s)
+  pending_channel-walk : (number : ℕ) (peer : SocketAddr) (id : ℕ) (is_granted : Bool) (now : ℕ) (s : State) → Has (Channel number peer Pending) s.grants
+      → R s (pending_channel_answered number peer id is_granted now s)
   pending_channel-walk number peer id true now s there =
       let t = listed_permissions_answered id true now s in
       let later = all-stay number peer Pending true now (purposes_of id s) s there in
@@ -301,10 +321,12 @@ module _ (Heeded : Type 0) (R : State → State → Type 0) (k : KeepsHeeded Hee
       by : (o : Option (SocketAddr × Progress)) → first_in (channel_at number) s ≡ o → (g : Bool) → R s (channel_answered number id g now s)
       by None e g = rw e (k.edits.same s)
       by (Some (peer, Pending)) e g = rw e (pending_channel-walk number peer id g now s (channel-there number peer Pending s e))
-      by (Some (peer, Active expiry)) e true = rw e (k.edits.trans s (unlisted (is_channel_of number) s) _ (unlisted-walk R k.edits (is_channel_of number) s) (renewed-walk (is_channel_of number) _ (unlisted (is_channel_of number) s)))
+      by (Some (peer, Active expiry)) e true = rw e (k.edits.trans s (unlisted (is_channel_of number) s) _ (unlisted-walk R k.edits (is_channel_of number) s)
+          (renewed-walk (is_channel_of number) _ (unlisted (is_channel_of number) s)))
       by (Some (peer, Active expiry)) e false =
           let t = reserved number peer expiry s in
-          rw e (k.edits.trans s t _ (reserved-walk R k.edits number peer (Active expiry) expiry s (channel-there number peer (Active expiry) s e)) (k.edits.aside t (active_channel_answered number peer expiry false now s)))
+          rw e (k.edits.trans s t _ (reserved-walk R k.edits number peer (Active expiry) expiry s (channel-there number peer (Active expiry) s e))
+          (k.edits.aside t (active_channel_answered number peer expiry false now s)))
       by (Some (peer, Reserved until)) e g = rw e (k.edits.same s)
 
   prolonged-walk : Heeded → (family : AddressFamily) (lifetime now : ℕ) (s : State) → R s (prolonged family lifetime now s)
@@ -351,7 +373,8 @@ module _ (Heeded : Type 0) (R : State → State → Type 0) (k : KeepsHeeded Hee
     reset : Heeded → (s t : State) → R first s → R s t → R first (challenges_reset t)
     reset heeded s t since step = k.edits.trans first t _ (k.edits.trans first s t since step) (k.resets heeded t)
 
-    effect-walk : Heeded → (is_granted : Bool) (message : List ℕ) (now method : ℕ) (s : State) (p : Purpose) → R first s → Stay method s → IsAnswered method p → R first (effect id is_granted message now s p)
+    effect-walk : Heeded → (is_granted : Bool) (message : List ℕ) (now method : ℕ) (s : State) (p : Purpose) → R first s → Stay method s → IsAnswered method p
+        → R first (effect id is_granted message now s p)
     effect-walk heeded is_granted message now method s (ForRefresh family lifetime) since stay answers = k.edits.trans first s _ since (refreshed-walk heeded family lifetime is_granted message now s)
     effect-walk heeded is_granted message now method s (ForPermission ip) since stay answers = reset heeded s _ since (permission-walk ip is_granted now s)
     effect-walk heeded is_granted message now method s (ForChannel number peer) since stay answers = reset heeded s _ since (channel-walk number id is_granted now s)
@@ -367,4 +390,5 @@ module _ (Heeded : Type 0) (R : State → State → Type 0) (k : KeepsHeeded Hee
     effects-walk is_granted message now method (p ∷ purposes) s since stay heeded answers =
         let t = effect id is_granted message now s p in
         effects-walk is_granted message now method purposes t (effect-walk (heeded p (inl refl)) is_granted message now method s p since stay (answers p (inl refl)))
-        (λ connect a there. effect-stays id is_granted message now method s p connect (answers p (inl refl)).1 a (stay connect a there)) (λ q there. heeded q (inr there)) (λ q there. answers q (inr there))
+        (λ connect a there. effect-stays id is_granted message now method s p connect (answers p (inl refl)).1 a (stay connect a there)) (λ q there. heeded q (inr there))
+        (λ q there. answers q (inr there))

@@ -8,12 +8,26 @@ use Rattle.std.specs.declared.net.socket_addr.SocketAddr.{SocketAddr}
 use Rattle.turn_types.specs.declared.family.AddressFamily.{AddressFamily}
 use Rattle.turn_agent.specs.Agent.{due, timed_out_transaction, resent, same_address}
 use Rattle.turn_agent.specs.declared.transaction.Transaction.{Transaction}
-use Rattle.turn_client_api.specs.State.{State, Phase, New, Requesting, Authenticating, Allocated, Closed, Grant, Allocation, Permission, Channel, Connect, Offer, Connection, Relay, Progress, Pending, Active, Reserved, Purpose, ForAllocation, ForRefresh, ForPermission, ForChannel, Queued, agent_of}
+use Rattle.turn_client_api.specs.State.{State}
+use Rattle.turn_client_api.specs.declared.state.Phase.{Phase}
+use Rattle.turn_client_api.specs.declared.state.Phase.TheVariants.{New, Requesting, Authenticating, Allocated, Closed}
+use Rattle.turn_client_api.specs.declared.grant.Grant.{Grant}
+use Rattle.turn_client_api.specs.declared.grant.Grant.TheVariants.{Allocation, Permission, Channel, Connect, Offer, Connection}
+use Rattle.turn_client_api.specs.declared.grant.Relay.{Relay}
+use Rattle.turn_client_api.specs.declared.grant.Progress.{Progress}
+use Rattle.turn_client_api.specs.declared.grant.Progress.TheVariants.{Pending}
+use Rattle.turn_client_api.specs.State.{agent_of}
+use Rattle.turn_client_api.specs.declared.grant.Progress.TheVariants.{Active, Reserved}
+use Rattle.turn_client_api.specs.declared.grant.Purpose.{Purpose}
+use Rattle.turn_client_api.specs.declared.grant.Purpose.TheVariants.{ForAllocation, ForRefresh, ForPermission, ForChannel}
+use Rattle.turn_client_api.specs.declared.state.Queued.{Queued}
 use Rattle.turn_client_api.specs.Grants.{allocations, family_of, is_connect, is_for_any, is_of, is_pending_channel, is_pending_permission}
 use Rattle.turn_client_api.specs.Requests.{request_started, asked_lifetime, first_allocate, fresh_id, request_for}
 use Rattle.turn_client_api.specs.Effect.{closed, transaction_ended, reserved}
 use Rattle.turn_client_api.specs.Due.{has_event, has_reply, is_paused}
-use Rattle.turn_client_api.specs.Poll.{answer_step, channel_lapsed, connections_unbound, timed_out_purposes, timed_out_step, allocation_expires, failed_by_timeout, is_timed_out_offer, is_lapsed_channel, is_lapsed_permission, is_listed_for_allocation, is_over, is_unbound, lapsed, lapsed_allocation, lapsed_in, last_channel_lapsed, next_offer, offer_step, offers_timed_out, permissions_lapsed, poll_step, refreshes_timed_out, silent_step, timed_step}
+use Rattle.turn_client_api.specs.Poll.{answer_step, channel_lapsed, connections_unbound, timed_out_purposes, timed_out_step, allocation_expires, failed_by_timeout, is_timed_out_offer}
+use Rattle.turn_client_api.specs.Poll.{is_lapsed_channel, is_lapsed_permission, is_listed_for_allocation, is_over, is_unbound, lapsed, lapsed_allocation, lapsed_in, last_channel_lapsed, next_offer}
+use Rattle.turn_client_api.specs.Poll.{offer_step, offers_timed_out, permissions_lapsed, poll_step, refreshes_timed_out, silent_step, timed_step}
 use Rattle.turn_client_api.specs.Transmit.{idle_step, is_due_in, queue_step, refresh_purpose, refreshes_in, refreshes_of_rank, sent, transmit_step}
 use Rattle.turn_client_api.specs.Transmit as T
 use Rattle.turn_client_laws.specs.LawsStates.{is_asked_by}
@@ -37,9 +51,12 @@ channel-asked number peer progress = and_from (eqb number number) (same_address 
 
 -- a request is for the grant that it refreshes
 refresh-for : (now : ℕ) (p : Purpose) (g : Grant) → refresh_purpose now g ≡ Some p → is_asked_by p g ≡ true
-refresh-for now p (Allocation a) e = subst (λ (x : Purpose). is_asked_by x (Allocation a) ≡ true) (cond_some (leb now a.expiry) (ForRefresh (family_of a.relayed) asked_lifetime) p e).1 (same_family-self (family_of a.relayed) (family_of a.relayed) refl)
-refresh-for now p (Permission ip (Active expiry)) e = subst (λ (x : Purpose). is_asked_by x (Permission ip (Active expiry)) ≡ true) (cond_some (ltb now expiry) (ForPermission ip) p e).1 (same_ip-same ip)
-refresh-for now p (Channel number peer (Active expiry)) e = subst (λ (x : Purpose). is_asked_by x (Channel number peer (Active expiry)) ≡ true) (cond_some (ltb now expiry) (ForChannel number peer) p e).1 (channel-asked number peer (Active expiry))
+refresh-for now p (Allocation a) e = subst (λ (x : Purpose). is_asked_by x (Allocation a) ≡ true) (cond_some (leb now a.expiry) (ForRefresh (family_of a.relayed) asked_lifetime) p e).1
+    (same_family-self (family_of a.relayed) (family_of a.relayed) refl)
+refresh-for now p (Permission ip (Active expiry)) e = subst (λ (x : Purpose). is_asked_by x (Permission ip (Active expiry)) ≡ true) (cond_some (ltb now expiry) (ForPermission ip) p e).1
+    (same_ip-same ip)
+refresh-for now p (Channel number peer (Active expiry)) e = subst (λ (x : Purpose). is_asked_by x (Channel number peer (Active expiry)) ≡ true)
+    (cond_some (ltb now expiry) (ForChannel number peer) p e).1 (channel-asked number peer (Active expiry))
 refresh-for now p (Permission ip Pending) e = absurd (none-some p e)
 refresh-for now p (Permission ip (Reserved until)) e = absurd (none-some p e)
 refresh-for now p (Channel number peer Pending) e = absurd (none-some p e)
@@ -116,7 +133,8 @@ module _ (R : State → State → Type 0) (k : KeepsEdits R) where
   vain-walk : (family : AddressFamily) (purposes : List Purpose) (which : Grant → Bool) (s : State) → SparesAllocations which → R s (failed_by_timeout family purposes which s)
   vain-walk family purposes which s spares =
       let end = failed_by_timeout family purposes which s in
-      removed R k (λ g. is_of family g && which g && is_for_any purposes g) (λ a. and_left (is_of family (Allocation a) && which (Allocation a)) _ (and_right (is_of family (Allocation a)) (which (Allocation a)) (spares a))) s end
+      removed R k (λ g. is_of family g && which g && is_for_any purposes g) (λ a. and_left (is_of family (Allocation a) && which (Allocation a)) _
+      (and_right (is_of family (Allocation a)) (which (Allocation a)) (spares a))) s end
 
   channel_lapsed-walk : (o : Option Grant) (s : State) → ((g : Grant) → o ≡ Some g → Has g s.grants) → R s (channel_lapsed o s)
   channel_lapsed-walk (Some (Channel number peer (Active expiry))) s there =
@@ -163,7 +181,8 @@ module _ (R : State → State → Type 0) (k : KeepsEdits R) where
       by : (t : State) (a : Relay) → R t (lapsed_allocation given purposes now t a)
       by t a = one-of R k (allocation_expires purposes now t a) t _ _ (k.removes_family (family_of a.relayed) t) (lapsed_in-walk (family_of a.relayed) given purposes now t)
 
-  answer_by : (closes : List SocketAddr) (p : Phase) (given : Option ℕ) (now : ℕ) (s : State) → R (record s { closes = closes; phase = p }) (answer_step given now (record s { closes = closes; phase = p })).1
+  answer_by : (closes : List SocketAddr) (p : Phase) (given : Option ℕ) (now : ℕ) (s : State)
+      → R (record s { closes = closes; phase = p }) (answer_step given now (record s { closes = closes; phase = p })).1
   answer_by (local ∷ others) p given now s = k.aside (record s { closes = local ∷ others; phase = p }) (record s { closes = others })
   answer_by [] New given now s = k.same (record s { closes = []; phase = New })
   answer_by [] Requesting given now s = k.same (record s { closes = []; phase = Requesting })
@@ -229,7 +248,8 @@ module _ (R : State → State → Type 0) (k : KeepsEdits R) where
       found R k _ (slice_get wanted 0) u (None, u)
       (λ p e. let text = request_for u p (fresh_id u) in
       let t = request_started (fresh_id u) text (p ∷ []) now u in
-      then u t (sent now t) (asked-walk R k (fresh_id u) text p now u tt (inr (inl (refreshes-there now u p (first-has p wanted e)))) (spelled-else (fresh_id u) text p u refl (refresh-other now u p (first-has p wanted e)))) (k.sends now t (λ new. cc))) (k.same u)
+      then u t (sent now t) (asked-walk R k (fresh_id u) text p now u tt (inr (inl (refreshes-there now u p (first-has p wanted e))))
+      (spelled-else (fresh_id u) text p u refl (refresh-other now u p (first-has p wanted e)))) (k.sends now t (λ new. cc))) (k.same u)
 
   queue-walk : (now : ℕ) (s : State) → R s (queue_step now s).1
   queue-walk now s = found R k _ (slice_get s.queue 0) s (idle_step s.phase now s) by (idle-walk s.phase now s)

@@ -1,5 +1,6 @@
 -- Each event that a poll queues reports a grant that can fail no more.
-use Rattle.std.proofs.Common.{◌≡◌, ◌≢◌, ℕ, ◌≤◌, ◌+◌, Bool, true, false, ◌&&◌, ◌||◌, not, cond, List, [], ◌∷◌, ◌++◌, map, length, filter, filter_map, find, fold, reverse, Option, Some, None, refl, sym, ◌∙◌, inl, inr, arith}
+use Rattle.std.proofs.Common.{◌≡◌, ◌≢◌, ℕ, ◌≤◌, ◌+◌, Bool, true, false, ◌&&◌, ◌||◌, not, cond, List, [], ◌∷◌, ◌++◌, map, length, filter, filter_map, find, fold, reverse, Option, Some, None, refl, sym}
+use Rattle.std.proofs.Common.{◌∙◌, inl, inr, arith}
 use Rattle.std.specs.Prelude.{is_some, ⊤}
 use Rattle.std.specs.List.{cons_option}
 use Rattle.std.specs.Option.{option_map_or}
@@ -9,11 +10,24 @@ use Rattle.std.specs.declared.net.socket_addr.SocketAddr.{SocketAddr}
 use Rattle.turn_stun.specs.declared.transport.TransportType.{TransportType}
 use Rattle.turn_types.specs.declared.family.AddressFamily.{AddressFamily}
 use Rattle.turn_agent.specs.Agent.{timed_out_transaction}
-use Rattle.turn_client_api.specs.State.{State, DataOffer, Phase, New, Requesting, Authenticating, Allocated, Closed, Grant, Allocation, Permission, Channel, Connect, Offer, Connection, Relay, Pending, Active, Reserved, Purpose, agent_of}
-use Rattle.turn_client_api.specs.Grants.{allocations, failure_of, failures_among, family_of, in_sequence, is_channel_of, is_connect, is_for_any, is_of, is_pending_channel, is_pending_permission, without_grants}
+use Rattle.turn_client_api.specs.State.{State}
+use Rattle.turn_client_api.specs.declared.grant.DataOffer.{DataOffer}
+use Rattle.turn_client_api.specs.declared.state.Phase.{Phase}
+use Rattle.turn_client_api.specs.declared.state.Phase.TheVariants.{New, Requesting, Authenticating, Allocated, Closed}
+use Rattle.turn_client_api.specs.declared.grant.Grant.{Grant}
+use Rattle.turn_client_api.specs.declared.grant.Grant.TheVariants.{Allocation, Permission, Channel, Connect, Offer, Connection}
+use Rattle.turn_client_api.specs.declared.grant.Relay.{Relay}
+use Rattle.turn_client_api.specs.declared.grant.Progress.TheVariants.{Pending}
+use Rattle.turn_client_api.specs.State.{agent_of}
+use Rattle.turn_client_api.specs.declared.grant.Progress.TheVariants.{Active, Reserved}
+use Rattle.turn_client_api.specs.declared.grant.Purpose.{Purpose}
+use Rattle.turn_client_api.specs.Grants.{allocations, failure_of, failures_among, family_of, in_sequence, is_channel_of, is_connect, is_for_any, is_of, is_pending_channel, is_pending_permission}
+use Rattle.turn_client_api.specs.Grants.{without_grants}
 use Rattle.turn_client_api.specs.Effect.{closed, transaction_ended, reserved}
 use Rattle.turn_client_api.specs.Due.{has_event, has_reply}
-use Rattle.turn_client_api.specs.Poll.{answer_by, answer_step, channel_lapsed, connections_unbound, failed, timed_out_step, allocation_expires, failed_by_timeout, is_timed_out_offer, is_lapsed_channel, is_listed_for_allocation, is_over, lapsed, lapsed_allocation, lapsed_in, last_channel_lapsed, next_offer, offer_step, offers_timed_out, permissions_lapsed, poll_step, refreshes_timed_out, set_free, timed_step, told, first_reported, unbound, unreported_in, timed_out_purposes}
+use Rattle.turn_client_api.specs.Poll.{answer_by, answer_step, channel_lapsed, connections_unbound, failed, timed_out_step, allocation_expires, failed_by_timeout, is_timed_out_offer}
+use Rattle.turn_client_api.specs.Poll.{is_lapsed_channel, is_listed_for_allocation, is_over, lapsed, lapsed_allocation, lapsed_in, last_channel_lapsed, next_offer, offer_step, offers_timed_out}
+use Rattle.turn_client_api.specs.Poll.{permissions_lapsed, poll_step, refreshes_timed_out, set_free, timed_step, told, first_reported, unbound, unreported_in, timed_out_purposes}
 use Rattle.turn_client_laws.specs.LawsBodies.{TellsOfFailed, can_fail, max_failures}
 use Rattle.turn_client_api.specs.declared.event.TurnEvent.{TurnEvent}
 use Rattle.turn_client_api.specs.declared.event.TurnEvent.TheVariants.{AllocationCreateFailed}
@@ -134,7 +148,8 @@ without-tells which s = let fewer = count-filter (λ g. not (which g)) s.grants 
 
 -- ---- one channel
 
-active-tells : (number : ℕ) (peer : SocketAddr) (expiry : ℕ) (s : State) → Has (Channel number peer (Active expiry)) s.grants → TellsOfFailed s (channel_lapsed (Some (Channel number peer (Active expiry))) s)
+active-tells : (number : ℕ) (peer : SocketAddr) (expiry : ℕ) (s : State) → Has (Channel number peer (Active expiry)) s.grants
+    → TellsOfFailed s (channel_lapsed (Some (Channel number peer (Active expiry))) s)
 unfolding count
 active-tells number peer expiry s there =
     let kept = filter (λ g. not (is_channel_of number g)) s.grants in
@@ -184,7 +199,8 @@ and-none-between false b = refl
 -- ---- an allocation
 
 module _ (family : AddressFamily) (purposes : List Purpose) where
-  vain-tells : (which : Grant → Bool) (s : State) → ((number : ℕ) (peer : SocketAddr) (until : ℕ) → which (Channel number peer (Reserved until)) ≡ false) → TellsOfFailed s (failed_by_timeout family purposes which s)
+  vain-tells : (which : Grant → Bool) (s : State) → ((number : ℕ) (peer : SocketAddr) (until : ℕ) → which (Channel number peer (Reserved until)) ≡ false)
+      → TellsOfFailed s (failed_by_timeout family purposes which s)
   vain-tells which s none =
       failed-tells _ s (spared _ (λ number peer until. by number peer until (is_of family (Channel number peer (Reserved until))) (is_for_any purposes (Channel number peer (Reserved until)))))
     where
@@ -204,7 +220,8 @@ module _ (family : AddressFamily) (purposes : List Purpose) where
       by number peer until None = and-none (is_of family (Channel number peer (Reserved until)))
       by number peer until (Some id) = and-none (is_of family (Channel number peer (Reserved until)))
 
-  vain-all : (which : Grant → Bool) → ((number : ℕ) (peer : SocketAddr) (until : ℕ) → which (Channel number peer (Reserved until)) ≡ false) → (s : State) → TellsOfFailed s (failed_by_timeout family purposes which s)
+  vain-all : (which : Grant → Bool) → ((number : ℕ) (peer : SocketAddr) (until : ℕ) → which (Channel number peer (Reserved until)) ≡ false) → (s : State)
+      → TellsOfFailed s (failed_by_timeout family purposes which s)
   vain-all which none s = vain-tells which s none
 
   lapsed_in-tells : (given : Option ℕ) (now : ℕ) (s : State) → TellsOfFailed s (lapsed_in family given purposes now s)

@@ -6,10 +6,18 @@ use Rattle.turn_stun.specs.Message.{id_of}
 use Rattle.turn_types.specs.Frames.{begins_message}
 use Rattle.turn_auth.specs.LongTerm.{Challenge}
 use Rattle.turn_agent.specs.Agent.{same_address}
-use Rattle.turn_client_api.specs.State.{State, Mode, Control, Waiting, Bound, Broken, Stream, DataConnection, Purpose, Phase, New, Requesting, Authenticating, Allocated, Closed}
+use Rattle.turn_client_api.specs.State.{State}
+use Rattle.turn_client_api.specs.declared.state.Mode.{Mode}
+use Rattle.turn_client_api.specs.declared.state.Mode.TheVariants.{Control, Waiting, Bound, Broken}
+use Rattle.turn_client_api.specs.declared.state.Stream.{Stream}
+use Rattle.turn_client_api.specs.declared.grant.DataConnection.{DataConnection}
+use Rattle.turn_client_api.specs.declared.grant.Purpose.{Purpose}
+use Rattle.turn_client_api.specs.declared.state.Phase.{Phase}
+use Rattle.turn_client_api.specs.declared.state.Phase.TheVariants.{New, Requesting, Authenticating, Allocated, Closed}
 use Rattle.turn_client_api.specs.Grants.{purposes_of}
 use Rattle.turn_client_api.specs.Requests.{connection_bind_method}
-use Rattle.turn_client_api.specs.Judgement.{Judgement, Unrelated, Challenged, Fatal, LateResponse, DataIndication, ConnectionAttempt, SignedRequest, SignedSuccess, SignedError, bind_judgement, is_bind_of, method_in}
+use Rattle.turn_client_api.specs.Judgement.{Judgement, Unrelated, Challenged, Fatal, LateResponse, DataIndication, ConnectionAttempt, SignedRequest, SignedSuccess, SignedError, bind_judgement}
+use Rattle.turn_client_api.specs.Judgement.{is_bind_of, method_in}
 use Rattle.turn_client_api.specs.Connections.{bind_again, bind_answered, bind_step, connection_at}
 use Rattle.turn_client_api.specs.Payloads.{Outcome, Handled, is_message, message_step}
 use Rattle.turn_client_api.specs.Streams.{control_frame_step, frame_step, waiting_frame_step, with_bytes}
@@ -63,7 +71,8 @@ module _ (a : SocketAddr) (bytes : List ℕ) where
       by ConnectionAttempt e = rw e refl
       by SignedRequest e = rw e refl
 
-  bind_in_phase : (p : Phase) (local : SocketAddr) (message : List ℕ) (now : ℕ) (s : State) → bind_step local message now (with_bytes a bytes (record s { phase = p })) ≡ with_bytes a bytes (bind_step local message now (record s { phase = p }))
+  bind_in_phase : (p : Phase) (local : SocketAddr) (message : List ℕ) (now : ℕ) (s : State)
+      → bind_step local message now (with_bytes a bytes (record s { phase = p })) ≡ with_bytes a bytes (bind_step local message now (record s { phase = p }))
   bind_in_phase New local message now s = refl
   bind_in_phase Requesting local message now s = refl
   bind_in_phase Authenticating local message now s = refl
@@ -73,7 +82,8 @@ module _ (a : SocketAddr) (bytes : List ℕ) where
       u : State
       u = record s { phase = Allocated }
 
-      by : (o : Option DataConnection) → connection_at local s ≡ o → (b : Bool) → eqb (method_in message) connection_bind_method ≡ b → bind_step local message now (with_bytes a bytes u) ≡ with_bytes a bytes (bind_step local message now u)
+      by : (o : Option DataConnection) → connection_at local s ≡ o → (b : Bool) → eqb (method_in message) connection_bind_method ≡ b
+          → bind_step local message now (with_bytes a bytes u) ≡ with_bytes a bytes (bind_step local message now u)
       by None e b f = rw e refl
       by (Some c) e true f = rw (e, f) (answered-bytes c message now u)
       by (Some c) e false f = rw (e, f) refl
@@ -87,7 +97,8 @@ module _ (a : SocketAddr) (bytes : List ℕ) where
       message-alike (map (bytes_by a bytes) s.streams) message now s
       ∙ ap (λ (x : List Stream). both_with (map (bytes_by a bytes) x) p) (sym (message-same message now s))
 
-  frame_in_mode : (m : Mode) (stream : Stream) (frame : List ℕ) (now : ℕ) (s : State) → frame_step (record stream { mode = m }) frame now (with_bytes a bytes s) ≡ both a bytes (frame_step (record stream { mode = m }) frame now s)
+  frame_in_mode : (m : Mode) (stream : Stream) (frame : List ℕ) (now : ℕ) (s : State)
+      → frame_step (record stream { mode = m }) frame now (with_bytes a bytes s) ≡ both a bytes (frame_step (record stream { mode = m }) frame now s)
   frame_in_mode Control stream frame now s = by (not (begins_message frame)) refl (is_message frame) refl
     where
       by : (b : Bool) → not (begins_message frame) ≡ b → (c : Bool) → is_message frame ≡ c → control_frame_step frame now (with_bytes a bytes s) ≡ both a bytes (control_frame_step frame now s)
@@ -96,7 +107,8 @@ module _ (a : SocketAddr) (bytes : List ℕ) where
       by false e false f = rw (e, f) refl
   frame_in_mode Waiting stream frame now s = by (not (begins_message frame)) refl (is_message frame) refl
     where
-      by : (b : Bool) → not (begins_message frame) ≡ b → (c : Bool) → is_message frame ≡ c → waiting_frame_step stream.local frame now (with_bytes a bytes s) ≡ both a bytes (waiting_frame_step stream.local frame now s)
+      by : (b : Bool) → not (begins_message frame) ≡ b → (c : Bool) → is_message frame ≡ c
+          → waiting_frame_step stream.local frame now (with_bytes a bytes s) ≡ both a bytes (waiting_frame_step stream.local frame now s)
       by true e c f = rw e refl
       by false e true f = rw (e, f) (ap (λ (t : State). (Handled, t)) (bind-bytes stream.local frame now s))
       by false e false f = rw (e, f) refl

@@ -54,7 +54,8 @@ find-FailAll : (p : ℕ → Bool) (start len : ℕ) → find p (range_with_len s
 find-FailAll p start zero e m low high = absurd (omega (arith, low, high))
 find-FailAll p start (suc len) e m low high = by (p start) refl e (find-FailAll p (start + 1) len) (cases_lt start m)
   where
-    by : (b : Bool) → p start ≡ b → find p (range_with_len start (suc len)) ≡ None → (find p (range_with_len (start + 1) len) ≡ None → FailAll p (start + 1) (start + 1 + len)) → (start < m) ⊎ (m ≤ start) → p m ≡ false
+    by : (b : Bool) → p start ≡ b → find p (range_with_len start (suc len)) ≡ None → (find p (range_with_len (start + 1) len) ≡ None → FailAll p (start + 1) (start + 1 + len)) → (start < m)
+        ⊎ (m ≤ start) → p m ≡ false
     by true f g later o = absurd (none-some start (sym (rw f at g)))
     by false f g later (inl above) = later (rw f at g) m (omega (arith, above)) (omega (arith, high))
     by false f g later (inr here) = let same : m ≡ start = omega (arith, low, here) in rw same f

@@ -4,7 +4,15 @@ use Rattle.std.specs.List.{list_any}
 use Rattle.std.specs.declared.net.ip_addr.IpAddr.{IpAddr}
 use Rattle.std.specs.declared.net.socket_addr.SocketAddr.{SocketAddr}
 use Rattle.turn_types.specs.declared.family.AddressFamily.{AddressFamily}
-use Rattle.turn_client_api.specs.State.{State, Grant, Permission, Channel, Connect, Offer, Connection, DataConnection, DataOffer, Progress, Pending, Active, Reserved, Origin, OwnConnect, ServerIndication}
+use Rattle.turn_client_api.specs.State.{State}
+use Rattle.turn_client_api.specs.declared.grant.Grant.{Grant}
+use Rattle.turn_client_api.specs.declared.grant.Grant.TheVariants.{Permission, Channel, Connect, Offer, Connection}
+use Rattle.turn_client_api.specs.declared.grant.DataConnection.{DataConnection}
+use Rattle.turn_client_api.specs.declared.grant.DataOffer.{DataOffer}
+use Rattle.turn_client_api.specs.declared.grant.Progress.{Progress}
+use Rattle.turn_client_api.specs.declared.grant.Progress.TheVariants.{Pending, Active, Reserved}
+use Rattle.turn_client_api.specs.declared.grant.Origin.{Origin}
+use Rattle.turn_client_api.specs.declared.grant.Origin.TheVariants.{OwnConnect, ServerIndication}
 use Rattle.turn_client_api.specs.Grants.{is_channel_of, is_connect_to, is_connection_from, is_of, is_permission_of, without_grants}
 use Rattle.turn_client_api.specs.Effect.{new_allocation, relayed_in, taken_addresses}
 use Rattle.turn_client_api.specs.Calls.{channel_numbers, is_offer_of, offer_taken, without_first}
@@ -30,7 +38,8 @@ pub record KeepsGrants (P : List Grant → Type 0) : Type 0 where
   pub rebinds : (number : ℕ) (peer : SocketAddr) (was progress : Progress) (gs : List Grant) → Has (Channel number peer was) gs → P gs
       → P (filter (λ g. not (is_channel_of number g)) gs ++ Channel number peer progress ∷ [])
   -- the server allocates
-  pub allocates : (lifetime now : ℕ) (families : List AddressFamily) (addresses : List SocketAddr) (gs : List Grant) → P gs → P (gs ++ map (new_allocation lifetime now) (taken_addresses families addresses))
+  pub allocates : (lifetime now : ℕ) (families : List AddressFamily) (addresses : List SocketAddr) (gs : List Grant) → P gs
+      → P (gs ++ map (new_allocation lifetime now) (taken_addresses families addresses))
 
 module _ (P : List Grant → Type 0) (k : KeepsGrants P) where
   abbrev Stays : State → State → Type 0

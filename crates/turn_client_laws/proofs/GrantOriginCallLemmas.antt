@@ -7,11 +7,20 @@ use Rattle.std.specs.declared.net.socket_addr.SocketAddr.{SocketAddr}
 use Rattle.turn_stun.specs.Message.{id_of}
 use Rattle.turn_auth.specs.LongTerm.{Challenge}
 use Rattle.turn_agent.specs.Agent.{same_address}
-use Rattle.turn_client_api.specs.State.{State, Bound, Phase, New, Requesting, Authenticating, Allocated, Closed}
-use Rattle.turn_client_api.specs.State.{Grant, Allocation, Permission, Channel, Connect, Offer, Connection, DataConnection, Pending, Reserved, Purpose, later_by}
+use Rattle.turn_client_api.specs.State.{State}
+use Rattle.turn_client_api.specs.declared.state.Mode.TheVariants.{Bound}
+use Rattle.turn_client_api.specs.declared.state.Phase.{Phase}
+use Rattle.turn_client_api.specs.declared.state.Phase.TheVariants.{New, Requesting, Authenticating, Allocated, Closed}
+use Rattle.turn_client_api.specs.State.{later_by}
+use Rattle.turn_client_api.specs.declared.grant.Grant.{Grant}
+use Rattle.turn_client_api.specs.declared.grant.Grant.TheVariants.{Allocation, Permission, Channel, Connect, Offer, Connection}
+use Rattle.turn_client_api.specs.declared.grant.DataConnection.{DataConnection}
+use Rattle.turn_client_api.specs.declared.grant.Progress.TheVariants.{Pending, Reserved}
+use Rattle.turn_client_api.specs.declared.grant.Purpose.{Purpose}
 use Rattle.turn_client_api.specs.Grants.{is_channel_of, purposes_of, without_grants}
 use Rattle.turn_client_api.specs.Requests.{connection_bind_method}
-use Rattle.turn_client_api.specs.Judgement.{Judgement, Unrelated, Challenged, Fatal, LateResponse, DataIndication, ConnectionAttempt, SignedRequest, SignedSuccess, SignedError, bind_judgement, is_bind_of, method_in}
+use Rattle.turn_client_api.specs.Judgement.{Judgement, Unrelated, Challenged, Fatal, LateResponse, DataIndication, ConnectionAttempt, SignedRequest, SignedSuccess, SignedError, bind_judgement}
+use Rattle.turn_client_api.specs.Judgement.{is_bind_of, method_in}
 use Rattle.turn_client_api.specs.Connections.{deadline_set, with_deadline, with_mode, bind_again, bind_answered, bind_step, connection_at}
 use Rattle.turn_client_api.specs.Calls.{is_offer_of, offer_taken, without_first}
 use Rattle.turn_client_api.specs.Retry.{bind_time}
@@ -68,7 +77,8 @@ again-streams c id d now s = by (find (is_bind_of c.local) (purposes_of id s)) r
     by None f = rw f refl
     by (Some purpose) f = rw f refl
 
-answered-leaves : (local : SocketAddr) (c : DataConnection) (message : List ℕ) (now : ℕ) (s : State) → connection_at local s ≡ Some c → method_in message ≡ connection_bind_method → BindsOrLeaves local message s (bind_answered c message now s)
+answered-leaves : (local : SocketAddr) (c : DataConnection) (message : List ℕ) (now : ℕ) (s : State) → connection_at local s ≡ Some c → method_in message ≡ connection_bind_method
+    → BindsOrLeaves local message s (bind_answered c message now s)
 answered-leaves local c message now s found method = by (bind_judgement s c.local message) refl
   where
     by : (j : Judgement) → bind_judgement s c.local message ≡ j → BindsOrLeaves local message s (bind_answered c message now s)
@@ -180,8 +190,10 @@ Leaves-KeepsEdits = record {
   permission = λ ip s phase room none. left-one s.grants (Permission ip Pending) (λ stands. stands);
   channel = λ number peer s phase room none within. left-one s.grants (Channel number peer Pending) (λ stands. stands);
   connect = λ peer s phase room none. left-one s.grants (Connect peer) (λ stands. stands);
-  connection = λ id c origin s phase offer none waits. left-trans s.grants (offer_taken id c.peer s).grants _ (first-left (is_offer_of id c.peer) s.grants) (left-one (offer_taken id c.peer s).grants (Connection c) (unbound c waits));
-  reserves = λ number peer was until s there. left-trans s.grants (without_grants (is_channel_of number) s).grants _ (left-filter _ s.grants) (left-one (without_grants (is_channel_of number) s).grants (Channel number peer (Reserved until)) (λ stands. stands));
+  connection = λ id c origin s phase offer none waits. left-trans s.grants (offer_taken id c.peer s).grants _ (first-left (is_offer_of id c.peer) s.grants)
+      (left-one (offer_taken id c.peer s).grants (Connection c) (unbound c waits));
+  reserves = λ number peer was until s there. left-trans s.grants (without_grants (is_channel_of number) s).grants _ (left-filter _ s.grants)
+      (left-one (without_grants (is_channel_of number) s).grants (Channel number peer (Reserved until)) (λ stands. stands));
 }
   where
     unbound : (c : DataConnection) → IsSome c.deadline → IsActiveGrant (Connection c) → ⊥

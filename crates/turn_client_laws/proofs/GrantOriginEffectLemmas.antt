@@ -10,14 +10,27 @@ use Rattle.std.specs.declared.net.ip_addr.IpAddr.TheVariants.{V4, V6}
 use Rattle.std.specs.declared.net.socket_addr.SocketAddr.{SocketAddr}
 use Rattle.std.proofs.lemmas.Bool.{eqb-true, leb-true}
 use Rattle.turn_types.specs.declared.family.AddressFamily.{AddressFamily}
-use Rattle.turn_client_api.specs.State.{State, Grant, Allocation, Permission, Channel, Connect, Offer, Connection, DataOffer, Progress, Pending, Active, Reserved, Purpose, ForAllocation, ForRefresh, ForPermission, ForChannel, ForConnect, ForBind, OwnConnect, later_by, seconds}
-use Rattle.turn_client_api.specs.Grants.{changed_allocation, channel_at, first_in, is_channel_of, is_connect_to, is_of_family, is_permission_of, permission_state, purposes_of, same_ip, unlisted, with_grant, without_grants}
+use Rattle.turn_client_api.specs.State.{State}
+use Rattle.turn_client_api.specs.declared.grant.Grant.{Grant}
+use Rattle.turn_client_api.specs.declared.grant.Grant.TheVariants.{Allocation, Permission, Channel, Connect, Offer, Connection}
+use Rattle.turn_client_api.specs.declared.grant.DataOffer.{DataOffer}
+use Rattle.turn_client_api.specs.declared.grant.Progress.{Progress}
+use Rattle.turn_client_api.specs.declared.grant.Progress.TheVariants.{Pending, Active, Reserved}
+use Rattle.turn_client_api.specs.declared.grant.Purpose.{Purpose}
+use Rattle.turn_client_api.specs.declared.grant.Purpose.TheVariants.{ForAllocation, ForRefresh}
+use Rattle.turn_client_api.specs.State.{later_by, seconds}
+use Rattle.turn_client_api.specs.declared.grant.Purpose.TheVariants.{ForPermission, ForChannel, ForConnect, ForBind}
+use Rattle.turn_client_api.specs.declared.grant.Origin.TheVariants.{OwnConnect}
+use Rattle.turn_client_api.specs.Grants.{changed_allocation, channel_at, first_in, is_channel_of, is_connect_to, is_of_family, is_permission_of, permission_state, purposes_of, same_ip, unlisted}
+use Rattle.turn_client_api.specs.Grants.{with_grant, without_grants}
 use Rattle.turn_client_api.specs.Judgement.{connection_id_in, lifetime_in}
-use Rattle.turn_client_api.specs.Effect.{lasting, lasting_if, all_gone, allocation_mismatch, channel_answered, channel_lifetime, connect_answered, effect, has_code, challenges_reset, min_lifetime, permission_answered, permission_answered_for, permission_lifetime, permission_refused_too, listed_permissions_answered, prolonged, refreshed, reserved_time}
+use Rattle.turn_client_api.specs.Effect.{lasting, lasting_if, all_gone, allocation_mismatch, channel_answered, channel_lifetime, connect_answered, effect, has_code, challenges_reset, min_lifetime}
+use Rattle.turn_client_api.specs.Effect.{permission_answered, permission_answered_for, permission_lifetime, permission_refused_too, listed_permissions_answered, prolonged, refreshed, reserved_time}
 use Rattle.turn_client_laws.specs.LawsGranted.{HasChannelTo, IsActiveGrant, IsSameGrant}
 use Rattle.turn_client_laws.proofs.HasLemmas.{Has}
 use Rattle.turn_client_laws.proofs.StandLemmas.{has-contains, kept-same, left-filter}
-use Rattle.turn_client_laws.proofs.GrantOriginLemmas.{ChannelsWithin, IsChannelIn, IsGivenOf, KeepsChannels, Takes, channels-append, channels-filter, channels-map, gives-left, gives-map, gives-one, gives-trans, takes-cond, takes-fold, takes-same, takes-trans, within-filter}
+use Rattle.turn_client_laws.proofs.GrantOriginLemmas.{ChannelsWithin, IsChannelIn, IsGivenOf, KeepsChannels, Takes, channels-append, channels-filter, channels-map, gives-left, gives-map, gives-one}
+use Rattle.turn_client_laws.proofs.GrantOriginLemmas.{gives-trans, takes-cond, takes-fold, takes-same, takes-trans, within-filter}
 
 pub same_ip-same : (ip : IpAddr) → same_ip ip ip ≡ true
 same_ip-same (V4 a) = nat_list_eq_equiv.refl (ipv4_octets a)
@@ -29,11 +42,13 @@ eqb-positive zero e = cc
 eqb-positive (suc n) e = omega arith
 
 -- the first grant of a number that is a channel's exists
-first-channel : (number : ℕ) (peer : SocketAddr) (progress : Progress) (grants : List Grant) → slice_get (filter_map (channel_at number) grants) 0 ≡ Some (peer, progress) → Has (Channel number peer progress) grants
+first-channel : (number : ℕ) (peer : SocketAddr) (progress : Progress) (grants : List Grant) → slice_get (filter_map (channel_at number) grants) 0 ≡ Some (peer, progress)
+    → Has (Channel number peer progress) grants
 first-channel number peer progress [] e = cc
 first-channel number peer progress (Channel other to p ∷ grants) e = by (eqb other number) refl (first-channel number peer progress grants)
   where
-    by : (b : Bool) → eqb other number ≡ b → (slice_get (filter_map (channel_at number) grants) 0 ≡ Some (peer, progress) → Has (Channel number peer progress) grants) → Has (Channel number peer progress) (Channel other to p ∷ grants)
+    by : (b : Bool) → eqb other number ≡ b → (slice_get (filter_map (channel_at number) grants) 0 ≡ Some (peer, progress) → Has (Channel number peer progress) grants)
+        → Has (Channel number peer progress) (Channel other to p ∷ grants)
     by true f later =
         let pair : (to, p) ≡ (peer, progress) = same_Some (to, p) (peer, progress) (rw f at e) in
         let same : other ≡ number = eqb-true other number f in
@@ -88,15 +103,20 @@ module _ (purposes : List Purpose) (message : List ℕ) (now : ℕ) (before : St
 
   -- a grant is added
   more-takes : (one : Grant) (s t : State) → Taken s t → (IsActiveGrant one → IsGivenOf purposes message now before one) → IsKnown one s → Taken s (with_grant one t)
-  more-takes one s t taken gives known =
-      ((taken.0.0, channels-append s.grants t.grants one taken.0.1 known), gives-trans purposes message now before s.grants t.grants _ taken.1 (gives-one purposes message now before t.grants one gives))
+  more-takes one s t taken gives known = (
+    (taken.0.0, channels-append s.grants t.grants one taken.0.1 known),
+    gives-trans purposes message now before s.grants t.grants _ taken.1
+        (gives-one purposes message now before t.grants one gives),
+  )
 
   -- a grant replaces those that are removed
-  replaced-takes : (which : Grant → Bool) (one : Grant) (s : State) → (IsActiveGrant one → IsGivenOf purposes message now before one) → IsKnown one s → Taken s (with_grant one (without_grants which s))
+  replaced-takes : (which : Grant → Bool) (one : Grant) (s : State) → (IsActiveGrant one → IsGivenOf purposes message now before one) → IsKnown one s
+      → Taken s (with_grant one (without_grants which s))
   replaced-takes which one s gives known = more-takes one s (without_grants which s) (without-takes which s) gives known
 
   -- what exists is extended, with nothing listed for it any more
-  lasting-takes : (which : Grant → Bool) (f : Grant → Grant) (s : State) → KeepsChannels f → ((g : Grant) → Has g s.grants → Is g (f g)) → Taken s (record (unlisted which s) { grants = map f s.grants })
+  lasting-takes : (which : Grant → Bool) (f : Grant → Grant) (s : State) → KeepsChannels f → ((g : Grant) → Has g s.grants → Is g (f g))
+      → Taken s (record (unlisted which s) { grants = map f s.grants })
   lasting-takes which f s channels keeps = ((within-filter _ s.listed, channels-map f channels s.grants), gives-map purposes message now before f s.grants keeps)
 
   -- what is pending or reserved is not renewed
@@ -120,7 +140,8 @@ module _ (purposes : List Purpose) (message : List ℕ) (now : ℕ) (before : St
   permission_lasts ip one (Connection c) = λ stands. inl (kept-same (Connection c) stands)
 
   -- a channel of this number is granted anew
-  channel_lasts : (number : ℕ) (peer : SocketAddr) → Has (ForChannel number peer) purposes → (s : State) → AreKnown s → (g : Grant) → Has g s.grants → Is g (lasting_if (is_channel_of number) (later_by channel_lifetime now) g)
+  channel_lasts : (number : ℕ) (peer : SocketAddr) → Has (ForChannel number peer) purposes → (s : State) → AreKnown s → (g : Grant) → Has g s.grants
+      → Is g (lasting_if (is_channel_of number) (later_by channel_lifetime now) g)
   channel_lasts number peer one s known (Channel other to (Active was)) there = by (eqb other number) refl
     where
       held : HasChannelTo other to before
@@ -169,7 +190,8 @@ module _ (purposes : List Purpose) (message : List ℕ) (now : ℕ) (before : St
           (λ stands. record { purpose = ForPermission ip; one = one refl; given = (same_ip-same ip, refl) }) (λ number peer progress f. cc))
       by (Some Pending) e false one = rw e (without-takes (is_permission_of ip) s)
       by (Some (Active expiry)) e true one =
-          rw e (lasting-takes (is_permission_of ip) (lasting_if (is_permission_of ip) (later_by permission_lifetime now)) s (lasting-channels (is_permission_of ip) (later_by permission_lifetime now)) (λ g there. permission_lasts ip (one refl) g))
+          rw e (lasting-takes (is_permission_of ip) (lasting_if (is_permission_of ip) (later_by permission_lifetime now)) s (lasting-channels (is_permission_of ip) (later_by permission_lifetime now))
+          (λ g there. permission_lasts ip (one refl) g))
       by (Some (Active expiry)) e false one = rw e (without-takes (is_permission_of ip) s)
       by (Some (Reserved until)) e g one = rw e (same s)
 
@@ -187,7 +209,8 @@ module _ (purposes : List Purpose) (message : List ℕ) (now : ℕ) (before : St
       (λ t p within there. permission_state-takes is_granted t p (λ granted. all granted p there))
       (purposes_of id s) (λ p there. there) s (λ l there. there, λ number peer h. h)
 
-  channel-takes : (number : ℕ) (asked : SocketAddr) (id : ℕ) (is_granted : Bool) (s : State) → AreKnown s → Names is_granted (ForChannel number asked) → NamesAll is_granted id s → Taken s (channel_answered number id is_granted now s)
+  channel-takes : (number : ℕ) (asked : SocketAddr) (id : ℕ) (is_granted : Bool) (s : State) → AreKnown s → Names is_granted (ForChannel number asked) → NamesAll is_granted id s
+      → Taken s (channel_answered number id is_granted now s)
   channel-takes number asked id is_granted s known = by (first_in (channel_at number) s) refl is_granted
     where
       held : (peer : SocketAddr) (progress : Progress) → Has (Channel number peer progress) s.grants → HasChannelTo number peer before
@@ -207,7 +230,8 @@ module _ (purposes : List Purpose) (message : List ℕ) (now : ℕ) (before : St
           let t = without_grants (is_channel_of number) s in
           rw e (trans s t (permission_refused_too (purposes_of id s) t) (without-takes (is_channel_of number) s) (without-takes _ t))
       by (Some (peer, Active expiry)) e true one all =
-          rw e (lasting-takes (is_channel_of number) (lasting_if (is_channel_of number) (later_by channel_lifetime now)) s (lasting-channels (is_channel_of number) (later_by channel_lifetime now)) (channel_lasts number asked (one refl) s known))
+          rw e (lasting-takes (is_channel_of number) (lasting_if (is_channel_of number) (later_by channel_lifetime now)) s (lasting-channels (is_channel_of number) (later_by channel_lifetime now))
+          (channel_lasts number asked (one refl) s known))
       by (Some (peer, Active expiry)) e false one all =
           let here = first-channel number peer (Active expiry) s.grants e in
           rw e (replaced-takes (is_channel_of number) (Channel number peer (Reserved (later_by reserved_time expiry))) s (λ stands. absurd stands)
@@ -252,7 +276,8 @@ module _ (purposes : List Purpose) (message : List ℕ) (now : ℕ) (before : St
   allocation_lasts family lifetime n lengthens (Offer offer) = λ stands. absurd stands
   allocation_lasts family lifetime n lengthens (Connection c) = λ stands. inl (kept-same (Connection c) stands)
 
-  refreshed-takes : (family : AddressFamily) (lifetime : ℕ) (is_granted : Bool) (s : State) → Names is_granted (ForRefresh family lifetime) → Taken s (refreshed family lifetime is_granted message now s)
+  refreshed-takes : (family : AddressFamily) (lifetime : ℕ) (is_granted : Bool) (s : State) → Names is_granted (ForRefresh family lifetime)
+      → Taken s (refreshed family lifetime is_granted message now s)
   refreshed-takes family lifetime is_granted s = by (eqb lifetime 0) refl is_granted
     where
       gone : Taken s (challenges_reset (all_gone s))

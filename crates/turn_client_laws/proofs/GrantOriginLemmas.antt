@@ -1,7 +1,12 @@
 -- What a success grants for the purposes of its request, list by list.
 use Rattle.std.proofs.Common.{◌≡◌, ℕ, Bool, true, false, cond, eqb, List, [], ◌∷◌, ◌++◌, map, filter, fold, ◌⊎◌, inl, inr, refl, sym, subst}
 use Rattle.std.specs.declared.net.socket_addr.SocketAddr.{SocketAddr}
-use Rattle.turn_client_api.specs.State.{State, Grant, Channel, Progress, Purpose, Listing}
+use Rattle.turn_client_api.specs.State.{State}
+use Rattle.turn_client_api.specs.declared.grant.Grant.{Grant}
+use Rattle.turn_client_api.specs.declared.grant.Grant.TheVariants.{Channel}
+use Rattle.turn_client_api.specs.declared.grant.Progress.{Progress}
+use Rattle.turn_client_api.specs.declared.grant.Purpose.{Purpose}
+use Rattle.turn_client_api.specs.declared.grant.Listing.{Listing}
 use Rattle.turn_client_api.specs.Grants.{purposes_of}
 use Rattle.turn_client_laws.specs.LawsGranted.{IsActiveGrant, IsSameGrant, IsGivenFor}
 use Rattle.turn_client_laws.proofs.HasLemmas.{Has, has-append, has-filter, filter-has, map-has}
@@ -58,7 +63,8 @@ channels-map f keeps grants number peer (progress, there) = by (has-mapped f (Ch
     by : (g : Grant) × Has g grants × (Channel number peer progress ≡ f g) → IsChannelIn number peer grants
     by (g, here, e) = let (was, is) = keeps g number peer progress e in (was, subst (λ (x : Grant). Has x grants) is here)
 
-pub channels-append : (grants later : List Grant) (one : Grant) → ChannelsWithin grants later → ((number : ℕ) (peer : SocketAddr) (progress : Progress) → Channel number peer progress ≡ one → IsChannelIn number peer grants) → ChannelsWithin grants (later ++ one ∷ [])
+pub channels-append : (grants later : List Grant) (one : Grant) → ChannelsWithin grants later
+    → ((number : ℕ) (peer : SocketAddr) (progress : Progress) → Channel number peer progress ≡ one → IsChannelIn number peer grants) → ChannelsWithin grants (later ++ one ∷ [])
 channels-append grants later one within known number peer (progress, there) = by (has-append (Channel number peer progress) later (one ∷ []) there)
   where
     by : Has (Channel number peer progress) later ⊎ Has (Channel number peer progress) (one ∷ []) → IsChannelIn number peer grants
@@ -137,7 +143,10 @@ module _ (purposes : List Purpose) (message : List ℕ) (now : ℕ) (before : St
   takes-same s = ((within-same s.listed, λ number peer h. h), gives-left s.grants s.grants (covers-has s.grants))
 
   pub takes-trans : (s t u : State) → Taken s t → Taken t u → Taken s u
-  takes-trans s t u first second = ((λ l there. first.0.0 l (second.0.0 l there), λ number peer h. first.0.1 number peer (second.0.1 number peer h)), gives-trans s.grants t.grants u.grants first.1 second.1)
+  takes-trans s t u first second = (
+    (λ l there. first.0.0 l (second.0.0 l there), λ number peer h. first.0.1 number peer (second.0.1 number peer h)),
+    gives-trans s.grants t.grants u.grants first.1 second.1,
+  )
 
   pub takes-cond : (b : Bool) (s t u : State) → Taken s t → Taken s u → Taken s (cond b t u)
   takes-cond true s t u k l = k

@@ -15,10 +15,22 @@ use Rattle.turn_auth.specs.Validation.{IsValidated, validation_of}
 use Rattle.turn_auth.specs.declared.validation.Validation.{Validation}
 use Rattle.turn_auth.specs.declared.validation.Validation.TheVariants.{Validated, ResendRequest, Refused}
 use Rattle.turn_agent.specs.Agent.{is_outstanding, is_response}
-use Rattle.turn_client_api.specs.State.{State, Phase, New, Requesting, Authenticating, Allocated, Closed, Grant, Offer, Origin, ServerRequest, ServerIndication, Purpose, ForAllocation, ForRefresh, ForPermission, ForChannel, ForConnect, ForBind, auth_of}
+use Rattle.turn_client_api.specs.State.{State}
+use Rattle.turn_client_api.specs.declared.state.Phase.{Phase}
+use Rattle.turn_client_api.specs.declared.state.Phase.TheVariants.{New, Requesting, Authenticating, Allocated, Closed}
+use Rattle.turn_client_api.specs.declared.grant.Grant.{Grant}
+use Rattle.turn_client_api.specs.declared.grant.Grant.TheVariants.{Offer}
+use Rattle.turn_client_api.specs.declared.grant.Origin.{Origin}
+use Rattle.turn_client_api.specs.declared.grant.Origin.TheVariants.{ServerRequest, ServerIndication}
+use Rattle.turn_client_api.specs.declared.grant.Purpose.{Purpose}
+use Rattle.turn_client_api.specs.declared.grant.Purpose.TheVariants.{ForAllocation, ForRefresh}
+use Rattle.turn_client_api.specs.State.{auth_of}
+use Rattle.turn_client_api.specs.declared.grant.Purpose.TheVariants.{ForPermission, ForChannel, ForConnect, ForBind}
 use Rattle.turn_client_api.specs.Grants.{find_allocation_to, is_for_allocation, is_of_family, purposes_of}
 use Rattle.turn_client_api.specs.Requests.{connection_attempt_method, data_method}
-use Rattle.turn_client_api.specs.Judgement.{Judgement, Unrelated, Challenged, Fatal, LateResponse, DataIndication, ConnectionAttempt, SignedRequest, SignedSuccess, SignedError, judgement_of, by_class, challenged_or, challenge_in, answers_one, answers_allocate, authenticating_judgement, allocated_judgement, requesting_judgement, indication_judgement, class_in, connection_id_in, lifetime_in, method_in, peer_in}
+use Rattle.turn_client_api.specs.Judgement.{Judgement, Unrelated, Challenged, Fatal, LateResponse, DataIndication, ConnectionAttempt, SignedRequest, SignedSuccess, SignedError, judgement_of, by_class}
+use Rattle.turn_client_api.specs.Judgement.{challenged_or, challenge_in, answers_one, answers_allocate, authenticating_judgement, allocated_judgement, requesting_judgement, indication_judgement}
+use Rattle.turn_client_api.specs.Judgement.{class_in, connection_id_in, lifetime_in, method_in, peer_in}
 use Rattle.turn_client_api.specs.Effect.{allocate_granted, effect, transaction_ended, family_not_supported, has_code, new_allocation, relayed_in, taken_addresses, with_offer}
 use Rattle.turn_client_api.specs.Retry.{max_challenges, retried}
 use Rattle.turn_client_api.specs.Connections.{attempt_indicated, attempt_requested, is_connected, accepts_attempt}
@@ -146,7 +158,8 @@ pub &&-second : (a b : Bool) → (a && b) ≡ true → b ≡ true
 abbrev pub IsForAllocation : Phase → List ℕ → State → Type 0
 IsForAllocation phase message s = phase ≡ Authenticating → Has ForAllocation (asked_for message s)
 
-granted_in_phase : (p : Phase) (s : State) (message : List ℕ) → judgement_of (record s { phase = p }) message ≡ SignedSuccess → IsSignedSuccess message (record s { phase = p }) × IsForAllocation p message s
+granted_in_phase : (p : Phase) (s : State) (message : List ℕ) → judgement_of (record s { phase = p }) message ≡ SignedSuccess → IsSignedSuccess message (record s { phase = p })
+    × IsForAllocation p message s
 granted_in_phase New s message h = cc
 granted_in_phase Requesting s message h = absurd (requesting-ungranted (record s { phase = Requesting }) message h)
 granted_in_phase Authenticating s message h =
@@ -172,7 +185,8 @@ takes-left message now before grants later gives g there stands = by (gives g th
 abbrev AllAsked : List Purpose → Bool → List ℕ → State → Type 0
 AllAsked purposes is_granted message s = is_granted ≡ true → (p : Purpose) → Has p (asked_for message s) → Has p purposes
 
-reply-takes : (purposes : List Purpose) (is_granted : Bool) (message : List ℕ) (now : ℕ) (before s : State) → ChannelsWithin before.grants s.grants → AllAsked purposes is_granted message s → Takes purposes message now before s (response_step is_granted message now s).1
+reply-takes : (purposes : List Purpose) (is_granted : Bool) (message : List ℕ) (now : ℕ) (before s : State) → ChannelsWithin before.grants s.grants → AllAsked purposes is_granted message s
+    → Takes purposes message now before s (response_step is_granted message now s).1
 reply-takes purposes is_granted message now before s known all =
     takes-fold purposes message now before (effect (id_of message) is_granted message now) s (answered_purposes message s)
     (λ t p within there.
@@ -224,12 +238,14 @@ taken-family families (b ∷ later) a there = by (list_any (λ family. is_of_fam
     Asked : List AddressFamily → Type 0
     Asked left = Has a (taken_addresses left later) → list_any (λ family. is_of_family family a) left ≡ true
 
-    by : (c : Bool) → list_any (λ family. is_of_family family b) families ≡ c → Asked others → Asked families → Has a (cond c (b ∷ taken_addresses others later) (taken_addresses families later)) → list_any (λ family. is_of_family family a) families ≡ true
+    by : (c : Bool) → list_any (λ family. is_of_family family b) families ≡ c → Asked others → Asked families → Has a (cond c (b ∷ taken_addresses others later) (taken_addresses families later))
+        → list_any (λ family. is_of_family family a) families ≡ true
     by true e less same (inl is) = rw is e
     by true e less same (inr there) = any-filter (λ family. is_of_family family a) (λ family. not (is_of_family family b)) families (less there)
     by false e less same there = same there
 
-allocate-gives : (message : List ℕ) (now : ℕ) (before s : State) (purposes : List Purpose) → before.families ≡ s.families → Has ForAllocation purposes → Gives purposes message now before s.grants (allocate_granted message now s).grants
+allocate-gives : (message : List ℕ) (now : ℕ) (before s : State) (purposes : List Purpose) → before.families ≡ s.families → Has ForAllocation purposes
+    → Gives purposes message now before s.grants (allocate_granted message now s).grants
 allocate-gives message now before s purposes same one = by (lifetime_in message) refl
   where
     taken : List SocketAddr
@@ -248,11 +264,15 @@ allocate-gives message now before s purposes same one = by (lifetime_in message)
             at : (a : SocketAddr) × Has a taken × (g ≡ new_allocation n now a) → IsGivenOf purposes message now before g
             at (a, among, is) = rw is (record { purpose = ForAllocation; one = one; given = given a among })
 
-granted-gives : (p : Phase) (message : List ℕ) (now : ℕ) (s : State) → IsForAllocation p message s → Gives (asked_for message s) message now (record s { phase = p }) s.grants (signed_step true message now (record s { phase = p })).1.grants
-granted-gives Authenticating message now s one = allocate-gives message now (record s { phase = Authenticating }) (transaction_ended (id_of message) (record s { phase = Authenticating })) (asked_for message s) refl (one refl)
+granted-gives : (p : Phase) (message : List ℕ) (now : ℕ) (s : State) → IsForAllocation p message s
+    → Gives (asked_for message s) message now (record s { phase = p }) s.grants (signed_step true message now (record s { phase = p })).1.grants
+granted-gives Authenticating message now s one = allocate-gives message now (record s { phase = Authenticating }) (transaction_ended (id_of message) (record s { phase = Authenticating }))
+    (asked_for message s) refl (one refl)
 granted-gives New message now s one = (reply-takes (asked_for message s) true message now (record s { phase = New }) (record s { phase = New }) (λ number peer h. h) (λ e p there. there)).1
-granted-gives Requesting message now s one = (reply-takes (asked_for message s) true message now (record s { phase = Requesting }) (record s { phase = Requesting }) (λ number peer h. h) (λ e p there. there)).1
-granted-gives Allocated message now s one = (reply-takes (asked_for message s) true message now (record s { phase = Allocated }) (record s { phase = Allocated }) (λ number peer h. h) (λ e p there. there)).1
+granted-gives Requesting message now s one = (reply-takes (asked_for message s) true message now (record s { phase = Requesting }) (record s { phase = Requesting }) (λ number peer h. h)
+    (λ e p there. there)).1
+granted-gives Allocated message now s one = (reply-takes (asked_for message s) true message now (record s { phase = Allocated }) (record s { phase = Allocated }) (λ number peer h. h)
+    (λ e p there. there)).1
 granted-gives Closed message now s one = (reply-takes (asked_for message s) true message now (record s { phase = Closed }) (record s { phase = Closed }) (λ number peer h. h) (λ e p there. there)).1
 
 refused-leaves : (message : List ℕ) (now : ℕ) (s : State) → Leaves s (response_step false message now s).1
@@ -311,7 +331,8 @@ indicated-leaves message s = by (connection_id_in message) refl (peer_in message
 -- ---- a whole message
 
 -- a success that is judged so grants it
-pub message-grants : (g : Grant) (message : List ℕ) (now : ℕ) (s : State) → Covers (message_step message now s).1.grants g → Covers s.grants g ⊎ ((judgement_of s message ≡ SignedSuccess) × IsGrant g message now s)
+pub message-grants : (g : Grant) (message : List ℕ) (now : ℕ) (s : State) → Covers (message_step message now s).1.grants g → Covers s.grants g
+    ⊎ ((judgement_of s message ≡ SignedSuccess) × IsGrant g message now s)
 message-grants g message now s = by (judgement_of s message) refl
   where
     Brings : Judgement → Type 0
@@ -328,7 +349,8 @@ message-grants g message now s = by (judgement_of s message) refl
     asked true = requested-leaves message s
     asked false = leaves-same s
 
-    granted : judgement_of s message ≡ SignedSuccess → Covers s.grants g ⊎ IsGiven (asked_for message s) message now s g → Covers s.grants g ⊎ ((SignedSuccess ≡ SignedSuccess) × IsGrant g message now s)
+    granted : judgement_of s message ≡ SignedSuccess → Covers s.grants g ⊎ IsGiven (asked_for message s) message now s g → Covers s.grants g
+        ⊎ ((SignedSuccess ≡ SignedSuccess) × IsGrant g message now s)
     granted e (inl covers) = inl covers
     granted e (inr (was, given, kept)) =
         let is = (SignedSuccess-is s message e).0 in

@@ -3,7 +3,14 @@ use Rattle.std.proofs.Common.{◌≡◌, ℕ, Bool, true, false, not, cond, List
 use Rattle.std.specs.List.{Contains}
 use Rattle.turn_client_api.specs.State.{State}
 use Rattle.std.specs.declared.net.socket_addr.SocketAddr.{SocketAddr}
-use Rattle.turn_client_api.specs.State.{Grant, Allocation, Permission, Channel, Connect, Offer, Connection, DataConnection, Purpose, ForAllocation, ForRefresh, ForPermission, ForChannel, ForConnect, ForBind, Waiting, Pending, Active, Reserved, Stream}
+use Rattle.turn_client_api.specs.declared.grant.Grant.{Grant}
+use Rattle.turn_client_api.specs.declared.grant.Grant.TheVariants.{Allocation, Permission, Channel, Connect, Offer, Connection}
+use Rattle.turn_client_api.specs.declared.grant.DataConnection.{DataConnection}
+use Rattle.turn_client_api.specs.declared.grant.Purpose.{Purpose}
+use Rattle.turn_client_api.specs.declared.grant.Purpose.TheVariants.{ForAllocation, ForRefresh, ForPermission, ForChannel, ForConnect, ForBind}
+use Rattle.turn_client_api.specs.declared.state.Mode.TheVariants.{Waiting}
+use Rattle.turn_client_api.specs.declared.grant.Progress.TheVariants.{Pending, Active, Reserved}
+use Rattle.turn_client_api.specs.declared.state.Stream.{Stream}
 use Rattle.turn_client_api.specs.Grants.{changed_allocation}
 use Rattle.turn_client_api.specs.declared.error.DeleteError.{DeleteError}
 use Rattle.turn_client_api.specs.declared.error.DeleteError.TheVariants as No
@@ -16,7 +23,10 @@ use Rattle.turn_client_api.specs.Payloads.{is_message, message_step}
 use Rattle.turn_client_laws.specs.LawsHandled.{IsDoneBy, IsOverControl, TakesInput}
 use Rattle.turn_client_laws.specs.LawsBound.{IsBindInput}
 use Rattle.turn_client_laws.specs.LawsGranted.{HasCause, IsEndedNow, IsGivenFor, IsGrant, IsGrantInput, IsGrantedBy, IsGrantedIn, IsSameGrant, IsActiveGrant, WasActive}
-use Rattle.turn_client_api.specs.Steps.{Call, state_after, Delete, CreatePermission, BindChannel, TcpConnect, AllocatedTcpSocket, TcpClosed, SendTo, Recv, PollRecv, Poll, PollTransmit, PollEvent, RelayedAddresses, Permissions, HavePermission, ProtocolError}
+use Rattle.turn_client_api.specs.Steps.{state_after}
+use Rattle.turn_client_api.specs.declared.call.Call.{Call}
+use Rattle.turn_client_api.specs.declared.call.Call.TheVariants.{Delete, CreatePermission, BindChannel, TcpConnect, AllocatedTcpSocket, TcpClosed, SendTo, Recv, PollRecv, Poll, PollTransmit, PollEvent}
+use Rattle.turn_client_api.specs.declared.call.Call.TheVariants.{RelayedAddresses, Permissions, HavePermission, ProtocolError}
 use Rattle.turn_client_api.specs.Steps as S
 use Rattle.turn_client_laws.proofs.HasLemmas.{Has, has-filter}
 use Rattle.turn_client_laws.proofs.StandLemmas.{Covers, Leaves, contains-has, covers-has, covers-left, covers-stood, has-contains, kept-stood, kept-trans, leaves-same}
@@ -55,7 +65,8 @@ delete-ends now s g = by (is_allocated s.phase)
 -- ---- what the inputs of a call grant
 
 -- an allocation, a permission or a channel is granted over the control connection
-control-grants : (g : Grant) (one : Input) → IsOverControl one → is_message one.bytes ≡ true → Covers (message_step one.bytes one.moment one.before).1.grants g → Covers one.before.grants g ⊎ IsGrantedIn g one
+control-grants : (g : Grant) (one : Input) → IsOverControl one → is_message one.bytes ≡ true → Covers (message_step one.bytes one.moment one.before).1.grants g → Covers one.before.grants g
+    ⊎ IsGrantedIn g one
 control-grants g one over whole covers = by g (message-brings g one.bytes one.moment one.before covers)
   where
     Grants : Grant → Type 0
@@ -107,7 +118,8 @@ deadline-has local g (Channel number peer progress) e = inl e
 deadline-has local g (Connect peer) e = inl e
 deadline-has local g (Offer offer) e = inl e
 
-bind-covers : (one : Input) (stream : Stream) (g : Grant) (t : State) → one.stream ≡ Some stream → stream.mode ≡ Waiting → is_message one.bytes ≡ true → Binds stream.local one.bytes one.before t → Covers t.grants g → Covers one.before.grants g ⊎ IsGrantedIn g one
+bind-covers : (one : Input) (stream : Stream) (g : Grant) (t : State) → one.stream ≡ Some stream → stream.mode ≡ Waiting → is_message one.bytes ≡ true → Binds stream.local one.bytes one.before t
+    → Covers t.grants g → Covers one.before.grants g ⊎ IsGrantedIn g one
 bind-covers one stream g t of waits whole b (is, there, kept) = by (has-mapped (deadline_set b.c.local None) is one.before.grants (subst (Has is) b.grants there))
   where
     bound : (c : DataConnection) (h : Grant) → c.local ≡ b.c.local → IsSameGrant (Connection c) h → IsGrantedIn h one
@@ -185,7 +197,8 @@ module _ (s : State) (g : Grant) where
 
 pub leaves-grants : (call : Call) (s t : State) (g : Grant) → S.Leaves call s t → Contains t.grants g → IsActiveGrant g → HasCause call s g
 leaves-grants call s t g leaves there stands =
-    by (leaves-bring (λ u. Covers u.grants g) (IsGrantedIn g) (bringing g) (λ call s. IsEndedNow call s g) (λ call s. call-grants s g call) call s t leaves (covers-has t.grants g (contains-has g t.grants there) stands))
+    by (leaves-bring (λ u. Covers u.grants g) (IsGrantedIn g) (bringing g) (λ call s. IsEndedNow call s g) (λ call s. call-grants s g call) call s t leaves
+    (covers-has t.grants g (contains-has g t.grants there) stands))
   where
     by : Covers s.grants g ⊎ IsEndedNow call s g ⊎ IsDoneBy (IsGrantedIn g) call s → WasActive s g ⊎ IsEndedNow call s g ⊎ IsDoneBy (IsGrantedIn g) call s
     by (inl covers) = inl (covers-stood s g covers)

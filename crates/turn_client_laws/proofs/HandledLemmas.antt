@@ -10,12 +10,19 @@ use Rattle.turn_stun.specs.declared.transport.TransportType.{TransportType}
 use Rattle.turn_stun.specs.declared.transport.TransportType.TheVariants.{Udp, Tcp}
 use Rattle.turn_types.specs.Frames.{begins_no_frame, frame_len}
 use Rattle.turn_agent.specs.Agent.{same_address}
-use Rattle.turn_client_api.specs.State.{State, Mode, Control, Waiting, Bound, Broken, Stream}
+use Rattle.turn_client_api.specs.State.{State}
+use Rattle.turn_client_api.specs.declared.state.Mode.{Mode}
+use Rattle.turn_client_api.specs.declared.state.Mode.TheVariants.{Control, Waiting, Bound, Broken}
+use Rattle.turn_client_api.specs.declared.state.Stream.{Stream}
 use Rattle.turn_client_api.specs.Payloads.{Payload, Outcome, Handled, Ignored, PeerData, PeerIcmp, datagram_step}
-use Rattle.turn_client_api.specs.Streams.{broken_at, framed_by, framed_stream_step, go_on, is_ready, max_steps, owned, payload_in, poll_recv_step, stream_at, next_frame_step, first_ready_step, detached_frame_step, steps_until_payload, with_bytes}
+use Rattle.turn_client_api.specs.Streams.{broken_at, framed_by, framed_stream_step, go_on, is_ready, max_steps, owned, payload_in, poll_recv_step, stream_at, next_frame_step, first_ready_step}
+use Rattle.turn_client_api.specs.Streams.{detached_frame_step, steps_until_payload, with_bytes}
 use Rattle.turn_client_api.specs.Receive.{first_frame_step, is_from_server, piece_step, place_kept, recv_step, stream_step, then_all}
-use Rattle.turn_client_api.specs.Steps.{Call, PollRecv, Recv, packet_step}
-use Rattle.turn_client_laws.specs.Handled.{Input, stream_with_piece, fed_taken, frame_taken, handled, is_front, processed, payloads, piece_inputs, poll_recv_inputs, recv_inputs, stream_inputs, stream_inputs_taken, taken_first, taken_in, taken_of_len, then_taken, stream_input, input_payload, inputs_taken, unless_given}
+use Rattle.turn_client_api.specs.Steps.{packet_step}
+use Rattle.turn_client_api.specs.declared.call.Call.{Call}
+use Rattle.turn_client_api.specs.declared.call.Call.TheVariants.{PollRecv, Recv}
+use Rattle.turn_client_laws.specs.Handled.{Input, stream_with_piece, fed_taken, frame_taken, handled, is_front, processed, payloads, piece_inputs, poll_recv_inputs, recv_inputs, stream_inputs}
+use Rattle.turn_client_laws.specs.Handled.{stream_inputs_taken, taken_first, taken_in, taken_of_len, then_taken, stream_input, input_payload, inputs_taken, unless_given}
 use Rattle.turn_client_laws.specs.LawsPeers.{IsDeliveredByInput, IsPermittedInput, IsToldBy}
 use Rattle.turn_client_laws.proofs.HasLemmas.{Has, has-filter_map, has-left}
 use Rattle.turn_client_laws.proofs.StandLemmas.{has-contains}
@@ -51,7 +58,8 @@ frame-AreOf is_lent stream now t (Some len) = one-AreOf (stream_input is_lent st
 framed-AreOf : (is_lent : Bool) (stream : Stream) (now : ℕ) (t : State) → AreOf (frame_taken is_lent stream now t) (given is_lent (framed_stream_step stream now t).0)
 framed-AreOf is_lent stream now t = by (begins_no_frame stream.bytes) (frame_len stream.bytes)
   where
-    by : (b : Bool) (o : Option ℕ) → AreOf (cond b [] (taken_of_len is_lent stream now t o)) (given is_lent (cond {A = Outcome × State} b (Handled, broken_at stream.local t) (framed_by stream now t o)).0)
+    by : (b : Bool) (o : Option ℕ) → AreOf (cond b [] (taken_of_len is_lent stream now t o))
+        (given is_lent (cond {A = Outcome × State} b (Handled, broken_at stream.local t) (framed_by stream now t o)).0)
     by true o = handled-AreOf is_lent
     by false o = frame-AreOf is_lent stream now t o
 
@@ -70,7 +78,8 @@ turn-AreOf stream now s = turned_in_mode stream.mode stream now (with_bytes stre
 abbrev Gives : List Input → Option Payload × State → Type 0
 Gives turns p = payloads turns ≡ option_to_list p.0
 
-go_on-Gives : (next : State → Option Payload × State) (later : State → List Input) (front : List Input) (p : Outcome × State) → AreOf front (owned p.0) → ((t : State) → Gives (later t) (next t)) → Gives (front ++ unless_given (payload_in p.0) (later p.1)) (go_on next p)
+go_on-Gives : (next : State → Option Payload × State) (later : State → List Input) (front : List Input) (p : Outcome × State) → AreOf front (owned p.0) → ((t : State) → Gives (later t) (next t))
+    → Gives (front ++ unless_given (payload_in p.0) (later p.1)) (go_on next p)
 go_on-Gives next later front (PeerData payload, t) first more = payloads-append front [] ∙ ap (λ ps. ps ++ []) first
 go_on-Gives next later front (Handled, t) first more = payloads-append front (later t) ∙ (ap (λ ps. ps ++ payloads (later t)) first ∙ more t)
 go_on-Gives next later front (Ignored, t) first more = payloads-append front (later t) ∙ (ap (λ ps. ps ++ payloads (later t)) first ∙ more t)
@@ -81,7 +90,8 @@ unfolding steps_until_payload inputs_taken
 turns-Gives zero now s = refl
 turns-Gives (suc n) now s = by (find is_ready s.streams) (λ t. turns-Gives n now t)
   where
-    by : (o : Option Stream) → ((t : State) → Gives (inputs_taken n now t) (steps_until_payload n now t)) → Gives (taken_first (inputs_taken n now) now s o) (first_ready_step (steps_until_payload n now) now s o)
+    by : (o : Option Stream) → ((t : State) → Gives (inputs_taken n now t) (steps_until_payload n now t))
+        → Gives (taken_first (inputs_taken n now) now s o) (first_ready_step (steps_until_payload n now) now s o)
     by None more = refl
     by (Some stream) more = go_on-Gives (steps_until_payload n now) (inputs_taken n now) (stream_inputs_taken false stream now s) (next_frame_step stream now s) (turn-AreOf stream now s) more
 
@@ -110,16 +120,19 @@ kept-given : (waited : List ℕ) (o : Outcome) → given (is_front waited) o ≡
 kept-given [] o = refl
 kept-given (b ∷ bs) o = refl
 
-framed-fed : (stream : Stream) (piece : List ℕ) (now : ℕ) (t : State) → AreOf (frame_taken (is_front stream.bytes) (stream_with_piece stream piece) now t) (place_kept stream.bytes (framed_stream_step (stream_with_piece stream piece) now t).0)
+framed-fed : (stream : Stream) (piece : List ℕ) (now : ℕ) (t : State) → AreOf (frame_taken (is_front stream.bytes) (stream_with_piece stream piece) now t)
+    (place_kept stream.bytes (framed_stream_step (stream_with_piece stream piece) now t).0)
 framed-fed stream piece now t =
     framed-AreOf (is_front stream.bytes) (stream_with_piece stream piece) now t
     ∙ ap (λ o. option_to_list (payload_in o)) (kept-given stream.bytes (framed_stream_step (stream_with_piece stream piece) now t).0)
 
-bound-AreOf : (peer : SocketAddr) (waited piece : List ℕ) (stream : Stream) (now : ℕ) (s : State) → AreOf (piece_inputs (record stream { mode = Bound peer; bytes = waited }) piece now s) (piece_step (record stream { mode = Bound peer; bytes = waited }) piece now s).0
+bound-AreOf : (peer : SocketAddr) (waited piece : List ℕ) (stream : Stream) (now : ℕ) (s : State)
+    → AreOf (piece_inputs (record stream { mode = Bound peer; bytes = waited }) piece now s) (piece_step (record stream { mode = Bound peer; bytes = waited }) piece now s).0
 bound-AreOf peer [] piece stream now s = refl
 bound-AreOf peer (b ∷ bs) piece stream now s = refl
 
-piece_in_mode : (m : Mode) (stream : Stream) (piece : List ℕ) (now : ℕ) (s : State) → AreOf (piece_inputs (record stream { mode = m }) piece now s) (piece_step (record stream { mode = m }) piece now s).0
+piece_in_mode : (m : Mode) (stream : Stream) (piece : List ℕ) (now : ℕ) (s : State)
+    → AreOf (piece_inputs (record stream { mode = m }) piece now s) (piece_step (record stream { mode = m }) piece now s).0
 piece_in_mode Control stream piece now s =
     let u = record stream { mode = Control } in
     then_all-AreOf now (fed_taken u piece now s) (first_frame_step u piece now s) (framed-fed u piece now (with_bytes stream.local [] s))
@@ -137,7 +150,8 @@ stream-AreOf stream (b ∷ bs) now s = piece_in_mode stream.mode stream (b ∷ b
 
 -- ---- input
 
-recv_over : (carrier : TransportType) (transport : TransportType) (from to : SocketAddr) (bytes : List ℕ) (now : ℕ) (s : State) → AreOf (recv_inputs transport from to bytes now (record s { transport = carrier })) (recv_step transport from to bytes now (record s { transport = carrier })).0
+recv_over : (carrier : TransportType) (transport : TransportType) (from to : SocketAddr) (bytes : List ℕ) (now : ℕ) (s : State)
+    → AreOf (recv_inputs transport from to bytes now (record s { transport = carrier })) (recv_step transport from to bytes now (record s { transport = carrier })).0
 recv_over Udp transport from to bytes now s = by (is_from_server transport from u) (same_address to s.local)
   where
     u : State
@@ -226,7 +240,8 @@ framed-tells is_lent stream now t = by (begins_no_frame stream.bytes) (frame_len
     by false None h = absurd h
     by false (Some len) h = (stream_input is_lent stream (take len stream.bytes) now t, inl refl, refl)
 
-fed-tells : (stream : Stream) (piece : List ℕ) (now : ℕ) (t : State) → Tells (frame_taken (is_front stream.bytes) (stream_with_piece stream piece) now t) (place_kept stream.bytes (framed_stream_step (stream_with_piece stream piece) now t).0)
+fed-tells : (stream : Stream) (piece : List ℕ) (now : ℕ) (t : State) → Tells (frame_taken (is_front stream.bytes) (stream_with_piece stream piece) now t)
+    (place_kept stream.bytes (framed_stream_step (stream_with_piece stream piece) now t).0)
 fed-tells stream piece now t = tells-kept stream.bytes _ (framed_stream_step (stream_with_piece stream piece) now t).0 (framed-tells (is_front stream.bytes) (stream_with_piece stream piece) now t)
 
 -- what all streams return is no ICMP report
@@ -240,7 +255,8 @@ then_all-tells now front (PeerIcmp transport peer icmp, t) first h = let (one, t
 then_all-tells now front (Handled, t) first h = absurd (no-icmp (poll_recv_step now t).0 Handled (λ k. k) h)
 then_all-tells now front (Ignored, t) first h = absurd (no-icmp (poll_recv_step now t).0 Ignored (λ k. k) h)
 
-piece-tells : (m : Mode) (stream : Stream) (piece : List ℕ) (now : ℕ) (s : State) → Tells (piece_inputs (record stream { mode = m }) piece now s) (piece_step (record stream { mode = m }) piece now s).0
+piece-tells : (m : Mode) (stream : Stream) (piece : List ℕ) (now : ℕ) (s : State)
+    → Tells (piece_inputs (record stream { mode = m }) piece now s) (piece_step (record stream { mode = m }) piece now s).0
 piece-tells Control stream piece now s =
     let u = record stream { mode = Control } in
     then_all-tells now (fed_taken u piece now s) (first_frame_step u piece now s) (fed-tells u piece now (with_bytes stream.local [] s))
@@ -256,7 +272,8 @@ stream-tells : (stream : Stream) (piece : List ℕ) (now : ℕ) (s : State) → 
 stream-tells stream [] now s h = absurd h
 stream-tells stream (b ∷ bs) now s h = piece-tells stream.mode stream (b ∷ bs) now s h
 
-tells_over : (carrier : TransportType) (transport : TransportType) (from to : SocketAddr) (bytes : List ℕ) (now : ℕ) (s : State) → Tells (recv_inputs transport from to bytes now (record s { transport = carrier })) (recv_step transport from to bytes now (record s { transport = carrier })).0
+tells_over : (carrier : TransportType) (transport : TransportType) (from to : SocketAddr) (bytes : List ℕ) (now : ℕ) (s : State)
+    → Tells (recv_inputs transport from to bytes now (record s { transport = carrier })) (recv_step transport from to bytes now (record s { transport = carrier })).0
 tells_over Udp transport from to bytes now s = by (is_from_server transport from u) (same_address to s.local)
   where
     u : State

@@ -5,10 +5,13 @@ use Rattle.std.specs.declared.net.socket_addr.SocketAddr.{SocketAddr}
 use Rattle.turn_stun.specs.declared.transport.TransportType.{TransportType}
 use Rattle.turn_auth.specs.LongTerm.{Challenge}
 use Rattle.turn_client_api.specs.Config.{Config}
-use Rattle.turn_client_api.specs.State.{State, initial, Phase, New, Requesting, Authenticating, Allocated, Closed}
+use Rattle.turn_client_api.specs.State.{State, initial}
+use Rattle.turn_client_api.specs.declared.state.Phase.{Phase}
+use Rattle.turn_client_api.specs.declared.state.Phase.TheVariants.{New, Requesting, Authenticating, Allocated, Closed}
 use Rattle.turn_client_api.specs.Effect.{phase_with, relayed_in, taken_addresses}
 use Rattle.turn_client_api.specs.Retry.{phase_after}
-use Rattle.turn_client_api.specs.Steps.{Call, Leaves}
+use Rattle.turn_client_api.specs.Steps.{Leaves}
+use Rattle.turn_client_api.specs.declared.call.Call.{Call}
 use Rattle.turn_client_laws.specs.LawsStates.{HoldsChallenge, IsHeldIn}
 use Rattle.turn_client_laws.proofs.Edits.{KeepsAllEdits, KeepsEdits}
 use Rattle.turn_client_laws.proofs.EditsOfCalls.{leaves-walk}

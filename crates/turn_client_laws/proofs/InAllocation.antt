@@ -11,16 +11,29 @@ use Rattle.turn_types.specs.declared.family.AddressFamily.{AddressFamily}
 use Rattle.turn_agent.specs.Agent.{same_address}
 use Rattle.turn_client_api.specs.Config.{Config, same_family}
 use Rattle.turn_client_api.specs.Alarm.{AllHaveAllocation, HasAllocation}
-use Rattle.turn_client_api.specs.State.{State, initial, DataOffer, Grant, Allocation, Permission, Channel, Connect, Offer, Connection, Progress, Pending, Active, Reserved, Origin, OwnConnect, Purpose, ForAllocation, ForRefresh, ForPermission, ForChannel, ForConnect, ForBind, Listing}
-use Rattle.turn_client_api.specs.Grants.{family_of, family_of_grant, family_of_ip, is_channel_of, is_connect_to, is_for, is_of, is_permission_of, as_offer, permission_state, permission_progress, purposes_of, same_ip, with_grant, without_grants}
+use Rattle.turn_client_api.specs.State.{State, initial}
+use Rattle.turn_client_api.specs.declared.grant.DataOffer.{DataOffer}
+use Rattle.turn_client_api.specs.declared.grant.Grant.{Grant}
+use Rattle.turn_client_api.specs.declared.grant.Grant.TheVariants.{Allocation, Permission, Channel, Connect, Offer, Connection}
+use Rattle.turn_client_api.specs.declared.grant.Progress.{Progress}
+use Rattle.turn_client_api.specs.declared.grant.Progress.TheVariants.{Pending, Active, Reserved}
+use Rattle.turn_client_api.specs.declared.grant.Origin.{Origin}
+use Rattle.turn_client_api.specs.declared.grant.Origin.TheVariants.{OwnConnect}
+use Rattle.turn_client_api.specs.declared.grant.Purpose.{Purpose}
+use Rattle.turn_client_api.specs.declared.grant.Purpose.TheVariants.{ForAllocation, ForRefresh, ForPermission, ForChannel, ForConnect, ForBind}
+use Rattle.turn_client_api.specs.declared.grant.Listing.{Listing}
+use Rattle.turn_client_api.specs.Grants.{family_of, family_of_grant, family_of_ip, is_channel_of, is_connect_to, is_for, is_of, is_permission_of, as_offer, permission_state, permission_progress}
+use Rattle.turn_client_api.specs.Grants.{purposes_of, same_ip, with_grant, without_grants}
 use Rattle.turn_client_api.specs.Effect.{new_allocation, relayed_in, taken_addresses}
 use Rattle.turn_client_api.specs.Calls.{is_offer_of, offer_origin, offer_taken}
-use Rattle.turn_client_api.specs.Steps.{Call, Leaves}
+use Rattle.turn_client_api.specs.Steps.{Leaves}
+use Rattle.turn_client_api.specs.declared.call.Call.{Call}
 use Rattle.turn_client_laws.specs.LawsGrantAllocations.{asked_family, IsAskedIn, ReplyHasAllocation, GrantsHaveAllocations}
 use Rattle.turn_client_laws.specs.LawsStates.{is_asked_by}
 use Rattle.turn_client_laws.proofs.AddressLemmas.{same_ip-true}
 use Rattle.turn_client_laws.proofs.HasLemmas.{Has, all-has, has-all, has-filter, has-filter_map, has-right}
-use Rattle.turn_client_laws.proofs.InAllocationLemmas.{Backed, Housed, Houses, Room, Spares, SparesAll, all-spared, any-has, asked-more, has-any, housed-filter, housed-grant, housed-grants, housed-listings, housed-shaped, housed-without, of-room, room-more, room-of, room-without, same_family-self, same_family-true, shape}
+use Rattle.turn_client_laws.proofs.InAllocationLemmas.{Backed, Housed, Houses, Room, Spares, SparesAll, all-spared, any-has, asked-more, has-any, housed-filter, housed-grant, housed-grants}
+use Rattle.turn_client_laws.proofs.InAllocationLemmas.{housed-listings, housed-shaped, housed-without, of-room, room-more, room-of, room-without, same_family-self, same_family-true, shape}
 use Rattle.turn_client_laws.proofs.TakenOfferLemmas.{no-offer, stays-first, was-first}
 use Rattle.turn_client_laws.proofs.GrantOriginLemmas.{has-mapped}
 use Rattle.turn_client_laws.proofs.Edits.{IsAskable, KeepsAllEdits, KeepsEdits, aged-outlines, outline}

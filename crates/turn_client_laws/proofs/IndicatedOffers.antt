@@ -5,12 +5,19 @@ use Rattle.std.proofs.lemmas.List.Elements.{filter-append}
 use Rattle.std.specs.declared.net.socket_addr.SocketAddr.{SocketAddr}
 use Rattle.turn_stun.specs.declared.transport.TransportType.{TransportType}
 use Rattle.turn_client_api.specs.Config.{Config}
-use Rattle.turn_client_api.specs.State.{State, initial, Grant, Allocation, Permission, Channel, Connect, Offer, Connection, DataOffer, Origin, OwnConnect, ServerRequest, ServerIndication, Pending}
+use Rattle.turn_client_api.specs.State.{State, initial}
+use Rattle.turn_client_api.specs.declared.grant.Grant.{Grant}
+use Rattle.turn_client_api.specs.declared.grant.Grant.TheVariants.{Allocation, Permission, Channel, Connect, Offer, Connection}
+use Rattle.turn_client_api.specs.declared.grant.DataOffer.{DataOffer}
+use Rattle.turn_client_api.specs.declared.grant.Origin.{Origin}
+use Rattle.turn_client_api.specs.declared.grant.Origin.TheVariants.{OwnConnect, ServerRequest, ServerIndication}
+use Rattle.turn_client_api.specs.declared.grant.Progress.TheVariants.{Pending}
 use Rattle.turn_client_api.specs.Grants.{is_channel_of}
 use Rattle.turn_client_api.specs.Effect.{new_allocation, taken_addresses}
 use Rattle.turn_client_api.specs.Calls.{is_offer_of, without_first}
 use Rattle.turn_client_api.specs.Connections.{is_indicated, max_indicated}
-use Rattle.turn_client_api.specs.Steps.{Call, Leaves}
+use Rattle.turn_client_api.specs.Steps.{Leaves}
+use Rattle.turn_client_api.specs.declared.call.Call.{Call}
 use Rattle.turn_client_laws.specs.LawsStates.{HasFewIndicated}
 use Rattle.turn_client_laws.proofs.Edits.{outline}
 use Rattle.turn_client_laws.proofs.GrantEdits.{KeepsGrants, grants-KeepsAllEdits}
@@ -74,7 +81,8 @@ none-allocated : (lifetime now : ℕ) (addresses : List SocketAddr) → indicate
 none-allocated lifetime now [] = refl
 none-allocated lifetime now (a ∷ others) = none-allocated lifetime now others
 
-few-offer : (origin : Origin) (offer : DataOffer) (gs : List Grant) → (origin ≡ ServerIndication → indicated gs < max_indicated) → AreFew gs → AreFew (gs ++ Offer (record offer { origin = origin }) ∷ [])
+few-offer : (origin : Origin) (offer : DataOffer) (gs : List Grant) → (origin ≡ ServerIndication → indicated gs < max_indicated) → AreFew gs
+    → AreFew (gs ++ Offer (record offer { origin = origin }) ∷ [])
 few-offer OwnConnect offer gs less few = few-append gs (Offer (record offer { origin = OwnConnect }) ∷ []) refl few
 few-offer (ServerRequest request) offer gs less few = few-append gs (Offer (record offer { origin = ServerRequest request }) ∷ []) refl few
 few-offer ServerIndication offer gs less few =
@@ -93,7 +101,8 @@ AreFew-KeepsGrants = record {
   offers = λ offer gs less. few-offer offer.origin offer gs less;
   rebinds = λ number peer was progress gs there few.
       few-append (filter (λ g. not (is_channel_of number g)) gs) (Channel number peer progress ∷ []) refl (omega (arith, few, indicated-filter (λ g. not (is_channel_of number g)) gs));
-  allocates = λ lifetime now families addresses gs. few-append gs (map (new_allocation lifetime now) (taken_addresses families addresses)) (none-allocated lifetime now (taken_addresses families addresses));
+  allocates = λ lifetime now families addresses gs. few-append gs (map (new_allocation lifetime now) (taken_addresses families addresses))
+      (none-allocated lifetime now (taken_addresses families addresses));
 }
 
 pub initial-HasFewIndicated : (transport : TransportType) (local remote : SocketAddr) (config : Config) (seed : List ℕ) → HasFewIndicated (initial transport local remote config seed)

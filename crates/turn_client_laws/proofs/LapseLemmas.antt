@@ -1,5 +1,6 @@
 -- What remains after time has passed.
-use Rattle.std.proofs.Common.{◌≡◌, ℕ, suc, ◌<◌, Bool, true, false, ◌&&◌, ◌||◌, not, List, [], ◌∷◌, ◌++◌, length, filter, filter_map, find, fold, reverse, Option, Some, None, ◌⊎◌, inl, inr, refl, sym, subst, ◌∙◌, arith}
+use Rattle.std.proofs.Common.{◌≡◌, ℕ, suc, ◌<◌, Bool, true, false, ◌&&◌, ◌||◌, not, List, [], ◌∷◌, ◌++◌, length, filter, filter_map, find, fold, reverse, Option, Some, None, ◌⊎◌, inl, inr, refl, sym}
+use Rattle.std.proofs.Common.{subst, ◌∙◌, arith}
 use Rattle.std.specs.Prelude.{All, IfSome, ⊤, slice_get}
 use Rattle.std.proofs.lemmas.List.{length-reverse, reverse-append}
 use Rattle.std.proofs.lemmas.Option.{none-some, same_Some}
@@ -9,11 +10,20 @@ use Rattle.turn_types.specs.declared.family.AddressFamily.{AddressFamily}
 use Rattle.turn_types.specs.declared.family.AddressFamily.TheVariants.{IPV4, IPV6}
 use Rattle.turn_client_api.specs.Config.{same_family}
 use Rattle.turn_client_api.specs.Alarm.{HasAllocation}
-use Rattle.turn_client_api.specs.State.{State, DataOffer, Grant, Allocation, Permission, Channel, Connect, Offer, Connection, Relay, Pending, Active, Reserved, Purpose, agent_of, later_by}
-use Rattle.turn_client_api.specs.Grants.{allocations, as_allocation, find_allocation, family_of_grant, has_request, is_past, failures_among, family_of, is_channel_of, is_for_any, is_connect, is_of, is_pending_channel, is_pending_permission, jump, unlisted, without_grants}
+use Rattle.turn_client_api.specs.State.{State, agent_of, later_by}
+use Rattle.turn_client_api.specs.declared.grant.DataOffer.{DataOffer}
+use Rattle.turn_client_api.specs.declared.grant.Grant.{Grant}
+use Rattle.turn_client_api.specs.declared.grant.Grant.TheVariants.{Allocation, Permission, Channel, Connect, Offer, Connection}
+use Rattle.turn_client_api.specs.declared.grant.Relay.{Relay}
+use Rattle.turn_client_api.specs.declared.grant.Progress.TheVariants.{Pending, Active, Reserved}
+use Rattle.turn_client_api.specs.declared.grant.Purpose.{Purpose}
+use Rattle.turn_client_api.specs.Grants.{allocations, as_allocation, find_allocation, family_of_grant, has_request, is_past, failures_among, family_of, is_channel_of, is_for_any, is_connect, is_of}
+use Rattle.turn_client_api.specs.Grants.{is_pending_channel, is_pending_permission, jump, unlisted, without_grants}
 use Rattle.turn_client_api.specs.Effect.{reserved, reserved_time}
 use Rattle.turn_client_api.specs.Calls.{is_allocated}
-use Rattle.turn_client_api.specs.Poll.{first_unreported, timed_out_purposes, next_offer, unreported_in, channel_lapsed, connections_unbound, failed_by_timeout, last_channel_lapsed, offers_timed_out, permissions_lapsed, refreshes_timed_out, set_free, failed, allocation_expires, is_lapsed_channel, is_lapsed_permission, is_unbound, lapsed, lapsed_allocation, lapsed_in, unbound}
+use Rattle.turn_client_api.specs.Poll.{first_unreported, timed_out_purposes, next_offer, unreported_in, channel_lapsed, connections_unbound, failed_by_timeout, last_channel_lapsed, offers_timed_out}
+use Rattle.turn_client_api.specs.Poll.{permissions_lapsed, refreshes_timed_out, set_free, failed, allocation_expires, is_lapsed_channel, is_lapsed_permission, is_unbound, lapsed, lapsed_allocation}
+use Rattle.turn_client_api.specs.Poll.{lapsed_in, unbound}
 use Rattle.turn_client_api.specs.declared.event.TurnEvent.{TurnEvent}
 use Rattle.turn_client_api.specs.declared.event.TurnEvent.TheVariants.{ChannelCreateFailed}
 use Rattle.turn_client_laws.proofs.HasLemmas.{Has, has-all, has-left, has-right, has-append, has-filter, filter_map-has, has-filter_map, has-found}
@@ -226,7 +236,8 @@ Outlives now (Allocation a) = ⊤
 Outlives now grant = Alive now grant
 
 -- what remains in an allocation without an event has not expired
-alive_in : (family : AddressFamily) (given : Option ℕ) (purposes : List Purpose) (now : ℕ) (s : State) → (lapsed_in family given purposes now s).events ≡ [] → (g : Grant) → Has g (lapsed_in family given purposes now s).grants → is_of family g ≡ true → Outlives now g
+alive_in : (family : AddressFamily) (given : Option ℕ) (purposes : List Purpose) (now : ℕ) (s : State) → (lapsed_in family given purposes now s).events ≡ [] → (g : Grant)
+    → Has g (lapsed_in family given purposes now s).grants → is_of family g ≡ true → Outlives now g
 unfolding tail6 tail4
 alive_in family given purposes now s none g h here = by g h here
   where
@@ -307,7 +318,8 @@ reserved-outlives now (Offer offer) is = absurd is
 reserved-outlives now (Connection c) is = absurd is
 
 -- what remains of one allocation after it was processed
-after-turn : (given : Option ℕ) (purposes : List Purpose) (now : ℕ) (s : State) (a : Relay) (g : Grant) → (lapsed_allocation given purposes now s a).events ≡ [] → Has g (lapsed_allocation given purposes now s a).grants → is_of (family_of a.relayed) g ≡ true → Outlives now g
+after-turn : (given : Option ℕ) (purposes : List Purpose) (now : ℕ) (s : State) (a : Relay) (g : Grant) → (lapsed_allocation given purposes now s a).events ≡ []
+    → Has g (lapsed_allocation given purposes now s a).grants → is_of (family_of a.relayed) g ≡ true → Outlives now g
 after-turn given purposes now s a g none h here = by (allocation_expires purposes now s a) refl
   where
     by : (b : Bool) → allocation_expires purposes now s a ≡ b → Outlives now g
@@ -317,7 +329,8 @@ after-turn given purposes now s a g none h here = by (allocation_expires purpose
         cc
     by false e = alive_in (family_of a.relayed) given purposes now s (rw e at none) g (rw e at h) here
 
-outlives : (given : Option ℕ) (purposes : List Purpose) (now : ℕ) (relays : List Relay) (s : State) → (fold (lapsed_allocation given purposes now) s relays).events ≡ [] → (a : Relay) → Has a relays → (g : Grant) → Has g (fold (lapsed_allocation given purposes now) s relays).grants → is_of (family_of a.relayed) g ≡ true → Outlives now g
+outlives : (given : Option ℕ) (purposes : List Purpose) (now : ℕ) (relays : List Relay) (s : State) → (fold (lapsed_allocation given purposes now) s relays).events ≡ [] → (a : Relay) → Has a relays
+    → (g : Grant) → Has g (fold (lapsed_allocation given purposes now) s relays).grants → is_of (family_of a.relayed) g ≡ true → Outlives now g
 outlives given purposes now [] s none a inside g h here = absurd inside
 outlives given purposes now (b ∷ bs) s none a (inr inside) g h here = outlives given purposes now bs (lapsed_allocation given purposes now s b) none a inside g h here
 outlives given purposes now (b ∷ bs) s none a (inl e) g h here = by ((each-shrinks given purposes now bs post).grants g h)
@@ -340,7 +353,8 @@ same_family-swap IPV4 IPV6 e = e
 same_family-swap IPV6 IPV4 e = e
 
 -- an allocation in use is removed at its expiry
-stays-alive : (given : Option ℕ) (purposes : List Purpose) (now : ℕ) (s : State) (a : Relay) → Has (Allocation a) (lapsed_allocation given purposes now s a).grants → a.is_expired ≡ false → now < a.expiry
+stays-alive : (given : Option ℕ) (purposes : List Purpose) (now : ℕ) (s : State) (a : Relay) → Has (Allocation a) (lapsed_allocation given purposes now s a).grants → a.is_expired ≡ false
+    → now < a.expiry
 stays-alive given purposes now s a h used = by (allocation_expires purposes now s a) refl
   where
     past : (p x y n : Bool) → n ≡ true → (p && (x || y || n)) ≡ false → p ≡ false
@@ -356,7 +370,8 @@ stays-alive given purposes now s a h used = by (allocation_expires purposes now 
         cc
     by false e = leb-false a.expiry now (past (is_past now a) (is_for_any purposes (Allocation a)) (not (has_request (Allocation a) s)) (not a.is_expired) (rw used refl) e)
 
-allocation-alive : (given : Option ℕ) (purposes : List Purpose) (now : ℕ) (relays : List Relay) (s : State) (a : Relay) → Has a relays → Has (Allocation a) (fold (lapsed_allocation given purposes now) s relays).grants → a.is_expired ≡ false → now < a.expiry
+allocation-alive : (given : Option ℕ) (purposes : List Purpose) (now : ℕ) (relays : List Relay) (s : State) (a : Relay) → Has a relays
+    → Has (Allocation a) (fold (lapsed_allocation given purposes now) s relays).grants → a.is_expired ≡ false → now < a.expiry
 allocation-alive given purposes now [] s a inside h used = absurd inside
 allocation-alive given purposes now (b ∷ bs) s a (inr inside) h used = allocation-alive given purposes now bs (lapsed_allocation given purposes now s b) a inside h used
 allocation-alive given purposes now (b ∷ bs) s a (inl e) h used =

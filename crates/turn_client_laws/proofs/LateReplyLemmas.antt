@@ -12,10 +12,18 @@ use Rattle.turn_auth.specs.Validation.{validation_of}
 use Rattle.turn_auth.specs.declared.validation.Validation.{Validation}
 use Rattle.turn_auth.specs.declared.validation.Validation.TheVariants.{Validated, ResendRequest, Refused}
 use Rattle.turn_agent.specs.Agent.{is_outstanding, is_response, same_address}
-use Rattle.turn_client_api.specs.State.{State, DataConnection, Grant, Allocation, Permission, Channel, Connect, Offer, Connection, Purpose, Phase, New, Requesting, Authenticating, Allocated, Closed, auth_of, later_by}
+use Rattle.turn_client_api.specs.State.{State}
+use Rattle.turn_client_api.specs.declared.grant.DataConnection.{DataConnection}
+use Rattle.turn_client_api.specs.declared.grant.Grant.{Grant}
+use Rattle.turn_client_api.specs.declared.grant.Grant.TheVariants.{Allocation, Permission, Channel, Connect, Offer, Connection}
+use Rattle.turn_client_api.specs.declared.grant.Purpose.{Purpose}
+use Rattle.turn_client_api.specs.declared.state.Phase.{Phase}
+use Rattle.turn_client_api.specs.declared.state.Phase.TheVariants.{New, Requesting, Authenticating, Allocated, Closed}
+use Rattle.turn_client_api.specs.State.{auth_of, later_by}
 use Rattle.turn_client_api.specs.Grants.{purposes_of}
 use Rattle.turn_client_api.specs.Requests.{connection_bind_method}
-use Rattle.turn_client_api.specs.Judgement.{Judgement, Unrelated, Challenged, Fatal, LateResponse, DataIndication, ConnectionAttempt, SignedRequest, SignedSuccess, SignedError, allocated_judgement, answers_allocate, answers_one, authenticating_judgement, bind_judgement, challenged_or, class_in, is_bind_of, judgement_of, method_in}
+use Rattle.turn_client_api.specs.Judgement.{Judgement, Unrelated, Challenged, Fatal, LateResponse, DataIndication, ConnectionAttempt, SignedRequest, SignedSuccess, SignedError, allocated_judgement}
+use Rattle.turn_client_api.specs.Judgement.{answers_allocate, answers_one, authenticating_judgement, bind_judgement, challenged_or, class_in, is_bind_of, judgement_of, method_in}
 use Rattle.turn_client_api.specs.Retry.{bind_time, max_challenges, retried}
 use Rattle.turn_client_api.specs.Connections.{bind_again, bind_answered, bind_step, connection_at, with_deadline}
 use Rattle.turn_client_api.specs.Payloads.{challenge_step, message_step, wrong_step}
@@ -120,7 +128,8 @@ stray-grants message now s answers none = by (judgement_of s message) refl (judg
 -- ---- it binds no connection
 
 -- a connection that is bound is unchanged if another one waits anew
-deadline-has : (local : SocketAddr) (moment : ℕ) (c : DataConnection) (gs : List Grant) (s : State) → c.deadline ≡ None → Has (Connection c) (with_deadline local (Some moment) (record s { grants = gs })).grants → Has (Connection c) gs
+deadline-has : (local : SocketAddr) (moment : ℕ) (c : DataConnection) (gs : List Grant) (s : State) → c.deadline ≡ None
+    → Has (Connection c) (with_deadline local (Some moment) (record s { grants = gs })).grants → Has (Connection c) gs
 deadline-has local moment c [] s none h = absurd h
 deadline-has local moment c (Connection d ∷ gs) s none h = by (same_address d.local local) refl (deadline-has local moment c gs s none)
   where
@@ -177,7 +186,8 @@ answered-stray c d message now s unasked none = by (bind_judgement s d.local mes
     by SignedSuccess e stray = absurd (rw e at stray)
     by SignedError e stray = absurd (rw e at stray)
 
-bind_in_phase : (p : Phase) (c : DataConnection) (local : SocketAddr) (message : List ℕ) (now : ℕ) (s : State) → IsUnasked message s → c.deadline ≡ None → BindsNothing c s (bind_step local message now (record s { phase = p }))
+bind_in_phase : (p : Phase) (c : DataConnection) (local : SocketAddr) (message : List ℕ) (now : ℕ) (s : State) → IsUnasked message s → c.deadline ≡ None
+    → BindsNothing c s (bind_step local message now (record s { phase = p }))
 bind_in_phase New c local message now s unasked none = λ h. h
 bind_in_phase Requesting c local message now s unasked none = λ h. h
 bind_in_phase Authenticating c local message now s unasked none = λ h. h
@@ -195,6 +205,7 @@ bind_in_phase Allocated c local message now s unasked none = by (connection_at l
     by None e = rw e (λ h. h)
     by (Some d) e = rw e (about d (eqb (method_in message) connection_bind_method))
 
-pub stray-binds : (local : SocketAddr) (message : List ℕ) (now : ℕ) (s : State) (c : DataConnection) → IsUnasked message s → Contains (bind_step local message now s).grants (Connection c) → c.deadline ≡ None → Contains s.grants (Connection c)
+pub stray-binds : (local : SocketAddr) (message : List ℕ) (now : ℕ) (s : State) (c : DataConnection) → IsUnasked message s → Contains (bind_step local message now s).grants (Connection c)
+    → c.deadline ≡ None → Contains s.grants (Connection c)
 stray-binds local message now s c unasked there none =
     has-contains (Connection c) s.grants (bind_in_phase s.phase c local message now s unasked none (contains-has (Connection c) _ there))

@@ -7,7 +7,6 @@ pub mod BoundStreamLemmas
 pub mod ChallengeJudgement
 pub mod ChannelPeers
 pub mod ChannelRange
-mod ConfigLemmas
 pub mod CountLemmas
 pub mod DistinctGrants
 pub mod DistinctNumbers

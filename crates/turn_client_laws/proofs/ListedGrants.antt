@@ -7,11 +7,17 @@ use Rattle.std.specs.declared.net.socket_addr.SocketAddr.{SocketAddr}
 use Rattle.turn_stun.specs.declared.transport.TransportType.{TransportType}
 use Rattle.turn_agent.specs.Agent.{same_address}
 use Rattle.turn_client_api.specs.Config.{Config}
-use Rattle.turn_client_api.specs.State.{State, initial, Grant, Allocation, Permission, Channel, Connect, Offer, Connection, Purpose, ForAllocation, ForRefresh, ForPermission, ForChannel, ForConnect, ForBind, Listing}
+use Rattle.turn_client_api.specs.State.{State, initial}
+use Rattle.turn_client_api.specs.declared.grant.Grant.{Grant}
+use Rattle.turn_client_api.specs.declared.grant.Grant.TheVariants.{Allocation, Permission, Channel, Connect, Offer, Connection}
+use Rattle.turn_client_api.specs.declared.grant.Purpose.{Purpose}
+use Rattle.turn_client_api.specs.declared.grant.Purpose.TheVariants.{ForAllocation, ForRefresh, ForPermission, ForChannel, ForConnect, ForBind}
+use Rattle.turn_client_api.specs.declared.grant.Listing.{Listing}
 use Rattle.turn_client_api.specs.Grants.{is_connect_to, is_for, is_of, is_permission_of, is_channel_of, with_grant, without_grants}
 use Rattle.turn_client_api.specs.Requests.{listings}
 use Rattle.turn_client_api.specs.Calls.{is_offer_of, offer_taken}
-use Rattle.turn_client_api.specs.Steps.{Call, Leaves}
+use Rattle.turn_client_api.specs.Steps.{Leaves}
+use Rattle.turn_client_api.specs.declared.call.Call.{Call}
 use Rattle.turn_client_laws.specs.LawsStates.{HasGrantsAsked, HasItsGrant, is_asked_by}
 use Rattle.turn_client_laws.proofs.HasLemmas.{Has, all-has, has-all, has-append, has-filter}
 use Rattle.turn_client_laws.proofs.InAllocationLemmas.{any-has, has-any, not-both, stays}
@@ -137,7 +143,8 @@ askable-founded s p h (inl e) = inl e
 askable-founded s p h (inr (inl there)) = inr there
 askable-founded s p h (inr (inr (l, there, e))) = subst (HasGrant s.grants) e (h l there)
 
-asked-founded : (id : ℕ) (purposes : List Purpose) (s : State) → ((p : Purpose) → Has p purposes → IsAskable s p) → AllHaveGrant s → (l : Listing) → Has l (s.listed ++ listings id purposes) → HasGrant s.grants l.purpose
+asked-founded : (id : ℕ) (purposes : List Purpose) (s : State) → ((p : Purpose) → Has p purposes → IsAskable s p) → AllHaveGrant s → (l : Listing) → Has l (s.listed ++ listings id purposes)
+    → HasGrant s.grants l.purpose
 asked-founded id purposes s askable h l there = by (has-append l s.listed (listings id purposes) there)
   where
     made : Purpose → Listing

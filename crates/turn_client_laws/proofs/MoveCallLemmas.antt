@@ -10,13 +10,22 @@ use Rattle.turn_stun.specs.declared.transport.TransportType.TheVariants.{Tcp}
 use Rattle.turn_types.specs.declared.family.AddressFamily.{AddressFamily}
 use Rattle.turn_agent.specs.Agent.{first_sent}
 use Rattle.turn_agent.specs.declared.transaction.Transaction.{Transaction}
-use Rattle.turn_client_api.specs.State.{State, Grant, Allocation, Permission, Channel, Connect, Offer, Connection, Relay, Listing, Pending, Purpose, ForPermission, ForChannel, ForConnect}
+use Rattle.turn_client_api.specs.State.{State}
+use Rattle.turn_client_api.specs.declared.grant.Grant.{Grant}
+use Rattle.turn_client_api.specs.declared.grant.Grant.TheVariants.{Allocation, Permission, Channel, Connect, Offer, Connection}
+use Rattle.turn_client_api.specs.declared.grant.Relay.{Relay}
+use Rattle.turn_client_api.specs.declared.grant.Listing.{Listing}
+use Rattle.turn_client_api.specs.declared.grant.Progress.TheVariants.{Pending}
+use Rattle.turn_client_api.specs.declared.grant.Purpose.{Purpose}
+use Rattle.turn_client_api.specs.declared.grant.Purpose.TheVariants.{ForPermission, ForChannel, ForConnect}
 use Rattle.turn_client_api.specs.Grants.{find_allocation_to, changed_allocation, family_of_ip, is_of_family, is_past, has_active_permission, permission_state, with_expired, with_grant}
 use Rattle.turn_client_api.specs.Requests.{fresh_id, listings, request_for, requested}
 use Rattle.turn_client_api.specs.Connections.{is_connected, is_connecting}
-use Rattle.turn_client_api.specs.Calls.{bind_channel, bind_channel_step, bound_by, channel_step, channels_to, connect_step, create_permission_step, free_number, in_allocation, is_allocated, is_in_progress, missing_permission, permission_step, reserved_from, tcp_connect_step}
+use Rattle.turn_client_api.specs.Calls.{bind_channel, bind_channel_step, bound_by, channel_step, channels_to, connect_step, create_permission_step, free_number, in_allocation, is_allocated}
+use Rattle.turn_client_api.specs.Calls.{is_in_progress, missing_permission, permission_step, reserved_from, tcp_connect_step}
 use Rattle.turn_client_api.specs.declared.error.BindChannelError.TheVariants as Bind
-use Rattle.turn_client_api.specs.Steps.{Call, CreatePermission, BindChannel, TcpConnect}
+use Rattle.turn_client_api.specs.declared.call.Call.{Call}
+use Rattle.turn_client_api.specs.declared.call.Call.TheVariants.{CreatePermission, BindChannel, TcpConnect}
 use Rattle.turn_client_laws.specs.LawsRequests.{AsksFor, IsListedAs, IsListedFor, IsMade, IsMadeAs, IsSentAgain}
 use Rattle.turn_client_laws.specs.LawsGone.{IsTakenBy, grant_identity}
 use Rattle.turn_client_laws.proofs.HasLemmas.{Has, has-right}
@@ -69,7 +78,8 @@ expired-grant_identity family (Connect peer) = refl
 expired-grant_identity family (Offer offer) = refl
 expired-grant_identity family (Connection c) = refl
 
-does-in : {E : Type 0} (call : Call) (o : Option Relay) (ip : IpAddr) (now : ℕ) (refusal : E) (s : State) (otherwise : Result Unit E × State) → Does call s otherwise.1 → Does call s (in_allocation o ip now refusal s otherwise).1
+does-in : {E : Type 0} (call : Call) (o : Option Relay) (ip : IpAddr) (now : ℕ) (refusal : E) (s : State) (otherwise : Result Unit E × State) → Does call s otherwise.1
+    → Does call s (in_allocation o ip now refusal s otherwise).1
 does-in call None ip now refusal s otherwise k = does-same call s
 does-in call (Some a) ip now refusal s otherwise k =
     by_test (Does call s) (is_past now a) _ otherwise
@@ -107,7 +117,8 @@ module _ (transport : TransportType) (peer : SocketAddr) (now : ℕ) (s : State)
   binding = BindChannel transport peer now
 
   -- a permission is requested with the channel
-  listed-with : (number : ℕ) (ips : List IpAddr) (b : Bool) → ips ≡ cond b (socket_ip peer ∷ []) [] → (p : Purpose) → Has p (ForChannel number peer ∷ map ForPermission ips) → IsListedFor (ForChannel number peer) p
+  listed-with : (number : ℕ) (ips : List IpAddr) (b : Bool) → ips ≡ cond b (socket_ip peer ∷ []) [] → (p : Purpose) → Has p (ForChannel number peer ∷ map ForPermission ips)
+      → IsListedFor (ForChannel number peer) p
   listed-with number ips b e p (inl is) = inl is
   listed-with number ips b e p (inr h) = by (has-mapped ForPermission p ips h)
     where

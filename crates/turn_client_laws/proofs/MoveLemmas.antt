@@ -1,7 +1,9 @@
 -- How requests, listings and grants are added and removed.
 use Rattle.std.proofs.Common.{◌≡◌, ◌⊎◌, Bool, true, false, not, cond, List, [], ◌∷◌, ◌++◌, map, filter, refl, sym, subst, ◌∙◌, inl, inr}
 use Rattle.turn_agent.specs.declared.transaction.Transaction.{Transaction}
-use Rattle.turn_client_api.specs.State.{State, Grant, Listing}
+use Rattle.turn_client_api.specs.State.{State}
+use Rattle.turn_client_api.specs.declared.grant.Grant.{Grant}
+use Rattle.turn_client_api.specs.declared.grant.Listing.{Listing}
 use Rattle.turn_client_laws.specs.LawsGone.{grant_identity}
 use Rattle.turn_client_laws.proofs.HasLemmas.{Has, filter-has, has-append, has-filter, has-left, map-has}
 

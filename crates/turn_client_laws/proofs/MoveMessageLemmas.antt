@@ -15,14 +15,28 @@ use Rattle.turn_auth.specs.LongTerm.{Challenge}
 use Rattle.turn_agent.specs.Agent as A
 use Rattle.turn_agent.specs.Agent.{first_sent, is_response, same_address}
 use Rattle.turn_agent.specs.declared.transaction.Transaction.{Transaction}
-use Rattle.turn_client_api.specs.State.{State, Grant, Allocation, Permission, Channel, Connect, Offer, Connection, DataConnection, Listing, Mode, Control, Waiting, Bound, Broken, Stream, Purpose, ForAllocation, ForRefresh, ForPermission, ForChannel, ForConnect, ForBind, Phase, New, Requesting, Authenticating, Allocated, Closed, later_by}
+use Rattle.turn_client_api.specs.State.{State}
+use Rattle.turn_client_api.specs.declared.grant.Grant.{Grant}
+use Rattle.turn_client_api.specs.declared.grant.Grant.TheVariants.{Allocation, Permission, Channel, Connect, Offer, Connection}
+use Rattle.turn_client_api.specs.declared.grant.DataConnection.{DataConnection}
+use Rattle.turn_client_api.specs.declared.grant.Listing.{Listing}
+use Rattle.turn_client_api.specs.declared.state.Mode.{Mode}
+use Rattle.turn_client_api.specs.declared.state.Mode.TheVariants.{Control, Waiting, Bound, Broken}
+use Rattle.turn_client_api.specs.declared.state.Stream.{Stream}
+use Rattle.turn_client_api.specs.declared.grant.Purpose.{Purpose}
+use Rattle.turn_client_api.specs.State.{later_by}
+use Rattle.turn_client_api.specs.declared.grant.Purpose.TheVariants.{ForAllocation, ForRefresh, ForPermission, ForChannel, ForConnect, ForBind}
+use Rattle.turn_client_api.specs.declared.state.Phase.{Phase}
+use Rattle.turn_client_api.specs.declared.state.Phase.TheVariants.{New, Requesting, Authenticating, Allocated, Closed}
 use Rattle.turn_client_laws.specs.Handled.{Input, processed}
 use Rattle.turn_client_api.specs.Grants.{find_allocation_to, as_connection, is_connection_from, is_for, is_for_allocation, purposes_of, unlisted, wait}
 use Rattle.turn_client_api.specs.Requests.{connection_attempt_method, connection_bind_method, fresh_id, listings, request_for, requested}
-use Rattle.turn_client_api.specs.Judgement.{Judgement, Unrelated, Challenged, Fatal, LateResponse, DataIndication, ConnectionAttempt, SignedRequest, SignedSuccess, SignedError, answers_allocate, authenticating_judgement, bind_judgement, class_in, connection_id_in, is_bind_of, judgement_of, lifetime_in, method_in, peer_in}
+use Rattle.turn_client_api.specs.Judgement.{Judgement, Unrelated, Challenged, Fatal, LateResponse, DataIndication, ConnectionAttempt, SignedRequest, SignedSuccess, SignedError, answers_allocate}
+use Rattle.turn_client_api.specs.Judgement.{authenticating_judgement, bind_judgement, class_in, connection_id_in, is_bind_of, judgement_of, lifetime_in, method_in, peer_in}
 use Rattle.turn_client_api.specs.Effect.{allocate_denied, allocate_granted, transaction_ended, family_not_supported, has_code, in_phase}
 use Rattle.turn_client_api.specs.Retry.{bind_time, max_challenges, retried, state_after_retry, with_held}
-use Rattle.turn_client_api.specs.Connections.{attempt_indicated, attempt_requested, bind_again, bind_answered, bind_step, connection_at, deadline_set, is_connected, accepts_attempt, bound, not_bound, with_deadline}
+use Rattle.turn_client_api.specs.Connections.{attempt_indicated, attempt_requested, bind_again, bind_answered, bind_step, connection_at, deadline_set, is_connected, accepts_attempt, bound, not_bound}
+use Rattle.turn_client_api.specs.Connections.{with_deadline}
 use Rattle.turn_client_api.specs.Payloads.{Outcome, Handled, Ignored, challenge_step, channel_sent, datagram_step, is_channel_frame, is_message, message_step, response_step, signed_step, wrong_step}
 use Rattle.turn_client_api.specs.Streams.{frame_step}
 use Rattle.turn_client_laws.specs.LawsReplies.{IsAccepted}
@@ -31,7 +45,8 @@ use Rattle.turn_client_laws.specs.LawsGone.{GivesBack, IsOverItself, IsTakenByRe
 use Rattle.turn_client_laws.proofs.AddressLemmas.{same_address-true}
 use Rattle.turn_client_laws.proofs.EditsOfMessages.{found-has, retried-has}
 use Rattle.turn_client_laws.proofs.HasLemmas.{Has, has-found, has-right}
-use Rattle.turn_client_laws.proofs.MoveLemmas.{Moves, Never, Settles, adds-filter, adds-more, adds-one, adds-same, by_test, loses-filter, loses-map, loses-more, loses-same, loses-wider, on_test, settles-moves, settles-same, settles-wider}
+use Rattle.turn_client_laws.proofs.MoveLemmas.{Moves, Never, Settles, adds-filter, adds-more, adds-one, adds-same, by_test, loses-filter, loses-map, loses-more, loses-same, loses-wider, on_test}
+use Rattle.turn_client_laws.proofs.MoveLemmas.{settles-moves, settles-same, settles-wider}
 use Rattle.turn_client_laws.proofs.MoveReplyLemmas.{IsFor, response-fits}
 use Rattle.turn_client_laws.proofs.GrantOriginLemmas.{has-mapped}
 use Rattle.turn_client_laws.proofs.StandLemmas.{has-contains}
@@ -71,12 +86,14 @@ abbrev pub requested-made : (purpose : Purpose) (now : ℕ) (s u : State) → Is
 requested-made purpose now s u = record {
   text = request_for u purpose (fresh_id s);
   spelled = inl refl;
-  outstanding = has-contains (request_made purpose now s u) (u.transactions ++ request_made purpose now s u ∷ []) (has-right (request_made purpose now s u) u.transactions (request_made purpose now s u ∷ []) (inl refl));
+  outstanding = has-contains (request_made purpose now s u) (u.transactions ++ request_made purpose now s u ∷ [])
+      (has-right (request_made purpose now s u) u.transactions (request_made purpose now s u ∷ []) (inl refl));
 }
 
 -- ---- over the control connection
 
-retry-turns : (Taken : Grant → Type 0) (message : List ℕ) (purpose : Purpose) (d : Challenge) (now : ℕ) (s : State) → Has purpose (purposes_of (id_of message) s) → Turns Taken message now s (state_after_retry s (id_of message) purpose d now)
+retry-turns : (Taken : Grant → Type 0) (message : List ℕ) (purpose : Purpose) (d : Challenge) (now : ℕ) (s : State) → Has purpose (purposes_of (id_of message) s)
+    → Turns Taken message now s (state_after_retry s (id_of message) purpose d now)
 retry-turns Taken message purpose d now s answers = (
   adds-one _ s.transactions (A.without_transaction (id_of message) s.transactions) _ (adds-filter _ _ s.transactions) (made-again message now s t purpose answers made),
   adds-more _ s.listed s.listed _ (adds-same _ s.listed) (listed-again message now s t purpose answers made (purposes_of (id_of message) s) (λ p h. h)),
@@ -107,8 +124,10 @@ challenge-turns Taken message d now s = by (ltb s.challenges max_challenges) ref
 
 wrong-turns : (Taken : Grant → Type 0) (p : Phase) (message : List ℕ) (now : ℕ) (s : State) → Turns Taken message now (record s { phase = p }) (wrong_step message (record s { phase = p })).1
 wrong-turns Taken New message now s = turns-settled Taken message now (record s { phase = New }) _ (adds-same Never s.transactions, adds-filter Never _ s.listed, loses-same Taken s.grants)
-wrong-turns Taken Requesting message now s = turns-settled Taken message now (record s { phase = Requesting }) _ (adds-filter Never _ s.transactions, adds-filter Never _ s.listed, loses-same Taken s.grants)
-wrong-turns Taken Authenticating message now s = turns-settled Taken message now (record s { phase = Authenticating }) _ (adds-same Never s.transactions, adds-filter Never _ s.listed, loses-same Taken s.grants)
+wrong-turns Taken Requesting message now s = turns-settled Taken message now (record s { phase = Requesting }) _
+    (adds-filter Never _ s.transactions, adds-filter Never _ s.listed, loses-same Taken s.grants)
+wrong-turns Taken Authenticating message now s = turns-settled Taken message now (record s { phase = Authenticating }) _
+    (adds-same Never s.transactions, adds-filter Never _ s.listed, loses-same Taken s.grants)
 wrong-turns Taken Allocated message now s = turns-settled Taken message now (record s { phase = Allocated }) _ (adds-same Never s.transactions, adds-filter Never _ s.listed, loses-same Taken s.grants)
 wrong-turns Taken Closed message now s = turns-settled Taken message now (record s { phase = Closed }) _ (adds-same Never s.transactions, adds-filter Never _ s.listed, loses-same Taken s.grants)
 
@@ -117,10 +136,16 @@ granted-turns Taken message now s = by (lifetime_in message) refl
   where
     by : (o : Option ℕ) → lifetime_in message ≡ o → Turns Taken message now s (allocate_granted message now (transaction_ended (id_of message) s))
     by None e = rw e (turns-settled Taken message now s _ (adds-filter Never _ s.transactions, adds-filter Never _ s.listed, loses-same Taken s.grants))
-    by (Some lifetime) e = rw e (turns-settled Taken message now s _ (adds-filter Never _ s.transactions, adds-filter Never _ s.listed, loses-more Taken s.grants s.grants _ (loses-same Taken s.grants)))
+    by (Some lifetime) e = rw e (turns-settled Taken message now s _ (
+      adds-filter Never _ s.transactions,
+      adds-filter Never _ s.listed,
+      loses-more Taken s.grants s.grants _
+          (loses-same Taken s.grants),
+    ))
 
 -- an ALLOCATE is refused, and may be made again for IPv6 alone
-denied-turns : (Taken : Grant → Type 0) (message : List ℕ) (now : ℕ) (s : State) → Has ForAllocation (purposes_of (id_of message) s) → Turns Taken message now s (allocate_denied (fresh_id s) message now (transaction_ended (id_of message) s))
+denied-turns : (Taken : Grant → Type 0) (message : List ℕ) (now : ℕ) (s : State) → Has ForAllocation (purposes_of (id_of message) s)
+    → Turns Taken message now s (allocate_denied (fresh_id s) message now (transaction_ended (id_of message) s))
 denied-turns Taken message now s answers = by (has_code family_not_supported message && leb 2 (length s.families)) refl
   where
     u : State
@@ -133,11 +158,14 @@ denied-turns Taken message now s answers = by (has_code family_not_supported mes
     one p (inl e) = rw e answers
     one p (inr h) = absurd h
 
-    by : (b : Bool) → (has_code family_not_supported message && leb 2 (length s.families)) ≡ b → Turns Taken message now s (allocate_denied (fresh_id s) message now (transaction_ended (id_of message) s))
+    by : (b : Bool) → (has_code family_not_supported message && leb 2 (length s.families)) ≡ b
+        → Turns Taken message now s (allocate_denied (fresh_id s) message now (transaction_ended (id_of message) s))
     by false e = rw e (turns-settled Taken message now s _ (adds-filter Never _ s.transactions, adds-filter Never _ s.listed, loses-same Taken s.grants))
     by true e = rw e (
-      adds-one _ s.transactions (A.without_transaction (id_of message) s.transactions) _ (adds-filter _ _ s.transactions) (made-again message now s (requested (fresh_id s) ForAllocation now u) ForAllocation answers made),
-      adds-more _ s.listed (filter (λ l. not (is_for_allocation l.purpose)) s.listed) _ (adds-filter _ _ s.listed) (listed-again message now s (requested (fresh_id s) ForAllocation now u) ForAllocation answers made (ForAllocation ∷ []) one),
+      adds-one _ s.transactions (A.without_transaction (id_of message) s.transactions) _ (adds-filter _ _ s.transactions)
+          (made-again message now s (requested (fresh_id s) ForAllocation now u) ForAllocation answers made),
+      adds-more _ s.listed (filter (λ l. not (is_for_allocation l.purpose)) s.listed) _ (adds-filter _ _ s.listed)
+          (listed-again message now s (requested (fresh_id s) ForAllocation now u) ForAllocation answers made (ForAllocation ∷ []) one),
       loses-same Taken s.grants,
     )
 
@@ -176,14 +204,16 @@ reply-turns j accepted is_granted message now s =
     wider : (g : Grant) → IsFor all g → TakesFor j message s g
     wider g (p, h, is) = (accepted, (p, has-contains p all h, is))
 
-success-turns : (p : Phase) (message : List ℕ) (now : ℕ) (s : State) → Turns (TakesFor SignedSuccess message (record s { phase = p })) message now (record s { phase = p }) (signed_step true message now (record s { phase = p })).1
+success-turns : (p : Phase) (message : List ℕ) (now : ℕ) (s : State) → Turns (TakesFor SignedSuccess message (record s { phase = p })) message now (record s { phase = p })
+    (signed_step true message now (record s { phase = p })).1
 success-turns Authenticating message now s = granted-turns _ message now (record s { phase = Authenticating })
 success-turns New message now s = reply-turns SignedSuccess tt true message now (record s { phase = New })
 success-turns Requesting message now s = reply-turns SignedSuccess tt true message now (record s { phase = Requesting })
 success-turns Allocated message now s = reply-turns SignedSuccess tt true message now (record s { phase = Allocated })
 success-turns Closed message now s = reply-turns SignedSuccess tt true message now (record s { phase = Closed })
 
-error-turns : (p : Phase) (message : List ℕ) (now : ℕ) (s : State) → judgement_of (record s { phase = p }) message ≡ SignedError → Turns (TakesFor SignedError message (record s { phase = p })) message now (record s { phase = p }) (signed_step false message now (record s { phase = p })).1
+error-turns : (p : Phase) (message : List ℕ) (now : ℕ) (s : State) → judgement_of (record s { phase = p }) message ≡ SignedError
+    → Turns (TakesFor SignedError message (record s { phase = p })) message now (record s { phase = p }) (signed_step false message now (record s { phase = p })).1
 error-turns Authenticating message now s e =
     let u = record s { phase = Authenticating } in denied-turns _ message now u (error-answers u message e)
 error-turns New message now s e = reply-turns SignedError tt false message now (record s { phase = New })
@@ -216,7 +246,8 @@ indicated-settles Taken message s = by (connection_id_in message) refl (peer_in 
     heeded_if false t k = tt
 
     by : (i : Option ℕ) → connection_id_in message ≡ i → (p : Option SocketAddr) → peer_in message ≡ p → IfSome (attempt_indicated message s) (Settles Taken s)
-    by (Some id) e (Some peer) f = rw (e, f) (heeded_if (accepts_attempt peer s) _ (adds-same Never s.transactions, adds-same Never s.listed, loses-more Taken s.grants s.grants _ (loses-same Taken s.grants)))
+    by (Some id) e (Some peer) f = rw (e, f) (heeded_if (accepts_attempt peer s) _
+        (adds-same Never s.transactions, adds-same Never s.listed, loses-more Taken s.grants s.grants _ (loses-same Taken s.grants)))
     by (Some id) e None f = rw (e, f) tt
     by None e p f = rw e tt
 
@@ -225,7 +256,8 @@ indicated-settles Taken message s = by (connection_id_in message) refl (peer_in 
 pub message-turns : (message : List ℕ) (now : ℕ) (s : State) → Turns (IsTakenByReply message s) message now s (message_step message now s).1
 message-turns message now s = by (judgement_of s message) refl
   where
-    indicated : (Taken : Grant → Type 0) (o : Option State) → IfSome o (Settles Taken s) → Turns Taken message now s (option_map_or {T = State} {U = Outcome × State} (λ t. (Handled, t)) o (Ignored, s)).1
+    indicated : (Taken : Grant → Type 0) (o : Option State) → IfSome o (Settles Taken s)
+        → Turns Taken message now s (option_map_or {T = State} {U = Outcome × State} (λ t. (Handled, t)) o (Ignored, s)).1
     indicated Taken None k = turns-same Taken message now s
     indicated Taken (Some t) k = turns-settled Taken message now s t k
 
@@ -303,7 +335,8 @@ answered-turns c message now s = by (bind_judgement s c.local message) refl
     by ConnectionAttempt e = rw e unbound
     by SignedRequest e = rw e unbound
 
-bind_in_phase : (p : Phase) (local : SocketAddr) (message : List ℕ) (now : ℕ) (s : State) → Turns (λ g. is_connection_from local g ≡ true) message now (record s { phase = p }) (bind_step local message now (record s { phase = p }))
+bind_in_phase : (p : Phase) (local : SocketAddr) (message : List ℕ) (now : ℕ) (s : State)
+    → Turns (λ g. is_connection_from local g ≡ true) message now (record s { phase = p }) (bind_step local message now (record s { phase = p }))
 bind_in_phase New local message now s = turns-same _ message now (record s { phase = New })
 bind_in_phase Requesting local message now s = turns-same _ message now (record s { phase = Requesting })
 bind_in_phase Authenticating local message now s = turns-same _ message now (record s { phase = Authenticating })
@@ -351,7 +384,8 @@ datagram-turns bytes now s =
     same : Claim s
     same = turns-same (TakenBy None bytes s) bytes now s
 
-frame_in_mode : (m : Mode) (stream : Stream) (bytes : List ℕ) (now : ℕ) (s : State) → Turns (TakenBy (Some (record stream { mode = m })) bytes s) bytes now s (frame_step (record stream { mode = m }) bytes now s).1
+frame_in_mode : (m : Mode) (stream : Stream) (bytes : List ℕ) (now : ℕ) (s : State)
+    → Turns (TakenBy (Some (record stream { mode = m })) bytes s) bytes now s (frame_step (record stream { mode = m }) bytes now s).1
 frame_in_mode Control stream bytes now s =
     by_test Claim (not (begins_message bytes)) (channel_sent s bytes, s) _ same
     (by_test Claim (is_message bytes) (message_step bytes now s) (Handled, s) (whole-turns o bytes now s) same)

@@ -7,14 +7,28 @@ use Rattle.std.specs.declared.net.socket_addr.SocketAddr.{SocketAddr}
 use Rattle.turn_types.specs.declared.family.AddressFamily.{AddressFamily}
 use Rattle.turn_agent.specs.Agent.{due, first_sent, timed_out_transaction, resent, sent_again}
 use Rattle.turn_agent.specs.declared.transaction.Transaction.{Transaction}
-use Rattle.turn_client_api.specs.State.{State, DataOffer, Grant, Allocation, Permission, Channel, Connect, Offer, Connection, Relay, Pending, Active, Reserved, Purpose, ForAllocation, Phase, New, Requesting, Authenticating, Allocated, Closed, agent_of}
+use Rattle.turn_client_api.specs.State.{State}
+use Rattle.turn_client_api.specs.declared.grant.DataOffer.{DataOffer}
+use Rattle.turn_client_api.specs.declared.grant.Grant.{Grant}
+use Rattle.turn_client_api.specs.declared.grant.Grant.TheVariants.{Allocation, Permission, Channel, Connect, Offer, Connection}
+use Rattle.turn_client_api.specs.declared.grant.Relay.{Relay}
+use Rattle.turn_client_api.specs.declared.grant.Progress.TheVariants.{Pending, Active, Reserved}
+use Rattle.turn_client_api.specs.declared.grant.Purpose.{Purpose}
+use Rattle.turn_client_api.specs.declared.grant.Purpose.TheVariants.{ForAllocation}
+use Rattle.turn_client_api.specs.declared.state.Phase.{Phase}
+use Rattle.turn_client_api.specs.declared.state.Phase.TheVariants.{New}
+use Rattle.turn_client_api.specs.State.{agent_of}
+use Rattle.turn_client_api.specs.declared.state.Phase.TheVariants.{Requesting, Authenticating, Allocated, Closed}
 use Rattle.turn_client_api.specs.Grants.{allocations, family_of, in_sequence, is_connect, is_of, is_pending_channel, is_pending_permission, without_grants}
 use Rattle.turn_client_api.specs.Requests.{first_allocate, fresh_id, request_for, to_server}
 use Rattle.turn_client_api.specs.Effect.{closed, transaction_ended}
 use Rattle.turn_client_api.specs.Due.{has_event, has_reply, is_paused}
-use Rattle.turn_client_api.specs.Poll.{answer_by, answer_step, channel_lapsed, connections_unbound, timed_out_purposes, timed_out_step, allocation_expires, failed_by_timeout, is_lapsed_channel, is_listed_for_allocation, lapsed, lapsed_allocation, lapsed_in, last_channel_lapsed, next_offer, offer_step, offers_timed_out, permissions_lapsed, poll_step, refreshes_timed_out, set_free, timed_step, told, first_reported, unreported_in}
+use Rattle.turn_client_api.specs.Poll.{answer_by, answer_step, channel_lapsed, connections_unbound, timed_out_purposes, timed_out_step, allocation_expires, failed_by_timeout, is_lapsed_channel}
+use Rattle.turn_client_api.specs.Poll.{is_listed_for_allocation, lapsed, lapsed_allocation, lapsed_in, last_channel_lapsed, next_offer, offer_step, offers_timed_out, permissions_lapsed, poll_step}
+use Rattle.turn_client_api.specs.Poll.{refreshes_timed_out, set_free, timed_step, told, first_reported, unreported_in}
 use Rattle.turn_client_api.specs.Transmit.{idle_step, queue_step, refreshes_in, reply_step, sent, sent_at_once, transmit_step}
-use Rattle.turn_client_api.specs.Steps.{Call, Poll, PollTransmit}
+use Rattle.turn_client_api.specs.declared.call.Call.{Call}
+use Rattle.turn_client_api.specs.declared.call.Call.TheVariants.{Poll, PollTransmit}
 use Rattle.turn_client_laws.specs.LawsBodies.{expiry_times}
 use Rattle.turn_client_laws.specs.LawsRequests.{AsksFor, IsMade}
 use Rattle.turn_client_laws.specs.LawsGone.{IsTakenBy, IsTimeUp, grant_identity}
@@ -103,7 +117,8 @@ lapsed-fewer given purposes now [] s = fewer-same s
 lapsed-fewer given purposes now (a ∷ relays) s =
     let t = lapsed_allocation given purposes now s a in
     fewer-then s t (fold (lapsed_allocation given purposes now) t relays)
-    (on_test (Fewer s) (allocation_expires purposes now s a) (without_grants (is_of (family_of a.relayed)) s) (lapsed_in (family_of a.relayed) given purposes now s) (adds-filter Never _ s.listed) (lapsed_in-fewer (family_of a.relayed) given purposes now s))
+    (on_test (Fewer s) (allocation_expires purposes now s a) (without_grants (is_of (family_of a.relayed)) s) (lapsed_in (family_of a.relayed) given purposes now s) (adds-filter Never _ s.listed)
+    (lapsed_in-fewer (family_of a.relayed) given purposes now s))
     (lapsed-fewer given purposes now relays t)
 
 -- ---- what time removes
@@ -252,7 +267,9 @@ module _ (now : ℕ) (s : State) where
               at false f = inl (rw f there)
 
   -- a request is sent at once
-  at_once-does : (text : List ℕ) (purpose : Purpose) (u : State) → AsksFor sending s purpose now → Settles (IsTakenBy sending s) s u → (made : IsMade purpose now s (sent_at_once text purpose now u).1) → (first_sent (fresh_id u) u.remote now text ≡ first_sent (fresh_id s) u.remote now made.text) → fresh_id u ≡ fresh_id s → Does sending s (sent_at_once text purpose now u).1
+  at_once-does : (text : List ℕ) (purpose : Purpose) (u : State) → AsksFor sending s purpose now → Settles (IsTakenBy sending s) s u
+      → (made : IsMade purpose now s (sent_at_once text purpose now u).1) → (first_sent (fresh_id u) u.remote now text ≡ first_sent (fresh_id s) u.remote now made.text) → fresh_id u ≡ fresh_id s
+      → Does sending s (sent_at_once text purpose now u).1
   at_once-does text purpose u asks settles made spelled fresh = (
     adds-one (MadeAt sending s t) s.transactions u.transactions (first_sent (fresh_id u) u.remote now text) (λ y h. wider (settles.0 y h)) (inr (purpose, now, asks, (made, spelled))),
     adds-one (ListedAt sending s t) s.listed u.listed (record { id = fresh_id u; purpose = purpose }) (λ l h. wider (settles.1 l h)) (purpose, now, asks, inl refl, (made, fresh)),
@@ -294,7 +311,8 @@ idle-does Allocated now s =
     u : State
     u = record s { phase = Allocated }
 
-    refreshed : (purpose : Purpose) → slice_get (flat_map (refreshes_in now u) (allocations u)) 0 ≡ Some purpose → Does (PollTransmit now) u (sent_at_once (request_for u purpose (fresh_id u)) purpose now u).1
+    refreshed : (purpose : Purpose) → slice_get (flat_map (refreshes_in now u) (allocations u)) 0 ≡ Some purpose
+        → Does (PollTransmit now) u (sent_at_once (request_for u purpose (fresh_id u)) purpose now u).1
     refreshed purpose e =
         at_once-does now u (request_for u purpose (fresh_id u)) purpose u (refl, inr (refl, e)) (settles-same (IsTakenBy (PollTransmit now) u) u) (made purpose) refl refl
       where
@@ -302,7 +320,8 @@ idle-does Allocated now s =
         made purpose = record {
           text = request_for u purpose (fresh_id u);
           spelled = inl refl;
-          outstanding = has-contains (first_sent (fresh_id u) u.remote now (request_for u purpose (fresh_id u))) (s.transactions ++ first_sent (fresh_id u) u.remote now (request_for u purpose (fresh_id u)) ∷ []) (has-right _ s.transactions _ (inl refl));
+          outstanding = has-contains (first_sent (fresh_id u) u.remote now (request_for u purpose (fresh_id u)))
+              (s.transactions ++ first_sent (fresh_id u) u.remote now (request_for u purpose (fresh_id u)) ∷ []) (has-right _ s.transactions _ (inl refl));
         }
 
 pub transmit-does : (now : ℕ) (s : State) → Does (PollTransmit now) s (transmit_step now s).1

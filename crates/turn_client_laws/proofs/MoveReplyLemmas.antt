@@ -6,10 +6,20 @@ use Rattle.std.specs.declared.net.ip_addr.IpAddr.{IpAddr}
 use Rattle.std.specs.declared.net.socket_addr.SocketAddr.{SocketAddr}
 use Rattle.turn_stun.specs.Message.{id_of}
 use Rattle.turn_types.specs.declared.family.AddressFamily.{AddressFamily}
-use Rattle.turn_client_api.specs.State.{State, Grant, Allocation, Permission, Channel, Connect, Offer, Connection, Relay, Progress, Pending, Active, Reserved, Listing, Purpose, ForAllocation, ForRefresh, ForPermission, ForChannel, ForConnect, ForBind}
-use Rattle.turn_client_api.specs.Grants.{changed_allocation, channel_at, first_in, is_channel_of, is_connect_to, is_for, is_for_any, is_permission_of, permission_state, purposes_of, unlisted, without_grants}
+use Rattle.turn_client_api.specs.State.{State}
+use Rattle.turn_client_api.specs.declared.grant.Grant.{Grant}
+use Rattle.turn_client_api.specs.declared.grant.Grant.TheVariants.{Allocation, Permission, Channel, Connect, Offer, Connection}
+use Rattle.turn_client_api.specs.declared.grant.Relay.{Relay}
+use Rattle.turn_client_api.specs.declared.grant.Progress.{Progress}
+use Rattle.turn_client_api.specs.declared.grant.Progress.TheVariants.{Pending, Active, Reserved}
+use Rattle.turn_client_api.specs.declared.grant.Listing.{Listing}
+use Rattle.turn_client_api.specs.declared.grant.Purpose.{Purpose}
+use Rattle.turn_client_api.specs.declared.grant.Purpose.TheVariants.{ForAllocation, ForRefresh, ForPermission, ForChannel, ForConnect, ForBind}
+use Rattle.turn_client_api.specs.Grants.{changed_allocation, channel_at, first_in, is_channel_of, is_connect_to, is_for, is_for_any, is_permission_of, permission_state, purposes_of, unlisted}
+use Rattle.turn_client_api.specs.Grants.{without_grants}
 use Rattle.turn_client_api.specs.Judgement.{connection_id_in, lifetime_in}
-use Rattle.turn_client_api.specs.Effect.{all_gone, allocation_mismatch, channel_answered, connect_answered, effect, transaction_ended, delete_answered, has_code, is_asked_permission, lasting, lasting_if, min_lifetime, listed_permissions_answered, pending_channel_answered, permission_answered, permission_answered_for, prolonged, refreshed, renewed}
+use Rattle.turn_client_api.specs.Effect.{all_gone, allocation_mismatch, channel_answered, connect_answered, effect, transaction_ended, delete_answered, has_code, is_asked_permission, lasting}
+use Rattle.turn_client_api.specs.Effect.{lasting_if, min_lifetime, listed_permissions_answered, pending_channel_answered, permission_answered, permission_answered_for, prolonged, refreshed, renewed}
 use Rattle.turn_client_api.specs.Payloads.{answered_purposes, response_step}
 use Rattle.turn_client_laws.specs.LawsGone.{GivesBack, grant_identity}
 use Rattle.turn_client_laws.proofs.GrantOriginLemmas.{has-mapped}
@@ -109,7 +119,8 @@ module _ (all : List Purpose) where
   fits-without which s takes = (adds-same Never s.transactions, adds-filter Never _ s.listed, loses-filter (IsFor all) which s.grants takes)
 
   -- and others are added
-  fits-instead : (which : Grant → Bool) (more : List Grant) (s : State) → ((g : Grant) → which g ≡ true → IsFor all g) → Fits s (record (without_grants which s) { grants = (without_grants which s).grants ++ more })
+  fits-instead : (which : Grant → Bool) (more : List Grant) (s : State) → ((g : Grant) → which g ≡ true → IsFor all g)
+      → Fits s (record (without_grants which s) { grants = (without_grants which s).grants ++ more })
   fits-instead which more s takes =
       (adds-same Never s.transactions, adds-filter Never _ s.listed, loses-more (IsFor all) s.grants _ more (loses-filter (IsFor all) which s.grants takes))
 
@@ -143,7 +154,8 @@ module _ (all : List Purpose) where
   permission_state-fits is_granted now s (ForBind local peer id) h = fits-same s
 
   -- one purpose after the other
-  fits-fold : (f : State → Purpose → State) (start : State) → ((t : State) (p : Purpose) → Fits start t → Has p all → Fits t (f t p)) → (some : List Purpose) → ((p : Purpose) → Has p some → Has p all) → (t : State) → Fits start t → Fits start (fold f t some)
+  fits-fold : (f : State → Purpose → State) (start : State) → ((t : State) (p : Purpose) → Fits start t → Has p all → Fits t (f t p)) → (some : List Purpose)
+      → ((p : Purpose) → Has p some → Has p all) → (t : State) → Fits start t → Fits start (fold f t some)
   fits-fold f start step [] each t fits = fits
   fits-fold f start step (p ∷ some) each t fits =
       fits-fold f start step some (λ q h. each q (inr h)) (f t p) (fits-then start t (f t p) fits (step t p fits (each p (inl refl))))
@@ -165,7 +177,8 @@ module _ (all : List Purpose) where
       by true f k later = (p, each p (inl refl), inl f)
       by false f k later = later (rw f at k)
 
-  pending_channel-fits : (number : ℕ) (peer to : SocketAddr) (id : ℕ) (is_granted : Bool) (now : ℕ) (s : State) → Has (ForChannel number peer) all → AreOf id s → Fits s (pending_channel_answered number to id is_granted now s)
+  pending_channel-fits : (number : ℕ) (peer to : SocketAddr) (id : ℕ) (is_granted : Bool) (now : ℕ) (s : State) → Has (ForChannel number peer) all → AreOf id s
+      → Fits s (pending_channel_answered number to id is_granted now s)
   pending_channel-fits number peer to id true now s h are =
       let t = listed_permissions_answered id true now s in
       fits-then s t (pending_channel_answered number to id true now s) (permissions-fit id true now s are)
@@ -176,7 +189,8 @@ module _ (all : List Purpose) where
       (fits-without (is_channel_of number) s (of-one (ForChannel number peer) h))
       (fits-without (is_asked_permission (purposes_of id s)) t (λ g e. any-IsFor (purposes_of id s) g are (and_parts _ _ e).1))
 
-  channel-fits : (number : ℕ) (peer : SocketAddr) (id : ℕ) (is_granted : Bool) (now : ℕ) (s : State) → Has (ForChannel number peer) all → AreOf id s → Fits s (channel_answered number id is_granted now s)
+  channel-fits : (number : ℕ) (peer : SocketAddr) (id : ℕ) (is_granted : Bool) (now : ℕ) (s : State) → Has (ForChannel number peer) all → AreOf id s
+      → Fits s (channel_answered number id is_granted now s)
   channel-fits number peer id is_granted now s h are = by (first_in (channel_at number) s) refl is_granted
     where
       takes : (g : Grant) → is_channel_of number g ≡ true → IsFor all g
@@ -206,7 +220,8 @@ module _ (all : List Purpose) where
       (adds-same Never s.transactions, adds-filter Never _ s.listed, loses-map (IsFor all) _ s.grants (prolonged-grant_identity _ _))
       (fits-same s)
 
-  refreshed-fits : (family : AddressFamily) (lifetime : ℕ) (is_granted : Bool) (message : List ℕ) (now : ℕ) (s : State) → Has (ForRefresh family lifetime) all → Fits s (refreshed family lifetime is_granted message now s)
+  refreshed-fits : (family : AddressFamily) (lifetime : ℕ) (is_granted : Bool) (message : List ℕ) (now : ℕ) (s : State) → Has (ForRefresh family lifetime) all
+      → Fits s (refreshed family lifetime is_granted message now s)
   refreshed-fits family lifetime is_granted message now s h = by (eqb lifetime 0) refl
     where
       granted : (o : Option ℕ) → Fits s (option_map_or (λ granted. prolonged family granted now s) o s)

@@ -10,20 +10,34 @@ use Rattle.turn_types.specs.declared.family.AddressFamily.{AddressFamily}
 use Rattle.turn_types.specs.declared.family.AddressFamily.TheVariants.{IPV4}
 use Rattle.turn_agent.specs.Agent.{first_sent, same_address}
 use Rattle.turn_agent.specs.declared.transaction.Transaction.{Transaction}
-use Rattle.turn_client_api.specs.State.{State, Grant, Allocation, Permission, Channel, Connect, Offer, Connection, DataConnection, Listing, Origin, OwnConnect, ServerRequest, ServerIndication, Purpose, ForRefresh, ForBind, Relay, later_by}
+use Rattle.turn_client_api.specs.State.{State}
+use Rattle.turn_client_api.specs.declared.grant.Grant.{Grant}
+use Rattle.turn_client_api.specs.declared.grant.Grant.TheVariants.{Allocation, Permission, Channel, Connect, Offer, Connection}
+use Rattle.turn_client_api.specs.declared.grant.DataConnection.{DataConnection}
+use Rattle.turn_client_api.specs.declared.grant.Listing.{Listing}
+use Rattle.turn_client_api.specs.declared.grant.Origin.{Origin}
+use Rattle.turn_client_api.specs.declared.grant.Origin.TheVariants.{OwnConnect, ServerRequest, ServerIndication}
+use Rattle.turn_client_api.specs.State.{later_by}
+use Rattle.turn_client_api.specs.declared.grant.Purpose.{Purpose}
+use Rattle.turn_client_api.specs.declared.grant.Purpose.TheVariants.{ForRefresh, ForBind}
+use Rattle.turn_client_api.specs.declared.grant.Relay.{Relay}
 use Rattle.turn_client_api.specs.Grants.{allocations, changed_allocation, as_connection, family_of, is_connection_from, same_transport, with_grant}
 use Rattle.turn_client_api.specs.Requests.{accepted_reply, fresh_id, listings, request_for, requested}
 use Rattle.turn_client_api.specs.Retry.{bind_time}
 use Rattle.turn_client_api.specs.Connections.{connection_at}
 use Rattle.turn_client_api.specs.Receive.{connection_gone, tcp_closed_step}
 use Rattle.turn_client_api.specs.Streams.{without_stream}
-use Rattle.turn_client_api.specs.Calls.{active_channel, allocated_tcp_socket_step, answered_with, bound_to, delete_step, delete_text, deleted, can_send_to, is_allocated, is_closed, is_control, is_granted_in, is_local_taken, is_offer_of, offer_origin, offer_taken, on_channel, on_connection, protocol_error_step, send_over, send_to_step, socket_opened, socket_refused, socket_step, with_stream, without_first}
+use Rattle.turn_client_api.specs.Calls.{active_channel, allocated_tcp_socket_step, answered_with, bound_to, delete_step, delete_text, deleted, can_send_to, is_allocated, is_closed, is_control}
+use Rattle.turn_client_api.specs.Calls.{is_granted_in, is_local_taken, is_offer_of, offer_origin, offer_taken, on_channel, on_connection, protocol_error_step, send_over, send_to_step, socket_opened}
+use Rattle.turn_client_api.specs.Calls.{socket_refused, socket_step, with_stream, without_first}
 use Rattle.turn_client_api.specs.declared.poll.Socket5Tuple.{Socket5Tuple}
-use Rattle.turn_client_api.specs.Steps.{Call, Delete, AllocatedTcpSocket, TcpClosed, SendTo, ProtocolError}
+use Rattle.turn_client_api.specs.declared.call.Call.{Call}
+use Rattle.turn_client_api.specs.declared.call.Call.TheVariants.{Delete, AllocatedTcpSocket, TcpClosed, SendTo, ProtocolError}
 use Rattle.turn_client_laws.specs.LawsRequests.{IsMade}
 use Rattle.turn_client_laws.specs.LawsGone.{IsTakenBy, grant_identity}
 use Rattle.turn_client_laws.proofs.HasLemmas.{Has, has-right}
-use Rattle.turn_client_laws.proofs.MoveLemmas.{Loses, Never, Remains, Settles, adds-filter, adds-more, adds-one, adds-same, by_test, loses-filter, loses-map, loses-more, loses-same, on_test, remains-here, settles-same}
+use Rattle.turn_client_laws.proofs.MoveLemmas.{Loses, Never, Remains, Settles, adds-filter, adds-more, adds-one, adds-same, by_test, loses-filter, loses-map, loses-more, loses-same, on_test}
+use Rattle.turn_client_laws.proofs.MoveLemmas.{remains-here, settles-same}
 use Rattle.turn_client_laws.proofs.MoveCallLemmas.{Does, ListedAt, MadeAt, does-same, does-settled}
 use Rattle.turn_client_laws.proofs.MoveMessageLemmas.{request_made, requested-made}
 use Rattle.turn_client_laws.proofs.GrantOriginLemmas.{has-mapped}
@@ -160,7 +174,8 @@ module _ (now : ℕ) (s : State) where
       by : Remains g left ⊎ (is_granted_in g ≡ true) → Remains g (map (changed_allocation (λ a. true) (λ a. record a { expiry = now; is_expired = true })) left) ⊎ (is_granted_in g ≡ true)
       by (inl (is, there, same)) = inl (further (loses-map Never (changed_allocation (λ a. true) (λ a. record a { expiry = now; is_expired = true })) left (all-grant_identity now) is there))
         where
-          further : Remains is (map (changed_allocation (λ a. true) (λ a. record a { expiry = now; is_expired = true })) left) ⊎ ⊥ → Remains g (map (changed_allocation (λ a. true) (λ a. record a { expiry = now; is_expired = true })) left)
+          further : Remains is (map (changed_allocation (λ a. true) (λ a. record a { expiry = now; is_expired = true })) left) ⊎ ⊥
+              → Remains g (map (changed_allocation (λ a. true) (λ a. record a { expiry = now; is_expired = true })) left)
           further (inl (last, here, e)) = (last, here, same ∙ e)
           further (inr never) = absurd never
       by (inr taken) = inr taken

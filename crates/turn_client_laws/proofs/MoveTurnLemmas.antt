@@ -2,12 +2,19 @@
 use Rattle.std.proofs.Common.{◌≡◌, ◌⊎◌, ℕ, List, [], ◌∷◌, ◌++◌, Option, Some, None, true, refl, sym, subst, ◌∙◌, inl, inr}
 use Rattle.std.specs.List.{Contains}
 use Rattle.turn_agent.specs.declared.transaction.Transaction.{Transaction}
-use Rattle.turn_client_api.specs.State.{State, Grant, Listing, ForBind, Stream}
+use Rattle.turn_client_api.specs.State.{State}
+use Rattle.turn_client_api.specs.declared.grant.Grant.{Grant}
+use Rattle.turn_client_api.specs.declared.grant.Listing.{Listing}
+use Rattle.turn_client_api.specs.declared.grant.Purpose.TheVariants.{ForBind}
+use Rattle.turn_client_api.specs.declared.state.Stream.{Stream}
 use Rattle.turn_client_api.specs.Grants.{is_connection_from}
 use Rattle.turn_client_api.specs.Streams.{max_steps}
 use Rattle.turn_client_laws.specs.Handled.{Input, handled, processed}
 use Rattle.turn_client_api.specs.Effect.{closed}
-use Rattle.turn_client_api.specs.Steps.{Call, EndsWithoutMemory, Leaves, state_after, Delete, CreatePermission, BindChannel, TcpConnect, AllocatedTcpSocket, TcpClosed, SendTo, Recv, PollRecv, Poll, PollTransmit, PollEvent, RelayedAddresses, Permissions, HavePermission, ProtocolError}
+use Rattle.turn_client_api.specs.Steps.{EndsWithoutMemory, Leaves, state_after}
+use Rattle.turn_client_api.specs.declared.call.Call.{Call}
+use Rattle.turn_client_api.specs.declared.call.Call.TheVariants.{Delete, CreatePermission, BindChannel, TcpConnect, AllocatedTcpSocket, TcpClosed, SendTo, Recv, PollRecv, Poll}
+use Rattle.turn_client_api.specs.declared.call.Call.TheVariants.{PollTransmit, PollEvent, RelayedAddresses, Permissions, HavePermission, ProtocolError}
 use Rattle.turn_client_laws.specs.LawsHandled.{DiffersInStreams, ProcessesInputs, EndsAmidInputs, IsDoneBy, IsStreamEnd, TakesInput, InputsLead}
 use Rattle.turn_client_laws.specs.LawsRequests.{IsListedByInput, IsListingOf, IsMadeByInput, IsRequestOf}
 use Rattle.turn_client_laws.specs.LawsGone.{IsOverItself, IsStillThere, IsTakenBy, IsRemovedByInput}
@@ -32,7 +39,8 @@ later-among : (Did : Input → Type 0) (one : Input) (turns : List Input) → Am
 later-among Did one turns (x, there, did) = (x, inr there, did)
 
 -- what holds after the inputs held before them, or one of them caused it
-leads-back : (P : State → Type 0) (Did : Input → Type 0) → ((s t : State) → DiffersInStreams s t → P t → P s) → ((one : Input) → P (processed one).1 → P one.before ⊎ Did one) → (turns : List Input) (s t : State) → InputsLead turns s t → P t → P s ⊎ Among Did turns
+leads-back : (P : State → Type 0) (Did : Input → Type 0) → ((s t : State) → DiffersInStreams s t → P t → P s) → ((one : Input) → P (processed one).1 → P one.before ⊎ Did one)
+    → (turns : List Input) (s t : State) → InputsLead turns s t → P t → P s ⊎ Among Did turns
 leads-back P Did alike step [] s t differs h = inl (alike s t differs h)
 leads-back P Did alike step (one ∷ turns) s t (differs, lead) h = by (leads-back P Did alike step turns (processed one).1 t lead h)
   where
@@ -45,7 +53,8 @@ leads-back P Did alike step (one ∷ turns) s t (differs, lead) h = by (leads-ba
     by (inr among) = inr (later-among Did one turns among)
 
 -- what held before the inputs holds after them, or one of them ended it
-leads-on : (P : State → Type 0) (Did : Input → Type 0) → ((s t : State) → DiffersInStreams s t → P s → P t) → ((one : Input) → P one.before → P (processed one).1 ⊎ Did one) → (turns : List Input) (s t : State) → InputsLead turns s t → P s → P t ⊎ Among Did turns
+leads-on : (P : State → Type 0) (Did : Input → Type 0) → ((s t : State) → DiffersInStreams s t → P s → P t) → ((one : Input) → P one.before → P (processed one).1 ⊎ Did one)
+    → (turns : List Input) (s t : State) → InputsLead turns s t → P s → P t ⊎ Among Did turns
 leads-on P Did alike step [] s t differs h = inl (alike s t differs h)
 leads-on P Did alike step (one ∷ turns) s t (differs, lead) h =
     by (step one (alike s one.before differs h)) (λ here. leads-on P Did alike step turns (processed one).1 t lead here)
@@ -116,7 +125,9 @@ or-done Did call s (inr among) = inr (among-done Did call s among)
 end-settles : (call : Call) (s t : State) (end : IsStreamEnd call s t) → Settles (λ g. is_connection_from end.local g ≡ true) s t
 end-settles call s t end = subst (λ u. Settles (λ g. is_connection_from end.local g ≡ true) s u) (sym end.gone) (gone-settles end.local s)
 
-recv-obeys : (call : Call) (s : State) → TakesInput call → (Other : Grant → Type 0) → ((end : IsStreamEnd call s (state_after call s)) (g : Grant) → is_connection_from end.local g ≡ true → Other g) → Moves (λ x. (one : Input) × Contains (handled call s) one × IsMadeByInput x one) (λ l. (one : Input) × Contains (handled call s) one × IsListedByInput l one) (λ g. ((one : Input) × Contains (handled call s) one × IsRemovedByInput g one) ⊎ Other g) s (state_after call s)
+recv-obeys : (call : Call) (s : State) → TakesInput call → (Other : Grant → Type 0) → ((end : IsStreamEnd call s (state_after call s)) (g : Grant) → is_connection_from end.local g ≡ true → Other g)
+    → Moves (λ x. (one : Input) × Contains (handled call s) one × IsMadeByInput x one) (λ l. (one : Input) × Contains (handled call s) one × IsListedByInput l one)
+    (λ g. ((one : Input) × Contains (handled call s) one × IsRemovedByInput g one) ⊎ Other g) s (state_after call s)
 recv-obeys call s takes Other ends = by (calls-do call s takes)
   where
     t : State
@@ -125,7 +136,8 @@ recv-obeys call s takes Other ends = by (calls-do call s takes)
     gone : (end : IsStreamEnd call s t) → Settles (λ g. is_connection_from end.local g ≡ true) s t
     gone end = end-settles call s t end
 
-    by : ProcessesInputs call s → Moves (λ x. (one : Input) × Contains (handled call s) one × IsMadeByInput x one) (λ l. (one : Input) × Contains (handled call s) one × IsListedByInput l one) (λ g. ((one : Input) × Contains (handled call s) one × IsRemovedByInput g one) ⊎ Other g) s t
+    by : ProcessesInputs call s → Moves (λ x. (one : Input) × Contains (handled call s) one × IsMadeByInput x one) (λ l. (one : Input) × Contains (handled call s) one × IsListedByInput l one)
+        (λ g. ((one : Input) × Contains (handled call s) one × IsRemovedByInput g one) ⊎ Other g) s t
     by (inl lead) = (
       λ x h. or-done (IsMadeByInput x) call s (lead-transactions (handled call s) s t lead x h),
       λ l h. or-done (IsListedByInput l) call s (lead-listed (handled call s) s t lead l h),
@@ -183,12 +195,14 @@ all-obey ProtocolError s = error-does s
 front-among : (Did : Input → Type 0) (call : Call) (s : State) (front later : List Input) → handled call s ≡ front ++ later → Among Did front → Among Did (handled call s)
 front-among Did call s front later all (one, there, did) = (one, subst (Has one) (sym all) (has-left one front later there), did)
 
-end-obeys : (call : Call) (s t : State) → EndsAmidInputs call s t → Moves (λ x. IsDoneBy (IsMadeByInput x) call s) (λ l. IsDoneBy (IsListedByInput l) call s) (λ g. IsDoneBy (IsRemovedByInput g) call s) s t
-end-obeys call s t end = subst (λ (u : State). Moves (λ x. IsDoneBy (IsMadeByInput x) call s) (λ l. IsDoneBy (IsListedByInput l) call s) (λ g. IsDoneBy (IsRemovedByInput g) call s) s u) (sym end.ended) (
-  λ x h. done (IsMadeByInput x) (lead-transactions end.front s end.last end.lead x h),
-  λ l h. done (IsListedByInput l) (lead-listed end.front s end.last end.lead l (has-filter _ l end.last.listed h).0),
-  λ g h. done (IsRemovedByInput g) (lead-grants end.front s end.last end.lead g h),
-)
+end-obeys : (call : Call) (s t : State) → EndsAmidInputs call s t → Moves (λ x. IsDoneBy (IsMadeByInput x) call s) (λ l. IsDoneBy (IsListedByInput l) call s)
+    (λ g. IsDoneBy (IsRemovedByInput g) call s) s t
+end-obeys call s t end = subst (λ (u : State). Moves (λ x. IsDoneBy (IsMadeByInput x) call s) (λ l. IsDoneBy (IsListedByInput l) call s) (λ g. IsDoneBy (IsRemovedByInput g) call s) s u)
+    (sym end.ended) (
+      λ x h. done (IsMadeByInput x) (lead-transactions end.front s end.last end.lead x h),
+      λ l h. done (IsListedByInput l) (lead-listed end.front s end.last end.lead l (has-filter _ l end.last.listed h).0),
+      λ g h. done (IsRemovedByInput g) (lead-grants end.front s end.last end.lead g h),
+    )
   where
     done : {X : Type 0} (Did : Input → Type 0) → X ⊎ Among Did end.front → X ⊎ IsDoneBy Did call s
     done Did (inl x) = inl x

@@ -11,17 +11,30 @@ use Rattle.turn_stun.specs.declared.transport.TransportType.TheVariants.{Udp, Tc
 use Rattle.turn_types.specs.declared.family.AddressFamily.{AddressFamily}
 use Rattle.turn_agent.specs.Agent.{due, timed_out_transaction, is_outstanding, same_address}
 use Rattle.turn_agent.specs.declared.transaction.Transaction.{Transaction}
-use Rattle.turn_client_api.specs.State.{State, Phase, New, Requesting, Authenticating, Allocated, Closed, agent_of}
-use Rattle.turn_client_api.specs.State.{Grant, Allocation, Permission, Channel, Connect, Offer, Connection, DataConnection, Relay, Purpose, Pending, Active, Reserved, Origin, OwnConnect, ServerRequest, ServerIndication}
-use Rattle.turn_client_api.specs.Grants.{find_allocation_to, allocations, as_connection, family_of, is_of, is_past, is_pending_channel, is_pending_permission, has_active_permission, permission_state, same_transport}
+use Rattle.turn_client_api.specs.State.{State, agent_of}
+use Rattle.turn_client_api.specs.declared.state.Phase.{Phase}
+use Rattle.turn_client_api.specs.declared.state.Phase.TheVariants.{New, Requesting, Authenticating, Allocated, Closed}
+use Rattle.turn_client_api.specs.declared.grant.Grant.{Grant}
+use Rattle.turn_client_api.specs.declared.grant.Grant.TheVariants.{Allocation, Permission, Channel, Connect, Offer, Connection}
+use Rattle.turn_client_api.specs.declared.grant.DataConnection.{DataConnection}
+use Rattle.turn_client_api.specs.declared.grant.Relay.{Relay}
+use Rattle.turn_client_api.specs.declared.grant.Purpose.{Purpose}
+use Rattle.turn_client_api.specs.declared.grant.Progress.TheVariants.{Pending, Active, Reserved}
+use Rattle.turn_client_api.specs.declared.grant.Origin.{Origin}
+use Rattle.turn_client_api.specs.declared.grant.Origin.TheVariants.{OwnConnect, ServerRequest, ServerIndication}
+use Rattle.turn_client_api.specs.Grants.{find_allocation_to, allocations, as_connection, family_of, is_of, is_past, is_pending_channel, is_pending_permission, has_active_permission, permission_state}
+use Rattle.turn_client_api.specs.Grants.{same_transport}
 use Rattle.turn_client_api.specs.Requests.{fresh_id}
 use Rattle.turn_client_api.specs.Effect.{closed, transaction_ended}
 use Rattle.turn_client_api.specs.Connections.{connection_at, is_connected, is_connecting}
-use Rattle.turn_client_api.specs.Calls.{bound_by, active_channel, allocated_tcp_socket_step, bind_channel_step, bound_to, channel_step, channels_to, connect_step, create_permission_step, delete_step, free_number, can_send_to, in_allocation, is_allocated, is_closed, is_control, is_in_progress, is_local_taken, offer_origin, on_channel, on_connection, permission_step, protocol_error_step, reserved_from, send_over, send_to_step, socket_opened, socket_refused, socket_step, tcp_connect_step}
+use Rattle.turn_client_api.specs.Calls.{bound_by, active_channel, allocated_tcp_socket_step, bind_channel_step, bound_to, channel_step, channels_to, connect_step, create_permission_step, delete_step}
+use Rattle.turn_client_api.specs.Calls.{free_number, can_send_to, in_allocation, is_allocated, is_closed, is_control, is_in_progress, is_local_taken, offer_origin, on_channel, on_connection}
+use Rattle.turn_client_api.specs.Calls.{permission_step, protocol_error_step, reserved_from, send_over, send_to_step, socket_opened, socket_refused, socket_step, tcp_connect_step}
 use Rattle.turn_client_api.specs.declared.poll.Socket5Tuple.{Socket5Tuple}
 use Rattle.turn_client_api.specs.declared.error.BindChannelError.TheVariants as Bind
 use Rattle.turn_client_api.specs.Due.{has_event, has_reply, is_paused}
-use Rattle.turn_client_api.specs.Poll.{answer_step, channel_lapsed, timed_out_purposes, allocation_expires, failed_by_timeout, is_lapsed_channel, is_listed_for_allocation, lapsed, lapsed_allocation, lapsed_in, next_offer, offer_step, poll_step, timed_step}
+use Rattle.turn_client_api.specs.Poll.{answer_step, channel_lapsed, timed_out_purposes, allocation_expires, failed_by_timeout, is_lapsed_channel, is_listed_for_allocation, lapsed, lapsed_allocation}
+use Rattle.turn_client_api.specs.Poll.{lapsed_in, next_offer, offer_step, poll_step, timed_step}
 use Rattle.turn_client_api.specs.Poll as P
 use Rattle.turn_client_api.specs.Receive.{connection_gone, tcp_closed_step}
 use Rattle.turn_client_api.specs.Transmit.{idle_step, queue_step, refreshes_in, transmit_step}
@@ -29,8 +42,12 @@ use Rattle.turn_client_api.specs.Transmit as T
 use Rattle.turn_client_laws.specs.LawsReplies.{IsDrawn}
 use Rattle.turn_client_laws.specs.LawsHandled.{TakesInput}
 use Rattle.turn_client_laws.specs.LawsInputs.{IsBroughtBy}
-use Rattle.turn_client_api.specs.Steps.{Call, Leaves, state_after, Delete, CreatePermission, BindChannel, TcpConnect, AllocatedTcpSocket, TcpClosed, SendTo, Recv, PollRecv, Poll, PollTransmit, PollEvent, RelayedAddresses, Permissions, HavePermission, ProtocolError}
-use Rattle.turn_client_laws.proofs.NewIdMessageLemmas.{AsksNothing, Draws, asks-cond, asks-fold, bind-draws, draws-more, draws-nothing, draws-same, message-draws, outstanding-resent, outstanding-without}
+use Rattle.turn_client_api.specs.Steps.{Leaves, state_after}
+use Rattle.turn_client_api.specs.declared.call.Call.{Call}
+use Rattle.turn_client_api.specs.declared.call.Call.TheVariants.{Delete, CreatePermission, BindChannel, TcpConnect, AllocatedTcpSocket, TcpClosed, SendTo, Recv, PollRecv, Poll, PollTransmit}
+use Rattle.turn_client_api.specs.declared.call.Call.TheVariants.{PollEvent, RelayedAddresses, Permissions, HavePermission, ProtocolError}
+use Rattle.turn_client_laws.proofs.NewIdMessageLemmas.{AsksNothing, Draws, asks-cond, asks-fold, bind-draws, draws-more, draws-nothing, draws-same, message-draws, outstanding-resent}
+use Rattle.turn_client_laws.proofs.NewIdMessageLemmas.{outstanding-without}
 use Rattle.turn_client_laws.proofs.TurnLemmas.{IsBringing, message-brings}
 
 -- ---- as time passes, nothing is requested
@@ -114,7 +131,8 @@ module _ (id : ℕ) where
   found f None s y p q = q
   found f (Some x) s y p q = p x
 
-  allocation-draws : {E : Type 0} (o : Option Relay) (ip : IpAddr) (now : ℕ) (refusal : E) (s : State) (otherwise : Result Unit E × State) → Draws id s otherwise.1 → Draws id s (in_allocation o ip now refusal s otherwise).1
+  allocation-draws : {E : Type 0} (o : Option Relay) (ip : IpAddr) (now : ℕ) (refusal : E) (s : State) (otherwise : Result Unit E × State) → Draws id s otherwise.1
+      → Draws id s (in_allocation o ip now refusal s otherwise).1
   allocation-draws None ip now refusal s otherwise k = draws-same id s
   allocation-draws (Some a) ip now refusal s otherwise k = either (is_past now a) s _ otherwise (draws-same id s) k
 
@@ -213,7 +231,7 @@ module _ (id : ℕ) where
     message = λ message now s is. message-draws id message now s;
     binds = λ local message now s is. bind-draws id local message now s;
     gone = λ local s h. rw (gone-asks local s) at h;
-    transaction_ended = λ u there. there;
+    ended = λ u there. there;
   }
 
   -- the ID was outstanding, or is the next one of the client before the call

@@ -1,5 +1,6 @@
 -- Of more IDs than are taken one is free.
-use Rattle.std.proofs.Common.{◌≡◌, ℕ, zero, suc, ◌+◌, ◌/◌, ◌%◌, ◌<◌, ◌≤◌, ◌^◌, Bool, true, false, not, eqb, leb, ltb, List, [], ◌∷◌, ◌++◌, map, filter_map, find, length, Option, Some, None, refl, sym, ◌∙◌, arith}
+use Rattle.std.proofs.Common.{◌≡◌, ℕ, zero, suc, ◌+◌, ◌/◌, ◌%◌, ◌<◌, ◌≤◌, ◌^◌, Bool, true, false, not, eqb, leb, ltb, List, [], ◌∷◌, ◌++◌, map, filter_map, find, length, Option, Some, None, refl, sym}
+use Rattle.std.proofs.Common.{◌∙◌, arith}
 use Rattle.std.specs.List.{list_any, range_with_len, IsDistinct, AllByRecursion}
 use Rattle.std.specs.Prelude.{option_and_then}
 use Rattle.std.specs.Set.{is_member}
@@ -14,7 +15,11 @@ use Rattle.std.proofs.lemmas.Map.Made.{length-le_from_is_member}
 use Rattle.turn_agent.specs.Agent.{is_outstanding}
 use Rattle.turn_agent.specs.TransactionIds.{next_id}
 use Rattle.turn_agent.proofs.AgentLemmas.{find-passes}
-use Rattle.turn_client_api.specs.State.{State, Grant, Allocation, Permission, Channel, Connect, Offer, Connection, Origin, OwnConnect, ServerRequest, ServerIndication}
+use Rattle.turn_client_api.specs.State.{State}
+use Rattle.turn_client_api.specs.declared.grant.Grant.{Grant}
+use Rattle.turn_client_api.specs.declared.grant.Grant.TheVariants.{Allocation, Permission, Channel, Connect, Offer, Connection}
+use Rattle.turn_client_api.specs.declared.grant.Origin.{Origin}
+use Rattle.turn_client_api.specs.declared.grant.Origin.TheVariants.{OwnConnect, ServerRequest, ServerIndication}
 use Rattle.turn_client_api.specs.Grants.{is_of_request, as_offer}
 use Rattle.turn_client_api.specs.Requests.{counted_up, fresh_id, is_taken, max_ids_taken}
 

@@ -13,11 +13,20 @@ use Rattle.turn_auth.specs.LongTerm.{Challenge}
 use Rattle.turn_agent.specs.Agent.{is_outstanding, resent}
 use Rattle.turn_agent.specs.Agent as A
 use Rattle.turn_agent.specs.declared.transaction.Transaction.{Transaction}
-use Rattle.turn_client_api.specs.State.{State, DataConnection, Progress, Pending, Active, Reserved, Purpose, ForAllocation, ForRefresh, ForPermission, ForChannel, ForConnect, ForBind, Phase, New, Requesting, Authenticating, Allocated, Closed}
+use Rattle.turn_client_api.specs.State.{State}
+use Rattle.turn_client_api.specs.declared.grant.DataConnection.{DataConnection}
+use Rattle.turn_client_api.specs.declared.grant.Progress.{Progress}
+use Rattle.turn_client_api.specs.declared.grant.Progress.TheVariants.{Pending, Active, Reserved}
+use Rattle.turn_client_api.specs.declared.grant.Purpose.{Purpose}
+use Rattle.turn_client_api.specs.declared.grant.Purpose.TheVariants.{ForAllocation, ForRefresh, ForPermission, ForChannel, ForConnect, ForBind}
+use Rattle.turn_client_api.specs.declared.state.Phase.{Phase}
+use Rattle.turn_client_api.specs.declared.state.Phase.TheVariants.{New, Requesting, Authenticating, Allocated, Closed}
 use Rattle.turn_client_api.specs.Grants.{find_allocation_to, channel_at, first_in, permission_state, purposes_of}
 use Rattle.turn_client_api.specs.Requests.{connection_attempt_method, connection_bind_method, fresh_id}
-use Rattle.turn_client_api.specs.Judgement.{Judgement, Unrelated, Challenged, Fatal, LateResponse, DataIndication, ConnectionAttempt, SignedRequest, SignedSuccess, SignedError, bind_judgement, connection_id_in, is_bind_of, judgement_of, lifetime_in, method_in, peer_in}
-use Rattle.turn_client_api.specs.Effect.{allocate_denied, allocate_granted, allocation_mismatch, channel_answered, connect_answered, effect, transaction_ended, family_not_supported, has_code, min_lifetime, permission_answered, permission_answered_for, listed_permissions_answered, prolonged, refreshed}
+use Rattle.turn_client_api.specs.Judgement.{Judgement, Unrelated, Challenged, Fatal, LateResponse, DataIndication, ConnectionAttempt, SignedRequest, SignedSuccess, SignedError, bind_judgement}
+use Rattle.turn_client_api.specs.Judgement.{connection_id_in, is_bind_of, judgement_of, lifetime_in, method_in, peer_in}
+use Rattle.turn_client_api.specs.Effect.{allocate_denied, allocate_granted, allocation_mismatch, channel_answered, connect_answered, effect, transaction_ended, family_not_supported, has_code}
+use Rattle.turn_client_api.specs.Effect.{min_lifetime, permission_answered, permission_answered_for, listed_permissions_answered, prolonged, refreshed}
 use Rattle.turn_client_api.specs.Retry.{max_challenges, retried, state_after_retry}
 use Rattle.turn_client_api.specs.Connections.{attempt_indicated, attempt_requested, bind_again, bind_answered, bind_step, connection_at, is_connected, accepts_attempt}
 use Rattle.turn_client_api.specs.Payloads.{Outcome, Handled, Ignored, answered_purposes, challenge_step, message_step, response_step, signed_step, wrong_step}
@@ -157,7 +166,8 @@ draws-cond id true s t u k l = k
 draws-cond id false s t u k l = l
 
 -- of those that stay, and one that is used
-draws-one : (id : ℕ) (s : State) (ts : List Transaction) (t : Transaction) → (is_outstanding id ts ≡ true → is_outstanding id s.transactions ≡ true) → t.id ≡ fresh_id s → is_outstanding id (ts ++ t ∷ []) ≡ true → IsOneOf id s.transactions s
+draws-one : (id : ℕ) (s : State) (ts : List Transaction) (t : Transaction) → (is_outstanding id ts ≡ true → is_outstanding id s.transactions ≡ true) → t.id ≡ fresh_id s
+    → is_outstanding id (ts ++ t ∷ []) ≡ true → IsOneOf id s.transactions s
 draws-one id s ts t stay drawn h = by (outstanding-append id ts t h)
   where
     by : (is_outstanding id ts ≡ true) ⊎ (id ≡ t.id) → IsOneOf id s.transactions s
@@ -187,15 +197,18 @@ wrong-draws id Allocated message s = draws-same id (record s { phase = Allocated
 wrong-draws id Closed message s = draws-same id (record s { phase = Closed })
 
 -- of those that a signed reply leaves outstanding, and one that is used
-pub denied-one : (id : ℕ) (message : List ℕ) (now : ℕ) (s : State) → is_outstanding id (allocate_denied (fresh_id s) message now (transaction_ended (id_of message) s)).transactions ≡ true → IsOneOf id (A.without_transaction (id_of message) s.transactions) s
+pub denied-one : (id : ℕ) (message : List ℕ) (now : ℕ) (s : State) → is_outstanding id (allocate_denied (fresh_id s) message now (transaction_ended (id_of message) s)).transactions ≡ true
+    → IsOneOf id (A.without_transaction (id_of message) s.transactions) s
 denied-one id message now s = by (has_code family_not_supported message && leb 2 (length s.families)) refl
   where
-    by : (b : Bool) → (has_code family_not_supported message && leb 2 (length s.families)) ≡ b → is_outstanding id (allocate_denied (fresh_id s) message now (transaction_ended (id_of message) s)).transactions ≡ true → IsOneOf id (A.without_transaction (id_of message) s.transactions) s
+    by : (b : Bool) → (has_code family_not_supported message && leb 2 (length s.families)) ≡ b
+        → is_outstanding id (allocate_denied (fresh_id s) message now (transaction_ended (id_of message) s)).transactions ≡ true → IsOneOf id (A.without_transaction (id_of message) s.transactions) s
     by true e = rw e (outstanding-append id (A.without_transaction (id_of message) s.transactions) _)
     by false e = rw e (λ h. inl h)
 
 -- what a signed reply leaves outstanding
-pub signed-one : (id : ℕ) (p : Phase) (is_granted : Bool) (message : List ℕ) (now : ℕ) (s : State) → is_outstanding id (signed_step is_granted message now (record s { phase = p })).1.transactions ≡ true → IsOneOf id (A.without_transaction (id_of message) s.transactions) s
+pub signed-one : (id : ℕ) (p : Phase) (is_granted : Bool) (message : List ℕ) (now : ℕ) (s : State)
+    → is_outstanding id (signed_step is_granted message now (record s { phase = p })).1.transactions ≡ true → IsOneOf id (A.without_transaction (id_of message) s.transactions) s
 signed-one id Authenticating true message now s h = inl (rw (granted-asks message now (transaction_ended (id_of message) (record s { phase = Authenticating }))) at h)
 signed-one id Authenticating false message now s h = denied-one id message now (record s { phase = Authenticating }) h
 signed-one id New g message now s h = inl (rw (reply-asks g message now (record s { phase = New })) at h)

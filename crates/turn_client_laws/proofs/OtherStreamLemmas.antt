@@ -5,10 +5,17 @@ use Rattle.std.specs.declared.net.socket_addr.SocketAddr.{SocketAddr}
 use Rattle.turn_stun.specs.Message.{id_of}
 use Rattle.turn_types.specs.Frames.{begins_message, begins_no_frame, frame_len}
 use Rattle.turn_agent.specs.Agent.{same_address}
-use Rattle.turn_client_api.specs.State.{State, DataConnection, Mode, Control, Waiting, Bound, Broken, Stream, Phase, New, Requesting, Authenticating, Allocated, Closed}
+use Rattle.turn_client_api.specs.State.{State}
+use Rattle.turn_client_api.specs.declared.grant.DataConnection.{DataConnection}
+use Rattle.turn_client_api.specs.declared.state.Mode.{Mode}
+use Rattle.turn_client_api.specs.declared.state.Mode.TheVariants.{Control, Waiting, Bound, Broken}
+use Rattle.turn_client_api.specs.declared.state.Stream.{Stream}
+use Rattle.turn_client_api.specs.declared.state.Phase.{Phase}
+use Rattle.turn_client_api.specs.declared.state.Phase.TheVariants.{New, Requesting, Authenticating, Allocated, Closed}
 use Rattle.turn_client_api.specs.Grants.{as_connection}
 use Rattle.turn_client_api.specs.Requests.{connection_bind_method}
-use Rattle.turn_client_api.specs.Judgement.{Judgement, Unrelated, Challenged, Fatal, LateResponse, DataIndication, ConnectionAttempt, SignedRequest, SignedSuccess, SignedError, bind_judgement, method_in}
+use Rattle.turn_client_api.specs.Judgement.{Judgement, Unrelated, Challenged, Fatal, LateResponse, DataIndication, ConnectionAttempt, SignedRequest, SignedSuccess, SignedError, bind_judgement}
+use Rattle.turn_client_api.specs.Judgement.{method_in}
 use Rattle.turn_client_api.specs.Connections.{bind_answered, bind_step, connection_at, with_mode}
 use Rattle.turn_client_api.specs.Payloads.{Outcome, Handled, Ignored, channel_sent, is_message, message_step}
 use Rattle.turn_client_api.specs.Streams.{broken_at, frame_step, framed_by, framed_stream_step, next_frame_step, detached_frame_step, with_bytes}

@@ -1,5 +1,6 @@
 -- As time passes, a grant is removed only when it has expired.
-use Rattle.std.proofs.Common.{◌≡◌, ◌⊎◌, ◌≤◌, ℕ, eqb, leb, Bool, true, false, not, cond, ◌&&◌, ◌||◌, List, [], ◌∷◌, ◌++◌, filter, find, fold, reverse, Option, Some, None, refl, sym, subst, ◌∙◌, inl, inr}
+use Rattle.std.proofs.Common.{◌≡◌, ◌⊎◌, ◌≤◌, ℕ, eqb, leb, Bool, true, false, not, cond, ◌&&◌, ◌||◌, List, [], ◌∷◌, ◌++◌, filter, find, fold, reverse, Option, Some, None, refl, sym, subst, ◌∙◌, inl}
+use Rattle.std.proofs.Common.{inr}
 use Rattle.std.specs.Option.{option_map_or}
 use Rattle.std.specs.List.{Contains, IsDistinct, AllByRecursion}
 use Rattle.std.proofs.lemmas.Bool.{and_parts, eqb-true, eq-eqb, leb-true, ltb-true}
@@ -8,12 +9,26 @@ use Rattle.std.specs.declared.net.socket_addr.SocketAddr.{SocketAddr}
 use Rattle.turn_types.specs.declared.family.AddressFamily.{AddressFamily}
 use Rattle.turn_agent.specs.Agent.{timed_out_transaction}
 use Rattle.turn_agent.specs.declared.transaction.Transaction.{Transaction}
-use Rattle.turn_client_api.specs.State.{State, DataOffer, Grant, Allocation, Permission, Channel, Connect, Offer, Connection, DataConnection, Relay, Progress, Pending, Active, Reserved, Purpose, Phase, New, Requesting, Authenticating, Allocated, Closed, agent_of, later_by}
+use Rattle.turn_client_api.specs.State.{State}
+use Rattle.turn_client_api.specs.declared.grant.DataOffer.{DataOffer}
+use Rattle.turn_client_api.specs.declared.grant.Grant.{Grant}
+use Rattle.turn_client_api.specs.declared.grant.Grant.TheVariants.{Allocation, Permission, Channel, Connect, Offer, Connection}
+use Rattle.turn_client_api.specs.declared.grant.DataConnection.{DataConnection}
+use Rattle.turn_client_api.specs.declared.grant.Relay.{Relay}
+use Rattle.turn_client_api.specs.declared.grant.Progress.{Progress}
+use Rattle.turn_client_api.specs.declared.grant.Progress.TheVariants.{Pending, Active, Reserved}
+use Rattle.turn_client_api.specs.declared.grant.Purpose.{Purpose}
+use Rattle.turn_client_api.specs.State.{agent_of, later_by}
+use Rattle.turn_client_api.specs.declared.state.Phase.{Phase}
+use Rattle.turn_client_api.specs.declared.state.Phase.TheVariants.{New, Requesting, Authenticating, Allocated, Closed}
 use Rattle.turn_client_api.specs.Grants.{as_allocation, allocations, family_of, family_of_grant, is_channel_of, is_connect, is_for_any, is_of, is_of_request, is_pending_channel, is_pending_permission}
 use Rattle.turn_client_api.specs.Effect.{closed, transaction_ended, reserved_time}
 use Rattle.turn_client_api.specs.Due.{has_event, has_reply}
-use Rattle.turn_client_api.specs.Poll.{answer_by, answer_step, channel_lapsed, connections_unbound, timed_out_purposes, timed_out_step, allocation_expires, failed_by_timeout, is_timed_out_offer, is_lapsed_channel, is_lapsed_permission, is_listed_for_allocation, is_over, is_unbound, lapsed, lapsed_allocation, lapsed_in, last_channel_lapsed, next_offer, offer_step, offers_timed_out, permissions_lapsed, poll_step, timed_step}
-use Rattle.turn_client_api.specs.Steps.{Leaves, Poll}
+use Rattle.turn_client_api.specs.Poll.{answer_by, answer_step, channel_lapsed, connections_unbound, timed_out_purposes, timed_out_step, allocation_expires, failed_by_timeout, is_timed_out_offer}
+use Rattle.turn_client_api.specs.Poll.{is_lapsed_channel, is_lapsed_permission, is_listed_for_allocation, is_over, is_unbound, lapsed, lapsed_allocation, lapsed_in, last_channel_lapsed, next_offer}
+use Rattle.turn_client_api.specs.Poll.{offer_step, offers_timed_out, permissions_lapsed, poll_step, timed_step}
+use Rattle.turn_client_api.specs.Steps.{Leaves}
+use Rattle.turn_client_api.specs.declared.call.Call.TheVariants.{Poll}
 use Rattle.turn_client_laws.specs.LawsNumbers.{HasDistinctNumbers, number_of_channel}
 use Rattle.turn_client_laws.specs.LawsGone.{IsGivenUp, IsOver, IsPastWith, HasExpiredOrFailed, IsStillThere, grant_identity}
 use Rattle.turn_client_laws.proofs.HasLemmas.{Has, filter-has, has-append, has-filter, has-filter_map, has-found, has-left, has-right}
@@ -220,7 +235,8 @@ module _ (now : ℕ) (s : State) (apart : HasDistinctNumbers s) where
     asked-vain : (g : Grant) → is_for_any purposes g ≡ true → IsGivenUp now s g
     asked-vain g for = by x e for
       where
-        by : (o : Option Transaction) → timed_out_transaction (agent_of s) now ≡ o → is_for_any (timed_out_purposes (option_map_or (λ (t : Transaction). Some t.id) o None) s) g ≡ true → IsGivenUp now s g
+        by : (o : Option Transaction) → timed_out_transaction (agent_of s) now ≡ o → is_for_any (timed_out_purposes (option_map_or (λ (t : Transaction). Some t.id) o None) s) g ≡ true
+            → IsGivenUp now s g
         by (Some t) f for = (t, f, for)
         by None f for = cc
 
@@ -269,7 +285,8 @@ module _ (now : ℕ) (s : State) (apart : HasDistinctNumbers s) where
     unbound-over : (family : AddressFamily) → TakesOver (λ g. is_of family g && is_unbound purposes now g)
     unbound-over family g is ages passes = by is ages (and_parts (is_of family is) (is_unbound purposes now is) passes).1
       where
-        spent : (c : DataConnection) (o : Option ℕ) → c.deadline ≡ o → option_map_or (λ deadline. leb deadline now || is_for_any purposes (Connection c)) o false ≡ true → HasExpiredOrFailed now s (Connection c)
+        spent : (c : DataConnection) (o : Option ℕ) → c.deadline ≡ o → option_map_or (λ deadline. leb deadline now || is_for_any purposes (Connection c)) o false ≡ true
+            → HasExpiredOrFailed now s (Connection c)
         spent c None f unbound = cc
         spent c (Some deadline) f unbound = (deadline, f, at (leb deadline now) refl unbound)
           where
@@ -290,7 +307,8 @@ module _ (now : ℕ) (s : State) (apart : HasDistinctNumbers s) where
     offer-over : (family : AddressFamily) → TakesOver (λ g. is_of family g && is_timed_out_offer given g)
     offer-over family g is ages passes = by is ages (and_parts (is_of family is) (is_timed_out_offer given is) passes).1
       where
-        up : (offer : DataOffer) (o : Option Transaction) → timed_out_transaction (agent_of s) now ≡ o → is_timed_out_offer (option_map_or (λ (t : Transaction). Some t.id) o None) (Offer offer) ≡ true → HasExpiredOrFailed now s (Offer offer)
+        up : (offer : DataOffer) (o : Option Transaction) → timed_out_transaction (agent_of s) now ≡ o
+            → is_timed_out_offer (option_map_or (λ (t : Transaction). Some t.id) o None) (Offer offer) ≡ true → HasExpiredOrFailed now s (Offer offer)
         up offer (Some t) f of = (t, f, of)
         up offer None f of = cc
 
@@ -335,7 +353,8 @@ module _ (now : ℕ) (s : State) (apart : HasDistinctNumbers s) where
         by true f = rw f (filtered (is_of (family_of a.relayed)) t.grants (family-over a there (leb-true a.expiry now (and_parts (leb a.expiry now) _ f).0)) traces)
         by false f = rw f (lapsed_in-traces (family_of a.relayed) t traces)
 
-    all-trace : (relays : List Relay) → ((a : Relay) → Has a relays → Has (Allocation a) s.grants) → (t : State) → Traces t.grants → Traces (fold (lapsed_allocation given purposes now) t relays).grants
+    all-trace : (relays : List Relay) → ((a : Relay) → Has a relays → Has (Allocation a) s.grants) → (t : State) → Traces t.grants
+        → Traces (fold (lapsed_allocation given purposes now) t relays).grants
     all-trace [] there t traces = traces
     all-trace (a ∷ relays) there t traces =
         all-trace relays (λ b here. there b (inr here)) (lapsed_allocation given purposes now t a) (allocation-traces a (there a (inl refl)) t traces)

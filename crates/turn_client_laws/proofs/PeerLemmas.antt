@@ -17,9 +17,20 @@ use Rattle.turn_auth.specs.Validation.{validation_of}
 use Rattle.turn_auth.specs.declared.validation.Validation.{Validation}
 use Rattle.turn_auth.specs.declared.validation.Validation.TheVariants.{Validated, ResendRequest, Refused}
 use Rattle.turn_auth.specs.LongTerm.{Challenge}
-use Rattle.turn_client_api.specs.State.{State, Phase, New, Requesting, Authenticating, Allocated, Closed, Grant, Allocation, Permission, Channel, Connect, Offer, Connection, Progress, Pending, Active, Reserved, Mode, Control, Waiting, Bound, Broken, Stream, Purpose}
+use Rattle.turn_client_api.specs.State.{State}
+use Rattle.turn_client_api.specs.declared.state.Phase.{Phase}
+use Rattle.turn_client_api.specs.declared.state.Phase.TheVariants.{New, Requesting, Authenticating, Allocated, Closed}
+use Rattle.turn_client_api.specs.declared.grant.Grant.{Grant}
+use Rattle.turn_client_api.specs.declared.grant.Grant.TheVariants.{Allocation, Permission, Channel, Connect, Offer, Connection}
+use Rattle.turn_client_api.specs.declared.grant.Progress.{Progress}
+use Rattle.turn_client_api.specs.declared.grant.Progress.TheVariants.{Pending, Active, Reserved}
+use Rattle.turn_client_api.specs.declared.state.Mode.{Mode}
+use Rattle.turn_client_api.specs.declared.state.Mode.TheVariants.{Control, Waiting, Bound, Broken}
+use Rattle.turn_client_api.specs.declared.state.Stream.{Stream}
+use Rattle.turn_client_api.specs.declared.grant.Purpose.{Purpose}
 use Rattle.turn_client_api.specs.Grants.{channel_peer, first_in, has_active_permission, permission_progress, is_active, same_ip, purposes_of}
-use Rattle.turn_client_api.specs.Judgement.{Judgement, Unrelated, Challenged, Fatal, LateResponse, DataIndication, ConnectionAttempt, SignedRequest, SignedSuccess, SignedError, judgement_of, has_unknown, last_in, last_peer_in, last_icmp_in}
+use Rattle.turn_client_api.specs.Judgement.{Judgement, Unrelated, Challenged, Fatal, LateResponse, DataIndication, ConnectionAttempt, SignedRequest, SignedSuccess, SignedError, judgement_of}
+use Rattle.turn_client_api.specs.Judgement.{has_unknown, last_in, last_peer_in, last_icmp_in}
 use Rattle.turn_client_api.specs.Answers.{is_data_indication}
 use Rattle.turn_client_api.specs.Connections.{attempt_indicated}
 use Rattle.std.specs.Option.{option_map_or}
@@ -28,7 +39,8 @@ use Rattle.turn_client_api.specs.Requests.{refresh_method, connection_attempt_me
 use Rattle.turn_agent.specs.Agent.{is_outstanding, is_response}
 use Rattle.turn_client_api.specs.State.{auth_of}
 use Rattle.turn_client_api.specs.Requests.{data_method}
-use Rattle.turn_client_api.specs.Judgement.{method_in, class_in, by_class, challenged_or, challenge_in, answers_one, answers_allocate, requesting_judgement, authenticating_judgement, allocated_judgement}
+use Rattle.turn_client_api.specs.Judgement.{method_in, class_in, by_class, challenged_or, challenge_in, answers_one, answers_allocate, requesting_judgement, authenticating_judgement}
+use Rattle.turn_client_api.specs.Judgement.{allocated_judgement}
 use Rattle.turn_client_api.specs.Retry.{max_challenges, retried}
 use Rattle.turn_client_api.specs.Connections.{attempt_requested, bind_step}
 use Rattle.turn_client_api.specs.Payloads.{Handled, Ignored, PeerData, PeerIcmp, outcome_for, signed_step, challenge_step, answered_purposes}
@@ -57,7 +69,8 @@ permitted-in : (ip : IpAddr) (grants : List Grant) → is_active (slice_get (fil
 permitted-in ip [] h = cc
 permitted-in ip (Permission other p ∷ gs) h = by (permitted-in ip gs) (same_ip other ip) refl
   where
-    by : (is_active (slice_get (filter_map (permission_progress ip) gs) 0) ≡ true → (expiry : ℕ) × Contains gs (Permission ip (Active expiry))) → (b : Bool) → same_ip other ip ≡ b → (expiry : ℕ) × Contains (Permission other p ∷ gs) (Permission ip (Active expiry))
+    by : (is_active (slice_get (filter_map (permission_progress ip) gs) 0) ≡ true → (expiry : ℕ) × Contains gs (Permission ip (Active expiry))) → (b : Bool) → same_ip other ip ≡ b → (expiry : ℕ)
+        × Contains (Permission other p ∷ gs) (Permission ip (Active expiry))
     by more true e = active-here ip other p gs (same_ip-true other ip e) (rw e at h)
     by more false e = later ip (Permission other p) gs (more (rw e at h))
 permitted-in ip (Allocation a ∷ gs) h = later ip (Allocation a) gs (permitted-in ip gs h)
@@ -66,15 +79,18 @@ permitted-in ip (Connect peer ∷ gs) h = later ip (Connect peer) gs (permitted-
 permitted-in ip (Offer offer ∷ gs) h = later ip (Offer offer) gs (permitted-in ip gs h)
 permitted-in ip (Connection c ∷ gs) h = later ip (Connection c) gs (permitted-in ip gs h)
 
-later-channel : (number : ℕ) (peer : SocketAddr) (g : Grant) (gs : List Grant) → (expiry : ℕ) × Contains gs (Channel number peer (Active expiry)) → (expiry : ℕ) × Contains (g ∷ gs) (Channel number peer (Active expiry))
+later-channel : (number : ℕ) (peer : SocketAddr) (g : Grant) (gs : List Grant) → (expiry : ℕ) × Contains gs (Channel number peer (Active expiry)) → (expiry : ℕ)
+    × Contains (g ∷ gs) (Channel number peer (Active expiry))
 later-channel number peer g gs (expiry, at) = (expiry, Contains-later (Channel number peer (Active expiry)) g gs at)
 
 -- the peer of the first active channel of a number
-channel-in : (number : ℕ) (peer : SocketAddr) (grants : List Grant) → slice_get (filter_map (channel_peer number) grants) 0 ≡ Some peer → (expiry : ℕ) × Contains grants (Channel number peer (Active expiry))
+channel-in : (number : ℕ) (peer : SocketAddr) (grants : List Grant) → slice_get (filter_map (channel_peer number) grants) 0 ≡ Some peer → (expiry : ℕ)
+    × Contains grants (Channel number peer (Active expiry))
 channel-in number peer [] h = cc
 channel-in number peer (Channel other to (Active expiry) ∷ gs) h = by (channel-in number peer gs) (eqb other number) refl
   where
-    by : (slice_get (filter_map (channel_peer number) gs) 0 ≡ Some peer → (later : ℕ) × Contains gs (Channel number peer (Active later))) → (b : Bool) → eqb other number ≡ b → (later : ℕ) × Contains (Channel other to (Active expiry) ∷ gs) (Channel number peer (Active later))
+    by : (slice_get (filter_map (channel_peer number) gs) 0 ≡ Some peer → (later : ℕ) × Contains gs (Channel number peer (Active later))) → (b : Bool) → eqb other number ≡ b → (later : ℕ)
+        × Contains (Channel other to (Active expiry) ∷ gs) (Channel number peer (Active later))
     by more true e =
         let same : other ≡ number = eqb-true other number e in
         let is : Some to ≡ Some peer = rw e at h in
@@ -157,9 +173,13 @@ authenticating-unlike : (s : State) (message : List ℕ) → authenticating_judg
 authenticating-unlike s message = by (validation_of (auth_of s) message) refl
   where
     by : (v : Validation) → validation_of (auth_of s) message ≡ v → authenticating_judgement s message ≡ DataIndication → ⊥
-    by (Validated algorithm) e = rw e (cond-unlike (answers_allocate s message) (challenged_or (cond (is_outstanding (id_of message) s.transactions) (by_class (class_in message)) LateResponse) (challenge_in s message)) Unrelated (challenged_or-unlike _ (challenge_in s message) (cond-unlike (is_outstanding (id_of message) s.transactions) (by_class (class_in message)) LateResponse (by_class-unlike (class_in message)) (λ e. cc))) (λ e. cc))
-    by (Refused integrity) e = rw e (cond-unlike (answers_allocate s message) (challenged_or (cond integrity Fatal Unrelated) (challenge_in s message)) Unrelated (challenged_or-unlike _ (challenge_in s message) (cond-unlike integrity Fatal Unrelated (λ e. cc) (λ e. cc))) (λ e. cc))
-    by (ResendRequest algorithm) e = rw e (cond-unlike (answers_allocate s message) (challenged_or Unrelated (challenge_in s message)) Unrelated (challenged_or-unlike Unrelated (challenge_in s message) (λ e. cc)) (λ e. cc))
+    by (Validated algorithm) e = rw e (cond-unlike (answers_allocate s message) (challenged_or (cond (is_outstanding (id_of message) s.transactions) (by_class (class_in message)) LateResponse)
+        (challenge_in s message)) Unrelated (challenged_or-unlike _ (challenge_in s message)
+        (cond-unlike (is_outstanding (id_of message) s.transactions) (by_class (class_in message)) LateResponse (by_class-unlike (class_in message)) (λ e. cc))) (λ e. cc))
+    by (Refused integrity) e = rw e (cond-unlike (answers_allocate s message) (challenged_or (cond integrity Fatal Unrelated) (challenge_in s message)) Unrelated
+        (challenged_or-unlike _ (challenge_in s message) (cond-unlike integrity Fatal Unrelated (λ e. cc) (λ e. cc))) (λ e. cc))
+    by (ResendRequest algorithm) e = rw e (cond-unlike (answers_allocate s message) (challenged_or Unrelated (challenge_in s message)) Unrelated
+        (challenged_or-unlike Unrelated (challenge_in s message) (λ e. cc)) (λ e. cc))
 
 allocated-indication : (s : State) (message : List ℕ) → allocated_judgement s message ≡ DataIndication → is_data_indication message ≡ true
 allocated-indication s message = by (class_in message) refl (validation_of (auth_of s) message) refl
@@ -199,16 +219,19 @@ indicated-IsMessageFromPermitted : (message : List ℕ) (s : State) → s.phase 
 indicated-IsMessageFromPermitted message s phase is =
     by (has_unknown message) refl (last_peer_in message) refl (last_in data_kind message) refl (last_icmp_in message) refl
   where
-    by_permission : (peer : SocketAddr) → has_unknown message ≡ false → last_peer_in message ≡ Some peer → (o : Outcome) → (IsIndicated message peer s → IsMessageFromPermitted message s o) → (b : Bool) → has_active_permission (socket_ip peer) s ≡ b → IsMessageFromPermitted message s (cond b o Ignored)
+    by_permission : (peer : SocketAddr) → has_unknown message ≡ false → last_peer_in message ≡ Some peer → (o : Outcome) → (IsIndicated message peer s → IsMessageFromPermitted message s o)
+        → (b : Bool) → has_active_permission (socket_ip peer) s ≡ b → IsMessageFromPermitted message s (cond b o Ignored)
     by_permission peer known named o then false e = tt
     by_permission peer known named o then true e =
         then (record { phase = phase; indication = is; known = known; named = named; permitted = permitted-in (socket_ip peer) s.grants e })
 
-    by : (b : Bool) → has_unknown message ≡ b → (p : Option SocketAddr) → last_peer_in message ≡ p → (a : Option Attribute) → last_in data_kind message ≡ a → (i : Option Icmp) → last_icmp_in message ≡ i → IsMessageFromPermitted message s (data_indicated s message)
+    by : (b : Bool) → has_unknown message ≡ b → (p : Option SocketAddr) → last_peer_in message ≡ p → (a : Option Attribute) → last_in data_kind message ≡ a → (i : Option Icmp)
+        → last_icmp_in message ≡ i → IsMessageFromPermitted message s (data_indicated s message)
     by true e p f a g i h = rw e tt
     by false e None f a g i h = rw (e, f) tt
     by false e (Some peer) f None g None h = rw (e, f, g, h) tt
-    by false e (Some peer) f None g (Some icmp) h = rw (e, f, g, h) (by_permission peer e f (PeerIcmp s.config.allocation_transport peer icmp) (λ is. (is, (g, h, refl))) (has_active_permission (socket_ip peer) s) refl)
+    by false e (Some peer) f None g (Some icmp) h = rw (e, f, g, h) (by_permission peer e f (PeerIcmp s.config.allocation_transport peer icmp) (λ is. (is, (g, h, refl)))
+        (has_active_permission (socket_ip peer) s) refl)
     by false e (Some peer) f (Some a) g i h = rw (e, f, g) (by_permission peer e f (data_of s peer a.offset a.value) (λ is. inl (is, (a, g, refl))) (has_active_permission (socket_ip peer) s) refl)
 
 message-IsMessageFromPermitted : (message : List ℕ) (now : ℕ) (s : State) → IsMessageFromPermitted message s (message_step message now s).0

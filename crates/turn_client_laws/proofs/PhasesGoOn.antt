@@ -11,7 +11,10 @@ use Rattle.turn_auth.proofs.ChallengeLemmas.{challenge_of-sound}
 use Rattle.turn_auth.specs.LongTerm.{Challenge}
 use Rattle.turn_agent.specs.Agent.{timed_out_transaction}
 use Rattle.turn_agent.specs.declared.transaction.Transaction.{Transaction}
-use Rattle.turn_client_api.specs.State.{State, Phase, New, Requesting, Authenticating, Allocated, Closed, Purpose, agent_of, auth_of}
+use Rattle.turn_client_api.specs.State.{State, agent_of, auth_of}
+use Rattle.turn_client_api.specs.declared.state.Phase.{Phase}
+use Rattle.turn_client_api.specs.declared.state.Phase.TheVariants.{New, Requesting, Authenticating, Allocated, Closed}
+use Rattle.turn_client_api.specs.declared.grant.Purpose.{Purpose}
 use Rattle.turn_client_api.specs.Grants.{purposes_of}
 use Rattle.turn_client_api.specs.Judgement.{Challenged, challenge_in, judgement_of}
 use Rattle.turn_client_api.specs.Connections.{bind_step}
@@ -20,7 +23,8 @@ use Rattle.turn_client_api.specs.Effect.{transaction_ended, phase_with, relayed_
 use Rattle.turn_client_api.specs.Payloads.{challenge_step, message_step}
 use Rattle.turn_client_api.specs.Poll.{poll_step, timed_step}
 use Rattle.turn_client_api.specs.Retry.{max_challenges, phase_after, retried}
-use Rattle.turn_client_api.specs.Steps.{Call, Leaves, state_after}
+use Rattle.turn_client_api.specs.Steps.{Leaves, state_after}
+use Rattle.turn_client_api.specs.declared.call.Call.{Call}
 use Rattle.turn_client_laws.specs.LawsSteps.{GoesOn, IsChallengeCounted, KeepsRealm, StaysClosed, KeepsChallengeLimit, rank}
 use Rattle.turn_client_api.specs.declared.event.TurnEvent.{TurnEvent}
 use Rattle.turn_client_api.specs.declared.poll.TurnPollRet.TheVariants as Do
@@ -53,7 +57,8 @@ keeps-trans s t u first second = (λ h. second.0 (first.0 h), λ h. second.1 (fi
 -- ---- challenges
 
 -- with something held, a challenge keeps realm and algorithm
-challenge-realm : (held : Option Challenge) (s : State) (message : List ℕ) (d c : Challenge) → challenge_of (record (auth_of s) { held = held }) message ≡ Some d → held ≡ Some c → (d.realm ≡ c.realm) × (d.algorithm ≡ c.algorithm)
+challenge-realm : (held : Option Challenge) (s : State) (message : List ℕ) (d c : Challenge) → challenge_of (record (auth_of s) { held = held }) message ≡ Some d → held ≡ Some c → (d.realm ≡ c.realm)
+    × (d.algorithm ≡ c.algorithm)
 challenge-realm None s message d c e f = absurd (none-some c f)
 challenge-realm (Some h) s message d c e f =
     let same = same_Some h c f in
@@ -61,7 +66,8 @@ challenge-realm (Some h) s message d c e f =
     (ap (λ (x : Challenge). x.realm) is ∙ ap (λ (x : Challenge). x.realm) same, ap (λ (x : Challenge). x.algorithm) is ∙ ap (λ (x : Challenge). x.algorithm) same)
 
 -- what a challenge makes the client hold
-takes-realm : (s : State) (message : List ℕ) (d : Challenge) → challenge_in s message ≡ Some d → (c : Challenge) → s.held ≡ Some c → (x : Challenge) × (◌≡◌ {A = Option Challenge} (Some d) (Some x)) × (x.realm ≡ c.realm) × (x.algorithm ≡ c.algorithm)
+takes-realm : (s : State) (message : List ℕ) (d : Challenge) → challenge_in s message ≡ Some d → (c : Challenge) → s.held ≡ Some c → (x : Challenge) × (◌≡◌ {A = Option Challenge} (Some d) (Some x))
+    × (x.realm ≡ c.realm) × (x.algorithm ≡ c.algorithm)
 takes-realm s message d e c f = let (r, a) = challenge-realm s.held s message d c e f in (d, refl, r, a)
 
 rank-after : (p : Phase) → rank p ≤ rank (phase_after p)

@@ -1,5 +1,6 @@
 -- When a client with nothing pending is idle, and when it has something to send.
-use Rattle.std.proofs.Common.{◌≡◌, ◌≢◌, ℕ, suc, ◌+◌, ◌*◌, ◌-◌, ◌^◌, ◌<◌, ◌≤◌, min, max, Bool, true, false, ◌&&◌, not, ltb, leb, List, [], ◌∷◌, ◌++◌, length, map, filter, flat_map, filter_map, find, fold, Option, Some, None, ◌⊎◌, inl, inr, refl, sym, subst, ◌∙◌, arith}
+use Rattle.std.proofs.Common.{◌≡◌, ◌≢◌, ℕ, suc, ◌+◌, ◌*◌, ◌-◌, ◌^◌, ◌<◌, ◌≤◌, min, max, Bool, true, false, ◌&&◌, not, ltb, leb, List, [], ◌∷◌, ◌++◌, length, map, filter, flat_map, filter_map, find}
+use Rattle.std.proofs.Common.{fold, Option, Some, None, ◌⊎◌, inl, inr, refl, sym, subst, ◌∙◌, arith}
 use Rattle.std.specs.Prelude.{if◌then◌else◌, is_some, IsSome, IfSome, ⊤, slice_get, option_and_then}
 use Rattle.std.specs.List.{list_any}
 use Rattle.std.specs.Option.{option_map_or}
@@ -13,14 +14,27 @@ use Rattle.turn_agent.specs.Schedule.{Timers, resends_of}
 use Rattle.turn_types.specs.declared.family.AddressFamily.{AddressFamily}
 use Rattle.turn_types.specs.declared.family.AddressFamily.TheVariants.{IPV4, IPV6}
 use Rattle.turn_client_api.specs.Config.{same_family}
-use Rattle.turn_client_api.specs.State.{State, Purpose, ForRefresh, ForPermission, ForChannel, Phase, New, Requesting, Authenticating, Allocated, Closed, Grant, Allocation, Permission, Channel, Connect, Offer, Connection, Relay, Pending, Active, Reserved, Queued, agent_of, max_time}
+use Rattle.turn_client_api.specs.State.{State}
+use Rattle.turn_client_api.specs.declared.grant.Purpose.{Purpose}
+use Rattle.turn_client_api.specs.declared.grant.Purpose.TheVariants.{ForRefresh, ForPermission, ForChannel}
+use Rattle.turn_client_api.specs.declared.state.Phase.{Phase}
+use Rattle.turn_client_api.specs.declared.state.Phase.TheVariants.{New, Requesting, Authenticating, Allocated, Closed}
+use Rattle.turn_client_api.specs.declared.grant.Grant.{Grant}
+use Rattle.turn_client_api.specs.declared.grant.Grant.TheVariants.{Allocation, Permission, Channel}
+use Rattle.turn_client_api.specs.State.{agent_of, max_time}
+use Rattle.turn_client_api.specs.declared.grant.Grant.TheVariants.{Connect, Offer, Connection}
+use Rattle.turn_client_api.specs.declared.grant.Relay.{Relay}
+use Rattle.turn_client_api.specs.declared.grant.Progress.TheVariants.{Pending, Active, Reserved}
+use Rattle.turn_client_api.specs.declared.state.Queued.{Queued}
 use Rattle.turn_client_api.specs.Grants.{allocations, as_allocation, find_allocation, family_of, family_of_grant, family_of_ip, has_request, is_of}
 use Rattle.turn_client_api.specs.Requests.{asked_lifetime}
 use Rattle.turn_client_api.specs.Due.{due_times, end_of, is_refreshable, has_queued_request, has_reply, is_paused, least_due, pause_end, refresh_of, refresh_time, refresh_time_by_kind}
 use Rattle.turn_client_api.specs.Poll.{next_offer}
-use Rattle.turn_client_api.specs.Transmit.{idle_step, is_due_in, is_ranked, is_refresh_due, next_transmit, queue_step, refresh_purpose, refresh_step, refreshes_in, refreshes_of_rank, reply_in, reply_step, transmit_step, without_first_reply}
+use Rattle.turn_client_api.specs.Transmit.{idle_step, is_due_in, is_ranked, is_refresh_due, next_transmit, queue_step, refresh_purpose, refresh_step, refreshes_in, refreshes_of_rank, reply_in}
+use Rattle.turn_client_api.specs.Transmit.{reply_step, transmit_step, without_first_reply}
 use Rattle.turn_client_api.specs.Alarm.{IsIdleUntil, Lasts}
-use Rattle.turn_client_laws.proofs.HasLemmas.{Has, has-append, has-left, has-right, map-has, flat_map-has, has-flat_map, has-found, filter-has, filter_map-has, has-filter_map, find-none, filter-none, least-le, all-has}
+use Rattle.turn_client_laws.proofs.HasLemmas.{Has, has-append, has-left, has-right, map-has, flat_map-has, has-flat_map, has-found, filter-has, filter_map-has, has-filter_map, find-none, filter-none}
+use Rattle.turn_client_laws.proofs.HasLemmas.{least-le, all-has}
 
 -- the grant has not expired by now, if its expiry is one to wait for
 abbrev pub Alive : ℕ → Grant → Type 0
@@ -238,7 +252,8 @@ and_false_left : (x y : Bool) → y ≡ true → (x && y) ≡ false → x ≡ fa
 and_false_left true y passes fails = sym passes ∙ fails
 and_false_left false y passes fails = refl
 
-waits_on : (timers : Timers) (transport : TransportType) (now : ℕ) (t : Transaction) → is_due timers transport now t ≡ false → is_timed_out timers transport now t ≡ false → now < transaction_timeout timers transport t
+waits_on : (timers : Timers) (transport : TransportType) (now : ℕ) (t : Transaction) → is_due timers transport now t ≡ false → is_timed_out timers transport now t ≡ false
+    → now < transaction_timeout timers transport t
 waits_on timers transport now t not_due not_over = by (leb (transaction_timeout timers transport t) now) refl
   where
     by : (b : Bool) → leb (transaction_timeout timers transport t) now ≡ b → now < transaction_timeout timers transport t
@@ -249,11 +264,13 @@ waits_on timers transport now t not_due not_over = by (leb (transaction_timeout 
         absurd (omega (arith, ltb-false _ _ more, leb-false _ _ last))
 
 -- what is neither to be retransmitted nor timed out waits on
-transactions-later : (now m : ℕ) (a : Agent) (xs : List Transaction) → find (is_due a.timers a.transport now) xs ≡ None → find (is_timed_out a.timers a.transport now) xs ≡ None → Has m (map (transaction_timeout a.timers a.transport) xs) → now < m
+transactions-later : (now m : ℕ) (a : Agent) (xs : List Transaction) → find (is_due a.timers a.transport now) xs ≡ None → find (is_timed_out a.timers a.transport now) xs ≡ None
+    → Has m (map (transaction_timeout a.timers a.transport) xs) → now < m
 transactions-later now m a [] none_due none_over h = absurd h
 transactions-later now m a (x ∷ xs) none_due none_over h = by (is_due a.timers a.transport now x) (is_timed_out a.timers a.transport now x) refl refl (transactions-later now m a xs)
   where
-    by : (d o : Bool) → is_due a.timers a.transport now x ≡ d → is_timed_out a.timers a.transport now x ≡ o → (find (is_due a.timers a.transport now) xs ≡ None → find (is_timed_out a.timers a.transport now) xs ≡ None → Has m (map (transaction_timeout a.timers a.transport) xs) → now < m) → now < m
+    by : (d o : Bool) → is_due a.timers a.transport now x ≡ d → is_timed_out a.timers a.transport now x ≡ o
+        → (find (is_due a.timers a.transport now) xs ≡ None → find (is_timed_out a.timers a.transport now) xs ≡ None → Has m (map (transaction_timeout a.timers a.transport) xs) → now < m) → now < m
     by true o e f others = absurd (none-some x (sym (rw e at none_due)))
     by false true e f others = absurd (none-some x (sym (rw f at none_over)))
     by false false e f others = at h
@@ -293,7 +310,8 @@ same_family-self IPV6 = refl
 
 -- a grant in use whose allocation is active, and which may be refreshed, is refreshed when its time has
 -- come
-refreshed-once : (now : ℕ) (t : State) (g : Grant) (a : Relay) (rank : ℕ) (p : Purpose) → Has g t.grants → Has a (allocations t) → now ≤ a.expiry → is_of (family_of a.relayed) g ≡ true → Has rank (0 ∷ 1 ∷ 2 ∷ []) → is_ranked rank g ≡ true → is_refresh_due now t g ≡ true → refresh_purpose now g ≡ Some p → IsSome (refresh_step now t).0
+refreshed-once : (now : ℕ) (t : State) (g : Grant) (a : Relay) (rank : ℕ) (p : Purpose) → Has g t.grants → Has a (allocations t) → now ≤ a.expiry → is_of (family_of a.relayed) g ≡ true
+    → Has rank (0 ∷ 1 ∷ 2 ∷ []) → is_ranked rank g ≡ true → is_refresh_due now t g ≡ true → refresh_purpose now g ≡ Some p → IsSome (refresh_step now t).0
 refreshed-once now t g a rank p h inside goes_on here ranked is due gives =
     let test = is_due_in rank (family_of a.relayed) now t in
     let of_rank = refreshes_of_rank now t (family_of a.relayed) in
@@ -328,7 +346,8 @@ refresh-busy now t ready g h due = by g h due
     Sends = IsSome (refresh_step now t).0
 
     -- of a permission or channel, its allocation is in use and has not expired
-    within : (g : Grant) → Has g t.grants → is_refresh_due now t g ≡ true → (rank : ℕ) → Has rank (0 ∷ 1 ∷ 2 ∷ []) → is_ranked rank g ≡ true → (p : Purpose) → refresh_purpose now g ≡ Some p → (o : Option Relay) → find_allocation (family_of_grant g) t ≡ o → option_map_or (λ a. not a.is_expired) o false ≡ true → Sends
+    within : (g : Grant) → Has g t.grants → is_refresh_due now t g ≡ true → (rank : ℕ) → Has rank (0 ∷ 1 ∷ 2 ∷ []) → is_ranked rank g ≡ true → (p : Purpose) → refresh_purpose now g ≡ Some p
+        → (o : Option Relay) → find_allocation (family_of_grant g) t ≡ o → option_map_or (λ a. not a.is_expired) o false ≡ true → Sends
     within g h due rank ranked is p gives None e used = let no : false ≡ true = used in cc
     within g h due rank ranked is p gives (Some a) e used =
         let found = has-found (λ a. same_family (family_of a.relayed) (family_of_grant g)) a (allocations t) e in
@@ -349,11 +368,14 @@ refresh-busy now t ready g h due = by g h due
     by : (g : Grant) → Has g t.grants → is_refresh_due now t g ≡ true → Sends
     by (Allocation a) h due =
         let alive : now < a.expiry = ready.alive (Allocation a) h (not-true a.is_expired (used-due now t (Allocation a) due)) in
-        refreshed-once now t (Allocation a) a 0 (ForRefresh (family_of a.relayed) asked_lifetime) h (filter_map-has as_allocation (Allocation a) a t.grants h refl) (omega (arith, alive)) (same_family-self (family_of a.relayed)) (inl refl) refl due (rw (le-leb now a.expiry (omega (arith, alive))) refl)
+        refreshed-once now t (Allocation a) a 0 (ForRefresh (family_of a.relayed) asked_lifetime) h (filter_map-has as_allocation (Allocation a) a t.grants h refl) (omega (arith, alive))
+        (same_family-self (family_of a.relayed)) (inl refl) refl due (rw (le-leb now a.expiry (omega (arith, alive))) refl)
     by (Permission ip (Active expiry)) h due =
-        within (Permission ip (Active expiry)) h due 2 (inr (inr (inl refl))) refl (ForPermission ip) (rw (lt-ltb now expiry (ready.alive (Permission ip (Active expiry)) h)) refl) (find_allocation (family_of_ip ip) t) refl (used-due now t (Permission ip (Active expiry)) due)
+        within (Permission ip (Active expiry)) h due 2 (inr (inr (inl refl))) refl (ForPermission ip) (rw (lt-ltb now expiry (ready.alive (Permission ip (Active expiry)) h)) refl)
+        (find_allocation (family_of_ip ip) t) refl (used-due now t (Permission ip (Active expiry)) due)
     by (Channel number peer (Active expiry)) h due =
-        within (Channel number peer (Active expiry)) h due 1 (inr (inl refl)) refl (ForChannel number peer) (rw (lt-ltb now expiry (ready.alive (Channel number peer (Active expiry)) h)) refl) (find_allocation (family_of peer) t) refl (used-due now t (Channel number peer (Active expiry)) due)
+        within (Channel number peer (Active expiry)) h due 1 (inr (inl refl)) refl (ForChannel number peer) (rw (lt-ltb now expiry (ready.alive (Channel number peer (Active expiry)) h)) refl)
+        (find_allocation (family_of peer) t) refl (used-due now t (Channel number peer (Active expiry)) due)
     by (Permission ip Pending) h due = absurd (untimed now t (Permission ip Pending) refl due)
     by (Permission ip (Reserved until)) h due = absurd (untimed now t (Permission ip (Reserved until)) refl due)
     by (Channel number peer Pending) h due = absurd (untimed now t (Channel number peer Pending) refl due)
@@ -425,7 +447,8 @@ front-sends now t [] e some = absurd (omega (arith, some))
 front-sends now t (q ∷ qs) e some = rw e refl
 
 -- while nothing is queued and the pause is over, what is due is a refresh
-refresh-or-later : (now : ℕ) (t : State) → IsReady now t → now ≤ 2 ^ 62 → due (agent_of t) now ≡ None → is_paused now t ≡ false → t.queue ≡ [] → least_due now t ≤ now → IsSome (idle_step t.phase now t).0
+refresh-or-later : (now : ℕ) (t : State) → IsReady now t → now ≤ 2 ^ 62 → due (agent_of t) now ≡ None → is_paused now t ≡ false → t.queue ≡ [] → least_due now t ≤ now
+    → IsSome (idle_step t.phase now t).0
 refresh-or-later now t ready range none_due idle e reached = by ready.grants_later
   where
     nothing_queued : has_queued_request t ≡ true → now < pause_end t

@@ -6,11 +6,15 @@ use Rattle.turn_stun.specs.declared.transport.TransportType.{TransportType}
 use Rattle.turn_stun.specs.declared.transport.TransportType.TheVariants.{Udp, Tcp}
 use Rattle.turn_types.specs.Frames.{begins_message, begins_no_frame, frame_len}
 use Rattle.turn_agent.specs.Agent.{same_address}
-use Rattle.turn_client_api.specs.State.{State, Mode, Control, Waiting, Bound, Broken, Stream}
+use Rattle.turn_client_api.specs.State.{State}
+use Rattle.turn_client_api.specs.declared.state.Mode.{Mode}
+use Rattle.turn_client_api.specs.declared.state.Mode.TheVariants.{Control, Waiting, Bound, Broken}
+use Rattle.turn_client_api.specs.declared.state.Stream.{Stream}
 use Rattle.turn_client_api.specs.Grants.{same_transport}
 use Rattle.turn_client_api.specs.Connections.{bind_step}
 use Rattle.turn_client_api.specs.Payloads.{Payload, Outcome, Handled, Ignored, PeerData, PeerIcmp, channel_sent, datagram_step, is_channel_frame, is_message, message_step}
-use Rattle.turn_client_api.specs.Streams.{broken_at, control_frame_step, frame_step, framed_by, framed_stream_step, go_on, is_ready, max_steps, poll_recv_step, stream_at, next_frame_step, detached_frame_step, steps_until_payload, first_ready_step, waiting_frame_step, with_bytes, without_stream}
+use Rattle.turn_client_api.specs.Streams.{broken_at, control_frame_step, frame_step, framed_by, framed_stream_step, go_on, is_ready, max_steps, poll_recv_step, stream_at, next_frame_step}
+use Rattle.turn_client_api.specs.Streams.{detached_frame_step, steps_until_payload, first_ready_step, waiting_frame_step, with_bytes, without_stream}
 use Rattle.turn_client_api.specs.Receive.{connection_gone, first_frame_step, is_from_server, piece_step, recv_step, stream_step, tcp_closed_step, then_all}
 
 -- Of a relation between a state and a later one: each state is as itself, later is later again, streams
@@ -98,7 +102,8 @@ module _ (R : State → State → Type 0) (k : IsKept R) where
   first_frame_step-kept stream piece now s = turn-kept (record stream { bytes = stream.bytes ++ piece }) now s
 
   piece_in_mode : (m : Mode) (stream : Stream) (piece : List ℕ) (now : ℕ) (s : State) → R s (piece_step (record stream { mode = m }) piece now s).1
-  piece_in_mode Control stream piece now s = then_all-kept now s (first_frame_step (record stream { mode = Control }) piece now s) (first_frame_step-kept (record stream { mode = Control }) piece now s)
+  piece_in_mode Control stream piece now s = then_all-kept now s (first_frame_step (record stream { mode = Control }) piece now s)
+      (first_frame_step-kept (record stream { mode = Control }) piece now s)
   piece_in_mode Waiting stream piece now s = first_frame_step-kept (record stream { mode = Waiting }) piece now s
   piece_in_mode (Bound peer) stream piece now s = k.streams s (with_bytes stream.local [] s).streams
   piece_in_mode Broken stream piece now s =
@@ -115,7 +120,8 @@ module _ (R : State → State → Type 0) (k : IsKept R) where
       kept-cond (is_message bytes) s (message_step bytes now s) _ (k.message bytes now s)
       (kept-cond (is_channel_frame bytes) s (channel_sent s bytes, s) (Ignored, s) (k.same s) (k.same s))
 
-  recv_over : (carrier : TransportType) (transport : TransportType) (from to : SocketAddr) (bytes : List ℕ) (now : ℕ) (s : State) → R (record s { transport = carrier }) (recv_step transport from to bytes now (record s { transport = carrier })).1
+  recv_over : (carrier : TransportType) (transport : TransportType) (from to : SocketAddr) (bytes : List ℕ) (now : ℕ) (s : State)
+      → R (record s { transport = carrier }) (recv_step transport from to bytes now (record s { transport = carrier })).1
   recv_over Udp transport from to bytes now s =
       let u = record s { transport = Udp } in
       kept-cond (is_from_server transport from u) u _ (Ignored, u)

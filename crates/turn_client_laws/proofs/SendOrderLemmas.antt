@@ -8,14 +8,20 @@ use Rattle.turn_stun.specs.declared.transport.TransportType.{TransportType}
 use Rattle.turn_agent.specs.Agent as A
 use Rattle.turn_agent.specs.Agent.{resent}
 use Rattle.turn_client_api.specs.Config.{Config}
-use Rattle.turn_client_api.specs.State.{State, Phase, New, Requesting, Authenticating, Allocated, Closed, Grant, Pending, Queued, initial}
+use Rattle.turn_client_api.specs.State.{State, initial}
+use Rattle.turn_client_api.specs.declared.state.Phase.{Phase}
+use Rattle.turn_client_api.specs.declared.state.Phase.TheVariants.{New, Requesting, Authenticating, Allocated, Closed}
+use Rattle.turn_client_api.specs.declared.grant.Grant.{Grant}
+use Rattle.turn_client_api.specs.declared.grant.Progress.TheVariants.{Pending}
+use Rattle.turn_client_api.specs.declared.state.Queued.{Queued}
 use Rattle.turn_client_api.specs.Grants.{is_of}
 use Rattle.turn_client_api.specs.Effect.{new_allocation, phase_with, relayed_in, taken_addresses}
 use Rattle.turn_client_api.specs.Retry.{phase_after}
 use Rattle.turn_client_api.specs.Calls.{is_offer_of, without_first}
 use Rattle.turn_client_api.specs.Due.{has_queued_request}
 use Rattle.turn_client_api.specs.Alarm.{FitsPhaseForPoll}
-use Rattle.turn_client_api.specs.Steps.{Call, Leaves}
+use Rattle.turn_client_api.specs.Steps.{Leaves}
+use Rattle.turn_client_api.specs.declared.call.Call.{Call}
 use Rattle.turn_client_laws.specs.LawsSteps.{GoesOn, rank}
 use Rattle.turn_client_laws.specs.LawsOrder.{FitsPhase, IsUngranted}
 use Rattle.turn_client_laws.proofs.HasLemmas.{Has}
@@ -116,8 +122,10 @@ Steadies-KeepsAllEdits = record {
   resets = λ heeded s. (λ h. h, Keeps-KeepsAllEdits.resets heeded s);
   empties = λ s. (λ h. (h.0, h.1, h.2, λ u. ap (filter (λ g. not true)) (h.3 u)), keeps-same s);
   allocates = λ message lifetime now s e none.
-      let addresses = taken_addresses s.families (relayed_in message) in
-      (λ h. well (phase_with addresses) (record s { grants = s.grants ++ map (new_allocation lifetime now) addresses }) (rank-with addresses) (h.1 (rw e tt)), Keeps-KeepsAllEdits.allocates message lifetime now s e none);
+      let addresses = taken_addresses s.families (relayed_in message) in (
+        λ h. well (phase_with addresses) (record s { grants = s.grants ++ map (new_allocation lifetime now) addresses }) (rank-with addresses) (h.1 (rw e tt)),
+        Keeps-KeepsAllEdits.allocates message lifetime now s e none,
+      );
   permits = λ ip expiry s is. (λ h. (h.0, h.1, h.2, λ u. absurd (none-some Pending (rw (h.3 u) at is))), keeps-same s);
   connects = λ id connection_id peer s t since stay granted listed.
       (λ h. ((since.0 h).0, (since.0 h).1, (since.0 h).2, λ u. absurd (stays-granted s t since.1.3 granted u)), since.1);

@@ -7,17 +7,17 @@ use Rattle.std.specs.declared.net.socket_addr.SocketAddr.{SocketAddr}
 use Rattle.turn_stun.specs.declared.transport.TransportType.{TransportType}
 use Rattle.turn_stun.specs.declared.transport.TransportType.TheVariants.{Udp, Tcp}
 use Rattle.turn_client_api.specs.Config.{Config}
-use Rattle.turn_client_api.specs.State.{State, initial, Control}
-use Rattle.turn_client_api.specs.State.{Origin, OwnConnect}
-use Rattle.turn_client_api.specs.State.{ServerRequest, ServerIndication}
+use Rattle.turn_client_api.specs.State.{State, initial}
+use Rattle.turn_client_api.specs.declared.state.Mode.TheVariants.{Control}
+use Rattle.turn_client_api.specs.declared.grant.Origin.{Origin}
+use Rattle.turn_client_api.specs.declared.grant.Origin.TheVariants.{OwnConnect, ServerRequest, ServerIndication}
 use Rattle.turn_client_api.specs.Grants.{same_transport}
-use Rattle.turn_client_api.specs.Calls.{allocated_tcp_socket_step}
-use Rattle.turn_client_api.specs.Calls.{is_allocated, is_control}
-use Rattle.turn_client_api.specs.Calls.{is_local_taken, offer_origin}
-use Rattle.turn_client_api.specs.Calls.{socket_opened, socket_refused, socket_step, with_stream}
+use Rattle.turn_client_api.specs.Calls.{allocated_tcp_socket_step, is_allocated, is_control, is_local_taken, offer_origin, socket_opened, socket_refused, socket_step, with_stream}
 use Rattle.turn_client_api.specs.declared.poll.Socket5Tuple.{Socket5Tuple}
 use Rattle.turn_client_api.specs.declared.error.TcpAllocateError.TheVariants as Socket
-use Rattle.turn_client_api.specs.Steps.{Call, state_after, Delete, AllocatedTcpSocket, Recv, PollRecv}
+use Rattle.turn_client_api.specs.Steps.{state_after}
+use Rattle.turn_client_api.specs.declared.call.Call.{Call}
+use Rattle.turn_client_api.specs.declared.call.Call.TheVariants.{Delete, AllocatedTcpSocket, Recv, PollRecv}
 use Rattle.turn_client_laws.specs.LawsHandled.{TakesInput}
 use Rattle.turn_client_laws.specs.LawsStreams.{AreApart, IsEmptyIfBroken}
 use Rattle.turn_client_laws.proofs.StreamApartLemmas.{Apart, new-apart}

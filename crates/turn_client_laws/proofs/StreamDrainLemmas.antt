@@ -10,9 +10,13 @@ use Rattle.turn_types.specs.Frames.{IsFrame, begins_no_frame, frame_len}
 use Rattle.turn_types.proofs.FrameLemmas.{frame_len-IsWhole}
 use Rattle.turn_types.proofs.SplitLemmas.{IsFrame-frame_len}
 use Rattle.turn_agent.specs.Agent.{same_address}
-use Rattle.turn_client_api.specs.State.{State, Mode, Control, Waiting, Bound, Broken, Stream}
+use Rattle.turn_client_api.specs.State.{State}
+use Rattle.turn_client_api.specs.declared.state.Mode.{Mode}
+use Rattle.turn_client_api.specs.declared.state.Mode.TheVariants.{Control, Waiting, Bound, Broken}
+use Rattle.turn_client_api.specs.declared.state.Stream.{Stream}
 use Rattle.turn_client_api.specs.Payloads.{Payload, Outcome, Handled, Ignored, PeerData, PeerIcmp}
-use Rattle.turn_client_api.specs.Streams.{broken_at, frame_step, framed_by, framed_stream_step, go_on, is_ready, max_steps, poll_recv_step, ready_len, next_frame_step, first_ready_step, steps_until_payload, with_bytes}
+use Rattle.turn_client_api.specs.Streams.{broken_at, frame_step, framed_by, framed_stream_step, go_on, is_ready, max_steps, poll_recv_step, ready_len, next_frame_step, first_ready_step}
+use Rattle.turn_client_api.specs.Streams.{steps_until_payload, with_bytes}
 use Rattle.turn_client_api.specs.Receive.{first_frame_step, piece_step, then_all}
 use Rattle.turn_client_laws.specs.LawsPeers.{HasNoPeer}
 use Rattle.turn_client_laws.specs.LawsStreams.{HasNoFrame, NeedsMoreBytes}
@@ -135,14 +139,16 @@ module _ (stream : Stream) (s : State) (found : find is_ready s.streams ≡ Some
       rw (is, ← map-map empty bind s.streams)
       (lighter-by rest (λ x. bind (empty x)) fill (later-Sets stream.local [] rest (λ x. bind (empty x)) fill bound (bytes_by-Sets stream.local rest)) fewer)
 
-framed-lighter : (stream : Stream) (now : ℕ) (s : State) → find is_ready s.streams ≡ Some stream → is_some (framed stream.bytes) ≡ true → weight (framed_stream_step stream now (with_bytes stream.local [] s)).1.streams < weight s.streams
+framed-lighter : (stream : Stream) (now : ℕ) (s : State) → find is_ready s.streams ≡ Some stream → is_some (framed stream.bytes) ≡ true
+    → weight (framed_stream_step stream now (with_bytes stream.local [] s)).1.streams < weight s.streams
 unfolding framed
 framed-lighter stream now s found = by (begins_no_frame stream.bytes) (frame_len stream.bytes) refl
   where
     t : State
     t = with_bytes stream.local [] s
 
-    by : (b : Bool) (o : Option ℕ) → frame_len stream.bytes ≡ o → is_some (cond b (Some (length stream.bytes)) o) ≡ true → weight (cond {A = Outcome × State} b (Handled, broken_at stream.local t) (framed_by stream now t o)).1.streams < weight s.streams
+    by : (b : Bool) (o : Option ℕ) → frame_len stream.bytes ≡ o → is_some (cond b (Some (length stream.bytes)) o) ≡ true
+        → weight (cond {A = Outcome × State} b (Handled, broken_at stream.local t) (framed_by stream now t o)).1.streams < weight s.streams
     by true o e ready = broken-lighter stream s found
     by false None e ready = cc
     by false (Some len) e ready =
@@ -152,7 +158,8 @@ framed-lighter stream now s found = by (begins_no_frame stream.bytes) (frame_len
         put_back-lighter stream s found (drop len stream.bytes) u (rw length-drop (omega (arith, is.least, some)))
         (frame-rebound stream (take len stream.bytes) now t)
 
-turned-lighter : (m : Mode) (stream : Stream) (now : ℕ) (s : State) → find is_ready s.streams ≡ Some (record stream { mode = m }) → weight (next_frame_step (record stream { mode = m }) now s).1.streams < weight s.streams
+turned-lighter : (m : Mode) (stream : Stream) (now : ℕ) (s : State) → find is_ready s.streams ≡ Some (record stream { mode = m })
+    → weight (next_frame_step (record stream { mode = m }) now s).1.streams < weight s.streams
 unfolding framed
 turned-lighter Control stream now s found =
     let u = record stream { mode = Control } in
@@ -283,11 +290,13 @@ then_all-drained now (Ignored, t) h = by (poll_recv_step now t).0 refl h
     by None e k = poll_recv-drained now t e
     by (Some payload) e k = absurd k
 
-piece_in : (mode : Mode) (stream : Stream) (piece : List ℕ) (now : ℕ) (s : State) → mode ≡ Control → HasNoPeer (piece_step (record stream { mode = mode }) piece now s).0 → All NeedsMoreBytes (piece_step (record stream { mode = mode }) piece now s).1.streams
+piece_in : (mode : Mode) (stream : Stream) (piece : List ℕ) (now : ℕ) (s : State) → mode ≡ Control → HasNoPeer (piece_step (record stream { mode = mode }) piece now s).0
+    → All NeedsMoreBytes (piece_step (record stream { mode = mode }) piece now s).1.streams
 piece_in Control stream piece now s e = then_all-drained now (first_frame_step (record stream { mode = Control }) piece now s)
 piece_in Waiting stream piece now s e = cc
 piece_in (Bound peer) stream piece now s e = cc
 piece_in Broken stream piece now s e = cc
 
-pub piece-drained : (stream : Stream) (piece : List ℕ) (now : ℕ) (s : State) → stream.mode ≡ Control → HasNoPeer (piece_step stream piece now s).0 → All NeedsMoreBytes (piece_step stream piece now s).1.streams
+pub piece-drained : (stream : Stream) (piece : List ℕ) (now : ℕ) (s : State) → stream.mode ≡ Control → HasNoPeer (piece_step stream piece now s).0
+    → All NeedsMoreBytes (piece_step stream piece now s).1.streams
 piece-drained stream = piece_in stream.mode stream

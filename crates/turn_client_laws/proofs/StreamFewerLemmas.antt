@@ -5,7 +5,8 @@ use Rattle.std.specs.List.{IsDistinct}
 use Rattle.std.proofs.lemmas.List.Sums.{sum_by-cons}
 use Rattle.std.specs.declared.net.socket_addr.SocketAddr.{SocketAddr}
 use Rattle.turn_agent.specs.Agent.{same_address}
-use Rattle.turn_client_api.specs.State.{State, Stream}
+use Rattle.turn_client_api.specs.State.{State}
+use Rattle.turn_client_api.specs.declared.state.Stream.{Stream}
 use Rattle.turn_client_api.specs.Payloads.{Payload, Outcome, Handled, Ignored, PeerData, PeerIcmp}
 use Rattle.turn_client_api.specs.Streams.{go_on, is_ready, max_steps, poll_recv_step, next_frame_step, first_ready_step, steps_until_payload}
 use Rattle.turn_client_laws.specs.LawsStreams.{AreApart}
@@ -44,7 +45,8 @@ unfolding steps_until_payload
 turns-less zero now s = λ h. cc
 turns-less (suc n) now s = by (find is_ready s.streams) refl (λ t. turns-less n now t)
   where
-    by : (o : Option Stream) → find is_ready s.streams ≡ o → ((t : State) → IsLessThan (weight t.streams) (steps_until_payload n now t)) → IsLessThan (weight s.streams) (first_ready_step (steps_until_payload n now) now s o)
+    by : (o : Option Stream) → find is_ready s.streams ≡ o → ((t : State) → IsLessThan (weight t.streams) (steps_until_payload n now t))
+        → IsLessThan (weight s.streams) (first_ready_step (steps_until_payload n now) now s o)
     by None e more = λ h. cc
     by (Some stream) e more =
         go_on-less (steps_until_payload n now) (weight s.streams) (next_frame_step stream now s) (turn-lighter stream now s e) (more (next_frame_step stream now s).1)

@@ -8,7 +8,9 @@ use Rattle.turn_stun.specs.Number.{u16_at}
 use Rattle.turn_types.specs.Frames.{begins_message, begins_no_frame, frame_len, frame_size}
 use Rattle.turn_types.proofs.FrameLemmas.{frame_len-IsWhole}
 use Rattle.turn_types.proofs.SplitLemmas.{IsWhole-IsFrame}
-use Rattle.turn_client_api.specs.State.{Mode, Control, Waiting, Bound, Broken, Stream}
+use Rattle.turn_client_api.specs.declared.state.Mode.{Mode}
+use Rattle.turn_client_api.specs.declared.state.Mode.TheVariants.{Control, Waiting, Bound, Broken}
+use Rattle.turn_client_api.specs.declared.state.Stream.{Stream}
 use Rattle.turn_client_laws.specs.LawsStreams.{HasNoFrame, NeedsMoreBytes}
 
 u16-most : (bytes : List ℕ) → 3 < length bytes → All (λ b. b < 256) bytes → u16_at bytes 2 ≤ 65535

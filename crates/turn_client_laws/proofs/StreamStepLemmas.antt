@@ -6,11 +6,15 @@ use Rattle.turn_stun.specs.declared.transport.TransportType.{TransportType}
 use Rattle.turn_stun.specs.declared.transport.TransportType.TheVariants.{Udp, Tcp}
 use Rattle.turn_types.specs.Frames.{begins_no_frame, frame_len}
 use Rattle.turn_agent.specs.Agent.{same_address}
-use Rattle.turn_client_api.specs.State.{State, Mode, Control, Waiting, Bound, Broken, Stream}
+use Rattle.turn_client_api.specs.State.{State}
+use Rattle.turn_client_api.specs.declared.state.Mode.{Mode}
+use Rattle.turn_client_api.specs.declared.state.Mode.TheVariants.{Control, Waiting, Bound, Broken}
+use Rattle.turn_client_api.specs.declared.state.Stream.{Stream}
 use Rattle.turn_client_api.specs.Grants.{same_transport}
 use Rattle.turn_client_api.specs.Connections.{connection_at}
 use Rattle.turn_client_api.specs.Payloads.{Payload, Outcome, Handled, Ignored, PeerData, PeerIcmp, channel_sent, datagram_step, is_channel_frame, is_message, message_step}
-use Rattle.turn_client_api.specs.Streams.{broken_at, frame_step, framed_by, framed_stream_step, go_on, is_ready, max_steps, poll_recv_step, stream_at, next_frame_step, detached_frame_step, first_ready_step, steps_until_payload, with_bytes}
+use Rattle.turn_client_api.specs.Streams.{broken_at, frame_step, framed_by, framed_stream_step, go_on, is_ready, max_steps, poll_recv_step, stream_at, next_frame_step, detached_frame_step}
+use Rattle.turn_client_api.specs.Streams.{first_ready_step, steps_until_payload, with_bytes}
 use Rattle.turn_client_api.specs.Receive.{connection_gone, first_frame_step, is_from_server, piece_step, recv_step, stream_step, tcp_closed_step, then_all}
 use Rattle.turn_client_laws.specs.LawsStreams.{AreApart}
 use Rattle.turn_client_laws.proofs.StreamApartLemmas.{Apart, NotBroken, bound-NotBroken, bound-apart, broken-apart, bytes-apart, bytes-NotBroken, emptied-apart, filter-apart, found-NotBroken}
@@ -103,7 +107,8 @@ then_all-apart now (Ignored, t) h = poll_recv-apart now t h
 pub first_frame_step-apart : (stream : Stream) (piece : List ℕ) (now : ℕ) (s : State) → NotBroken stream.local s.streams → StayApart s (first_frame_step stream piece now s).1
 first_frame_step-apart stream piece now s whole h = turn-apart (record stream { bytes = stream.bytes ++ piece }) now s whole h
 
-piece_in_mode : (to : SocketAddr) (m : Mode) (stream : Stream) (piece : List ℕ) (now : ℕ) (s : State) → stream_at to s ≡ Some (record stream { mode = m }) → StayApart s (piece_step (record stream { mode = m }) piece now s).1
+piece_in_mode : (to : SocketAddr) (m : Mode) (stream : Stream) (piece : List ℕ) (now : ℕ) (s : State) → stream_at to s ≡ Some (record stream { mode = m })
+    → StayApart s (piece_step (record stream { mode = m }) piece now s).1
 unfolding bytes_by
 piece_in_mode to Control stream piece now s e h =
     let u = record stream { mode = Control } in
@@ -134,7 +139,8 @@ datagram-same bytes now s = by (is_message bytes) (is_channel_frame bytes)
     by false true = refl
     by false false = refl
 
-recv_over : (carrier : TransportType) (transport : TransportType) (from to : SocketAddr) (bytes : List ℕ) (now : ℕ) (s : State) → StayApart (record s { transport = carrier }) (recv_step transport from to bytes now (record s { transport = carrier })).1
+recv_over : (carrier : TransportType) (transport : TransportType) (from to : SocketAddr) (bytes : List ℕ) (now : ℕ) (s : State)
+    → StayApart (record s { transport = carrier }) (recv_step transport from to bytes now (record s { transport = carrier })).1
 recv_over Udp transport from to bytes now s =
     let u = record s { transport = Udp } in
     apart-cond (is_from_server transport from u) u _ (Ignored, u)

@@ -6,7 +6,7 @@ use Rattle.std.proofs.lemmas.Bool.{false_from_ne_true}
 use Rattle.std.proofs.lemmas.List.Sums.{sum_by-cons}
 use Rattle.std.specs.declared.net.socket_addr.SocketAddr.{SocketAddr}
 use Rattle.turn_agent.specs.Agent.{same_address}
-use Rattle.turn_client_api.specs.State.{Stream}
+use Rattle.turn_client_api.specs.declared.state.Stream.{Stream}
 use Rattle.turn_client_laws.proofs.AddressLemmas.{same_address-true, same_address-self}
 
 -- the most bytes of the streams at this local address
@@ -134,6 +134,7 @@ weight-set local bytes f is (x ∷ xs) = rw (is.keeps x) (by (same_address x.loc
     by false e later = rw (is.others x e, top-other local x.local bytes f is e xs) (omega (arith, later))
 
 -- a stream with more bytes was in the list: the whole is less
-pub weight-less : (p : Stream → Bool) (xs : List Stream) (stream : Stream) (bytes : List ℕ) (f : Stream → Stream) → find p xs ≡ Some stream → Sets stream.local bytes f → length bytes < length stream.bytes → weight (map f xs) < weight xs
+pub weight-less : (p : Stream → Bool) (xs : List Stream) (stream : Stream) (bytes : List ℕ) (f : Stream → Stream) → find p xs ≡ Some stream → Sets stream.local bytes f
+    → length bytes < length stream.bytes → weight (map f xs) < weight xs
 weight-less p xs stream bytes f found is fewer =
     omega (arith, weight-set stream.local bytes f is xs, top-set stream.local bytes f is xs, found-le-top p xs stream found, fewer)

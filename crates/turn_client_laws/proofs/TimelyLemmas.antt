@@ -8,7 +8,12 @@ use Rattle.std.specs.declared.net.socket_addr.SocketAddr.{SocketAddr}
 use Rattle.turn_agent.specs.Agent.{timed_out_transaction, is_timed_out, is_outstanding}
 use Rattle.turn_agent.specs.Agent as A
 use Rattle.turn_agent.specs.declared.transaction.Transaction.{Transaction}
-use Rattle.turn_client_api.specs.State.{State, DataOffer, Phase, New, Requesting, Authenticating, Allocated, Closed, Grant, Relay, agent_of}
+use Rattle.turn_client_api.specs.State.{State, agent_of}
+use Rattle.turn_client_api.specs.declared.grant.DataOffer.{DataOffer}
+use Rattle.turn_client_api.specs.declared.state.Phase.{Phase}
+use Rattle.turn_client_api.specs.declared.state.Phase.TheVariants.{New, Requesting, Authenticating, Allocated, Closed}
+use Rattle.turn_client_api.specs.declared.grant.Grant.{Grant}
+use Rattle.turn_client_api.specs.declared.grant.Relay.{Relay}
 use Rattle.turn_client_api.specs.Grants.{allocations}
 use Rattle.turn_client_api.specs.Effect.{closed, transaction_ended}
 use Rattle.turn_client_api.specs.Calls.{is_allocated}
@@ -171,7 +176,8 @@ replies-same s t same no_reply = rw same no_reply
 old-phase : (p q : Phase) → q ≡ p → p ≢ New → q ≢ New
 old-phase p q e old new = old (sym e ∙ new)
 
-given-timely : (now : ℕ) (s : State) → FitsPhaseForPoll s → now ≤ 2 ^ 62 → has_reply s ≡ false → next_offer s ≡ None → (x : Transaction) → timed_out_transaction (agent_of s) now ≡ Some x → (p : Phase) → s.phase ≡ p → Timely now s (timed_step p (Some x.id) now (transaction_ended x.id s))
+given-timely : (now : ℕ) (s : State) → FitsPhaseForPoll s → now ≤ 2 ^ 62 → has_reply s ≡ false → next_offer s ≡ None → (x : Transaction) → timed_out_transaction (agent_of s) now ≡ Some x
+    → (p : Phase) → s.phase ≡ p → Timely now s (timed_step p (Some x.id) now (transaction_ended x.id s))
 given-timely now s orderly range no_reply no_offer x given p e = by p e
   where
     u : State
@@ -202,12 +208,14 @@ given-timely now s orderly range no_reply no_offer x given p e = by p e
         let t = lapsed (Some x.id) now u in
         let shrinks = lapsed-shrinks (Some x.id) now u in
         let gave_later : GaveUp s t = (x, outstanding, rw shrinks.transactions (without-ended x.id s.transactions)) in
-        answer-timely now s (Some x.id) t (settled-given now s t range (old-phase Allocated t.phase (shrinks.phase ∙ e) (λ new. allocated_new new)) (replies-same s t shrinks.queue no_reply) (lapsed-no_offer u t shrinks no_offer) gave_later)
+        answer-timely now s (Some x.id) t (settled-given now s t range (old-phase Allocated t.phase (shrinks.phase ∙ e) (λ new. allocated_new new)) (replies-same s t shrinks.queue no_reply)
+        (lapsed-no_offer u t shrinks no_offer) gave_later)
       where
         allocated_new : Allocated ≡ New → ⊥
         allocated_new f = cc
 
-none-timely : (now : ℕ) (s : State) → FitsPhaseForPoll s → AllHaveAllocation s → now ≤ 2 ^ 62 → has_reply s ≡ false → next_offer s ≡ None → timed_out_transaction (agent_of s) now ≡ None → (p : Phase) → s.phase ≡ p → Timely now s (timed_step p None now s)
+none-timely : (now : ℕ) (s : State) → FitsPhaseForPoll s → AllHaveAllocation s → now ≤ 2 ^ 62 → has_reply s ≡ false → next_offer s ≡ None → timed_out_transaction (agent_of s) now ≡ None → (p : Phase)
+    → s.phase ≡ p → Timely now s (timed_step p None now s)
 none-timely now s orderly stand range no_reply no_offer none p e = by p e
   where
     wrong : false ≡ true → ⊥

@@ -2,14 +2,20 @@
 use Rattle.std.proofs.Common.{◌≡◌, ◌⊎◌, Bool, true, false, not, cond, List, [], ◌∷◌, ◌++◌, Option, Some, None, refl, sym, subst, inl, inr}
 use Rattle.std.specs.declared.net.socket_addr.SocketAddr.{SocketAddr}
 use Rattle.turn_types.specs.Frames.{begins_message}
-use Rattle.turn_client_api.specs.State.{State, Mode, Control, Waiting, Bound, Broken, Stream}
+use Rattle.turn_client_api.specs.State.{State}
+use Rattle.turn_client_api.specs.declared.state.Mode.{Mode}
+use Rattle.turn_client_api.specs.declared.state.Mode.TheVariants.{Control, Waiting, Bound, Broken}
+use Rattle.turn_client_api.specs.declared.state.Stream.{Stream}
 use Rattle.turn_client_api.specs.Effect.{closed}
 use Rattle.turn_client_api.specs.Connections.{bind_step}
 use Rattle.turn_client_api.specs.Payloads.{Outcome, Handled, Ignored, channel_sent, is_channel_frame, is_message, message_step}
 use Rattle.turn_client_api.specs.Receive.{connection_gone}
 use Rattle.turn_client_api.specs.Streams.{without_stream}
 use Rattle.turn_client_laws.specs.Handled.{Input, handled, processed}
-use Rattle.turn_client_api.specs.Steps.{Call, EndsWithoutMemory, Leaves, state_after, Delete, CreatePermission, BindChannel, TcpConnect, AllocatedTcpSocket, TcpClosed, SendTo, Recv, PollRecv, Poll, PollTransmit, PollEvent, RelayedAddresses, Permissions, HavePermission, ProtocolError}
+use Rattle.turn_client_api.specs.Steps.{EndsWithoutMemory, Leaves, state_after}
+use Rattle.turn_client_api.specs.declared.call.Call.{Call}
+use Rattle.turn_client_api.specs.declared.call.Call.TheVariants.{Delete, CreatePermission, BindChannel, TcpConnect, AllocatedTcpSocket, TcpClosed, SendTo, Recv, PollRecv, Poll}
+use Rattle.turn_client_api.specs.declared.call.Call.TheVariants.{PollTransmit, PollEvent, RelayedAddresses, Permissions, HavePermission, ProtocolError}
 use Rattle.turn_client_laws.specs.LawsHandled.{DiffersInStreams, ProcessesInputs, EndsAmidInputs, IsDoneBy, IsOverControl, TakesInput, InputsLead}
 use Rattle.turn_client_laws.proofs.HasLemmas.{Has, has-left}
 use Rattle.turn_client_laws.proofs.StandLemmas.{has-contains}
@@ -22,7 +28,8 @@ use Rattle.turn_client_laws.proofs.TurnEndLemmas.{calls-end}
 pub record IsBrought (P : State → Type 0) (Did : Input → Type 0) : Type 0 where
   pub differs : (s t : State) → DiffersInStreams s t → P t → P s
   pub message : (one : Input) → IsOverControl one → is_message one.bytes ≡ true → P (message_step one.bytes one.moment one.before).1 → P one.before ⊎ Did one
-  pub binds : (one : Input) (stream : Stream) → one.stream ≡ Some stream → stream.mode ≡ Waiting → is_message one.bytes ≡ true → P (bind_step stream.local one.bytes one.moment one.before) → P one.before ⊎ Did one
+  pub binds : (one : Input) (stream : Stream) → one.stream ≡ Some stream → stream.mode ≡ Waiting → is_message one.bytes ≡ true → P (bind_step stream.local one.bytes one.moment one.before)
+      → P one.before ⊎ Did one
   pub gone : (local : SocketAddr) (s : State) → P (connection_gone local s) → P s
   pub ended : (s : State) → P (closed s) → P s
 
@@ -36,7 +43,8 @@ module _ (P : State → Type 0) (Did : Input → Type 0) (k : IsBrought P Did) w
   datagram-brings : (one : Input) → one.stream ≡ None → P (processed (record one { stream = None })).1 → Brings one
   datagram-brings one of = by (is_message one.bytes) refl (is_channel_frame one.bytes)
     where
-      by : (b : Bool) → is_message one.bytes ≡ b → (c : Bool) → P (cond {A = Outcome × State} b (message_step one.bytes one.moment one.before) (cond {A = Outcome × State} c (channel_sent one.before one.bytes, one.before) (Ignored, one.before))).1 → Brings one
+      by : (b : Bool) → is_message one.bytes ≡ b → (c : Bool) → P (cond {A = Outcome × State} b (message_step one.bytes one.moment one.before)
+          (cond {A = Outcome × State} c (channel_sent one.before one.bytes, one.before) (Ignored, one.before))).1 → Brings one
       by true e c h = k.message one (rw of tt) e h
       by false e true h = inl h
       by false e false h = inl h
@@ -44,7 +52,8 @@ module _ (P : State → Type 0) (Did : Input → Type 0) (k : IsBrought P Did) w
   control-brings : (one : Input) (stream : Stream) → one.stream ≡ Some stream → stream.mode ≡ Control → P (processed (record one { stream = Some (record stream { mode = Control }) })).1 → Brings one
   control-brings one stream of mode = by (not (begins_message one.bytes)) (is_message one.bytes) refl
     where
-      by : (b c : Bool) → is_message one.bytes ≡ c → P (cond {A = Outcome × State} b (channel_sent one.before one.bytes, one.before) (cond {A = Outcome × State} c (message_step one.bytes one.moment one.before) (Handled, one.before))).1 → Brings one
+      by : (b c : Bool) → is_message one.bytes ≡ c → P (cond {A = Outcome × State} b (channel_sent one.before one.bytes, one.before)
+          (cond {A = Outcome × State} c (message_step one.bytes one.moment one.before) (Handled, one.before))).1 → Brings one
       by true c e h = inl h
       by false true e h = k.message one (rw of mode) e h
       by false false e h = inl h
@@ -52,7 +61,8 @@ module _ (P : State → Type 0) (Did : Input → Type 0) (k : IsBrought P Did) w
   waiting-brings : (one : Input) (stream : Stream) → one.stream ≡ Some stream → stream.mode ≡ Waiting → P (processed (record one { stream = Some (record stream { mode = Waiting }) })).1 → Brings one
   waiting-brings one stream of mode = by (not (begins_message one.bytes)) (is_message one.bytes) refl
     where
-      by : (b c : Bool) → is_message one.bytes ≡ c → P (cond {A = Outcome × State} b (Ignored, one.before) (cond {A = Outcome × State} c (Handled, bind_step stream.local one.bytes one.moment one.before) (Handled, one.before))).1 → Brings one
+      by : (b c : Bool) → is_message one.bytes ≡ c → P (cond {A = Outcome × State} b (Ignored, one.before)
+          (cond {A = Outcome × State} c (Handled, bind_step stream.local one.bytes one.moment one.before) (Handled, one.before))).1 → Brings one
       by true c e h = inl h
       by false true e h = k.binds one stream of mode e h
       by false false e h = inl h

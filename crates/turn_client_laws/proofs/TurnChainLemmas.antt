@@ -7,12 +7,20 @@ use Rattle.turn_stun.specs.declared.transport.TransportType.TheVariants.{Udp, Tc
 use Rattle.turn_stun.specs.declared.transport.Transmit.{Transmit}
 use Rattle.turn_types.specs.Frames.{begins_no_frame, frame_len}
 use Rattle.turn_agent.specs.Agent.{same_address}
-use Rattle.turn_client_api.specs.State.{State, Mode, Control, Waiting, Bound, Broken, Stream}
+use Rattle.turn_client_api.specs.State.{State}
+use Rattle.turn_client_api.specs.declared.state.Mode.{Mode}
+use Rattle.turn_client_api.specs.declared.state.Mode.TheVariants.{Control, Waiting, Bound, Broken}
+use Rattle.turn_client_api.specs.declared.state.Stream.{Stream}
 use Rattle.turn_client_api.specs.Payloads.{Payload, Outcome, Handled, Ignored, PeerData, PeerIcmp, datagram_step}
-use Rattle.turn_client_api.specs.Streams.{broken_at, framed_by, framed_stream_step, go_on, is_ready, max_steps, payload_in, poll_recv_step, stream_at, next_frame_step, first_ready_step, detached_frame_step, steps_until_payload, with_bytes, without_stream}
+use Rattle.turn_client_api.specs.Streams.{broken_at, framed_by, framed_stream_step, go_on, is_ready, max_steps, payload_in, poll_recv_step, stream_at, next_frame_step, first_ready_step}
+use Rattle.turn_client_api.specs.Streams.{detached_frame_step, steps_until_payload, with_bytes, without_stream}
 use Rattle.turn_client_api.specs.Receive.{connection_gone, first_frame_step, is_from_server, piece_step, recv_step, stream_step, then_all}
-use Rattle.turn_client_laws.specs.Handled.{Input, stream_with_piece, fed_taken, frame_taken, handled, is_front, processed, piece_inputs, poll_recv_inputs, recv_inputs, stream_inputs, stream_inputs_taken, taken_first, taken_in, taken_of_len, then_taken, stream_input, inputs_taken, unless_given}
-use Rattle.turn_client_api.specs.Steps.{Call, packet_step, Delete, CreatePermission, BindChannel, TcpConnect, AllocatedTcpSocket, TcpClosed, SendTo, Recv, PollRecv, Poll, PollTransmit, PollEvent, RelayedAddresses, Permissions, HavePermission, ProtocolError}
+use Rattle.turn_client_laws.specs.Handled.{Input, stream_with_piece, fed_taken, frame_taken, handled, is_front, processed, piece_inputs, poll_recv_inputs, recv_inputs, stream_inputs}
+use Rattle.turn_client_laws.specs.Handled.{stream_inputs_taken, taken_first, taken_in, taken_of_len, then_taken, stream_input, inputs_taken, unless_given}
+use Rattle.turn_client_api.specs.Steps.{packet_step}
+use Rattle.turn_client_api.specs.declared.call.Call.{Call}
+use Rattle.turn_client_api.specs.declared.call.Call.TheVariants.{Delete, CreatePermission, BindChannel, TcpConnect, AllocatedTcpSocket, TcpClosed, SendTo, Recv, PollRecv, Poll, PollTransmit, PollEvent}
+use Rattle.turn_client_api.specs.declared.call.Call.TheVariants.{RelayedAddresses, Permissions, HavePermission, ProtocolError}
 use Rattle.turn_client_laws.specs.LawsHandled.{DiffersInStreams, ProcessesInputs, IsBoundAt, TakesInput, InputsLead}
 use Rattle.turn_client_laws.proofs.HasLemmas.{Has, has-filter}
 use Rattle.turn_client_laws.proofs.GrantOriginLemmas.{has-mapped}
@@ -21,7 +29,8 @@ use Rattle.turn_client_laws.proofs.StandLemmas.{contains-has, has-contains}
 -- ---- streams
 
 -- what each bound stream was before
-bound-mapped : (f : Stream → Stream) → ((x : Stream) (peer : SocketAddr) → (f x).mode ≡ Bound peer → ((f x).local ≡ x.local) × (x.mode ≡ Bound peer)) → (s : State) (local peer : SocketAddr) → IsBoundAt local peer (record s { streams = map f s.streams }) → IsBoundAt local peer s
+bound-mapped : (f : Stream → Stream) → ((x : Stream) (peer : SocketAddr) → (f x).mode ≡ Bound peer → ((f x).local ≡ x.local) × (x.mode ≡ Bound peer)) → (s : State) (local peer : SocketAddr)
+    → IsBoundAt local peer (record s { streams = map f s.streams }) → IsBoundAt local peer s
 bound-mapped f keeps s local peer (x, there, at, mode) = by (has-mapped f x s.streams (contains-has x (map f s.streams) there))
   where
     by : (z : Stream) × Has z s.streams × (x ≡ f z) → IsBoundAt local peer s
@@ -54,7 +63,8 @@ broken-differs a s = record { others = refl; bound = bound-mapped f (λ x peer. 
     f : Stream → Stream
     f x = cond (same_address x.local a) (record x { mode = Broken; bytes = [] }) x
 
-    by : (b : Bool) (x : Stream) (peer : SocketAddr) → (cond b (record x { mode = Broken; bytes = [] }) x).mode ≡ Bound peer → ((cond b (record x { mode = Broken; bytes = [] }) x).local ≡ x.local) × (x.mode ≡ Bound peer)
+    by : (b : Bool) (x : Stream) (peer : SocketAddr) → (cond b (record x { mode = Broken; bytes = [] }) x).mode ≡ Bound peer → ((cond b (record x { mode = Broken; bytes = [] }) x).local ≡ x.local)
+        × (x.mode ≡ Bound peer)
     by true x peer e = cc
     by false x peer e = (refl, e)
 
@@ -107,7 +117,8 @@ turn-leads l stream now s =
 
 -- ---- all streams
 
-go_on-leads : (next : State → Option Payload × State) (later : State → List Input) (front : List Input) (s : State) (p : Outcome × State) → InputsLead front s p.1 → ((t : State) → InputsLead (later t) t (next t).1) → InputsLead (front ++ unless_given (payload_in p.0) (later p.1)) s (go_on next p).1
+go_on-leads : (next : State → Option Payload × State) (later : State → List Input) (front : List Input) (s : State) (p : Outcome × State) → InputsLead front s p.1
+    → ((t : State) → InputsLead (later t) t (next t).1) → InputsLead (front ++ unless_given (payload_in p.0) (later p.1)) s (go_on next p).1
 go_on-leads next later front s (PeerData payload, t) first more = leads-append front [] s t t first (differs-same t)
 go_on-leads next later front s (Handled, t) first more = leads-append front (later t) s t (next t).1 first (more t)
 go_on-leads next later front s (Ignored, t) first more = leads-append front (later t) s t (next t).1 first (more t)
@@ -118,7 +129,8 @@ unfolding steps_until_payload inputs_taken
 turns-lead zero now s = differs-same s
 turns-lead (suc n) now s = by (find is_ready s.streams) (λ t. turns-lead n now t)
   where
-    by : (o : Option Stream) → ((t : State) → InputsLead (inputs_taken n now t) t (steps_until_payload n now t).1) → InputsLead (taken_first (inputs_taken n now) now s o) s (first_ready_step (steps_until_payload n now) now s o).1
+    by : (o : Option Stream) → ((t : State) → InputsLead (inputs_taken n now t) t (steps_until_payload n now t).1)
+        → InputsLead (taken_first (inputs_taken n now) now s o) s (first_ready_step (steps_until_payload n now) now s o).1
     by None more = differs-same s
     by (Some stream) more = go_on-leads (steps_until_payload n now) (inputs_taken n now) (stream_inputs_taken false stream now s) s (next_frame_step stream now s) (turn-leads false stream now s) more
 
@@ -136,7 +148,8 @@ then_all-leads now front s (Ignored, t) first = leads-append front (poll_recv_in
 pub fed-leads : (stream : Stream) (piece : List ℕ) (now : ℕ) (s : State) → InputsLead (fed_taken stream piece now s) s (first_frame_step stream piece now s).1
 fed-leads stream piece now s = turn-leads (is_front stream.bytes) (stream_with_piece stream piece) now s
 
-piece_in_mode : (m : Mode) (stream : Stream) (piece : List ℕ) (now : ℕ) (s : State) → InputsLead (piece_inputs (record stream { mode = m }) piece now s) s (piece_step (record stream { mode = m }) piece now s).1
+piece_in_mode : (m : Mode) (stream : Stream) (piece : List ℕ) (now : ℕ) (s : State)
+    → InputsLead (piece_inputs (record stream { mode = m }) piece now s) s (piece_step (record stream { mode = m }) piece now s).1
 piece_in_mode Control stream piece now s =
     let u = record stream { mode = Control } in
     then_all-leads now (fed_taken u piece now s) s (first_frame_step u piece now s) (fed-leads u piece now s)
@@ -158,7 +171,8 @@ stream-does : (stream : Stream) (piece : List ℕ) (now : ℕ) (s : State) → D
 stream-does stream [] now s = inr (stream.local, refl, refl)
 stream-does stream (b ∷ bs) now s = inl (piece_in_mode stream.mode stream (b ∷ bs) now s)
 
-recv_over : (carrier : TransportType) (transport : TransportType) (from to : SocketAddr) (bytes : List ℕ) (now : ℕ) (s : State) → Does (recv_inputs transport from to bytes now (record s { transport = carrier })) (record s { transport = carrier }) (recv_step transport from to bytes now (record s { transport = carrier })).1
+recv_over : (carrier : TransportType) (transport : TransportType) (from to : SocketAddr) (bytes : List ℕ) (now : ℕ) (s : State)
+    → Does (recv_inputs transport from to bytes now (record s { transport = carrier })) (record s { transport = carrier }) (recv_step transport from to bytes now (record s { transport = carrier })).1
 recv_over Udp transport from to bytes now s = by (is_from_server transport from u) (same_address to s.local)
   where
     u : State

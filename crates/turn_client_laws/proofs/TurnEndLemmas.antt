@@ -6,14 +6,21 @@ use Rattle.std.specs.declared.net.socket_addr.SocketAddr.{SocketAddr}
 use Rattle.turn_stun.specs.declared.transport.TransportType.{TransportType}
 use Rattle.turn_stun.specs.declared.transport.TransportType.TheVariants.{Udp, Tcp}
 use Rattle.turn_agent.specs.Agent.{same_address}
-use Rattle.turn_client_api.specs.State.{State, Mode, Control, Waiting, Bound, Broken, Stream}
+use Rattle.turn_client_api.specs.State.{State}
+use Rattle.turn_client_api.specs.declared.state.Mode.{Mode}
+use Rattle.turn_client_api.specs.declared.state.Mode.TheVariants.{Control, Waiting, Bound, Broken}
+use Rattle.turn_client_api.specs.declared.state.Stream.{Stream}
 use Rattle.turn_client_api.specs.Answers.{EndsAfterSteps, RecvEnds, before_others, takes_no_memory}
 use Rattle.turn_client_api.specs.Effect.{closed}
 use Rattle.turn_client_api.specs.Payloads.{Payload, Outcome, Handled, Ignored, PeerData, PeerIcmp}
 use Rattle.turn_client_api.specs.Streams.{broken_at, is_ready, max_steps, payload_in, stream_at, next_frame_step}
 use Rattle.turn_client_api.specs.Receive.{first_frame_step, is_from_server}
-use Rattle.turn_client_laws.specs.Handled.{Input, fed_taken, handled, piece_inputs, poll_recv_inputs, recv_inputs, stream_inputs, stream_inputs_taken, taken_first, then_taken, inputs_taken, unless_given}
-use Rattle.turn_client_api.specs.Steps.{Call, EndsWithoutMemory, Delete, CreatePermission, BindChannel, TcpConnect, AllocatedTcpSocket, TcpClosed, SendTo, Recv, PollRecv, Poll, PollTransmit, PollEvent, RelayedAddresses, Permissions, HavePermission, ProtocolError}
+use Rattle.turn_client_laws.specs.Handled.{Input, fed_taken, handled, piece_inputs, poll_recv_inputs, recv_inputs, stream_inputs, stream_inputs_taken, taken_first, then_taken, inputs_taken}
+use Rattle.turn_client_laws.specs.Handled.{unless_given}
+use Rattle.turn_client_api.specs.Steps.{EndsWithoutMemory}
+use Rattle.turn_client_api.specs.declared.call.Call.{Call}
+use Rattle.turn_client_api.specs.declared.call.Call.TheVariants.{Delete, CreatePermission, BindChannel, TcpConnect, AllocatedTcpSocket, TcpClosed, SendTo, Recv, PollRecv, Poll, PollTransmit}
+use Rattle.turn_client_api.specs.declared.call.Call.TheVariants.{PollEvent, RelayedAddresses, Permissions, HavePermission, ProtocolError}
 use Rattle.turn_client_laws.specs.LawsHandled.{EndsAmidInputs, TakesInput, InputsLead}
 use Rattle.turn_client_laws.proofs.StreamDrainLemmas.{turn-lighter}
 use Rattle.turn_client_laws.proofs.MemoryLemmas.{behind}
@@ -86,7 +93,8 @@ control-end now first s t (PeerIcmp transport peer icmp, u) lead end = absurd en
 control-end now first s t (Handled, u) lead end = ends-append first (poll_recv_inputs now u) s t u lead (turns-end now u t end)
 control-end now first s t (Ignored, u) lead end = ends-append first (poll_recv_inputs now u) s t u lead (turns-end now u t end)
 
-piece_in_mode : (to : SocketAddr) (m : Mode) (stream : Stream) (piece : List ℕ) (now : ℕ) (s t : State) → stream_at to s ≡ Some (record stream { mode = m }) → EndsFrom now t (before_others to piece now s) → Ends (piece_inputs (record stream { mode = m }) piece now s) s t
+piece_in_mode : (to : SocketAddr) (m : Mode) (stream : Stream) (piece : List ℕ) (now : ℕ) (s t : State) → stream_at to s ≡ Some (record stream { mode = m })
+    → EndsFrom now t (before_others to piece now s) → Ends (piece_inputs (record stream { mode = m }) piece now s) s t
 unfolding behind
 piece_in_mode to Control stream piece now s t f end =
     let u = record stream { mode = Control } in
@@ -99,7 +107,8 @@ piece_in_mode to Broken stream piece now s t f end = by (same_address stream.loc
     by true h = turns-end now s t h
     by false h = absurd h
 
-stream-end : (to : SocketAddr) (stream : Stream) (piece : List ℕ) (now : ℕ) (s t : State) → piece ≢ [] → stream_at to s ≡ Some stream → EndsFrom now t (before_others to piece now s) → Ends (stream_inputs stream piece now s) s t
+stream-end : (to : SocketAddr) (stream : Stream) (piece : List ℕ) (now : ℕ) (s t : State) → piece ≢ [] → stream_at to s ≡ Some stream → EndsFrom now t (before_others to piece now s)
+    → Ends (stream_inputs stream piece now s) s t
 stream-end to stream [] now s t some f end = absurd (some refl)
 stream-end to stream (b ∷ bs) now s t some f end = piece_in_mode to stream.mode stream (b ∷ bs) now s t f end
 
@@ -111,7 +120,9 @@ broken-end all to s t e = ([], (all, refl), (broken_at to s, broken-differs to s
 no_stream : (to : SocketAddr) (piece : List ℕ) (now : ℕ) (s t : State) → stream_at to s ≡ None → EndsFrom now t (before_others to piece now s) → ⊥
 no_stream to piece now s t f end = rw f at end
 
-recv_over : (carrier : TransportType) (transport : TransportType) (from to : SocketAddr) (piece : List ℕ) (now : ℕ) (s t : State) → takes_no_memory transport from to piece (record s { transport = carrier }) ≡ false → RecvEnds to piece now (record s { transport = carrier }) t → Ends (recv_inputs transport from to piece now (record s { transport = carrier })) (record s { transport = carrier }) t
+recv_over : (carrier : TransportType) (transport : TransportType) (from to : SocketAddr) (piece : List ℕ) (now : ℕ) (s t : State)
+    → takes_no_memory transport from to piece (record s { transport = carrier }) ≡ false → RecvEnds to piece now (record s { transport = carrier }) t
+    → Ends (recv_inputs transport from to piece now (record s { transport = carrier })) (record s { transport = carrier }) t
 recv_over carrier transport from to piece now s t asks (inl e) = broken-end _ to (record s { transport = carrier }) t e
 recv_over Udp transport from to piece now s t asks (inr (over, some, end)) = cc
 recv_over Tcp transport from to piece now s t asks (inr (over, some, end)) = by (is_from_server transport from u) refl (stream_at to s) refl

@@ -4,7 +4,10 @@ use Rattle.std.proofs.lemmas.List.{append-nil, take-append-drop}
 use Rattle.std.specs.declared.net.socket_addr.SocketAddr.{SocketAddr}
 use Rattle.turn_types.specs.Frames.{begins_no_frame, frame_len}
 use Rattle.turn_agent.specs.Agent.{same_address}
-use Rattle.turn_client_api.specs.State.{State, Mode, Control, Waiting, Bound, Broken, Stream}
+use Rattle.turn_client_api.specs.State.{State}
+use Rattle.turn_client_api.specs.declared.state.Mode.{Mode}
+use Rattle.turn_client_api.specs.declared.state.Mode.TheVariants.{Control, Waiting, Bound, Broken}
+use Rattle.turn_client_api.specs.declared.state.Stream.{Stream}
 use Rattle.turn_client_api.specs.Payloads.{Outcome, Handled}
 use Rattle.turn_client_api.specs.Streams.{broken_at, framed_by, framed_stream_step, next_frame_step, with_bytes}
 use Rattle.turn_client_laws.specs.Handled.{frame_taken, stream_inputs_taken, taken_of_len}
@@ -43,13 +46,15 @@ broken-all a first (x ∷ xs) = rw (broken-once a first x, broken-all a first xs
 emptied-broken : (a : SocketAddr) (s : State) → broken_at a (with_bytes a [] s) ≡ broken_at a s
 emptied-broken a s = ap (λ (x : List Stream). record s { streams = x }) (broken-all a [] s.streams)
 
-framed-IsInputOf : (stream : Stream) (now : ℕ) (s : State) → IsInputOf stream now s (frame_taken false stream now (with_bytes stream.local [] s)) (framed_stream_step stream now (with_bytes stream.local [] s))
+framed-IsInputOf : (stream : Stream) (now : ℕ) (s : State) → IsInputOf stream now s (frame_taken false stream now (with_bytes stream.local [] s))
+    (framed_stream_step stream now (with_bytes stream.local [] s))
 framed-IsInputOf stream now s = by (begins_no_frame stream.bytes) (frame_len stream.bytes)
   where
     t : State
     t = with_bytes stream.local [] s
 
-    by : (b : Bool) (o : Option ℕ) → IsInputOf stream now s (cond b [] (taken_of_len false stream now t o)) (cond {A = Outcome × State} b (Handled, broken_at stream.local t) (framed_by stream now t o))
+    by : (b : Bool) (o : Option ℕ) → IsInputOf stream now s (cond b [] (taken_of_len false stream now t o))
+        (cond {A = Outcome × State} b (Handled, broken_at stream.local t) (framed_by stream now t o))
     by true o = inl (ap (λ (x : State). (Handled, x)) (emptied-broken stream.local s))
     by false None = inr (inl (ap (λ (x : State). (Handled, x)) (bytes-twice stream.local [] stream.bytes s)))
     by false (Some len) = record {
@@ -62,7 +67,8 @@ framed-IsInputOf stream now s = by (begins_no_frame stream.bytes) (frame_len str
       after = refl;
     }
 
-turn_in_mode : (m : Mode) (stream : Stream) (now : ℕ) (s : State) → IsInputOf (record stream { mode = m }) now s (stream_inputs_taken false (record stream { mode = m }) now s) (next_frame_step (record stream { mode = m }) now s)
+turn_in_mode : (m : Mode) (stream : Stream) (now : ℕ) (s : State) → IsInputOf (record stream { mode = m }) now s (stream_inputs_taken false (record stream { mode = m }) now s)
+    (next_frame_step (record stream { mode = m }) now s)
 turn_in_mode Control stream now s = framed-IsInputOf (record stream { mode = Control }) now s
 turn_in_mode Waiting stream now s = framed-IsInputOf (record stream { mode = Waiting }) now s
 turn_in_mode (Bound peer) stream now s = record {

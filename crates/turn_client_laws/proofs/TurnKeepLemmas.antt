@@ -1,9 +1,13 @@
 -- What messages keep, the inputs of a call keep, up to each of them.
 use Rattle.std.proofs.Common.{List, [], ◌∷◌, Option, Some, None, inl, inr, sym, subst}
 use Rattle.std.specs.List.{Contains}
-use Rattle.turn_client_api.specs.State.{State, Stream}
+use Rattle.turn_client_api.specs.State.{State}
+use Rattle.turn_client_api.specs.declared.state.Stream.{Stream}
 use Rattle.turn_client_laws.specs.Handled.{Input, handled, processed}
-use Rattle.turn_client_api.specs.Steps.{Call, state_after, Delete, CreatePermission, BindChannel, TcpConnect, AllocatedTcpSocket, TcpClosed, SendTo, Recv, PollRecv, Poll, PollTransmit, PollEvent, RelayedAddresses, Permissions, HavePermission, ProtocolError}
+use Rattle.turn_client_api.specs.Steps.{state_after}
+use Rattle.turn_client_api.specs.declared.call.Call.{Call}
+use Rattle.turn_client_api.specs.declared.call.Call.TheVariants.{Delete, CreatePermission, BindChannel, TcpConnect, AllocatedTcpSocket, TcpClosed, SendTo, Recv, PollRecv, Poll, PollTransmit, PollEvent}
+use Rattle.turn_client_api.specs.declared.call.Call.TheVariants.{RelayedAddresses, Permissions, HavePermission, ProtocolError}
 use Rattle.turn_client_laws.specs.LawsHandled.{DiffersInStreams, ProcessesInputs, InputsLead}
 use Rattle.turn_client_laws.proofs.HasLemmas.{Has}
 use Rattle.turn_client_laws.proofs.RunKeepLemmas.{IsKept, datagram-kept, frame-kept}

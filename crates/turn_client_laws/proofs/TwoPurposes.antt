@@ -12,7 +12,12 @@ use Rattle.turn_types.specs.declared.family.AddressFamily.{AddressFamily}
 use Rattle.turn_types.specs.declared.family.AddressFamily.TheVariants.{IPV4, IPV6}
 use Rattle.turn_agent.specs.Agent.{is_outstanding}
 use Rattle.turn_client_api.specs.Config.{Config}
-use Rattle.turn_client_api.specs.State.{State, initial, Phase, New, Allocated, Purpose, ForAllocation, ForRefresh, ForPermission, ForChannel, ForConnect, ForBind, Listing}
+use Rattle.turn_client_api.specs.State.{State, initial}
+use Rattle.turn_client_api.specs.declared.state.Phase.{Phase}
+use Rattle.turn_client_api.specs.declared.state.Phase.TheVariants.{New, Allocated}
+use Rattle.turn_client_api.specs.declared.grant.Purpose.{Purpose}
+use Rattle.turn_client_api.specs.declared.grant.Purpose.TheVariants.{ForAllocation, ForRefresh, ForPermission, ForChannel, ForConnect, ForBind}
+use Rattle.turn_client_api.specs.declared.grant.Listing.{Listing}
 use Rattle.turn_client_api.specs.Grants.{allocations, is_for_allocation, is_of_request, purposes_of}
 use Rattle.turn_client_api.specs.Requests.{fresh_id}
 use Rattle.turn_client_api.specs.Effect.{closed}
@@ -22,7 +27,10 @@ use Rattle.turn_client_api.specs.Receive.{connection_gone}
 use Rattle.turn_client_api.specs.Streams.{without_stream}
 use Rattle.turn_client_laws.specs.Handled.{Input, handled, processed}
 use Rattle.turn_client_api.specs.declared.poll.Socket5Tuple.{Socket5Tuple}
-use Rattle.turn_client_api.specs.Steps.{Call, EndsWithoutMemory, Leaves, state_after, Delete, CreatePermission, BindChannel, TcpConnect, AllocatedTcpSocket, TcpClosed, SendTo, Recv, PollRecv, Poll, PollTransmit, PollEvent, RelayedAddresses, Permissions, HavePermission, ProtocolError}
+use Rattle.turn_client_api.specs.Steps.{EndsWithoutMemory, Leaves, state_after}
+use Rattle.turn_client_api.specs.declared.call.Call.{Call}
+use Rattle.turn_client_api.specs.declared.call.Call.TheVariants.{Delete, CreatePermission, BindChannel, TcpConnect, AllocatedTcpSocket, TcpClosed, SendTo, Recv, PollRecv, Poll}
+use Rattle.turn_client_api.specs.declared.call.Call.TheVariants.{PollTransmit, PollEvent, RelayedAddresses, Permissions, HavePermission, ProtocolError}
 use Rattle.turn_client_laws.specs.LawsHandled.{DiffersInStreams, ProcessesInputs, EndsAmidInputs, InputsLead}
 use Rattle.turn_client_laws.specs.LawsPurposes.{HasTwoPurposes}
 use Rattle.turn_client_laws.specs.LawsRequests.{AsksFor, IsListedAgain, IsListedAs, IsListedFor}
@@ -48,7 +56,8 @@ abbrev AllAmongTwo : State → Type 0
 AllAmongTwo s = (id : ℕ) → AmongTwo id s.listed
 
 with-purpose : (id : ℕ) (p : Purpose) (s : State) → Has (listing id p) s.listed → Has p (purposes_of id s)
-with-purpose id p s there = map-has (λ (l : Listing). l.purpose) (listing id p) (filter (λ (l : Listing). eqb l.id id) s.listed) (filter-has (λ (l : Listing). eqb l.id id) (listing id p) s.listed there (eq-eqb id id refl))
+with-purpose id p s there = map-has (λ (l : Listing). l.purpose) (listing id p) (filter (λ (l : Listing). eqb l.id id) s.listed)
+    (filter-has (λ (l : Listing). eqb l.id id) (listing id p) s.listed there (eq-eqb id id refl))
 
 is-listing : (l : Listing) (id : ℕ) (p : Purpose) → p ≡ l.purpose → l.id ≡ id → l ≡ listing id p
 is-listing l id p e f = rw (e, sym f) refl
@@ -71,7 +80,8 @@ stated-two s h id = let (one, other, all) = h id in (one, other, λ p there. all
 fresh-unlisted : (s : State) → (p : Purpose) → Has (listing (fresh_id s) p) s.listed → ⊥
 fresh-unlisted s p there =
     let free = or_parts (is_outstanding (fresh_id s) s.transactions) _ (fresh-free s) in
-    let none : list_any (λ (l : Listing). eqb l.id (fresh_id s)) s.listed ≡ false = (or_parts (list_any (λ (l : Listing). eqb l.id (fresh_id s)) s.listed) (list_any (is_of_request (fresh_id s)) s.grants) free.1).0 in
+    let none : list_any (λ (l : Listing). eqb l.id (fresh_id s)) s.listed ≡ false =
+    (or_parts (list_any (λ (l : Listing). eqb l.id (fresh_id s)) s.listed) (list_any (is_of_request (fresh_id s)) s.grants) free.1).0 in
     let some = has-any (λ (l : Listing). eqb l.id (fresh_id s)) (listing (fresh_id s) p) s.listed there (eq-eqb (fresh_id s) (fresh_id s) refl) in
     let no : true ≡ false = sym some ∙ none in
     cc
@@ -89,7 +99,8 @@ two-more Came s t new came h id = by (eqb id (fresh_id s)) refl
         of one other all p (inr (is, made)) = all p made
     by false e = let (one, other, all) = h id in (one, other, λ p there. of one other all p (came (listing id p) there))
       where
-        of : (one other : Purpose) → ((p : Purpose) → Has (listing id p) s.listed → (p ≡ one) ⊎ (p ≡ other)) → (p : Purpose) → Has (listing id p) s.listed ⊎ ((id ≡ fresh_id s) × Came p) → (p ≡ one) ⊎ (p ≡ other)
+        of : (one other : Purpose) → ((p : Purpose) → Has (listing id p) s.listed → (p ≡ one) ⊎ (p ≡ other)) → (p : Purpose) → Has (listing id p) s.listed ⊎ ((id ≡ fresh_id s) × Came p) → (p ≡ one)
+            ⊎ (p ≡ other)
         of one other all p (inl old) = all p old
         of one other all p (inr (is, made)) = let no : false ≡ true = sym e ∙ eq-eqb id (fresh_id s) is in cc
 
@@ -209,7 +220,8 @@ none-two Came none = (ForAllocation, ForAllocation, λ p came. absurd (none p ca
 -- ---- calls that process no input
 
 module _ (call : Call) (s : State) where
-  quiet-two : OfTwo (Lists call s) → ((l : Listing) → Contains (state_after call s).listed l → Contains s.listed l ⊎ (Lists call s l.purpose × (l.id ≡ fresh_id s))) → AllAmongTwo s → AllAmongTwo (state_after call s)
+  quiet-two : OfTwo (Lists call s) → ((l : Listing) → Contains (state_after call s).listed l → Contains s.listed l ⊎ (Lists call s l.purpose × (l.id ≡ fresh_id s))) → AllAmongTwo s
+      → AllAmongTwo (state_after call s)
   quiet-two of_two came = two-more (Lists call s) s (state_after call s) of_two (λ l there. by l (came l (has-contains l (state_after call s).listed there)))
     where
       by : (l : Listing) → Contains s.listed l ⊎ (Lists call s l.purpose × (l.id ≡ fresh_id s)) → Has l s.listed ⊎ ((l.id ≡ fresh_id s) × Lists call s l.purpose)
@@ -238,7 +250,8 @@ turn-two : (one : Input) → AllAmongTwo one.before → AllAmongTwo (processed o
 turn-two one h =
     two-more (λ p. Has (listing (id_of one.bytes) p) one.before.listed) one.before (processed one).1 (h (id_of one.bytes)) (λ l there. by l ((turn-turns one).1 l there)) h
   where
-    by : (l : Listing) → Has l one.before.listed ⊎ IsListedAgain one.bytes one.moment one.before (processed one).1 l → Has l one.before.listed ⊎ ((l.id ≡ fresh_id one.before) × Has (listing (id_of one.bytes) l.purpose) one.before.listed)
+    by : (l : Listing) → Has l one.before.listed ⊎ IsListedAgain one.bytes one.moment one.before (processed one).1 l → Has l one.before.listed
+        ⊎ ((l.id ≡ fresh_id one.before) × Has (listing (id_of one.bytes) l.purpose) one.before.listed)
     by l (inl old) = inl old
     by l (inr (purpose, asked, answers, (made, is))) = inr (is, purpose-with (id_of one.bytes) l.purpose one.before (contains-has l.purpose (purposes_of (id_of one.bytes) one.before) answers))
 
@@ -275,13 +288,18 @@ call-two : (call : Call) (s : State) → AllAmongTwo s → AllAmongTwo (state_af
 call-two (Recv packet now) s h = turns-two (Recv packet now) s (calls-do (Recv packet now) s tt) h
 call-two (PollRecv now) s h = turns-two (PollRecv now) s (calls-do (PollRecv now) s tt) h
 call-two (Delete now) s h = here-two (Delete now) s (delete-two now s) (λ l. listings-made (Delete now) s (state_after (Delete now) s) l (inl refl)) h
-call-two (CreatePermission transport ip now) s h = here-two (CreatePermission transport ip now) s (permission-two transport ip now s) (λ l. listings-made (CreatePermission transport ip now) s (state_after (CreatePermission transport ip now) s) l (inl refl)) h
-call-two (BindChannel transport peer now) s h = here-two (BindChannel transport peer now) s (channel-two transport peer now s) (λ l. listings-made (BindChannel transport peer now) s (state_after (BindChannel transport peer now) s) l (inl refl)) h
+call-two (CreatePermission transport ip now) s h = here-two (CreatePermission transport ip now) s (permission-two transport ip now s)
+    (λ l. listings-made (CreatePermission transport ip now) s (state_after (CreatePermission transport ip now) s) l (inl refl)) h
+call-two (BindChannel transport peer now) s h = here-two (BindChannel transport peer now) s (channel-two transport peer now s)
+    (λ l. listings-made (BindChannel transport peer now) s (state_after (BindChannel transport peer now) s) l (inl refl)) h
 call-two (TcpConnect peer now) s h = here-two (TcpConnect peer now) s (connect-two peer now s) (λ l. listings-made (TcpConnect peer now) s (state_after (TcpConnect peer now) s) l (inl refl)) h
-call-two (AllocatedTcpSocket id tuple peer local now) s h = here-two (AllocatedTcpSocket id tuple peer local now) s (socket-two id tuple peer local now s) (λ l. listings-made (AllocatedTcpSocket id tuple peer local now) s (state_after (AllocatedTcpSocket id tuple peer local now) s) l (inl refl)) h
+call-two (AllocatedTcpSocket id tuple peer local now) s h = here-two (AllocatedTcpSocket id tuple peer local now) s (socket-two id tuple peer local now s)
+    (λ l. listings-made (AllocatedTcpSocket id tuple peer local now) s (state_after (AllocatedTcpSocket id tuple peer local now) s) l (inl refl)) h
 call-two (PollTransmit now) s h = here-two (PollTransmit now) s (transmit-two now s) (λ l. listings-made (PollTransmit now) s (state_after (PollTransmit now) s) l (inl refl)) h
-call-two (TcpClosed local remote now) s h = idle-two (TcpClosed local remote now) s (λ p lists. lists.2) (λ l. listings-made (TcpClosed local remote now) s (state_after (TcpClosed local remote now) s) l (inl refl)) h
-call-two (SendTo transport peer bytes now) s h = idle-two (SendTo transport peer bytes now) s (λ p lists. lists.2) (λ l. listings-made (SendTo transport peer bytes now) s (state_after (SendTo transport peer bytes now) s) l (inl refl)) h
+call-two (TcpClosed local remote now) s h = idle-two (TcpClosed local remote now) s (λ p lists. lists.2)
+    (λ l. listings-made (TcpClosed local remote now) s (state_after (TcpClosed local remote now) s) l (inl refl)) h
+call-two (SendTo transport peer bytes now) s h = idle-two (SendTo transport peer bytes now) s (λ p lists. lists.2)
+    (λ l. listings-made (SendTo transport peer bytes now) s (state_after (SendTo transport peer bytes now) s) l (inl refl)) h
 call-two (Poll now) s h = idle-two (Poll now) s (λ p lists. lists.2) (λ l. listings-made (Poll now) s (state_after (Poll now) s) l (inl refl)) h
 call-two PollEvent s h = idle-two PollEvent s (λ p lists. lists.2) (λ l. listings-made PollEvent s (state_after PollEvent s) l (inl refl)) h
 call-two RelayedAddresses s h = h

@@ -4,7 +4,8 @@ use Rattle.std.specs.Prelude.{option_to_list}
 use Rattle.std.specs.Option.{option_map_or}
 use Rattle.std.proofs.Math.Nat.{min-le_right}
 use Rattle.turn_agent.specs.Agent.{transaction_timeout}
-use Rattle.turn_client_api.specs.State.{State, Grant, agent_of, max_time, later_by}
+use Rattle.turn_client_api.specs.State.{State, agent_of, max_time, later_by}
+use Rattle.turn_client_api.specs.declared.grant.Grant.{Grant}
 use Rattle.turn_client_api.specs.Due.{end_of, has_queued_request, least_due, max_wait, pause, pause_end, refresh_of, refresh_time}
 use Rattle.turn_client_laws.specs.LawsBodies.{soonest, soonest_queued, soonest_transaction}
 
@@ -37,7 +38,8 @@ joined : (p a b e r : ℕ) → min (min a (max p b)) (min e (max p r)) ≡ min (
 joined p a b e r = omega arith
 
 -- the earliest expiries and refreshes of one and of the others
-combined : (p a b e r whole front later ends refreshes : ℕ) → whole ≡ min front later → front ≡ min a (max p b) → later ≡ min e (max p r) → ends ≡ min a e → refreshes ≡ min b r → whole ≡ min ends (max p refreshes)
+combined : (p a b e r whole front later ends refreshes : ℕ) → whole ≡ min front later → front ≡ min a (max p b) → later ≡ min e (max p r) → ends ≡ min a e → refreshes ≡ min b r
+    → whole ≡ min ends (max p refreshes)
 combined p a b e r whole front later ends refreshes h f l he hr =
     h
     ∙ (ap (λ x. min x later) f
@@ -53,7 +55,8 @@ module _ (now : ℕ) (s : State) (greatest : ℕ) (within : pause_end s ≤ grea
   refresh-part None = omega (arith, within)
   refresh-part (Some m) = omega (arith, within)
 
-  cons-part : (o : Option ℕ) (g : Grant) (gs : List Grant) → refresh_time s g ≡ o → fold min greatest (filter_map (refresh_time s) (g ∷ gs)) ≡ min (fold min greatest (option_to_list o)) (fold min greatest (filter_map (refresh_time s) gs))
+  cons-part : (o : Option ℕ) (g : Grant) (gs : List Grant) → refresh_time s g ≡ o
+      → fold min greatest (filter_map (refresh_time s) (g ∷ gs)) ≡ min (fold min greatest (option_to_list o)) (fold min greatest (filter_map (refresh_time s) gs))
   cons-part None g gs e = rw e (omega (arith, least-le_greatest greatest (filter_map (refresh_time s) gs)))
   cons-part (Some m) g gs e = rw e (least-append greatest greatest (m ∷ []) (filter_map (refresh_time s) gs) (omega arith))
 

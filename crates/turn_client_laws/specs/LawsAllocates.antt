@@ -7,13 +7,17 @@ use Rattle.turn_types.specs.declared.family.AddressFamily.TheVariants.{IPV6}
 use Rattle.turn_agent.specs.Agent.{is_outstanding}
 use Rattle.turn_agent.specs.declared.transaction.Transaction.{Transaction}
 use Rattle.turn_client_api.specs.Config.{Config}
-use Rattle.turn_client_api.specs.State.{State, Allocation, Listing, Relay, ForAllocation}
+use Rattle.turn_client_api.specs.State.{State}
+use Rattle.turn_client_api.specs.declared.grant.Grant.TheVariants.{Allocation}
+use Rattle.turn_client_api.specs.declared.grant.Listing.{Listing}
+use Rattle.turn_client_api.specs.declared.grant.Relay.{Relay}
+use Rattle.turn_client_api.specs.declared.grant.Purpose.TheVariants.{ForAllocation}
 use Rattle.turn_client_api.specs.Requests.{first_allocate, request_for}
 use Rattle.turn_client_laws.specs.Handled.{Input}
 use Rattle.turn_client_laws.specs.LawsGranted.{IsEndedNow, IsGrantInput, WasActive}
 use Rattle.turn_client_laws.specs.LawsHandled.{IsDoneBy}
 use Rattle.turn_client_laws.specs.LawsOrder.{IsUngranted}
-use Rattle.turn_client_api.specs.Steps.{Call}
+use Rattle.turn_client_api.specs.declared.call.Call.{Call}
 
 -- ---- the bytes
 

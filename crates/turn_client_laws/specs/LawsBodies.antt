@@ -1,9 +1,14 @@
 -- What spares a client's body work: when nothing changes, how many events are queued, and the parts of a
 -- result.
-use Rattle.std.specs.Prelude.{◌≡◌, ◌≤◌, ◌<◌, ◌+◌, ℕ, max, min, Bool, true, false, ◌&&◌, if◌then◌else◌, List, filter, filter_map, flat_map, fold, length, map, Option, Some, None}
+use Rattle.std.specs.Prelude.{◌≡◌, ◌≤◌, ◌<◌, ◌+◌, ℕ, max, min, Bool, true, false, ◌&&◌, if◌then◌else◌, List, filter, filter_map, flat_map, fold, length, map}
+use Rattle.std.specs.Prelude.{Option, Some, None}
 use Rattle.std.specs.declared.net.socket_addr.SocketAddr.{SocketAddr}
 use Rattle.turn_agent.specs.Agent.{transaction_timeout, same_address}
-use Rattle.turn_client_api.specs.State.{State, Grant, Allocation, Permission, Channel, Connection, Active, Reserved, Stream, agent_of, max_time, later_by}
+use Rattle.turn_client_api.specs.State.{State, agent_of, max_time, later_by}
+use Rattle.turn_client_api.specs.declared.grant.Grant.{Grant}
+use Rattle.turn_client_api.specs.declared.grant.Grant.TheVariants.{Allocation, Permission, Channel, Connection}
+use Rattle.turn_client_api.specs.declared.grant.Progress.TheVariants.{Active, Reserved}
+use Rattle.turn_client_api.specs.declared.state.Stream.{Stream}
 use Rattle.turn_client_api.specs.Grants.{has_request}
 use Rattle.turn_client_api.specs.Calls.{is_number_taken}
 use Rattle.turn_client_api.specs.Due.{end_of, has_queued_request, max_wait, pause_end, refresh_time}

@@ -3,7 +3,9 @@ use Rattle.std.specs.Prelude.{◌==◌, Bool, false}
 use Rattle.std.specs.List.{IsDistinct}
 use Rattle.turn_agent.specs.Agent.{same_address}
 use Rattle.turn_client_api.specs.Config.{same_family}
-use Rattle.turn_client_api.specs.State.{State, Grant, Allocation, Permission, Channel, Connect, Connection}
+use Rattle.turn_client_api.specs.State.{State}
+use Rattle.turn_client_api.specs.declared.grant.Grant.{Grant}
+use Rattle.turn_client_api.specs.declared.grant.Grant.TheVariants.{Allocation, Permission, Channel, Connect, Connection}
 use Rattle.turn_client_api.specs.Grants.{family_of, same_ip}
 
 -- Both are of one kind and for the same: two allocations of a family, permissions of an IP address,

@@ -3,13 +3,25 @@ use Rattle.std.specs.Prelude.{◌≡◌, ◌⊎◌, ◌<◌, ◌≤◌, ℕ, tru
 use Rattle.std.specs.List.{Contains}
 use Rattle.turn_agent.specs.Agent.{timed_out_transaction}
 use Rattle.turn_agent.specs.declared.transaction.Transaction.{Transaction}
-use Rattle.turn_client_api.specs.State.{State, Grant, Allocation, Permission, Channel, Connect, Offer, Connection, Pending, Active, Reserved, Relay, Purpose, ForRefresh, Stream, Waiting, Allocated, agent_of, later_by}
+use Rattle.turn_client_api.specs.State.{State}
+use Rattle.turn_client_api.specs.declared.grant.Grant.{Grant}
+use Rattle.turn_client_api.specs.declared.grant.Grant.TheVariants.{Allocation, Permission, Channel, Connect, Offer, Connection}
+use Rattle.turn_client_api.specs.declared.grant.Progress.TheVariants.{Pending, Active, Reserved}
+use Rattle.turn_client_api.specs.declared.grant.Relay.{Relay}
+use Rattle.turn_client_api.specs.declared.grant.Purpose.{Purpose}
+use Rattle.turn_client_api.specs.State.{agent_of, later_by}
+use Rattle.turn_client_api.specs.declared.grant.Purpose.TheVariants.{ForRefresh}
+use Rattle.turn_client_api.specs.declared.state.Stream.{Stream}
+use Rattle.turn_client_api.specs.declared.state.Mode.TheVariants.{Waiting}
+use Rattle.turn_client_api.specs.declared.state.Phase.TheVariants.{Allocated}
 use Rattle.turn_client_api.specs.Grants.{family_of, family_of_grant, is_connection_from, is_for, is_for_any, is_of_request, purposes_of}
 use Rattle.turn_client_api.specs.Effect.{reserved_time}
 use Rattle.turn_client_api.specs.Judgement.{judgement_of}
 use Rattle.turn_client_api.specs.Calls.{is_granted_in, is_offer_of}
 use Rattle.turn_client_laws.specs.Handled.{Input}
-use Rattle.turn_client_api.specs.Steps.{Call, state_after, Delete, AllocatedTcpSocket, TcpClosed, Recv, PollRecv, Poll}
+use Rattle.turn_client_api.specs.Steps.{state_after}
+use Rattle.turn_client_api.specs.declared.call.Call.{Call}
+use Rattle.turn_client_api.specs.declared.call.Call.TheVariants.{Delete, AllocatedTcpSocket, TcpClosed, Recv, PollRecv, Poll}
 use Rattle.turn_client_laws.specs.LawsHandled.{IsDoneBy, IsStreamEnd}
 use Rattle.turn_client_laws.specs.LawsBodies.{expiry_times}
 use Rattle.turn_client_laws.specs.LawsReplies.{IsAccepted}

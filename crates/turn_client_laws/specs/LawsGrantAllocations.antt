@@ -2,7 +2,10 @@
 use Rattle.std.specs.Prelude.{◌≡◌, ◌&&◌, true, Option, Some, None, All, IfSome}
 use Rattle.std.specs.List.{list_any}
 use Rattle.turn_types.specs.declared.family.AddressFamily.{AddressFamily}
-use Rattle.turn_client_api.specs.State.{State, Purpose, ForChannel, ForConnect, Listing}
+use Rattle.turn_client_api.specs.State.{State}
+use Rattle.turn_client_api.specs.declared.grant.Purpose.{Purpose}
+use Rattle.turn_client_api.specs.declared.grant.Purpose.TheVariants.{ForChannel, ForConnect}
+use Rattle.turn_client_api.specs.declared.grant.Listing.{Listing}
 use Rattle.turn_client_api.specs.Grants.{family_of, is_for, is_of}
 use Rattle.turn_client_api.specs.Alarm.{AllHaveAllocation}
 

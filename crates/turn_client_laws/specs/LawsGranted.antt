@@ -7,7 +7,16 @@ use Rattle.turn_stun.specs.Message.{id_of}
 use Rattle.turn_stun.specs.declared.message.header.MessageClass.TheVariants.{Success}
 use Rattle.turn_auth.specs.Validation.{IsValidated, validation_of}
 use Rattle.turn_agent.specs.Agent.{is_outstanding}
-use Rattle.turn_client_api.specs.State.{State, Grant, Allocation, Permission, Channel, Connection, Relay, Progress, Active, Purpose, ForAllocation, ForRefresh, ForPermission, ForChannel, auth_of, later_by, seconds}
+use Rattle.turn_client_api.specs.State.{State}
+use Rattle.turn_client_api.specs.declared.grant.Grant.{Grant}
+use Rattle.turn_client_api.specs.declared.grant.Grant.TheVariants.{Allocation, Permission, Channel, Connection}
+use Rattle.turn_client_api.specs.declared.grant.Relay.{Relay}
+use Rattle.turn_client_api.specs.declared.grant.Progress.{Progress}
+use Rattle.turn_client_api.specs.declared.grant.Progress.TheVariants.{Active}
+use Rattle.turn_client_api.specs.declared.grant.Purpose.{Purpose}
+use Rattle.turn_client_api.specs.declared.grant.Purpose.TheVariants.{ForAllocation, ForRefresh}
+use Rattle.turn_client_api.specs.State.{auth_of, later_by, seconds}
+use Rattle.turn_client_api.specs.declared.grant.Purpose.TheVariants.{ForPermission, ForChannel}
 use Rattle.turn_client_api.specs.Grants.{is_of_family, purposes_of, same_ip}
 use Rattle.turn_client_api.specs.Judgement.{class_in, lifetime_in}
 use Rattle.turn_client_api.specs.Payloads.{is_message}
@@ -16,7 +25,8 @@ use Rattle.turn_client_laws.specs.LawsBound.{IsConnecting}
 use Rattle.turn_client_laws.specs.LawsHandled.{IsDoneBy, IsOverControl}
 use Rattle.turn_client_api.specs.Effect.{channel_lifetime, min_lifetime, permission_lifetime, relayed_in}
 use Rattle.turn_client_laws.specs.LawsInputs.{Deed}
-use Rattle.turn_client_api.specs.Steps.{Call, Delete}
+use Rattle.turn_client_api.specs.declared.call.Call.{Call}
+use Rattle.turn_client_api.specs.declared.call.Call.TheVariants.{Delete}
 
 -- what the server granted: an allocation, an active permission or channel, and a connection that is bound
 abbrev pub IsActiveGrant : Grant → Type 0

@@ -1,7 +1,9 @@
 -- The numbers of a client's channels, over all calls.
 use Rattle.std.specs.Prelude.{ℕ, ◌==◌, List, filter_map, Option, Some, None}
 use Rattle.std.specs.List.{IsDistinct}
-use Rattle.turn_client_api.specs.State.{State, Grant, Channel}
+use Rattle.turn_client_api.specs.State.{State}
+use Rattle.turn_client_api.specs.declared.grant.Grant.{Grant}
+use Rattle.turn_client_api.specs.declared.grant.Grant.TheVariants.{Channel}
 
 -- the number of a channel, whether it is pending, active or reserved
 abbrev pub number_of_channel : Grant → Option ℕ

@@ -1,6 +1,8 @@
 -- What holds for every client, over all calls.
 use Rattle.std.specs.Prelude.{◌≡◌, true, [], None, IsSome, ⊤}
-use Rattle.turn_client_api.specs.State.{State, Phase, New, Allocated, Closed}
+use Rattle.turn_client_api.specs.State.{State}
+use Rattle.turn_client_api.specs.declared.state.Phase.{Phase}
+use Rattle.turn_client_api.specs.declared.state.Phase.TheVariants.{New, Allocated, Closed}
 use Rattle.turn_client_api.specs.Due.{has_queued_request}
 
 -- the client has begun, and has not ended

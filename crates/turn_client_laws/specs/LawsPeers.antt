@@ -9,13 +9,19 @@ use Rattle.turn_stun.specs.declared.transport.TransportType.{TransportType}
 use Rattle.turn_types.specs.Channel.{channel_data_at}
 use Rattle.turn_types.specs.Send.{data_kind}
 use Rattle.turn_types.specs.declared.attribute.icmp_report.Icmp.{Icmp}
-use Rattle.turn_client_api.specs.State.{State, Allocated, Permission, Channel, Active, Mode, Control, Waiting, Bound, Broken, Stream}
+use Rattle.turn_client_api.specs.State.{State}
+use Rattle.turn_client_api.specs.declared.state.Phase.TheVariants.{Allocated}
+use Rattle.turn_client_api.specs.declared.grant.Grant.TheVariants.{Permission, Channel}
+use Rattle.turn_client_api.specs.declared.grant.Progress.TheVariants.{Active}
+use Rattle.turn_client_api.specs.declared.state.Mode.{Mode}
+use Rattle.turn_client_api.specs.declared.state.Mode.TheVariants.{Control, Waiting, Bound, Broken}
+use Rattle.turn_client_api.specs.declared.state.Stream.{Stream}
 use Rattle.turn_client_api.specs.Judgement.{has_unknown, last_icmp_in, last_in, last_peer_in}
 use Rattle.turn_client_api.specs.Answers.{is_data_indication}
 use Rattle.turn_client_api.specs.Payloads.{Payload, Outcome, Handled, Ignored, PeerData, PeerIcmp, data_of}
 use Rattle.turn_client_api.specs.Streams.{all_of, sent_by}
 use Rattle.turn_client_laws.specs.Handled.{Input, processed, input_payload}
-use Rattle.turn_client_api.specs.Steps.{Call}
+use Rattle.turn_client_api.specs.declared.call.Call.{Call}
 use Rattle.turn_client_laws.specs.LawsHandled.{IsDoneBy}
 
 -- the IP address has an active permission

@@ -4,12 +4,15 @@ use Rattle.std.specs.List.{Contains}
 use Rattle.std.specs.declared.net.socket_addr.SocketAddr.{SocketAddr}
 use Rattle.turn_stun.specs.Message.{id_of}
 use Rattle.turn_agent.specs.Agent.{is_outstanding, is_response}
-use Rattle.turn_client_api.specs.State.{State, Connection, DataConnection, Purpose}
+use Rattle.turn_client_api.specs.State.{State}
+use Rattle.turn_client_api.specs.declared.grant.Grant.TheVariants.{Connection}
+use Rattle.turn_client_api.specs.declared.grant.DataConnection.{DataConnection}
+use Rattle.turn_client_api.specs.declared.grant.Purpose.{Purpose}
 use Rattle.turn_client_api.specs.Requests.{fresh_id}
 use Rattle.turn_client_api.specs.Judgement.{Judgement, SignedSuccess, SignedError, bind_judgement, class_in, judgement_of}
 use Rattle.turn_client_api.specs.Connections.{bind_answered, bind_step}
 use Rattle.turn_client_api.specs.Payloads.{answered_purposes, message_step}
-use Rattle.turn_client_api.specs.Steps.{Call}
+use Rattle.turn_client_api.specs.declared.call.Call.{Call}
 use Rattle.turn_client_laws.specs.LawsInputs.{Deed, IsBroughtBy}
 
 -- the server grants what was requested, or denies it, and signed that

@@ -7,13 +7,19 @@ use Rattle.turn_stun.specs.Message.{id_of}
 use Rattle.turn_types.specs.declared.family.AddressFamily.{AddressFamily}
 use Rattle.turn_agent.specs.Agent.{first_sent, sent_again}
 use Rattle.turn_agent.specs.declared.transaction.Transaction.{Transaction}
-use Rattle.turn_client_api.specs.State.{State, New, Requesting, Allocated, Listing, Purpose, ForAllocation, ForRefresh, ForPermission, ForChannel, ForConnect, ForBind}
+use Rattle.turn_client_api.specs.State.{State}
+use Rattle.turn_client_api.specs.declared.state.Phase.TheVariants.{New, Requesting, Allocated}
+use Rattle.turn_client_api.specs.declared.grant.Listing.{Listing}
+use Rattle.turn_client_api.specs.declared.grant.Purpose.{Purpose}
+use Rattle.turn_client_api.specs.declared.grant.Purpose.TheVariants.{ForAllocation, ForRefresh, ForPermission, ForChannel, ForConnect, ForBind}
 use Rattle.turn_client_api.specs.Grants.{allocations, purposes_of}
 use Rattle.turn_client_api.specs.Requests.{first_allocate, fresh_id, request_for}
 use Rattle.turn_client_api.specs.Calls.{free_number}
 use Rattle.turn_client_api.specs.Transmit.{refreshes_in}
 use Rattle.turn_client_laws.specs.Handled.{Input, processed}
-use Rattle.turn_client_api.specs.Steps.{Call, state_after, Delete, CreatePermission, BindChannel, TcpConnect, AllocatedTcpSocket, Recv, PollRecv, PollTransmit}
+use Rattle.turn_client_api.specs.Steps.{state_after}
+use Rattle.turn_client_api.specs.declared.call.Call.{Call}
+use Rattle.turn_client_api.specs.declared.call.Call.TheVariants.{Delete, CreatePermission, BindChannel, TcpConnect, AllocatedTcpSocket, Recv, PollRecv, PollTransmit}
 use Rattle.turn_client_laws.specs.LawsHandled.{IsDoneBy}
 
 -- These bytes request the purpose under this ID, with what the client holds. The first ALLOCATE is not

@@ -13,7 +13,14 @@ use Rattle.turn_types.specs.declared.family.AddressFamily.TheVariants.{IPV4, IPV
 use Rattle.turn_auth.specs.LongTerm.{Challenge}
 use Rattle.turn_agent.specs.declared.transaction.Transaction.{Transaction}
 use Rattle.turn_agent.specs.Agent.{first_sent}
-use Rattle.turn_client_api.specs.State.{State, Requesting, Allocated, ForAllocation, Grant, Channel, Permission, Active, Pending, Purpose, ForRefresh, ForChannel, ForPermission}
+use Rattle.turn_client_api.specs.State.{State}
+use Rattle.turn_client_api.specs.declared.state.Phase.TheVariants.{Requesting, Allocated}
+use Rattle.turn_client_api.specs.declared.grant.Purpose.TheVariants.{ForAllocation, ForRefresh}
+use Rattle.turn_client_api.specs.declared.grant.Grant.{Grant}
+use Rattle.turn_client_api.specs.declared.grant.Grant.TheVariants.{Channel, Permission}
+use Rattle.turn_client_api.specs.declared.grant.Progress.TheVariants.{Active, Pending}
+use Rattle.turn_client_api.specs.declared.grant.Purpose.{Purpose}
+use Rattle.turn_client_api.specs.declared.grant.Purpose.TheVariants.{ForChannel, ForPermission}
 use Rattle.turn_client_api.specs.Requests.{first_allocate, listings}
 use Rattle.turn_client_api.specs.Effect.{new_allocation}
 use Rattle.turn_client_api.specs.Retry.{state_after_retry}

@@ -2,7 +2,11 @@
 use Rattle.std.specs.Prelude.{ℕ, List, [], ◌∷◌, ◌++◌, Option, None, Result}
 use Rattle.std.specs.declared.net.socket_addr.SocketAddr.{SocketAddr}
 use Rattle.turn_stun.specs.declared.transport.TransportType.TheVariants.{Tcp}
-use Rattle.turn_client_api.specs.State.{State, Grant, Permission, Active, ServerIndication, seconds}
+use Rattle.turn_client_api.specs.State.{State, seconds}
+use Rattle.turn_client_api.specs.declared.grant.Grant.{Grant}
+use Rattle.turn_client_api.specs.declared.grant.Grant.TheVariants.{Permission}
+use Rattle.turn_client_api.specs.declared.grant.Progress.TheVariants.{Active}
+use Rattle.turn_client_api.specs.declared.grant.Origin.TheVariants.{ServerIndication}
 use Rattle.turn_client_api.specs.Calls.{allocated_tcp_socket_step}
 use Rattle.turn_client_laws.specs.LawsRows.{ip_of_peer}
 use Rattle.turn_client_laws.specs.LawsMessages.{message_with, ms, offer_of, with_connection_id, with_peer}

@@ -1,7 +1,8 @@
 //! Which families an ALLOCATE requests.
 
 ghost use Rattle.turn_client_api.specs.State.{State};
-ghost use Rattle.turn_client_api.specs.Steps.{Call, Leaves};
+ghost use Rattle.turn_client_api.specs.Steps.{Leaves};
+ghost use Rattle.turn_client_api.specs.declared.call.Call.{Call};
 ghost use Rattle.turn_client_laws.specs.LawsAllocates.{AllocatesAsAsked, AllocatesInOrder};
 ghost use Rattle.turn_client_laws.specs.LawsStates.{HoldsAtFirst, StaysInCalls};
 

@@ -1,7 +1,9 @@
 //! What a client's body may rely on, so that it does no needless work.
 
 ghost use Rattle.std.specs.Prelude.{◌≡◌, ◌≢◌, ℕ, ◌<◌, ◌≤◌, ◌+◌, length, List, [], All, Some, None};
-ghost use Rattle.turn_client_api.specs.State.{State, Requesting, Stream};
+ghost use Rattle.turn_client_api.specs.State.{State};
+ghost use Rattle.turn_client_api.specs.declared.state.Phase.TheVariants.{Requesting};
+ghost use Rattle.turn_client_api.specs.declared.state.Stream.{Stream};
 ghost use Rattle.turn_client_api.specs.Due.{least_due};
 ghost use Rattle.turn_client_api.specs.Calls.{free_number};
 ghost use Rattle.turn_client_api.specs.Poll.{lapsed, poll_step};
@@ -55,6 +57,6 @@ pub fn drained_streams_rest()
 /// place (RFC 6062, section 4.3: each data connection is a TCP connection of its own). So it makes none of
 /// them ready, and those that were not ready need not be checked again.
 pub fn inputs_leave_other_streams()
-    ensures next_frame_step { (stream : Stream) (now : ℕ) (s : State) → IsAsideFrom stream.local s (next_frame_step stream now s).1 }
+    ensures step { (stream : Stream) (now : ℕ) (s : State) → IsAsideFrom stream.local s (next_frame_step stream now s).1 }
     ensures frame { (stream : Stream) (frame : List ℕ) (now : ℕ) (s : State) → IsAsideFrom stream.local s (frame_step stream frame now s).1 }
 {}

@@ -1,8 +1,10 @@
 //! What only the server binds.
 
 ghost use Rattle.std.specs.declared.net.socket_addr.SocketAddr.{SocketAddr};
-ghost use Rattle.turn_client_api.specs.State.{State, DataConnection};
-ghost use Rattle.turn_client_api.specs.Steps.{Call, Leaves};
+ghost use Rattle.turn_client_api.specs.State.{State};
+ghost use Rattle.turn_client_api.specs.declared.grant.DataConnection.{DataConnection};
+ghost use Rattle.turn_client_api.specs.Steps.{Leaves};
+ghost use Rattle.turn_client_api.specs.declared.call.Call.{Call};
 ghost use Rattle.turn_client_laws.specs.LawsHandled.{IsBoundAt};
 ghost use Rattle.turn_client_laws.specs.LawsBound.{IsBoundBy, IsBoundConnection, IsConnectedBy};
 

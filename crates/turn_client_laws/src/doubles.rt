@@ -1,7 +1,8 @@
 //! Which grants are unique.
 
 ghost use Rattle.turn_client_api.specs.State.{State};
-ghost use Rattle.turn_client_api.specs.Steps.{Call, Leaves};
+ghost use Rattle.turn_client_api.specs.Steps.{Leaves};
+ghost use Rattle.turn_client_api.specs.declared.call.Call.{Call};
 ghost use Rattle.turn_client_laws.specs.LawsOrder.{FitsPhase};
 ghost use Rattle.turn_client_laws.specs.LawsDoubles.{HasNoDoubles};
 ghost use Rattle.turn_client_laws.specs.LawsStates.{HoldsAtFirst};

@@ -2,8 +2,11 @@
 
 ghost use Rattle.std.specs.Prelude.{◌⊎◌, ℕ};
 ghost use Rattle.std.specs.List.{Contains};
-ghost use Rattle.turn_client_api.specs.State.{State, Grant};
-ghost use Rattle.turn_client_api.specs.Steps.{Call, Leaves, Poll};
+ghost use Rattle.turn_client_api.specs.State.{State};
+ghost use Rattle.turn_client_api.specs.declared.grant.Grant.{Grant};
+ghost use Rattle.turn_client_api.specs.Steps.{Leaves};
+ghost use Rattle.turn_client_api.specs.declared.call.Call.{Call};
+ghost use Rattle.turn_client_api.specs.declared.call.Call.TheVariants.{Poll};
 ghost use Rattle.turn_client_laws.specs.LawsGone.{IsStillThere, IsTakenBy, IsThereOrOver};
 ghost use Rattle.turn_client_laws.specs.LawsNumbers.{HasDistinctNumbers};
 

@@ -1,8 +1,10 @@
 //! What only the server grants.
 
 ghost use Rattle.std.specs.List.{Contains};
-ghost use Rattle.turn_client_api.specs.State.{State, Grant};
-ghost use Rattle.turn_client_api.specs.Steps.{Call, Leaves};
+ghost use Rattle.turn_client_api.specs.State.{State};
+ghost use Rattle.turn_client_api.specs.declared.grant.Grant.{Grant};
+ghost use Rattle.turn_client_api.specs.Steps.{Leaves};
+ghost use Rattle.turn_client_api.specs.declared.call.Call.{Call};
 ghost use Rattle.turn_client_laws.specs.LawsGranted.{GrantsToPeers, HasCause, IsActiveGrant};
 ghost use Rattle.turn_client_laws.specs.LawsNumbers.{HasDistinctNumbers};
 ghost use Rattle.turn_client_laws.specs.LawsStates.{HasGrantsAsked};

@@ -2,10 +2,12 @@
 
 ghost use Rattle.std.specs.Prelude.{ℕ, false, List};
 ghost use Rattle.std.specs.declared.net.socket_addr.SocketAddr.{SocketAddr};
-ghost use Rattle.turn_client_api.specs.State.{State, Stream};
+ghost use Rattle.turn_client_api.specs.State.{State};
+ghost use Rattle.turn_client_api.specs.declared.state.Stream.{Stream};
 ghost use Rattle.turn_client_api.specs.Streams.{next_frame_step};
 ghost use Rattle.turn_client_laws.specs.Handled.{stream_inputs_taken};
-ghost use Rattle.turn_client_api.specs.Steps.{Call, EndsWithoutMemory};
+ghost use Rattle.turn_client_api.specs.Steps.{EndsWithoutMemory};
+ghost use Rattle.turn_client_api.specs.declared.call.Call.{Call};
 ghost use Rattle.turn_client_laws.specs.LawsHandled.{ProcessesInputs, EndsAmidInputs, IgnoresBytes, IgnoresStreams, IsInputOf, TakesInput};
 
 /// The effect of a message is independent of the streams: with others it has the same effect, and leaves

@@ -8,9 +8,10 @@ mod bodies;
 mod bound;
 mod doubles;
 mod gone;
-mod granted;
 mod grant_allocations;
+mod granted;
 mod ids;
+mod inputs;
 mod lapses;
 mod messages;
 mod numbers;
@@ -27,21 +28,21 @@ mod standards;
 mod states;
 mod steps;
 mod streams;
-mod inputs;
 mod wakeup;
 
 pub use alarm::no_deadline_is_missed;
 pub use allocates::allocates_ask_for_families;
 pub use bodies::{
-    drained_streams_rest, events_are_bounded, least_free_number_is_bound, least_time_has_parts,
-    nothing_lapses_early, inputs_leave_other_streams,
+    drained_streams_rest, events_are_bounded, inputs_leave_other_streams,
+    least_free_number_is_bound, least_time_has_parts, nothing_lapses_early,
 };
 pub use bound::only_a_signed_success_binds;
 pub use doubles::grants_are_distinct;
 pub use gone::grants_go_by_kind;
-pub use granted::only_a_signed_success_grants;
 pub use grant_allocations::grants_have_allocations;
+pub use granted::only_a_signed_success_grants;
 pub use ids::drawn_ids_are_free;
+pub use inputs::{calls_process_inputs, inputs_are_frames, messages_leave_streams};
 pub use lapses::grants_lapse;
 pub use messages::{
     allocations_are_answered, challenges_are_answered, connects_are_answered, grants_are_answered,
@@ -57,7 +58,7 @@ pub use replies::{ids_are_drawn, replies_count_once};
 pub use requests::requests_are_made;
 pub use rows::{
     channel_numbers_count_up, delete_is_one_request, failures_jump, first_allocate_is_spelled,
-    wakeups_are_reported, silence_is_timed,
+    silence_is_timed, wakeups_are_reported,
 };
 pub use sockets::{peers_may_connect, sockets_are_taken};
 pub use standards::numbers_are_the_standards;
@@ -67,5 +68,4 @@ pub use states::{
 };
 pub use steps::{challenges_are_counted, phases_go_on, realm_stays, stays_closed};
 pub use streams::{streams_are_drained, streams_stay_apart};
-pub use inputs::{calls_process_inputs, messages_leave_streams, inputs_are_frames};
 pub use wakeup::wakeup_is_the_least_time;

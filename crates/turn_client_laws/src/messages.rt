@@ -4,12 +4,19 @@ ghost use Rattle.std.specs.Prelude.{true, ◌≡◌, ◌∷◌, List, [], ℕ, m
 ghost use Rattle.std.specs.declared.net.socket_addr.SocketAddr.{SocketAddr};
 ghost use Rattle.turn_stun.specs.declared.transport.TransportType.TheVariants.{Udp};
 ghost use Rattle.turn_types.specs.declared.family.AddressFamily.TheVariants.{IPV4, IPV6};
-ghost use Rattle.turn_client_api.specs.State.{State, Authenticating, Allocated, Closed, OwnConnect};
-ghost use Rattle.turn_client_api.specs.declared.event.TurnEvent.TheVariants.{AllocationCreated, AllocationCreateFailed, ChannelCreated, ChannelCreateFailed, PermissionCreated, PermissionCreateFailed, TcpConnectFailed};
+ghost use Rattle.turn_client_api.specs.State.{State};
+ghost use Rattle.turn_client_api.specs.declared.state.Phase.TheVariants.{Authenticating, Allocated, Closed};
+ghost use Rattle.turn_client_api.specs.declared.grant.Origin.TheVariants.{OwnConnect};
+ghost use Rattle.turn_client_api.specs.declared.event.TurnEvent.TheVariants.{AllocationCreated, AllocationCreateFailed, ChannelCreated, ChannelCreateFailed};
+ghost use Rattle.turn_client_api.specs.declared.event.TurnEvent.TheVariants.{PermissionCreated, PermissionCreateFailed, TcpConnectFailed};
 ghost use Rattle.turn_client_api.specs.Payloads.{Handled};
 ghost use Rattle.turn_client_laws.specs.LawsRows.{peer, ip_of_peer, relayed_v4, relayed_v6};
-ghost use Rattle.turn_client_laws.specs.LawsMessages.{IgnoresCopy, IgnoresUnsigned, Ignores, WhenSigned, after_message, allocating, allocation_of_v4, asking_channel, asking_connection, asking_first, asking_permission, bad_request_reply, both_allocated, challenged, channel_bound, channel_not_bound};
-ghost use Rattle.turn_client_laws.specs.LawsMessages.{connected, granted_channel, granted_permission, granted_v4, granted_v6, held_by_it, lasting_600_s, lifetime_behind, mismatched, not_connected, offer_of, one_allocated, one_family_alone, permission_for_300_s, permitted, refreshed_for, refreshing, stale, unauthorized};
+ghost use Rattle.turn_client_laws.specs.LawsMessages.{IgnoresCopy, IgnoresUnsigned, Ignores, WhenSigned, after_message, allocating, allocation_of_v4};
+ghost use Rattle.turn_client_laws.specs.LawsMessages.{asking_channel, asking_connection, asking_first, asking_permission, bad_request_reply, both_allocated};
+ghost use Rattle.turn_client_laws.specs.LawsMessages.{challenged, channel_bound, channel_not_bound};
+ghost use Rattle.turn_client_laws.specs.LawsMessages.{connected, granted_channel, granted_permission, granted_v4, granted_v6, held_by_it, lasting_600_s};
+ghost use Rattle.turn_client_laws.specs.LawsMessages.{lifetime_behind, mismatched, not_connected, offer_of, one_allocated, one_family_alone};
+ghost use Rattle.turn_client_laws.specs.LawsMessages.{permission_for_300_s, permitted, refreshed_for, refreshing, stale, unauthorized};
 
 /// The effects of replies to a signed ALLOCATE for both families (RFC 8656, sections 7.3 and 7.4).
 pub fn allocations_are_answered()

@@ -4,7 +4,8 @@ ghost use Rattle.std.specs.Prelude.{◌≡◌, ℕ, List, option_to_list};
 ghost use Rattle.turn_stun.specs.declared.transport.Transmit.{Transmit};
 ghost use Rattle.turn_client_api.specs.State.{State};
 ghost use Rattle.turn_client_api.specs.Streams.{payload_in, poll_recv_step};
-ghost use Rattle.turn_client_api.specs.Steps.{Recv, PollRecv, packet_step};
+ghost use Rattle.turn_client_api.specs.Steps.{packet_step};
+ghost use Rattle.turn_client_api.specs.declared.call.Call.TheVariants.{Recv, PollRecv};
 ghost use Rattle.turn_client_laws.specs.Handled.{Input, payloads_by};
 ghost use Rattle.turn_client_laws.specs.LawsPeers.{IsPermittedInput};
 

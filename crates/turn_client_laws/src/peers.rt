@@ -2,10 +2,12 @@
 
 ghost use Rattle.std.specs.Prelude.{ℕ, List};
 ghost use Rattle.turn_stun.specs.declared.transport.Transmit.{Transmit};
-ghost use Rattle.turn_client_api.specs.State.{State, Stream};
+ghost use Rattle.turn_client_api.specs.State.{State};
+ghost use Rattle.turn_client_api.specs.declared.state.Stream.{Stream};
 ghost use Rattle.turn_client_api.specs.Payloads.{datagram_step};
 ghost use Rattle.turn_client_api.specs.Streams.{frame_step, payload_in, poll_recv_step};
-ghost use Rattle.turn_client_api.specs.Steps.{PollRecv, Recv, packet_step};
+ghost use Rattle.turn_client_api.specs.Steps.{packet_step};
+ghost use Rattle.turn_client_api.specs.declared.call.Call.TheVariants.{PollRecv, Recv};
 ghost use Rattle.turn_client_laws.specs.LawsPeers.{IsDeliveredByInput, IsFromPermitted, IsMessageFromPermitted, IsToldBy};
 
 /// Data is returned only for a peer with an active permission, in a DATA indication that names it and that

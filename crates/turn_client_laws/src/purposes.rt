@@ -1,7 +1,7 @@
 //! How many purposes a request has.
 
 ghost use Rattle.turn_client_api.specs.State.{State};
-ghost use Rattle.turn_client_api.specs.Steps.{Call};
+ghost use Rattle.turn_client_api.specs.declared.call.Call.{Call};
 ghost use Rattle.turn_client_laws.specs.LawsPurposes.{HasTwoPurposes, KeepsTwoPurposes};
 ghost use Rattle.turn_client_laws.specs.LawsStates.{HoldsAtFirst};
 

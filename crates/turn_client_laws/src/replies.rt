@@ -2,9 +2,11 @@
 
 ghost use Rattle.std.specs.Prelude.{ℕ, List};
 ghost use Rattle.std.specs.declared.net.socket_addr.SocketAddr.{SocketAddr};
-ghost use Rattle.turn_client_api.specs.State.{State, DataConnection};
+ghost use Rattle.turn_client_api.specs.State.{State};
+ghost use Rattle.turn_client_api.specs.declared.grant.DataConnection.{DataConnection};
 ghost use Rattle.turn_client_api.specs.Judgement.{bind_judgement, judgement_of};
-ghost use Rattle.turn_client_api.specs.Steps.{Call, Leaves};
+ghost use Rattle.turn_client_api.specs.Steps.{Leaves};
+ghost use Rattle.turn_client_api.specs.declared.call.Call.{Call};
 ghost use Rattle.turn_client_laws.specs.LawsReplies.{BindsNothing, DrawsNewOnes, EndsBind, EndsForGood, EndsRequest, GrantsNothing, IsAccepted, IsAwaited};
 
 /// A reply is accepted once (RFC 8489, section 6.3): one that is accepted is to an outstanding request,

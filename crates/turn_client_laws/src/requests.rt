@@ -3,8 +3,10 @@
 ghost use Rattle.std.specs.Prelude.{◌⊎◌};
 ghost use Rattle.std.specs.List.{Contains};
 ghost use Rattle.turn_agent.specs.declared.transaction.Transaction.{Transaction};
-ghost use Rattle.turn_client_api.specs.State.{State, Listing};
-ghost use Rattle.turn_client_api.specs.Steps.{Call, Leaves};
+ghost use Rattle.turn_client_api.specs.State.{State};
+ghost use Rattle.turn_client_api.specs.declared.grant.Listing.{Listing};
+ghost use Rattle.turn_client_api.specs.Steps.{Leaves};
+ghost use Rattle.turn_client_api.specs.declared.call.Call.{Call};
 ghost use Rattle.turn_client_laws.specs.LawsRequests.{IsListingOf, IsOldOrMade};
 
 /// What is outstanding or listed after a call was so before, or the call made the request, which is

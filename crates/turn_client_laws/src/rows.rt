@@ -5,11 +5,15 @@ ghost use Rattle.std.specs.declared.net.socket_addr.SocketAddr.{SocketAddr};
 ghost use Rattle.turn_stun.specs.declared.transport.TransportType.TheVariants.{Udp, Tcp};
 ghost use Rattle.turn_types.specs.declared.family.AddressFamily.TheVariants.{IPV4, IPV6};
 ghost use Rattle.turn_auth.specs.LongTerm.{Challenge};
-ghost use Rattle.turn_client_api.specs.State.{State, Channel, ForRefresh, Pending};
+ghost use Rattle.turn_client_api.specs.State.{State};
+ghost use Rattle.turn_client_api.specs.declared.grant.Grant.TheVariants.{Channel};
+ghost use Rattle.turn_client_api.specs.declared.grant.Purpose.TheVariants.{ForRefresh};
+ghost use Rattle.turn_client_api.specs.declared.grant.Progress.TheVariants.{Pending};
 ghost use Rattle.turn_client_api.specs.Calls.{free_number, relayed_addresses_of};
 ghost use Rattle.turn_client_api.specs.Poll.{poll_step};
 ghost use Rattle.turn_client_api.specs.Transmit.{next_transmit};
-ghost use Rattle.turn_client_laws.specs.LawsRows.{IsFirstAllocate, WaitsInSilence, WhenGivenUp, asking_at_60_ms, challenged_once, deleted_in_silence, giving_back, granted_at, ip_of_peer, peer, short_timers, with_both_families, with_permission};
+ghost use Rattle.turn_client_laws.specs.LawsRows.{IsFirstAllocate, WaitsInSilence, WhenGivenUp, asking_at_60_ms, challenged_once, deleted_in_silence};
+ghost use Rattle.turn_client_laws.specs.LawsRows.{giving_back, granted_at, ip_of_peer, peer, short_timers, with_both_families, with_permission};
 ghost use Rattle.turn_client_api.specs.declared.event.TurnEvent.TheVariants.{ChannelCreateFailed, PermissionCreateFailed};
 ghost use Rattle.turn_client_api.specs.declared.poll.TurnPollRet.TheVariants as Do;
 

@@ -1,7 +1,9 @@
 //! Worked data connections.
 
 ghost use Rattle.std.specs.Prelude.{false, map, ◌≡◌, ◌∷◌, List, [], ℕ, Some, None, Ok, Err};
-ghost use Rattle.turn_client_api.specs.State.{State, ServerRequest, Control, Waiting, seconds};
+ghost use Rattle.turn_client_api.specs.State.{State, seconds};
+ghost use Rattle.turn_client_api.specs.declared.grant.Origin.TheVariants.{ServerRequest};
+ghost use Rattle.turn_client_api.specs.declared.state.Mode.TheVariants.{Control, Waiting};
 ghost use Rattle.turn_client_api.specs.declared.error.TcpAllocateError.TheVariants.{AlreadyExists, NoAllocation};
 ghost use Rattle.turn_client_api.specs.declared.event.TurnEvent.TheVariants.{TcpConnectFailed};
 ghost use Rattle.turn_client_api.specs.declared.poll.TurnPollRet.TheVariants.{AllocateTcpSocket, TcpClose, WaitUntil};

@@ -5,9 +5,10 @@ ghost use Rattle.turn_types.specs.Send.{peer_kind, data_kind};
 ghost use Rattle.turn_client_api.specs.State.{max_time};
 ghost use Rattle.turn_client_api.specs.Effect.{allocation_mismatch, family_not_supported};
 ghost use Rattle.turn_client_api.specs.Requests.{connection_already_exists, connection_timed_out};
-ghost use Rattle.turn_client_api.specs.Requests.{allocate_method, channel_bind_method, connect_method, connection_attempt_method, connection_bind_method, create_permission_method, data_method, refresh_method};
-ghost use Rattle.turn_client_api.specs.Requests.{additional_family_kind, bad_request, channel_number_kind, connection_id_kind, dont_fragment_kind, error_kind, icmp_kind, lifetime_kind};
-ghost use Rattle.turn_client_api.specs.Requests.{relayed_kind, requested_family_kind, requested_transport_kind};
+ghost use Rattle.turn_client_api.specs.Requests.{allocate_method, channel_bind_method, connect_method, connection_attempt_method, connection_bind_method};
+ghost use Rattle.turn_client_api.specs.Requests.{create_permission_method, data_method, refresh_method};
+ghost use Rattle.turn_client_api.specs.Requests.{additional_family_kind, bad_request, channel_number_kind, connection_id_kind, dont_fragment_kind, error_kind};
+ghost use Rattle.turn_client_api.specs.Requests.{icmp_kind, lifetime_kind, relayed_kind, requested_family_kind, requested_transport_kind};
 
 use turn_stun::attribute::AttributeType;
 use turn_stun::attribute::error_code::ErrorCode;

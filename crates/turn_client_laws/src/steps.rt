@@ -1,10 +1,12 @@
 //! What every call keeps, even if memory allocation fails.
 
 ghost use Rattle.std.specs.Prelude.{◌≡◌, ◌<◌, ℕ, false, List, [], Some};
-ghost use Rattle.turn_client_api.specs.State.{State, Closed};
+ghost use Rattle.turn_client_api.specs.State.{State};
+ghost use Rattle.turn_client_api.specs.declared.state.Phase.TheVariants.{Closed};
 ghost use Rattle.turn_client_api.specs.Due.{has_reply};
 ghost use Rattle.turn_client_api.specs.Poll.{poll_step};
-ghost use Rattle.turn_client_api.specs.Steps.{Call, Leaves};
+ghost use Rattle.turn_client_api.specs.Steps.{Leaves};
+ghost use Rattle.turn_client_api.specs.declared.call.Call.{Call};
 ghost use Rattle.turn_client_laws.specs.LawsInputs.{IsBroughtBy};
 ghost use Rattle.turn_client_laws.specs.LawsReplies.{IsReplyAccepted};
 ghost use Rattle.turn_client_laws.specs.LawsSteps.{StaysClosed, KeepsChallengeLimit, KeepsRealm, CountsChallenge, GoesOn};

@@ -1,7 +1,9 @@
 //! What the streams of a client over TCP hold.
 
 ghost use Rattle.std.specs.Prelude.{◌≡◌, ◌≢◌, ℕ, ◌<◌, ◌≤◌, length, List, All, None, IsSome};
-ghost use Rattle.turn_client_api.specs.State.{State, Stream, Control, Broken};
+ghost use Rattle.turn_client_api.specs.State.{State};
+ghost use Rattle.turn_client_api.specs.declared.state.Stream.{Stream};
+ghost use Rattle.turn_client_api.specs.declared.state.Mode.TheVariants.{Control, Broken};
 ghost use Rattle.turn_client_api.specs.Streams.{max_steps, poll_recv_step, steps_until_payload};
 ghost use Rattle.turn_client_api.specs.Receive.{piece_step};
 ghost use Rattle.turn_client_laws.specs.LawsStreams.{AreApart, DrainsOrGives, NeedsMoreBytes};

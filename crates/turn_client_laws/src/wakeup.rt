@@ -1,7 +1,8 @@
 //! When a caller is to call again.
 
 ghost use Rattle.std.specs.Prelude.{◌≡◌, ◌≢◌, ℕ, max, Bool, true, false, []};
-ghost use Rattle.turn_client_api.specs.State.{State, New, Allocated};
+ghost use Rattle.turn_client_api.specs.State.{State};
+ghost use Rattle.turn_client_api.specs.declared.state.Phase.TheVariants.{New, Allocated};
 ghost use Rattle.turn_client_api.specs.Due.{due_times, has_reply, least_due, next_wakeup};
 ghost use Rattle.turn_client_laws.specs.LawsWakeup.{IsLeast};
 

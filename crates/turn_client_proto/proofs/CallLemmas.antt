@@ -30,13 +30,15 @@ module _ {Kept : State → Type 0} (keeps : (call : Call) (s t : State) → Leav
   closed-keeps : t ≡ closed s → Kept s → Kept t
   closed-keeps e = keeps (Call.Poll 0) s t (inr e)
 
-  pub permission-keeps : (result : Result Unit CreatePermissionError) (transport : TransportType) (peer : IpAddr) (now : ℕ) → CreatesPermission result s t (create_permission_step transport peer now s) → Kept s → Kept t
+  pub permission-keeps : (result : Result Unit CreatePermissionError) (transport : TransportType) (peer : IpAddr) (now : ℕ)
+      → CreatesPermission result s t (create_permission_step transport peer now s) → Kept s → Kept t
   permission-keeps (Ok x) transport peer now h = keeps (Call.CreatePermission transport peer now) s t (inl h.1)
   permission-keeps (Err Create.AlreadyExists) transport peer now h = keeps (Call.CreatePermission transport peer now) s t (inl h.1)
   permission-keeps (Err Create.NoAllocation) transport peer now h = keeps (Call.CreatePermission transport peer now) s t (inl h.1)
   permission-keeps (Err Create.OutOfMemory) transport peer now h = keeps (Call.CreatePermission transport peer now) s t (inr h.1)
 
-  pub channel-keeps : (result : Result Unit BindChannelError) (transport : TransportType) (peer : SocketAddr) (now : ℕ) → BindsChannel result s t (bind_channel_step transport peer now s) → Kept s → Kept t
+  pub channel-keeps : (result : Result Unit BindChannelError) (transport : TransportType) (peer : SocketAddr) (now : ℕ) → BindsChannel result s t (bind_channel_step transport peer now s) → Kept s
+      → Kept t
   channel-keeps (Ok x) transport peer now h = keeps (Call.BindChannel transport peer now) s t (inl h.1)
   channel-keeps (Err Bind.AlreadyExists) transport peer now h = keeps (Call.BindChannel transport peer now) s t (inl h.1)
   channel-keeps (Err (Bind.ExpiredChannelExists moment)) transport peer now h = keeps (Call.BindChannel transport peer now) s t (inl h.1)
@@ -50,7 +52,8 @@ module _ {Kept : State → Type 0} (keeps : (call : Call) (s t : State) → Leav
   connect-keeps (Err Join.NoPermission) peer now h = keeps (Call.TcpConnect peer now) s t (inl h.1)
   connect-keeps (Err Join.OutOfMemory) peer now h = keeps (Call.TcpConnect peer now) s t (inr h.1)
 
-  pub socket-keeps : (result : Result Unit TcpAllocateError) (id : ℕ) (tuple : Socket5Tuple) (peer : SocketAddr) (local : Option SocketAddr) (now : ℕ) → TakesSocket result s t (allocated_tcp_socket_step id tuple peer local now s) → Kept s → Kept t
+  pub socket-keeps : (result : Result Unit TcpAllocateError) (id : ℕ) (tuple : Socket5Tuple) (peer : SocketAddr) (local : Option SocketAddr) (now : ℕ)
+      → TakesSocket result s t (allocated_tcp_socket_step id tuple peer local now s) → Kept s → Kept t
   socket-keeps (Ok x) id tuple peer local now h = keeps (Call.AllocatedTcpSocket id tuple peer local now) s t (inl h.1)
   socket-keeps (Err Socket.AlreadyExists) id tuple peer local now h = keeps (Call.AllocatedTcpSocket id tuple peer local now) s t (inl h.1)
   socket-keeps (Err Socket.NoAllocation) id tuple peer local now h = keeps (Call.AllocatedTcpSocket id tuple peer local now) s t (inl h.1)

@@ -13,7 +13,8 @@ use Rattle.turn_client_api.specs.State.{State}
 use Rattle.turn_client_api.specs.Steps.{EndsWithoutMemory, Leaves, state_after}
 use Rattle.turn_client_api.specs.Streams.{broken_at, max_steps, poll_recv_step, steps_until_payload}
 use Rattle.turn_client_api.specs.declared.call.Call.{Call}
-use Rattle.turn_client_api.specs.declared.call.Call.TheVariants.{AllocatedTcpSocket, Delete, HavePermission, Permissions, Poll, PollEvent, PollRecv, PollTransmit, ProtocolError, Recv, RelayedAddresses, SendTo}
+use Rattle.turn_client_api.specs.declared.call.Call.TheVariants.{AllocatedTcpSocket, Delete, HavePermission, Permissions, Poll, PollEvent, PollRecv, PollTransmit, ProtocolError, Recv}
+use Rattle.turn_client_api.specs.declared.call.Call.TheVariants.{RelayedAddresses, SendTo}
 use Rattle.turn_client_api.specs.declared.state.Stream.{Stream}
 use Rattle.turn_client_laws.proofs.EditsOfCalls.{delete-walk, quiet-walk}
 use Rattle.turn_client_laws.proofs.StreamMessageLemmas.{Same, Same-KeepsEdits, message-same}
@@ -45,7 +46,8 @@ broken-none to s none = by s.streams none
 -- ---- a datagram
 
 -- it comes from the server to the client's own address
-pub own-datagram : (transport : TransportType) (from to : SocketAddr) (bytes : List ℕ) (now : ℕ) (s : State) → s.transport ≡ Udp → (is_from_server transport from s && same_address to s.local) ≡ true → recv_step transport from to bytes now s ≡ datagram_step bytes now s
+pub own-datagram : (transport : TransportType) (from to : SocketAddr) (bytes : List ℕ) (now : ℕ) (s : State) → s.transport ≡ Udp → (is_from_server transport from s && same_address to s.local) ≡ true
+    → recv_step transport from to bytes now s ≡ datagram_step bytes now s
 own-datagram transport from to bytes now s udp own =
     let (first, second) = and_parts (is_from_server transport from s) (same_address to s.local) own in
     rw (first, udp, second) refl

@@ -24,6 +24,7 @@ callable-polled relays (Poll now) c = c
 callable-polled relays _ c = tt
 
 -- a caller of a new client that makes such calls misses no deadline
-pub timely : (transport : TransportType) (local remote : SocketAddr) (config : Config) (seed : List ℕ) (calls : List Call) → All (IsCallable config.allocation_transport) calls → SleepsThroughNothing (initial transport local remote config seed) calls
+pub timely : (transport : TransportType) (local remote : SocketAddr) (config : Config) (seed : List ℕ) (calls : List Call) → All (IsCallable config.allocation_transport) calls
+    → SleepsThroughNothing (initial transport local remote config seed) calls
 timely transport local remote config seed calls all =
     run-sleeps transport local remote config seed calls (λ k d less. callable-polled config.allocation_transport (get_or calls k d) (all k d less))

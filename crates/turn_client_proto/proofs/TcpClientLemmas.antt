@@ -56,7 +56,8 @@ module _ (s t : State) (to : SocketAddr) (bytes : List ℕ) (now : ℕ) where
   of-server tcp = rw (tcp, same_address-self s.remote) refl
 
   module _ {A E : Type 0} where
-    pub piece-keeps : (result : Result A E) → OnOk result (t ≡ (piece_at to bytes now s).1) → (s.transport ≡ Tcp → OnErr result (RecvEnds to bytes now s t)) → (piece_takes_none to bytes s ≡ true → IsOk result) → IsTcpClient s → IsTcpClient t
+    pub piece-keeps : (result : Result A E) → OnOk result (t ≡ (piece_at to bytes now s).1) → (s.transport ≡ Tcp → OnErr result (RecvEnds to bytes now s t))
+        → (piece_takes_none to bytes s ≡ true → IsOk result) → IsTcpClient s → IsTcpClient t
     piece-keeps (Ok x) e ends free h =
         leaves-IsTcpClient (Call.Recv (record { payload = bytes; transport = Tcp; from = s.remote; to = to }) now) s t
         (inl (e ∙ ap (λ (r : Outcome × State). r.1) (sym (own-piece Tcp s.remote to bytes s now h.carrier (of-server h.carrier))))) h

@@ -15,4 +15,3 @@ pub record IsUdpClient (s : State) : Type 0 where
   pub no_streams : s.streams ≡ []
   pub steady : FitsPhase s
   pub housed : GrantsHaveAllocations s
-

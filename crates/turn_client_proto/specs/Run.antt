@@ -8,13 +8,16 @@ use Rattle.turn_client_api.specs.State.{State, initial}
 use Rattle.turn_client_api.specs.Payloads.{Outcome, Payload}
 use Rattle.turn_client_api.specs.Payloads as O
 use Rattle.turn_client_api.specs.Streams.{poll_recv_step}
-use Rattle.turn_client_api.specs.Calls.{allocated_tcp_socket_step, bind_channel_step, create_permission_step, delete_step, can_send_to, permissions_of, relayed_addresses_of, send_to_step, tcp_connect_step, FitsDatagram}
+use Rattle.turn_client_api.specs.Calls.{allocated_tcp_socket_step, bind_channel_step, create_permission_step, delete_step, can_send_to, permissions_of}
+use Rattle.turn_client_api.specs.Calls.{relayed_addresses_of, send_to_step, tcp_connect_step, FitsDatagram}
 use Rattle.turn_client_api.specs.Poll.{poll_step}
 use Rattle.turn_client_api.specs.Transmit.{transmit_step}
 use Rattle.turn_client_api.specs.Answers.{event_step}
 use Rattle.turn_client_api.specs.Steps.{packet_step, state_after, state_after_all}
 use Rattle.turn_client_api.specs.declared.call.Call.{Call}
-use Rattle.turn_client_api.specs.declared.call.Call.TheVariants.{Delete, CreatePermission, BindChannel, TcpConnect, AllocatedTcpSocket, TcpClosed, SendTo, Recv, PollRecv, Poll, PollTransmit, PollEvent, ProtocolError, RelayedAddresses, Permissions, HavePermission}
+use Rattle.turn_client_api.specs.declared.call.Call.TheVariants.{Delete, CreatePermission, BindChannel, TcpConnect, AllocatedTcpSocket, TcpClosed, SendTo, Recv}
+use Rattle.turn_client_api.specs.declared.call.Call.TheVariants.{PollRecv, Poll, PollTransmit, PollEvent, ProtocolError, RelayedAddresses, Permissions}
+use Rattle.turn_client_api.specs.declared.call.Call.TheVariants.{HavePermission}
 use Rattle.turn_client_proto.specs.declared.runs.reply.PeerData.{PeerData}
 use Rattle.turn_client_proto.specs.declared.runs.reply.Reply.{Reply}
 use Rattle.turn_client_proto.specs.declared.runs.reply.Reply.TheVariants as Replies

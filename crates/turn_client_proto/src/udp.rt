@@ -25,7 +25,7 @@ use turn_client_api::{
     DataRange, DataRangeOrOwned, DelayedMessageOrChannelSend, PermissionAddressesIter,
     RelayedAddressesIter, Socket5Tuple, TransmitBuild, TurnClientApi, TurnConfig, TurnPeerData,
 };
-use turn_client_core::{TurnProtocolRecv, TurnClientProtocol};
+use turn_client_core::{TurnClientProtocol, TurnProtocolRecv};
 use turn_stun::data::Data;
 use turn_stun::instant::Instant;
 use turn_stun::transport::{Transmit, TransportType};
@@ -102,7 +102,10 @@ impl TurnClientUdp {
 
 /// The result that the caller gets for its packet: data of a peer is a range of the packet, and a packet
 /// that is not for the client is returned.
-fn answer_of<T: AsSlice<u8> + Debug + Drop>(told: TurnProtocolRecv, transmit: Transmit<T>) -> TurnRecvRet<T>
+fn answer_of<T: AsSlice<u8> + Debug + Drop>(
+    told: TurnProtocolRecv,
+    transmit: Transmit<T>,
+) -> TurnRecvRet<T>
     requires { IsRangeWithin (T.items transmit.payload) told }
     ensures answer { outcome_of result ≡ outcome_in (T.items transmit.payload) told }
     ensures hands_back { HandsBack transmit result }

@@ -52,7 +52,9 @@ someone =
     }) []
 
 -- a request is as long as the length with which it was begun
-pub as_long_as_told : (auth : ClientAuth) (transport : TransportType) (families : List AddressFamily) (purpose : Purpose) (id asked signature : ℕ) (begun message text : List ℕ) → IsMessage begun (type_number (method_for purpose) Request) id [] → AddsAsked transport families purpose begun message → IsAskedLen transport families purpose asked → signature ≡ signature_len auth Request → length text ≡ signed_len auth message → length text ≡ 20 + asked + signature
+pub as_long_as_told : (auth : ClientAuth) (transport : TransportType) (families : List AddressFamily) (purpose : Purpose) (id asked signature : ℕ) (begun message text : List ℕ)
+    → IsMessage begun (type_number (method_for purpose) Request) id [] → AddsAsked transport families purpose begun message → IsAskedLen transport families purpose asked
+    → signature ≡ signature_len auth Request → length text ≡ signed_len auth message → length text ≡ 20 + asked + signature
 as_long_as_told auth transport families purpose id asked signature begun message text is adds told signs signed =
     let all = adds someone in
     let class : class_of (type_of message) ≡ Request =

@@ -12,9 +12,9 @@
 //! Which request is made and when it is sent is left to the crates above.
 #![tactic(auto)]
 
-mod request_attributes;
 mod reply;
 mod request;
+mod request_attributes;
 mod write;
 
 pub use reply::{AttemptRefusal, accepted_reply, refused_reply};

@@ -64,7 +64,8 @@ unfolding all_turns
 all-done zero now s h = nothing-ready now s h _ refl
 all-done (suc n) now s h = by (find is_ready s.streams) refl (λ t p. all-done n now t p)
   where
-    by : (o : Option Stream) → find is_ready s.streams ≡ o → ((t : State) → weight t.streams ≤ n → find is_ready (all_turns n now t).1.streams ≡ None) → find is_ready (turn_by_turn (all_turns n now) now s o).1.streams ≡ None
+    by : (o : Option Stream) → find is_ready s.streams ≡ o → ((t : State) → weight t.streams ≤ n → find is_ready (all_turns n now t).1.streams ≡ None)
+        → find is_ready (turn_by_turn (all_turns n now) now s o).1.streams ≡ None
     by None e more = e
     by (Some stream) e more = let less = turn-lighter stream now s e in more (next_frame_step stream now s).1 (omega (arith, less, h))
 
@@ -80,7 +81,8 @@ and_then-enough n now t h = by (poll_recv_step now t) (turns-less (max_steps t) 
         ap (λ (p : List Payload × State). (q ∷ p.0, p.1)) (all-enough n (suc n) now u (omega (arith, lighter, h)) (omega (arith, lighter, h)))
 
 -- the first step of a poll
-poll-first : (now : ℕ) (s : State) (stream : Stream) → find is_ready s.streams ≡ Some stream → (k : ℕ) → max_steps s ≡ k → (m : ℕ) × (max_steps s ≡ suc m) × (poll_recv_step now s ≡ go_on (steps_until_payload m now) (next_frame_step stream now s))
+poll-first : (now : ℕ) (s : State) (stream : Stream) → find is_ready s.streams ≡ Some stream → (k : ℕ) → max_steps s ≡ k → (m : ℕ) × (max_steps s ≡ suc m)
+    × (poll_recv_step now s ≡ go_on (steps_until_payload m now) (next_frame_step stream now s))
 unfolding steps_until_payload
 poll-first now s stream e zero same =
     let less = turn-lighter stream now s e in
@@ -106,7 +108,8 @@ all-poll (suc n) now s h = by (find is_ready s.streams) refl (λ t p. all-poll n
         ∙ (and_then-enough n now t few
         ∙ ap (and_then (all_turns (suc n) now)) (sym (turns-enough m (max_steps t) now t enough (weight-le t.streams))))
 
-    step : (m : ℕ) (p : Outcome × State) → weight p.1.streams ≤ n → weight p.1.streams ≤ m → Later → gives_then (all_turns n now) p ≡ and_then (all_turns (suc n) now) (go_on (steps_until_payload m now) p)
+    step : (m : ℕ) (p : Outcome × State) → weight p.1.streams ≤ n → weight p.1.streams ≤ m → Later
+        → gives_then (all_turns n now) p ≡ and_then (all_turns (suc n) now) (go_on (steps_until_payload m now) p)
     step m (PeerData payload, t) few enough more = ap (λ (q : List Payload × State). (record payload { place = None } ∷ q.0, q.1)) (all-enough n (suc n) now t few (omega (arith, few)))
     step m (Handled, t) few enough more = on m t few enough more
     step m (Ignored, t) few enough more = on m t few enough more
@@ -130,7 +133,8 @@ unfolding polled_until_none
 polled-all zero n now s some h = absurd (omega (arith, some))
 polled-all (suc k) n now s some h = by (poll_recv_step now s) refl (turns-less (max_steps s) now s) (λ t p q. polled-all k n now t p q)
   where
-    by : (r : Option Payload × State) → poll_recv_step now s ≡ r → IsLessThan (weight s.streams) r → ((t : State) → weight t.streams < k → weight t.streams ≤ n → polled_until_none k now t ≡ all_turns n now t) → and_then (polled_until_none k now) (poll_recv_step now s) ≡ all_turns n now s
+    by : (r : Option Payload × State) → poll_recv_step now s ≡ r → IsLessThan (weight s.streams) r
+        → ((t : State) → weight t.streams < k → weight t.streams ≤ n → polled_until_none k now t ≡ all_turns n now t) → and_then (polled_until_none k now) (poll_recv_step now s) ≡ all_turns n now s
     by (None, u) e less more = ap (and_then (polled_until_none k now)) e ∙ sym (all-poll n now s h ∙ ap (and_then (all_turns n now)) e)
     by (Some q, u) e less more =
         let lighter : weight u.streams < weight s.streams = less refl in
@@ -169,7 +173,8 @@ polled_out-all n now p h =
     let most = weight-le p.1.streams in
     ap (λ (q : List Payload × State). (outcome_payloads p.0 ++ q.0, q.1)) (polled-all (max_steps p.1 + 1) n now p.1 (omega (arith, most)) h)
 
-poll-then : (n now : ℕ) (s : State) (o : Outcome) → outcome_payloads o ≡ [] → weight s.streams ≤ n → (r : Option Payload × State) → IsLessThan (weight s.streams) r → IsOwned r → IsDone r → polled_out now (option_map_or PeerData r.0 o, r.1) ≡ and_then (all_turns n now) r
+poll-then : (n now : ℕ) (s : State) (o : Outcome) → outcome_payloads o ≡ [] → weight s.streams ≤ n → (r : Option Payload × State) → IsLessThan (weight s.streams) r → IsOwned r → IsDone r
+    → polled_out now (option_map_or PeerData r.0 o, r.1) ≡ and_then (all_turns n now) r
 poll-then n now s o nothing h (None, u) less is done =
     polled_out-all (weight u.streams) now (o, u) (omega arith)
     ∙ (ap (λ (q : List Payload × State). (outcome_payloads o ++ q.0, q.1)) (all-rest (weight u.streams) now u (done refl))
@@ -179,7 +184,8 @@ poll-then n now s o nothing h (Some q, u) less is done =
     polled_out-all n now (PeerData q, u) (omega (arith, lighter, h))
     ∙ ap (λ (x : Payload). (x ∷ (all_turns n now u).0, (all_turns n now u).1)) is
 
-poll-all : (n now : ℕ) (s : State) (o : Outcome) → outcome_payloads o ≡ [] → weight s.streams ≤ n → polled_out now (option_map_or PeerData (poll_recv_step now s).0 o, (poll_recv_step now s).1) ≡ all_turns n now s
+poll-all : (n now : ℕ) (s : State) (o : Outcome) → outcome_payloads o ≡ [] → weight s.streams ≤ n
+    → polled_out now (option_map_or PeerData (poll_recv_step now s).0 o, (poll_recv_step now s).1) ≡ all_turns n now s
 poll-all n now s o nothing h =
     let most = max_steps s in
     poll-then n now s o nothing h (poll_recv_step now s) (turns-less most now s) (turns-owned most now s) (turns-done most now s (weight-le s.streams))

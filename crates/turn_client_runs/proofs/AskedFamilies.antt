@@ -27,7 +27,8 @@ pub turns-signed : (call : Call) (s : State) → AllocatesInOrder s × Signs s �
 turns-signed call s order one among = before-kept StaySigned StaySigned-IsKept call s one among order
 
 -- if a reply may grant, and answers an ALLOCATE, the first challenge was answered
-module _ (one : Input) (order : AllocatesInOrder one.before) (signs : Signs one.before) (heard : one.before.phase ≡ Requesting → ⊥) (awaited : IsAwaited one.bytes one.before) (asked : IsAllocate (id_of one.bytes) one.before) where
+module _ (one : Input) (order : AllocatesInOrder one.before) (signs : Signs one.before) (heard : one.before.phase ≡ Requesting → ⊥) (awaited : IsAwaited one.bytes one.before)
+    (asked : IsAllocate (id_of one.bytes) one.before) where
   answers-signed : AreSigned one.before.config one.before.held one.before.transactions
   answers-signed = by one.before.phase refl
     where
@@ -44,7 +45,8 @@ module _ (one : Input) (order : AllocatesInOrder one.before) (signs : Signs one.
       by Allocated e = absurd (order.0.1 (rw e (λ u. u)) (id_of one.bytes) asked)
       by Closed e = absurd (order.0.1 (rw e (λ u. u)) (id_of one.bytes) asked)
 
-pub asks-family : (one : Input) → AllocatesInOrder one.before × Signs one.before → (one.before.phase ≡ Requesting → ⊥) → IsAwaited one.bytes one.before → (p : Purpose) → Contains (purposes_of (id_of one.bytes) one.before) p → AsksForItsFamily p one
+pub asks-family : (one : Input) → AllocatesInOrder one.before × Signs one.before → (one.before.phase ≡ Requesting → ⊥) → IsAwaited one.bytes one.before → (p : Purpose)
+    → Contains (purposes_of (id_of one.bytes) one.before) p → AsksForItsFamily p one
 asks-family one (order, signs) heard awaited ForAllocation answers =
     let there = purpose-with (id_of one.bytes) ForAllocation one.before (contains-has ForAllocation (purposes_of (id_of one.bytes) one.before) answers) in
     let asked = has-contains (listing (id_of one.bytes) ForAllocation) one.before.listed there in

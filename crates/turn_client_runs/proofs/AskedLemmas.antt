@@ -75,7 +75,8 @@ channel-first all number peer ip there = by (find is_refresh all) refl (find is_
 listed-for : (message : List ℕ) (s : State) (purpose p : Purpose) → AreTogether s → (GivesBack p → ⊥) → IsRetriedFor message s purpose p → IsListedFor purpose p
 listed-for message s purpose p together wanted (inl e) = inl e
 listed-for message s purpose p together wanted (inr (first, there)) =
-    by purpose p wanted first there (together (listing (id_of message) p) (listing (id_of message) purpose) (purpose-with (id_of message) p s there) (purpose-with (id_of message) purpose s (retried-has all purpose first)) refl)
+    by purpose p wanted first there (together (listing (id_of message) p) (listing (id_of message) purpose) (purpose-with (id_of message) p s there)
+    (purpose-with (id_of message) purpose s (retried-has all purpose first)) refl)
   where
     all : List Purpose
     all = purposes_of (id_of message) s
@@ -119,7 +120,8 @@ module _ (l : Listing) (wanted : GivesBack l.purpose → ⊥) where
   differs-listed s t differs there = subst (λ (u : State). Has l u.listed) differs.others there
 
   -- the first input made it, or a later one, or it was listed before
-  step-asks : (one : Input) (later : List Input) (s : State) → DiffersInStreams s one.before → AreTogether s → Has l (processed one).1.listed ⊎ AmongTurns later → Has l s.listed ⊎ AmongTurns (one ∷ later)
+  step-asks : (one : Input) (later : List Input) (s : State) → DiffersInStreams s one.before → AreTogether s → Has l (processed one).1.listed ⊎ AmongTurns later → Has l s.listed
+      ⊎ AmongTurns (one ∷ later)
   step-asks one later s differs together (inr among) = inr (later-among one later among)
   step-asks one later s differs together (inl there) = by (turn-asks one (differs-together s one.before differs together) there)
     where
@@ -167,7 +169,8 @@ module _ (l : Listing) (wanted : GivesBack l.purpose → ⊥) where
         by (inr own) = itself own (listings-made call s (state_after call s) l (inl refl) there)
 
     -- up to an input of it
-    turn-was-asked : (front : List Input) (one : Input) (back : List Input) → handled call s ≡ front ++ one ∷ back → Has l one.before.listed → ProcessesInputs call s → Has l s.listed ⊎ AmongTurns front
+    turn-was-asked : (front : List Input) (one : Input) (back : List Input) → handled call s ≡ front ++ one ∷ back → Has l one.before.listed → ProcessesInputs call s → Has l s.listed
+        ⊎ AmongTurns front
     turn-was-asked front one back cut there (inl lead) =
         front-asks front one back s (state_after call s)
         (subst (λ (turns : List Input). InputsLead turns s (state_after call s)) cut lead)

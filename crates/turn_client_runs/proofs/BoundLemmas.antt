@@ -59,7 +59,8 @@ bind-does local message now s = by s.phase refl (connection_at local s) refl (eq
     by Allocated e (Some c) f false g = inl (rw (e, f, g) refl)
 
 -- if it binds, its request is ended
-binds-ended : (local : SocketAddr) (message : List ℕ) (now : ℕ) (s : State) → Binds local message s (bind_step local message now s) → (bind_step local message now s ≡ s) ⊎ IsNotAwaited message (bind_step local message now s)
+binds-ended : (local : SocketAddr) (message : List ℕ) (now : ℕ) (s : State) → Binds local message s (bind_step local message now s) → (bind_step local message now s ≡ s)
+    ⊎ IsNotAwaited message (bind_step local message now s)
 binds-ended local message now s b = by (bind-does local message now s)
   where
     one : (c : DataConnection) → Some b.c ≡ Some c → b.c ≡ c
@@ -90,11 +91,13 @@ not_both local one control waiting = by one.stream refl
 
 -- ---- what only an input over a waiting connection causes ends its request there
 
-module _ (P : State → Type 0) (Did : Input → Type 0) (k : IsBrought P Did) (waits : (one : Input) → Did one → (local : SocketAddr) × IsOverWaiting local one) (spares : (s t : State) → Stand.Leaves s t → t.streams ≡ s.streams → P t → P s) where
+module _ (P : State → Type 0) (Did : Input → Type 0) (k : IsBrought P Did) (waits : (one : Input) → Did one → (local : SocketAddr) × IsOverWaiting local one) (spares : (s t : State)
+    → Stand.Leaves s t → t.streams ≡ s.streams → P t → P s) where
   abbrev Ends : Input → Type 0
   Ends one = Did one × HasTransactionEnded one
 
-  bind-ends : (one : Input) (stream : Stream) → one.stream ≡ Some stream → stream.mode ≡ Waiting → is_message one.bytes ≡ true → P (bind_step stream.local one.bytes one.moment one.before) → P one.before ⊎ Ends one
+  bind-ends : (one : Input) (stream : Stream) → one.stream ≡ Some stream → stream.mode ≡ Waiting → is_message one.bytes ≡ true → P (bind_step stream.local one.bytes one.moment one.before)
+      → P one.before ⊎ Ends one
   bind-ends one stream of mode whole h = by (bind-leaves stream.local one.bytes one.moment one.before)
     where
       t : State
@@ -184,7 +187,8 @@ module _ (local peer : SocketAddr) where
       → calls ≡ earlier ++ call ∷ later → handled call (state_after_all s earlier) ≡ front ++ one ∷ back → IsBoundTo one.before
       → IsBoundSince local peer earlier s ⊎ HasSuccess local peer front
   streams-before s calls earlier call later front back one none split e h =
-      by (in_call IsBoundTo (λ one. BindsIt one × HasTransactionEnded one) (bringing-ends IsBoundTo BindsIt (Streams.bringing local peer) waits spares) stream-ends call (state_after_all s earlier) front back one e h)
+      by (in_call IsBoundTo (λ one. BindsIt one × HasTransactionEnded one) (bringing-ends IsBoundTo BindsIt (Streams.bringing local peer) waits spares) stream-ends call
+      (state_after_all s earlier) front back one e h)
     where
       by : IsBoundTo (state_after_all s earlier) ⊎ HasSuccess local peer front → IsBoundSince local peer earlier s ⊎ HasSuccess local peer front
       by (inl there) = inl (streams-since s earlier none there)
@@ -202,11 +206,13 @@ module _ (local peer : SocketAddr) where
       by (inl e) = unlike (sym (ap (λ (z : Stream). z.mode) e) ∙ mode)
       by (inr none) = none
 
-pub streams-have-success : (transport : TransportType) (own remote : SocketAddr) (config : Config) (seed : List ℕ) (calls : List Call) → BoundStreamsHaveSuccess (initial transport own remote config seed) calls
+pub streams-have-success : (transport : TransportType) (own remote : SocketAddr) (config : Config) (seed : List ℕ) (calls : List Call)
+    → BoundStreamsHaveSuccess (initial transport own remote config seed) calls
 streams-have-success transport own remote config seed calls local peer h =
     streams-since local peer (initial transport own remote config seed) calls (initial-unbound local peer transport own remote config seed) h
 
-pub streams-are-bound-before : (transport : TransportType) (own remote : SocketAddr) (config : Config) (seed : List ℕ) (calls : List Call) → StreamsAreBoundBefore (initial transport own remote config seed) calls
+pub streams-are-bound-before : (transport : TransportType) (own remote : SocketAddr) (config : Config) (seed : List ℕ) (calls : List Call)
+    → StreamsAreBoundBefore (initial transport own remote config seed) calls
 streams-are-bound-before transport own remote config seed calls earlier call later front back one local peer split e h =
     streams-before local peer (initial transport own remote config seed) calls earlier call later front back one (initial-unbound local peer transport own remote config seed) split e h
 
@@ -242,7 +248,8 @@ module _ (c : DataConnection) where
       by (inr did) = inr did
 
   connection-ends : (call : Call) (s : State) → IsOpen (state_after call s) → IsOpen s ⊎ IsDoneBy (λ one. IsConnecting c one × HasTransactionEnded one) call s
-  connection-ends = call-ends IsOpen (IsConnecting c) (Grants.bringing (Connection c)) (λ one did. (c.local, did.1.over)) (λ s t leaves same. covers-left s.grants t.grants (Connection c) leaves) connection-others
+  connection-ends = call-ends IsOpen (IsConnecting c) (Grants.bringing (Connection c)) (λ one did. (c.local, did.1.over))
+      (λ s t leaves same. covers-left s.grants t.grants (Connection c) leaves) connection-others
 
   connection-after : (s : State) (calls : List Call) → s.grants ≡ [] → IsBoundConnection c (state_after_all s calls) → HasConnectionSuccess c (handled_in s calls)
   connection-after s calls none h = by (run-brings IsOpen (λ one. IsConnecting c one × HasTransactionEnded one) connection-ends s calls (bound-open (state_after_all s calls) h))
@@ -251,5 +258,6 @@ module _ (c : DataConnection) where
       by (inl (is, there, kept)) = absurd (rw none at there)
       by (inr among) = among
 
-pub connections-have-success : (transport : TransportType) (own remote : SocketAddr) (config : Config) (seed : List ℕ) (calls : List Call) → BoundConnectionsHaveSuccess (initial transport own remote config seed) calls
+pub connections-have-success : (transport : TransportType) (own remote : SocketAddr) (config : Config) (seed : List ℕ) (calls : List Call)
+    → BoundConnectionsHaveSuccess (initial transport own remote config seed) calls
 connections-have-success transport own remote config seed calls c h = connection-after c (initial transport own remote config seed) calls refl h

@@ -4,7 +4,8 @@ use Rattle.std.proofs.Common.{◌≡◌, ◌⊎◌, ◌∙◌, ℕ, Bool, true, 
 use Rattle.std.specs.List.{Contains}
 use Rattle.turn_client_api.specs.State.{State}
 use Rattle.turn_client_api.specs.declared.call.Call.{Call}
-use Rattle.turn_client_api.specs.declared.call.Call.TheVariants.{Delete, CreatePermission, BindChannel, TcpConnect, AllocatedTcpSocket, TcpClosed, SendTo, Recv, PollRecv, Poll, PollTransmit, PollEvent, ProtocolError, RelayedAddresses, Permissions, HavePermission}
+use Rattle.turn_client_api.specs.declared.call.Call.TheVariants.{Delete, CreatePermission, BindChannel, TcpConnect, AllocatedTcpSocket, TcpClosed, SendTo, Recv, PollRecv, Poll, PollTransmit}
+use Rattle.turn_client_api.specs.declared.call.Call.TheVariants.{PollEvent, ProtocolError, RelayedAddresses, Permissions, HavePermission}
 use Rattle.turn_client_api.specs.declared.grant.Grant.{Grant}
 use Rattle.turn_client_api.specs.declared.grant.Grant.TheVariants.{Allocation, Permission, Channel, Connect, Offer, Connection}
 use Rattle.turn_client_api.specs.declared.grant.Relay.{Relay}
@@ -123,7 +124,8 @@ module _ (g : Grant) where
 
   pub call-causes : (call : Call) (s : State) → WasActive (state_after call s) g → WasActive s g ⊎ IsCaused call s
   call-causes call s stood =
-      by (leaves-bring (λ u. Covers u.grants g) (Granting g) (granting-brought g) (λ call s. IsEndedBy call s g) quiet-grants call s (state_after call s) (inl refl) (stood-covers (state_after call s) stood))
+      by (leaves-bring (λ u. Covers u.grants g) (Granting g) (granting-brought g) (λ call s. IsEndedBy call s g) quiet-grants call s (state_after call s) (inl refl)
+      (stood-covers (state_after call s) stood))
     where
       by : Covers s.grants g ⊎ IsEndedBy call s g ⊎ IsDoneBy (Granting g) call s → WasActive s g ⊎ IsCaused call s
       by (inl covers) = inl (covers-stood s g covers)

@@ -75,7 +75,8 @@ turn-grows one = by (ltb (processed one).1.challenges n) refl
     did fewer (inr heeded) = inr (fewer, heeded.0, heeded.1)
 
     by : (b : Bool) → ltb (processed one).1.challenges n ≡ b → (n ≤ (processed one).1.challenges) ⊎ IsHeededIn one
-    by true e = let fewer = ltb-true (processed one).1.challenges n e in did fewer (turn-brings (λ s. s.challenges < n) IsWellHeeded (brought (λ s. s.challenges < n) IsReplyAccepted (bringing n)) one fewer)
+    by true e = let fewer = ltb-true (processed one).1.challenges n e in did fewer
+        (turn-brings (λ s. s.challenges < n) IsWellHeeded (brought (λ s. s.challenges < n) IsReplyAccepted (bringing n)) one fewer)
     by false e = inl (ltb-false (processed one).1.challenges n e)
 
 -- the count grows by each answer, or one of these inputs is accepted
@@ -89,7 +90,8 @@ lead-counts (one ∷ later) s t (first, lead) = by (lead-counts later (processed
     same : one.before.challenges ≡ s.challenges
     same = ap (λ (x : State). x.challenges) first.others
 
-    count : (b : Bool) → is_answer one ≡ b → one.before.challenges ≤ (processed one).1.challenges → (processed one).1.challenges + answers_in later ≤ t.challenges → s.challenges + answers_in (one ∷ later) ≤ t.challenges
+    count : (b : Bool) → is_answer one ≡ b → one.before.challenges ≤ (processed one).1.challenges → (processed one).1.challenges + answers_in later ≤ t.challenges
+        → s.challenges + answers_in (one ∷ later) ≤ t.challenges
     count true e grows rest = rw e (let more = ltb-true one.before.challenges (processed one).1.challenges e in omega (arith, more, rest, same))
     count false e grows rest = rw e (omega (arith, grows, rest, same))
 
@@ -103,7 +105,8 @@ idle-counts : (call : Call) (s : State) → handled call s ≡ [] → Counts s (
 idle-counts call s none = by (ltb (state_after call s).challenges s.challenges) refl
   where
     by : (b : Bool) → ltb (state_after call s).challenges s.challenges ≡ b → Counts s (state_after call s) (handled call s)
-    by true e = absurd (among-none IsWellHeeded (subst (λ (turns : List Input). IsAmong IsWellHeeded turns) none (leaves-heeded call s (state_after call s) (inl refl) (ltb-true (state_after call s).challenges s.challenges e))))
+    by true e = absurd (among-none IsWellHeeded (subst (λ (turns : List Input). IsAmong IsWellHeeded turns) none
+        (leaves-heeded call s (state_after call s) (inl refl) (ltb-true (state_after call s).challenges s.challenges e))))
     by false e = rw none (inl (let less = ltb-false (state_after call s).challenges s.challenges e in omega (arith, less)))
 
 call-counts : (call : Call) (s : State) → Counts s (state_after call s) (handled call s)

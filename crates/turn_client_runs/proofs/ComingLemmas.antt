@@ -9,11 +9,13 @@ use Rattle.turn_types.specs.Frames.{begins_no_frame, frame_len}
 use Rattle.turn_agent.specs.Agent.{same_address}
 use Rattle.turn_client_api.specs.State.{State}
 use Rattle.turn_client_api.specs.declared.call.Call.{Call}
-use Rattle.turn_client_api.specs.declared.call.Call.TheVariants.{Delete, CreatePermission, BindChannel, TcpConnect, AllocatedTcpSocket, TcpClosed, SendTo, Recv, PollRecv, Poll, PollTransmit, PollEvent, ProtocolError, RelayedAddresses, Permissions, HavePermission}
+use Rattle.turn_client_api.specs.declared.call.Call.TheVariants.{Delete, CreatePermission, BindChannel, TcpConnect, AllocatedTcpSocket, TcpClosed, SendTo, Recv, PollRecv, Poll, PollTransmit}
+use Rattle.turn_client_api.specs.declared.call.Call.TheVariants.{PollEvent, ProtocolError, RelayedAddresses, Permissions, HavePermission}
 use Rattle.turn_client_api.specs.declared.state.Mode.{Mode}
 use Rattle.turn_client_api.specs.declared.state.Mode.TheVariants.{Control, Waiting, Bound, Broken}
 use Rattle.turn_client_api.specs.declared.state.Stream.{Stream}
-use Rattle.turn_client_laws.specs.Handled.{Input, stream_with_piece, fed_taken, frame_taken, handled, is_front, piece_inputs, poll_recv_inputs, recv_inputs, stream_inputs, stream_inputs_taken, taken_first, taken_in, taken_of_len, then_taken, inputs_taken, unless_given}
+use Rattle.turn_client_laws.specs.Handled.{Input, stream_with_piece, fed_taken, frame_taken, handled, is_front, piece_inputs, poll_recv_inputs, recv_inputs, stream_inputs, stream_inputs_taken}
+use Rattle.turn_client_laws.specs.Handled.{taken_first, taken_in, taken_of_len, then_taken, inputs_taken, unless_given}
 use Rattle.turn_client_api.specs.Payloads.{Payload, Outcome, Handled, Ignored, PeerData, PeerIcmp}
 use Rattle.turn_client_api.specs.Receive.{first_frame_step, is_from_server}
 use Rattle.turn_client_api.specs.Streams.{is_ready, max_steps, payload_in, stream_at, next_frame_step, with_bytes}
@@ -107,7 +109,8 @@ stream-frames stream (b ∷ bs) now s = piece-frames stream.mode stream (b ∷ b
 frames-come : (packet : Transmit (List ℕ)) (now : ℕ) (turns : List Input) → AllFrames now turns → (one : Input) → Has one turns → ComesIn (Recv packet now) one
 frames-come packet now turns frames one there = let (at, (stream, is, front)) = frames one there in (at, rw is front)
 
-recv-comes : (carrier : TransportType) (packet : Transmit (List ℕ)) (now : ℕ) (s : State) → s.transport ≡ carrier → (one : Input) → Has one (recv_inputs packet.transport packet.from packet.to packet.payload now (record s { transport = carrier })) → ComesIn (Recv packet now) one
+recv-comes : (carrier : TransportType) (packet : Transmit (List ℕ)) (now : ℕ) (s : State) → s.transport ≡ carrier → (one : Input)
+    → Has one (recv_inputs packet.transport packet.from packet.to packet.payload now (record s { transport = carrier })) → ComesIn (Recv packet now) one
 recv-comes Udp packet now s e one = by (is_from_server packet.transport packet.from u) (same_address packet.to s.local)
   where
     u : State

@@ -40,7 +40,8 @@ agrees-by : (a : SocketAddr) (c : Bool) (p q : List Payload × State) (d e : Dra
 agrees-by a c p q d e same is h = rw (same, is) h
 
 -- if nothing more is processed
-pub rest-left : (a : SocketAddr) (c : Bool) (t : State) (stream : Stream) (rest : List ℕ) → IsAlone a t → stream_at a t ≡ Some stream → SuitsMode c stream.mode → IsLeft a c (with_bytes a rest t) t rest
+pub rest-left : (a : SocketAddr) (c : Bool) (t : State) (stream : Stream) (rest : List ℕ) → IsAlone a t → stream_at a t ≡ Some stream → SuitsMode c stream.mode
+    → IsLeft a c (with_bytes a rest t) t rest
 rest-left a c t stream rest alone e suits =
     let found = bytes-found a rest t stream e in
     record { after = refl; empty = alone.empty; held = rw found refl; suits = rw found suits }
@@ -62,14 +63,17 @@ module _ (a : SocketAddr) (now : ℕ) where
   out-alone stream bytes t alone at_a =
       ap (λ (l : SocketAddr). with_bytes l [] (with_bytes a bytes t)) at_a ∙ (bytes-twice a bytes [] t ∙ alone.empty)
 
-  turn-fed : (stream : Stream) (bytes : List ℕ) (t : State) → IsAlone a t → stream_at a t ≡ Some stream → next_frame_step (fed stream bytes) now (with_bytes a bytes t) ≡ detached_frame_step (fed stream bytes) now t
+  turn-fed : (stream : Stream) (bytes : List ℕ) (t : State) → IsAlone a t → stream_at a t ≡ Some stream
+      → next_frame_step (fed stream bytes) now (with_bytes a bytes t) ≡ detached_frame_step (fed stream bytes) now t
   turn-fed stream bytes t alone e = ap (detached_frame_step (fed stream bytes) now) (out-alone stream bytes t alone (found-local a t stream e))
 
   -- a stream that is not ready, while no other is
-  waits-fed : (n : ℕ) (stream : Stream) (bytes : List ℕ) (t : State) → IsAlone a t → stream_at a t ≡ Some stream → is_ready (fed stream bytes) ≡ false → all_turns n now (with_bytes a bytes t) ≡ ([], with_bytes a bytes t)
+  waits-fed : (n : ℕ) (stream : Stream) (bytes : List ℕ) (t : State) → IsAlone a t → stream_at a t ≡ Some stream → is_ready (fed stream bytes) ≡ false
+      → all_turns n now (with_bytes a bytes t) ≡ ([], with_bytes a bytes t)
   waits-fed n stream bytes t alone e waits = all-rest n now (with_bytes a bytes t) (fed-found a bytes t stream alone e ∙ rw waits refl)
 
-  pub ready-fed : (n : ℕ) (stream : Stream) (bytes : List ℕ) (t : State) → IsAlone a t → stream_at a t ≡ Some stream → is_ready (fed stream bytes) ≡ true → all_turns (suc n) now (with_bytes a bytes t) ≡ gives_then (all_turns n now) (detached_frame_step (fed stream bytes) now t)
+  pub ready-fed : (n : ℕ) (stream : Stream) (bytes : List ℕ) (t : State) → IsAlone a t → stream_at a t ≡ Some stream → is_ready (fed stream bytes) ≡ true
+      → all_turns (suc n) now (with_bytes a bytes t) ≡ gives_then (all_turns n now) (detached_frame_step (fed stream bytes) now t)
   ready-fed n stream bytes t alone e ready =
       all-first n now (with_bytes a bytes t) (fed stream bytes) (fed-found a bytes t stream alone e ∙ rw ready refl)
       ∙ ap (gives_then (all_turns n now)) (turn-fed stream bytes t alone e)
@@ -88,7 +92,8 @@ module _ (a : SocketAddr) (now : ℕ) where
 
   -- ---- a bound stream
 
-  bound-agrees : (n : ℕ) (t : State) (stream : Stream) (peer : SocketAddr) (bytes : List ℕ) → IsAlone a t → stream_at a t ≡ Some (record stream { mode = Bound peer }) → Agrees a false (all_turns (suc n) now (with_bytes a bytes t)) (whole a now t bytes)
+  bound-agrees : (n : ℕ) (t : State) (stream : Stream) (peer : SocketAddr) (bytes : List ℕ) → IsAlone a t → stream_at a t ≡ Some (record stream { mode = Bound peer })
+      → Agrees a false (all_turns (suc n) now (with_bytes a bytes t)) (whole a now t bytes)
   bound-agrees n t stream peer [] alone e =
       let u = record stream { mode = Bound peer } in
       agrees-by a false _ ([], with_bytes a [] t) _ (left t []) (waits-fed (suc n) u [] t alone e refl) (bound-whole a now t peer stream e [])
@@ -127,7 +132,8 @@ module _ (a : SocketAddr) (now : ℕ) where
     breaks n [] f = cc
     breaks n (b ∷ bytes) f =
         let u = broken_at a t in
-        let turned-is : detached_frame_step (fed here (b ∷ bytes)) now t ≡ (Handled, u) = is.turns (record stream { bytes = b ∷ bytes }) now t ∙ rw f (ap (λ (l : SocketAddr). (Handled, broken_at l t)) local-is) in
+        let turned-is : detached_frame_step (fed here (b ∷ bytes)) now t ≡ (Handled, u) = is.turns (record stream { bytes = b ∷ bytes }) now t
+        ∙ rw f (ap (λ (l : SocketAddr). (Handled, broken_at l t)) local-is) in
         agrees-by a c _ ([], u) _ (left u [])
         (ready-fed n here (b ∷ bytes) t alone e (readiness (b ∷ bytes) (Some (length (b ∷ bytes))) (rw f refl))
         ∙ (ap (gives_then (all_turns n now)) turned-is ∙ broken-rests n here t alone e))
@@ -150,7 +156,8 @@ module _ (a : SocketAddr) (now : ℕ) where
         aside-alone a t p.1 (subst (λ (l : SocketAddr). IsAsideFrom l t p.1) local-is (frame-aside here frame now t)) (sym empty) alone.distinct alone.others
 
     -- the first frame has so many bytes
-    gives : (n : ℕ) (bytes : List ℕ) (k : ℕ) → begins_no_frame bytes ≡ false → frame_len bytes ≡ Some k → length bytes < suc n → Later c n → Agrees a c (all_turns (suc n) now (with_bytes a bytes t)) (whole a now t bytes)
+    gives : (n : ℕ) (bytes : List ℕ) (k : ℕ) → begins_no_frame bytes ≡ false → frame_len bytes ≡ Some k → length bytes < suc n → Later c n
+        → Agrees a c (all_turns (suc n) now (with_bytes a bytes t)) (whole a now t bytes)
     gives n bytes k f g few later =
         let w = frame_len-IsWhole bytes k g in
         let frame = take k bytes in
@@ -203,7 +210,8 @@ module _ (a : SocketAddr) (now : ℕ) where
 
   -- ---- any stream that is not broken
 
-  in-mode : (c : Bool) (m : Mode) (stream : Stream) (t : State) → SuitsMode c m → (m ≡ Broken → ⊥) → IsAlone a t → stream_at a t ≡ Some (record stream { mode = m }) → (n : ℕ) (bytes : List ℕ) → length bytes < suc n → Later c n → Agrees a c (all_turns (suc n) now (with_bytes a bytes t)) (whole a now t bytes)
+  in-mode : (c : Bool) (m : Mode) (stream : Stream) (t : State) → SuitsMode c m → (m ≡ Broken → ⊥) → IsAlone a t → stream_at a t ≡ Some (record stream { mode = m }) → (n : ℕ) (bytes : List ℕ)
+      → length bytes < suc n → Later c n → Agrees a c (all_turns (suc n) now (with_bytes a bytes t)) (whole a now t bytes)
   in-mode true Control stream t suits unbroken alone e n bytes few later = framed-agrees true Control control-framed stream t alone e n bytes few later
   in-mode true Waiting stream t suits unbroken alone e n bytes few later = absurd suits
   in-mode true (Bound peer) stream t suits unbroken alone e n bytes few later = absurd suits

@@ -47,8 +47,10 @@ pub record IsFramed (c : Bool) (m : Mode) : Type 0 where
   pub turns : (stream : Stream) (now : ℕ) (t : State) → detached_frame_step (record stream { mode = m }) now t ≡ framed_stream_step (record stream { mode = m }) now t
   pub part : (stream : Stream) (part : List ℕ) (now : ℕ) (t : State) → part_step (record stream { mode = m }) part now t ≡ framed_step (record stream { mode = m }) part now t
   pub same : (stream : Stream) (bytes frame : List ℕ) (now : ℕ) (t : State) → frame_step (record stream { mode = m; bytes = bytes }) frame now t ≡ frame_step (record stream { mode = m }) frame now t
-  pub counts : (stream : Stream) (frame : List ℕ) (now : ℕ) (t : State) → flat_map (one_by_one c) (outcome_payloads (frame_step (record stream { mode = m }) frame now t).0) ≡ outcome_payloads (frame_step (record stream { mode = m }) frame now t).0
-  pub stays : (a : SocketAddr) (stream : Stream) (frame : List ℕ) (now : ℕ) (t : State) → stream_at a t ≡ Some (record stream { mode = m }) → IsThere c a (frame_step (record stream { mode = m }) frame now t).1
+  pub counts : (stream : Stream) (frame : List ℕ) (now : ℕ) (t : State) → flat_map (one_by_one c) (outcome_payloads (frame_step (record stream { mode = m }) frame now t).0) ≡ outcome_payloads
+      (frame_step (record stream { mode = m }) frame now t).0
+  pub stays : (a : SocketAddr) (stream : Stream) (frame : List ℕ) (now : ℕ) (t : State) → stream_at a t ≡ Some (record stream { mode = m })
+      → IsThere c a (frame_step (record stream { mode = m }) frame now t).1
 
 -- ---- the control connection
 
@@ -86,10 +88,13 @@ control-framed = record {
 
 -- ---- a connection that waits to be bound
 
-waiting-counts : (stream : Stream) (frame : List ℕ) (now : ℕ) (t : State) → flat_map (one_by_one false) (outcome_payloads (frame_step (record stream { mode = Waiting }) frame now t).0) ≡ outcome_payloads (frame_step (record stream { mode = Waiting }) frame now t).0
+waiting-counts : (stream : Stream) (frame : List ℕ) (now : ℕ) (t : State) → flat_map (one_by_one false)
+    (outcome_payloads (frame_step (record stream { mode = Waiting }) frame now t).0) ≡ outcome_payloads (frame_step (record stream { mode = Waiting }) frame now t).0
 waiting-counts stream frame now t = by (not (begins_message frame)) (is_message frame)
   where
-    by : (b d : Bool) → flat_map (one_by_one false) (outcome_payloads (cond {A = Outcome × State} b (Ignored, t) (cond {A = Outcome × State} d (Handled, bind_step stream.local frame now t) (Handled, t))).0) ≡ outcome_payloads (cond {A = Outcome × State} b (Ignored, t) (cond {A = Outcome × State} d (Handled, bind_step stream.local frame now t) (Handled, t))).0
+    by : (b d : Bool) → flat_map (one_by_one false) (outcome_payloads (cond {A = Outcome × State} b (Ignored, t)
+        (cond {A = Outcome × State} d (Handled, bind_step stream.local frame now t) (Handled, t))).0) ≡ outcome_payloads
+        (cond {A = Outcome × State} b (Ignored, t) (cond {A = Outcome × State} d (Handled, bind_step stream.local frame now t) (Handled, t))).0
     by true d = refl
     by false true = refl
     by false false = refl

@@ -197,7 +197,8 @@ module _ (one : Input) (stream : Stream) (of : one.stream ≡ Some stream) (wait
       let judged : IsAccepted (bind_judgement one.before b.c.local one.bytes) = rw b.judged tt in
       rw (made-waiting one stream of waits whole, steps) (bind-ended b.c one.bytes one.moment one.before judged)
 
-  bind-accepting : (b : Binds stream.local one.bytes one.before (bind_step stream.local one.bytes one.moment one.before)) → one.before.phase ≡ Allocated → (turn : IsBindInput stream.local b.c.peer one) → IsAccepting (ForBind stream.local turn.asked turn.number) one
+  bind-accepting : (b : Binds stream.local one.bytes one.before (bind_step stream.local one.bytes one.moment one.before)) → one.before.phase ≡ Allocated
+      → (turn : IsBindInput stream.local b.c.peer one) → IsAccepting (ForBind stream.local turn.asked turn.number) one
   bind-accepting b phase turn = record {
     whole = whole;
     success = turn.success;
@@ -209,7 +210,8 @@ module _ (one : Input) (stream : Stream) (of : one.stream ≡ Some stream) (wait
   }
 
   -- the connection is the one from the local address over which the message was received
-  bound-granting : (b : Binds stream.local one.bytes one.before (bind_step stream.local one.bytes one.moment one.before)) → one.before.phase ≡ Allocated → (g : Grant) (c : DataConnection) → c.local ≡ b.c.local → IsSameGrant (Connection c) g → Granting g one
+  bound-granting : (b : Binds stream.local one.bytes one.before (bind_step stream.local one.bytes one.moment one.before)) → one.before.phase ≡ Allocated → (g : Grant) (c : DataConnection)
+      → c.local ≡ b.c.local → IsSameGrant (Connection c) g → Granting g one
   bound-granting b phase (Connection d) c at (same, none) =
       let here : c.local ≡ stream.local = at ∙ found-local stream.local b.c _ b.found in
       let turn = binds-turn one stream (bind_step stream.local one.bytes one.moment one.before) of waits whole b in
@@ -225,7 +227,8 @@ module _ (one : Input) (stream : Stream) (of : one.stream ≡ Some stream) (wait
   bound-granting b phase (Connect peer) c at k = absurd k
   bound-granting b phase (Offer offer) c at k = absurd k
 
-  bind-covers : (g : Grant) → one.before.phase ≡ Allocated → Binds stream.local one.bytes one.before (bind_step stream.local one.bytes one.moment one.before) → Covers (bind_step stream.local one.bytes one.moment one.before).grants g → Covers one.before.grants g ⊎ Granting g one
+  bind-covers : (g : Grant) → one.before.phase ≡ Allocated → Binds stream.local one.bytes one.before (bind_step stream.local one.bytes one.moment one.before)
+      → Covers (bind_step stream.local one.bytes one.moment one.before).grants g → Covers one.before.grants g ⊎ Granting g one
   bind-covers g phase b (is, there, kept) = by (has-mapped (deadline_set b.c.local None) is one.before.grants (subst (Has is) b.grants there))
     where
       at : (x : Grant) → Has x one.before.grants → (is ≡ x) ⊎ ((c : DataConnection) × (is ≡ Connection c) × (c.local ≡ b.c.local)) → Covers one.before.grants g ⊎ Granting g one

@@ -10,7 +10,8 @@ use Rattle.turn_auth.specs.LongTerm.{Challenge}
 use Rattle.turn_client_api.specs.Config.{Config}
 use Rattle.turn_client_api.specs.State.{State, initial}
 use Rattle.turn_client_api.specs.Grants.{is_connection_from, purposes_of, without_grants}
-use Rattle.turn_client_api.specs.Judgement.{Judgement, Unrelated, Challenged, Fatal, LateResponse, DataIndication, ConnectionAttempt, SignedRequest, SignedSuccess, SignedError, answers_one, challenge_in, challenged_or, judgement_of}
+use Rattle.turn_client_api.specs.Judgement.{Judgement, Unrelated, Challenged, Fatal, LateResponse, DataIndication, ConnectionAttempt, SignedRequest, SignedSuccess, SignedError, answers_one}
+use Rattle.turn_client_api.specs.Judgement.{challenge_in, challenged_or, judgement_of}
 use Rattle.turn_client_api.specs.Effect.{closed, transaction_ended, fail_all}
 use Rattle.turn_client_api.specs.Retry.{max_challenges, retried, state_after_retry}
 use Rattle.turn_client_api.specs.Connections.{bind_step, connection_at}
@@ -21,7 +22,8 @@ use Rattle.turn_client_api.specs.Steps.{state_after, state_after_all}
 use Rattle.turn_client_api.specs.Transmit.{sent}
 use Rattle.turn_client_laws.specs.LawsHandled.{DiffersInStreams, IsDoneBy, IsOverControl, TakesInput}
 use Rattle.turn_client_api.specs.declared.call.Call.{Call}
-use Rattle.turn_client_api.specs.declared.call.Call.TheVariants.{Delete, CreatePermission, BindChannel, TcpConnect, AllocatedTcpSocket, TcpClosed, SendTo, Recv, PollRecv, Poll, PollTransmit, PollEvent, ProtocolError, RelayedAddresses, Permissions, HavePermission}
+use Rattle.turn_client_api.specs.declared.call.Call.TheVariants.{Delete, CreatePermission, BindChannel, TcpConnect, AllocatedTcpSocket, TcpClosed, SendTo, Recv, PollRecv, Poll, PollTransmit}
+use Rattle.turn_client_api.specs.declared.call.Call.TheVariants.{PollEvent, ProtocolError, RelayedAddresses, Permissions, HavePermission}
 use Rattle.turn_client_api.specs.declared.grant.Purpose.{Purpose}
 use Rattle.turn_client_api.specs.declared.state.Phase.{Phase}
 use Rattle.turn_client_api.specs.declared.state.Phase.TheVariants.{New, Requesting, Authenticating, Allocated, Closed}
@@ -153,7 +155,7 @@ bringing = record {
   message = control;
   binds = λ one stream of waits whole h. inl (bind-late stream.local one.bytes one.moment one.before h);
   gone = gone-late;
-  transaction_ended = closed-late;
+  ended = closed-late;
 }
   where
     control : (one : Input) → IsOverControl one → is_message one.bytes ≡ true → IsLate (message_step one.bytes one.moment one.before).1 → IsLate one.before ⊎ IsFirst one
@@ -246,7 +248,8 @@ held-from transport local remote config seed calls c e = by (run-brings IsLate I
     first : State
     first = initial transport local remote config seed
 
-    same : (one : Input) (d : Challenge) → (processed one).1.held ≡ Some d → (x : Challenge) × ((state_after_all first calls).held ≡ Some x) × (x.realm ≡ d.realm) × (x.algorithm ≡ d.algorithm) → (c.realm ≡ d.realm) × (c.algorithm ≡ d.algorithm)
+    same : (one : Input) (d : Challenge) → (processed one).1.held ≡ Some d → (x : Challenge) × ((state_after_all first calls).held ≡ Some x) × (x.realm ≡ d.realm) × (x.algorithm ≡ d.algorithm)
+        → (c.realm ≡ d.realm) × (c.algorithm ≡ d.algorithm)
     same one d held (x, f, realm, algorithm) = let is : c ≡ x = same_Some c x (sym e ∙ f) in rw is (realm, algorithm)
 
     by : IsLate first ⊎ IsAmong IsFirst (handled_in first calls) → IsAmong (IsOfChallenge c) (handled_in first calls)

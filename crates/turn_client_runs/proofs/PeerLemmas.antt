@@ -13,7 +13,8 @@ use Rattle.turn_client_api.specs.State.{State}
 use Rattle.turn_client_api.specs.Payloads.{Payload, Outcome, Handled, Ignored, PeerData, PeerIcmp}
 use Rattle.turn_client_api.specs.Streams.{is_ready, owned, payload_in, stream_at, next_frame_step, with_bytes}
 use Rattle.turn_client_api.specs.Receive.{first_frame_step, is_from_server}
-use Rattle.turn_client_laws.specs.Handled.{Input, stream_with_piece, fed_taken, frame_taken, handled, is_front, processed, payloads_by, piece_inputs, poll_recv_inputs, recv_inputs, stream_inputs, stream_inputs_taken, taken_first, taken_in, taken_of_len, then_taken, stream_input, input_payload, inputs_taken, unless_given}
+use Rattle.turn_client_laws.specs.Handled.{Input, stream_with_piece, fed_taken, frame_taken, handled, is_front, processed, payloads_by, piece_inputs, poll_recv_inputs, recv_inputs, stream_inputs}
+use Rattle.turn_client_laws.specs.Handled.{stream_inputs_taken, taken_first, taken_in, taken_of_len, then_taken, stream_input, input_payload, inputs_taken, unless_given}
 use Rattle.turn_client_laws.specs.LawsHandled.{IsBoundAt}
 use Rattle.turn_client_laws.specs.LawsPeers.{IsPermittedInput, IsMessageFromPermitted, HasNoPeer}
 use Rattle.turn_client_api.specs.Steps.{state_after}
@@ -102,7 +103,8 @@ turns-in (suc n) now s = by (find is_ready s.streams) refl (λ t. turns-in n now
     by (Some stream) e more =
         let next = inputs_taken n now (next_frame_step stream now s).1 in
         let o = payload_in (next_frame_step stream now s).0 in
-        append-in (stream_inputs_taken false stream now s) (unless_given o next) (taken-in false stream now s (found-stands is_ready stream s e)) (unless-in o next (more (next_frame_step stream now s).1))
+        append-in (stream_inputs_taken false stream now s) (unless_given o next) (taken-in false stream now s (found-stands is_ready stream s e))
+        (unless-in o next (more (next_frame_step stream now s).1))
 
 poll_recv-in : (now : ℕ) (s : State) → AreIn (poll_recv_inputs now s)
 poll_recv-in now s = turns-in _ now s
@@ -116,7 +118,8 @@ then-in now (Ignored, t) = poll_recv-in now t
 piece_in_mode : (m : Mode) (stream : Stream) (piece : List ℕ) (now : ℕ) (s : State) → Stands (record stream { mode = m }) s → AreIn (piece_inputs (record stream { mode = m }) piece now s)
 piece_in_mode Control stream piece now s stands =
     let u = record stream { mode = Control } in
-    append-in (fed_taken u piece now s) (then_taken now (first_frame_step u piece now s)) (taken-in (is_front u.bytes) (stream_with_piece u piece) now s stands) (then-in now (first_frame_step u piece now s))
+    append-in (fed_taken u piece now s) (then_taken now (first_frame_step u piece now s)) (taken-in (is_front u.bytes) (stream_with_piece u piece) now s stands)
+    (then-in now (first_frame_step u piece now s))
 piece_in_mode Waiting stream piece now s stands = let u = record stream { mode = Waiting } in taken-in (is_front u.bytes) (stream_with_piece u piece) now s stands
 piece_in_mode (Bound peer) stream piece now s stands = let u = record stream { mode = Bound peer } in taken-in (is_front u.bytes) (stream_with_piece u piece) now s stands
 piece_in_mode Broken stream piece now s stands = by (same_address stream.local s.local)
@@ -134,7 +137,8 @@ datagram-in : (one : Input) → one.stream ≡ None → AreIn (one ∷ [])
 datagram-in one none other (inl e) = rw e (λ stream is. let no_stream : None ≡ Some stream = sym none ∙ is in cc)
 datagram-in one none other (inr h) = absurd h
 
-recv_over : (carrier : TransportType) (transport : TransportType) (from to : SocketAddr) (bytes : List ℕ) (now : ℕ) (s : State) → AreIn (recv_inputs transport from to bytes now (record s { transport = carrier }))
+recv_over : (carrier : TransportType) (transport : TransportType) (from to : SocketAddr) (bytes : List ℕ) (now : ℕ) (s : State)
+    → AreIn (recv_inputs transport from to bytes now (record s { transport = carrier }))
 recv_over Udp transport from to bytes now s = by (is_from_server transport from u) (same_address to s.local)
   where
     u : State
@@ -206,7 +210,9 @@ module _ (payload : Payload) where
   nobody one Ignored none gives = absurd (nothing one.is_lent (inr gives))
   nobody one (PeerIcmp transport peer icmp) none gives = absurd none
 
-  stream_in_mode : (m : Mode) (stream : Stream) (t : Input) → input_payload (record t { stream = Some (record stream { mode = m }) }) ≡ Some payload → IsPermittedInput (record t { stream = Some (record stream { mode = m }) }) → IsIn (record t { stream = Some (record stream { mode = m }) }) → IsPeerPermitted payload.peer (record t { stream = Some (record stream { mode = m }) })
+  stream_in_mode : (m : Mode) (stream : Stream) (t : Input) → input_payload (record t { stream = Some (record stream { mode = m }) }) ≡ Some payload
+      → IsPermittedInput (record t { stream = Some (record stream { mode = m }) }) → IsIn (record t { stream = Some (record stream { mode = m }) })
+      → IsPeerPermitted payload.peer (record t { stream = Some (record stream { mode = m }) })
   stream_in_mode Control stream t gives exact is = let one = record t { stream = Some (record stream { mode = Control }) } in through one (processed one).0 exact gives
   stream_in_mode Waiting stream t gives exact is = let one = record t { stream = Some (record stream { mode = Waiting }) } in nobody one (processed one).0 exact gives
   stream_in_mode Broken stream t gives exact is = let one = record t { stream = Some (record stream { mode = Broken }) } in nobody one (processed one).0 exact gives
@@ -222,7 +228,8 @@ module _ (payload : Payload) where
   let-in : (one : Input) → input_payload one ≡ Some payload → IsPermittedInput one → IsIn one → IsPeerPermitted payload.peer one
   let-in one = by one.stream one
     where
-      by : (o : Option Stream) (t : Input) → input_payload (record t { stream = o }) ≡ Some payload → IsPermittedInput (record t { stream = o }) → IsIn (record t { stream = o }) → IsPeerPermitted payload.peer (record t { stream = o })
+      by : (o : Option Stream) (t : Input) → input_payload (record t { stream = o }) ≡ Some payload → IsPermittedInput (record t { stream = o }) → IsIn (record t { stream = o })
+          → IsPeerPermitted payload.peer (record t { stream = o })
       by None t gives exact is = let one = record t { stream = None } in through one (processed one).0 exact gives
       by (Some stream) t gives exact is = stream_in_mode stream.mode stream t gives exact is
 
@@ -243,7 +250,8 @@ module _ (payload : Payload) where
       more : List Input
       more = handled_in (state_after call s) calls
 
-      by : (Contains (payloads_in (state_after call s) calls) payload → IsDeliveredIn payload (state_after call s) calls) → Contains (payloads_by call s) payload ⊎ Contains (payloads_in (state_after call s) calls) payload → IsDeliveredIn payload s (call ∷ calls)
+      by : (Contains (payloads_in (state_after call s) calls) payload → IsDeliveredIn payload (state_after call s) calls) → Contains (payloads_by call s) payload
+          ⊎ Contains (payloads_in (state_after call s) calls) payload → IsDeliveredIn payload s (call ∷ calls)
       by rest (inl here) = among-left (InputDelivers payload) (handled call s) more (by-call call s here)
       by rest (inr later) = among-right (InputDelivers payload) (handled call s) more (rest later)
 
@@ -272,7 +280,8 @@ tells-nothing one (PeerData payload) e none = absurd none
 tells-nothing one Handled e none = rw e tt
 tells-nothing one Ignored e none = rw e tt
 
-tells_in_mode : (m : Mode) (stream : Stream) (t : Input) → IsPermittedInput (record t { stream = Some (record stream { mode = m }) }) → TellsOfPermitted (record t { stream = Some (record stream { mode = m }) })
+tells_in_mode : (m : Mode) (stream : Stream) (t : Input) → IsPermittedInput (record t { stream = Some (record stream { mode = m }) })
+    → TellsOfPermitted (record t { stream = Some (record stream { mode = m }) })
 tells_in_mode Control stream t exact = let one = record t { stream = Some (record stream { mode = Control }) } in tells-through one (processed one).0 refl exact
 tells_in_mode Waiting stream t exact = let one = record t { stream = Some (record stream { mode = Waiting }) } in tells-nothing one (processed one).0 refl exact
 tells_in_mode (Bound peer) stream t exact = tt

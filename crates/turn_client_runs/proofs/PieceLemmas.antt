@@ -29,16 +29,19 @@ use Rattle.turn_client_runs.proofs.WholeLemmas.{broken-whole, none-whole, whole-
 -- ---- input
 
 -- a piece of this stream is received over TCP from the server
-recv-tcp : (a : SocketAddr) (piece : List ℕ) (now : ℕ) (s : State) (stream : Stream) → stream_at a s ≡ Some stream → recv_step Tcp s.remote a piece now (record s { transport = Tcp }) ≡ stream_step stream piece now (record s { transport = Tcp })
+recv-tcp : (a : SocketAddr) (piece : List ℕ) (now : ℕ) (s : State) (stream : Stream) → stream_at a s ≡ Some stream
+    → recv_step Tcp s.remote a piece now (record s { transport = Tcp }) ≡ stream_step stream piece now (record s { transport = Tcp })
 recv-tcp a piece now s stream e = rw (same_address-self s.remote, e) refl
 
-recv-nothing : (a : SocketAddr) (piece : List ℕ) (now : ℕ) (s : State) → stream_at a s ≡ None → recv_step Tcp s.remote a piece now (record s { transport = Tcp }) ≡ (Ignored, record s { transport = Tcp })
+recv-nothing : (a : SocketAddr) (piece : List ℕ) (now : ℕ) (s : State) → stream_at a s ≡ None
+    → recv_step Tcp s.remote a piece now (record s { transport = Tcp }) ≡ (Ignored, record s { transport = Tcp })
 recv-nothing a piece now s e = rw (same_address-self s.remote, e) refl
 
 over-tcp : (s : State) → s.transport ≡ Tcp → record s { transport = Tcp } ≡ s
 over-tcp s e = ap (λ x. record s { transport = x }) (sym e)
 
-recv-found : (a : SocketAddr) (piece : List ℕ) (now : ℕ) (s : State) (stream : Stream) → s.transport ≡ Tcp → stream_at a s ≡ Some stream → recv_step Tcp s.remote a piece now s ≡ stream_step stream piece now s
+recv-found : (a : SocketAddr) (piece : List ℕ) (now : ℕ) (s : State) (stream : Stream) → s.transport ≡ Tcp → stream_at a s ≡ Some stream
+    → recv_step Tcp s.remote a piece now s ≡ stream_step stream piece now s
 recv-found a piece now s stream tcp e = subst (λ (v : State). recv_step Tcp s.remote a piece now v ≡ stream_step stream piece now v) (over-tcp s tcp) (recv-tcp a piece now s stream e)
 
 recv-none : (a : SocketAddr) (piece : List ℕ) (now : ℕ) (s : State) → s.transport ≡ Tcp → stream_at a s ≡ None → recv_step Tcp s.remote a piece now s ≡ (Ignored, s)
@@ -86,11 +89,13 @@ module _ (a : SocketAddr) (now : ℕ) (s : State) (quiet : IsQuiet s) where
   none-agrees : (c : Bool) (piece bytes : List ℕ) → stream_at a s ≡ None → Agrees a c (fed_piece a piece now s) (whole a now out bytes)
   none-agrees c piece bytes e =
       let same : out ≡ s = none-bytes a [] s e in
-      let fed-is : fed_piece a piece now s ≡ ([], s) = ap (polled_out now) (recv-none a piece now s quiet.transport e) ∙ (polled_out-all (weight s.streams) now (Ignored, s) (omega arith) ∙ rests (weight s.streams)) in
+      let fed-is : fed_piece a piece now s ≡ ([], s) = ap (polled_out now) (recv-none a piece now s quiet.transport e)
+      ∙ (polled_out-all (weight s.streams) now (Ignored, s) (omega arith) ∙ rests (weight s.streams)) in
       let whole-is : whole a now out bytes ≡ left s [] = ap (λ (v : State). whole a now v bytes) same ∙ none-whole a now s e bytes in
       rw (fed-is, whole-is) (record { given = refl; leaves = none-left a c s (subst (IsAlone a) same out-is-alone) e })
 
-  broken-agrees : (c : Bool) (b : ℕ) (piece bytes : List ℕ) (stream : Stream) → stream_at a s ≡ Some (record stream { mode = Broken }) → SuitsMode c Broken → Agrees a c (fed_piece a (b ∷ piece) now s) (whole a now out bytes)
+  broken-agrees : (c : Bool) (b : ℕ) (piece bytes : List ℕ) (stream : Stream) → stream_at a s ≡ Some (record stream { mode = Broken }) → SuitsMode c Broken
+      → Agrees a c (fed_piece a (b ∷ piece) now s) (whole a now out bytes)
   broken-agrees c b piece bytes stream e suits =
       let u = record stream { mode = Broken } in
       let same : out ≡ s = same-out u e (found-empty u e refl) in
@@ -119,7 +124,8 @@ module _ (a : SocketAddr) (now : ℕ) (s : State) (quiet : IsQuiet s) where
   abbrev enough : Stream → List ℕ → ℕ
   enough stream piece = weight (detached_frame_step (fed_with stream piece) now out).1.streams + length (stream.bytes ++ piece)
 
-  first-given : (stream : Stream) (piece : List ℕ) (n : ℕ) → stream_at a s ≡ Some stream → gives_then (all_turns n now) (first_frame_step stream piece now s) ≡ gives_then (all_turns n now) (detached_frame_step (fed_with stream piece) now out)
+  first-given : (stream : Stream) (piece : List ℕ) (n : ℕ) → stream_at a s ≡ Some stream
+      → gives_then (all_turns n now) (first_frame_step stream piece now s) ≡ gives_then (all_turns n now) (detached_frame_step (fed_with stream piece) now out)
   first-given stream piece n e =
       let p = next_frame_step (fed_with stream piece) now s in
       ap (λ (l : List Payload). (l ++ (all_turns n now p.1).0, (all_turns n now p.1).1)) (placed stream.bytes p.0)
@@ -128,21 +134,24 @@ module _ (a : SocketAddr) (now : ℕ) (s : State) (quiet : IsQuiet s) where
   first-weight : (stream : Stream) (piece : List ℕ) → stream_at a s ≡ Some stream → weight (first_frame_step stream piece now s).1.streams ≤ enough stream piece
   first-weight stream piece e = rw (turn-out stream piece e) (omega arith)
 
-  control-turn : (b : ℕ) (piece : List ℕ) (stream : Stream) → stream_at a s ≡ Some (record stream { mode = Control }) → GivesTurn (record stream { mode = Control }) (b ∷ piece) (enough (record stream { mode = Control }) (b ∷ piece))
+  control-turn : (b : ℕ) (piece : List ℕ) (stream : Stream) → stream_at a s ≡ Some (record stream { mode = Control })
+      → GivesTurn (record stream { mode = Control }) (b ∷ piece) (enough (record stream { mode = Control }) (b ∷ piece))
   control-turn b piece stream e =
       let u = record stream { mode = Control } in
       let n = enough u (b ∷ piece) in
       ap (polled_out now) (recv-found a (b ∷ piece) now s u quiet.transport e)
       ∙ (then_all-all n now (first_frame_step u (b ∷ piece) now s) (first-weight u (b ∷ piece) e) ∙ first-given u (b ∷ piece) n e)
 
-  waiting-turn : (b : ℕ) (piece : List ℕ) (stream : Stream) → stream_at a s ≡ Some (record stream { mode = Waiting }) → GivesTurn (record stream { mode = Waiting }) (b ∷ piece) (enough (record stream { mode = Waiting }) (b ∷ piece))
+  waiting-turn : (b : ℕ) (piece : List ℕ) (stream : Stream) → stream_at a s ≡ Some (record stream { mode = Waiting })
+      → GivesTurn (record stream { mode = Waiting }) (b ∷ piece) (enough (record stream { mode = Waiting }) (b ∷ piece))
   waiting-turn b piece stream e =
       let u = record stream { mode = Waiting } in
       let n = enough u (b ∷ piece) in
       ap (polled_out now) (recv-found a (b ∷ piece) now s u quiet.transport e)
       ∙ (polled_out-all n now (first_frame_step u (b ∷ piece) now s) (first-weight u (b ∷ piece) e) ∙ first-given u (b ∷ piece) n e)
 
-  bound-turn : (b : ℕ) (piece : List ℕ) (stream : Stream) (peer : SocketAddr) → stream_at a s ≡ Some (record stream { mode = Bound peer }) → GivesTurn (record stream { mode = Bound peer }) (b ∷ piece) (enough (record stream { mode = Bound peer }) (b ∷ piece))
+  bound-turn : (b : ℕ) (piece : List ℕ) (stream : Stream) (peer : SocketAddr) → stream_at a s ≡ Some (record stream { mode = Bound peer })
+      → GivesTurn (record stream { mode = Bound peer }) (b ∷ piece) (enough (record stream { mode = Bound peer }) (b ∷ piece))
   bound-turn b piece stream peer e =
       let u = record stream { mode = Bound peer } in
       let n = enough u (b ∷ piece) in
@@ -157,14 +166,17 @@ module _ (a : SocketAddr) (now : ℕ) (s : State) (quiet : IsQuiet s) where
   there-out : (c : Bool) (stream : Stream) → stream_at a s ≡ Some stream → (stream.mode ≡ Broken → ⊥) → SuitsMode c stream.mode → IsThere c a out
   there-out c stream e unbroken suits = record { stream = record stream { bytes = [] }; found = out-found stream e; unbroken = unbroken; suits = suits }
 
-  whole-agrees : (c : Bool) (stream : Stream) (piece : List ℕ) (n : ℕ) → stream_at a s ≡ Some stream → (stream.mode ≡ Broken → ⊥) → SuitsMode c stream.mode → length (stream.bytes ++ piece) < suc n → GivesTurn stream piece n
-      → gives_then (all_turns n now) (detached_frame_step (fed_with stream piece) now out) ≡ all_turns (suc n) now (with_bytes a (stream.bytes ++ piece) out) → Agrees a c (fed_piece a piece now s) (whole a now out (bytes_at a s ++ piece))
+  whole-agrees : (c : Bool) (stream : Stream) (piece : List ℕ) (n : ℕ) → stream_at a s ≡ Some stream → (stream.mode ≡ Broken → ⊥) → SuitsMode c stream.mode → length (stream.bytes ++ piece) < suc n
+      → GivesTurn stream piece n
+      → gives_then (all_turns n now) (detached_frame_step (fed_with stream piece) now out) ≡ all_turns (suc n) now (with_bytes a (stream.bytes ++ piece) out)
+      → Agrees a c (fed_piece a piece now s) (whole a now out (bytes_at a s ++ piece))
   whole-agrees c stream piece n e unbroken suits few gives first =
       let all = turns-whole a now c (suc n) out (stream.bytes ++ piece) few out-is-alone (there-out c stream e unbroken suits) in
       let same : fed_piece a piece now s ≡ all_turns (suc n) now (with_bytes a (stream.bytes ++ piece) out) = gives ∙ first in
       rw (held-is stream e, same) all
 
-  framed-agrees : (c : Bool) (m : Mode) (is : IsFramed c m) (stream : Stream) (piece : List ℕ) → stream_at a s ≡ Some (record stream { mode = m }) → GivesTurn (record stream { mode = m }) piece (enough (record stream { mode = m }) piece) → Agrees a c (fed_piece a piece now s) (whole a now out (bytes_at a s ++ piece))
+  framed-agrees : (c : Bool) (m : Mode) (is : IsFramed c m) (stream : Stream) (piece : List ℕ) → stream_at a s ≡ Some (record stream { mode = m })
+      → GivesTurn (record stream { mode = m }) piece (enough (record stream { mode = m }) piece) → Agrees a c (fed_piece a piece now s) (whole a now out (bytes_at a s ++ piece))
   framed-agrees c m is stream piece e gives =
       let u = record stream { mode = m } in
       let n = enough u piece in
@@ -175,7 +187,8 @@ module _ (a : SocketAddr) (now : ℕ) (s : State) (quiet : IsQuiet s) where
   bound-ready stream peer b piece [] = refl
   bound-ready stream peer b piece (c ∷ waited) = refl
 
-  bound-agrees : (b : ℕ) (piece : List ℕ) (stream : Stream) (peer : SocketAddr) → stream_at a s ≡ Some (record stream { mode = Bound peer }) → Agrees a false (fed_piece a (b ∷ piece) now s) (whole a now out (bytes_at a s ++ b ∷ piece))
+  bound-agrees : (b : ℕ) (piece : List ℕ) (stream : Stream) (peer : SocketAddr) → stream_at a s ≡ Some (record stream { mode = Bound peer })
+      → Agrees a false (fed_piece a (b ∷ piece) now s) (whole a now out (bytes_at a s ++ b ∷ piece))
   bound-agrees b piece stream peer e =
       let u = record stream { mode = Bound peer } in
       let n = enough u (b ∷ piece) in
@@ -183,7 +196,8 @@ module _ (a : SocketAddr) (now : ℕ) (s : State) (quiet : IsQuiet s) where
       whole-agrees false u (b ∷ piece) n e (λ f. cc) tt (omega arith) (bound-turn b piece stream peer e)
       (sym (ready-fed a now n (record u { bytes = [] }) bytes out out-is-alone (out-found u e) (bound-ready stream peer b piece stream.bytes)))
 
-  agrees-in : (c : Bool) (m : Mode) (b : ℕ) (piece : List ℕ) (stream : Stream) → SuitsMode c m → stream_at a s ≡ Some (record stream { mode = m }) → Agrees a c (fed_piece a (b ∷ piece) now s) (whole a now out (bytes_at a s ++ b ∷ piece))
+  agrees-in : (c : Bool) (m : Mode) (b : ℕ) (piece : List ℕ) (stream : Stream) → SuitsMode c m → stream_at a s ≡ Some (record stream { mode = m })
+      → Agrees a c (fed_piece a (b ∷ piece) now s) (whole a now out (bytes_at a s ++ b ∷ piece))
   agrees-in true Control b piece stream suits e = framed-agrees true Control control-framed stream (b ∷ piece) e (control-turn b piece stream e)
   agrees-in true Waiting b piece stream suits e = absurd suits
   agrees-in true (Bound peer) b piece stream suits e = absurd suits
@@ -232,7 +246,8 @@ module _ (a : SocketAddr) (now : ℕ) (s : State) (quiet : IsQuiet s) where
           rw held (none-whole a now out there [])
       by (Some stream) e =
           let means : mode_at a out ≡ meant stream.mode = rw (out-found stream e) refl in
-          let size : T.size_in (mode_at a out) stream.bytes ≡ None = ap (λ (k : T.Mode). T.size_in k stream.bytes) means ∙ waits-size stream.mode stream (found-waits stream e) (found-empty stream e) in
+          let size : T.size_in (mode_at a out) stream.bytes ≡ None = ap (λ (k : T.Mode). T.size_in k stream.bytes) means
+          ∙ waits-size stream.mode stream (found-waits stream e) (found-empty stream e) in
           rw (held-is stream e) (whole-waits a now out stream.bytes size)
 
   pub waits-same : with_bytes a (bytes_at a s) out ≡ s

@@ -50,7 +50,8 @@ module _ (a : SocketAddr) (now : ℕ) where
       rw d-is (record { given = refl; after = sym (waits-same a now s quiet) })
 
   -- one piece, and the rest of the pieces after it
-  then-same : (c : Bool) (s : State) (piece more : List ℕ) (one others : List Payload × State) → Agrees a c one (whole a now (with_bytes a [] s) (bytes_at a s ++ piece)) → IsSame c others (whole_of a now one.1 more) → IsSame c (one.0 ++ others.0, others.1) (whole_of a now s (piece ++ more))
+  then-same : (c : Bool) (s : State) (piece more : List ℕ) (one others : List Payload × State) → Agrees a c one (whole a now (with_bytes a [] s) (bytes_at a s ++ piece))
+      → IsSame c others (whole_of a now one.1 more) → IsSame c (one.0 ++ others.0, others.1) (whole_of a now s (piece ++ more))
   then-same c s piece more one others agrees later =
       let f = one_by_one c in
       let d = whole a now (with_bytes a [] s) (bytes_at a s ++ piece) in
@@ -58,7 +59,8 @@ module _ (a : SocketAddr) (now : ℕ) where
       let all-is : whole a now (with_bytes a [] s) (bytes_at a s ++ (piece ++ more)) ≡ behind d.given e =
       ap (whole a now (with_bytes a [] s)) (sym (append_assoc (bytes_at a s) piece more)) ∙ whole-append (with_bytes a [] s) (bytes_at a s ++ piece) more in
       let out-is : with_bytes a [] one.1 ≡ d.state = ap (with_bytes a []) agrees.leaves.after ∙ (bytes-twice a d.rest [] d.state ∙ agrees.leaves.empty) in
-      let later-is : whole a now (with_bytes a [] one.1) (bytes_at a one.1 ++ more) ≡ e = ap (λ (t : State). whole a now t (bytes_at a one.1 ++ more)) out-is ∙ ap (λ (l : List ℕ). whole a now d.state (l ++ more)) agrees.leaves.held in
+      let later-is : whole a now (with_bytes a [] one.1) (bytes_at a one.1 ++ more) ≡ e = ap (λ (t : State). whole a now t (bytes_at a one.1 ++ more)) out-is
+      ∙ ap (λ (l : List ℕ). whole a now d.state (l ++ more)) agrees.leaves.held in
       record {
         given =
             flat_map-append f one.0 others.0

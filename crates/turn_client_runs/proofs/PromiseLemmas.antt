@@ -8,7 +8,8 @@ use Rattle.turn_client_laws.specs.LawsNumbers.{HasDistinctNumbers}
 use Rattle.turn_client_api.specs.declared.call.Call.{Call}
 use Rattle.turn_client_laws.proofs.DistinctNumbers.{initial-numbers, leaves-apart}
 use Rattle.turn_client_runs.specs.Challenges.{IsWithinChallengeLimit}
-use Rattle.turn_client_runs.specs.Promises.{AfterEach, BoundHaveSuccess, CutsAgree, FewAreAnswered, GrantsHaveReplies, DeliversOnlyPermitted, NumbersAreDistinct, RealmIsAnswered, RealmStays, RepliesCountOnce}
+use Rattle.turn_client_runs.specs.Promises.{AfterEach, BoundHaveSuccess, CutsAgree, FewAreAnswered, GrantsHaveReplies, DeliversOnlyPermitted, NumbersAreDistinct, RealmIsAnswered, RealmStays}
+use Rattle.turn_client_runs.specs.Promises.{RepliesCountOnce}
 use Rattle.turn_client_runs.specs.Replies.{CountsOnce}
 use Rattle.turn_client_runs.specs.Cut.{IsQuiet}
 use Rattle.turn_client_api.specs.Streams.{poll_recv_step}
@@ -94,6 +95,7 @@ module _ (transport : TransportType) (local remote : SocketAddr) (config : Confi
       apart : AreApart (state_after_all first earlier)
       apart = calls-keep AreApart call-apart earlier first (initial-apart transport local remote config seed)
 
-      quiet : (now : ℕ) → (state_after_all first earlier).transport ≡ Tcp → poll_recv_step now (state_after_all first earlier) ≡ (None, state_after_all first earlier) → IsQuiet (state_after_all first earlier)
+      quiet : (now : ℕ) → (state_after_all first earlier).transport ≡ Tcp → poll_recv_step now (state_after_all first earlier) ≡ (None, state_after_all first earlier)
+          → IsQuiet (state_after_all first earlier)
       quiet now tcp drained =
           subst (λ (p : Option Payload × State). IsQuiet p.1) drained (poll-quiet (state_after_all first earlier) tcp apart now (ap (λ (p : Option Payload × State). p.0) drained))

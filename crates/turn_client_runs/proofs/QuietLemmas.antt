@@ -96,7 +96,8 @@ fed-quiet a piece now s quiet =
     let came = (recv_step Tcp s.remote a piece now s).1 in
     let n = max_steps came + 1 in
     record {
-      transport = polled-keeps (λ (t : State). t.transport ≡ Tcp) (λ now t h. poll_recv-kept SameTransport transport-kept now t ∙ h) n now came (recv-kept SameTransport transport-kept Tcp s.remote a piece now s ∙ quiet.transport);
+      transport = polled-keeps (λ (t : State). t.transport ≡ Tcp) (λ now t h. poll_recv-kept SameTransport transport-kept now t ∙ h) n now came
+          (recv-kept SameTransport transport-kept Tcp s.remote a piece now s ∙ quiet.transport);
       apart = polled-keeps AreApart poll_recv-apart n now came (recv-apart Tcp s.remote a piece now s quiet.apart);
       none_ready = polled_out-done now (recv_step Tcp s.remote a piece now s);
     }

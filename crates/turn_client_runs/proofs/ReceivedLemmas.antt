@@ -11,10 +11,12 @@ use Rattle.turn_client_api.specs.declared.state.Stream.{Stream}
 use Rattle.turn_client_api.specs.Calls.{with_stream}
 use Rattle.turn_client_api.specs.Connections.{connection_at}
 use Rattle.turn_client_api.specs.Grants.{is_connection_from, without_grants}
-use Rattle.turn_client_laws.specs.Handled.{Input, stream_with_piece, fed_taken, frame_taken, is_front, piece_inputs, poll_recv_inputs, stream_inputs, stream_inputs_taken, taken_first, taken_in, taken_of_len, then_taken, inputs_taken, unless_given}
+use Rattle.turn_client_laws.specs.Handled.{Input, stream_with_piece, fed_taken, frame_taken, is_front, piece_inputs, poll_recv_inputs, stream_inputs, stream_inputs_taken, taken_first, taken_in}
+use Rattle.turn_client_laws.specs.Handled.{taken_of_len, then_taken, inputs_taken, unless_given}
 use Rattle.turn_client_api.specs.Payloads.{Payload, Outcome, Handled, Ignored, PeerData, PeerIcmp}
 use Rattle.turn_client_api.specs.Receive.{connection_gone, first_frame_step, piece_step, stream_step, then_all}
-use Rattle.turn_client_api.specs.Streams.{broken_at, frame_step, framed_by, framed_stream_step, go_on, is_ready, max_steps, payload_in, poll_recv_step, next_frame_step, first_ready_step, detached_frame_step, steps_until_payload, with_bytes, without_stream}
+use Rattle.turn_client_api.specs.Streams.{broken_at, frame_step, framed_by, framed_stream_step, go_on, is_ready, max_steps, payload_in, poll_recv_step, next_frame_step, first_ready_step}
+use Rattle.turn_client_api.specs.Streams.{detached_frame_step, steps_until_payload, with_bytes, without_stream}
 use Rattle.turn_client_runs.specs.Received.{unless_broken}
 use Rattle.turn_client_laws.proofs.AddressLemmas.{same_address-true}
 use Rattle.turn_client_laws.proofs.GrantOriginLemmas.{has-mapped}
@@ -150,7 +152,8 @@ module _ (Known : SocketAddr → List ℕ → Type 0) (none : (a : SocketAddr) �
   abbrev pub Goes : List Input → State → Type 0
   Goes turns t = KnownTurns turns × AllKnown t.streams
 
-  go_on-known : (next : State → Option Payload × State) (later : State → List Input) (front : List Input) (p : Outcome × State) → Goes front p.1 → ((t : State) → AllKnown t.streams → Goes (later t) (next t).1)
+  go_on-known : (next : State → Option Payload × State) (later : State → List Input) (front : List Input) (p : Outcome × State) → Goes front p.1
+      → ((t : State) → AllKnown t.streams → Goes (later t) (next t).1)
       → Goes (front ++ unless_given (payload_in p.0) (later p.1)) (go_on next p).1
   go_on-known next later front (PeerData payload, t) first more = (joined-turns front [] first.0 no-turns, first.1)
   go_on-known next later front (Handled, t) first more = let rest = more t first.1 in (joined-turns front (later t) first.0 rest.0, rest.1)
@@ -181,7 +184,8 @@ module _ (Known : SocketAddr → List ℕ → Type 0) (none : (a : SocketAddr) �
   then-known now front (Handled, t) first = let rest = poll-known now t first.1 in (joined-turns front (poll_recv_inputs now t) first.0 rest.0, rest.1)
   then-known now front (Ignored, t) first = let rest = poll-known now t first.1 in (joined-turns front (poll_recv_inputs now t) first.0 rest.0, rest.1)
 
-  fed-known : (stream : Stream) (piece : List ℕ) (now : ℕ) (s : State) → Known stream.local (stream.bytes ++ piece) → OthersKnown stream.local s.streams → Goes (fed_taken stream piece now s) (first_frame_step stream piece now s).1
+  fed-known : (stream : Stream) (piece : List ℕ) (now : ℕ) (s : State) → Known stream.local (stream.bytes ++ piece) → OthersKnown stream.local s.streams
+      → Goes (fed_taken stream piece now s) (first_frame_step stream piece now s).1
   fed-known stream piece now s is others = (taken-turns (is_front stream.bytes) (stream_with_piece stream piece) now s is, turn-known (stream_with_piece stream piece) now s is others)
 
   broken-turns : (b : Bool) (now : ℕ) (s : State) → AllKnown s.streams → Goes (cond b (poll_recv_inputs now s) []) (cond {A = Outcome × State} b (then_all now (Handled, s)) (Handled, s)).1
@@ -189,7 +193,8 @@ module _ (Known : SocketAddr → List ℕ → Type 0) (none : (a : SocketAddr) �
   broken-turns false now s all = (no-turns, all)
 
   -- a broken stream stores nothing
-  piece-known : (m : Mode) (stream : Stream) (piece : List ℕ) (now : ℕ) (s : State) → (m ≡ Broken → AllKnown s.streams) → Known stream.local (stream.bytes ++ unless_broken m piece) → OthersKnown stream.local s.streams
+  piece-known : (m : Mode) (stream : Stream) (piece : List ℕ) (now : ℕ) (s : State) → (m ≡ Broken → AllKnown s.streams) → Known stream.local (stream.bytes ++ unless_broken m piece)
+      → OthersKnown stream.local s.streams
       → Goes (piece_inputs (record stream { mode = m }) piece now s) (piece_step (record stream { mode = m }) piece now s).1
   piece-known Control stream piece now s broken is others =
       let u = record stream { mode = Control } in
@@ -211,7 +216,8 @@ module _ (Known : SocketAddr → List ℕ → Type 0) (none : (a : SocketAddr) �
   end-known : (a : SocketAddr) (s : State) → AllKnown s.streams → AllKnown (without_stream a (connection_gone a s)).streams
   end-known a s all = filter-known _ (connection_gone a s).streams (subst AllKnown (sym (gone-streams a s)) all)
 
-  pub stream-known : (stream : Stream) (piece : List ℕ) (now : ℕ) (s : State) → (piece ≡ [] → AllKnown s.streams) → (stream.mode ≡ Broken → AllKnown s.streams) → Known stream.local (stream.bytes ++ unless_broken stream.mode piece) → OthersKnown stream.local s.streams
+  pub stream-known : (stream : Stream) (piece : List ℕ) (now : ℕ) (s : State) → (piece ≡ [] → AllKnown s.streams) → (stream.mode ≡ Broken → AllKnown s.streams)
+      → Known stream.local (stream.bytes ++ unless_broken stream.mode piece) → OthersKnown stream.local s.streams
       → Goes (stream_inputs stream piece now s) (stream_step stream piece now s).1
   stream-known stream [] now s empty broken is others = (no-turns, end-known stream.local s (empty refl))
   stream-known stream (b ∷ bs) now s empty broken is others = piece-known stream.mode stream (b ∷ bs) now s broken is others

@@ -10,7 +10,8 @@ use Rattle.turn_stun.specs.declared.transport.Transmit.{Transmit}
 use Rattle.turn_agent.specs.Agent.{same_address}
 use Rattle.turn_client_api.specs.State.{State}
 use Rattle.turn_client_api.specs.declared.call.Call.{Call}
-use Rattle.turn_client_api.specs.declared.call.Call.TheVariants.{Delete, CreatePermission, BindChannel, TcpConnect, AllocatedTcpSocket, TcpClosed, SendTo, Recv, PollRecv, Poll, PollTransmit, PollEvent, ProtocolError, RelayedAddresses, Permissions, HavePermission}
+use Rattle.turn_client_api.specs.declared.call.Call.TheVariants.{Delete, CreatePermission, BindChannel, TcpConnect, AllocatedTcpSocket, TcpClosed, SendTo, Recv, PollRecv, Poll, PollTransmit}
+use Rattle.turn_client_api.specs.declared.call.Call.TheVariants.{PollEvent, ProtocolError, RelayedAddresses, Permissions, HavePermission}
 use Rattle.turn_client_api.specs.declared.state.Mode.{Mode}
 use Rattle.turn_client_api.specs.declared.state.Mode.TheVariants.{Control, Waiting, Bound, Broken}
 use Rattle.turn_client_api.specs.declared.state.Stream.{Stream}
@@ -77,7 +78,8 @@ module _ (all more : SocketAddr → List ℕ) where
   still-held : (xs : List Stream) (piece : SocketAddr → List ℕ) → ((a : SocketAddr) → more a ≡ all a ++ piece a) → ((a : SocketAddr) → piece a ≡ []) → Held all xs → Held more xs
   still-held xs piece e empty held x there = still-ends x.local (piece x.local) x.bytes (e x.local) (empty x.local) (held x there)
 
-  quiet-steps : (call : Call) (s : State) → (TakesInput call → ⊥) → ((a : SocketAddr) → more a ≡ all a ++ piece_in_call a call s) → Held all s.streams → Steps more (handled call s) (state_after call s)
+  quiet-steps : (call : Call) (s : State) → (TakesInput call → ⊥) → ((a : SocketAddr) → more a ≡ all a ++ piece_in_call a call s) → Held all s.streams
+      → Steps more (handled call s) (state_after call s)
   quiet-steps call s other e held = (none, by (others-opened call s other))
     where
       before : Held more s.streams
@@ -100,7 +102,8 @@ module _ (all more : SocketAddr → List ℕ) where
     unless-nothing Broken = refl
 
     -- for the stream at this local address
-    fed-steps : (s : State) (stream : Stream) → stream_at packet.to s ≡ Some stream → ((a : SocketAddr) → more a ≡ all a ++ cond (same_address packet.to a) (unless_broken stream.mode packet.payload) []) → Held all s.streams
+    fed-steps : (s : State) (stream : Stream) → stream_at packet.to s ≡ Some stream
+        → ((a : SocketAddr) → more a ≡ all a ++ cond (same_address packet.to a) (unless_broken stream.mode packet.payload) []) → Held all s.streams
         → Steps more (stream_inputs stream packet.payload now s) (stream_step stream packet.payload now s).1
     fed-steps s stream found e held = stream-known (Ends more) (nothing-ends more) (less-ends more) stream packet.payload now s empty broken is others
       where
@@ -151,7 +154,8 @@ module _ (all more : SocketAddr → List ℕ) where
         (cond {A = Outcome × State} b (cond {A = Outcome × State} c (datagram_step packet.payload now s) (Ignored, s)) (Ignored, s)).1
     datagram-steps true true s held = (only, by (is_message packet.payload) (is_channel_frame packet.payload))
       where
-        only : (one : Input) → Has one (record { stream = None; bytes = packet.payload; is_lent = true; moment = now; before = s } ∷ []) → (stream : Stream) → one.stream ≡ Some stream → Ends more stream.local stream.bytes
+        only : (one : Input) → Has one (record { stream = None; bytes = packet.payload; is_lent = true; moment = now; before = s } ∷ []) → (stream : Stream) → one.stream ≡ Some stream
+            → Ends more stream.local stream.bytes
         only one (inl e) stream of = absurd (no_stream (sym (ap (λ (x : Input). x.stream) e) ∙ of))
           where
             no_stream : None ≡ Some stream → ⊥
@@ -227,7 +231,8 @@ pieces-then a (x ∷ calls) call s =
 abbrev pub HoldNothing : State → Type 0
 HoldNothing s = (x : Stream) → Has x s.streams → x.bytes ≡ []
 
-pub turns-received : (earlier : List Call) (call : Call) (first : State) → HoldNothing first → (one : Input) → Has one (handled call (state_after_all first earlier)) → HasArrived (earlier ++ call ∷ []) first one
+pub turns-received : (earlier : List Call) (call : Call) (first : State) → HoldNothing first → (one : Input) → Has one (handled call (state_after_all first earlier))
+    → HasArrived (earlier ++ call ∷ []) first one
 turns-received earlier call first empty one there = by one.stream refl
   where
     s : State

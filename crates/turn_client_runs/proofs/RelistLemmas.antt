@@ -28,7 +28,8 @@ use Rattle.turn_client_api.specs.Connections.{attempt_indicated, attempt_request
 use Rattle.turn_client_api.specs.Effect.{allocate_denied, allocate_granted, closed, transaction_ended, fail_all, family_not_supported, has_code, in_phase}
 use Rattle.turn_client_api.specs.Grants.{find_allocation_to, is_connection_from, is_for_allocation, purposes_of, unlisted, wait}
 use Rattle.turn_client_laws.specs.Handled.{Input, processed}
-use Rattle.turn_client_api.specs.Judgement.{Judgement, Unrelated, Challenged, Fatal, LateResponse, DataIndication, ConnectionAttempt, SignedRequest, SignedSuccess, SignedError, bind_judgement, connection_id_in, is_bind_of, judgement_of, lifetime_in, method_in, peer_in}
+use Rattle.turn_client_api.specs.Judgement.{Judgement, Unrelated, Challenged, Fatal, LateResponse, DataIndication, ConnectionAttempt, SignedRequest, SignedSuccess, SignedError, bind_judgement}
+use Rattle.turn_client_api.specs.Judgement.{connection_id_in, is_bind_of, judgement_of, lifetime_in, method_in, peer_in}
 use Rattle.turn_client_laws.specs.LawsRequests.{IsMade}
 use Rattle.turn_client_api.specs.Payloads.{Outcome, Handled, Ignored, challenge_step, channel_sent, datagram_step, is_channel_frame, is_message, message_step, response_step, signed_step, wrong_step}
 use Rattle.turn_client_api.specs.Requests.{connection_attempt_method, connection_bind_method, fresh_id, listings, request_for, requested}
@@ -60,7 +61,8 @@ same : (message : List ℕ) (now : ℕ) (s t : State) → t.listed ≡ s.listed 
 same message now s t e = still message now s t (rw e (adds-same Never s.listed))
 
 -- the listings of a request that is made for one purpose
-relisted : (message : List ℕ) (now : ℕ) (s t : State) (purpose : Purpose) → IsMade purpose now s t → (some : List Purpose) → ((p : Purpose) → Has p some → IsRetriedFor message s purpose p) → (l : Listing) → Has l (listings (fresh_id s) some) → IsRelisted message now s t l
+relisted : (message : List ℕ) (now : ℕ) (s t : State) (purpose : Purpose) → IsMade purpose now s t → (some : List Purpose) → ((p : Purpose) → Has p some → IsRetriedFor message s purpose p)
+    → (l : Listing) → Has l (listings (fresh_id s) some) → IsRelisted message now s t l
 relisted message now s t purpose made some each l there = by (has-mapped (λ (p : Purpose). record { id = fresh_id s; purpose = p }) l some there)
   where
     by : (p : Purpose) × Has p some × (l ≡ record { id = fresh_id s; purpose = p }) → IsRelisted message now s t l
@@ -72,7 +74,8 @@ alone message s purpose p (inr none) = absurd none
 
 -- ---- over the control connection
 
-retry-relists : (message : List ℕ) (purpose : Purpose) (d : Challenge) (now : ℕ) (s : State) → retried (purposes_of (id_of message) s) ≡ Some purpose → Relists message now s (state_after_retry s (id_of message) purpose d now)
+retry-relists : (message : List ℕ) (purpose : Purpose) (d : Challenge) (now : ℕ) (s : State) → retried (purposes_of (id_of message) s) ≡ Some purpose
+    → Relists message now s (state_after_retry s (id_of message) purpose d now)
 retry-relists message purpose d now s first =
     adds-more _ s.listed s.listed _ (adds-same _ s.listed) (relisted message now s t purpose made (purposes_of (id_of message) s) (λ p h. inr (first, h)))
   where
@@ -231,7 +234,8 @@ bind_in_phase Allocated local message now s = by (connection_at local s) refl
 
     by : (o : Option DataConnection) → connection_at local s ≡ o → Relists message now u (bind_step local message now u)
     by None e = rw e (same message now u u refl)
-    by (Some c) e = rw e (on_test (Relists message now u) (eqb (method_in message) connection_bind_method) (bind_answered c message now u) u (answered-relists c message now u) (same message now u u refl))
+    by (Some c) e = rw e (on_test (Relists message now u) (eqb (method_in message) connection_bind_method) (bind_answered c message now u) u (answered-relists c message now u)
+        (same message now u u refl))
 
 -- ---- datagrams and frames
 

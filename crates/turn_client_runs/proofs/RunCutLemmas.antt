@@ -64,7 +64,8 @@ pieces-run a (piece ∷ pieces) now calls s (polls, later, e, some, are, more) =
     ∙ (ap (λ (q : List Payload × State). (given ++ (q.0 ++ (fed_pieces a pieces now q.1).0), (fed_pieces a pieces now q.1).1)) polls-are
     ∙ again given (polled_until_none (max_steps came.1 + 1) now came.1))))
   where
-    again : (given : List Payload) (q : List Payload × State) → ◌≡◌ {A = List Payload × State} (given ++ (q.0 ++ (fed_pieces a pieces now q.1).0), (fed_pieces a pieces now q.1).1) ((given ++ q.0) ++ (fed_pieces a pieces now q.1).0, (fed_pieces a pieces now q.1).1)
+    again : (given : List Payload) (q : List Payload × State) → ◌≡◌ {A = List Payload × State} (given ++ (q.0 ++ (fed_pieces a pieces now q.1).0), (fed_pieces a pieces now q.1).1)
+        ((given ++ q.0) ++ (fed_pieces a pieces now q.1).0, (fed_pieces a pieces now q.1).1)
     again given q = ap (λ (l : List Payload). (l, (fed_pieces a pieces now q.1).1)) (sym (append_assoc given q.0 (fed_pieces a pieces now q.1).0))
 
 pieces-some : (a : SocketAddr) (pieces : List (List ℕ)) (now : ℕ) (calls : List Call) (s : State) → ArePieces a pieces now calls s → AreNonempty pieces

@@ -246,12 +246,14 @@ module _ (first : State) (empty : first.grants ≡ []) (unlisted : first.listed 
   run-caused g stands calls h = run-did (λ s. WasActive s g) (Causes g) Keeps call-keeps (call-grants g stands) calls first keeps (λ was. nothing was.0 was.1) h
 
   -- the last cause was an input, or a `delete`
-  run-turned : (g : Grant) (calls : List Call) (is : IsDoneLast (Causes g) (λ s. WasActive s g) calls first) → IsDoneFor (IsGranting g) is.call (state_after_all first is.earlier) → IsGranted g calls first
+  run-turned : (g : Grant) (calls : List Call) (is : IsDoneLast (Causes g) (λ s. WasActive s g) calls first) → IsDoneFor (IsGranting g) is.call (state_after_all first is.earlier)
+      → IsGranted g calls first
   run-turned g calls is done =
       answered-in first unlisted hold calls (IsGranting g) (granting-answers g) (λ s. WasActive s g)
       (record { earlier = is.earlier; call = is.call; later = is.later; split = is.split; did = done; holds = is.holds })
 
-  run-gave : (a : Relay) (calls : List Call) (is : IsDoneLast (Causes (Allocation a)) (λ s. WasActive s (Allocation a)) calls first) → IsAcceptedEnd (Allocation a) is.call (state_after_all first is.earlier) → IsGivenBack a calls first
+  run-gave : (a : Relay) (calls : List Call) (is : IsDoneLast (Causes (Allocation a)) (λ s. WasActive s (Allocation a)) calls first)
+      → IsAcceptedEnd (Allocation a) is.call (state_after_all first is.earlier) → IsGivenBack a calls first
   run-gave a calls is ((b, now, what, how, ends, was), accepted) = record {
     earlier = is.earlier;
     now = now;
@@ -270,7 +272,8 @@ module _ (first : State) (empty : first.grants ≡ []) (unlisted : first.listed 
   no-end g call s other ((a, now, what, how, ends, was), accepted) = other a what
 
   run-grants : (calls : List Call) (g : Grant) → IsActiveGrant g → Contains (state_after_all first calls).grants g → HasReply g calls first
-  run-grants calls g stands there = by g (run-caused g stands calls (covers-stood (state_after_all first calls) g (covers-has (state_after_all first calls).grants g (contains-has g (state_after_all first calls).grants there) stands)))
+  run-grants calls g stands there = by g (run-caused g stands calls (covers-stood (state_after_all first calls) g
+      (covers-has (state_after_all first calls).grants g (contains-has g (state_after_all first calls).grants there) stands)))
     where
       turned : (h : Grant) (is : IsDoneLast (Causes h) (λ s. WasActive s h) calls first) → ((a : Relay) → h ≡ Allocation a → ⊥) → IsGranted h calls first
       turned h is other = at is.did
@@ -296,6 +299,13 @@ first-hold Udp local remote config seed x absent = absurd absent
 first-hold Tcp local remote config seed x (inl e) = rw e refl
 first-hold Tcp local remote config seed x (inr absent) = absurd absent
 
-pub grants-have-replies : (transport : TransportType) (local remote : SocketAddr) (config : Config) (seed : List ℕ) (calls : List Call) (g : Grant) → IsActiveGrant g → Contains (state_after_all (initial transport local remote config seed) calls).grants g → HasReply g calls (initial transport local remote config seed)
+pub grants-have-replies : (transport : TransportType) (local remote : SocketAddr) (config : Config) (seed : List ℕ) (calls : List Call) (g : Grant) → IsActiveGrant g
+    → Contains (state_after_all (initial transport local remote config seed) calls).grants g → HasReply g calls (initial transport local remote config seed)
 grants-have-replies transport local remote config seed =
-    run-grants (initial transport local remote config seed) refl refl (first-hold transport local remote config seed) (initial-HasGrantsAsked transport local remote config seed, initial-numbers transport local remote config seed, initial-AllocatesInOrder transport local remote config seed, initial-steady transport local remote config seed, refl)
+    run-grants (initial transport local remote config seed) refl refl (first-hold transport local remote config seed) (
+      initial-HasGrantsAsked transport local remote config seed,
+      initial-numbers transport local remote config seed,
+      initial-AllocatesInOrder transport local remote config seed,
+      initial-steady transport local remote config seed,
+      refl,
+    )

@@ -14,7 +14,8 @@ pub record IsDoneLast (Did : Call → State → Type 0) (P : State → Type 0) (
   pub did : Did call (state_after_all first earlier)
   pub holds : HoldsThrough P later (state_after call (state_after_all first earlier))
 
-module _ (P : State → Type 0) (Did : Call → State → Type 0) (Inv : State → Type 0) (kept : (call : Call) (s : State) → Inv s → Inv (state_after call s)) (each : (call : Call) (s : State) → Inv s → P (state_after call s) → P s ⊎ Did call s) where
+module _ (P : State → Type 0) (Did : Call → State → Type 0) (Inv : State → Type 0) (kept : (call : Call) (s : State) → Inv s → Inv (state_after call s)) (each : (call : Call) (s : State) → Inv s
+    → P (state_after call s) → P s ⊎ Did call s) where
   pub holds-first : (calls : List Call) (s : State) → HoldsThrough P calls s → P s
   holds-first [] s h = h
   holds-first (call ∷ calls) s h = h.0

@@ -10,7 +10,8 @@ use Rattle.turn_stun.specs.declared.transport.TransportType.TheVariants.{Tcp}
 use Rattle.turn_agent.specs.declared.transaction.Transaction.{Transaction}
 use Rattle.turn_client_api.specs.State.{State}
 use Rattle.turn_client_api.specs.declared.call.Call.{Call}
-use Rattle.turn_client_api.specs.declared.call.Call.TheVariants.{Delete, CreatePermission, BindChannel, TcpConnect, AllocatedTcpSocket, TcpClosed, SendTo, Recv, PollRecv, Poll, PollTransmit, PollEvent, RelayedAddresses, Permissions, HavePermission, ProtocolError}
+use Rattle.turn_client_api.specs.declared.call.Call.TheVariants.{Delete, CreatePermission, BindChannel, TcpConnect, AllocatedTcpSocket, TcpClosed, SendTo, Recv, PollRecv, Poll, PollTransmit}
+use Rattle.turn_client_api.specs.declared.call.Call.TheVariants.{PollEvent, RelayedAddresses, Permissions, HavePermission, ProtocolError}
 use Rattle.turn_client_api.specs.declared.grant.Relay.{Relay}
 use Rattle.turn_client_api.specs.declared.grant.Purpose.{Purpose}
 use Rattle.turn_client_api.specs.declared.grant.Purpose.TheVariants.{ForAllocation}
@@ -214,7 +215,8 @@ module _ (call : Call) (s : State) (quiet : IsQuiet call) (asks : AsksSo call s)
 
 -- ---- all calls
 
-asks-nothing : (call : Call) (s : State) (x : Transaction) → (IsSentAgain call s x → ⊥) → ((purpose : Purpose) (at : ℕ) → AsksFor call s purpose at → ⊥) → IsSentAgain call s x ⊎ ((purpose : Purpose) × (at : ℕ) × AsksFor call s purpose at × IsMadeAs purpose at s (state_after call s) x) → Asks s x
+asks-nothing : (call : Call) (s : State) (x : Transaction) → (IsSentAgain call s x → ⊥) → ((purpose : Purpose) (at : ℕ) → AsksFor call s purpose at → ⊥) → IsSentAgain call s x
+    ⊎ ((purpose : Purpose) × (at : ℕ) × AsksFor call s purpose at × IsMadeAs purpose at s (state_after call s) x) → Asks s x
 asks-nothing call s x again never (inl is) = absurd (again is)
 asks-nothing call s x again never (inr (purpose, at, asks, made)) = absurd (never purpose at asks)
 
@@ -228,7 +230,8 @@ call-signs (TcpConnect peer now) s order steady h = idle-signs (TcpConnect peer 
 call-signs (AllocatedTcpSocket id tuple peer local now) s order steady h = idle-signs (AllocatedTcpSocket id tuple peer local now) s (idle-socket id tuple peer local now s) steady h
 call-signs (PollTransmit now) s order steady h = quiet-signs (PollTransmit now) s tt (transmit-asks now s) steady h
 call-signs (TcpClosed local remote now) s order steady h = quiet-signs (TcpClosed local remote now) s tt (λ x. asks-nothing (TcpClosed local remote now) s x (λ no. no) (λ p at no. no)) steady h
-call-signs (SendTo transport peer bytes now) s order steady h = quiet-signs (SendTo transport peer bytes now) s tt (λ x. asks-nothing (SendTo transport peer bytes now) s x (λ no. no) (λ p at no. no)) steady h
+call-signs (SendTo transport peer bytes now) s order steady h = quiet-signs (SendTo transport peer bytes now) s tt
+    (λ x. asks-nothing (SendTo transport peer bytes now) s x (λ no. no) (λ p at no. no)) steady h
 call-signs (Poll now) s order steady h = quiet-signs (Poll now) s tt (λ x. asks-nothing (Poll now) s x (λ no. no) (λ p at no. no)) steady h
 call-signs PollEvent s order steady h = quiet-signs PollEvent s tt (λ x. asks-nothing PollEvent s x (λ no. no) (λ p at no. no)) steady h
 call-signs ProtocolError s order steady h = quiet-signs ProtocolError s tt (λ x. asks-nothing ProtocolError s x (λ no. no) (λ p at no. no)) steady h

@@ -133,12 +133,14 @@ pub for-allocation : (id : ℕ) (s : State) (p : Purpose) → AllocatesInOrder s
 for-allocation id s p order u there =
     let (l, listed, e) = purposes-listed id s p there in sym e ∙ order.0.0 u l (has-contains l s.listed listed)
 
-signed-as : (t : State) (config : Config) (held : Option Challenge) (purpose : Purpose) (id : ℕ) (x : Transaction) → t.config ≡ config → HaveOneRealm t.held held → purpose ≡ ForAllocation → x.id ≡ id → x.request ≡ request_for t purpose id
+signed-as : (t : State) (config : Config) (held : Option Challenge) (purpose : Purpose) (id : ℕ) (x : Transaction) → t.config ≡ config → HaveOneRealm t.held held → purpose ≡ ForAllocation → x.id ≡ id
+    → x.request ≡ request_for t purpose id
     → IsSignedAllocate config held x
 signed-as t config held purpose id x same realm is named spelled =
     (t, same, realm, spelled ∙ (ap (λ (p : Purpose). request_for t p id) is ∙ ap (request_for t ForAllocation) (sym named)))
 
-made-signed : (purpose : Purpose) (now : ℕ) (s t : State) (x : Transaction) → purpose ≡ ForAllocation → IsMadeAs purpose now s t x → t.phase ≡ Authenticating → IsSome t.held → IsSignedAllocate t.config t.held x
+made-signed : (purpose : Purpose) (now : ℕ) (s t : State) (x : Transaction) → purpose ≡ ForAllocation → IsMadeAs purpose now s t x → t.phase ≡ Authenticating → IsSome t.held
+    → IsSignedAllocate t.config t.held x
 made-signed purpose now s t x is (made, e) phase held = by made.spelled
   where
     named : x.id ≡ fresh_id s
@@ -174,7 +176,8 @@ module _ (message : List ℕ) (now : ℕ) (s : State) (order : AllocatesInOrder 
           by (inr made) = again x made phase held
 
   -- the first one ends as it is made again, and then nothing else is outstanding
-  retried-signs : (id : ℕ) (purpose : Purpose) (d : Challenge) (u : State) → IsOfOneId s.transactions → is_outstanding id s.transactions ≡ true → purpose ≡ ForAllocation → u.config ≡ s.config → u.held ≡ Some d
+  retried-signs : (id : ℕ) (purpose : Purpose) (d : Challenge) (u : State) → IsOfOneId s.transactions → is_outstanding id s.transactions ≡ true → purpose ≡ ForAllocation → u.config ≡ s.config
+      → u.held ≡ Some d
       → AreSigned s.config (Some d) (without_transaction id s.transactions ++ first_sent (fresh_id s) s.remote now (request_for u purpose (fresh_id s)) ∷ [])
   retried-signs id purpose d u one outstanding is same held x there = by (has-append x (without_transaction id s.transactions) _ there)
     where
@@ -202,7 +205,8 @@ module _ (message : List ℕ) (now : ℕ) (s : State) (order : AllocatesInOrder 
       by true f (Some purpose) g =
           let one : IsOfOneId s.transactions = subst (λ (p : Phase). SignsIn p s.config s.held s.transactions) e h in
           let u = with_held d (record (transaction_ended (id_of message) s) { phase = phase_after s.phase; challenges = s.challenges + 1 }) in
-          let all = retried-signs (id_of message) purpose d u one awaited (for-allocation (id_of message) s purpose order (rw e tt) (retried-has (purposes_of (id_of message) s) purpose g)) refl refl in
+          let all = retried-signs (id_of message) purpose d u one awaited (for-allocation (id_of message) s purpose order (rw e tt)
+          (retried-has (purposes_of (id_of message) s) purpose g)) refl refl in
           let is : (challenge_step message d now s).1 ≡ state_after_retry s (id_of message) purpose d now = rw (f, g) refl in
           let phase : phase_after s.phase ≡ Authenticating = ap phase_after e in
           same-signs (state_after_retry s (id_of message) purpose d now) end is

@@ -24,7 +24,8 @@ sleeps-through-nothing : (s : State) (calls : List Call) → FitsPhase s → Gra
 sleeps-through-nothing s [] steady housed all = tt
 sleeps-through-nothing s (call ∷ calls) steady housed all = (
   tells-timely s call steady housed (all 0 call (omega arith)),
-  sleeps-through-nothing (state_after call s) calls (leaves-steadies call s (state_after call s) (inl refl) steady) (leaves-GrantsHaveAllocations call s (state_after call s) (inl refl) housed) (λ k d less. all (suc k) d (omega (arith, less))),
+  sleeps-through-nothing (state_after call s) calls (leaves-steadies call s (state_after call s) (inl refl) steady) (leaves-GrantsHaveAllocations call s (state_after call s) (inl refl) housed)
+      (λ k d less. all (suc k) d (omega (arith, less))),
 )
 
 -- nor does a new client

@@ -31,7 +31,8 @@ none-false p (y ∷ ys) e x there = by (p y) refl (none-false p ys)
         now (inr more) = later (rw f at e) x more
 
 -- a change that keeps local addresses finds the same stream, changed
-pub find-mapped : (a : SocketAddr) (f : Stream → Stream) → ((x : Stream) → (f x).local ≡ x.local) → (xs : List Stream) → find (λ x. same_address x.local a) (map f xs) ≡ option_map f (find (λ x. same_address x.local a) xs)
+pub find-mapped : (a : SocketAddr) (f : Stream → Stream) → ((x : Stream) → (f x).local ≡ x.local) → (xs : List Stream)
+    → find (λ x. same_address x.local a) (map f xs) ≡ option_map f (find (λ x. same_address x.local a) xs)
 find-mapped a f keeps [] = refl
 find-mapped a f keeps (x ∷ xs) = by (same_address x.local a) refl (find-mapped a f keeps xs)
   where
@@ -153,7 +154,8 @@ abbrev if_ready : Stream → Option Stream
 if_ready stream = cond (is_ready stream) (Some stream) None
 
 -- the first at this local address is fed, and no other is there
-find-fed : (a : SocketAddr) (bytes : List ℕ) (xs : List Stream) (stream : Stream) → IsDistinct same_address (ends xs) → OthersWait a xs → find (λ x. same_address x.local a) xs ≡ Some stream → find is_ready (map (bytes_by a bytes) xs) ≡ if_ready (record stream { bytes = bytes })
+find-fed : (a : SocketAddr) (bytes : List ℕ) (xs : List Stream) (stream : Stream) → IsDistinct same_address (ends xs) → OthersWait a xs → find (λ x. same_address x.local a) xs ≡ Some stream
+    → find is_ready (map (bytes_by a bytes) xs) ≡ if_ready (record stream { bytes = bytes })
 unfolding IsDistinct
 find-fed a bytes [] stream apart waits e = cc
 find-fed a bytes (x ∷ xs) stream apart waits e = by (same_address x.local a) refl (λ f. find-fed a bytes xs stream apart.1 (λ y there. waits y (inr there)) f)
@@ -165,14 +167,16 @@ find-fed a bytes (x ∷ xs) stream apart waits e = by (same_address x.local a) r
     here f true g = rw (f, g) refl
     here f false g = rw (f, g) (none-ready a bytes xs (subst (λ (l : SocketAddr). IsNoneOf l xs) (same_address-true x.local a f) apart.0) (λ y there. waits y (inr there)))
 
-    by : (b : Bool) → same_address x.local a ≡ b → (find (λ x. same_address x.local a) xs ≡ Some stream → find is_ready (map (bytes_by a bytes) xs) ≡ if_ready (record stream { bytes = bytes })) → Goal stream
+    by : (b : Bool) → same_address x.local a ≡ b → (find (λ x. same_address x.local a) xs ≡ Some stream → find is_ready (map (bytes_by a bytes) xs) ≡ if_ready (record stream { bytes = bytes }))
+        → Goal stream
     by true f later = found (rw f at e)
       where
         found : Some x ≡ Some stream → Goal stream
         found g = let same : x ≡ stream = cc in subst Goal same (here f (is_ready (record x { bytes = bytes })) refl)
     by false f later = rw (f, waits x (inl refl) f) (later (rw f at e))
 
-pub fed-found : (a : SocketAddr) (bytes : List ℕ) (s : State) (stream : Stream) → IsAlone a s → stream_at a s ≡ Some stream → find is_ready (with_bytes a bytes s).streams ≡ cond (is_ready (record stream { bytes = bytes })) (Some (record stream { bytes = bytes })) None
+pub fed-found : (a : SocketAddr) (bytes : List ℕ) (s : State) (stream : Stream) → IsAlone a s → stream_at a s ≡ Some stream
+    → find is_ready (with_bytes a bytes s).streams ≡ cond (is_ready (record stream { bytes = bytes })) (Some (record stream { bytes = bytes })) None
 fed-found a bytes s stream alone e = find-fed a bytes s.streams stream alone.distinct alone.others e
 
 -- without a stream at this local address none is ready

@@ -7,7 +7,8 @@ use Rattle.turn_stun.specs.Message.{id_of}
 use Rattle.turn_agent.specs.Agent.{is_outstanding}
 use Rattle.turn_client_api.specs.State.{State}
 use Rattle.turn_client_api.specs.declared.call.Call.{Call}
-use Rattle.turn_client_api.specs.declared.call.Call.TheVariants.{Delete, CreatePermission, BindChannel, TcpConnect, AllocatedTcpSocket, TcpClosed, SendTo, Recv, PollRecv, Poll, PollTransmit, PollEvent, ProtocolError, RelayedAddresses, Permissions, HavePermission}
+use Rattle.turn_client_api.specs.declared.call.Call.TheVariants.{Delete, CreatePermission, BindChannel, TcpConnect, AllocatedTcpSocket, TcpClosed, SendTo, Recv, PollRecv, Poll, PollTransmit}
+use Rattle.turn_client_api.specs.declared.call.Call.TheVariants.{PollEvent, ProtocolError, RelayedAddresses, Permissions, HavePermission}
 use Rattle.turn_client_api.specs.declared.grant.Listing.{Listing}
 use Rattle.turn_client_api.specs.declared.grant.Purpose.{Purpose}
 use Rattle.turn_client_api.specs.declared.grant.Purpose.TheVariants.{ForAllocation, ForRefresh, ForPermission, ForChannel, ForConnect, ForBind}
@@ -142,7 +143,8 @@ listing-here ProtocolError s = inr (λ l is. is)
 fresh-unlisted : (s : State) → (l : Listing) → Has l s.listed → l.id ≡ fresh_id s → ⊥
 fresh-unlisted s l there e =
     let free = or_parts (is_outstanding (fresh_id s) s.transactions) _ (fresh-free s) in
-    let none : list_any (λ (l : Listing). eqb l.id (fresh_id s)) s.listed ≡ false = (or_parts (list_any (λ (l : Listing). eqb l.id (fresh_id s)) s.listed) (list_any (is_of_request (fresh_id s)) s.grants) free.1).0 in
+    let none : list_any (λ (l : Listing). eqb l.id (fresh_id s)) s.listed ≡ false =
+    (or_parts (list_any (λ (l : Listing). eqb l.id (fresh_id s)) s.listed) (list_any (is_of_request (fresh_id s)) s.grants) free.1).0 in
     let some = has-any (λ (l : Listing). eqb l.id (fresh_id s)) l s.listed there (eq-eqb l.id (fresh_id s) e) in
     let no : true ≡ false = sym some ∙ none in
     cc
@@ -206,7 +208,8 @@ module _ (call : Call) (s : State) where
       less l there = old l ((gone-settles end.local s).1 l (subst (λ (t : State). Has l t.listed) end.gone there))
 
   here-together : ((l : Listing) → IsListingOf call s l → IsListingHere call s l) → AreTogether s → AreTogether (state_after call s)
-  here-together own h = together-more (IsListingHere call s) s (state_after call s) with (λ l there. by l (listings-made call s (state_after call s) l (inl refl) (has-contains l (state_after call s).listed there))) h
+  here-together own h = together-more (IsListingHere call s) s (state_after call s) with
+      (λ l there. by l (listings-made call s (state_after call s) l (inl refl) (has-contains l (state_after call s).listed there))) h
     where
       with : (l other : Listing) → IsListingHere call s l → IsListingHere call s other → Together l.purpose other.purpose
       with l other (p, at, asks, for, made) (q, then, also, too, again) = of (asks-one call s p q at then asks also)

@@ -1,5 +1,6 @@
 -- Each step of a stream takes a byte at least from what the streams hold.
-use Rattle.std.proofs.Common.{◌≡◌, ◌≤◌, ◌<◌, ◌+◌, ◌-◌, ℕ, zero, suc, max, Bool, true, false, not, cond, List, [], ◌∷◌, ◌++◌, length, map, filter, take, drop, Option, Some, None, inl, inr, refl, sym, ◌∙◌, arith}
+use Rattle.std.proofs.Common.{◌≡◌, ◌≤◌, ◌<◌, ◌+◌, ◌-◌, ℕ, zero, suc, max, Bool, true, false, not, cond, List, [], ◌∷◌, ◌++◌, length, map, filter, take, drop, Option, Some, None, inl, inr, refl, sym}
+use Rattle.std.proofs.Common.{◌∙◌, arith}
 use Rattle.std.specs.Prelude.{find, is_some}
 use Rattle.std.proofs.lemmas.Bool.{false_from_ne_true}
 use Rattle.std.proofs.lemmas.List.{length-append, length-drop}
@@ -15,10 +16,12 @@ use Rattle.turn_client_api.specs.declared.state.Mode.{Mode}
 use Rattle.turn_client_api.specs.declared.state.Mode.TheVariants.{Control, Waiting, Bound, Broken}
 use Rattle.turn_client_api.specs.declared.state.Stream.{Stream}
 use Rattle.turn_client_api.specs.Payloads.{Payload, Outcome, Handled, Ignored, PeerData, PeerIcmp, channel_sent, datagram_step, is_channel_frame, is_message, message_step}
-use Rattle.turn_client_api.specs.Streams.{broken_at, frame_step, framed_by, framed_stream_step, go_on, is_ready, max_steps, payload_in, poll_recv_step, stream_at, next_frame_step, first_ready_step, detached_frame_step, steps_until_payload, with_bytes, without_stream}
+use Rattle.turn_client_api.specs.Streams.{broken_at, frame_step, framed_by, framed_stream_step, go_on, is_ready, max_steps, payload_in, poll_recv_step, stream_at, next_frame_step, first_ready_step}
+use Rattle.turn_client_api.specs.Streams.{detached_frame_step, steps_until_payload, with_bytes, without_stream}
 use Rattle.turn_client_api.specs.Receive.{connection_gone, first_frame_step, is_from_server, piece_step, recv_step, stream_step, then_all}
 use Rattle.turn_client_api.specs.Connections.{connection_at}
-use Rattle.turn_client_laws.specs.Handled.{Input, datagram_input, fed_taken, frame_taken, handled, is_front, piece_inputs, poll_recv_inputs, recv_inputs, stream_inputs, stream_inputs_taken, taken_first, taken_in, taken_of_len, then_taken, inputs_taken, unless_given}
+use Rattle.turn_client_laws.specs.Handled.{Input, datagram_input, fed_taken, frame_taken, handled, is_front, piece_inputs, poll_recv_inputs, recv_inputs, stream_inputs, stream_inputs_taken}
+use Rattle.turn_client_laws.specs.Handled.{taken_first, taken_in, taken_of_len, then_taken, inputs_taken, unless_given}
 use Rattle.turn_client_laws.specs.LawsHandled.{TakesInput}
 use Rattle.turn_client_api.specs.Steps.{state_after}
 use Rattle.turn_client_api.specs.declared.call.Call.{Call}
@@ -82,7 +85,8 @@ module _ (p : Stream → Bool) (stream : Stream) (s : State) (found : find p s.s
       u : Stream
       u = record stream { mode = mode; bytes = bytes }
 
-      by : (b : Bool) (o : Option ℕ) → frame_len bytes ≡ o → TakesOut bytes (cond b [] (taken_of_len l u now out o)) (cond {A = Outcome × State} b (Handled, broken_at stream.local out) (framed_by u now out o))
+      by : (b : Bool) (o : Option ℕ) → frame_len bytes ≡ o → TakesOut bytes (cond b [] (taken_of_len l u now out o))
+          (cond {A = Outcome × State} b (Handled, broken_at stream.local out) (framed_by u now out o))
       by true o e = let less = broken in omega (arith, less)
       by false None e = let less = put_back bytes out (inl refl) in omega (arith, less)
       by false (Some len) e =
@@ -92,7 +96,8 @@ module _ (p : Stream → Bool) (stream : Stream) (s : State) (found : find p s.s
           let behind = length-drop len bytes in
           omega (arith, less, behind, is.least, is.within)
 
-  turned-takes : (l : Bool) (mode : Mode) (bytes : List ℕ) (now : ℕ) → 0 < length bytes → (let u = record stream { mode = mode; bytes = bytes } in TakesOut bytes (taken_in l u now out) (detached_frame_step u now out))
+  turned-takes : (l : Bool) (mode : Mode) (bytes : List ℕ) (now : ℕ) → 0 < length bytes
+      → (let u = record stream { mode = mode; bytes = bytes } in TakesOut bytes (taken_in l u now out) (detached_frame_step u now out))
   turned-takes l Control bytes now some = framed-takes l Control bytes now
   turned-takes l Waiting bytes now some = framed-takes l Waiting bytes now
   turned-takes l (Bound peer) bytes now some = let less = emptied in omega (arith, less, some)
@@ -107,7 +112,8 @@ module _ (p : Stream → Bool) (stream : Stream) (s : State) (found : find p s.s
 abbrev Takes : List Input → State → State → Type 0
 Takes turns s t = length turns + weight t.streams ≤ weight s.streams
 
-go_on-takes : (next : State → Option Payload × State) (later : State → List Input) (front : List Input) (s : State) (q : Outcome × State) → Takes front s q.1 → Takes (later q.1) q.1 (next q.1).1 → Takes (front ++ unless_given (payload_in q.0) (later q.1)) s (go_on next q).1
+go_on-takes : (next : State → Option Payload × State) (later : State → List Input) (front : List Input) (s : State) (q : Outcome × State) → Takes front s q.1 → Takes (later q.1) q.1 (next q.1).1
+    → Takes (front ++ unless_given (payload_in q.0) (later q.1)) s (go_on next q).1
 go_on-takes next later front s (PeerData payload, t) first more = let sum = length-append front [] in omega (arith, sum, first)
 go_on-takes next later front s (Handled, t) first more = let sum = length-append front (later t) in omega (arith, sum, first, more)
 go_on-takes next later front s (Ignored, t) first more = let sum = length-append front (later t) in omega (arith, sum, first, more)
@@ -118,12 +124,14 @@ unfolding steps_until_payload inputs_taken
 turns-take zero now s = omega arith
 turns-take (suc n) now s = by (find is_ready s.streams) refl (λ t. turns-take n now t)
   where
-    by : (o : Option Stream) → find is_ready s.streams ≡ o → ((t : State) → Takes (inputs_taken n now t) t (steps_until_payload n now t).1) → Takes (taken_first (inputs_taken n now) now s o) s (first_ready_step (steps_until_payload n now) now s o).1
+    by : (o : Option Stream) → find is_ready s.streams ≡ o → ((t : State) → Takes (inputs_taken n now t) t (steps_until_payload n now t).1)
+        → Takes (taken_first (inputs_taken n now) now s o) s (first_ready_step (steps_until_payload n now) now s o).1
     by None e more = omega arith
     by (Some stream) e more =
         let some = ready-waits stream.mode stream stream.bytes (found-ready s.streams stream e) in
         let takes = turn-takes is_ready stream s e false stream.bytes now some in
-        go_on-takes (steps_until_payload n now) (inputs_taken n now) (stream_inputs_taken false stream now s) s (next_frame_step stream now s) (omega (arith, takes)) (more (next_frame_step stream now s).1)
+        go_on-takes (steps_until_payload n now) (inputs_taken n now) (stream_inputs_taken false stream now s) s (next_frame_step stream now s) (omega (arith, takes))
+        (more (next_frame_step stream now s).1)
 
 poll-takes : (now : ℕ) (s : State) → Takes (poll_recv_inputs now s) s (poll_recv_step now s).1
 poll-takes now s = turns-take (max_steps s) now s
@@ -147,7 +155,8 @@ module _ (to : SocketAddr) (s : State) where
       let takes = turn-takes (λ x. same_address x.local to) stream s found (is_front stream.bytes) (stream.bytes ++ piece) now (omega (arith, all, some)) in
       omega (arith, all, takes)
 
-  piece-takes : (m : Mode) (stream : Stream) (piece : List ℕ) (now : ℕ) → stream_at to s ≡ Some (record stream { mode = m }) → 0 < length piece → TakesOf piece (piece_inputs (record stream { mode = m }) piece now s) s (piece_step (record stream { mode = m }) piece now s).1
+  piece-takes : (m : Mode) (stream : Stream) (piece : List ℕ) (now : ℕ) → stream_at to s ≡ Some (record stream { mode = m }) → 0 < length piece
+      → TakesOf piece (piece_inputs (record stream { mode = m }) piece now s) s (piece_step (record stream { mode = m }) piece now s).1
   piece-takes Control stream piece now found some =
       let u = record stream { mode = Control } in
       then_all-takes now piece (fed_taken u piece now s) s (first_frame_step u piece now s) (fed-takes u piece now found some)
@@ -177,7 +186,8 @@ top-left local other differ (x ∷ xs) = by (same_address x.local local) refl (t
         let clash : true ≡ false = sym there ∙ differ in
         cc)
 
-    by : (b : Bool) → same_address x.local local ≡ b → top other kept ≡ top other xs → top other (cond (not b) (x ∷ kept) kept) ≡ max (cond (same_address x.local other) (length x.bytes) 0) (top other xs)
+    by : (b : Bool) → same_address x.local local ≡ b → top other kept ≡ top other xs
+        → top other (cond (not b) (x ∷ kept) kept) ≡ max (cond (same_address x.local other) (length x.bytes) 0) (top other xs)
     by true e later = rw (apart e) (omega (arith, later))
     by false e later = omega (arith, later)
 
@@ -216,7 +226,8 @@ opened-weight s t (inr (local, is)) = rw is (let less = weight-left local s.stre
 gone-same : (local : SocketAddr) (s : State) → Same s (connection_gone local s)
 gone-same local s = same-cond (is_some (connection_at local s)) s _ _ refl refl
 
-stream-takes : (to : SocketAddr) (stream : Stream) (piece : List ℕ) (now : ℕ) (s : State) → stream_at to s ≡ Some stream → TakesOf piece (stream_inputs stream piece now s) s (stream_step stream piece now s).1
+stream-takes : (to : SocketAddr) (stream : Stream) (piece : List ℕ) (now : ℕ) (s : State) → stream_at to s ≡ Some stream
+    → TakesOf piece (stream_inputs stream piece now s) s (stream_step stream piece now s).1
 stream-takes to stream [] now s found =
     let same = gone-same stream.local s in
     let less = weight-left stream.local (connection_gone stream.local s).streams in
@@ -243,7 +254,8 @@ recv_over Udp transport from to bytes now s = by (is_from_server transport from 
     u : State
     u = record s { transport = Udp }
 
-    by : (b c : Bool) → TakesOfPacket bytes (cond b (cond c (datagram_input bytes now u ∷ []) []) []) u (cond {A = Outcome × State} b (cond {A = Outcome × State} c (datagram_step bytes now u) (Ignored, u)) (Ignored, u)).1
+    by : (b c : Bool) → TakesOfPacket bytes (cond b (cond c (datagram_input bytes now u ∷ []) []) []) u
+        (cond {A = Outcome × State} b (cond {A = Outcome × State} c (datagram_step bytes now u) (Ignored, u)) (Ignored, u)).1
     by true true = let kept = datagram-weight bytes now u in omega (arith, kept)
     by true false = omega arith
     by false c = omega arith
@@ -252,13 +264,15 @@ recv_over Tcp transport from to bytes now s = by (is_from_server transport from 
     u : State
     u = record s { transport = Tcp }
 
-    by : (b : Bool) → is_from_server transport from u ≡ b → (o : Option Stream) → stream_at to s ≡ o → TakesOfPacket bytes (recv_inputs transport from to bytes now u) u (recv_step transport from to bytes now u).1
+    by : (b : Bool) → is_from_server transport from u ≡ b → (o : Option Stream) → stream_at to s ≡ o
+        → TakesOfPacket bytes (recv_inputs transport from to bytes now u) u (recv_step transport from to bytes now u).1
     by false e o f = rw e (omega arith)
     by true e None f = rw (e, f) (omega arith)
     by true e (Some stream) f = let takes = stream-takes to stream bytes now u f in rw (e, f) (omega (arith, takes))
 
 -- the inputs of a call, and what the streams hold then
-pub recv-takes : (packet : Transmit (List ℕ)) (now : ℕ) (s : State) → length (handled (Recv packet now) s) + weight (state_after (Recv packet now) s).streams ≤ weight s.streams + (1 + length packet.payload)
+pub recv-takes : (packet : Transmit (List ℕ)) (now : ℕ) (s : State) → length (handled (Recv packet now) s) + weight (state_after (Recv packet now) s).streams ≤ weight s.streams +
+    (1 + length packet.payload)
 recv-takes packet now s = recv_over s.transport packet.transport packet.from packet.to packet.payload now s
 
 pub poll_recv-takes : (now : ℕ) (s : State) → length (handled (PollRecv now) s) + weight (state_after (PollRecv now) s).streams ≤ weight s.streams

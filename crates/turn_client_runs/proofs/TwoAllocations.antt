@@ -62,7 +62,8 @@ both-families (a ∷ relays) = by (family_of a.relayed) refl (both-families rela
     some : AddressFamily → List Relay → List Relay
     some f list = filter (λ x. same_family (family_of x.relayed) f) list
 
-    by : (f : AddressFamily) → family_of a.relayed ≡ f → length relays ≡ length (some IPV4 relays) + length (some IPV6 relays) → length (a ∷ relays) ≡ length (some IPV4 (a ∷ relays)) + length (some IPV6 (a ∷ relays))
+    by : (f : AddressFamily) → family_of a.relayed ≡ f → length relays ≡ length (some IPV4 relays) + length (some IPV6 relays)
+        → length (a ∷ relays) ≡ length (some IPV4 (a ∷ relays)) + length (some IPV6 (a ∷ relays))
     by IPV4 e later = rw e (omega (arith, later))
     by IPV6 e later = rw e (omega (arith, later))
 

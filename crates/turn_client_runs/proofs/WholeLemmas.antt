@@ -26,7 +26,8 @@ module _ (a : SocketAddr) (now : ℕ) (s : State) where
   whole-waits bytes e = by_first (λ t. T.size_in (mode_at a t)) (part_at_step a now) (size_in-IsPrefixCut (mode_at a)) s bytes None e
 
   -- there is a first one
-  pub whole-part : (bytes : List ℕ) (k : ℕ) → T.size_in (mode_at a s) bytes ≡ Some k → (p : State × List Payload) → part_at_step a now s (take k bytes) ≡ p → whole a now s bytes ≡ behind p.1 (whole a now p.0 (drop k bytes))
+  pub whole-part : (bytes : List ℕ) (k : ℕ) → T.size_in (mode_at a s) bytes ≡ Some k → (p : State × List Payload) → part_at_step a now s (take k bytes) ≡ p
+      → whole a now s bytes ≡ behind p.1 (whole a now p.0 (drop k bytes))
   whole-part bytes k e p is =
       by_first (λ t. T.size_in (mode_at a t)) (part_at_step a now) (size_in-IsPrefixCut (mode_at a)) s bytes (Some k) e
       ∙ ap (λ (q : State × List Payload). behind q.1 (whole a now q.0 (drop k bytes))) is
@@ -46,7 +47,8 @@ module _ (a : SocketAddr) (now : ℕ) (s : State) where
       other f = let clash : T.Framed ≡ T.Broken = f ∙ e in cc
 
   -- a bound stream returns its bytes
-  pub whole-bound : (peer : SocketAddr) → mode_at a s ≡ T.Bound → ((b : ℕ) → part_at_step a now s (b ∷ []) ≡ (s, sent_by peer (b ∷ []) None ∷ [])) → (bytes : List ℕ) → whole a now s bytes ≡ record { state = s; given = map (λ b. sent_by peer (b ∷ []) None) bytes; rest = [] }
+  pub whole-bound : (peer : SocketAddr) → mode_at a s ≡ T.Bound → ((b : ℕ) → part_at_step a now s (b ∷ []) ≡ (s, sent_by peer (b ∷ []) None ∷ [])) → (bytes : List ℕ)
+      → whole a now s bytes ≡ record { state = s; given = map (λ b. sent_by peer (b ∷ []) None) bytes; rest = [] }
   whole-bound peer e part [] = whole-waits [] (rw e refl)
   whole-bound peer e part (b ∷ bytes) =
       whole-byte other b bytes (s, sent_by peer (b ∷ []) None ∷ []) (part b)
@@ -61,7 +63,8 @@ module _ (a : SocketAddr) (now : ℕ) (s : State) where
   pub broken-whole : (stream : Stream) → stream_at a s ≡ Some (record stream { mode = Broken }) → (bytes : List ℕ) → whole a now s bytes ≡ left s []
   broken-whole stream e bytes = whole-unmeant (rw e refl) (λ b. rw e refl) bytes
 
-  pub bound-whole : (peer : SocketAddr) (stream : Stream) → stream_at a s ≡ Some (record stream { mode = Bound peer }) → (bytes : List ℕ) → whole a now s bytes ≡ record { state = s; given = map (λ b. sent_by peer (b ∷ []) None) bytes; rest = [] }
+  pub bound-whole : (peer : SocketAddr) (stream : Stream) → stream_at a s ≡ Some (record stream { mode = Bound peer }) → (bytes : List ℕ)
+      → whole a now s bytes ≡ record { state = s; given = map (λ b. sent_by peer (b ∷ []) None) bytes; rest = [] }
   bound-whole peer stream e bytes = whole-bound peer (rw e refl) (λ b. rw e refl) bytes
 
 -- ---- a stream of frames

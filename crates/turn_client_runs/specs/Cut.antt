@@ -1,6 +1,7 @@
 -- One stream of a client over TCP as frames that are processed one after the other, in whatever pieces they
 -- are received (RFC 8656, section 12.5; RFC 6062, section 4.3).
-use Rattle.std.specs.Prelude.{◌≡◌, ◌≢◌, ℕ, zero, suc, ◌+◌, ◌==◌, Bool, true, false, if◌then◌else◌, List, [], ◌∷◌, ◌++◌, All, drop, find, flat_map, length, map, take, Option, Some, None, MatchOption, option_to_list}
+use Rattle.std.specs.Prelude.{◌≡◌, ◌≢◌, ℕ, zero, suc, ◌+◌, ◌==◌, Bool, true, false, if◌then◌else◌, List, [], ◌∷◌, ◌++◌, All, drop, find, flat_map, length, map}
+use Rattle.std.specs.Prelude.{take, Option, Some, None, MatchOption, option_to_list}
 use Rattle.std.specs.List.{concat}
 use Rattle.std.specs.Option.{option_map_or}
 use Rattle.std.specs.declared.net.socket_addr.SocketAddr.{SocketAddr}

@@ -10,8 +10,10 @@ ghost use Rattle.turn_client_api.specs.Config.{Config};
 ghost use Rattle.turn_client_api.specs.State.{State, initial};
 ghost use Rattle.turn_client_api.specs.declared.call.Call.{Call};
 ghost use Rattle.turn_client_laws.specs.LawsStreams.{AreApart};
-ghost use Rattle.turn_client_laws.specs.LawsPieces.{abc, abc_frame, behind_half, client, data_end, from_peer, half_header, hello, hello_message, relayed, with_bound, with_channel};
-ghost use Rattle.turn_client_runs.specs.Cut.{AreNonempty, GetsQuiet, IsQuiet, IsSameForAnyCut, IsSameInRuns, bytes_at, fed_pieces, mode_at, read_from_front, whole, whole_of};
+ghost use Rattle.turn_client_laws.specs.LawsPieces.{abc, abc_frame, behind_half, client, data_end, from_peer, half_header, hello, hello_message, relayed};
+ghost use Rattle.turn_client_laws.specs.LawsPieces.{with_bound, with_channel};
+ghost use Rattle.turn_client_runs.specs.Cut.{AreNonempty, GetsQuiet, IsQuiet, IsSameForAnyCut, IsSameInRuns, bytes_at, fed_pieces, mode_at, read_from_front};
+ghost use Rattle.turn_client_runs.specs.Cut.{whole, whole_of};
 ghost use Rattle.turn_client_runs.specs.CutRows.{WhenCut, abc_and_hello, byte_and_hello, pieces_at, two_bytes, whole_at};
 ghost use Rattle.turn_client_api.specs.Steps.{state_after_all};
 

@@ -1,7 +1,8 @@
 //! All that runs keep, as `turn_client_proto::replay` carries it.
 
 ghost use Rattle.turn_client_runs.specs.Holds.{HoldsOfRuns};
-ghost use Rattle.turn_client_runs.specs.Promises.{AfterEach, BoundHaveSuccess, CutsAgree, FewAreAnswered, GrantsHaveReplies, DeliversOnlyPermitted, NumbersAreDistinct, RealmIsAnswered, RealmStays, RepliesCountOnce};
+ghost use Rattle.turn_client_runs.specs.Promises.{AfterEach, BoundHaveSuccess, CutsAgree, FewAreAnswered, GrantsHaveReplies, DeliversOnlyPermitted};
+ghost use Rattle.turn_client_runs.specs.Promises.{NumbersAreDistinct, RealmIsAnswered, RealmStays, RepliesCountOnce};
 ghost use Rattle.turn_client_runs.specs.Short.{StreamsAreShort};
 
 /// What a run of a new client keeps, whatever its configuration, its seed and its calls, if no memory

@@ -64,13 +64,15 @@ found-local local (y ∷ ys) x e = by (same_address y.local local) refl (found-l
     by false g later = later (rw g at e)
 
 -- the first stream that passes a test is changed
-pub set-first : (p : Stream → Bool) (f : Stream → Stream) (xs : List Stream) (i : ℕ) (d : Stream) → HasOwnEnds xs → position p xs ≡ Some i → set xs i (f (get_or xs i d)) ≡ at_end (get_or xs i d).local f xs
+pub set-first : (p : Stream → Bool) (f : Stream → Stream) (xs : List Stream) (i : ℕ) (d : Stream) → HasOwnEnds xs → position p xs ≡ Some i
+    → set xs i (f (get_or xs i d)) ≡ at_end (get_or xs i d).local f xs
 set-first p f xs i d h e =
     let first = position-IsFirst p xs i e in
     set-at_end f xs i (get_or xs i d) h (slice_get-get_or xs i d first.within)
 
 -- the stream at this local address is changed
-pub set-local : (local : SocketAddr) (f : Stream → Stream) (xs : List Stream) (i : ℕ) (d : Stream) → HasOwnEnds xs → position (is_at local) xs ≡ Some i → set xs i (f (get_or xs i d)) ≡ at_end local f xs
+pub set-local : (local : SocketAddr) (f : Stream → Stream) (xs : List Stream) (i : ℕ) (d : Stream) → HasOwnEnds xs → position (is_at local) xs ≡ Some i
+    → set xs i (f (get_or xs i d)) ≡ at_end local f xs
 set-local local f xs i d h e =
     let first = position-IsFirst (is_at local) xs i e in
     let same = found-local local xs (get_or xs i d) (first.found d) in

@@ -45,7 +45,8 @@ module _ (s t : State) where
     transmit-steady (Ok x) now e f = leaves-steadies (Call.PollTransmit now) s t (inl e)
     transmit-steady (Err x) now e f = closed-steady f
 
-    pub datagram-steady : (result : Result A E) (bytes : List ℕ) (now : ℕ) → s.transport ≡ Udp → OnOk result (t ≡ (datagram_step bytes now s).1) → OnErr result (t ≡ closed s) → FitsPhase s → FitsPhase t
+    pub datagram-steady : (result : Result A E) (bytes : List ℕ) (now : ℕ) → s.transport ≡ Udp → OnOk result (t ≡ (datagram_step bytes now s).1) → OnErr result (t ≡ closed s) → FitsPhase s
+        → FitsPhase t
     datagram-steady (Ok x) bytes now udp e f =
         leaves-steadies (Call.Recv (record { payload = bytes; transport = Udp; from = s.remote; to = s.local }) now) s t (inl (e ∙ ap (λ (r : Outcome × State). r.1) (datagram-is bytes now udp)))
     datagram-steady (Err x) bytes now udp e f = closed-steady f
@@ -59,13 +60,15 @@ module _ (s t : State) where
   pub send-steady : (transport : TransportType) (peer : SocketAddr) (bytes : List ℕ) (now : ℕ) → t ≡ (send_to_step transport peer bytes now s).1 → FitsPhase s → FitsPhase t
   send-steady transport peer bytes now e = leaves-steadies (Call.SendTo transport peer bytes now) s t (inl e)
 
-  pub permission-steady : (result : Result Unit CreatePermissionError) (transport : TransportType) (peer : IpAddr) (now : ℕ) → CreatesPermission result s t (create_permission_step transport peer now s) → FitsPhase s → FitsPhase t
+  pub permission-steady : (result : Result Unit CreatePermissionError) (transport : TransportType) (peer : IpAddr) (now : ℕ)
+      → CreatesPermission result s t (create_permission_step transport peer now s) → FitsPhase s → FitsPhase t
   permission-steady (Ok x) transport peer now h = leaves-steadies (Call.CreatePermission transport peer now) s t (inl h.1)
   permission-steady (Err Create.AlreadyExists) transport peer now h = leaves-steadies (Call.CreatePermission transport peer now) s t (inl h.1)
   permission-steady (Err Create.NoAllocation) transport peer now h = leaves-steadies (Call.CreatePermission transport peer now) s t (inl h.1)
   permission-steady (Err Create.OutOfMemory) transport peer now h = leaves-steadies (Call.CreatePermission transport peer now) s t (inr h.1)
 
-  pub channel-steady : (result : Result Unit BindChannelError) (transport : TransportType) (peer : SocketAddr) (now : ℕ) → BindsChannel result s t (bind_channel_step transport peer now s) → FitsPhase s → FitsPhase t
+  pub channel-steady : (result : Result Unit BindChannelError) (transport : TransportType) (peer : SocketAddr) (now : ℕ) → BindsChannel result s t (bind_channel_step transport peer now s)
+      → FitsPhase s → FitsPhase t
   channel-steady (Ok x) transport peer now h = leaves-steadies (Call.BindChannel transport peer now) s t (inl h.1)
   channel-steady (Err Bind.AlreadyExists) transport peer now h = leaves-steadies (Call.BindChannel transport peer now) s t (inl h.1)
   channel-steady (Err (Bind.ExpiredChannelExists moment)) transport peer now h = leaves-steadies (Call.BindChannel transport peer now) s t (inl h.1)

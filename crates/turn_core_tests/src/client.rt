@@ -11,7 +11,7 @@ use turn_client_api::{
     PermissionAddressesIter, RelayedAddressesIter, SendError, Socket5Tuple, TcpAllocateError,
     TcpConnectError, TurnEvent, TurnPollRet,
 };
-use turn_client_core::{TurnProtocolRecv, TurnClientProtocol};
+use turn_client_core::{TurnClientProtocol, TurnProtocolRecv};
 use turn_stun::data::Data;
 use turn_stun::instant::Instant;
 use turn_stun::transport::{Transmit, TransportType};
@@ -85,7 +85,11 @@ impl Client {
     }
 
     /// Processes a datagram, which only a client over UDP receives.
-    pub(crate) fn datagram(&mut self, bytes: &[u8], now: Instant) -> Result<TurnProtocolRecv, AllocError> {
+    pub(crate) fn datagram(
+        &mut self,
+        bytes: &[u8],
+        now: Instant,
+    ) -> Result<TurnProtocolRecv, AllocError> {
         match self.core.transport() {
             TransportType::Udp => self.core.datagram(bytes, now),
             TransportType::Tcp => Ok(TurnProtocolRecv::Ignored),

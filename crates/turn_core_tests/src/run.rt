@@ -215,8 +215,12 @@ fn is_reported(told: &TurnProtocolRecv, want: &Want<'_>) -> bool {
     match told {
         TurnProtocolRecv::Handled => matches!(want, Want::Handled),
         TurnProtocolRecv::Ignored => matches!(want, Want::Ignored),
-        TurnProtocolRecv::PeerData(transport, peer, range) => is_data(*transport, *peer, range, want),
-        TurnProtocolRecv::PeerIcmp(transport, peer, icmp) => is_report(*transport, *peer, icmp, want),
+        TurnProtocolRecv::PeerData(transport, peer, range) => is_data(
+            *transport, *peer, range, want,
+        ),
+        TurnProtocolRecv::PeerIcmp(transport, peer, icmp) => is_report(
+            *transport, *peer, icmp, want,
+        ),
     }
 }
 

@@ -9,25 +9,29 @@ use Rattle.turn_driver.specs.declared.task.Rest.{Rest}
 use Rattle.turn_driver.specs.declared.task.Rest.TheVariants.{Until, Now, Ended}
 
 -- if work may be left, the next answer is appended to what was returned so far
-pub turned-going : (n now : ℕ) (start : DriveState) (given : List Given) (s t : State) (answer : Answer) → drive_steps n now start ≡ going given s → answer ≡ (next_step now s).0 → t ≡ (next_step now s).1 → drive_steps (n + 1) now start ≡ with_answer given (answer, t)
+pub turned-going : (n now : ℕ) (start : DriveState) (given : List Given) (s t : State) (answer : Answer) → drive_steps n now start ≡ going given s → answer ≡ (next_step now s).0
+    → t ≡ (next_step now s).1 → drive_steps (n + 1) now start ≡ with_answer given (answer, t)
 unfolding drive_steps
 turned-going n now start given s t answer e told after =
     rw (add-one n) (ap (once_more now) e ∙ sym (ap (λ (a : Answer). with_answer given (a, t)) told ∙ ap (λ (u : State). with_answer given ((next_step now s).0, u)) after))
 
 -- once there is nothing to do, the client is not polled again
-once_more-rests : (now : ℕ) (given : List Given) (rest : Rest) (s : State) → (rest ≡ Now → ⊥) → once_more now (record { given = given; rest = rest; client = s }) ≡ record { given = given; rest = rest; client = s }
+once_more-rests : (now : ℕ) (given : List Given) (rest : Rest) (s : State) → (rest ≡ Now → ⊥)
+    → once_more now (record { given = given; rest = rest; client = s }) ≡ record { given = given; rest = rest; client = s }
 once_more-rests now given (Until moment) s other = refl
 once_more-rests now given Now s other = absurd (other refl)
 once_more-rests now given Ended s other = refl
 
-turned-rests : (j n now : ℕ) (start : DriveState) (given : List Given) (rest : Rest) (s : State) → (rest ≡ Now → ⊥) → drive_steps n now start ≡ record { given = given; rest = rest; client = s } → drive_steps (j + n) now start ≡ record { given = given; rest = rest; client = s }
+turned-rests : (j n now : ℕ) (start : DriveState) (given : List Given) (rest : Rest) (s : State) → (rest ≡ Now → ⊥) → drive_steps n now start ≡ record { given = given; rest = rest; client = s }
+    → drive_steps (j + n) now start ≡ record { given = given; rest = rest; client = s }
 unfolding drive_steps
 turned-rests zero n now start given rest s other e = rw (zero-add n) e
 turned-rests (suc j) n now start given rest s other e = rw (suc-add j n)
     (ap (once_more now) (turned-rests j n now start given rest s other e) ∙ once_more-rests now given rest s other)
 
 -- the result then stays the same, up to the maximum number of polls
-pub turned-rest : (n most now : ℕ) (start : DriveState) (given : List Given) (rest : Rest) (s t : State) → n < most → (rest ≡ Now → ⊥) → drive_steps n now start ≡ going given s → Rests rest ≡ (next_step now s).0 → t ≡ (next_step now s).1 → record { given = given; rest = rest; client = t } ≡ drive_steps most now start
+pub turned-rest : (n most now : ℕ) (start : DriveState) (given : List Given) (rest : Rest) (s t : State) → n < most → (rest ≡ Now → ⊥) → drive_steps n now start ≡ going given s
+    → Rests rest ≡ (next_step now s).0 → t ≡ (next_step now s).1 → record { given = given; rest = rest; client = t } ≡ drive_steps most now start
 turned-rest n most now start given rest s t less other e told after =
     let ends : drive_steps (n + 1) now start ≡ record { given = given; rest = rest; client = t } = turned-going n now start given s t (Rests rest) e told after in
     let is : (most - (n + 1)) + (n + 1) ≡ most = omega arith in
@@ -39,10 +43,12 @@ pub on_err : {T E P : Type 0} (r : Result T E) → P → OnErr r P
 on_err (Ok x) p = tt
 on_err (Err e) p = p
 
-pub stops-list : (n most now : ℕ) (start : DriveState) (given is : List Given) (s t : State) → n < most → drive_steps n now start ≡ going given s → is ≡ given → t ≡ s → Draws most now start (going is t)
+pub stops-list : (n most now : ℕ) (start : DriveState) (given is : List Given) (s t : State) → n < most → drive_steps n now start ≡ going given s → is ≡ given → t ≡ s
+    → Draws most now start (going is t)
 stops-list n most now start given is s t less e same stays =
     (n, less, (ap (λ (u : DriveState). u.rest) e, same ∙ sym (ap (λ (u : DriveState). u.given) e), inl (stays ∙ sym (ap (λ (u : DriveState). u.client) e))))
 
-pub stops-client : (n most now : ℕ) (start : DriveState) (given is : List Given) (s t : State) → n < most → drive_steps n now start ≡ going given s → is ≡ given → NextEnds now s t → Draws most now start (going is t)
+pub stops-client : (n most now : ℕ) (start : DriveState) (given is : List Given) (s t : State) → n < most → drive_steps n now start ≡ going given s → is ≡ given → NextEnds now s t
+    → Draws most now start (going is t)
 stops-client n most now start given is s t less e same ends =
     (n, less, (ap (λ (u : DriveState). u.rest) e, same ∙ sym (ap (λ (u : DriveState). u.given) e), inr (subst (λ (u : State). NextEnds now u t) (sym (ap (λ (u : DriveState). u.client) e)) ends)))

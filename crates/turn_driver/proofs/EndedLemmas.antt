@@ -28,7 +28,8 @@ none-given packet e = cc
 some-IsIdle : (s t : State) (packet : Transmit (List ℕ)) → IsIdle s (Some packet, t)
 some-IsIdle s t packet none = absurd (none-given packet none)
 
-option-IsIdle : {A : Type 0} (s : State) (o : Option A) (gives : A → Option (Transmit (List ℕ)) × State) (other : Option (Transmit (List ℕ)) × State) → ((a : A) → IsIdle s (gives a)) → IsIdle s other → IsIdle s (option_map_or gives o other)
+option-IsIdle : {A : Type 0} (s : State) (o : Option A) (gives : A → Option (Transmit (List ℕ)) × State) (other : Option (Transmit (List ℕ)) × State) → ((a : A) → IsIdle s (gives a)) → IsIdle s other
+    → IsIdle s (option_map_or gives o other)
 option-IsIdle s None gives other some none = none
 option-IsIdle s (Some a) gives other some none = some a
 
@@ -36,7 +37,8 @@ replies-kept : (queue : List Queued) → slice_get (filter_map reply_in queue) 0
 replies-kept [] none = refl
 replies-kept (q ∷ queue) none = by q.is_request (replies-kept queue) none
   where
-    by : (is_request : Bool) → (slice_get (filter_map reply_in queue) 0 ≡ None → without_first_reply queue ≡ queue) → slice_get (cons_option (cond is_request None (Some q.packet)) (filter_map reply_in queue)) 0 ≡ None → cond is_request (q ∷ without_first_reply queue) queue ≡ q ∷ queue
+    by : (is_request : Bool) → (slice_get (filter_map reply_in queue) 0 ≡ None → without_first_reply queue ≡ queue)
+        → slice_get (cons_option (cond is_request None (Some q.packet)) (filter_map reply_in queue)) 0 ≡ None → cond is_request (q ∷ without_first_reply queue) queue ≡ q ∷ queue
     by true later none = ap (λ (qs : List Queued). q ∷ qs) (later none)
     by false later none = absurd (none-given q.packet none)
 
@@ -90,12 +92,15 @@ told-now now (None, t) = sent-now now (transmit_step now t)
 
 -- ---- the answer of the code
 
-restful : {E : Type 0} (r : Result Next E) (rest : Rest) (now : ℕ) (s t : State) → AnswersRest (waiting now rest s).0 now (waiting now rest s).1 → IfOk r (λ next. answer_of next ≡ (waiting now rest s).0) → OnOk r (t ≡ (waiting now rest s).1) → IfOk r (λ next. AnswersRest (answer_of next) now t)
+restful : {E : Type 0} (r : Result Next E) (rest : Rest) (now : ℕ) (s t : State) → AnswersRest (waiting now rest s).0 now (waiting now rest s).1
+    → IfOk r (λ next. answer_of next ≡ (waiting now rest s).0) → OnOk r (t ≡ (waiting now rest s).1) → IfOk r (λ next. AnswersRest (answer_of next) now t)
 restful (Ok next) rest now s t is told after = rw (told, after) is
 restful (Err e) rest now s t is told after = tt
 
-pub restful-ended : {E : Type 0} (r : Result Next E) (now : ℕ) (s t : State) → IfOk r (λ next. answer_of next ≡ (waiting now Ended s).0) → OnOk r (t ≡ (waiting now Ended s).1) → IfOk r (λ next. AnswersRest (answer_of next) now t)
+pub restful-ended : {E : Type 0} (r : Result Next E) (now : ℕ) (s t : State) → IfOk r (λ next. answer_of next ≡ (waiting now Ended s).0) → OnOk r (t ≡ (waiting now Ended s).1)
+    → IfOk r (λ next. AnswersRest (answer_of next) now t)
 restful-ended r now s t told after = restful r Ended now s t (waiting-ended now s) told after
 
-pub restful-now : {E : Type 0} (r : Result Next E) (now : ℕ) (s t : State) → IfOk r (λ next. answer_of next ≡ (waiting now Now s).0) → OnOk r (t ≡ (waiting now Now s).1) → IfOk r (λ next. AnswersRest (answer_of next) now t)
+pub restful-now : {E : Type 0} (r : Result Next E) (now : ℕ) (s t : State) → IfOk r (λ next. answer_of next ≡ (waiting now Now s).0) → OnOk r (t ≡ (waiting now Now s).1)
+    → IfOk r (λ next. AnswersRest (answer_of next) now t)
 restful-now r now s t told after = restful r Now now s t (told-now now (event_step s)) told after

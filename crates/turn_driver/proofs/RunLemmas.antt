@@ -104,7 +104,8 @@ answer-run : (now : ℕ) (given : List Given) (s : State) (p : Answer × State) 
 answer-run now given s (Does one, t) (calls, all, told) = (calls, all, (ap (λ more. given ++ more) told.0, told.1))
 answer-run now given s (Rests rest, t) (calls, all, told) = (calls, all, (sym (append-nil given) ∙ ap (λ more. given ++ more) told.0, told.1))
 
-once_more-run : (now : ℕ) (given : List Given) (rest : Rest) (s : State) → Runs now (record { given = given; rest = rest; client = s }) (once_more now (record { given = given; rest = rest; client = s }))
+once_more-run : (now : ℕ) (given : List Given) (rest : Rest) (s : State) → Runs now (record { given = given; rest = rest; client = s })
+    (once_more now (record { given = given; rest = rest; client = s }))
 once_more-run now given Now s = answer-run now given s (next_step now s) (next-run now s)
 once_more-run now given (Until moment) s = ([], tt, (sym (append-nil given), refl))
 once_more-run now given Ended s = ([], tt, (sym (append-nil given), refl))
@@ -128,6 +129,7 @@ turn-whole (Some packet) most now t = by (turned-run most now (begun (Some packe
     by (calls, all, run) = (calls, all, IsRun-append (Recv packet now ∷ []) calls t (begun (Some packet) now t) (drive_steps most now (begun (Some packet) now t)) (begun-run packet now t) run)
 
 -- the same holds of the list that is returned
-pub whole-ok : {E : Type 0} (r : Result Rest E) (came : Option (Transmit (List ℕ))) (most now : ℕ) (t : DriveState) (tasks : List Task) (s : State) → IfOk r (λ rest. stands tasks rest s ≡ drive_steps most now (begun came now t)) → OnOk r (IsWhole came now t (stands tasks Now s))
+pub whole-ok : {E : Type 0} (r : Result Rest E) (came : Option (Transmit (List ℕ))) (most now : ℕ) (t : DriveState) (tasks : List Task) (s : State)
+    → IfOk r (λ rest. stands tasks rest s ≡ drive_steps most now (begun came now t)) → OnOk r (IsWhole came now t (stands tasks Now s))
 whole-ok (Ok rest) came most now t tasks s told = subst (λ (u : DriveState). IsWhole came now t (record u { rest = Now })) (sym told) (turn-whole came most now t)
 whole-ok (Err e) came most now t tasks s told = tt

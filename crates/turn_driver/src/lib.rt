@@ -27,10 +27,10 @@
 //! ```
 #![tactic(auto)]
 
+mod driver;
 mod next;
 mod task;
-mod driver;
 
+pub use driver::drive_client;
 pub use next::{Next, next_task};
 pub use task::{Rest, Task};
-pub use driver::drive_client;

@@ -42,7 +42,8 @@ step-relays s t call reply e =
 abbrev one_passed : GatherReply → List PeerPayload
 one_passed reply = filter_map passed_up (reply ∷ [])
 
-given_up-passed : (b : Bool) (payload : Payload) (pairs : List (TransportType × SocketAddr)) → is_checked_in payload.transport payload.peer pairs ≡ b → one_passed (gathered_reply (passed_or_dropped pairs payload)) ≡ if_checked pairs (Some payload)
+given_up-passed : (b : Bool) (payload : Payload) (pairs : List (TransportType × SocketAddr)) → is_checked_in payload.transport payload.peer pairs ≡ b
+    → one_passed (gathered_reply (passed_or_dropped pairs payload)) ≡ if_checked pairs (Some payload)
 given_up-passed true payload pairs e = rw e refl
 given_up-passed false payload pairs e = rw e refl
 

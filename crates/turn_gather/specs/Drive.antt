@@ -15,7 +15,8 @@ use Rattle.turn_gather.specs.Gathering.{Gathering, check_step, is_checked_in}
 use Rattle.turn_gather.specs.Received.{Gathered, gathered, gathered_poll}
 use Rattle.turn_gather.specs.Received as G
 use Rattle.turn_gather.specs.declared.calls.call.GatherCall.{GatherCall}
-use Rattle.turn_gather.specs.declared.calls.call.GatherCall.TheVariants.{Candidates, IsChecked, Check, Recv, PollRecv, CreatePermission, SendTo, Poll, PollTransmit, PollEvent}
+use Rattle.turn_gather.specs.declared.calls.call.GatherCall.TheVariants.{Candidates, IsChecked, Check, Recv, PollRecv, CreatePermission, SendTo, Poll}
+use Rattle.turn_gather.specs.declared.calls.call.GatherCall.TheVariants.{PollTransmit, PollEvent}
 use Rattle.turn_gather.specs.declared.calls.reply.PeerPayload.{PeerPayload}
 use Rattle.turn_gather.specs.declared.calls.reply.GatherReply.{GatherReply}
 use Rattle.turn_gather.specs.declared.calls.reply.GatherReply.TheVariants as Replies

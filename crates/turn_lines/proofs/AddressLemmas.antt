@@ -1,5 +1,6 @@
 -- Parsing a printed address gives that address.
-use Rattle.std.proofs.Common.{◌≡◌, ℕ, zero, suc, ◌+◌, ◌-◌, ◌*◌, ◌/◌, ◌%◌, ◌^◌, ◌<◌, cond, Bool, true, false, List, [], ◌∷◌, ◌++◌, length, get_or, take, drop, Some, None, refl, sym, ap, ◌∙◌, arith, append_assoc, length-append}
+use Rattle.std.proofs.Common.{◌≡◌, ℕ, zero, suc, ◌+◌, ◌-◌, ◌*◌, ◌/◌, ◌%◌, ◌^◌, ◌<◌, cond, Bool, true, false, List, [], ◌∷◌, ◌++◌, length, get_or, take, drop, Some, None, refl, sym, ap, ◌∙◌, arith}
+use Rattle.std.proofs.Common.{append_assoc, length-append}
 use Rattle.std.specs.Prelude.{◌==◌, ◌&&◌, ◌||◌, nat_le, slice_index, decimal}
 use Rattle.std.specs.Option.{option_map}
 use Rattle.std.specs.Result.{result_ok}
@@ -85,13 +86,21 @@ parts_of-dotted a b c d ha hb hc hd =
 ipv4_of-dotted : (a b c d : ℕ) → a < 256 → b < 256 → c < 256 → d < 256 → ipv4_of (dotted_text a b c d) ≡ Some (record { octets = a ∷ b ∷ c ∷ d ∷ [] })
 unfolding ipv4_of
 ipv4_of-dotted a b c d ha hb hc hd =
-    rw (parts_of-dotted a b c d ha hb hc hd, decimal_up_to-decimal 255 a (omega arith) (omega arith), decimal_up_to-decimal 255 b (omega arith) (omega arith), decimal_up_to-decimal 255 c (omega arith) (omega arith), decimal_up_to-decimal 255 d (omega arith) (omega arith)) refl
+    rw (
+      parts_of-dotted a b c d ha hb hc hd,
+      decimal_up_to-decimal 255 a (omega arith) (omega arith),
+      decimal_up_to-decimal 255 b (omega arith) (omega arith),
+      decimal_up_to-decimal 255 c
+          (omega arith) (omega arith),
+      decimal_up_to-decimal 255 d (omega arith) (omega arith),
+    ) refl
 
 -- a byte that is neither a digit nor a dot does not occur in an IPv4 address
 dotted_free : (x a b c d : ℕ) → is_ascii_digit x ≡ false → (46 == x) ≡ false → a < 256 → b < 256 → c < 256 → d < 256 → Free x (dotted_text a b c d)
 dotted_free x a b c d digit dot ha hb hc hd =
     let add = Free-append x in
-    add _ _ (add _ _ (add _ _ (add _ _ (add _ _ (add _ _ (decimal_free x a digit (omega arith)) (dot, tt)) (decimal_free x b digit (omega arith))) (dot, tt)) (decimal_free x c digit (omega arith))) (dot, tt)) (decimal_free x d digit (omega arith))
+    add _ _ (add _ _ (add _ _ (add _ _ (add _ _ (add _ _ (decimal_free x a digit (omega arith)) (dot, tt)) (decimal_free x b digit (omega arith))) (dot, tt)) (decimal_free x c digit (omega arith)))
+    (dot, tt)) (decimal_free x d digit (omega arith))
 
 -- ---- the host and the port
 
@@ -224,8 +233,11 @@ address_of-address_text (V6 a) h =
 pub address_free : (address : SocketAddr) → IsSpelled address → Free 32 (address_text address)
 address_free (V4 a) h =
     Free-append 32 _ _ (Free-append 32 _ _ (ipv4_text_free 32 a.ip refl refl h.in_range.0) (refl, tt)) (decimal_free 32 a.port refl (omega (arith, h.in_range.1)))
-address_free (V6 a) h =
-    (refl, Free-append 32 (encode_lower (ipv6_octets a.ip)) _ (hex_free 32 (ipv6_octets a.ip) refl (ipv6_bytes a.ip h.in_range.0)) (refl, (refl, decimal_free 32 a.port refl (omega (arith, h.in_range.1)))))
+address_free (V6 a) h = (
+  refl,
+  Free-append 32 (encode_lower (ipv6_octets a.ip)) _ (hex_free 32 (ipv6_octets a.ip) refl (ipv6_bytes a.ip h.in_range.0))
+      (refl, (refl, decimal_free 32 a.port refl (omega (arith, h.in_range.1)))),
+)
 
 -- a printed address has more than one byte
 pub address_long : (address : SocketAddr) → IsSpelled address → 1 < length (address_text address)

@@ -110,12 +110,14 @@ call_of-fields relays now rest low free =
 
 -- the arguments of each kind
 
-packet_of-fields : (packet : Transmit (List ℕ)) → IsSpelled packet.from → IsSpelled packet.to → IsBytes packet.payload → packet_of (transport_text packet.transport ∷ address_text packet.from ∷ address_text packet.to ∷ bytes_text packet.payload ∷ []) ≡ Some packet
+packet_of-fields : (packet : Transmit (List ℕ)) → IsSpelled packet.from → IsSpelled packet.to → IsBytes packet.payload
+    → packet_of (transport_text packet.transport ∷ address_text packet.from ∷ address_text packet.to ∷ bytes_text packet.payload ∷ []) ≡ Some packet
 unfolding packet_of way_of
 packet_of-fields packet from to bytes =
     rw (transport_of-text packet.transport, address_of-address_text packet.from from, address_of-address_text packet.to to, bytes_of-text packet.payload bytes) refl
 
-sending_of-fields : (t : TransportType) (to : SocketAddr) (payload : List ℕ) → IsSpelled to → IsBytes payload → sending_of (transport_text t ∷ address_text to ∷ bytes_text payload ∷ []) ≡ Some (t, to, payload)
+sending_of-fields : (t : TransportType) (to : SocketAddr) (payload : List ℕ) → IsSpelled to → IsBytes payload
+    → sending_of (transport_text t ∷ address_text to ∷ bytes_text payload ∷ []) ≡ Some (t, to, payload)
 unfolding sending_of
 sending_of-fields t to payload h bytes = rw (transport_of-text t, address_of-address_text to h, bytes_of-text payload bytes) refl
 
@@ -182,9 +184,15 @@ call_is_read_again relays idle (Calls.TcpConnect peer now) low h =
     ∙ ap (λ o. as_read relays (option_map (λ p. Calls.TcpConnect p now) o)) (one_address_of-fields peer h.1)
 call_is_read_again relays idle (Calls.AllocatedTcpSocket id tuple peer local now) low h =
     let places = address_text peer ∷ text_if_any local ∷ [] in
-    call_of-fields relays now (codes "socket" ∷ decimal id ∷ tuple_fields tuple places) h.0
-    (word_free (codes "socket") refl, (decimal_free 32 id refl (omega (arith, h.1)), (transport_free tuple.transport, (address_free tuple.from h.2.0, (address_free tuple.to h.2.1, (address_free peer h.3, (text_if_any_free local h.4, tt)))))))
-    ∙ ap (λ (o : Option ((ℕ × Socket5Tuple) × List (List ℕ))). as_read relays (o >>= λ t. data_ends_of t.1 >>= λ e. Some (Calls.AllocatedTcpSocket t.0.0 t.0.1 e.0 e.1 now))) (tuple_of-fields id tuple places h.1 h.2)
+    call_of-fields relays now (codes "socket" ∷ decimal id ∷ tuple_fields tuple places) h.0 (
+      word_free (codes "socket") refl,
+      (
+        decimal_free 32 id refl (omega (arith, h.1)),
+        (transport_free tuple.transport, (address_free tuple.from h.2.0, (address_free tuple.to h.2.1, (address_free peer h.3, (text_if_any_free local h.4, tt))))),
+      ),
+    )
+    ∙ ap (λ (o : Option ((ℕ × Socket5Tuple) × List (List ℕ))). as_read relays (o >>= λ t. data_ends_of t.1 >>= λ e. Some (Calls.AllocatedTcpSocket t.0.0 t.0.1 e.0 e.1 now)))
+    (tuple_of-fields id tuple places h.1 h.2)
     ∙ ap (λ (o : Option (SocketAddr × Option SocketAddr)). as_read relays (o >>= λ e. Some (Calls.AllocatedTcpSocket id tuple e.0 e.1 now))) (data_ends_of-fields peer local h.3 h.4)
 call_is_read_again relays idle (Calls.Delete now) low h = call_of-fields relays now (codes "delete" ∷ []) h (word_free (codes "delete") refl, tt)
 call_is_read_again relays idle (Calls.TcpClosed local remote now) low h =

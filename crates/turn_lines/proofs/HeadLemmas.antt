@@ -41,7 +41,8 @@ relayed_is Udp Tcp f head h over = cc
 relayed_is Tcp allocation f head h over = cc
 
 -- the head was made of these fields
-made_of : (places : Ends) (request : Request) (credentials : Credentials) (seed : List ℕ) (waits : Option Waits) (head : Head) → with_waits places request credentials seed waits ≡ Some head → (places.transport ≡ Udp → request.allocation ≡ Udp) → IsMade head
+made_of : (places : Ends) (request : Request) (credentials : Credentials) (seed : List ℕ) (waits : Option Waits) (head : Head) → with_waits places request credentials seed waits ≡ Some head
+    → (places.transport ≡ Udp → request.allocation ≡ Udp) → IsMade head
 made_of places request credentials seed waits head h made =
     subst IsMade (some_is (record { ends = places; request = request; credentials = credentials; seed = seed; waits = waits }) head h) made
 

@@ -33,7 +33,8 @@ pub utf8_of_decimal : (text : List ℕ) → is_decimal text ≡ true → IsUtf8 
 utf8_of_decimal text h = IsUtf8-from_ascii text (IsAscii-from_digits text (own.to text (digits_of_decimal text h)))
 
 -- std parses a decimal to its value, unless that is too large
-pub parse_of_decimal : {E : Type 0} → (text : List ℕ) (r : Result ℕ E) → ParsesUnsigned 64 10 text r → is_decimal text ≡ true → OkIff r ((0 < length text) × (digits_value 10 text < 2 ^ 64)) (digits_value 10 text)
+pub parse_of_decimal : {E : Type 0} → (text : List ℕ) (r : Result ℕ E) → ParsesUnsigned 64 10 text r → is_decimal text ≡ true
+    → OkIff r ((0 < length text) × (digits_value 10 text < 2 ^ 64)) (digits_value 10 text)
 parse_of_decimal text r h decimal = parse_digits own 64 text r h (digits_of_decimal text decimal)
 
 too_large : (most n : ℕ) (p : Bool) → most < n → cond (p && nat_le n most) (Some n) None ≡ None
@@ -41,7 +42,8 @@ too_large most n false h = refl
 too_large most n true h = ap (λ b. cond b (Some n) None) (lt-leb n most h)
 
 -- a decimal that std refuses is too large
-pub decimal_not_parsed : {E : Type 0} → (most : ℕ) (text digits : List ℕ) (e : E) → most < 2 ^ 64 → digits ≡ text → ParsesUnsigned 64 10 digits (Err e) → is_decimal text ≡ true → decimal_up_to most text ≡ None
+pub decimal_not_parsed : {E : Type 0} → (most : ℕ) (text digits : List ℕ) (e : E) → most < 2 ^ 64 → digits ≡ text → ParsesUnsigned 64 10 digits (Err e) → is_decimal text ≡ true
+    → decimal_up_to most text ≡ None
 decimal_not_parsed {E} most text digits e small same h decimal =
     let read : ParsesUnsigned 64 10 text (Err e) = rw same at h in
     let fails : (0 < length text) × (digits_value 10 text < 2 ^ 64) → ⊥ = parse_of_decimal text (Err e) read decimal in

@@ -15,7 +15,8 @@ clear_front separator text place inside none k d low =
     rw (get_or-take place text k d below, get_or_default text k d 0 (omega arith)) (false_from_ne_true (get_or text k 0 == separator) (none k (omega arith) below))
 
 -- the first part ends before the first separator
-pub parts_of_found : (separator : ℕ) (text : List ℕ) (place : ℕ) → IsFirstByte (is_byte separator) text (Some place) → parts_of separator text ≡ take place text ∷ parts_of separator (take (length text - (place + 1)) (drop (place + 1) text))
+pub parts_of_found : (separator : ℕ) (text : List ℕ) (place : ℕ) → IsFirstByte (is_byte separator) text (Some place)
+    → parts_of separator text ≡ take place text ∷ parts_of separator (take (length text - (place + 1)) (drop (place + 1) text))
 parts_of_found separator text place found =
     let inside : place < length text = found.0.high in
     let whole : text ≡ take place text ++ (get_or text place 0 ∷ drop (place + 1) text) =

@@ -57,7 +57,8 @@ long_is_no_head line head long h =
 -- ---- many lines
 
 -- if all lines are good, the first is
-of_first : (r : Result Call BadLine) (rest : Calls) (calls : List Call) → with_first r rest ≡ (calls, None) → (call : Call) × (more : List Call) × (r ≡ Ok call) × (rest ≡ (more, None)) × (calls ≡ call ∷ more)
+of_first : (r : Result Call BadLine) (rest : Calls) (calls : List Call) → with_first r rest ≡ (calls, None) → (call : Call) × (more : List Call) × (r ≡ Ok call) × (rest ≡ (more, None))
+    × (calls ≡ call ∷ more)
 of_first (Ok call) (more, bad) calls h =
     let none : bad ≡ None = ap (λ (c : Calls). c.1) h in
     (call, more, refl, ap (λ (b : Option BadLine). (more, b)) none, sym (ap (λ (c : Calls). c.0) h))
@@ -68,7 +69,8 @@ abbrev pub before : List Call → Calls → Calls
 before calls rest = (calls ++ rest.0, rest.1)
 
 -- good lines, and the lines after them
-pub calls_until-append : (relays : TransportType) (number at : ℕ) (lines more : List (List ℕ)) (calls : List Call) → at ≡ number + length lines → calls_until relays number lines ≡ (calls, None) → calls_until relays number (lines ++ more) ≡ before calls (calls_until relays at more)
+pub calls_until-append : (relays : TransportType) (number at : ℕ) (lines more : List (List ℕ)) (calls : List Call) → at ≡ number + length lines → calls_until relays number lines ≡ (calls, None)
+    → calls_until relays number (lines ++ more) ≡ before calls (calls_until relays at more)
 calls_until-append relays number at [] more calls place good =
     let none : calls ≡ [] = sym (ap (λ (c : Calls). c.0) good) in
     let same : at ≡ number = omega (arith, place) in
@@ -81,13 +83,15 @@ calls_until-append relays number at (line ∷ lines) more calls place good =
     ∙ ap (λ front. before front (calls_until relays at more)) (sym first.4)
 
 -- one more line, a call
-pub calls_until-call : (relays : TransportType) (number at : ℕ) (lines : List (List ℕ)) (calls : List Call) (line : List ℕ) (call : Call) → at ≡ number + length lines → calls_until relays number lines ≡ (calls, None) → line_call relays at line ≡ Ok call → calls_until relays number (lines ++ line ∷ []) ≡ (calls ++ call ∷ [], None)
+pub calls_until-call : (relays : TransportType) (number at : ℕ) (lines : List (List ℕ)) (calls : List Call) (line : List ℕ) (call : Call) → at ≡ number + length lines
+    → calls_until relays number lines ≡ (calls, None) → line_call relays at line ≡ Ok call → calls_until relays number (lines ++ line ∷ []) ≡ (calls ++ call ∷ [], None)
 calls_until-call relays number at lines calls line call place good says =
     calls_until-append relays number at lines (line ∷ []) calls place good
     ∙ ap (λ r. before calls (with_first r ([], None))) says
 
 -- one more line, a bad one
-pub calls_until-bad : (relays : TransportType) (number at : ℕ) (lines : List (List ℕ)) (calls : List Call) (line : List ℕ) (bad : BadLine) → at ≡ number + length lines → calls_until relays number lines ≡ (calls, None) → line_call relays at line ≡ Err bad → calls_until relays number (lines ++ line ∷ []) ≡ (calls ++ [], Some bad)
+pub calls_until-bad : (relays : TransportType) (number at : ℕ) (lines : List (List ℕ)) (calls : List Call) (line : List ℕ) (bad : BadLine) → at ≡ number + length lines
+    → calls_until relays number lines ≡ (calls, None) → line_call relays at line ≡ Err bad → calls_until relays number (lines ++ line ∷ []) ≡ (calls ++ [], Some bad)
 calls_until-bad relays number at lines calls line bad place good says =
     calls_until-append relays number at lines (line ∷ []) calls place good
     ∙ ap (λ r. before calls (with_first r ([], None))) says

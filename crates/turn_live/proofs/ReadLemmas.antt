@@ -69,7 +69,8 @@ first_line line lines clear each zero d low = clear
 first_line line lines clear each (suc k) d low = each k d (omega arith)
 
 -- a line, then others
-pub read_behind : (a b c : Option (List ℕ)) (line : List ℕ) (lines : List (List ℕ)) (rest : List ℕ) (end : LineEnd) → IsTaken a b line Feed → AreRead b c lines rest end → AreRead a c (line ∷ lines) rest end
+pub read_behind : (a b c : Option (List ℕ)) (line : List ℕ) (lines : List (List ℕ)) (rest : List ℕ) (end : LineEnd) → IsTaken a b line Feed → AreRead b c lines rest end
+    → AreRead a c (line ∷ lines) rest end
 read_behind a b c line lines rest end t r =
     let front = line ++ 10 ∷ [] in
     record {

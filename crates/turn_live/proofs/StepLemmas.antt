@@ -17,7 +17,8 @@ use Rattle.turn_live.proofs.KnownLemmas.{Appends-none}
 use Rattle.turn_live.proofs.TalkLemmas.{head_bad, head_unheard}
 
 -- a line that is not a call
-pub call_unread : (relays : TransportType) (number : ℕ) (s after : State) (line : List ℕ) (w : Option (List ℕ)) (stop : Stop) → ReadsCall relays number line (Err stop) → AnswersLine relays number s after line w w (Err stop)
+pub call_unread : (relays : TransportType) (number : ℕ) (s after : State) (line : List ℕ) (w : Option (List ℕ)) (stop : Stop) → ReadsCall relays number line (Err stop)
+    → AnswersLine relays number s after line w w (Err stop)
 call_unread relays number s after line w (Stops.Bad bad) h = (h, Appends-none w)
 call_unread relays number s after line w Stops.OutOfMemory h = Appends-none w
 call_unread relays number s after line w Stops.ReadFailed h = cc
@@ -38,20 +39,23 @@ step_lost relays number s after a b w Stops.ReadFailed lost = (lost.0, lost.1, l
 step_lost relays number s after a b w Stops.WriteFailed lost = absurd lost
 
 -- a line without an answer
-pub step_stopped : (relays : TransportType) (number : ℕ) (s after : State) (line : List ℕ) (end : LineEnd) (a b w x : Option (List ℕ)) (stop : Stop) → IsTaken a b line end → AnswersLine relays number s after line w x (Err stop) → Steps relays number s after a b w x (Err stop)
+pub step_stopped : (relays : TransportType) (number : ℕ) (s after : State) (line : List ℕ) (end : LineEnd) (a b w x : Option (List ℕ)) (stop : Stop) → IsTaken a b line end
+    → AnswersLine relays number s after line w x (Err stop) → Steps relays number s after a b w x (Err stop)
 step_stopped relays number s after line end a b w x (Stops.Bad bad) taken h = (line, end, taken, h.0, h.1)
 step_stopped relays number s after line end a b w x Stops.OutOfMemory taken h = (line ++ feed_at end, taken.consumed, h)
 step_stopped relays number s after line end a b w x Stops.ReadFailed taken h = absurd h
 step_stopped relays number s after line end a b w x Stops.WriteFailed taken h = (line, end, taken, h)
 
 -- the last line, with its answer
-pub step_last : (relays : TransportType) (number : ℕ) (s after : State) (line : List ℕ) (end : LineEnd) (a b w x : Option (List ℕ)) → IsTaken a b line end → IsAnswered relays number s after line w x → (end ≡ Feed → ⊥) → Steps relays number s after a b w x (Ok false)
+pub step_last : (relays : TransportType) (number : ℕ) (s after : State) (line : List ℕ) (end : LineEnd) (a b w x : Option (List ℕ)) → IsTaken a b line end → IsAnswered relays number s after line w x
+    → (end ≡ Feed → ⊥) → Steps relays number s after a b w x (Ok false)
 step_last relays number s after line Feed a b w x taken answer last = absurd (last refl)
 step_last relays number s after line Input a b w x taken answer last = (line, taken, inr answer)
 step_last relays number s after line Size a b w x taken answer last = absurd (long_is_no_call relays number line answer.call taken.ends answer.says)
 
 -- a call was made, and its answer written, or a prefix of it if the writer failed
-pub call_told : (relays : TransportType) (number : ℕ) (s after : State) (line : List ℕ) (call : Call) (text : List ℕ) (w x : Option (List ℕ)) (result : Result (Unit {0}) Stop) → line_call relays number line ≡ Ok call → text ≡ answer_lines s (call ∷ []) → after ≡ state_after call s → Writes w x text result → AnswersLine relays number s after line w x result
+pub call_told : (relays : TransportType) (number : ℕ) (s after : State) (line : List ℕ) (call : Call) (text : List ℕ) (w x : Option (List ℕ)) (result : Result (Unit {0}) Stop)
+    → line_call relays number line ≡ Ok call → text ≡ answer_lines s (call ∷ []) → after ≡ state_after call s → Writes w x text result → AnswersLine relays number s after line w x result
 call_told relays number s after line call text w x (Ok _) says same state wrote = record { call = call; says = says; told = subst (Appends w x) same wrote; state = state }
 call_told relays number s after line call text w x (Err (Stops.Bad bad)) says same state wrote = let wrong = wrote.0 in cc
 call_told relays number s after line call text w x (Err Stops.OutOfMemory) says same state wrote = let wrong = wrote.0 in cc

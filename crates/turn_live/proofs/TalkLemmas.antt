@@ -49,14 +49,16 @@ kept : (a b c : Option (List ℕ)) (xs : List ℕ) → Appends a b xs → Append
 kept a b c xs h k = subst (Appends a c) (append-nil xs) (Appends-then a b c xs [] h k)
 
 -- one more answer
-told_more : (s now : State) (calls : List Call) (call : Call) (w x y : Option (List ℕ)) → now ≡ state_after_all s calls → Appends w x (answer_lines s calls) → Appends x y (answer_lines now (call ∷ [])) → Appends w y (answer_lines s (calls ++ call ∷ []))
+told_more : (s now : State) (calls : List Call) (call : Call) (w x y : Option (List ℕ)) → now ≡ state_after_all s calls → Appends w x (answer_lines s calls)
+    → Appends x y (answer_lines now (call ∷ [])) → Appends w y (answer_lines s (calls ++ call ∷ []))
 told_more s now calls call w x y state told more =
     let one = answer_lines (state_after_all s calls) (call ∷ []) in
     let here : Appends x y one = subst (λ (at : State). Appends x y (answer_lines at (call ∷ []))) state more in
     subst (Appends w y) (sym (answered-more s calls call)) (Appends-then w x y (answer_lines s calls) one told here)
 
 -- a prefix of one more answer
-cut_more : (s now : State) (calls : List Call) (call : Call) (count : ℕ) (w x y : Option (List ℕ)) → now ≡ state_after_all s calls → Appends w x (answer_lines s calls) → Appends x y (take count (answer_lines now (call ∷ []))) → Appends w y (take (length (answer_lines s calls) + count) (answer_lines s (calls ++ call ∷ [])))
+cut_more : (s now : State) (calls : List Call) (call : Call) (count : ℕ) (w x y : Option (List ℕ)) → now ≡ state_after_all s calls → Appends w x (answer_lines s calls)
+    → Appends x y (take count (answer_lines now (call ∷ []))) → Appends w y (take (length (answer_lines s calls) + count) (answer_lines s (calls ++ call ∷ [])))
 cut_more s now calls call count w x y state told more =
     let one = answer_lines (state_after_all s calls) (call ∷ []) in
     let here : Appends x y (take count one) = subst (λ (at : State). Appends x y (take count (answer_lines at (call ∷ [])))) state more in
@@ -70,12 +72,14 @@ said_of relays s lines calls h = ap (λ (c : Calls). (answer_lines s c.0, c.1)) 
 text_of : (relays : TransportType) (s : State) (lines : List (List ℕ)) (calls : Calls) → calls_until relays 2 lines ≡ calls → answer_lines s calls.0 ≡ (calls_said relays s lines).0
 text_of relays s lines calls h = sym (ap (λ (c : Calls). answer_lines s c.0) h)
 
-goes : (relays : TransportType) (s : State) (a c : Option (List ℕ)) (lines : List (List ℕ)) (rest : List ℕ) (end : LineEnd) (calls : Calls) → AreRead a c lines rest end → calls_until relays 2 lines ≡ calls → Goes (calls_said relays s) a c lines rest end calls.1
+goes : (relays : TransportType) (s : State) (a c : Option (List ℕ)) (lines : List (List ℕ)) (rest : List ℕ) (end : LineEnd) (calls : Calls) → AreRead a c lines rest end
+    → calls_until relays 2 lines ≡ calls → Goes (calls_said relays s) a c lines rest end calls.1
 goes relays s a c lines rest end calls read h = record { read = read; bad_is = ap (λ (c : Calls). c.1) h }
 
 -- ---- one step more
 
-pub goes_on : (relays : TransportType) (s now after : State) (number : ℕ) (a b c w x y : Option (List ℕ)) → GoesOn relays s now number a b w x → Steps relays number now after b c x y (Ok true) → GoesOn relays s after (number + 1) a c w y
+pub goes_on : (relays : TransportType) (s now after : State) (number : ℕ) (a b c w x y : Option (List ℕ)) → GoesOn relays s now number a b w x → Steps relays number now after b c x y (Ok true)
+    → GoesOn relays s after (number + 1) a c w y
 goes_on relays s now after number a b c w x y k (line, taken, answer) =
     let call = answer.call in
     record {
@@ -89,7 +93,8 @@ goes_on relays s now after number a b c w x y k (line, taken, answer) =
       relaying = ap (λ (at : State). at.config.allocation_transport) answer.state ∙ relays_stay call now ∙ k.relaying;
     }
 
-pub ends : (relays : TransportType) (s now after : State) (number : ℕ) (a b c w x y : Option (List ℕ)) → GoesOn relays s now number a b w x → Steps relays number now after b c x y (Ok false) → Talks (calls_said relays s) a c w y (Ok tt)
+pub ends : (relays : TransportType) (s now after : State) (number : ℕ) (a b c w x y : Option (List ℕ)) → GoesOn relays s now number a b w x → Steps relays number now after b c x y (Ok false)
+    → Talks (calls_said relays s) a c w y (Ok tt)
 ends relays s now after number a b c w x y k (line, taken, inl none) = (
   k.lines,
   Feed,
@@ -108,7 +113,8 @@ ends relays s now after number a b c w x y k (line, taken, inr answer) =
       subst (Appends w y) (text_of relays s lines (calls, None) good) (told_more s now k.calls answer.call w x y k.state k.told answer.told),
     )
 
-pub stops : (relays : TransportType) (s now after : State) (number : ℕ) (a b c w x y : Option (List ℕ)) (stop : Stop) → GoesOn relays s now number a b w x → Steps relays number now after b c x y (Err stop) → Talks (calls_said relays s) a c w y (Err stop)
+pub stops : (relays : TransportType) (s now after : State) (number : ℕ) (a b c w x y : Option (List ℕ)) (stop : Stop) → GoesOn relays s now number a b w x
+    → Steps relays number now after b c x y (Err stop) → Talks (calls_said relays s) a c w y (Err stop)
 stops relays s now after number a b c w x y (Stops.Bad bad) k (line, end, taken, says, none) =
     let lines = k.lines ++ line ∷ [] in
     let calls = k.calls ++ [] in
@@ -200,7 +206,8 @@ head_alone a b w line Input head taken says more =
 head_alone a b w line Size head taken says more = absurd (long_is_no_head line head taken.ends says)
 
 -- the lines after a head
-goes_behind : (a b c : Option (List ℕ)) (line : List ℕ) (head : Head) (lines : List (List ℕ)) (rest : List ℕ) (end : LineEnd) (bad : Option BadLine) → IsTaken a b line Feed → line_head line ≡ Ok head → Goes (calls_said head.request.allocation (client_of head)) b c lines rest end bad → Goes session_of a c (line ∷ lines) rest end bad
+goes_behind : (a b c : Option (List ℕ)) (line : List ℕ) (head : Head) (lines : List (List ℕ)) (rest : List ℕ) (end : LineEnd) (bad : Option BadLine) → IsTaken a b line Feed → line_head line ≡ Ok head
+    → Goes (calls_said head.request.allocation (client_of head)) b c lines rest end bad → Goes session_of a c (line ∷ lines) rest end bad
 goes_behind a b c line head lines rest end bad taken says g = record {
   read = read_behind a b c line lines rest end taken g.read;
   bad_is = ap (λ (r : Result Head BadLine). (session_with r lines).1) says ∙ g.bad_is;
@@ -209,7 +216,8 @@ goes_behind a b c line head lines rest end bad taken says g = record {
 text_behind : (line : List ℕ) (head : Head) (lines : List (List ℕ)) → line_head line ≡ Ok head → (calls_said head.request.allocation (client_of head) lines).0 ≡ (session_of (line ∷ lines)).0
 text_behind line head lines says = sym (ap (λ (r : Result Head BadLine). (session_with r lines).0) says)
 
-pub head_heard : (a b c w x : Option (List ℕ)) (line : List ℕ) (head : Head) (result : Result (Unit {0}) Stop) → IsTaken a b line Feed → line_head line ≡ Ok head → Talks (calls_said head.request.allocation (client_of head)) b c w x result → Talks session_of a c w x result
+pub head_heard : (a b c w x : Option (List ℕ)) (line : List ℕ) (head : Head) (result : Result (Unit {0}) Stop) → IsTaken a b line Feed → line_head line ≡ Ok head
+    → Talks (calls_said head.request.allocation (client_of head)) b c w x result → Talks session_of a c w x result
 head_heard a b c w x line head (Ok _) taken says (lines, end, g, ended, told) =
     (line ∷ lines, end, goes_behind a b c line head lines [] end None taken says g, ended, subst (Appends w x) (text_behind line head lines says) told)
 head_heard a b c w x line head (Err (Stops.Bad bad)) taken says (lines, last, end, g, so, told) =
@@ -218,5 +226,13 @@ head_heard a b c w x line head (Err Stops.OutOfMemory) taken says (lines, rest, 
     (line ∷ lines, rest, goes_behind a b c line head lines rest Feed None taken says g, subst (Appends w x) (text_behind line head lines says) told)
 head_heard a b c w x line head (Err Stops.ReadFailed) taken says (lines, rest, g, clear, told) =
     (line ∷ lines, rest, goes_behind a b c line head lines rest Feed None taken says g, clear, subst (Appends w x) (text_behind line head lines says) told)
-head_heard a b c w x line head (Err Stops.WriteFailed) taken says (lines, last, end, count, g, so, told) =
-    (line ∷ lines, last, end, count, goes_behind a b c line head (lines ++ last ∷ []) [] end None taken says g, so, subst (λ (text : List ℕ). Appends w x (take count text)) (text_behind line head (lines ++ last ∷ []) says) told)
+head_heard a b c w x line head (Err Stops.WriteFailed) taken says (lines, last, end, count, g, so, told) = (
+  line ∷ lines,
+  last,
+  end,
+  count,
+  goes_behind a b c line head (lines ++ last ∷ []) [] end None taken says g,
+  so,
+  subst (λ (text : List ℕ). Appends w x (take count text))
+      (text_behind line head (lines ++ last ∷ []) says) told,
+)

@@ -59,7 +59,8 @@ made_lines (line ∷ lines) first h =
 abbrev IsReady : Head × List Call → Type 0
 IsReady trace = IsMade trace.0 × AreCallable trace.0.request.allocation trace.1
 
-ready_with : (head : Head) (calls : List Call) (trace : Head × List Call) → ◌≡◌ {A = Result (Head × List Call) BadLine} (Ok (head, calls)) (Ok trace) → IsMade head → AreCallable head.request.allocation calls → IsReady trace
+ready_with : (head : Head) (calls : List Call) (trace : Head × List Call) → ◌≡◌ {A = Result (Head × List Call) BadLine} (Ok (head, calls)) (Ok trace) → IsMade head
+    → AreCallable head.request.allocation calls → IsReady trace
 ready_with head calls trace h made callable = subst IsReady (ok_is (head, calls) trace h) (made, callable)
 
 trace_is_ready : (text : List ℕ) (trace : Head × List Call) → trace_of text ≡ Ok trace → IsReady trace

@@ -11,9 +11,9 @@ use std::net::SocketAddr;
 use std::process::Abort;
 use std::test::Fail;
 use turn_client_api::{TurnClientApi, TurnEvent};
+use turn_driver::{Rest, Task, drive_client};
 use turn_stun::transport::{Transmit, TransportType};
 use turn_types::transmit::DelayedTransmitBuild;
-use turn_driver::{Rest, Task, drive_client};
 
 /// The time from a request to its response, in milliseconds.
 const DELAY: u32 = 20;

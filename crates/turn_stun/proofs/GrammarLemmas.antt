@@ -61,7 +61,8 @@ cons_not_nil : (x : Attribute) (found : Option (List Attribute)) → option_map 
 cons_not_nil x None h = cc
 cons_not_nil x (Some l) h = cc
 
-with_later : (at : ℕ) (bytes : List ℕ) (a : Attribute) (later : List Attribute) → attribute_at at bytes ≡ a → attribute_size bytes ≤ length bytes → AreAttributes (at + attribute_size bytes) (drop (attribute_size bytes) bytes) later → AreAttributes at bytes (a ∷ later)
+with_later : (at : ℕ) (bytes : List ℕ) (a : Attribute) (later : List Attribute) → attribute_at at bytes ≡ a → attribute_size bytes ≤ length bytes
+    → AreAttributes (at + attribute_size bytes) (drop (attribute_size bytes) bytes) later → AreAttributes at bytes (a ∷ later)
 with_later at bytes a later e whole more =
     let size : 4 + padded_len (length a.value) ≡ attribute_size bytes =
     rw (← e) (rw (length-value at bytes whole) refl) in (
@@ -86,7 +87,8 @@ attributes_from-sound (a ∷ later) at (b ∷ bs) h =
     ]
 
 -- the parts of an attribute that is encoded at the start are what the walk reads there
-pub read_apart : (at : ℕ) (bytes : List ℕ) (a : Attribute) (rest : List ℕ) → IsAttributeThen at bytes a rest → (attribute_at at bytes ≡ a) × (drop (attribute_size bytes) bytes ≡ rest) × (attribute_size bytes ≤ length bytes)
+pub read_apart : (at : ℕ) (bytes : List ℕ) (a : Attribute) (rest : List ℕ) → IsAttributeThen at bytes a rest → (attribute_at at bytes ≡ a) × (drop (attribute_size bytes) bytes ≡ rest)
+    × (attribute_size bytes ≤ length bytes)
 read_apart at bytes a rest is =
     let behind = a.value ++ (is.padding ++ rest) in
     let kind : u16_at bytes 0 ≡ a.kind = rw is.spelled (u16_at-append is.header behind 0 (omega arith) ∙ is.kind) in

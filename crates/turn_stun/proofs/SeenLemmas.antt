@@ -9,16 +9,19 @@ in_front true a others = refl
 in_front false a others = refl
 
 -- the first attribute is seen or not, and the others are checked after it
-pub seen_after-cons : (any sha256 : Bool) (a : Attribute) (later : List Attribute) → seen_after any sha256 (a ∷ later) ≡ cond (is_seen any sha256 a.kind) (a ∷ []) [] ++ seen_after (any || is_sha1 a.kind || is_sha256 a.kind) (sha256 || is_sha256 a.kind) later
+pub seen_after-cons : (any sha256 : Bool) (a : Attribute) (later : List Attribute)
+    → seen_after any sha256 (a ∷ later) ≡ cond (is_seen any sha256 a.kind) (a ∷ []) [] ++ seen_after (any || is_sha1 a.kind || is_sha256 a.kind) (sha256 || is_sha256 a.kind) later
 unfolding seen_after
 seen_after-cons any sha256 a later = in_front (is_seen any sha256 a.kind) a _
 
 -- an attribute that is seen
-pub seen_after-seen : (any sha256 : Bool) (a : Attribute) (later : List Attribute) → is_seen any sha256 a.kind ≡ true → seen_after any sha256 (a ∷ later) ≡ a ∷ seen_after (any || is_sha1 a.kind || is_sha256 a.kind) (sha256 || is_sha256 a.kind) later
+pub seen_after-seen : (any sha256 : Bool) (a : Attribute) (later : List Attribute) → is_seen any sha256 a.kind ≡ true
+    → seen_after any sha256 (a ∷ later) ≡ a ∷ seen_after (any || is_sha1 a.kind || is_sha256 a.kind) (sha256 || is_sha256 a.kind) later
 seen_after-seen any sha256 a later seen = rw (seen_after-cons any sha256 a later, seen) refl
 
 -- an attribute that is not
-pub seen_after-unseen : (any sha256 : Bool) (a : Attribute) (later : List Attribute) → is_seen any sha256 a.kind ≡ false → seen_after any sha256 (a ∷ later) ≡ seen_after (any || is_sha1 a.kind || is_sha256 a.kind) (sha256 || is_sha256 a.kind) later
+pub seen_after-unseen : (any sha256 : Bool) (a : Attribute) (later : List Attribute) → is_seen any sha256 a.kind ≡ false
+    → seen_after any sha256 (a ∷ later) ≡ seen_after (any || is_sha1 a.kind || is_sha256 a.kind) (sha256 || is_sha256 a.kind) later
 seen_after-unseen any sha256 a later seen = rw (seen_after-cons any sha256 a later, seen) refl
 
 pub seen_after-nil : (any sha256 : Bool) → seen_after any sha256 [] ≡ []

@@ -26,7 +26,8 @@ past_first k n at b bs e =
     rw (e, s) refl
 
 -- an attribute that ends within the bytes: the walk continues after it
-pub step_whole : (at b : ℕ) (bs : List ℕ) → attribute_size (b ∷ bs) ≤ length (b ∷ bs) → attributes_from 0 at (b ∷ bs) ≡ option_map (λ later. attribute_at at (b ∷ bs) ∷ later) (attributes_from 0 (at + attribute_size (b ∷ bs)) (drop (attribute_size (b ∷ bs)) (b ∷ bs)))
+pub step_whole : (at b : ℕ) (bs : List ℕ) → attribute_size (b ∷ bs) ≤ length (b ∷ bs)
+    → attributes_from 0 at (b ∷ bs) ≡ option_map (λ later. attribute_at at (b ∷ bs) ∷ later) (attributes_from 0 (at + attribute_size (b ∷ bs)) (drop (attribute_size (b ∷ bs)) (b ∷ bs)))
 unfolding attributes_from
 step_whole at b bs h =
     ap (option_map (λ later. attribute_at at (b ∷ bs) ∷ later))
@@ -44,7 +45,8 @@ is_some-option_map f None = refl
 is_some-option_map f (Some x) = refl
 
 -- whether there is a walk, after an attribute that ends within the bytes
-pub is_some-whole : (at : ℕ) (bytes : List ℕ) → 0 < length bytes → attribute_size bytes ≤ length bytes → is_some (attributes_from 0 at bytes) ≡ is_some (attributes_from 0 (at + attribute_size bytes) (drop (attribute_size bytes) bytes))
+pub is_some-whole : (at : ℕ) (bytes : List ℕ) → 0 < length bytes → attribute_size bytes ≤ length bytes
+    → is_some (attributes_from 0 at bytes) ≡ is_some (attributes_from 0 (at + attribute_size bytes) (drop (attribute_size bytes) bytes))
 is_some-whole at [] some h = absurd (omega arith)
 is_some-whole at (b ∷ bs) some h = ap is_some (step_whole at b bs h) ∙ is_some-option_map _ _
 

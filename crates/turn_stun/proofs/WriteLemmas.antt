@@ -1,6 +1,7 @@
 -- What writing an attribute does to the bytes of a message.
 use Rattle.std.proofs.Common.{◌≡◌, ℕ, ◌+◌, ◌-◌, ◌*◌, ◌^◌, ◌<◌, ◌≤◌, List, [], ◌∷◌, ◌++◌, length, take, drop, replicate, refl, subst, sym, ap, ◌∙◌, arith, append_assoc, lit≤}
-use Rattle.std.proofs.lemmas.List.{take-take, take_at, take_all, take-append-drop, drop_at, drop-drop, drop-append-le, take-append-le, length-append, length-take, length-drop, get_or-drop, append-nil, length-replicate}
+use Rattle.std.proofs.lemmas.List.{take-take, take_at, take_all, take-append-drop, drop_at, drop-drop, drop-append-le, take-append-le, length-append, length-take, length-drop, get_or-drop, append-nil}
+use Rattle.std.proofs.lemmas.List.{length-replicate}
 use Rattle.std.specs.Int.{w16, to_be_bytes}
 use Rattle.turn_stun.specs.Number.{big_endian, u16_at, u32_at}
 use Rattle.turn_stun.specs.Message.{Attribute, AreAttributes, IsAttributeThen, IsMessage, type_of, length_of, cookie_of, id_of, attributes_of, padded_len}
@@ -107,7 +108,8 @@ with_attribute-Extends kind value message is =
 -- ---- one attribute more
 
 -- the encoding of an attribute is that attribute, and nothing more
-pub attribute_bytes-is : (at kind : ℕ) (value : List ℕ) → kind < 2 ^ 16 → length value < 2 ^ 16 → IsAttributeThen at (attribute_bytes kind value) (record { offset = at; kind = kind; value = value }) []
+pub attribute_bytes-is : (at kind : ℕ) (value : List ℕ) → kind < 2 ^ 16 → length value < 2 ^ 16
+    → IsAttributeThen at (attribute_bytes kind value) (record { offset = at; kind = kind; value = value }) []
 attribute_bytes-is at kind value k short = record {
   header = to_be_bytes w16 kind ++ to_be_bytes w16 (length value);
   padding = replicate (padded_len (length value) - length value) 0;
@@ -137,7 +139,8 @@ size_of_attribute at bytes a rest is =
     rw is.spelled (omega (arith, length-append is.header (a.value ++ (is.padding ++ rest)), length-append a.value (is.padding ++ rest), length-append is.padding rest, is.four_bytes, is.padded))
 
 -- attributes, and one more after them
-pub AreAttributes-push : (attributes : List Attribute) (at : ℕ) (bytes more : List ℕ) (a : Attribute) → AreAttributes at bytes attributes → IsAttributeThen (at + length bytes) more a [] → AreAttributes at (bytes ++ more) (attributes ++ a ∷ [])
+pub AreAttributes-push : (attributes : List Attribute) (at : ℕ) (bytes more : List ℕ) (a : Attribute) → AreAttributes at bytes attributes → IsAttributeThen (at + length bytes) more a []
+    → AreAttributes at (bytes ++ more) (attributes ++ a ∷ [])
 AreAttributes-push [] at bytes more a are is =
     let here : at + length bytes ≡ at = omega (arith, ap length are) in
     ([], rw are (subst (λ n. IsAttributeThen n more a []) here is), refl)
@@ -204,7 +207,8 @@ module _ (n : ℕ) (message more : List ℕ) (twenty : 20 ≤ length message) wh
       ap (λ xs. big_endian (take 12 xs)) (behind 4 (omega arith)) ∙ ap big_endian (take-append-le 12 (drop 8 message) more left)
 
 -- a message with one attribute more at its end is a message, and has it
-pub with_length-IsMessage : (n : ℕ) (message more : List ℕ) (a : Attribute) → IsMessage message (type_of message) (id_of message) (attributes_of message) → IsAttributeThen (length message) more a [] → n + 20 ≡ length message + length more → n < 2 ^ 16 → IsMessage (with_length n (message ++ more)) (type_of message) (id_of message) (attributes_of message ++ a ∷ [])
+pub with_length-IsMessage : (n : ℕ) (message more : List ℕ) (a : Attribute) → IsMessage message (type_of message) (id_of message) (attributes_of message) → IsAttributeThen (length message) more a []
+    → n + 20 ≡ length message + length more → n < 2 ^ 16 → IsMessage (with_length n (message ++ more)) (type_of message) (id_of message) (attributes_of message ++ a ∷ [])
 unfolding sent
 with_length-IsMessage n message more a is one sum fits =
     let twenty : 20 ≤ length message = omega (arith, is.whole) in
@@ -226,7 +230,8 @@ length-attribute_bytes kind value k short =
     let a : Attribute = record { offset = 0; kind = kind; value = value } in
     omega (arith, size_of_attribute 0 (attribute_bytes kind value) a [] (attribute_bytes-is 0 kind value k short))
 
-pub length-with_attribute : (kind : ℕ) (value message : List ℕ) → kind < 2 ^ 16 → length value < 2 ^ 16 → 20 ≤ length message → length (with_attribute kind value message) ≡ length message + (4 + padded_len (length value))
+pub length-with_attribute : (kind : ℕ) (value message : List ℕ) → kind < 2 ^ 16 → length value < 2 ^ 16 → 20 ≤ length message
+    → length (with_attribute kind value message) ≡ length message + (4 + padded_len (length value))
 unfolding with_attribute
 length-with_attribute kind value message k short twenty =
     let long : 4 ≤ length (message ++ attribute_bytes kind value) = omega (arith, length-append message (attribute_bytes kind value)) in
@@ -234,7 +239,9 @@ length-with_attribute kind value message k short twenty =
     ∙ (length-append message (attribute_bytes kind value) ∙ ap (λ n. length message + n) (length-attribute_bytes kind value k short))
 
 -- a message with one attribute more at its end is a message, and has it
-pub with_attribute-IsMessage : (kind : ℕ) (value message : List ℕ) → IsMessage message (type_of message) (id_of message) (attributes_of message) → kind < 2 ^ 16 → length message + (4 + padded_len (length value)) ≤ 65552 → IsMessage (with_attribute kind value message) (type_of message) (id_of message) (attributes_of message ++ record { offset = length message; kind = kind; value = value } ∷ [])
+pub with_attribute-IsMessage : (kind : ℕ) (value message : List ℕ) → IsMessage message (type_of message) (id_of message) (attributes_of message) → kind < 2 ^ 16
+    → length message + (4 + padded_len (length value)) ≤ 65552 → IsMessage (with_attribute kind value message) (type_of message) (id_of message)
+    (attributes_of message ++ record { offset = length message; kind = kind; value = value } ∷ [])
 unfolding with_attribute
 with_attribute-IsMessage kind value message is k room =
     let a : Attribute = record { offset = length message; kind = kind; value = value } in
@@ -247,7 +254,8 @@ with_attribute-IsMessage kind value message is k room =
 pub IsWritten-IsMessage : (message : List ℕ) → IsWritten message → IsMessage message (type_of message) (id_of message) (attributes_of message)
 IsWritten-IsMessage message is = fault_of-none message is.faultless.none
 
-with_attribute-told : (kind : ℕ) (value message : List ℕ) → kind < 2 ^ 16 → length value < 2 ^ 16 → 20 ≤ length message → with_length (length (with_attribute kind value message) - 20) (with_attribute kind value message) ≡ with_attribute kind value message
+with_attribute-told : (kind : ℕ) (value message : List ℕ) → kind < 2 ^ 16 → length value < 2 ^ 16 → 20 ≤ length message
+    → with_length (length (with_attribute kind value message) - 20) (with_attribute kind value message) ≡ with_attribute kind value message
 unfolding with_attribute
 with_attribute-told kind value message k short twenty =
     let longer = message ++ attribute_bytes kind value in
@@ -257,7 +265,8 @@ with_attribute-told kind value message k short twenty =
     ap (λ m. with_length m (with_length n longer)) same ∙ with_length-twice n n longer long
 
 -- the invariant of a writer holds after it adds an attribute
-pub with_attribute-IsWritten : (kind : ℕ) (value message : List ℕ) → IsWritten message → kind < 2 ^ 16 → length message + (4 + padded_len (length value)) ≤ 65552 → IsWritten (with_attribute kind value message)
+pub with_attribute-IsWritten : (kind : ℕ) (value message : List ℕ) → IsWritten message → kind < 2 ^ 16 → length message + (4 + padded_len (length value)) ≤ 65552
+    → IsWritten (with_attribute kind value message)
 with_attribute-IsWritten kind value message is k room =
     let old = IsWritten-IsMessage message is in
     let new = with_attribute-IsMessage kind value message old k room in
@@ -267,7 +276,8 @@ with_attribute-IsWritten kind value message is k room =
       told = with_attribute-told kind value message k (omega (arith, padded_len-ge (length value))) is.faultless.long;
     }
 
-pub with_attribute-AddsAttribute : (kind : ℕ) (value message : List ℕ) → IsWritten message → kind < 2 ^ 16 → length message + (4 + padded_len (length value)) ≤ 65552 → AddsAttribute message (with_attribute kind value message) kind value
+pub with_attribute-AddsAttribute : (kind : ℕ) (value message : List ℕ) → IsWritten message → kind < 2 ^ 16 → length message + (4 + padded_len (length value)) ≤ 65552
+    → AddsAttribute message (with_attribute kind value message) kind value
 with_attribute-AddsAttribute kind value message is k room =
     let new = with_attribute-IsMessage kind value message (IsWritten-IsMessage message is) k room in
     record { type = new.has_type; id = new.has_id; attributes = attributes_of-is _ _ _ _ new }
@@ -291,7 +301,8 @@ header_of-IsWritten type id t i = record {
 }
 
 -- a message whose length is set after an attribute was appended
-pub with_attribute-made : (kind n : ℕ) (value message longer : List ℕ) → kind < 2 ^ 16 → length value < 2 ^ 16 → 20 ≤ length message → longer ≡ message ++ attribute_bytes kind value → n ≡ length longer - 20 → with_length n longer ≡ with_attribute kind value message
+pub with_attribute-made : (kind n : ℕ) (value message longer : List ℕ) → kind < 2 ^ 16 → length value < 2 ^ 16 → 20 ≤ length message → longer ≡ message ++ attribute_bytes kind value
+    → n ≡ length longer - 20 → with_length n longer ≡ with_attribute kind value message
 unfolding with_attribute
 with_attribute-made kind n value message longer k short twenty e m =
     let size : n ≡ length message - 20 + (4 + padded_len (length value)) =

@@ -54,7 +54,8 @@ pub xor_addr-ipv4_value : (a : SocketAddrV4) (id : ℕ) → length (ipv4_octets 
 unfolding cells_from
 xor_addr-ipv4_value a id four port =
     let o = ipv4_octets (v4_ip a) in
-    let octets : bit_xor (bit_xor (get_or o 0 0) 0x21) 0x21 ∷ bit_xor (bit_xor (get_or o 1 0) 0x12) 0x12 ∷ bit_xor (bit_xor (get_or o 2 0) 0xa4) 0xa4 ∷ bit_xor (bit_xor (get_or o 3 0) 0x42) 0x42 ∷ [] ≡ o =
+    let octets : bit_xor (bit_xor (get_or o 0 0) 0x21) 0x21 ∷ bit_xor (bit_xor (get_or o 1 0) 0x12) 0x12 ∷ bit_xor (bit_xor (get_or o 2 0) 0xa4) 0xa4 ∷ bit_xor
+    (bit_xor (get_or o 3 0) 0x42) 0x42 ∷ [] ≡ o =
     rw (xor_twice (get_or o 0 0) 0x21, xor_twice (get_or o 1 0) 0x12, xor_twice (get_or o 2 0) 0xa4, xor_twice (get_or o 3 0) 0x42) (cells_from-all 4 o four) in
     ap (λ x. Some (V4 x)) (same_v4 a _ _ octets (group_again (v4_port a) 0x2112 port (omega arith)))
 

@@ -1,5 +1,6 @@
 -- The decoded value of an attribute, or nothing if it is malformed (RFC 8489, section 14).
-use Rattle.std.specs.Prelude.{ℕ, ◌+◌, ◌*◌, ◌/◌, ◌%◌, nat_le, ◌&&◌, if◌then◌else◌, List, [], ◌∷◌, ◌++◌, length, drop, slice_index, Bool, ◌==◌, Option, Some, None, is_some, unwrap_or}
+use Rattle.std.specs.Prelude.{ℕ, ◌+◌, ◌*◌, ◌/◌, ◌%◌, nat_le, ◌&&◌, if◌then◌else◌, List, [], ◌∷◌, ◌++◌, length, drop, slice_index, Bool, ◌==◌, Option, Some}
+use Rattle.std.specs.Prelude.{None, is_some, unwrap_or}
 use Rattle.turn_stun.specs.declared.attribute.password_algorithms.PasswordAlgorithm.{PasswordAlgorithm}
 use Rattle.turn_stun.specs.declared.attribute.password_algorithms.PasswordAlgorithm.TheVariants.{Md5, Sha256}
 use Rattle.turn_stun.specs.Message.{Attribute, attributes_from}

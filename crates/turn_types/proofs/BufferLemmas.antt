@@ -46,7 +46,8 @@ settled-moves b e = ap (λ short. if short then record { stream = b.stream; star
 settled-stays : (b : Buffered) → nat_lt (length b.stream.bytes) b.start ≡ false → settled b ≡ b
 settled-stays b e = ap (λ short. if short then record { stream = b.stream; start = 0; counts = with_moved (length b.stream.bytes) b.counts } else b) e
 
-settled_by : (old b : Buffered) (left : ℕ) → b.counts ≡ with_taken left old.counts → old.counts.moved < 2 ^ 64 → (short : Bool) → nat_lt (length b.stream.bytes) b.start ≡ short → UpdatesCounts old (settled b) left b.start × ((settled b).stream ≡ b.stream)
+settled_by : (old b : Buffered) (left : ℕ) → b.counts ≡ with_taken left old.counts → old.counts.moved < 2 ^ 64 → (short : Bool) → nat_lt (length b.stream.bytes) b.start ≡ short
+    → UpdatesCounts old (settled b) left b.start × ((settled b).stream ≡ b.stream)
 settled_by old b left counts low true e =
     subst (λ (new : Buffered). UpdatesCounts old new left b.start × (new.stream ≡ b.stream)) (sym (settled-moves b e)) (
       record {
@@ -71,7 +72,8 @@ settled_by old b left counts low false e =
     )
 
 -- a frame that is returned is taken off
-pub cut_off-IsCounted : (b : Buffered) (k : ℕ) → k ≤ length b.stream.bytes → IsKept b → UpdatesCounts b (cut_off k b) (left_of b.stream.bytes (cut_off k b)) (b.start + left_of b.stream.bytes (cut_off k b))
+pub cut_off-IsCounted : (b : Buffered) (k : ℕ) → k ≤ length b.stream.bytes → IsKept b
+    → UpdatesCounts b (cut_off k b) (left_of b.stream.bytes (cut_off k b)) (b.start + left_of b.stream.bytes (cut_off k b))
 cut_off-IsCounted b k h is =
     let done = settled_by b (front_cut k b) k refl (omega (arith, is.paid, is.bounded)) (nat_lt (length (drop k b.stream.bytes)) (b.start + k)) refl in
     let left : left_of b.stream.bytes (cut_off k b) ≡ k =
@@ -79,7 +81,8 @@ cut_off-IsCounted b k h is =
     subst (λ n. UpdatesCounts b (cut_off k b) n (b.start + n)) (sym left) done.0
 
 -- keeping the rest of a piece moves nothing
-pub kept_behind-IsCounted : (old new : Buffered) (piece : List ℕ) (k : ℕ) → k ≤ length piece → new.stream.bytes ≡ drop k piece → new.start ≡ 0 → new.counts ≡ with_taken k old.counts → IsKept new → UpdatesCounts old new (left_of piece new) 0
+pub kept_behind-IsCounted : (old new : Buffered) (piece : List ℕ) (k : ℕ) → k ≤ length piece → new.stream.bytes ≡ drop k piece → new.start ≡ 0 → new.counts ≡ with_taken k old.counts → IsKept new
+    → UpdatesCounts old new (left_of piece new) 0
 kept_behind-IsCounted old new piece k h bytes start counts is =
     let left : left_of piece new ≡ k = rw (bytes, length-drop) (omega (arith, h)) in
     let moved : new.counts.moved ≡ old.counts.moved = ap (λ (c : TcpCounts). c.moved) counts in
@@ -92,7 +95,8 @@ kept_behind-IsCounted old new piece k h bytes start counts is =
     }
 
 -- if the buffer was empty, none of its bytes precede the rest
-pub first-IsCounted : (old new : Buffered) (piece : List ℕ) → old.stream.bytes ≡ [] → old.stream.is_broken ≡ false → UpdatesCounts old new (left_of piece new) 0 → UpdatesCounts old new (left_of (with_piece old.stream piece).bytes new) (front_offset old (left_of (with_piece old.stream piece).bytes new))
+pub first-IsCounted : (old new : Buffered) (piece : List ℕ) → old.stream.bytes ≡ [] → old.stream.is_broken ≡ false → UpdatesCounts old new (left_of piece new) 0
+    → UpdatesCounts old new (left_of (with_piece old.stream piece).bytes new) (front_offset old (left_of (with_piece old.stream piece).bytes new))
 first-IsCounted old new piece bytes broken is =
     let e : old.stream ≡ record { bytes = []; is_broken = false } = rw (bytes, broken) refl in
     let came : left_of (with_piece old.stream piece).bytes new ≡ left_of piece new = ap (λ (s : Stream). left_of (with_piece s piece).bytes new) e in

@@ -85,7 +85,8 @@ PassesTests-no_fault bytes tests =
     rw (long, least, most, whole) refl
 
 -- a ChannelData message that is written has its number and payload, followed by its padding
-pub channel_frame-IsChannel : (id : ℕ) (payload : List ℕ) → 0x4000 ≤ id → id < 0x8000 → length payload < 2 ^ 16 → IsChannel (channel_frame id payload) id payload (replicate (padded_len (length payload) - length payload) 0)
+pub channel_frame-IsChannel : (id : ℕ) (payload : List ℕ) → 0x4000 ≤ id → id < 0x8000 → length payload < 2 ^ 16
+    → IsChannel (channel_frame id payload) id payload (replicate (padded_len (length payload) - length payload) 0)
 channel_frame-IsChannel id payload least most short = record {
   header = to_be_bytes w16 id ++ to_be_bytes w16 (length payload);
   spelled = refl;

@@ -14,7 +14,8 @@ module _ {S O : Type 0} (size : S → List ℕ → Option ℕ) (handle : S → L
   nothing_in_front s bytes empty (Some k) e = let within = is.within s bytes k e in absurd (omega arith)
 
   -- the rest after the first frame is shorter
-  same_later : (next other : S → List ℕ → Drained S O) (s : S) (bytes : List ℕ) (found : Option ℕ) → size s bytes ≡ found → ((t : S) (rest : List ℕ) → length rest < length bytes → next t rest ≡ other t rest) → one_frame size handle next s bytes found ≡ one_frame size handle other s bytes found
+  same_later : (next other : S → List ℕ → Drained S O) (s : S) (bytes : List ℕ) (found : Option ℕ) → size s bytes ≡ found
+      → ((t : S) (rest : List ℕ) → length rest < length bytes → next t rest ≡ other t rest) → one_frame size handle next s bytes found ≡ one_frame size handle other s bytes found
   same_later next other s bytes None e same = refl
   same_later next other s bytes (Some k) e same =
       let within = is.within s bytes k e in
@@ -43,7 +44,9 @@ module _ {S O : Type 0} (size : S → List ℕ → Option ℕ) (handle : S → L
   by_first s bytes found e = drained_at_most-first (length bytes) s bytes (omega arith) ∙ ap (one_frame size handle (drained size handle) s bytes) e
 
   -- a frame that is whole is taken first whatever follows it
-  fed-first : (next : S → List ℕ → Drained S O) (s : S) (first more : List ℕ) (found : Option ℕ) → size s first ≡ found → ((t : S) (rest : List ℕ) → length rest < length first → drained size handle t (rest ++ more) ≡ fed size handle (next t rest) more) → drained size handle s (first ++ more) ≡ fed size handle (one_frame size handle next s first found) more
+  fed-first : (next : S → List ℕ → Drained S O) (s : S) (first more : List ℕ) (found : Option ℕ) → size s first ≡ found
+      → ((t : S) (rest : List ℕ) → length rest < length first → drained size handle t (rest ++ more) ≡ fed size handle (next t rest) more)
+      → drained size handle s (first ++ more) ≡ fed size handle (one_frame size handle next s first found) more
   fed-first next s first more None e later = refl
   fed-first next s first more (Some k) e later =
       let within = is.within s first k e in

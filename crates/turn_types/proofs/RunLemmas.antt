@@ -39,7 +39,8 @@ breaks bytes calls begins =
       broken = λ broken. subst (λ (cut : Frames). begins_no_frame cut.rest ≡ true) (sym none) more;
     })
 
-goes_on : (bytes : List ℕ) (calls : List Call) → ((later : List ℕ) → GivesFrames (later ++ bytes_in calls) (run_of (framed later) calls)) → (found : Option ℕ) → frame_len bytes ≡ found → GivesAfter bytes calls (next_frame_of (framed bytes) found)
+goes_on : (bytes : List ℕ) (calls : List Call) → ((later : List ℕ) → GivesFrames (later ++ bytes_in calls) (run_of (framed later) calls)) → (found : Option ℕ) → frame_len bytes ≡ found
+    → GivesAfter bytes calls (next_frame_of (framed bytes) found)
 goes_on bytes calls later None e = later bytes
 goes_on bytes calls later (Some k) e =
     let all = bytes ++ bytes_in calls in
@@ -55,7 +56,8 @@ goes_on bytes calls later (Some k) e =
       broken = λ broken. subst (λ (cut : Frames). begins_no_frame cut.rest ≡ true) (sym some) (rest.broken broken);
     }
 
-first_turn_by : (bytes : List ℕ) (calls : List Call) → ((later : List ℕ) → GivesFrames (later ++ bytes_in calls) (run_of (framed later) calls)) → (begins : Bool) → begins_no_frame bytes ≡ begins → GivesAfter bytes calls (next_frame (framed bytes))
+first_turn_by : (bytes : List ℕ) (calls : List Call) → ((later : List ℕ) → GivesFrames (later ++ bytes_in calls) (run_of (framed later) calls)) → (begins : Bool) → begins_no_frame bytes ≡ begins
+    → GivesAfter bytes calls (next_frame (framed bytes))
 first_turn_by bytes calls later true e = subst (GivesAfter bytes calls) (sym (turn-no_frame (framed bytes) e)) (breaks bytes calls e)
 first_turn_by bytes calls later false e =
     subst (GivesAfter bytes calls) (sym (turn-frame_len (framed bytes) (frame_len bytes) e refl))

@@ -61,7 +61,8 @@ module _ (peer : SocketAddr) (payload : List ℕ) (id : ℕ) (short : length pay
   two_adds = with_attribute-AddsAttribute data_kind payload (with_peer peer id) one (omega arith) room_2
 
   -- the length field that is set last is in the message
-  any_length : (n : ℕ) → with_length n (with_peer peer id ++ attribute_bytes data_kind payload) ≡ with_length n (header_of send_type id) ++ attribute_bytes peer_kind (xor_value peer id) ++ attribute_bytes data_kind payload
+  any_length : (n : ℕ) → with_length n (with_peer peer id ++ attribute_bytes data_kind payload) ≡ with_length n (header_of send_type id) ++ attribute_bytes peer_kind
+      (xor_value peer id) ++ attribute_bytes data_kind payload
   unfolding with_peer with_attribute
   any_length n = refl
 

@@ -1,5 +1,6 @@
 -- The frames that are cut off a stream are those of the grammar, all of them and no others.
-use Rattle.std.proofs.Common.{◌≡◌, ℕ, zero, suc, ◌+◌, ◌-◌, ◌^◌, ◌<◌, ◌≤◌, Bool, true, false, if◌then◌else◌, List, [], ◌∷◌, ◌++◌, length, take, drop, replicate, Option, Some, None, refl, sym, ap, subst, ◌∙◌, inl, inr, arith, append_assoc, length-append}
+use Rattle.std.proofs.Common.{◌≡◌, ℕ, zero, suc, ◌+◌, ◌-◌, ◌^◌, ◌<◌, ◌≤◌, Bool, true, false, if◌then◌else◌, List, [], ◌∷◌, ◌++◌, length, take, drop, replicate, Option, Some, None, refl, sym, ap}
+use Rattle.std.proofs.Common.{subst, ◌∙◌, inl, inr, arith, append_assoc, length-append}
 use Rattle.std.proofs.lemmas.Bool.{ltb-true, ltb-false, leb-false, lt-ltb, lt-leb, le-ltb}
 use Rattle.std.proofs.lemmas.List.{length-replicate, take-append-drop, take_at, drop_at, length-take, length-drop}
 use Rattle.std.proofs.lemmas.List.Elements.{All-nil, All-cons, All-head, All-tail}
@@ -113,7 +114,11 @@ frames_of-none bytes none =
     (by_first (λ s front. frame_len front) (λ s frame. (s, frame ∷ [])) frame_len-IsPrefixCut tt bytes None none)
 
 -- the first frame, and then those of the rest
-pub frames_of-some : (bytes : List ℕ) (k : ℕ) → frame_len bytes ≡ Some k → frames_of bytes ≡ record { frames = take k bytes ∷ (frames_of (drop k bytes)).frames; rest = (frames_of (drop k bytes)).rest }
+pub frames_of-some : (bytes : List ℕ) (k : ℕ) → frame_len bytes ≡ Some k → frames_of bytes ≡ record {
+  frames = take k bytes ∷ (frames_of (drop k bytes)).frames;
+  rest =
+      (frames_of (drop k bytes)).rest;
+}
 frames_of-some bytes k some =
     ap (λ (d : Drained (Unit {0}) (List ℕ)). record { frames = d.given; rest = d.rest })
     (by_first (λ s front. frame_len front) (λ s frame. (s, frame ∷ [])) frame_len-IsPrefixCut tt bytes (Some k) some)

@@ -35,11 +35,13 @@ size-byte Broken byte bytes other = refl
 
 module _ {S O : Type 0} (mode : S → Mode) (handle : S → List ℕ → S × List O) where
   -- the step that the mode requires
-  pub step_in : (state : S) (bytes : List ℕ) (m : Mode) (found : Option ℕ) → mode state ≡ m → size_in m bytes ≡ found → drained (λ s. size_in (mode s)) handle state bytes ≡ one_frame (λ s. size_in (mode s)) handle (drained (λ s. size_in (mode s)) handle) state bytes found
+  pub step_in : (state : S) (bytes : List ℕ) (m : Mode) (found : Option ℕ) → mode state ≡ m → size_in m bytes ≡ found
+      → drained (λ s. size_in (mode s)) handle state bytes ≡ one_frame (λ s. size_in (mode s)) handle (drained (λ s. size_in (mode s)) handle) state bytes found
   step_in state bytes m found e h =
       by_first (λ s. size_in (mode s)) handle (size_in-IsPrefixCut mode) state bytes found (ap (λ n. size_in n bytes) e ∙ h)
 
-  frame_step : (state : S) (bytes frame : List ℕ) (t : NextFrame) → mode state ≡ Framed → Found bytes t → t.frame ≡ Some frame → drained (λ s. size_in (mode s)) handle state bytes ≡ behind (handle state frame).1 (drained (λ s. size_in (mode s)) handle (handle state frame).0 t.after.bytes)
+  frame_step : (state : S) (bytes frame : List ℕ) (t : NextFrame) → mode state ≡ Framed → Found bytes t → t.frame ≡ Some frame
+      → drained (λ s. size_in (mode s)) handle state bytes ≡ behind (handle state frame).1 (drained (λ s. size_in (mode s)) handle (handle state frame).0 t.after.bytes)
   frame_step state bytes frame t e (Breaks b) h = cc
   frame_step state bytes frame t e (Waits b f) h = cc
   frame_step state bytes frame t e (Gives {k = k} b f) h =
@@ -47,24 +49,30 @@ module _ {S O : Type 0} (mode : S → Mode) (handle : S → List ℕ → S × Li
       step_in state bytes Framed (Some k) e (size-frame bytes (Some k) b f)
       ∙ ap (λ (l : List ℕ). behind (handle state l).1 (drained (λ s. size_in (mode s)) handle (handle state l).0 (drop k bytes))) same
 
-  wait_step : (state : S) (bytes : List ℕ) (t : NextFrame) → mode state ≡ Framed → Found bytes t → t.frame ≡ None → t.after.is_broken ≡ false → drained (λ s. size_in (mode s)) handle state bytes ≡ record { state = state; given = []; rest = bytes }
+  wait_step : (state : S) (bytes : List ℕ) (t : NextFrame) → mode state ≡ Framed → Found bytes t → t.frame ≡ None → t.after.is_broken ≡ false
+      → drained (λ s. size_in (mode s)) handle state bytes ≡ record { state = state; given = []; rest = bytes }
   wait_step state bytes t e (Breaks b) h unbroken = cc
   wait_step state bytes t e (Waits b f) h unbroken = step_in state bytes Framed None e (size-frame bytes None b f)
   wait_step state bytes t e (Gives b f) h unbroken = cc
 
-  break_step : (state : S) (bytes : List ℕ) (t : NextFrame) → mode state ≡ Framed → Found bytes t → t.after.is_broken ≡ true → drained (λ s. size_in (mode s)) handle state bytes ≡ behind (handle state (take 1 bytes)).1 (drained (λ s. size_in (mode s)) handle (handle state (take 1 bytes)).0 (drop 1 bytes))
+  break_step : (state : S) (bytes : List ℕ) (t : NextFrame) → mode state ≡ Framed → Found bytes t → t.after.is_broken ≡ true
+      → drained (λ s. size_in (mode s)) handle state bytes ≡ behind (handle state (take 1 bytes)).1 (drained (λ s. size_in (mode s)) handle (handle state (take 1 bytes)).0 (drop 1 bytes))
   break_step state bytes t e (Breaks b) broken = step_in state bytes Framed (Some 1) e (size-breaks bytes b)
   break_step state bytes t e (Waits b f) broken = cc
   break_step state bytes t e (Gives b f) broken = cc
 
-  pub framed-drained : (state : S) (bytes frame : List ℕ) → mode state ≡ Framed → (next_frame (framed bytes)).frame ≡ Some frame → drained (λ s. size_in (mode s)) handle state bytes ≡ behind (handle state frame).1 (drained (λ s. size_in (mode s)) handle (handle state frame).0 (next_frame (framed bytes)).after.bytes)
+  pub framed-drained : (state : S) (bytes frame : List ℕ) → mode state ≡ Framed → (next_frame (framed bytes)).frame ≡ Some frame
+      → drained (λ s. size_in (mode s)) handle state bytes ≡ behind (handle state frame).1 (drained (λ s. size_in (mode s)) handle (handle state frame).0 (next_frame (framed bytes)).after.bytes)
   framed-drained state bytes frame e h = frame_step state bytes frame (next_frame (framed bytes)) e (turn-Found bytes) h
 
-  pub waiting-drained : (state : S) (bytes : List ℕ) → mode state ≡ Framed → (next_frame (framed bytes)).frame ≡ None → (next_frame (framed bytes)).after.is_broken ≡ false → drained (λ s. size_in (mode s)) handle state bytes ≡ record { state = state; given = []; rest = bytes }
+  pub waiting-drained : (state : S) (bytes : List ℕ) → mode state ≡ Framed → (next_frame (framed bytes)).frame ≡ None → (next_frame (framed bytes)).after.is_broken ≡ false
+      → drained (λ s. size_in (mode s)) handle state bytes ≡ record { state = state; given = []; rest = bytes }
   waiting-drained state bytes e h unbroken = wait_step state bytes (next_frame (framed bytes)) e (turn-Found bytes) h unbroken
 
-  pub breaking-drained : (state : S) (bytes : List ℕ) → mode state ≡ Framed → (next_frame (framed bytes)).after.is_broken ≡ true → drained (λ s. size_in (mode s)) handle state bytes ≡ behind (handle state (take 1 bytes)).1 (drained (λ s. size_in (mode s)) handle (handle state (take 1 bytes)).0 (drop 1 bytes))
+  pub breaking-drained : (state : S) (bytes : List ℕ) → mode state ≡ Framed → (next_frame (framed bytes)).after.is_broken ≡ true
+      → drained (λ s. size_in (mode s)) handle state bytes ≡ behind (handle state (take 1 bytes)).1 (drained (λ s. size_in (mode s)) handle (handle state (take 1 bytes)).0 (drop 1 bytes))
   breaking-drained state bytes e broken = break_step state bytes (next_frame (framed bytes)) e (turn-Found bytes) broken
 
-  pub byte-drained : (state : S) (byte : ℕ) (bytes : List ℕ) → (mode state ≡ Framed → ⊥) → drained (λ s. size_in (mode s)) handle state (byte ∷ bytes) ≡ behind (handle state (byte ∷ [])).1 (drained (λ s. size_in (mode s)) handle (handle state (byte ∷ [])).0 bytes)
+  pub byte-drained : (state : S) (byte : ℕ) (bytes : List ℕ) → (mode state ≡ Framed → ⊥)
+      → drained (λ s. size_in (mode s)) handle state (byte ∷ bytes) ≡ behind (handle state (byte ∷ [])).1 (drained (λ s. size_in (mode s)) handle (handle state (byte ∷ [])).0 bytes)
   byte-drained state byte bytes other = step_in state (byte ∷ bytes) (mode state) (Some 1) refl (size-byte (mode state) byte bytes other)

@@ -17,5 +17,5 @@ pub use buffer::TurnTcpBuffer;
 pub use counts::TcpCounts;
 pub use incoming::{IncomingTcp, StoredTcp};
 pub use laws::{
-    calls_give_frames, frames_are_found, frames_are_unique, same_for_any_cut, calls_take_one_frame,
+    calls_give_frames, calls_take_one_frame, frames_are_found, frames_are_unique, same_for_any_cut,
 };

@@ -3,7 +3,9 @@
 
 ghost use Rattle.std.specs.List.{list_any};
 ghost use Rattle.std.specs.Prelude.{ℕ, ◌≡◌, ◌≤◌, ◌&&◌, false, fold, option_to_list, true};
-ghost use Rattle.turn_client_api.specs.Effect.{active_channel_answered, active_permission_answered, channel_answered, connect_answered, pending_channel_answered, pending_permission_answered, permission_answered, permission_answered_for, listed_permissions_answered};
+ghost use Rattle.turn_client_api.specs.Effect.{active_channel_answered, active_permission_answered, channel_answered, connect_answered};
+ghost use Rattle.turn_client_api.specs.Effect.{pending_channel_answered, pending_permission_answered, permission_answered, permission_answered_for};
+ghost use Rattle.turn_client_api.specs.Effect.{listed_permissions_answered};
 ghost use Rattle.turn_client_api.specs.Grants.{is_channel_of, is_permission_of};
 ghost use Rattle.turn_client_api.specs.State.{State};
 ghost use Rattle.turn_client_grants.specs.Answered.{permission_granted};
@@ -11,9 +13,9 @@ ghost use Rattle.turn_client_grants.specs.Keys.{is_open_to};
 ghost use Rattle.turn_client_grants.specs.Ledger.{SameRoomBut, with_ledger};
 ghost use Rattle.turn_client_grants.specs.Table.{is_numbered};
 
+use crate::grant_filter::GrantFilter;
 use crate::ledger::GrantLedger;
 use crate::time::later;
-use crate::grant_filter::GrantFilter;
 use std::net::{IpAddr, SocketAddr};
 use turn_client_api::{Grant, Progress, Purpose, TurnEvent};
 use turn_stun::instant::Instant;
@@ -85,7 +87,10 @@ impl GrantLedger {
     {
         let transport = self.transport();
         if is_granted {
-            return self.renew(&GrantFilter::PermissionOf(ip), later(now, PERMISSION_SECONDS));
+            return self.renew(
+                &GrantFilter::PermissionOf(ip),
+                later(now, PERMISSION_SECONDS),
+            );
         }
         self.remove(&GrantFilter::PermissionOf(ip));
         self.push_event_front(TurnEvent::PermissionCreateFailed(transport, ip));

@@ -12,12 +12,12 @@ ghost use Rattle.turn_client_grants.specs.Ledger.{SameRoomBut, with_ledger};
 ghost use Rattle.turn_client_grants.specs.Table.{is_numbered};
 ghost use Rattle.turn_client_grants.specs.GrantFilter.{holds, purposes_in};
 
+use crate::grant_filter::GrantFilter;
 use crate::kind::family_of;
 use crate::ledger::GrantLedger;
 use crate::ledger::answer::RESERVED_SECONDS;
-use crate::time::later;
 use crate::purposes::Purposes;
-use crate::grant_filter::GrantFilter;
+use crate::time::later;
 use std::net::SocketAddr;
 use turn_client_api::{Grant, Progress, Relay, TurnEvent};
 use turn_stun::instant::Instant;

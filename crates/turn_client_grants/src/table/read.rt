@@ -1,12 +1,14 @@
 //! What is read from a table.
 
-ghost use Rattle.std.specs.Prelude.{◌≡◌, ◌==◌, ◌<◌, ◌&&◌, All, map, filter, filter_map, find, fold, length, min, nat_le, nat_lt, not, option_map, option_to_list, reverse, slice_get, false, true, IfSome};
+ghost use Rattle.std.specs.Prelude.{◌≡◌, ◌==◌, ◌<◌, ◌&&◌, All, map, filter, filter_map, find, fold, length, min, nat_le, nat_lt, not, option_map};
+ghost use Rattle.std.specs.Prelude.{option_to_list, reverse, slice_get, false, true, IfSome};
 ghost use Rattle.std.specs.List.{list_all, list_any};
 ghost use Rattle.turn_agent.specs.Agent.{same_address};
 ghost use Rattle.turn_client_api.specs.Addresses.{permitted_left, permitted_in_use, relayed_left, relayed_in_use};
 ghost use Rattle.turn_client_api.specs.Calls.{active_channel, bound_to, channels_to, free_number, is_in_progress, offer_origin, reserved_from};
 ghost use Rattle.turn_client_api.specs.Connections.{is_connected, is_indicated};
-ghost use Rattle.turn_client_api.specs.Grants.{find_allocation, allocations, channel_at, channel_peer, as_allocation, as_connection, first_in, is_channel_of, is_connect_to, is_for, is_of, is_of_family, is_listed, has_active_permission, permission_progress, purposes_of};
+ghost use Rattle.turn_client_api.specs.Grants.{find_allocation, allocations, channel_at, channel_peer, as_allocation, as_connection, first_in, is_channel_of};
+ghost use Rattle.turn_client_api.specs.Grants.{is_connect_to, is_for, is_of, is_of_family, is_listed, has_active_permission, permission_progress, purposes_of};
 ghost use Rattle.turn_client_api.specs.Judgement.{is_bind_of};
 ghost use Rattle.turn_client_api.specs.Poll.{is_lapsed_channel, next_offer};
 ghost use Rattle.turn_client_api.specs.State.{State};

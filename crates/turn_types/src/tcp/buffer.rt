@@ -1,6 +1,7 @@
 //! A buffer between the pieces of a stream and its frames.
 
-ghost use Rattle.std.specs.Prelude.{◌≡◌, ◌+◌, ◌<◌, ◌↔◌, true, false, [], length, IsTrue, OnOk, OnErr, IsOk, IsErr, IfOk, IsNone, IsSome, IfSome, Some, None, Ok};
+ghost use Rattle.std.specs.Prelude.{◌≡◌, ◌+◌, ◌<◌, ◌↔◌, true, false, [], length, IsTrue, OnOk, OnErr, IsOk, IsErr, IfOk, IsNone, IsSome, IfSome, Some, None};
+ghost use Rattle.std.specs.Prelude.{Ok};
 ghost use Rattle.std.specs.Option.{option_map};
 ghost use Rattle.turn_types.specs.Buffers.{UpdatesCounts, IsKept, front_offset, left_of};
 ghost use Rattle.turn_types.specs.Frames.{frame_len};

@@ -15,4 +15,14 @@ returns-clause-id c =
     let p = c.args.generator.now.word_pos in
     let first : p % 2 ^ 68 ≡ p = below p c.requires.place in
     let third = twice p in
-    rw (c.from_bytes.ensures, c.drawn_bytes-3.ensures.bytes, c.drawn_bytes-2.ensures.bytes, c.drawn_bytes.ensures.bytes, c.drawn_bytes-2.ensures.after, c.drawn_bytes.ensures.after, c.requires.stream, first, third)
+    rw (
+      c.from_bytes.ensures,
+      c.drawn_bytes-3.ensures.bytes,
+      c.drawn_bytes-2.ensures.bytes,
+      c.drawn_bytes.ensures.bytes,
+      c.drawn_bytes-2.ensures.after,
+      c.drawn_bytes.ensures.after,
+      c.requires.stream,
+      first,
+      third,
+    )

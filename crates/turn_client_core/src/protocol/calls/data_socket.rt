@@ -3,7 +3,8 @@
 ghost use Rattle.std.specs.Prelude.{◌≡◌, ◌&&◌, codes, false, None, Some, IfOk, IsSome, IsTrue, OnErr, OnOk};
 ghost use Rattle.turn_stun.specs.declared.transport.TransportType.TheVariants.{Tcp};
 ghost use Rattle.turn_client_api.specs.Answers.{TakesSocket};
-ghost use Rattle.turn_client_api.specs.Calls.{allocated_tcp_socket_step, is_allocated, is_control, is_local_taken, offer_origin, socket_opened, socket_refused, socket_step};
+ghost use Rattle.turn_client_api.specs.Calls.{allocated_tcp_socket_step, is_allocated, is_control, is_local_taken, offer_origin, socket_opened, socket_refused};
+ghost use Rattle.turn_client_api.specs.Calls.{socket_step};
 ghost use Rattle.turn_client_api.specs.Connections.{connection_at};
 ghost use Rattle.turn_client_api.specs.Grants.{same_transport};
 ghost use Rattle.turn_client_api.specs.Requests.{accepted_reply, connection_timed_out, refused_reply};

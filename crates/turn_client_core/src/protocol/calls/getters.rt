@@ -3,7 +3,8 @@
 ghost use Rattle.std.specs.List.{list_any};
 ghost use Rattle.std.specs.Prelude.{◌≡◌, ◌&&◌, ◌||◌, false, filter_map, nat_le, nat_lt, slice_get, true, IfSome};
 ghost use Rattle.turn_client_api.specs.Addresses.{permitted_left, relayed_left};
-ghost use Rattle.turn_client_api.specs.Calls.{channels_to, free_number, can_send_to, is_in_progress, is_number_taken, permissions_of, relayed_addresses_of, reserved_from};
+ghost use Rattle.turn_client_api.specs.Calls.{channels_to, free_number, can_send_to, is_in_progress, is_number_taken, permissions_of, relayed_addresses_of};
+ghost use Rattle.turn_client_api.specs.Calls.{reserved_from};
 ghost use Rattle.turn_client_api.specs.Connections.{is_connected, is_connecting};
 ghost use Rattle.turn_client_api.specs.Grants.{has_active_permission, permission_state};
 

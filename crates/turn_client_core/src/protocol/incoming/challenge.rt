@@ -56,7 +56,11 @@ impl TurnClientProtocol {
     /// # Errors
     ///
     /// If memory allocation fails. Nothing changes then.
-    fn answer_challenge(&mut self, message: &Message<'_>, now: Instant) -> Result<TurnProtocolRecv, AllocError>
+    fn answer_challenge(
+        &mut self,
+        message: &Message<'_>,
+        now: Instant,
+    ) -> Result<TurnProtocolRecv, AllocError>
         requires challenge { IsSome (challenge_in self.old message.now) }
         requires few { self.old.challenges < 9 }
         ensures answer { TellsOfChallenge message.now now self.old result }

@@ -10,8 +10,8 @@ ghost use Rattle.turn_client_requests.specs.Refused.{code_of, reason_of};
 ghost use Rattle.turn_stun.specs.Message.{id_of};
 
 use crate::protocol::TurnClientProtocol;
-use crate::reply::{connection_id_in, peer_in};
 use crate::protocol_recv::TurnProtocolRecv;
+use crate::reply::{connection_id_in, peer_in};
 use std::alloc::AllocError;
 use std::net::SocketAddr;
 use turn_client_api::Origin;
@@ -58,7 +58,10 @@ impl TurnClientProtocol {
     /// # Errors
     ///
     /// If memory allocation fails. Nothing changes then.
-    pub(crate) fn attempt_indicated(&mut self, message: &Message<'_>) -> Result<TurnProtocolRecv, AllocError>
+    pub(crate) fn attempt_indicated(
+        &mut self,
+        message: &Message<'_>,
+    ) -> Result<TurnProtocolRecv, AllocError>
         ensures answer { IfOk result (λ told. outcome_in message.now told ≡ (attempt_step message.now self.old).0) }
         ensures part { IfOk result (IsPart message.now self.old self.new) }
         ensures after { OnOk result (self.new ≡ (attempt_step message.now self.old).1) }
@@ -84,7 +87,10 @@ impl TurnClientProtocol {
     fn accepts_attempt(&self, peer: SocketAddr) -> bool
         ensures { result ≡ accepts_attempt peer self.now }
     {
-        if self.find_allocation_to(TransportType::Tcp, peer.ip()).is_none() {
+        if self
+            .find_allocation_to(TransportType::Tcp, peer.ip())
+            .is_none()
+        {
             return false;
         }
         if !self.has_active_permission(peer.ip()) {

@@ -45,7 +45,11 @@ impl TurnClientProtocol {
     /// # Errors
     ///
     /// If memory allocation fails. The client has ended then, and nothing else has changed.
-    fn message_or_end(&mut self, message: &Message<'_>, now: Instant) -> Result<TurnProtocolRecv, AllocError>
+    fn message_or_end(
+        &mut self,
+        message: &Message<'_>,
+        now: Instant,
+    ) -> Result<TurnProtocolRecv, AllocError>
         requires before { self.old.phase ≡ Phase.Authenticating → self.old.grants ≡ [] }
         ensures answer { IfOk result (λ told. outcome_in message.now told ≡ (message_step message.now now self.old).0) }
         ensures part { IfOk result (IsPart message.now self.old self.new) }

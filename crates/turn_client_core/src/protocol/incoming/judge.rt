@@ -2,7 +2,8 @@
 
 ghost use Rattle.std.specs.Prelude.{◌≡◌, ◌↔◌, IsSome, is_some};
 ghost use Rattle.turn_auth.specs.Validation.{IsResendRequest, validation_of};
-ghost use Rattle.turn_client_api.specs.Judgement.{allocated_judgement, answers_allocate, answers_one, authenticating_judgement, challenge_in, indication_judgement, judgement_of, requesting_judgement};
+ghost use Rattle.turn_client_api.specs.Judgement.{allocated_judgement, answers_allocate, answers_one, authenticating_judgement, challenge_in};
+ghost use Rattle.turn_client_api.specs.Judgement.{indication_judgement, judgement_of, requesting_judgement};
 ghost use Rattle.turn_client_api.specs.State.{auth_of};
 ghost use Rattle.turn_client_core.specs.Judged.{kind_of, signed_kind};
 ghost use Rattle.turn_stun.specs.Message.{type_of};

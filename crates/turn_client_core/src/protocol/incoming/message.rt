@@ -81,7 +81,11 @@ impl TurnClientProtocol {
     /// # Errors
     ///
     /// If memory allocation fails. Nothing changes then.
-    fn succeeded(&mut self, message: &Message<'_>, now: Instant) -> Result<TurnProtocolRecv, AllocError>
+    fn succeeded(
+        &mut self,
+        message: &Message<'_>,
+        now: Instant,
+    ) -> Result<TurnProtocolRecv, AllocError>
         requires before { self.old.phase ≡ Phase.Authenticating → self.old.grants ≡ [] }
         ensures answer { IfOk result (λ told. outcome_in message.now told ≡ (signed_step true message.now now self.old).0) }
         ensures part { IfOk result (IsPart message.now self.old self.new) }
@@ -100,7 +104,11 @@ impl TurnClientProtocol {
     /// # Errors
     ///
     /// If memory allocation fails. Nothing changes then.
-    fn failed(&mut self, message: &Message<'_>, now: Instant) -> Result<TurnProtocolRecv, AllocError>
+    fn failed(
+        &mut self,
+        message: &Message<'_>,
+        now: Instant,
+    ) -> Result<TurnProtocolRecv, AllocError>
         requires { self.old.phase ≡ Phase.Authenticating → is_outstanding (id_of message.now) self.old.transactions ≡ true }
         ensures answer { IfOk result (λ told. outcome_in message.now told ≡ (signed_step false message.now now self.old).0) }
         ensures part { IfOk result (IsPart message.now self.old self.new) }

@@ -33,7 +33,10 @@ impl TurnClientProtocol {
         };
         match found.data_place(message.as_bytes()) {
             Some(place) => {
-                self.if_permitted(peer, TurnProtocolRecv::PeerData(self.ledger.transport(), peer, place))
+                self.if_permitted(
+                    peer,
+                    TurnProtocolRecv::PeerData(self.ledger.transport(), peer, place),
+                )
             }
             None => self.icmp_indicated(peer, &found.icmp(message.transaction_id())),
         }
@@ -45,7 +48,10 @@ impl TurnClientProtocol {
     {
         match icmp {
             Some(icmp) => {
-                self.if_permitted(peer, TurnProtocolRecv::PeerIcmp(self.ledger.transport(), peer, *icmp))
+                self.if_permitted(
+                    peer,
+                    TurnProtocolRecv::PeerIcmp(self.ledger.transport(), peer, *icmp),
+                )
             }
             None => TurnProtocolRecv::Ignored,
         }
@@ -60,7 +66,11 @@ impl TurnClientProtocol {
         ensures part { IsPart bytes.now self.now self.now result }
     {
         match self.ledger.table().channel_peer(frame.id()) {
-            Some(peer) => TurnProtocolRecv::PeerData(self.ledger.transport(), peer, 4..4 + frame.data().len()),
+            Some(peer) => TurnProtocolRecv::PeerData(
+                self.ledger.transport(),
+                peer,
+                4..4 + frame.data().len(),
+            ),
             None => TurnProtocolRecv::Ignored,
         }
     }

@@ -26,7 +26,11 @@ impl TurnClientProtocol {
     /// If memory allocation fails for an action that a message requires. Nothing changes then. A
     /// ChannelData message and a Data indication allocate no memory, nor does a message that requires
     /// no action.
-    pub(crate) fn control_frame(&mut self, frame: &[u8], now: Instant) -> Result<TurnProtocolRecv, AllocError>
+    pub(crate) fn control_frame(
+        &mut self,
+        frame: &[u8],
+        now: Instant,
+    ) -> Result<TurnProtocolRecv, AllocError>
         requires whole { frame_len frame.now ≡ Some (length frame.now) }
         requires before { self.old.phase ≡ Phase.Authenticating → self.old.grants ≡ [] }
         ensures answer { IfOk result (λ told. outcome_in frame.now told ≡ (control_frame_step frame.now now self.old).0) }
@@ -47,7 +51,11 @@ impl TurnClientProtocol {
     /// # Errors
     ///
     /// If memory allocation fails. Nothing changes then. A Data indication allocates none.
-    fn control_message(&mut self, frame: &[u8], now: Instant) -> Result<TurnProtocolRecv, AllocError>
+    fn control_message(
+        &mut self,
+        frame: &[u8],
+        now: Instant,
+    ) -> Result<TurnProtocolRecv, AllocError>
         requires begins { begins_message frame.now ≡ true }
         requires before { self.old.phase ≡ Phase.Authenticating → self.old.grants ≡ [] }
         ensures answer { IfOk result (λ told. outcome_in frame.now told ≡ (control_frame_step frame.now now self.old).0) }

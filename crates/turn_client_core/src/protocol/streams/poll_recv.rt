@@ -4,15 +4,16 @@ ghost use Rattle.std.specs.Prelude.{◌≡◌, All, [], find, length, option_map
 ghost use Rattle.turn_client_api.specs.Answers.{EndsAfterSteps, given_payload};
 ghost use Rattle.turn_client_laws.specs.LawsOrder.{IsUngranted};
 ghost use Rattle.turn_client_api.specs.Memory.{frame_takes_memory};
-ghost use Rattle.turn_client_api.specs.Streams.{HoldsLittle, broken_at, frame_step, framed_stream_step, is_ready, poll_recv_step, detached_frame_step, with_bytes};
+ghost use Rattle.turn_client_api.specs.Streams.{HoldsLittle, broken_at, frame_step, framed_stream_step, is_ready, poll_recv_step, detached_frame_step};
+ghost use Rattle.turn_client_api.specs.Streams.{with_bytes};
 ghost use Rattle.turn_client_core.specs.ProtocolRecv.{IsPart, outcome_in};
 ghost use Rattle.turn_client_core.specs.StreamSteps.{received_payload, owned_payload};
 ghost use Rattle.turn_client_streams.specs.Held.{taken_out};
 ghost use Rattle.turn_types.specs.Frames.{frame_len};
 
 use crate::protocol::TurnClientProtocol;
-use crate::received::Received;
 use crate::protocol_recv::TurnProtocolRecv;
+use crate::received::Received;
 use std::alloc::AllocError;
 use std::net::SocketAddr;
 use turn_client_api::{Mode, Phase, TurnPeerData};
@@ -173,7 +174,11 @@ impl TurnClientProtocol {
         match stream.mode() {
             Mode::Control => self.control_frame(frame, now),
             Mode::Waiting => self.waiting_frame(stream.local(), frame, now),
-            Mode::Bound(peer) => Ok(TurnProtocolRecv::PeerData(TransportType::Tcp, peer, 0..frame.len())),
+            Mode::Bound(peer) => Ok(TurnProtocolRecv::PeerData(
+                TransportType::Tcp,
+                peer,
+                0..frame.len(),
+            )),
             Mode::Broken => Ok(TurnProtocolRecv::Handled),
         }
     }

@@ -6,5 +6,6 @@ use Rattle.turn_client_grants.proofs.listings.remove_for.Goals as goal
 
 pub returns-clause-left : goal.returns-clause-left
 returns-clause-left c k =
-    rw (map_same_pairs _ (with_only (is_for_none (holds c.args.which.now) c.args.grants.now)) _ (λ q v b w f' t. search rules) c.args.by_id.now.entries c.retain.new.self.entries c.retain.ensures.filtered)
+    rw (map_same_pairs _ (with_only (is_for_none (holds c.args.which.now) c.args.grants.now)) _
+    (λ q v b w f' t. search rules) c.args.by_id.now.entries c.retain.new.self.entries c.retain.ensures.filtered)
     (lookup-map_values (with_only (is_for_none (holds c.args.which.now) c.args.grants.now)) (eqb k) c.args.by_id.now.entries)

@@ -12,10 +12,12 @@ use Rattle.turn_driver.proofs.driver.drive_client.Goals as goal
 use Rattle.turn_driver.proofs.driver.drive_client.Goals.{in-Some+in_ok-receive, in_default}
 
 -- the loop begins with the input
-begins : (came : Option (Transmit (Vec ℕ Global))) (now : ℕ) (was is : DriveState) (packet : Option (Transmit (List ℕ))) → packet_in came ≡ packet → is ≡ begun packet now was → is ≡ begun (packet_in came) now was
+begins : (came : Option (Transmit (Vec ℕ Global))) (now : ℕ) (was is : DriveState) (packet : Option (Transmit (List ℕ))) → packet_in came ≡ packet → is ≡ begun packet now was
+    → is ≡ begun (packet_in came) now was
 begins came now was is packet e told = told ∙ sym (ap (λ packet. begun packet now was) e)
 
-starts : (g : Over) (c : goal.After-draw g) → stands c.match-came.tasks.items Now (g.C.TurnClientApi.state c.match-came.client) ≡ begun (packet_in c.args.came) c.args.now (stands c.args.tasks.now.items Now (g.C.TurnClientApi.state c.args.client.now))
+starts : (g : Over) (c : goal.After-draw g) → stands c.match-came.tasks.items Now (g.C.TurnClientApi.state c.match-came.client) ≡ begun (packet_in c.args.came) c.args.now
+    (stands c.args.tasks.now.items Now (g.C.TurnClientApi.state c.args.client.now))
 starts g c =
     let state = g.C.TurnClientApi.state in
     elim c.match-came.branch [
@@ -33,9 +35,11 @@ pub returns-clause-whole : goal.returns-clause-whole
 returns-clause-whole g c =
     let state = g.C.TurnClientApi.state in
     whole-ok c.poll_tasks.result (packet_in c.args.came) c.args.most c.args.now _ c.poll_tasks.new.tasks.items (state c.poll_tasks.new.client)
-    (subst (λ (t : DriveState). IfOk c.poll_tasks.result (λ rest. stands c.poll_tasks.new.tasks.items rest (state c.poll_tasks.new.client) ≡ drive_steps c.args.most c.args.now t)) (starts g c) c.poll_tasks.ensures.ok)
+    (subst (λ (t : DriveState). IfOk c.poll_tasks.result (λ rest. stands c.poll_tasks.new.tasks.items rest (state c.poll_tasks.new.client) ≡ drive_steps c.args.most c.args.now t))
+    (starts g c) c.poll_tasks.ensures.ok)
 
 pub returns-clause-no_memory : goal.returns-clause-no_memory
 returns-clause-no_memory g c =
     let state = g.C.TurnClientApi.state in
-    on_err_weaker _ (λ draws. inr (subst (λ (t : DriveState). Draws c.args.most c.args.now t (stands c.poll_tasks.new.tasks.items Now (state c.poll_tasks.new.client))) (starts g c) draws)) c.poll_tasks.ensures.no_memory
+    on_err_weaker _ (λ draws. inr (subst (λ (t : DriveState). Draws c.args.most c.args.now t (stands c.poll_tasks.new.tasks.items Now (state c.poll_tasks.new.client)))
+    (starts g c) draws)) c.poll_tasks.ensures.no_memory

@@ -15,7 +15,8 @@ returns-in_err-answer_next g c =
     let now = g.C.TurnClientApi.state c.loop-number.client in
     let after = g.C.TurnClientApi.state c.answer_next.new.client in
     rw (p.1, p.2) (stops c.args.relays s now after c.loop-number.number (g.R.Read.remaining c.args.reader.now) (g.R.Read.remaining c.loop-number.reader) (g.R.Read.remaining c.answer_next.new.reader)
-    (g.W.Write.contents c.args.writer.now) (g.W.Write.contents c.loop-number.writer) (g.W.Write.contents c.answer_next.new.writer) c.in_err-answer_next.field-0.0 c.loop-number.invariant c.in_err-answer_next.ensures)
+    (g.W.Write.contents c.args.writer.now) (g.W.Write.contents c.loop-number.writer)
+    (g.W.Write.contents c.answer_next.new.writer) c.in_err-answer_next.field-0.0 c.loop-number.invariant c.in_err-answer_next.ensures)
 
 pub returns-then-not-branch : goal.returns-then-not-branch
 returns-then-not-branch g c =

@@ -26,7 +26,8 @@ pub returns-in_err-head : goal.returns-in_err-head
 returns-in_err-head g c =
     let p = err_from_is_err_and c.from_residual-in_err-head.result c.from_residual-in_err-head.ensures.1 in
     let unread = subst (λ (line : List ℕ). ReadsHead line (Err c.in_err-head.field-0.0)) c.as_slice.ensures.value c.in_err-head.ensures in
-    rw (p.1, p.2) (head_unread (g.R.Read.remaining c.args.reader.now) (g.R.Read.remaining c.take_line.new.reader) (g.W.Write.contents c.args.writer.now) c.in_ok-line.line.items c.in_ok-line.end c.in_err-head.field-0.0 c.in_ok-line.ensures unread)
+    rw (p.1, p.2) (head_unread (g.R.Read.remaining c.args.reader.now) (g.R.Read.remaining c.take_line.new.reader)
+    (g.W.Write.contents c.args.writer.now) c.in_ok-line.line.items c.in_ok-line.end c.in_err-head.field-0.0 c.in_ok-line.ensures unread)
 
 pub new_client-requires : goal.new_client-requires
 new_client-requires g c = record { allocation = head_is_made c.as_slice.result.now c.in_ok-head.head c.in_ok-head.ensures }
@@ -34,7 +35,8 @@ new_client-requires g c = record { allocation = head_is_made c.as_slice.result.n
 pub returns-in_err-client : goal.returns-in_err-client
 returns-in_err-client g c =
     let p = err_from_is_err_and c.from_residual-in_err-client.result c.from_residual-in_err-client.ensures.1 in
-    rw (p.1, p.2) (head_unheard (g.R.Read.remaining c.args.reader.now) (g.R.Read.remaining c.take_line.new.reader) (g.W.Write.contents c.args.writer.now) c.in_ok-line.line.items c.in_ok-line.end c.in_ok-line.ensures)
+    rw (p.1, p.2) (head_unheard (g.R.Read.remaining c.args.reader.now) (g.R.Read.remaining c.take_line.new.reader)
+    (g.W.Write.contents c.args.writer.now) c.in_ok-line.line.items c.in_ok-line.end c.in_ok-line.ensures)
 
 pub returns-in-Feed : goal.returns-in-Feed
 returns-in-Feed g c =
@@ -55,4 +57,5 @@ returns g c =
     let line = c.in_ok-line.line.items in
     let head = c.in_ok-head.head in
     let says = subst (λ (text : List ℕ). line_head text ≡ Ok head) c.as_slice.ensures.value c.in_ok-head.ensures in
-    head_alone (g.R.Read.remaining c.args.reader.now) (g.R.Read.remaining c.take_line.new.reader) (g.W.Write.contents c.args.writer.now) line c.in_ok-line.end head c.in_ok-line.ensures says (no_feed c.in_ok-line.end c.in-Input.is)
+    head_alone (g.R.Read.remaining c.args.reader.now) (g.R.Read.remaining c.take_line.new.reader) (g.W.Write.contents c.args.writer.now) line c.in_ok-line.end head c.in_ok-line.ensures says
+    (no_feed c.in_ok-line.end c.in-Input.is)

@@ -11,32 +11,38 @@ use Rattle.turn_client_core.proofs.protocol.TurnClientProtocol.answer_challenge.
 
 pub ask_again-requires-clause-asked : goal.ask_again-requires-clause-asked
 ask_again-requires-clause-asked c =
-    let found = c.retried.ensures ∙ ap retried (purposes-are (the_view c.self.inside) c.args.self.now c.args.message.now c.transaction_id.result c.table.result.now.listed (purposes_in c.purposes_of-purposes.result) c.purposes_of-purposes.ensures c.table.ensures.listed c.transaction_id.ensures c.self.view_is) in
+    let found = c.retried.ensures ∙ ap retried (purposes-are (the_view c.self.inside) c.args.self.now c.args.message.now c.transaction_id.result c.table.result.now.listed
+    (purposes_in c.purposes_of-purposes.result) c.purposes_of-purposes.ensures c.table.ensures.listed c.transaction_id.ensures c.self.view_is) in
     sym found ∙ c.in-Some.is
 
 pub returns-in_default-clause-answer : goal.returns-in_default-clause-answer
 returns-in_default-clause-answer c = λ challenge is.
-    let found = c.retried.ensures ∙ ap retried (purposes-are (the_view c.self.inside) c.args.self.now c.args.message.now c.transaction_id.result c.table.result.now.listed (purposes_in c.purposes_of-purposes.result) c.purposes_of-purposes.ensures c.table.ensures.listed c.transaction_id.ensures c.self.view_is) in
+    let found = c.retried.ensures ∙ ap retried (purposes-are (the_view c.self.inside) c.args.self.now c.args.message.now c.transaction_id.result c.table.result.now.listed
+    (purposes_in c.purposes_of-purposes.result) c.purposes_of-purposes.ensures c.table.ensures.listed c.transaction_id.ensures c.self.view_is) in
     sym (ap (λ p. p.0) (unknown-is c.args.self.now c.args.message.now challenge c.args.now c.requires.few (sym found ∙ c.in_default.is)))
 
 pub returns-in_default-clause-after : goal.returns-in_default-clause-after
 returns-in_default-clause-after c = λ challenge is.
-    let found = c.retried.ensures ∙ ap retried (purposes-are (the_view c.self.inside) c.args.self.now c.args.message.now c.transaction_id.result c.table.result.now.listed (purposes_in c.purposes_of-purposes.result) c.purposes_of-purposes.ensures c.table.ensures.listed c.transaction_id.ensures c.self.view_is) in
+    let found = c.retried.ensures ∙ ap retried (purposes-are (the_view c.self.inside) c.args.self.now c.args.message.now c.transaction_id.result c.table.result.now.listed
+    (purposes_in c.purposes_of-purposes.result) c.purposes_of-purposes.ensures c.table.ensures.listed c.transaction_id.ensures c.self.view_is) in
     sym (ap (λ p. p.1) (unknown-is c.args.self.now c.args.message.now challenge c.args.now c.requires.few (sym found ∙ c.in_default.is)))
 
 pub returns-clause-answer : goal.returns-clause-answer
 returns-clause-answer c = λ challenge is.
-    let found = c.retried.ensures ∙ ap retried (purposes-are (the_view c.self.inside) c.args.self.now c.args.message.now c.transaction_id.result c.table.result.now.listed (purposes_in c.purposes_of-purposes.result) c.purposes_of-purposes.ensures c.table.ensures.listed c.transaction_id.ensures c.self.view_is) in
+    let found = c.retried.ensures ∙ ap retried (purposes-are (the_view c.self.inside) c.args.self.now c.args.message.now c.transaction_id.result c.table.result.now.listed
+    (purposes_in c.purposes_of-purposes.result) c.purposes_of-purposes.ensures c.table.ensures.listed c.transaction_id.ensures c.self.view_is) in
     sym (ap (λ p. p.0) (answered-is c.args.self.now c.args.message.now challenge c.args.now c.in-Some.purpose c.requires.few (sym found ∙ c.in-Some.is)))
 
 pub returns-clause-after : goal.returns-clause-after
 returns-clause-after c = λ challenge is.
-    let found = c.retried.ensures ∙ ap retried (purposes-are (the_view c.self.inside) c.args.self.now c.args.message.now c.transaction_id.result c.table.result.now.listed (purposes_in c.purposes_of-purposes.result) c.purposes_of-purposes.ensures c.table.ensures.listed c.transaction_id.ensures c.self.view_is) in
+    let found = c.retried.ensures ∙ ap retried (purposes-are (the_view c.self.inside) c.args.self.now c.args.message.now c.transaction_id.result c.table.result.now.listed
+    (purposes_in c.purposes_of-purposes.result) c.purposes_of-purposes.ensures c.table.ensures.listed c.transaction_id.ensures c.self.view_is) in
     c.in_ok-ask_again.ensures.ok challenge is
     ∙ sym (ap (λ p. p.1) (answered-is c.args.self.now c.args.message.now challenge c.args.now c.in-Some.purpose c.requires.few (sym found ∙ c.in-Some.is)))
 
 pub returns-in_err-ask_again-clause-wanted : goal.returns-in_err-ask_again-clause-wanted
 returns-in_err-ask_again-clause-wanted c =
-    let found = c.retried.ensures ∙ ap retried (purposes-are (the_view c.self.inside) c.args.self.now c.args.message.now c.transaction_id.result c.table.result.now.listed (purposes_in c.purposes_of-purposes.result) c.purposes_of-purposes.ensures c.table.ensures.listed c.transaction_id.ensures c.self.view_is) in
+    let found = c.retried.ensures ∙ ap retried (purposes-are (the_view c.self.inside) c.args.self.now c.args.message.now c.transaction_id.result c.table.result.now.listed
+    (purposes_in c.purposes_of-purposes.result) c.purposes_of-purposes.ensures c.table.ensures.listed c.transaction_id.ensures c.self.view_is) in
     let some : IsSome (retried (purposes_of (id_of c.args.message.now) c.args.self.now)) = rw (sym found ∙ c.in-Some.is) refl in
     on-err _ some

@@ -44,8 +44,10 @@ returns-clause-ok c = λ challenge is.
     let t = taken s id given in
     let new = first_sent fresh s.remote now text in
     let own = sym (auth-is s c.self.inside.auth c.self.invariant.credentials c.self.invariant.supported c.self.invariant.anonymous refl) in
-    let other : (fresh == id) ≡ false = rw c.transaction_id-id.ensures (asked-other (id_of c.args.message.now) fresh c.args.self.now.listed purpose c.fresh_id-fresh.ensures.unlisted c.requires.asked) in
-    let same : given ≡ challenge = same_Some given challenge (sym c.in-Some.is ∙ (c.in_ok-challenge.ensures.exact ∙ (ap (λ auth. challenge_of auth c.args.message.now) (own ∙ ap auth_of c.self.view_is) ∙ is))) in
+    let other : (fresh == id) ≡ false = rw c.transaction_id-id.ensures (asked-other
+    (id_of c.args.message.now) fresh c.args.self.now.listed purpose c.fresh_id-fresh.ensures.unlisted c.requires.asked) in
+    let same : given ≡ challenge = same_Some given challenge (sym c.in-Some.is ∙ (c.in_ok-challenge.ensures.exact
+    ∙ (ap (λ auth. challenge_of auth c.args.message.now) (own ∙ ap auth_of c.self.view_is) ∙ is))) in
     let all : with_asked_families c.transport.result c.as_slice.result.now t ≡ t = rw (c.transport.ensures, c.as_slice.ensures) refl in
     let written : text ≡ request_for t purpose fresh = c.in_ok-text.ensures t (sym (ap (with_challenge given) own)) ∙ ap (λ u. request_for u purpose fresh) all in
     rw (c.accept.ensures.taken, c.after_challenge-self-inside.ensures)

@@ -33,7 +33,8 @@ ask-requires-2-clause-new_id c =
     let s = the_view c.self.inside in
     let fresh = c.fresh_id-fresh.result in
     let unlisted : list_any (λ l. l.id == fresh) s.listed ≡ false = ap (λ u. list_any (λ l. l.id == fresh) u.listed) c.self.view_is ∙ c.fresh_id-fresh.ensures.unlisted in
-    let listed = ap (λ u. u.listed) (c.push_event.ensures.state s ∙ ap (wait (AllocationCreateFailed IPV4 ∷ [])) (c.unlist_allocates.ensures.state s s.phase ∙ ap (in_phase s.phase) (c.reserve.ensures.same s))) in
+    let listed = ap (λ u. u.listed) (c.push_event.ensures.state s ∙ ap (wait (AllocationCreateFailed IPV4 ∷ [])) (c.unlist_allocates.ensures.state s s.phase
+    ∙ ap (in_phase s.phase) (c.reserve.ensures.same s))) in
     rw listed (none-filtered (λ l. l.id == fresh) (λ l. not (is_for_allocation l.purpose)) s.listed unlisted)
 
 pub returns-clause-ok : goal.returns-clause-ok
@@ -48,11 +49,14 @@ returns-clause-ok c =
     let u = wait (AllocationCreateFailed IPV4 ∷ []) (record (in_phase s.phase (transaction_ended id s)) { families = IPV6 ∷ [] }) in
     let new = first_sent fresh s.remote now text in
     let own = sym (auth-is s c.self.inside.auth c.self.invariant.credentials c.self.invariant.supported c.self.invariant.anonymous refl) in
-    let other : (fresh == id) ≡ false = rw c.transaction_id.ensures (answered-other (id_of c.args.message.now) fresh c.args.self.now.transactions c.fresh_id-fresh.ensures.unsent c.requires.outstanding) in
+    let other : (fresh == id) ≡ false = rw c.transaction_id.ensures (answered-other
+    (id_of c.args.message.now) fresh c.args.self.now.transactions c.fresh_id-fresh.ensures.unsent c.requires.outstanding) in
     let all : with_asked_families c.transport.result (IPV6 ∷ []) u ≡ u = rw c.transport.ensures refl in
     let written : text ≡ request_for u ForAllocation fresh = c.in_ok-text.ensures u (sym own) ∙ ap (λ w. request_for w ForAllocation fresh) all in
-    let told : with_ledger c.push_event.new.self v ≡ u = c.push_event.ensures.state v ∙ ap (wait (AllocationCreateFailed IPV4 ∷ [])) (c.unlist_allocates.ensures.state v v.phase ∙ ap (in_phase v.phase) (c.reserve.ensures.same v)) in
-    let more : record (with_ledger c.push_event.new.self v) { grants = c.push_event.new.self.grants ++ [] } ≡ u = ap (λ gs. record (with_ledger c.push_event.new.self v) { grants = gs }) (append-nil c.push_event.new.self.grants) ∙ told in
+    let told : with_ledger c.push_event.new.self v ≡ u = c.push_event.ensures.state v
+    ∙ ap (wait (AllocationCreateFailed IPV4 ∷ [])) (c.unlist_allocates.ensures.state v v.phase ∙ ap (in_phase v.phase) (c.reserve.ensures.same v)) in
+    let more : record (with_ledger c.push_event.new.self v) { grants = c.push_event.new.self.grants ++ [] } ≡ u = ap (λ gs. record (with_ledger c.push_event.new.self v) { grants = gs })
+    (append-nil c.push_event.new.self.grants) ∙ told in
     rw c.only_ipv6-families.ensures
     (ap (λ o. with_ledger c.ask-2.new.self (with_outbox o v)) (c.end.ensures ∙ ap (λ (o : Outgoing). record o { transactions = without_transaction id o.transactions }) c.in_ok-ask.ensures.ok)
     ∙ (ap (λ ts. queued true from text (with_ledger c.ask-2.new.self (record (id_used v) { transactions = ts }))) (without-other id new s.transactions other)

@@ -10,15 +10,18 @@ pub returns-then-is_authenticating-clause-answer : goal.returns-then-is_authenti
 returns-then-is_authenticating-clause-answer c = sym (ap (λ p. p.0) (denied-step c.args.message.now c.args.now c.args.self.now (sym c.is_authenticating.ensures ∙ c.if-is_authenticating.true)))
 
 pub returns-then-is_authenticating-clause-after : goal.returns-then-is_authenticating-clause-after
-returns-then-is_authenticating-clause-after c = c.in_ok-allocate_denied.ensures.ok ∙ sym (ap (λ p. p.1) (denied-step c.args.message.now c.args.now c.args.self.now (sym c.is_authenticating.ensures ∙ c.if-is_authenticating.true)))
+returns-then-is_authenticating-clause-after c = c.in_ok-allocate_denied.ensures.ok
+    ∙ sym (ap (λ p. p.1) (denied-step c.args.message.now c.args.now c.args.self.now (sym c.is_authenticating.ensures ∙ c.if-is_authenticating.true)))
 
 pub returns-clause-answer : goal.returns-clause-answer
 returns-clause-answer c =
-    subst (λ (p : Outcome × State). IfOk c.respond.result (λ told. outcome_in c.args.message.now told ≡ p.0)) (sym (other-step false c.args.message.now c.args.now c.args.self.now (sym c.is_authenticating.ensures ∙ c.if-is_authenticating.false))) c.respond.ensures.answer
+    subst (λ (p : Outcome × State). IfOk c.respond.result (λ told. outcome_in c.args.message.now told ≡ p.0))
+    (sym (other-step false c.args.message.now c.args.now c.args.self.now (sym c.is_authenticating.ensures ∙ c.if-is_authenticating.false))) c.respond.ensures.answer
 
 pub returns-clause-after : goal.returns-clause-after
 returns-clause-after c =
-    subst (λ (p : Outcome × State). OnOk c.respond.result (c.respond.new.self ≡ p.1)) (sym (other-step false c.args.message.now c.args.now c.args.self.now (sym c.is_authenticating.ensures ∙ c.if-is_authenticating.false))) c.respond.ensures.after
+    subst (λ (p : Outcome × State). OnOk c.respond.result (c.respond.new.self ≡ p.1))
+    (sym (other-step false c.args.message.now c.args.now c.args.self.now (sym c.is_authenticating.ensures ∙ c.if-is_authenticating.false))) c.respond.ensures.after
 
 pub allocate_denied-requires-clause-phase : goal.allocate_denied-requires-clause-phase
 allocate_denied-requires-clause-phase c = authenticating-is c.args.self.now.phase (sym c.is_authenticating.ensures ∙ c.if-is_authenticating.true)

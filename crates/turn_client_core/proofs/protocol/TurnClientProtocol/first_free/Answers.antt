@@ -8,5 +8,11 @@ loop-turn-preserved c =
     let taken = c.if-not-is_taken.false in
     record {
       counted = rw (c.successor-id.ensures, c.loop-turn.invariant.counted) (counted-on c.args.first c.loop-turn._turn);
-      found = rw (← c.loop-turn.invariant.found, find-counted (λ id. not (is_taken id c.args.self.now)) (λ n. (c.args.first + n) % 2 ^ 96) c.loop-turn._turn c.args.count c.loop-turn-test.true, ← c.loop-turn.invariant.counted, ← c.is_taken.ensures, taken) refl;
+      found = rw (
+        ← c.loop-turn.invariant.found,
+        find-counted (λ id. not (is_taken id c.args.self.now)) (λ n. (c.args.first + n) % 2 ^ 96) c.loop-turn._turn c.args.count c.loop-turn-test.true,
+        ← c.loop-turn.invariant.counted,
+        ← c.is_taken.ensures,
+        taken,
+      ) refl;
     }

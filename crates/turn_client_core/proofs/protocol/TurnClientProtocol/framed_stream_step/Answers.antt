@@ -12,5 +12,11 @@ returns-in_default-clause-after c =
 
 pub returns-clause-after : goal.returns-clause-after
 returns-clause-after c =
-    rw (c.put-2.ensures, c.pass.ensures, framed-some c.args.stream c.in-Some.frame.now c.args.now c.args.self.now (sym c.is_stuck.ensures ∙ c.if-is_stuck.false) (rw c.in-Some.is at c.front.ensures.exact), ← c.in_ok-told.ensures.after)
+    rw (
+      c.put-2.ensures,
+      c.pass.ensures,
+      framed-some c.args.stream c.in-Some.frame.now c.args.now c.args.self.now (sym c.is_stuck.ensures ∙ c.if-is_stuck.false)
+          (rw c.in-Some.is at c.front.ensures.exact),
+      ← c.in_ok-told.ensures.after,
+    )
     refl

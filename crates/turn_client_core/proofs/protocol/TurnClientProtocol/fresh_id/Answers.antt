@@ -17,7 +17,8 @@ few c =
 is : (c : goal.After-unwrap_or) → c.unwrap_or.result ≡ fresh_id c.args.self.now
 is c = found ∙ fresh-is c.args.self.now (few c)
   where
-    found : c.unwrap_or.result ≡ unwrap_or (find (λ id. not (is_taken id c.args.self.now)) (map (λ n. (next_id c.args.self.now.ids + n) % 2 ^ 96) (range_with_len 0 (max_ids_taken c.args.self.now + 1)))) (next_id c.args.self.now.ids)
+    found : c.unwrap_or.result ≡ unwrap_or (find (λ id. not (is_taken id c.args.self.now))
+        (map (λ n. (next_id c.args.self.now.ids + n) % 2 ^ 96) (range_with_len 0 (max_ids_taken c.args.self.now + 1)))) (next_id c.args.self.now.ids)
     found = search rules
 
 pub returns-clause-id : goal.returns-clause-id

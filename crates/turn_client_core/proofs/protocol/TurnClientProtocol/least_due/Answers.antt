@@ -8,4 +8,5 @@ returns c =
     let s = the_view c.self.inside in
     rw (← c.self.view_is)
     (c.soonest.ensures s
-    ∙ rw (c.table.ensures.grants, c.table.ensures.listed, c.earliest-second.ensures, c.self.invariant.times, rw (← c.self.view_is) at c.first_due-first.ensures, c.pause_end-pause.ensures) (least_due-is c.args.now s))
+    ∙ rw (c.table.ensures.grants, c.table.ensures.listed, c.earliest-second.ensures, c.self.invariant.times, rw (← c.self.view_is) at c.first_due-first.ensures, c.pause_end-pause.ensures)
+    (least_due-is c.args.now s))

@@ -2,7 +2,8 @@ use Rattle.std.proofs.Common.{◌≡◌, ◌∙◌, refl, sym, true}
 use Rattle.turn_client_laws.proofs.ChallengeJudgement.{Challenged-is}
 use Rattle.turn_client_api.specs.Judgement.{judgement_of}
 use Rattle.turn_client_api.specs.Memory.{message_takes_memory}
-use Rattle.turn_client_core.specs.declared.protocol.incoming.judge.Judged.TheVariants.{Unrelated, Challenged, Fatal, LateResponse, DataIndication, ConnectionAttempt, SignedRequest, SignedSuccess, SignedError}
+use Rattle.turn_client_core.specs.declared.protocol.incoming.judge.Judged.TheVariants.{Unrelated, Challenged, Fatal, LateResponse, DataIndication, ConnectionAttempt, SignedRequest, SignedSuccess}
+use Rattle.turn_client_core.specs.declared.protocol.incoming.judge.Judged.TheVariants.{SignedError}
 use Rattle.turn_client_core.proofs.JudgedLemmas.{challenged-is, data-judged, error-answers, judged-is, request-signs}
 use Rattle.turn_client_core.proofs.ResultLemmas.{on-err}
 use Rattle.turn_client_core.proofs.protocol.TurnClientProtocol.message.Goals as goal
@@ -41,28 +42,35 @@ pub returns-in-Fatal-clause-after : goal.returns-in-Fatal-clause-after
 returns-in-Fatal-clause-after c = rw (judged-is (judgement_of c.args.self.now c.args.message.now) Fatal (sym c.judge-judged.ensures ∙ c.in-Fatal.is) tt) c.fatal.ensures.after
 
 pub returns-in-DataIndication-clause-answer : goal.returns-in-DataIndication-clause-answer
-returns-in-DataIndication-clause-answer c = rw (judged-is (judgement_of c.args.self.now c.args.message.now) DataIndication (sym c.judge-judged.ensures ∙ c.in-DataIndication.is) tt) c.data_indicated.ensures.outcome
+returns-in-DataIndication-clause-answer c = rw (judged-is (judgement_of c.args.self.now c.args.message.now) DataIndication (sym c.judge-judged.ensures
+    ∙ c.in-DataIndication.is) tt) c.data_indicated.ensures.outcome
 
 pub returns-in-DataIndication-clause-after : goal.returns-in-DataIndication-clause-after
 returns-in-DataIndication-clause-after c = rw (judged-is (judgement_of c.args.self.now c.args.message.now) DataIndication (sym c.judge-judged.ensures ∙ c.in-DataIndication.is) tt) refl
 
 pub returns-in-ConnectionAttempt-clause-answer : goal.returns-in-ConnectionAttempt-clause-answer
-returns-in-ConnectionAttempt-clause-answer c = rw (judged-is (judgement_of c.args.self.now c.args.message.now) ConnectionAttempt (sym c.judge-judged.ensures ∙ c.in-ConnectionAttempt.is) tt) c.attempt_indicated.ensures.answer
+returns-in-ConnectionAttempt-clause-answer c = rw (judged-is (judgement_of c.args.self.now c.args.message.now) ConnectionAttempt (sym c.judge-judged.ensures
+    ∙ c.in-ConnectionAttempt.is) tt) c.attempt_indicated.ensures.answer
 
 pub returns-in-ConnectionAttempt-clause-after : goal.returns-in-ConnectionAttempt-clause-after
-returns-in-ConnectionAttempt-clause-after c = rw (judged-is (judgement_of c.args.self.now c.args.message.now) ConnectionAttempt (sym c.judge-judged.ensures ∙ c.in-ConnectionAttempt.is) tt) c.attempt_indicated.ensures.after
+returns-in-ConnectionAttempt-clause-after c = rw (judged-is (judgement_of c.args.self.now c.args.message.now) ConnectionAttempt (sym c.judge-judged.ensures
+    ∙ c.in-ConnectionAttempt.is) tt) c.attempt_indicated.ensures.after
 
 pub returns-in-SignedRequest-clause-answer : goal.returns-in-SignedRequest-clause-answer
-returns-in-SignedRequest-clause-answer c = rw (judged-is (judgement_of c.args.self.now c.args.message.now) SignedRequest (sym c.judge-judged.ensures ∙ c.in-SignedRequest.is) tt) c.requested.ensures.answer
+returns-in-SignedRequest-clause-answer c = rw (judged-is (judgement_of c.args.self.now c.args.message.now) SignedRequest (sym c.judge-judged.ensures
+    ∙ c.in-SignedRequest.is) tt) c.requested.ensures.answer
 
 pub returns-in-SignedRequest-clause-after : goal.returns-in-SignedRequest-clause-after
-returns-in-SignedRequest-clause-after c = rw (judged-is (judgement_of c.args.self.now c.args.message.now) SignedRequest (sym c.judge-judged.ensures ∙ c.in-SignedRequest.is) tt) c.requested.ensures.after
+returns-in-SignedRequest-clause-after c = rw (judged-is (judgement_of c.args.self.now c.args.message.now) SignedRequest (sym c.judge-judged.ensures
+    ∙ c.in-SignedRequest.is) tt) c.requested.ensures.after
 
 pub returns-in-SignedSuccess-clause-answer : goal.returns-in-SignedSuccess-clause-answer
-returns-in-SignedSuccess-clause-answer c = rw (judged-is (judgement_of c.args.self.now c.args.message.now) SignedSuccess (sym c.judge-judged.ensures ∙ c.in-SignedSuccess.is) tt) c.succeeded.ensures.answer
+returns-in-SignedSuccess-clause-answer c = rw (judged-is (judgement_of c.args.self.now c.args.message.now) SignedSuccess (sym c.judge-judged.ensures
+    ∙ c.in-SignedSuccess.is) tt) c.succeeded.ensures.answer
 
 pub returns-in-SignedSuccess-clause-after : goal.returns-in-SignedSuccess-clause-after
-returns-in-SignedSuccess-clause-after c = rw (judged-is (judgement_of c.args.self.now c.args.message.now) SignedSuccess (sym c.judge-judged.ensures ∙ c.in-SignedSuccess.is) tt) c.succeeded.ensures.after
+returns-in-SignedSuccess-clause-after c = rw (judged-is (judgement_of c.args.self.now c.args.message.now) SignedSuccess (sym c.judge-judged.ensures
+    ∙ c.in-SignedSuccess.is) tt) c.succeeded.ensures.after
 
 pub returns-in-SignedError-clause-answer : goal.returns-in-SignedError-clause-answer
 returns-in-SignedError-clause-answer c = rw (judged-is (judgement_of c.args.self.now c.args.message.now) SignedError (sym c.judge-judged.ensures ∙ c.in-SignedError.is) tt) c.failed.ensures.answer
@@ -71,7 +79,8 @@ pub returns-in-SignedError-clause-after : goal.returns-in-SignedError-clause-aft
 returns-in-SignedError-clause-after c = rw (judged-is (judgement_of c.args.self.now c.args.message.now) SignedError (sym c.judge-judged.ensures ∙ c.in-SignedError.is) tt) c.failed.ensures.after
 
 pub requested-requires : goal.requested-requires
-requested-requires c = request-signs c.args.self.now c.args.message.now (judged-is (judgement_of c.args.self.now c.args.message.now) SignedRequest (sym c.judge-judged.ensures ∙ c.in-SignedRequest.is) tt)
+requested-requires c = request-signs c.args.self.now c.args.message.now (judged-is (judgement_of c.args.self.now c.args.message.now) SignedRequest (sym c.judge-judged.ensures
+    ∙ c.in-SignedRequest.is) tt)
 
 pub failed-requires : goal.failed-requires
 failed-requires c = error-answers c.args.self.now c.args.message.now (judged-is (judgement_of c.args.self.now c.args.message.now) SignedError (sym c.judge-judged.ensures ∙ c.in-SignedError.is) tt)
@@ -100,22 +109,27 @@ returns-in-Challenged-clause-wanted c =
     rw is c.challenged.ensures.wanted
 
 pub returns-in-ConnectionAttempt-clause-wanted : goal.returns-in-ConnectionAttempt-clause-wanted
-returns-in-ConnectionAttempt-clause-wanted c = rw (judged-is (judgement_of c.args.self.now c.args.message.now) ConnectionAttempt (sym c.judge-judged.ensures ∙ c.in-ConnectionAttempt.is) tt) c.attempt_indicated.ensures.wanted
+returns-in-ConnectionAttempt-clause-wanted c = rw (judged-is (judgement_of c.args.self.now c.args.message.now) ConnectionAttempt (sym c.judge-judged.ensures
+    ∙ c.in-ConnectionAttempt.is) tt) c.attempt_indicated.ensures.wanted
 
 pub returns-in-SignedRequest-clause-wanted : goal.returns-in-SignedRequest-clause-wanted
-returns-in-SignedRequest-clause-wanted c = rw (judged-is (judgement_of c.args.self.now c.args.message.now) SignedRequest (sym c.judge-judged.ensures ∙ c.in-SignedRequest.is) tt) c.requested.ensures.wanted
+returns-in-SignedRequest-clause-wanted c = rw (judged-is (judgement_of c.args.self.now c.args.message.now) SignedRequest (sym c.judge-judged.ensures
+    ∙ c.in-SignedRequest.is) tt) c.requested.ensures.wanted
 
 pub returns-in-Fatal-clause-wanted : goal.returns-in-Fatal-clause-wanted
 returns-in-Fatal-clause-wanted c =
-    let takes : message_takes_memory c.args.message.now c.args.self.now ≡ true = rw (judged-is (judgement_of c.args.self.now c.args.message.now) Fatal (sym c.judge-judged.ensures ∙ c.in-Fatal.is) tt) refl in
+    let takes : message_takes_memory c.args.message.now c.args.self.now ≡ true = rw
+    (judged-is (judgement_of c.args.self.now c.args.message.now) Fatal (sym c.judge-judged.ensures ∙ c.in-Fatal.is) tt) refl in
     on-err _ takes
 
 pub returns-in-SignedSuccess-clause-wanted : goal.returns-in-SignedSuccess-clause-wanted
 returns-in-SignedSuccess-clause-wanted c =
-    let takes : message_takes_memory c.args.message.now c.args.self.now ≡ true = rw (judged-is (judgement_of c.args.self.now c.args.message.now) SignedSuccess (sym c.judge-judged.ensures ∙ c.in-SignedSuccess.is) tt) refl in
+    let takes : message_takes_memory c.args.message.now c.args.self.now ≡ true = rw
+    (judged-is (judgement_of c.args.self.now c.args.message.now) SignedSuccess (sym c.judge-judged.ensures ∙ c.in-SignedSuccess.is) tt) refl in
     on-err _ takes
 
 pub returns-in-SignedError-clause-wanted : goal.returns-in-SignedError-clause-wanted
 returns-in-SignedError-clause-wanted c =
-    let takes : message_takes_memory c.args.message.now c.args.self.now ≡ true = rw (judged-is (judgement_of c.args.self.now c.args.message.now) SignedError (sym c.judge-judged.ensures ∙ c.in-SignedError.is) tt) refl in
+    let takes : message_takes_memory c.args.message.now c.args.self.now ≡ true = rw
+    (judged-is (judgement_of c.args.self.now c.args.message.now) SignedError (sym c.judge-judged.ensures ∙ c.in-SignedError.is) tt) refl in
     on-err _ takes

@@ -72,4 +72,5 @@ returns-clause-answer c =
 
 pub returns-clause-after : goal.returns-clause-after
 returns-clause-after c =
-    c.take_ready.ensures.after ∙ (ap (λ o. taken_out o c.loop-stream.self) c.in_default.is ∙ sym (ap (λ p. p.1) (rests-none c.args.now c.args.self.now c.loop-stream.self (sym c.take_ready.ensures.stream ∙ c.in_default.is) c.loop-stream.invariant.rests)))
+    c.take_ready.ensures.after ∙ (ap (λ o. taken_out o c.loop-stream.self) c.in_default.is
+    ∙ sym (ap (λ p. p.1) (rests-none c.args.now c.args.self.now c.loop-stream.self (sym c.take_ready.ensures.stream ∙ c.in_default.is) c.loop-stream.invariant.rests)))

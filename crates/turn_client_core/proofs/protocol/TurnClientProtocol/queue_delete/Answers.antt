@@ -27,7 +27,8 @@ returns-clause-ok c =
     let from = c.local_addr-from.result in
     let text = c.in_ok-text.text in
     ap (λ o. with_ledger c.queue_delete.new.self (with_outbox o s)) c.in_ok-ask.ensures.ok
-    ∙ (asked-is s c.reserve.new.self c.queue_delete.new.self id from text (all_back (with_ledger c.reserve.new.self s)) c.args.now (expired_now c.args.now) (c.reserve.ensures.same s) (c.queue_delete.ensures.state s text)
+    ∙ (asked-is s c.reserve.new.self c.queue_delete.new.self id from text (all_back (with_ledger c.reserve.new.self s)) c.args.now (expired_now c.args.now) (c.reserve.ensures.same s)
+    (c.queue_delete.ensures.state s text)
     ∙ (ap (λ t. queued true from text (request_started id text (all_back t) c.args.now (expired_now c.args.now s))) (c.reserve.ensures.same s)
     ∙ (deletes-is s id from text c.args.now
     (c.in_ok-text.ensures ∙ ap delete_text (sym c.self.view_is))

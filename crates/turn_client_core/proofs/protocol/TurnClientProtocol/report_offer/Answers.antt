@@ -8,4 +8,5 @@ pub returns : goal.returns
 returns c =
     let s = the_view c.self.inside in
     rw (c.transport.ensures, c.local_addr.ensures, c.remote_addr.ensures, ← c.self.view_is)
-    (ap (λ (t : State). (Do.AllocateTcpSocket c.args.offer.now.connection_id (record { transport = s.transport; from = s.local; to = s.remote }) c.args.offer.now.peer, t)) (c.offer_reported.ensures.state s))
+    (ap (λ (t : State). (Do.AllocateTcpSocket c.args.offer.now.connection_id (record { transport = s.transport; from = s.local; to = s.remote }) c.args.offer.now.peer, t))
+    (c.offer_reported.ensures.state s))

@@ -19,14 +19,16 @@ pub returns-clause-answer : goal.returns-clause-answer
 returns-clause-answer c =
     let read = c.answered-purposes.ensures
     ∙ (ap (λ n. filter (is_answered n) (purposes_in c.purposes_of.result)) c.method.ensures
-    ∙ ap (filter (is_answered (method_in c.args.message.now))) (purposes-are (the_view c.self.inside) c.args.self.now c.args.message.now c.transaction_id-id.result c.table.result.now.listed (purposes_in c.purposes_of.result) c.purposes_of.ensures c.table.ensures.listed c.transaction_id-id.ensures c.self.view_is)) in
+    ∙ ap (filter (is_answered (method_in c.args.message.now))) (purposes-are (the_view c.self.inside) c.args.self.now c.args.message.now c.transaction_id-id.result c.table.result.now.listed
+    (purposes_in c.purposes_of.result) c.purposes_of.ensures c.table.ensures.listed c.transaction_id-id.ensures c.self.view_is)) in
     c.told_of.ensures.outcome ∙ ap (outcome_for c.args.message.now) read
 
 pub returns-clause-after : goal.returns-clause-after
 returns-clause-after c =
     let read = c.answered-purposes.ensures
     ∙ (ap (λ n. filter (is_answered n) (purposes_in c.purposes_of.result)) c.method.ensures
-    ∙ ap (filter (is_answered (method_in c.args.message.now))) (purposes-are (the_view c.self.inside) c.args.self.now c.args.message.now c.transaction_id-id.result c.table.result.now.listed (purposes_in c.purposes_of.result) c.purposes_of.ensures c.table.ensures.listed c.transaction_id-id.ensures c.self.view_is)) in
+    ∙ ap (filter (is_answered (method_in c.args.message.now))) (purposes-are (the_view c.self.inside) c.args.self.now c.args.message.now c.transaction_id-id.result c.table.result.now.listed
+    (purposes_in c.purposes_of.result) c.purposes_of.ensures c.table.ensures.listed c.transaction_id-id.ensures c.self.view_is)) in
     let s = the_view c.self.inside in
     let id = c.transaction_id-id.result in
     let m = c.args.message.now in

@@ -21,4 +21,5 @@ pub returns-clause-step : goal.returns-clause-step
 returns-clause-step c =
     let s = the_view c.self.inside in
     rw (c.note_sent.ensures, c.draw.ensures, c.in_ok-packet.ensures.ok, c.in_ok-packet.ensures.packet, c.local_addr-from.ensures, ← c.self.view_is)
-    (sends-is s c.reserve.new.self c.ask.new.self c.args.id c.args.text c.args.purpose.now c.args.now (c.reserve.ensures.same s) (rw c.one.ensures at c.ask.ensures.state s c.args.text c.args.now) (c.requires.fresh ∙ ap fresh_id (sym c.self.view_is)))
+    (sends-is s c.reserve.new.self c.ask.new.self c.args.id c.args.text c.args.purpose.now c.args.now (c.reserve.ensures.same s) (rw c.one.ensures at c.ask.ensures.state s c.args.text c.args.now)
+    (c.requires.fresh ∙ ap fresh_id (sym c.self.view_is)))

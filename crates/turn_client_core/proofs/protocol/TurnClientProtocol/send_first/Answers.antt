@@ -29,5 +29,6 @@ returns-clause-step c =
     let text = first-text-is s c.transport.result c.as_slice.result.now id c.in_ok-text.text c.transport.ensures c.as_slice.ensures fresh (c.in_ok-text.ensures s) in
     rw (c.note_sent.ensures, c.draw.ensures, c.in_ok-packet.ensures.ok, c.in_ok-packet.ensures.packet, c.local_addr-from.ensures, ← c.self.view_is)
     (ap (λ (r : Packet × State). (r.0, record r.1 { phase = Requesting }))
-    (sends-is s c.reserve.new.self c.ask.new.self id c.in_ok-text.text ForAllocation c.args.now (c.reserve.ensures.same s) (rw c.one.ensures at c.ask.ensures.state s c.in_ok-text.text c.args.now) fresh)
+    (sends-is s c.reserve.new.self c.ask.new.self id c.in_ok-text.text ForAllocation c.args.now (c.reserve.ensures.same s)
+    (rw c.one.ensures at c.ask.ensures.state s c.in_ok-text.text c.args.now) fresh)
     ∙ ap (λ (t : List ℕ). sent_at_once t ForAllocation c.args.now (record s { phase = Requesting })) text)

@@ -66,4 +66,5 @@ returns-clause-free g c = λ free. by (free-either c.args.transmit.to (g.T.AsSli
     by (inl bound) = c.process_piece.ensures.free (free-bound piece c.in-Some.stream bound) (free-waits piece c.in-Some.stream bound)
     by (inr frame) =
         let out : c.take_at.new.self ≡ with_bytes c.in-Some.stream.local [] c.args.self.now = c.take_at.ensures.after ∙ ap (λ o. taken_out o c.args.self.now) c.in-Some.is in
-        c.process_piece.ensures.free_frame (subst (λ (t : State). is_free_frame piece t c.in-Some.stream ≡ true) (sym out) (free-out piece c.args.self.now c.in-Some.stream c.in-Some.stream.local frame))
+        c.process_piece.ensures.free_frame (subst (λ (t : State). is_free_frame piece t c.in-Some.stream ≡ true) (sym out)
+        (free-out piece c.args.self.now c.in-Some.stream c.in-Some.stream.local frame))

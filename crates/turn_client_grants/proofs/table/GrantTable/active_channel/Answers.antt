@@ -14,15 +14,20 @@ use Rattle.turn_client_grants.proofs.table.GrantTable.active_channel.Goals as go
 
 pub returns-in-Some-clause-found : goal.returns-in-Some-clause-found
 returns-in-Some-clause-found c = λ s.
-    c.active_in.ensures ∙ (sym (first-found (active_channel c.args.peer) (hash.get key_eq c.self.inside.found) c.self.inside.grants.items (By.Peer c.args.peer) c.self.invariant.found (other-active c.args.peer) ∙ ap (option_and_then (active_channel c.args.peer)) (sym c.in-Some.ensures.value)) ∙ ap (λ (t : Table). first_among (active_channel c.args.peer) t.grants) c.self.view_is)
+    c.active_in.ensures ∙ (sym (first-found (active_channel c.args.peer) (hash.get key_eq c.self.inside.found) c.self.inside.grants.items (By.Peer c.args.peer) c.self.invariant.found
+    (other-active c.args.peer) ∙ ap (option_and_then (active_channel c.args.peer)) (sym c.in-Some.ensures.value))
+    ∙ ap (λ (t : Table). first_among (active_channel c.args.peer) t.grants) c.self.view_is)
 
 pub returns-in-None-clause-found : goal.returns-in-None-clause-found
 returns-in-None-clause-found c = λ s.
-    sym (first-found (active_channel c.args.peer) (hash.get key_eq c.self.inside.found) c.self.inside.grants.items (By.Peer c.args.peer) c.self.invariant.found (other-active c.args.peer) ∙ ap (option_and_then (active_channel c.args.peer)) (sym c.in-None.ensures.value)) ∙ ap (λ (t : Table). first_among (active_channel c.args.peer) t.grants) c.self.view_is
+    sym (first-found (active_channel c.args.peer) (hash.get key_eq c.self.inside.found) c.self.inside.grants.items (By.Peer c.args.peer) c.self.invariant.found (other-active c.args.peer)
+    ∙ ap (option_and_then (active_channel c.args.peer)) (sym c.in-None.ensures.value)) ∙ ap (λ (t : Table). first_among (active_channel c.args.peer) t.grants) c.self.view_is
 
 pub returns-in-Some-clause-numbered : goal.returns-in-Some-clause-numbered
 returns-in-Some-clause-numbered c =
-    rw (c.active_in.ensures ∙ sym (first-found (active_channel c.args.peer) (hash.get key_eq c.self.inside.found) c.self.inside.grants.items (By.Peer c.args.peer) c.self.invariant.found (other-active c.args.peer) ∙ ap (option_and_then (active_channel c.args.peer)) (sym c.in-Some.ensures.value))) (active-numbered c.args.peer c.self.inside.grants.items c.self.invariant.table.numbers)
+    rw (c.active_in.ensures ∙ sym (first-found (active_channel c.args.peer) (hash.get key_eq c.self.inside.found) c.self.inside.grants.items (By.Peer c.args.peer) c.self.invariant.found
+    (other-active c.args.peer) ∙ ap (option_and_then (active_channel c.args.peer)) (sym c.in-Some.ensures.value)))
+    (active-numbered c.args.peer c.self.inside.grants.items c.self.invariant.table.numbers)
 
 pub returns-then-len-le-FEW-clause-numbered : goal.returns-then-len-le-FEW-clause-numbered
 returns-then-len-le-FEW-clause-numbered c =

@@ -10,4 +10,10 @@ invariant_of-self-2 c =
 
 pub returns-clause-ok : goal.returns-clause-ok
 returns-clause-ok c = λ s.
-    rw (c.push_reserved.ensures.items, c.new.ensures, filter_same _ (λ x. not (is_at c.args.local x)) _ (λ x b f' k. search rules) _ _ c.retain.ensures.filtered, c.in_ok-reserve.ensures.items, ← c.self.view_is) refl
+    rw (
+      c.push_reserved.ensures.items,
+      c.new.ensures,
+      filter_same _ (λ x. not (is_at c.args.local x)) _ (λ x b f' k. search rules) _ _ c.retain.ensures.filtered,
+      c.in_ok-reserve.ensures.items,
+      ← c.self.view_is,
+    ) refl

@@ -23,4 +23,5 @@ returns-in-Some c = λ s.
 pub returns-in_default : goal.returns-in_default
 returns-in_default c = λ s.
     rw (← c.self.view_is)
-    (ap (λ xs. with_streams xs s) (sym (none-local c.args.stream.local (with_content c.args.stream.bytes) c.self.inside.list.items (rw (c.as_slice.ensures.value, c.local.ensures) at (sym c.place_at.ensures ∙ c.in_default.is)))))
+    (ap (λ xs. with_streams xs s) (sym (none-local c.args.stream.local (with_content c.args.stream.bytes) c.self.inside.list.items
+    (rw (c.as_slice.ensures.value, c.local.ensures) at (sym c.place_at.ensures ∙ c.in_default.is)))))
