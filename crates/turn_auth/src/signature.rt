@@ -44,7 +44,8 @@ pub(crate) fn sign(
     requires room { length message.old + signature_len_by (Some credentials.now) (Some challenge.now) anonymous (class_of (type_of message.old)) ≤ 65552 }
     ensures text { OnOk result (message.new ≡ signed_by (Some credentials.now) (Some challenge.now) anonymous message.old) }
     ensures holds { OnOk result (IntegrityHolds message.new challenge.now.algorithm (held_key credentials.now challenge.now)) }
-    ensures len { OnOk result (length message.new ≡ length message.old + signature_len_by (Some credentials.now) (Some challenge.now) anonymous (class_of (type_of message.old))) }
+    ensures len { OnOk result (length message.new
+        ≡ length message.old + signature_len_by (Some credentials.now) (Some challenge.now) anonymous (class_of (type_of message.old))) }
     ensures same_type { OnOk result (type_of message.new ≡ type_of message.old) }
     ensures same_id { OnOk result (id_of message.new ≡ id_of message.old) }
     ensures err { OnErr result (message.new ≡ message.old) }
@@ -72,7 +73,8 @@ fn add_signature(
     requires room { length message.old + signature_len_by (Some credentials.now) (Some challenge.now) anonymous (class_of (type_of message.old)) ≤ 65552 }
     ensures text { OnOk result (message.new ≡ signed_by (Some credentials.now) (Some challenge.now) anonymous message.old) }
     ensures holds { OnOk result (IntegrityHolds message.new challenge.now.algorithm (held_key credentials.now challenge.now)) }
-    ensures len { OnOk result (length message.new ≡ length message.old + signature_len_by (Some credentials.now) (Some challenge.now) anonymous (class_of (type_of message.old))) }
+    ensures len { OnOk result (length message.new
+        ≡ length message.old + signature_len_by (Some credentials.now) (Some challenge.now) anonymous (class_of (type_of message.old))) }
     ensures same_type { OnOk result (type_of message.new ≡ type_of message.old) }
     ensures same_id { OnOk result (id_of message.new ≡ id_of message.old) }
     ensures kept { Extends message.old message.new }
@@ -232,7 +234,8 @@ pub(crate) fn add<A: AttributeWrite>(
     requires room { length message.old + written_len (A.encoded attribute.now (id_of message.old)) ≤ 65552 }
     ensures text { OnOk result (message.new ≡ with_attribute (A.written_kind attribute.now) (A.encoded attribute.now (id_of message.old)) message.old) }
     ensures added { OnOk result (AddsAttribute message.old message.new (A.written_kind attribute.now) (A.encoded attribute.now (id_of message.old))) }
-    ensures plain { OnOk result (is_plain (A.written_kind attribute.now) ≡ true → is_unsigned (attributes_of message.old) ≡ true → is_unsigned (attributes_of message.new) ≡ true) }
+    ensures plain { OnOk result (is_plain (A.written_kind attribute.now) ≡ true → is_unsigned (attributes_of message.old) ≡ true
+        → is_unsigned (attributes_of message.new) ≡ true) }
     ensures len { OnOk result (length message.new ≡ length message.old + written_len (A.encoded attribute.now (id_of message.old))) }
     ensures kept { Extends message.old message.new }
 {

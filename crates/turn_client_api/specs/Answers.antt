@@ -75,7 +75,8 @@ event_step s = (slice_get s.events 0, record s { events = drop 1 s.events })
 -- ---- data for a peer
 
 -- the packet that is built later is the one that the machine sends
-abbrev pub IsSent : {T : Type 0} {g : Ghosts T ℕ} → Result (Option (TransmitBuild (DelayedMessageOrChannelSend T g))) SendError → Result (Transmit (List ℕ)) SendError → Type 0
+abbrev pub IsSent : {T : Type 0} {g : Ghosts T ℕ} → Result (Option (TransmitBuild (DelayedMessageOrChannelSend T g))) SendError
+    → Result (Transmit (List ℕ)) SendError → Type 0
 IsSent (Ok (Some packet)) said =
     said ≡ Ok (record { payload = delayed_send_bytes packet.payload; transport = packet.transport; from = packet.from; to = packet.to })
 IsSent (Ok None) said = ⊥

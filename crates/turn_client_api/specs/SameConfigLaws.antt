@@ -64,7 +64,8 @@ same_credentials-Decides a b =
 
 same_timers-Decides : (a b : Timers) → Decides (same_timers a b) (a ≡ b)
 same_timers-Decides a b =
-    in_other_words (both (both (both (unsigned_Decides a.initial b.initial) (unsigned_Decides a.max b.max)) (unsigned_Decides a.transmissions b.transmissions)) (unsigned_Decides a.last b.last))
+    in_other_words (both (both (both (unsigned_Decides a.initial b.initial) (unsigned_Decides a.max b.max)) (unsigned_Decides a.transmissions b.transmissions))
+    (unsigned_Decides a.last b.last))
     (λ (((first, longest), count), last) i. record { initial = first i; max = longest i; transmissions = count i; last = last i })
     (λ e. (((ap (λ t. t.initial) e, ap (λ t. t.max) e), ap (λ t. t.transmissions) e), ap (λ t. t.last) e))
 
@@ -92,7 +93,13 @@ same_config-Decides a b =
       anonymous_username = anonymous i;
       request_timers = timers i;
     })
-    (λ e. (((ap (λ c. c.allocation_transport) e, ap (λ c. c.address_families) e), ((ap (λ c. c.credentials) e, ap (λ c. c.supported_integrity) e), ap (λ c. c.anonymous_username) e)), ap (λ c. c.request_timers) e))
+    (λ e. (
+      (
+        (ap (λ c. c.allocation_transport) e, ap (λ c. c.address_families) e),
+        ((ap (λ c. c.credentials) e, ap (λ c. c.supported_integrity) e), ap (λ c. c.anonymous_username) e),
+      ),
+      ap (λ c. c.request_timers) e,
+    ))
 
 pub same_config-equivalence : IsEquivalence same_config
 same_config-equivalence = decided same_config same_config-Decides

@@ -177,7 +177,8 @@ pub trait TurnClientApi: Debug + Drop {
         now: Instant,
     ) -> Result<(), TcpAllocateError>
         requires now_in_range { now ≤ 2 ^ 62 }
-        ensures step { TakesSocket result (state self.old) (state self.new) (allocated_tcp_socket_step id five_tuple peer_addr local_addr now (state self.old)) };
+        ensures step { TakesSocket result (state self.old) (state self.new)
+            (allocated_tcp_socket_step id five_tuple peer_addr local_addr now (state self.old)) };
 
     /// Reports that this data connection was closed. `poll` then reports that the caller is to
     /// close its end. Data received over it can still be polled.
@@ -243,9 +244,11 @@ pub trait TurnClientApi: Debug + Drop {
         now: Instant,
     ) -> Result<TurnRecvRet<T>, AllocError>
         requires now_in_range { now ≤ 2 ^ 62 }
-        ensures answer { IfOk result (λ answer. outcome_of answer ≡ (recv_step transmit.transport transmit.from transmit.to (T.items transmit.payload) now (state self.old)).0) }
+        ensures answer { IfOk result (λ answer. outcome_of answer
+            ≡ (recv_step transmit.transport transmit.from transmit.to (T.items transmit.payload) now (state self.old)).0) }
         ensures hands_back { IfOk result (HandsBack transmit) }
-        ensures after { OnOk result (state self.new ≡ (recv_step transmit.transport transmit.from transmit.to (T.items transmit.payload) now (state self.old)).1) }
+        ensures after { OnOk result (state self.new
+            ≡ (recv_step transmit.transport transmit.from transmit.to (T.items transmit.payload) now (state self.old)).1) }
         ensures no_memory { OnErr result (RecvEnds transmit.to (T.items transmit.payload) now (state self.old) (state self.new)) }
         ensures free { takes_no_memory transmit.transport transmit.from transmit.to (T.items transmit.payload) (state self.old) ≡ true → IsOk result };
 

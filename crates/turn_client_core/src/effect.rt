@@ -100,7 +100,8 @@ fn answer(
     requires grant_room { 3 ≤ ledger.old.grant_room }
     requires event_room { 9 ≤ ledger.old.event_room }
     requires close_room { 1 ≤ ledger.old.close_room }
-    ensures state { (s : State) → after result (with_ledger ledger.new s) ≡ effect (id_of message.now) is_granted message.now now (with_ledger ledger.old s) purpose.now }
+    ensures state { (s : State) → after result (with_ledger ledger.new s)
+        ≡ effect (id_of message.now) is_granted message.now now (with_ledger ledger.old s) purpose.now }
     ensures room { LessRoom 3 0 9 1 ledger.old ledger.new }
 {
     match purpose {

@@ -73,7 +73,8 @@ fn put<K: Eq + Hash + Drop, V: Copy + Drop>(map: &mut HashMap<K, V>, key: K, val
 /// The grant is found by its keys from now on.
 pub(crate) fn add(found: &mut HashMap<Key, Grant>, grant: &Grant)
     requires { 2 ≤ spare found.old }
-    ensures leads { (k : Key) → hash.get ⟦<Key as PartialEq>⟧.eq found.new k ≡ cond (is_found_by k grant.now) (Some grant.now) (hash.get ⟦<Key as PartialEq>⟧.eq found.old k) }
+    ensures leads { (k : Key) → hash.get ⟦<Key as PartialEq>⟧.eq found.new k
+        ≡ cond (is_found_by k grant.now) (Some grant.now) (hash.get ⟦<Key as PartialEq>⟧.eq found.old k) }
     ensures room { spare found.old ≤ spare found.new + 2 }
 {
     match grant {
@@ -106,7 +107,8 @@ pub(crate) fn add_all(found: &mut HashMap<Key, Grant>, more: &[Grant])
 /// The key, which leads to a grant, leads to this one from now on.
 fn set(found: &mut HashMap<Key, Grant>, key: Key, grant: &Grant)
     requires { IsSome (hash.get ⟦<Key as PartialEq>⟧.eq found.old key) }
-    ensures leads { (k : Key) → hash.get ⟦<Key as PartialEq>⟧.eq found.new k ≡ cond (⟦<Key as PartialEq>⟧.eq key k) (Some grant.now) (hash.get ⟦<Key as PartialEq>⟧.eq found.old k) }
+    ensures leads { (k : Key) → hash.get ⟦<Key as PartialEq>⟧.eq found.new k
+        ≡ cond (⟦<Key as PartialEq>⟧.eq key k) (Some grant.now) (hash.get ⟦<Key as PartialEq>⟧.eq found.old k) }
     ensures room { spare found.new ≡ spare found.old }
 {
     if let Some(held) = found.get_mut(&key) {
@@ -116,7 +118,8 @@ fn set(found: &mut HashMap<Key, Grant>, key: Key, grant: &Grant)
 
 /// Removes these grants from the map, except under the keys of the grant that replaces them.
 fn remove_others(found: &mut HashMap<Key, Grant>, which: &GrantFilter, grant: &Grant)
-    ensures left { (k : Key) → hash.get ⟦<Key as PartialEq>⟧.eq found.new k ≡ option_filter (λ g. is_found_by k grant.now || not (holds which.now g)) (hash.get ⟦<Key as PartialEq>⟧.eq found.old k) }
+    ensures left { (k : Key) → hash.get ⟦<Key as PartialEq>⟧.eq found.new k
+        ≡ option_filter (λ g. is_found_by k grant.now || not (holds which.now g)) (hash.get ⟦<Key as PartialEq>⟧.eq found.old k) }
     ensures room { spare found.old ≤ spare found.new }
 {
     found.retain(|key, held| key.finds(grant) || !which.holds(held));
@@ -125,7 +128,8 @@ fn remove_others(found: &mut HashMap<Key, Grant>, which: &GrantFilter, grant: &G
 /// The grant replaces these. Each of its keys leads to a grant already.
 pub(crate) fn replace(found: &mut HashMap<Key, Grant>, which: &GrantFilter, grant: &Grant)
     requires { (k : Key) → is_found_by k grant.now ≡ true → IsSome (hash.get ⟦<Key as PartialEq>⟧.eq found.old k) }
-    ensures leads { (k : Key) → hash.get ⟦<Key as PartialEq>⟧.eq found.new k ≡ cond (is_found_by k grant.now) (Some grant.now) (option_filter (λ g. not (holds which.now g)) (hash.get ⟦<Key as PartialEq>⟧.eq found.old k)) }
+    ensures leads { (k : Key) → hash.get ⟦<Key as PartialEq>⟧.eq found.new k
+        ≡ cond (is_found_by k grant.now) (Some grant.now) (option_filter (λ g. not (holds which.now g)) (hash.get ⟦<Key as PartialEq>⟧.eq found.old k)) }
     ensures room { spare found.old ≤ spare found.new }
 {
     remove_others(found, which, grant);
@@ -147,7 +151,8 @@ pub(crate) fn replace(found: &mut HashMap<Key, Grant>, which: &GrantFilter, gran
 
 /// Removes these grants from the map.
 pub(crate) fn remove(found: &mut HashMap<Key, Grant>, which: &GrantFilter)
-    ensures left { (k : Key) → hash.get ⟦<Key as PartialEq>⟧.eq found.new k ≡ option_filter (λ g. not (holds which.now g)) (hash.get ⟦<Key as PartialEq>⟧.eq found.old k) }
+    ensures left { (k : Key) → hash.get ⟦<Key as PartialEq>⟧.eq found.new k
+        ≡ option_filter (λ g. not (holds which.now g)) (hash.get ⟦<Key as PartialEq>⟧.eq found.old k) }
     ensures room { spare found.old ≤ spare found.new }
 {
     found.retain(|_, grant| !which.holds(grant));
@@ -155,7 +160,8 @@ pub(crate) fn remove(found: &mut HashMap<Key, Grant>, which: &GrantFilter)
 
 /// Changes the grants in the map.
 pub(crate) fn change(found: &mut HashMap<Key, Grant>, change: &Change)
-    ensures changed { (k : Key) → hash.get ⟦<Key as PartialEq>⟧.eq found.new k ≡ option_map (changed change.now) (hash.get ⟦<Key as PartialEq>⟧.eq found.old k) }
+    ensures changed { (k : Key) → hash.get ⟦<Key as PartialEq>⟧.eq found.new k
+        ≡ option_map (changed change.now) (hash.get ⟦<Key as PartialEq>⟧.eq found.old k) }
     ensures room { spare found.old ≤ spare found.new }
 {
     found.retain(|_, grant| {

@@ -176,7 +176,8 @@ impl GrantLedger {
 
     /// Removes these grants, and queues their failures after all events.
     fn fail_back(&mut self, which: &GrantFilter)
-        ensures state { (s : State) → with_ledger self.new s ≡ wait (failures_among (holds which.now) (with_ledger self.old s)) (without_grants (holds which.now) (with_ledger self.old s)) }
+        ensures state { (s : State) → with_ledger self.new s
+            ≡ wait (failures_among (holds which.now) (with_ledger self.old s)) (without_grants (holds which.now) (with_ledger self.old s)) }
         ensures room { SameRoomBut 0 0 self.old self.new }
     {
         self.table

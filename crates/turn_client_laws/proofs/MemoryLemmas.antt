@@ -15,7 +15,8 @@ use Rattle.turn_client_api.specs.Receive.{first_frame_step}
 use Rattle.turn_client_api.specs.Answers.{EndsAfterSteps, RecvEnds, before_others}
 use Rattle.turn_client_api.specs.Steps.{EndsWithoutMemory, Leaves, state_after}
 use Rattle.turn_client_api.specs.declared.call.Call.{Call}
-use Rattle.turn_client_api.specs.declared.call.Call.TheVariants.{Delete, CreatePermission, BindChannel, TcpConnect, AllocatedTcpSocket, TcpClosed, SendTo, Recv, PollRecv, Poll, PollTransmit, PollEvent, RelayedAddresses}
+use Rattle.turn_client_api.specs.declared.call.Call.TheVariants.{Delete, CreatePermission, BindChannel, TcpConnect, AllocatedTcpSocket, TcpClosed, SendTo, Recv, PollRecv, Poll, PollTransmit}
+use Rattle.turn_client_api.specs.declared.call.Call.TheVariants.{PollEvent, RelayedAddresses}
 use Rattle.turn_client_api.specs.declared.call.Call.TheVariants.{Permissions, HavePermission, ProtocolError}
 use Rattle.turn_client_laws.proofs.RunKeepLemmas.{IsKept, first_frame_step-kept, turns-kept}
 

@@ -19,7 +19,8 @@ use Rattle.turn_client_api.specs.Transmit.{refreshes_in}
 use Rattle.turn_client_laws.specs.Handled.{Input, processed}
 use Rattle.turn_client_api.specs.Steps.{state_after}
 use Rattle.turn_client_api.specs.declared.call.Call.{Call}
-use Rattle.turn_client_api.specs.declared.call.Call.TheVariants.{Delete, CreatePermission, BindChannel, TcpConnect, AllocatedTcpSocket, Recv, PollRecv, PollTransmit}
+use Rattle.turn_client_api.specs.declared.call.Call.TheVariants.{Delete, CreatePermission, BindChannel, TcpConnect, AllocatedTcpSocket, Recv, PollRecv}
+use Rattle.turn_client_api.specs.declared.call.Call.TheVariants.{PollTransmit}
 use Rattle.turn_client_laws.specs.LawsHandled.{IsDoneBy}
 
 -- These bytes request the purpose under this ID, with what the client holds. The first ALLOCATE is not

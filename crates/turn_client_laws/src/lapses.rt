@@ -24,7 +24,8 @@ pub fn grants_lapse()
     // Its number and its peer are reserved for 300 s.
     ensures reserved { (s : State) → (poll_step (ms 600_100) (with_channel_alone s)).1.grants ≡ (with_reserved s).grants }
     ensures refused { (s : State) → bind_channel_step Udp peer (ms 601_000) (with_reserved s) ≡ (Err (ExpiredChannelExists (ms 900_100)), with_reserved s) }
-    ensures still_refused { (s : State) → bind_channel_step Udp peer (ms 900_100) (with_reserved s) ≡ (Err (ExpiredChannelExists (ms 900_100)), with_reserved s) }
+    ensures still_refused { (s : State) → bind_channel_step Udp peer (ms 900_100) (with_reserved s)
+        ≡ (Err (ExpiredChannelExists (ms 900_100)), with_reserved s) }
     ensures bound { (s : State) → (bind_channel_step Udp peer (ms 900_200) (with_reserved s)).0 ≡ Ok tt }
     // The number is free once `poll` is called after that.
     ensures next_number { (s : State) → free_number (with_reserved s) ≡ Some 0x4001 }

@@ -49,7 +49,8 @@ pub fn grants_are_answered()
     ensures channel_told { WhenSigned channel_bound asking_channel (λ r. r.1.events ≡ PermissionCreated Udp ip_of_peer ∷ ChannelCreated Udp peer ∷ []) }
     // A refusal removes the permission that was requested with the channel.
     ensures refused { WhenSigned channel_not_bound asking_channel (λ r. r.1.grants ≡ allocation_of_v4 ∷ []) }
-    ensures refusals { WhenSigned channel_not_bound asking_channel (λ r. r.1.events ≡ ChannelCreateFailed Udp peer ∷ PermissionCreateFailed Udp ip_of_peer ∷ []) }
+    ensures refusals { WhenSigned channel_not_bound asking_channel
+        (λ r. r.1.events ≡ ChannelCreateFailed Udp peer ∷ PermissionCreateFailed Udp ip_of_peer ∷ []) }
 {}
 
 /// The effects of replies to REFRESH (RFC 8656, section 8.3).

@@ -14,7 +14,8 @@ ghost use Rattle.turn_client_laws.specs.LawsPeers.{IsPermittedInput};
 /// sections 11.6 and 12.6; RFC 6062, section 4.3). Each has the place at which it lies in what the caller
 /// passed in, or is owned, and its peer was permitted in the state in which the input was processed.
 pub fn payloads_are_answered()
-    ensures recv { (packet : Transmit (List ℕ)) (now : ℕ) (s : State) → payloads_by (Recv packet now) s ≡ option_to_list (payload_in (packet_step packet now s).0) }
+    ensures recv { (packet : Transmit (List ℕ)) (now : ℕ) (s : State)
+        → payloads_by (Recv packet now) s ≡ option_to_list (payload_in (packet_step packet now s).0) }
     ensures poll_recv { (now : ℕ) (s : State) → payloads_by (PollRecv now) s ≡ option_to_list (poll_recv_step now s).0 }
     ensures let_in { (t : Input) → IsPermittedInput t }
 {}

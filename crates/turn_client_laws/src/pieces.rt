@@ -19,9 +19,11 @@ pub fn pieces_are_cut()
     // Half of a header is kept.
     ensures half { (s : State) → (server_piece_step client half_header (with_channel s)).0 ≡ Handled }
     // With the rest it is a frame, whose data is owned.
-    ensures joined { (s : State) → server_piece_step client behind_half (server_piece_step client half_header (with_channel s)).1 ≡ (PeerData (relayed abc None), with_channel s) }
+    ensures joined { (s : State) → server_piece_step client behind_half (server_piece_step client half_header (with_channel s)).1
+        ≡ (PeerData (relayed abc None), with_channel s) }
     // Of two frames in one piece the second is polled.
-    ensures second { (s : State) → poll_recv_at_1_s (server_piece_step client (abc_frame ++ hello_message) (with_channel s)).1 ≡ (Some (relayed hello None), with_channel s) }
+    ensures second { (s : State) → poll_recv_at_1_s (server_piece_step client (abc_frame ++ hello_message) (with_channel s)).1
+        ≡ (Some (relayed hello None), with_channel s) }
     // A message is cut from the stream like a frame.
     ensures message { (s : State) → server_piece_step client hello_message (with_channel s) ≡ (PeerData (relayed hello (Some 36)), with_channel s) }
     ensures report { (s : State) → server_piece_step client icmp_message (with_channel s) ≡ (reported 3 4 1280, with_channel s) }
@@ -36,7 +38,8 @@ pub fn pieces_are_cut()
 /// The effects of pieces of a data connection (RFC 6062, section 4.3).
 pub fn connections_are_bound()
     // All of a piece of a bound connection is data, also bytes with which no frame begins.
-    ensures bound { (s : State) → server_piece_step data_end (0xff ∷ 0x00 ∷ []) (with_bound s) ≡ (PeerData (from_peer (0xff ∷ 0x00 ∷ []) (Some 0)), with_bound s) }
+    ensures bound { (s : State) → server_piece_step data_end (0xff ∷ 0x00 ∷ []) (with_bound s)
+        ≡ (PeerData (from_peer (0xff ∷ 0x00 ∷ []) (Some 0)), with_bound s) }
     // A reply and data of the peer come in one piece: the reply is processed, and if it is a signed success
     // the connection is bound, and the data is polled.
     ensures handled { (byte : ℕ → ℕ) (text : List ℕ) (s : State) → (server_piece_step data_end (bind_success byte ++ hello) (with_waiting text s)).0 ≡ Handled }

@@ -35,7 +35,8 @@ pub fn channel_numbers_count_up()
 /// The time at which a caller is to call `poll` again.
 pub fn wakeups_are_reported()
     // A challenge that is answered at 10 ms, after a first ALLOCATE at 0: the end of the pause.
-    ensures retry { (text : List ℕ) (challenge : Challenge) (s : State) → (poll_step 10_000_000 (challenged_once text challenge s)).0 ≡ Do.WaitUntil 50_000_000 }
+    ensures retry { (text : List ℕ) (challenge : Challenge) (s : State)
+        → (poll_step 10_000_000 (challenged_once text challenge s)).0 ≡ Do.WaitUntil 50_000_000 }
     // Two allocations of 1000 s that were granted at 50 ms: a minute before they expire.
     ensures allocations { (s : State) → (poll_step 50_000_000 (with_both_families s)).0 ≡ Do.WaitUntil 940_050_000_000 }
     // A permission that was granted at 100 ms: a minute before it expires.

@@ -16,6 +16,8 @@ pub fn wakeup_is_the_least_time()
     ensures given_up { (now : ℕ) (s : State) → next_wakeup true now s ≡ now }
 
     ensures least { (now : ℕ) (s : State) → IsLeast (least_due now s) (due_times now s) }
-    ensures allocated { (now : ℕ) (s : State) → s.phase ≡ Allocated → s.events ≡ [] → has_reply s ≡ false → next_wakeup false now s ≡ max now (least_due now s) }
-    ensures others { (now : ℕ) (s : State) → s.phase ≢ New → s.phase ≢ Allocated → s.events ≡ [] → has_reply s ≡ false → next_wakeup false now s ≡ least_due now s }
+    ensures allocated { (now : ℕ) (s : State) → s.phase ≡ Allocated → s.events ≡ [] → has_reply s ≡ false
+        → next_wakeup false now s ≡ max now (least_due now s) }
+    ensures others { (now : ℕ) (s : State) → s.phase ≢ New → s.phase ≢ Allocated → s.events ≡ [] → has_reply s ≡ false
+        → next_wakeup false now s ≡ least_due now s }
 {}

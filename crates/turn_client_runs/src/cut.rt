@@ -24,7 +24,8 @@ ghost use Rattle.turn_client_api.specs.Steps.{state_after_all};
 /// broken one, and if there is none, nothing is returned, and a client that is quiet stays unchanged.
 pub fn wholes_are_frames()
     ensures front { (local : SocketAddr) (now : ℕ) (s : State) (bytes : List ℕ) → whole local now s bytes ≡ read_from_front local now s bytes }
-    ensures unmeant { (local : SocketAddr) (now : ℕ) (s : State) (bytes : List ℕ) → IsQuiet s → mode_at local s ≡ Broken → whole_of local now s bytes ≡ ([], s) }
+    ensures unmeant { (local : SocketAddr) (now : ℕ) (s : State) (bytes : List ℕ) → IsQuiet s → mode_at local s ≡ Broken
+        → whole_of local now s bytes ≡ ([], s) }
 {}
 
 /// A client over TCP is quiet when it is new, after any calls once it is polled and returns nothing, and
@@ -32,7 +33,8 @@ pub fn wholes_are_frames()
 /// distinct local addresses, as those of every client have, once it is polled and returns nothing.
 pub fn polled_clients_are_quiet()
     ensures initial { (local remote : SocketAddr) (config : Config) (seed : List ℕ) → IsQuiet (initial Tcp local remote config seed) }
-    ensures run { (local remote : SocketAddr) (config : Config) (seed : List ℕ) (calls : List Call) → GetsQuiet (state_after_all (initial Tcp local remote config seed) calls) }
+    ensures run { (local remote : SocketAddr) (config : Config) (seed : List ℕ) (calls : List Call)
+        → GetsQuiet (state_after_all (initial Tcp local remote config seed) calls) }
     ensures polled { (s : State) → s.transport ≡ Tcp → AreApart s → GetsQuiet s }
     ensures fed { (local : SocketAddr) (pieces : List (List ℕ)) (now : ℕ) (s : State) → IsQuiet s → IsQuiet (fed_pieces local pieces now s).1 }
 {}

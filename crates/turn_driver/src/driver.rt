@@ -31,9 +31,11 @@ pub fn drive_client<C: TurnClientApi>(
 ) -> Result<Rest, AllocError>
     requires now_in_range { now ≤ 2 ^ 62 }
     ensures ok { IfOk result (λ rest. stands tasks.new.items rest (C.state client.new) ≡ drive_step most came now tasks.old.items (C.state client.old)) }
-    ensures whole { OnOk result (IsWhole (packet_in came) now (drive_state tasks.old.items (C.state client.old)) (drive_state tasks.new.items (C.state client.new))) }
+    ensures whole { OnOk result (IsWhole (packet_in came) now (drive_state tasks.old.items (C.state client.old))
+        (drive_state tasks.new.items (C.state client.new))) }
     ensures restful { IfOk result (λ rest. IsRestful rest now (C.state client.new)) }
-    ensures no_memory { OnErr result (Stops most came now (drive_state tasks.old.items (C.state client.old)) (drive_state tasks.new.items (C.state client.new))) }
+    ensures no_memory { OnErr result (Stops most came now (drive_state tasks.old.items (C.state client.old))
+        (drive_state tasks.new.items (C.state client.new))) }
 {
     if let Some(packet) = came {
         receive(client, packet, now, tasks)?;
@@ -49,7 +51,8 @@ fn receive<C: TurnClientApi>(
     tasks: &mut Vec<Task>,
 ) -> Result<(), AllocError>
     requires now_in_range { now ≤ 2 ^ 62 }
-    ensures ok { OnOk result (drive_state tasks.new.items (C.state client.new) ≡ begun (Some (packet_of came)) now (drive_state tasks.old.items (C.state client.old))) }
+    ensures ok { OnOk result (drive_state tasks.new.items (C.state client.new)
+        ≡ begun (Some (packet_of came)) now (drive_state tasks.old.items (C.state client.old))) }
     ensures list { OnErr result (tasks.new.items ≡ tasks.old.items) }
     ensures no_memory { OnErr result (StopsAtHand (Some (packet_of came)) now (C.state client.old) (C.state client.new)) }
 {
@@ -83,7 +86,8 @@ fn poll_tasks<C: TurnClientApi>(
     tasks: &mut Vec<Task>,
 ) -> Result<Rest, AllocError>
     requires now_in_range { now ≤ 2 ^ 62 }
-    ensures ok { IfOk result (λ rest. stands tasks.new.items rest (C.state client.new) ≡ drive_steps most now (drive_state tasks.old.items (C.state client.old))) }
+    ensures ok { IfOk result (λ rest. stands tasks.new.items rest (C.state client.new)
+        ≡ drive_steps most now (drive_state tasks.old.items (C.state client.old))) }
     ensures restful { IfOk result (λ rest. IsRestful rest now (C.state client.new)) }
     ensures no_memory { OnErr result (Draws most now (drive_state tasks.old.items (C.state client.old)) (drive_state tasks.new.items (C.state client.new))) }
 {

@@ -94,12 +94,14 @@ pub record AreRead (input left : Option (List ℕ)) (lines : List (List ℕ)) (r
   pub each : All IsLine lines
 
 -- the lines were read, and their first bad line is this one
-pub record Goes (said : List (List ℕ) → List ℕ × Option BadLine) (input left : Option (List ℕ)) (lines : List (List ℕ)) (rest : List ℕ) (end : LineEnd) (bad : Option BadLine) : Type 0 where
+pub record Goes (said : List (List ℕ) → List ℕ × Option BadLine) (input left : Option (List ℕ)) (lines : List (List ℕ)) (rest : List ℕ) (end : LineEnd)
+    (bad : Option BadLine) : Type 0 where
   pub read : AreRead input left lines rest end
   pub bad_is : (said lines).1 ≡ bad
 
 -- A session with these answers to lines, by how it ends.
-abbrev pub Talks : (List (List ℕ) → List ℕ × Option BadLine) → Option (List ℕ) → Option (List ℕ) → Option (List ℕ) → Option (List ℕ) → Result (Unit {0}) Stop → Type 0
+abbrev pub Talks : (List (List ℕ) → List ℕ × Option BadLine) → Option (List ℕ) → Option (List ℕ) → Option (List ℕ) → Option (List ℕ) → Result (Unit {0}) Stop
+    → Type 0
 -- at the end of the input, with each line answered
 Talks said input left old new (Ok _) =
     (lines : List (List ℕ)) × (end : LineEnd) × Goes said input left lines [] end None × IsAtEnd left × Appends old new (said lines).0

@@ -66,7 +66,8 @@ fn answer_calls<C: TurnClientApi, R: Read, W: Write>(
     writer: &mut W,
 ) -> Result<(), Stop>
     requires { (C.state client).config.allocation_transport ≡ relays }
-    ensures { Talks (calls_said relays (C.state client)) (R.remaining reader.old) (R.remaining reader.new) (W.contents writer.old) (W.contents writer.new) result }
+    ensures { Talks (calls_said relays (C.state client)) (R.remaining reader.old) (R.remaining reader.new) (W.contents writer.old)
+        (W.contents writer.new) result }
 {
     let mut client = client;
     for number in 2..usize::MAX {
@@ -92,7 +93,8 @@ pub fn answer_next<C: TurnClientApi, R: Read, W: Write>(
     writer: &mut W,
 ) -> Result<bool, Stop>
     requires { (C.state client.old).config.allocation_transport ≡ relays }
-    ensures { Steps relays number (C.state client.old) (C.state client.new) (R.remaining reader.old) (R.remaining reader.new) (W.contents writer.old) (W.contents writer.new) result }
+    ensures { Steps relays number (C.state client.old) (C.state client.new) (R.remaining reader.old) (R.remaining reader.new) (W.contents writer.old)
+        (W.contents writer.new) result }
 {
     let (line, end) = take_line(alloc, reader)?;
     if end == LineEnd::Input && line.is_empty() {

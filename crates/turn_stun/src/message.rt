@@ -55,7 +55,8 @@ impl<'a> Message<'a> {
         // What is accepted is a message.
         ensures found { IfOk result (λ message. (message ≡ bytes.now) × IsMessage bytes.now (type_of bytes.now) (id_of bytes.now) (attributes_of bytes.now)) }
         // What is a message is accepted, and has no other type, transaction ID or attributes.
-        ensures only { (type id : ℕ) (attributes : List Attribute) → IsMessage bytes.now type id attributes → IsOk result × (attributes_of bytes.now ≡ attributes) }
+        ensures only { (type id : ℕ) (attributes : List Attribute) → IsMessage bytes.now type id attributes
+            → IsOk result × (attributes_of bytes.now ≡ attributes) }
         // Which error it is.
         ensures fault { IfErr result (λ fault. fault_of bytes.now ≡ Some fault) }
     {

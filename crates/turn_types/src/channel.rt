@@ -38,7 +38,8 @@ impl<'a> ChannelData<'a> {
         ensures found { IfOk result (λ frame. IsChannel bytes.now frame.id frame.payload (drop (4 + length frame.payload) bytes.now)) }
         ensures front { IfOk result (λ frame. frame ≡ channel_data_at bytes.now) }
         // What begins with a ChannelData message is accepted, and has no other channel or data.
-        ensures only { (id : ℕ) (payload rest : List ℕ) → IsChannel bytes.now id payload rest → IsOkAnd result (λ frame. (frame.id ≡ id) × (frame.payload ≡ payload)) }
+        ensures only { (id : ℕ) (payload rest : List ℕ) → IsChannel bytes.now id payload rest
+            → IsOkAnd result (λ frame. (frame.id ≡ id) × (frame.payload ≡ payload)) }
         // Which error it is.
         ensures fault { IfErr result (λ fault. channel_fault_of bytes.now ≡ Some fault) }
     {

@@ -120,7 +120,8 @@ impl GrantLedger {
         now: Instant,
     )
         requires { 3 ≤ self.old.event_room }
-        ensures state { (s : State) → with_ledger self.new s ≡ fold (permission_answered_for is_granted now) (with_ledger self.old s) (option_to_list purpose.now) }
+        ensures state { (s : State) → with_ledger self.new s
+            ≡ fold (permission_answered_for is_granted now) (with_ledger self.old s) (option_to_list purpose.now) }
         ensures room { SameRoomBut 0 3 self.old self.new }
     {
         match purpose {

@@ -80,7 +80,8 @@ impl GrantLedger {
         purposes: &Purposes,
         now: Instant,
     )
-        ensures state { (s : State) → with_ledger self.new s ≡ lapsed_each given.now (purposes_in purposes.now) now (with_ledger self.old s) (option_to_list relay.now) }
+        ensures state { (s : State) → with_ledger self.new s
+            ≡ lapsed_each given.now (purposes_in purposes.now) now (with_ledger self.old s) (option_to_list relay.now) }
         ensures room { SameRoomBut 0 0 self.old self.new }
     {
         match relay {

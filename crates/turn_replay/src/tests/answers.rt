@@ -39,8 +39,8 @@ fn heads_of_all_kinds_are_read(rt: HostRuntime) -> Result<(), Fail> {
 fn the_first_request_names_the_families(rt: HostRuntime) -> Result<(), Fail> {
     let head =
         "udp 192.168.0.1:1000 [00000000000000000000000000000001]:3478 udp 4,6 sha1 auto 75 - ";
-    let want =
-        "send udp 192.168.0.1:1000 [00000000000000000000000000000001]:3478 0003001c2112a44276b8e0ada0f13d90405d6ae5000d0004000007080019000411000000001a00008000000402000000\n";
+    let want = "send udp 192.168.0.1:1000 [00000000000000000000000000000001]:3478 \
+        0003001c2112a44276b8e0ada0f13d90405d6ae5000d0004000007080019000411000000001a00008000000402000000\n";
     let trace = [head, SEED, "\n0 transmit"];
     follow(&rt, rt.alloc(), &trace, Status::Answered, &[want])
 }

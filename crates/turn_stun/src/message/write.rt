@@ -261,7 +261,8 @@ impl MessageWriteVec {
     pub fn add_attribute<A: AttributeWrite>(&mut self, attribute: &A) -> Result<(), WriteError>
         ensures text { OnOk result (self.new ≡ with_attribute (A.written_kind attribute.now) (A.encoded attribute.now (id_of self.old)) self.old) }
         ensures added { OnOk result (AddsAttribute self.old self.new (A.written_kind attribute.now) (A.encoded attribute.now (id_of self.old))) }
-        ensures too_long { IsErrOf result WriteError.TooLong ↔ (65552 < length self.old + (4 + padded_len (length (A.encoded attribute.now (id_of self.old))))) }
+        ensures too_long { IsErrOf result WriteError.TooLong
+            ↔ (65552 < length self.old + (4 + padded_len (length (A.encoded attribute.now (id_of self.old))))) }
         ensures err { OnErr result (self.new ≡ self.old) }
         ensures kept { Extends self.old self.new }
     {

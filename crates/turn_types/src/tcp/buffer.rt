@@ -83,7 +83,8 @@ impl TurnTcpBuffer {
         transmit: Transmit<T>,
     ) -> Result<Option<IncomingTcp<T>>, AllocError>
         // The piece is appended to the buffered bytes, and then the next frame is taken.
-        ensures frame { IfOk result (λ given. (next_frame_after self.old.stream (Piece (T.items transmit.payload))).frame ≡ option_map (incoming_bytes T.items) given) }
+        ensures frame { IfOk result (λ given. (next_frame_after self.old.stream (Piece (T.items transmit.payload))).frame
+            ≡ option_map (incoming_bytes T.items) given) }
         ensures named { IfOk result (λ given. IfSome given (IsNamedIncoming T.items)) }
         ensures place { IfOk result (λ given. IfSome given (ComesWith T.items self.old.stream.bytes transmit)) }
         ensures after { OnOk result (self.new.stream ≡ (next_frame_after self.old.stream (Piece (T.items transmit.payload))).after) }
@@ -96,7 +97,8 @@ impl TurnTcpBuffer {
         // The bytes that are held, and those that were moved.
         ensures drained { IfOk result (λ given. IsNone given → length self.new.stream.bytes < 65556) }
         ensures kept { IsKept self.new }
-        ensures counted { let left = left_of (with_piece self.old.stream (T.items transmit.payload)).bytes self.new in UpdatesCounts self.old self.new left (front_offset self.old left) }
+        ensures counted { let left = left_of (with_piece self.old.stream (T.items transmit.payload)).bytes self.new in
+            UpdatesCounts self.old self.new left (front_offset self.old left) }
     {
         if self.is_broken {
             return Ok(None);
@@ -115,7 +117,8 @@ impl TurnTcpBuffer {
     ) -> Result<Option<IncomingTcp<T>>, AllocError>
         requires nothing { self.old.stream ≡ framed [] }
         requires start { self.old.start ≡ 0 }
-        ensures frame { IfOk result (λ given. (next_frame_after self.old.stream (Piece (T.items transmit.payload))).frame ≡ option_map (incoming_bytes T.items) given) }
+        ensures frame { IfOk result (λ given. (next_frame_after self.old.stream (Piece (T.items transmit.payload))).frame
+            ≡ option_map (incoming_bytes T.items) given) }
         ensures named { IfOk result (λ given. IfSome given (IsNamedIncoming T.items)) }
         ensures place { IfOk result (λ given. IfSome given (ComesWith T.items self.old.stream.bytes transmit)) }
         ensures after { OnOk result (self.new.stream ≡ (next_frame_after self.old.stream (Piece (T.items transmit.payload))).after) }
@@ -153,14 +156,16 @@ impl TurnTcpBuffer {
     ) -> Result<Option<IncomingTcp<T>>, AllocError>
         requires unbroken { self.old.stream.is_broken ≡ false }
         requires waiting { 0 < length self.old.stream.bytes }
-        ensures frame { IfOk result (λ given. (next_frame_after self.old.stream (Piece (T.items transmit.payload))).frame ≡ option_map (incoming_bytes T.items) given) }
+        ensures frame { IfOk result (λ given. (next_frame_after self.old.stream (Piece (T.items transmit.payload))).frame
+            ≡ option_map (incoming_bytes T.items) given) }
         ensures named { IfOk result (λ given. IfSome given (IsNamedIncoming T.items)) }
         ensures place { IfOk result (λ given. IfSome given (ComesWith T.items self.old.stream.bytes transmit)) }
         ensures after { OnOk result (self.new.stream ≡ (next_frame_after self.old.stream (Piece (T.items transmit.payload))).after) }
         ensures err { OnErr result (self.new.stream ≡ broken_stream) }
         ensures drained { IfOk result (λ given. IsNone given → length self.new.stream.bytes < 65556) }
         ensures kept { IsKept self.new }
-        ensures counted { let left = left_of (with_piece self.old.stream (T.items transmit.payload)).bytes self.new in UpdatesCounts self.old self.new left (self.old.start + left) }
+        ensures counted { let left = left_of (with_piece self.old.stream (T.items transmit.payload)).bytes self.new in
+            UpdatesCounts self.old self.new left (self.old.start + left) }
     {
         let piece = transmit.payload.as_slice();
         if let Err(error) = self.store(piece) {

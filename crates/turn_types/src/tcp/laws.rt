@@ -16,20 +16,32 @@ ghost use Rattle.turn_types.specs.Streams.Mode.{Framed};
 /// The state decides what the bytes after it are: frames, a peer's payload byte by byte (then a stream's
 /// payloads are the same once they are joined), or nothing.
 pub fn same_for_any_cut<S, O>()
-    ensures { (mode : S → Mode) (handle : S → List ℕ → S × List O) (state : S) (bytes : List ℕ) (pieces : List (List ℕ)) → fed_each (λ s. size_in (mode s)) handle (drained (λ s. size_in (mode s)) handle state bytes) pieces ≡ drained (λ s. size_in (mode s)) handle state (bytes ++ concat pieces) }
+    ensures { (mode : S → Mode) (handle : S → List ℕ → S × List O) (state : S) (bytes : List ℕ) (pieces : List (List ℕ))
+        → fed_each (λ s. size_in (mode s)) handle (drained (λ s. size_in (mode s)) handle state bytes) pieces
+        ≡ drained (λ s. size_in (mode s)) handle state (bytes ++ concat pieces) }
 {}
 
 /// How `TurnTcpBuffer` relates to the law of cuts: while the bytes are frames, taking the next frame
 /// (`poll_recv`, or `front` and `pass`) is the next step, and else each byte is a step of its own.
 pub fn calls_take_one_frame<S, O>()
     // A frame that is returned is processed, and then the rest.
-    ensures frame { (mode : S → Mode) (handle : S → List ℕ → S × List O) (state : S) (bytes frame : List ℕ) → mode state ≡ Framed → (next_frame (framed bytes)).frame ≡ Some frame → drained (λ s. size_in (mode s)) handle state bytes ≡ behind (handle state frame).1 (drained (λ s. size_in (mode s)) handle (handle state frame).0 (next_frame (framed bytes)).after.bytes) }
+    ensures frame { (mode : S → Mode) (handle : S → List ℕ → S × List O) (state : S) (bytes frame : List ℕ) → mode state ≡ Framed
+        → (next_frame (framed bytes)).frame ≡ Some frame
+        → drained (λ s. size_in (mode s)) handle state bytes
+        ≡ behind (handle state frame).1 (drained (λ s. size_in (mode s)) handle (handle state frame).0 (next_frame (framed bytes)).after.bytes) }
     // Less than a frame stays buffered.
-    ensures waits { (mode : S → Mode) (handle : S → List ℕ → S × List O) (state : S) (bytes : List ℕ) → mode state ≡ Framed → (next_frame (framed bytes)).frame ≡ None → (next_frame (framed bytes)).after.is_broken ≡ false → drained (λ s. size_in (mode s)) handle state bytes ≡ record { state = state; given = []; rest = bytes } }
+    ensures waits { (mode : S → Mode) (handle : S → List ℕ → S × List O) (state : S) (bytes : List ℕ) → mode state ≡ Framed
+        → (next_frame (framed bytes)).frame ≡ None → (next_frame (framed bytes)).after.is_broken ≡ false
+        → drained (λ s. size_in (mode s)) handle state bytes ≡ record { state = state; given = []; rest = bytes } }
     // The byte that breaks the stream is processed alone.
-    ensures breaks { (mode : S → Mode) (handle : S → List ℕ → S × List O) (state : S) (bytes : List ℕ) → mode state ≡ Framed → (next_frame (framed bytes)).after.is_broken ≡ true → drained (λ s. size_in (mode s)) handle state bytes ≡ behind (handle state (take 1 bytes)).1 (drained (λ s. size_in (mode s)) handle (handle state (take 1 bytes)).0 (drop 1 bytes)) }
+    ensures breaks { (mode : S → Mode) (handle : S → List ℕ → S × List O) (state : S) (bytes : List ℕ) → mode state ≡ Framed
+        → (next_frame (framed bytes)).after.is_broken ≡ true
+        → drained (λ s. size_in (mode s)) handle state bytes
+        ≡ behind (handle state (take 1 bytes)).1 (drained (λ s. size_in (mode s)) handle (handle state (take 1 bytes)).0 (drop 1 bytes)) }
     // Bytes that are not frames are processed one by one.
-    ensures byte { (mode : S → Mode) (handle : S → List ℕ → S × List O) (state : S) (byte : ℕ) (bytes : List ℕ) → (mode state ≡ Framed → ⊥) → drained (λ s. size_in (mode s)) handle state (byte ∷ bytes) ≡ behind (handle state (byte ∷ [])).1 (drained (λ s. size_in (mode s)) handle (handle state (byte ∷ [])).0 bytes) }
+    ensures byte { (mode : S → Mode) (handle : S → List ℕ → S × List O) (state : S) (byte : ℕ) (bytes : List ℕ) → (mode state ≡ Framed → ⊥)
+        → drained (λ s. size_in (mode s)) handle state (byte ∷ bytes)
+        ≡ behind (handle state (byte ∷ [])).1 (drained (λ s. size_in (mode s)) handle (handle state (byte ∷ [])).0 bytes) }
 {}
 
 /// The frames of a stream are one list, and there is no other: whole frames one after the other, and a

@@ -32,7 +32,8 @@ impl<T: AsSlice<u8>> DelayedChannel<T> {
         requires most { id < 0x8000 }
         requires short { length (T.items payload) < 2 ^ 16 }
         ensures bytes { delayed_channel_bytes result ≡ channel_frame id (T.items payload) }
-        ensures frame { IsChannel (delayed_channel_bytes result) id (T.items payload) (replicate (padded_len (length (T.items payload)) - length (T.items payload)) 0) }
+        ensures frame { IsChannel (delayed_channel_bytes result) id (T.items payload)
+            (replicate (padded_len (length (T.items payload)) - length (T.items payload)) 0) }
     {
         DelayedChannel { id, payload }
     }

@@ -25,7 +25,8 @@ impl TurnTcpBuffer {
 
         // The bytes that are held, and those that were moved.
         ensures kept { IsKept self.new }
-        ensures counted { let left = left_of (with_piece self.old.stream piece.now).bytes self.new in UpdatesCounts self.old self.new left (self.old.start + left) }
+        ensures counted { let left = left_of (with_piece self.old.stream piece.now).bytes self.new in
+            UpdatesCounts self.old self.new left (self.old.start + left) }
     {
         if self.is_broken {
             return Ok(());
