@@ -193,7 +193,7 @@ waits_on timers transport now t not_due not_over = by (leb (transaction_timeout 
         let last : leb (resends_of timers transport) t.resends ≡ false = and_false_left _ _ past not_over in
         absurd (omega (arith, ltb-false _ _ more, leb-false _ _ last))
 
--- if a wait is over and nothing times out, a request is due
+-- if a wait has ended and nothing times out, a request is due
 pub some_due : (timers : Timers) (transport : TransportType) (now start : ℕ) (ts : List Transaction) → find (is_timed_out timers transport now) ts ≡ None → now < start
     → fold min start (map (transaction_timeout timers transport) ts) ≤ now → IsSome (find (is_due timers transport now) ts)
 some_due timers transport now start [] none below past = absurd (omega arith)

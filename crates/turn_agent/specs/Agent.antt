@@ -36,16 +36,16 @@ first_sent id to now request = record { id = id; to = to; resends = 0; last_send
 abbrev pub sent_again : ℕ → Transaction → Transaction
 sent_again now t = record t { resends = t.resends + 1; last_send = now }
 
--- when the wait after its last send is over; the greatest time is 2^63 - 1
+-- when the wait after its last send ends; the greatest time is 2^63 - 1
 abbrev pub transaction_timeout : Timers → TransportType → Transaction → ℕ
 transaction_timeout timers transport t = min (t.last_send + wait_at timers transport t.resends) (2 ^ 63 - 1)
 
--- that wait is over, and the request is to be retransmitted
+-- that wait has ended, and the request is to be retransmitted
 abbrev pub is_due : Timers → TransportType → ℕ → Transaction → Bool
 is_due timers transport now t =
     nat_lt t.resends (resends_of timers transport) && nat_le (transaction_timeout timers transport t) now
 
--- that wait is over, and it was the last one
+-- that wait has ended, and it was the last one
 abbrev pub is_timed_out : Timers → TransportType → ℕ → Transaction → Bool
 is_timed_out timers transport now t =
     nat_le (resends_of timers transport) t.resends && nat_le (transaction_timeout timers transport t) now
@@ -88,18 +88,18 @@ request_sent a id to now request =
 abbrev pub due : Agent → ℕ → Option Transaction
 due a now = find (is_due a.timers a.transport now) a.transactions
 
--- the transaction that times out next: the oldest one whose last wait is over
+-- the transaction that times out next: the oldest one whose last wait has ended
 abbrev pub timed_out_transaction : Agent → ℕ → Option Transaction
 timed_out_transaction a now = find (is_timed_out a.timers a.transport now) a.transactions
 
--- the earliest time at which a wait is over, or 9999 s from now if nothing is outstanding (our
+-- the earliest time at which a wait ends, or 9999 s from now if nothing is outstanding (our
 -- choice)
 abbrev pub next_timeout : Agent → ℕ → ℕ
 next_timeout a now =
     if length a.transactions == 0 then min (now + 9_999_000_000_000) (2 ^ 63 - 1)
     else fold min (2 ^ 63 - 1) (map (transaction_timeout a.timers a.transport) a.transactions)
 
--- the earlier of this time and the earliest time at which a wait is over
+-- the earlier of this time and the earliest time at which a wait ends
 abbrev pub earliest : Agent → ℕ → ℕ
 earliest a moment = fold min moment (map (transaction_timeout a.timers a.transport) a.transactions)
 
@@ -176,8 +176,8 @@ IsEnded (TransactionTimedOut id) a = is_outstanding id a.transactions ≡ false
 
 -- ---- one pass over the transactions
 
--- their progress: the place of the oldest one whose last wait is over, or else the earliest time at
--- which a wait is over
+-- their progress: the place of the oldest one whose last wait has ended, or else the earliest time at
+-- which a wait ends
 abbrev pub IsProgress : Timers → TransportType → ℕ → List Transaction → Progress → Type 0
 IsProgress timers transport now ts (Over place) =
     (place < length ts) × (find (is_timed_out timers transport now) ts ≡ slice_get ts place)
@@ -188,7 +188,7 @@ IsProgress timers transport now ts Idle = ts ≡ []
 
 -- ---- the time that is kept
 
--- it is the earliest time at which a wait is over, if it is known
+-- it is the earliest time at which a wait ends, if it is known
 abbrev pub IsSoonest : Timers → TransportType → List Transaction → Option ℕ → Type 0
 IsSoonest timers transport ts None = Unit {0}
 IsSoonest timers transport ts (Some moment) =

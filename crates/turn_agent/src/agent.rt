@@ -122,7 +122,7 @@ impl StunAgentBuilder {
     }
 }
 
-/// Retransmits requests until a response is received or the last wait is over.
+/// Retransmits requests until a response is received or the last wait has ended.
 ///
 /// Many requests may be outstanding at once. Contracts describe the agent by the record `Agent`.
 #[derive(Debug, Drop)]
@@ -136,7 +136,7 @@ pub struct StunAgent {
     ids: HashSet<TransactionId>,
     // The oldest transactions that the search for the next retransmission may leave out.
     front: Front,
-    // The earliest time at which a wait is over, if it is known: kept, since computing it goes over
+    // The earliest time at which a wait ends, if it is known: kept, since computing it goes over
     // all transactions. Each change of a transaction clears it.
     soonest: Option<Instant>,
 }
@@ -223,7 +223,7 @@ impl StunAgent {
         self.transactions.len()
     }
 
-    /// The earlier of this time and the earliest time at which a wait is over: when to call `poll`
+    /// The earlier of this time and the earliest time at which a wait ends: when to call `poll`
     /// again, for a caller that itself has something to do at `moment`.
     pub fn earliest(&self, moment: Instant) -> Instant
         ensures { result ≡ earliest self.now moment }
@@ -313,8 +313,8 @@ impl StunAgent {
 
     /// Times out one request, or returns the next deadline.
     ///
-    /// The oldest request whose last wait is over times out, one in each call. If there is none, the
-    /// result is the earliest time at which a wait is over, or 9999 s from now if nothing is
+    /// The oldest request whose last wait has ended times out, one in each call. If there is none, the
+    /// result is the earliest time at which a wait ends, or 9999 s from now if nothing is
     /// outstanding (our choice). Before that time `poll_transmit` returns none.
     pub fn poll(&mut self, now: Instant) -> StunAgentPollRet
         ensures step { (result, self.new) ≡ agent_poll_step self.old now }

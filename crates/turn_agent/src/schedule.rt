@@ -149,7 +149,7 @@ impl Schedule {
         }
     }
 
-    /// When the wait after the send at this place is over, the first send being at place 0.
+    /// When the wait after the send at this place ends, the first send being at place 0.
     pub(crate) fn end_of_wait(&self, send: Instant, place: u32) -> Instant
         ensures { result ≡ min (send + wait_at self.now.timers self.now.transport place) (2 ^ 63 - 1) }
     {

@@ -12,9 +12,9 @@ use turn_stun::transaction::TransactionId;
 
 /// The progress of the requests of an agent.
 pub(crate) enum Progress {
-    /// The last wait of the transaction at this place is over.
+    /// The last wait of the transaction at this place ends.
     Over(usize),
-    /// The earliest time at which a wait is over.
+    /// The earliest time at which a wait ends.
     Waiting(Instant),
     /// Nothing is outstanding.
     Idle,
@@ -47,7 +47,7 @@ pub(crate) fn answered(
     transactions.iter().position(|transaction| transaction.id == id && transaction.to == from)
 }
 
-/// The oldest transaction whose last wait is over, or else the earliest time at which a wait is over.
+/// The oldest transaction whose last wait has ended, or else the earliest time at which a wait ends.
 pub(crate) fn progress_of(
     transactions: &[Transaction],
     schedule: &Schedule,
@@ -70,7 +70,7 @@ pub(crate) fn progress_of(
     Progress::Waiting(least)
 }
 
-/// The earlier of this time and the earliest time at which a wait is over.
+/// The earlier of this time and the earliest time at which a wait ends.
 pub(crate) fn least_with(
     moment: Instant,
     transactions: &[Transaction],
@@ -85,7 +85,7 @@ pub(crate) fn least_with(
     least
 }
 
-/// The earliest time at which a wait is over.
+/// The earliest time at which a wait ends.
 pub(crate) fn soonest_of(transactions: &[Transaction], schedule: &Schedule) -> Option<Instant>
     ensures { IsSoonest schedule.now.timers schedule.now.transport transactions.now result }
 {

@@ -6,7 +6,7 @@ use Rattle.turn_client_api.specs.declared.receive.DataRangeOrOwned.TheVariants.{
 use Rattle.turn_client_api.specs.declared.receive.TurnPeerData.{TurnPeerData}
 use Rattle.turn_client_api.specs.Range.{part_of}
 
--- the bytes, whoever owns them
+-- the bytes, a range of the input or owned
 abbrev pub held_bytes : {T : Type 0} {g : Ghosts T ℕ} → DataRangeOrOwned T g → List ℕ
 held_bytes (Range range) = part_of range
 held_bytes (Owned bytes) = bytes.items

@@ -45,11 +45,11 @@ use turn_types::transmit::TransmitBuild;
 /// `docs/MACHINE.md`. A call whose memory allocation fails returns an error; its doc comment says
 /// which state remains.
 ///
-/// A caller's loop over any client, which is proved too, is `turn_driver::turn`:
+/// A caller's loop over any client, which is proved too, is `turn_driver::drive_client`:
 ///
 /// ```rust
 /// loop {
-///     let rest = turn(&mut client, received.take(), clock.now(), 64, &mut tasks)?;
+///     let rest = drive_client(&mut client, received.take(), clock.now(), 64, &mut tasks)?;
 ///     for task in tasks.drain(..) {
 ///         app.carry_out(task, &mut client);
 ///     }

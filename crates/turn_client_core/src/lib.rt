@@ -16,9 +16,9 @@
 //!
 //! ```rust
 //! match client.datagram(bytes, now)? {
-//!     Told::PeerData(transport, peer, place) => deliver(transport, peer, place),
-//!     Told::PeerIcmp(_, peer, _) => unreachable_peer(peer),
-//!     Told::Handled | Told::Ignored => {}
+//!     TurnProtocolRecv::PeerData(transport, peer, place) => deliver(transport, peer, place),
+//!     TurnProtocolRecv::PeerIcmp(_, peer, _) => unreachable_peer(peer),
+//!     TurnProtocolRecv::Handled | TurnProtocolRecv::Ignored => {}
 //! }
 //! ```
 //!

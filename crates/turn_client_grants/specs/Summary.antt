@@ -20,7 +20,7 @@ end_in (Channel number peer (Active expiry)) = Some expiry
 end_in (Connection c) = c.deadline
 end_in _ = None
 
--- the time at which the grant expires, its reservation is over or its deadline passes: an expired allocation
+-- the time at which the grant expires, its reservation ends or its deadline passes: an expired allocation
 -- stays while a request for it awaits its response
 abbrev pub lapse_in : List Listing → Grant → Option ℕ
 lapse_in listed (Allocation a) =

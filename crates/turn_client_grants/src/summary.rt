@@ -97,7 +97,7 @@ fn is_awaited(listed: &[Listing], relay: &Relay) -> bool
     relay.is_expired && has_request(listed, &Grant::Allocation(*relay))
 }
 
-/// The time at which the grant expires, its reservation is over or its deadline passes, in
+/// The time at which the grant expires, its reservation ends or its deadline passes, in
 /// nanoseconds.
 fn lapse_in(listed: &[Listing], grant: &Grant) -> Option<u64>
     ensures { result ≡ lapse_in listed.now grant.now }

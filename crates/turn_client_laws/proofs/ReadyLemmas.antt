@@ -121,7 +121,7 @@ early m moment least pause before later over = by (leb moment m) refl
     by false e = e
     by true e = absurd (omega (arith, before, later, max-le {a = pause} {b = moment} {k = m} over (leb-true moment m e)))
 
--- no refresh is due before the pause is over and its own time has come
+-- no refresh is due before the pause has ended and its own time has come
 not_refreshed : (now m : ℕ) (t : State) → m < least_due now t → is_paused m t ≡ false → (g : Grant) → Has g t.grants → is_refresh_due m t g ≡ false
 unfolding is_refresh_due
 not_refreshed now m t before idle g h = by (refresh_time t g) refl
@@ -446,7 +446,7 @@ front-sends : (now : ℕ) (t : State) (qs : List Queued) → t.queue ≡ qs → 
 front-sends now t [] e some = absurd (omega (arith, some))
 front-sends now t (q ∷ qs) e some = rw e refl
 
--- while nothing is queued and the pause is over, what is due is a refresh
+-- while nothing is queued and the pause has ended, what is due is a refresh
 refresh-or-later : (now : ℕ) (t : State) → IsReady now t → now ≤ 2 ^ 62 → due (agent_of t) now ≡ None → is_paused now t ≡ false → t.queue ≡ [] → least_due now t ≤ now
     → IsSome (idle_step t.phase now t).0
 refresh-or-later now t ready range none_due idle e reached = by ready.grants_later

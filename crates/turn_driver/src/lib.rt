@@ -1,8 +1,8 @@
 //! The loop of a caller of a TURN client, over any client. No IO.
 //!
 //! ```text
-//!              input                           give to the program, send,
-//!  sockets --------------> turn --> [Task] -->  open and close connections
+//!              input                              give to the program, send,
+//!  sockets ----------> drive_client --> [Task] -->  open and close connections
 //!     ^                      |
 //!     +--- sleep until <-----+ Rest
 //! ```

@@ -34,8 +34,8 @@ pub struct Trace {
 ///
 /// # Errors
 ///
-/// `Bad` with the first line, from the front, that is not as it is to be. `OutOfMemory` where there
-/// is no memory for the trace.
+/// `Bad` with the first line, from the front, that is not as it is to be. `OutOfMemory` if
+/// a memory allocation for the trace fails.
 #[tactic(auto, unfolding(crate::specs::Trace::trace_of))]
 pub fn parse_trace(alloc: Global, text: &[u8]) -> Result<Trace, ReadError<BadLine>>
     ensures { Reads (λ trace. (trace.head, trace.calls.items)) result (trace_of text.now) }
