@@ -1,8 +1,12 @@
 //! A client over UDP or TCP.
 
+ghost use Rattle.std.specs.Prelude.{◌≡◌, IfOk};
+ghost use Rattle.turn_client_api.specs.State.{initial};
+ghost use Rattle.turn_client_proto.specs.Client.{state_of};
+
 use crate::tcp::TurnClientTcp;
 use crate::udp::TurnClientUdp;
-use std::alloc::AllocError;
+use std::alloc::{AllocError, Global};
 use std::convert::AsSlice;
 use std::fmt::Debug;
 use std::net::{IpAddr, SocketAddr};
@@ -12,7 +16,7 @@ pub use turn_client_api::{
 };
 use turn_client_api::{
     DelayedMessageOrChannelSend, PermissionAddressesIter, RelayedAddressesIter, Socket5Tuple,
-    TransmitBuild, TurnClientApi, TurnPeerData,
+    TransmitBuild, TurnClientApi, TurnConfig, TurnPeerData,
 };
 use turn_stun::data::Data;
 use turn_stun::instant::Instant;
@@ -25,6 +29,40 @@ pub enum TurnClient {
     Udp(TurnClientUdp),
     /// It reaches its server over TCP.
     Tcp(TurnClientTcp),
+}
+
+impl TurnClient {
+    /// A client that sends over this transport from `local` to the server at `remote`, and draws its
+    /// transaction IDs from this seed. It has requested nothing yet: `poll_transmit` returns the first request.
+    ///
+    /// RFC 8489, section 5, requires IDs that cannot be guessed. They are as good as the seed is secret. An
+    /// allocation over TCP needs a client over TCP (RFC 6062, section 4.1).
+    ///
+    /// # Errors
+    ///
+    /// If memory allocation fails.
+    pub fn allocate(
+        alloc: Global,
+        transport: TransportType,
+        local: SocketAddr,
+        remote: SocketAddr,
+        config: TurnConfig,
+        seed: [u8; 32],
+    ) -> Result<TurnClient, AllocError>
+        requires allocation { transport ≡ TransportType.Udp → config.allocation_transport ≡ TransportType.Udp }
+        ensures { IfOk result (λ client. state_of client ≡ initial transport local remote config seed) }
+    {
+        match transport {
+            TransportType::Udp => {
+                let client = TurnClientUdp::allocate(alloc, local, remote, config, seed)?;
+                Ok(TurnClient::Udp(client))
+            }
+            TransportType::Tcp => {
+                let client = TurnClientTcp::allocate(alloc, local, remote, config, seed)?;
+                Ok(TurnClient::Tcp(client))
+            }
+        }
+    }
 }
 
 impl From<TurnClientUdp> for TurnClient {

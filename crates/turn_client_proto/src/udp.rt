@@ -3,7 +3,7 @@
 ghost use Rattle.std.specs.Prelude.{◌≡◌, ◌≤◌, ◌^◌, ◌&&◌, [], IfOk, IsOk, OnErr, OnOk, true};
 ghost use Rattle.turn_agent.specs.Agent.{same_address};
 ghost use Rattle.turn_client_api.specs.Alarm.{IsTimely};
-ghost use Rattle.turn_client_api.specs.Answers.{HandsBack, datagram_takes_none, outcome_of};
+ghost use Rattle.turn_client_api.specs.Answers.{datagram_takes_none};
 ghost use Rattle.turn_client_api.specs.Effect.{closed};
 ghost use Rattle.turn_client_api.specs.Memory.{packet_takes_memory};
 ghost use Rattle.turn_client_api.specs.Payloads.{datagram_step};
@@ -22,8 +22,8 @@ pub use turn_client_api::{
     TcpConnectError, TurnEvent, TurnPollRet, TurnRecvRet,
 };
 use turn_client_api::{
-    DataRange, DataRangeOrOwned, DelayedMessageOrChannelSend, PermissionAddressesIter,
-    RelayedAddressesIter, Socket5Tuple, TransmitBuild, TurnClientApi, TurnConfig, TurnPeerData,
+    DelayedMessageOrChannelSend, PermissionAddressesIter, RelayedAddressesIter, Socket5Tuple,
+    TransmitBuild, TurnClientApi, TurnConfig, TurnPeerData,
 };
 use turn_client_core::{TurnClientProtocol, TurnProtocolRecv};
 use turn_stun::data::Data;
@@ -97,34 +97,6 @@ impl TurnClientUdp {
         ensures no_streams { self.old.streams ≡ [] }
     {
         self.core.datagram(bytes, now)
-    }
-}
-
-/// The result that the caller gets for its packet: data of a peer is a range of the packet, and a packet
-/// that is not for the client is returned.
-fn answer_of<T: AsSlice<u8> + Debug + Drop>(
-    told: TurnProtocolRecv,
-    transmit: Transmit<T>,
-) -> TurnRecvRet<T>
-    requires { IsRangeWithin (T.items transmit.payload) told }
-    ensures answer { outcome_of result ≡ outcome_in (T.items transmit.payload) told }
-    ensures hands_back { HandsBack transmit result }
-{
-    match told {
-        TurnProtocolRecv::Handled => TurnRecvRet::Handled,
-        TurnProtocolRecv::Ignored => TurnRecvRet::Ignored(transmit),
-        TurnProtocolRecv::PeerData(transport, peer, range) => {
-            let Transmit { payload, .. } = transmit;
-            let data = DataRangeOrOwned::Range(DataRange::new(payload, range));
-            TurnRecvRet::PeerData(TurnPeerData::new(transport, peer, data))
-        }
-        TurnProtocolRecv::PeerIcmp(transport, peer, icmp) => TurnRecvRet::PeerIcmp {
-            transport,
-            peer,
-            icmp_type: icmp.icmp_type,
-            icmp_code: icmp.code,
-            icmp_data: icmp.data,
-        },
     }
 }
 
@@ -229,7 +201,7 @@ impl TurnClientApi for TurnClientUdp {
             return Ok(TurnRecvRet::Ignored(transmit));
         }
         match self.datagram(transmit.payload.as_slice(), now) {
-            Ok(told) => Ok(answer_of(told, transmit)),
+            Ok(told) => Ok(told.lent(transmit)),
             Err(refusal) => Err(refusal),
         }
     }

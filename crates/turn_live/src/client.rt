@@ -6,7 +6,6 @@ ghost use Rattle.turn_live.specs.Lines.{client_of};
 
 use std::alloc::{AllocError, Global};
 use turn_client_proto::client::TurnClient;
-use turn_client_proto::runs::replay;
 use turn_lines::configuration::configuration;
 use turn_lines::head::Head;
 use turn_types::TransportType;
@@ -24,15 +23,5 @@ pub fn new_client(alloc: Global, head: Head) -> Result<TurnClient, AllocError>
         waits,
     } = head;
     let config = configuration(alloc, request, credentials, waits);
-    // The state of a run without calls is that of a new client.
-    let replayed = replay(
-        alloc,
-        ends.transport,
-        ends.local,
-        ends.remote,
-        config,
-        seed,
-        &[],
-    )?;
-    Ok(replayed.client)
+    TurnClient::allocate(alloc, ends.transport, ends.local, ends.remote, config, seed)
 }

@@ -13,8 +13,6 @@ ghost use Rattle.turn_client_api.specs.Steps.{state_after_all};
 
 use crate::client::TurnClient;
 use crate::runs::{Call, Reply, reply_to};
-use crate::tcp::TurnClientTcp;
-use crate::udp::TurnClientUdp;
 use std::alloc::{AllocError, Global};
 use std::net::SocketAddr;
 use turn_client_api::{TurnClientApi, TurnConfig};
@@ -107,33 +105,9 @@ fn make_run(
     ensures replies { IfOk result (λ replayed. replayed.replies.items ≡ (run transport local remote config seed calls.now).0) }
     ensures client { IfOk result (λ replayed. state_of replayed.client ≡ (run transport local remote config seed calls.now).1) }
 {
-    let client = new_client(alloc, transport, local, remote, config, seed)?;
+    let client = TurnClient::allocate(alloc, transport, local, remote, config, seed)?;
     let (replies, client) = asked(alloc, client, calls)?;
     Ok(Replayed { replies, client })
-}
-
-/// A new client over this transport.
-fn new_client(
-    alloc: Global,
-    transport: TransportType,
-    local: SocketAddr,
-    remote: SocketAddr,
-    config: TurnConfig,
-    seed: [u8; 32],
-) -> Result<TurnClient, AllocError>
-    requires allocation { transport ≡ TransportType.Udp → config.allocation_transport ≡ TransportType.Udp }
-    ensures { IfOk result (λ client. state_of client ≡ initial transport local remote config seed) }
-{
-    match transport {
-        TransportType::Udp => {
-            let client = TurnClientUdp::allocate(alloc, local, remote, config, seed)?;
-            Ok(TurnClient::from(client))
-        }
-        TransportType::Tcp => {
-            let client = TurnClientTcp::allocate(alloc, local, remote, config, seed)?;
-            Ok(TurnClient::from(client))
-        }
-    }
 }
 
 /// The replies of the client to these calls, and the client after them.
