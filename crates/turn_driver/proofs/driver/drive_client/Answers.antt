@@ -16,14 +16,14 @@ begins : (came : Option (Transmit (Vec ℕ Global))) (now : ℕ) (was is : Drive
     → is ≡ begun (packet_in came) now was
 begins came now was is packet e told = told ∙ sym (ap (λ packet. begun packet now was) e)
 
-starts : (g : Over) (c : goal.After-draw g) → stands c.match-came.tasks.items Now (g.C.TurnClientApi.state c.match-came.client) ≡ begun (packet_in c.args.came) c.args.now
+starts : (g : Over) (c : goal.After-poll_tasks g) → stands c.match-came.tasks.items Now (g.C.TurnClientApi.state c.match-came.client) ≡ begun (packet_in c.args.came) c.args.now
     (stands c.args.tasks.now.items Now (g.C.TurnClientApi.state c.args.client.now))
 starts g c =
     let state = g.C.TurnClientApi.state in
     elim c.match-came.branch [
       | in-Some+in_ok-receive w ↦
           ap (λ (v : Vec Task Global). stands v.items Now (state c.match-came.client)) w.tasks-is
-          ∙ (ap (λ client. stands w.hand_in.new.tasks.items Now (state client)) w.client-is
+          ∙ (ap (λ client. stands w.receive.new.tasks.items Now (state client)) w.client-is
           ∙ begins c.args.came c.args.now _ _ (Some (packet_of w.in-Some.packet)) (ap packet_in w.in-Some.is) w.in_ok-receive.ensures.ok)
       | in_default w ↦
           ap (λ (v : Vec Task Global). stands v.items Now (state c.match-came.client)) w.tasks-is
