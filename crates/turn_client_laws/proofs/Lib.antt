@@ -7,6 +7,7 @@ pub mod BoundStreamLemmas
 pub mod ChallengeJudgement
 pub mod ChannelPeers
 pub mod ChannelRange
+pub mod ConfiguredLemmas
 pub mod CountLemmas
 pub mod DistinctGrants
 pub mod DistinctNumbers
@@ -18,6 +19,7 @@ pub mod EditsOfMessages
 pub mod EditsOfReplies
 pub mod EditsOfTime
 pub mod EventBoundLemmas
+pub mod FixedFields
 pub mod FrameRestLemmas
 pub mod FreeNumberLemmas
 pub mod GrantEdits

@@ -1,5 +1,5 @@
 -- Messages leave the streams unchanged, except that a stream may be bound.
-use Rattle.std.proofs.Common.{◌≡◌, ◌⊎◌, ℕ, Bool, true, false, not, cond, eqb, List, Option, Some, None, refl, ◌∙◌, inl, inr}
+use Rattle.std.proofs.Common.{◌≡◌, ◌⊎◌, ℕ, Bool, true, false, not, cond, eqb, List, Option, Some, None, refl, inl, inr}
 use Rattle.std.specs.Prelude.{find, ⊤}
 use Rattle.std.specs.declared.net.socket_addr.SocketAddr.{SocketAddr}
 use Rattle.turn_stun.specs.Message.{id_of}
@@ -20,8 +20,9 @@ use Rattle.turn_client_api.specs.Judgement.{is_bind_of, method_in}
 use Rattle.turn_client_api.specs.Connections.{bind_again, bind_answered, bind_step, connection_at, with_mode}
 use Rattle.turn_client_api.specs.Payloads.{Handled, Ignored, channel_sent, is_message, message_step}
 use Rattle.turn_client_api.specs.Streams.{frame_step}
-use Rattle.turn_client_laws.proofs.Edits.{KeepsAllEdits, KeepsEdits}
+use Rattle.turn_client_laws.proofs.Edits.{KeepsEdits}
 use Rattle.turn_client_laws.proofs.EditsOfMessages.{message-walk}
+use Rattle.turn_client_laws.proofs.FixedFields.{fixed-all-edits, fixed-edits}
 
 -- the streams stay unchanged
 abbrev pub Same : State → State → Type 0
@@ -33,48 +34,10 @@ same-cond false s t u k l = l
 
 -- no edit of a message touches them
 pub Same-KeepsEdits : KeepsEdits Same
-Same-KeepsEdits = record {
-  same = λ s. refl;
-  trans = λ s t u first second. second ∙ first;
-  aside = λ s t. refl;
-  queues = λ queue s begun. refl;
-  dequeues = λ queue s fewer. refl;
-  families = λ families s may. refl;
-  sends = λ now s waits. refl;
-  begins = λ now s new. refl;
-  ends = λ s none. refl;
-  asks = λ id text purposes now s begun askable spelled. refl;
-  finishes = λ id s. refl;
-  resends = λ id now s. refl;
-  unlists = λ which s. refl;
-  removes = λ which s spares. refl;
-  removes_family = λ family s. refl;
-  takes_offer = λ id peer s. refl;
-  ages = λ grants s e. refl;
-  permission = λ ip s phase room none. refl;
-  channel = λ number peer s phase room none within. refl;
-  connect = λ peer s phase room none. refl;
-  connection = λ id c origin s phase offer none waits. refl;
-  reserves = λ number peer was until s there. refl;
-}
-
-Same-KeepsAllEdits : KeepsAllEdits Same
-Same-KeepsAllEdits = record {
-  edits = Same-KeepsEdits;
-  reshapes = λ grants s e. refl;
-  rebinds = λ number peer was progress s there. refl;
-  holds = λ message d s e. refl;
-  counts = λ s held few. refl;
-  resets = λ heeded s. refl;
-  empties = λ s. refl;
-  allocates = λ message lifetime now s e none. refl;
-  permits = λ ip expiry s is. refl;
-  connects = λ id connection_id peer s t since stay granted listed. since;
-  offers = λ id peer origin s room few. refl;
-}
+Same-KeepsEdits = fixed-edits (λ f. f.1.1)
 
 pub message-same : (message : List ℕ) (now : ℕ) (s : State) → Same s (message_step message now s).1
-message-same message now s = message-walk ⊤ Same Same-KeepsAllEdits message now s (λ h. tt)
+message-same message now s = message-walk ⊤ Same (fixed-all-edits (λ f. f.1.1)) message now s (λ h. tt)
 
 -- ---- connections that wait to be bound
 

@@ -7,7 +7,6 @@ pub mod BoundLemmas
 pub mod CallGrants
 pub mod ChallengeLemmas
 pub mod ComingLemmas
-pub mod ConfiguredLemmas
 pub mod FedTurnLemmas
 pub mod FollowLemmas
 pub mod GrantTurns

@@ -10,9 +10,10 @@ use Rattle.turn_client_api.specs.Receive.{recv_step}
 use Rattle.turn_client_api.specs.Steps.{state_after, state_after_all}
 use Rattle.turn_client_api.specs.declared.call.Call.{Call}
 use Rattle.turn_client_laws.specs.LawsStreams.{AreApart}
-use Rattle.turn_client_laws.proofs.Edits.{IgnoresAll, KeepsAllEdits, KeepsEdits}
+use Rattle.turn_client_laws.proofs.Edits.{IgnoresAll, KeepsAllEdits}
 use Rattle.turn_client_laws.proofs.EditsOfCalls.{calls-walk}
 use Rattle.turn_client_laws.proofs.EditsOfMessages.{edits-IsKept}
+use Rattle.turn_client_laws.proofs.FixedFields.{fixed-all-edits}
 use Rattle.turn_client_laws.proofs.RunKeepLemmas.{IsKept, poll_recv-kept, recv-kept}
 use Rattle.turn_client_laws.proofs.StreamCallLemmas.{call-apart, initial-apart}
 use Rattle.turn_client_laws.proofs.StreamDrainLemmas.{turns-done}
@@ -26,46 +27,8 @@ use Rattle.turn_client_runs.proofs.AllTurnsLemmas.{all-done, polled_out, polled_
 abbrev SameTransport : State → State → Type 0
 SameTransport s t = t.transport ≡ s.transport
 
-edits : KeepsEdits SameTransport
-edits = record {
-  same = λ s. refl;
-  trans = λ s t u first second. second ∙ first;
-  aside = λ s t. refl;
-  queues = λ queue s begun. refl;
-  dequeues = λ queue s fewer. refl;
-  families = λ families s may. refl;
-  sends = λ now s waits. refl;
-  begins = λ now s new. refl;
-  ends = λ s none. refl;
-  asks = λ id text purposes now s begun askable spelled. refl;
-  finishes = λ id s. refl;
-  resends = λ id now s. refl;
-  unlists = λ which s. refl;
-  removes = λ which s spares. refl;
-  removes_family = λ family s. refl;
-  takes_offer = λ id peer s. refl;
-  ages = λ grants s e. refl;
-  permission = λ ip s phase room none. refl;
-  channel = λ number peer s phase room none within. refl;
-  connect = λ peer s phase room none. refl;
-  connection = λ id c origin s phase offer none waits. refl;
-  reserves = λ number peer was until s there. refl;
-}
-
 all-edits : KeepsAllEdits SameTransport
-all-edits = record {
-  edits = edits;
-  reshapes = λ grants s e. refl;
-  rebinds = λ number peer was progress s there. refl;
-  holds = λ message d s e. refl;
-  counts = λ s held few. refl;
-  resets = λ heeded s. refl;
-  empties = λ s. refl;
-  allocates = λ message lifetime now s e none. refl;
-  permits = λ ip expiry s is. refl;
-  connects = λ id connection_id peer s t since stay granted listed. since;
-  offers = λ id peer origin s room few. refl;
-}
+all-edits = fixed-all-edits (λ f. f.0)
 
 any-streams : IgnoresAll SameTransport
 any-streams s streams = refl

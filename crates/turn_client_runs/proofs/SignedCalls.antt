@@ -36,7 +36,7 @@ use Rattle.turn_client_laws.proofs.RunKeepLemmas.{poll_recv-kept, recv-kept}
 use Rattle.turn_client_laws.proofs.SendOrderLemmas.{leaves-steadies}
 use Rattle.turn_client_laws.proofs.StandLemmas.{contains-has, has-contains}
 use Rattle.turn_client_runs.specs.Granted.{IsSignedAllocate}
-use Rattle.turn_client_runs.proofs.ConfiguredLemmas.{call-configured}
+use Rattle.turn_client_laws.proofs.ConfiguredLemmas.{call-configured}
 use Rattle.turn_client_runs.proofs.SignedLemmas.{AreSigned, Signs, SignsIn, StaySigned, StaySigned-IsKept, further-signs, later-signs, same-signs}
 
 -- ---- what a caller requests needs an allocation

@@ -35,7 +35,7 @@ use Rattle.turn_client_laws.proofs.PhasesGoOn.{Keeps, bind-keeps, message-keeps}
 use Rattle.turn_client_laws.proofs.RunKeepLemmas.{IsKept}
 use Rattle.turn_client_laws.proofs.StandLemmas.{contains-has, has-contains}
 use Rattle.turn_client_runs.specs.Granted.{HaveOneRealm, IsSignedAllocate}
-use Rattle.turn_client_runs.proofs.ConfiguredLemmas.{message-configured}
+use Rattle.turn_client_laws.proofs.ConfiguredLemmas.{message-configured}
 
 -- ---- what is kept
 

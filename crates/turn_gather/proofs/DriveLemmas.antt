@@ -16,20 +16,20 @@ use Rattle.turn_gather.specs.declared.calls.call.GatherCall.{GatherCall}
 use Rattle.turn_gather.specs.declared.calls.call.GatherCall.TheVariants.{Candidates, IsChecked, Check, Recv, PollRecv, CreatePermission, SendTo, Poll, PollTransmit, PollEvent}
 use Rattle.turn_gather.specs.declared.calls.reply.GatherReply.{GatherReply}
 use Rattle.turn_gather.specs.declared.calls.reply.PeerPayload.{PeerPayload}
-use Rattle.turn_gather.proofs.ConfigLemmas.{state_after-config}
+use Rattle.turn_client_laws.proofs.ConfiguredLemmas.{call-configured}
 
 -- no call changes what the client's allocations relay over
 client_after-config : (call : GatherCall) (s : State) → (client_after call s).config ≡ s.config
 client_after-config Candidates s = refl
 client_after-config (IsChecked transport peer) s = refl
 client_after-config (Check transport peer) s = refl
-client_after-config (Recv packet now) s = state_after-config (Calls.Recv packet now) s
-client_after-config (PollRecv now) s = state_after-config (Calls.PollRecv now) s
-client_after-config (CreatePermission transport peer now) s = state_after-config (Calls.CreatePermission transport peer now) s
-client_after-config (SendTo transport peer bytes now) s = state_after-config (Calls.SendTo transport peer bytes now) s
-client_after-config (Poll now) s = state_after-config (Calls.Poll now) s
-client_after-config (PollTransmit now) s = state_after-config (Calls.PollTransmit now) s
-client_after-config PollEvent s = state_after-config Calls.PollEvent s
+client_after-config (Recv packet now) s = call-configured (Calls.Recv packet now) s
+client_after-config (PollRecv now) s = call-configured (Calls.PollRecv now) s
+client_after-config (CreatePermission transport peer now) s = call-configured (Calls.CreatePermission transport peer now) s
+client_after-config (SendTo transport peer bytes now) s = call-configured (Calls.SendTo transport peer bytes now) s
+client_after-config (Poll now) s = call-configured (Calls.Poll now) s
+client_after-config (PollTransmit now) s = call-configured (Calls.PollTransmit now) s
+client_after-config PollEvent s = call-configured Calls.PollEvent s
 
 pub step-relays : (s t : Gathering) (call : GatherCall) (reply : GatherReply) → (reply, t) ≡ step s call → t.client.config.allocation_transport ≡ s.client.config.allocation_transport
 step-relays s t call reply e =

@@ -1,3 +1,2 @@
-pub mod ConfigLemmas
 pub mod DriveLemmas
 pub mod ReceivedLemmas

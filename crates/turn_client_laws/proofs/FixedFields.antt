@@ -1,16 +1,24 @@
--- No call of a client changes its configuration.
-use Rattle.std.proofs.Common.{◌≡◌, ◌∙◌, refl}
+-- Fields of a client that no edit touches: a law that one of them stays is one line.
+use Rattle.std.proofs.Common.{◌≡◌, ◌∙◌, List, refl}
+use Rattle.turn_stun.specs.declared.transport.TransportType.{TransportType}
+use Rattle.turn_client_api.specs.Config.{Config}
 use Rattle.turn_client_api.specs.State.{State}
-use Rattle.turn_client_api.specs.Steps.{state_after}
-use Rattle.turn_client_api.specs.declared.call.Call.{Call}
+use Rattle.turn_client_api.specs.declared.state.Stream.{Stream}
 use Rattle.turn_client_laws.proofs.Edits.{KeepsAllEdits, KeepsEdits}
-use Rattle.turn_client_laws.proofs.EditsOfCalls.{calls-walk}
 
-abbrev KeepsConfig : State → State → Type 0
-KeepsConfig s t = t.config ≡ s.config
+abbrev pub Fixed : Type 0
+Fixed = TransportType × (Config × List Stream)
 
-KeepsConfig-KeepsEdits : KeepsEdits KeepsConfig
-KeepsConfig-KeepsEdits = record {
+-- the transport of its packets, what it was made with, and its streams
+abbrev pub fixed : State → Fixed
+fixed s = (s.transport, (s.config, s.streams))
+
+-- this part of them is the same
+abbrev pub SameIn : {A : Type 0} → (Fixed → A) → State → State → Type 0
+SameIn part s t = part (fixed t) ≡ part (fixed s)
+
+pub fixed-edits : {A : Type 0} (part : Fixed → A) → KeepsEdits (SameIn part)
+fixed-edits part = record {
   same = λ s. refl;
   trans = λ s t u first second. second ∙ first;
   aside = λ s t. refl;
@@ -35,9 +43,9 @@ KeepsConfig-KeepsEdits = record {
   reserves = λ number peer was until s there. refl;
 }
 
-KeepsConfig-KeepsAllEdits : KeepsAllEdits KeepsConfig
-KeepsConfig-KeepsAllEdits = record {
-  edits = KeepsConfig-KeepsEdits;
+pub fixed-all-edits : {A : Type 0} (part : Fixed → A) → KeepsAllEdits (SameIn part)
+fixed-all-edits part = record {
+  edits = fixed-edits part;
   reshapes = λ grants s e. refl;
   rebinds = λ number peer was progress s there. refl;
   holds = λ message d s e. refl;
@@ -49,6 +57,3 @@ KeepsConfig-KeepsAllEdits = record {
   connects = λ id connection_id peer s t since stay granted listed. since;
   offers = λ id peer origin s room few. refl;
 }
-
-pub state_after-config : (call : Call) (s : State) → (state_after call s).config ≡ s.config
-state_after-config = calls-walk KeepsConfig KeepsConfig-KeepsAllEdits (λ s streams. refl)

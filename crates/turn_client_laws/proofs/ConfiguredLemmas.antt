@@ -1,0 +1,22 @@
+-- What a client was made with never changes.
+use Rattle.std.proofs.Common.{◌≡◌, ℕ, List, refl}
+use Rattle.turn_client_api.specs.State.{State}
+use Rattle.turn_client_api.specs.declared.call.Call.{Call}
+use Rattle.turn_client_api.specs.Payloads.{message_step}
+use Rattle.turn_client_api.specs.Steps.{state_after}
+use Rattle.turn_client_laws.proofs.Edits.{KeepsAllEdits}
+use Rattle.turn_client_laws.proofs.EditsOfCalls.{calls-walk}
+use Rattle.turn_client_laws.proofs.EditsOfMessages.{edits-IsKept}
+use Rattle.turn_client_laws.proofs.FixedFields.{fixed-all-edits}
+
+abbrev StayConfigured : State → State → Type 0
+StayConfigured s t = t.config ≡ s.config
+
+StayConfigured-KeepsAllEdits : KeepsAllEdits StayConfigured
+StayConfigured-KeepsAllEdits = fixed-all-edits (λ f. f.1.0)
+
+pub message-configured : (message : List ℕ) (now : ℕ) (s : State) → (message_step message now s).1.config ≡ s.config
+message-configured = (edits-IsKept StayConfigured StayConfigured-KeepsAllEdits (λ s streams. refl)).message
+
+pub call-configured : (call : Call) (s : State) → (state_after call s).config ≡ s.config
+call-configured = calls-walk StayConfigured StayConfigured-KeepsAllEdits (λ s streams. refl)
