@@ -79,7 +79,7 @@ one-peer number peer to was is (g ∷ gs) h (inl e) (inl f) = same (e ∙ sym f)
 -- ---- the channel that a request is for
 
 -- a channel of the number has the peer with which it was requested
-asked-peer : (number : ℕ) (peer to : SocketAddr) (s : State) → AllHaveGrant s → AreApart s.grants → (l : Listing) → Has l s.listed → l.purpose ≡ ForChannel number peer → HasChannelTo number to s
+pub asked-peer : (number : ℕ) (peer to : SocketAddr) (s : State) → AllHaveGrant s → AreApart s.grants → (l : Listing) → Has l s.listed → l.purpose ≡ ForChannel number peer → HasChannelTo number to s
     → to ≡ peer
 asked-peer number peer to s founded apart l listed asks (progress, there) = by (subst (HasGrant s.grants) asks (founded l listed))
   where
