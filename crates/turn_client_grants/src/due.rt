@@ -1,10 +1,9 @@
-//! When a grant expires, when it is to be refreshed, and the earliest of these times.
+//! When a grant is to be refreshed, and the earlier of two times.
 
 ghost use Rattle.std.specs.Option.{option_map_or};
-ghost use Rattle.std.specs.Prelude.{◌≡◌, ◌-◌, false, flat_map, fold, map, max, min, not, option_to_list};
-ghost use Rattle.turn_client_api.specs.Due.{end_of, is_refreshable, refresh_time, refresh_time_by_kind, refresh_time_of};
+ghost use Rattle.std.specs.Prelude.{◌≡◌, ◌-◌, false, fold, map, max, min, not, option_to_list};
+ghost use Rattle.turn_client_api.specs.Due.{is_refreshable, refresh_time, refresh_time_by_kind, refresh_time_of};
 ghost use Rattle.turn_client_api.specs.State.{State};
-ghost use Rattle.turn_client_grants.specs.Due.{times_of};
 ghost use Rattle.turn_client_grants.specs.Lists.{find_allocation_in, with_lists};
 
 use crate::kind::{family_of, family_of_ip};
@@ -96,29 +95,6 @@ pub(crate) fn refresh_time(grants: &[Grant], listed: &[Listing], grant: &Grant) 
     Some(moment)
 }
 
-/// The expiry of the grant, if it is to be waited for: a past one of an allocation is not.
-fn end_of(grant: &Grant, now: Instant) -> Option<Instant>
-    ensures { option_to_list result ≡ end_of now grant.now }
-{
-    match grant {
-        Grant::Allocation(relay) => {
-            if now < relay.expiry {
-                return Some(relay.expiry);
-            }
-            None
-        }
-        Grant::Permission(_, Progress::Active(expiry)) => Some(*expiry),
-        Grant::Permission(_, Progress::Pending) => None,
-        Grant::Permission(_, Progress::Reserved(_)) => None,
-        Grant::Channel(_, _, Progress::Active(expiry)) => Some(*expiry),
-        Grant::Channel(_, _, Progress::Pending) => None,
-        Grant::Channel(_, _, Progress::Reserved(_)) => None,
-        Grant::Connect(_) => None,
-        Grant::Offer(_) => None,
-        Grant::Connection(connection) => connection.deadline,
-    }
-}
-
 /// The earlier of the time and the other one, if there is one.
 pub(crate) fn least(moment: Instant, other: Option<Instant>) -> Instant
     ensures { result ≡ fold min moment (option_to_list other) }
@@ -137,37 +113,4 @@ pub(crate) fn after_pause(pause: Instant, moment: Option<Instant>) -> Option<Ins
         Some(moment) => Some(pause.max(moment)),
         None => None,
     }
-}
-
-/// The earliest of the time and those of the grant.
-fn least_with(
-    moment: Instant,
-    grants: &[Grant],
-    listed: &[Listing],
-    grant: &Grant,
-    now: Instant,
-    pause: Instant,
-) -> Instant
-    ensures { (s : State) → result ≡ fold min moment (times_of now pause (with_lists grants.now listed.now s) grant.now) }
-{
-    let end = end_of(grant, now);
-    let refresh = after_pause(pause, refresh_time(grants, listed, grant));
-    least(least(moment, end), refresh)
-}
-
-/// The earliest of the time and those of all grants.
-pub(crate) fn least_of(
-    moment: Instant,
-    grants: &[Grant],
-    listed: &[Listing],
-    now: Instant,
-    pause: Instant,
-) -> Instant
-    ensures { (s : State) → result ≡ fold min moment (flat_map (times_of now pause (with_lists grants.now listed.now s)) grants.now) }
-{
-    let mut least = moment;
-    for grant in grants {
-        least = least_with(least, grants, listed, grant, now, pause);
-    }
-    least
 }
