@@ -5,7 +5,6 @@ use Rattle.turn_stun.specs.declared.transport.TransportType.{TransportType}
 use Rattle.turn_client_api.specs.declared.call.Call.{Call}
 use Rattle.turn_client_api.specs.State.{State}
 use Rattle.turn_client_api.specs.Steps.{state_after}
-use Rattle.turn_lines.specs.Status.{code_of}
 use Rattle.turn_lines.specs.Text.{bad_text}
 use Rattle.turn_lines.specs.declared.fault.BadLine.{BadLine}
 use Rattle.turn_lines.specs.declared.head.Head.{Head}
@@ -139,7 +138,3 @@ abbrev pub Runs : Option (List ℕ) → Option (List ℕ) → Option (List ℕ) 
 Runs input left old new status =
     ((status ≡ Answered) × IsSession input left old new (Ok tt))
     ⊎ ((stop : Stop) × (answers : Option (List ℕ)) × IsSession input left old answers (Err stop) × Closes stop answers new status)
-
--- a run with this exit status, and its effects
-abbrev pub Exits : Option (List ℕ) → Option (List ℕ) → Option (List ℕ) → Option (List ℕ) → ℕ → Type 0
-Exits input left old new code = (status : Status) × (code ≡ code_of status) × Runs input left old new status

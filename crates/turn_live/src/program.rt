@@ -1,7 +1,8 @@
 //! The program: lines in, answers out.
 
 ghost use Rattle.std.specs.Process.{exit_status};
-ghost use Rattle.turn_live.specs.Session.{Closes, Exits, Runs};
+ghost use Rattle.turn_lines.specs.Status.{Exits};
+ghost use Rattle.turn_live.specs.Session.{Closes, Runs};
 
 use crate::session::hold_session;
 use crate::stop::Stop;
@@ -15,7 +16,7 @@ use turn_lines::status::Status;
 /// Answers lines as [`run`] does. The exit status says how that ended: 0 at the end of the input, 2 at a bad line, 3
 /// if memory allocation failed, and 4 if reading or writing failed.
 pub fn exit_code<R: Read, W: Write>(alloc: Global, reader: &mut R, writer: &mut W) -> ExitCode
-    ensures { Exits (R.remaining reader.old) (R.remaining reader.new) (W.contents writer.old) (W.contents writer.new) (exit_status result) }
+    ensures { Exits (Runs (R.remaining reader.old) (R.remaining reader.new) (W.contents writer.old) (W.contents writer.new)) (exit_status result) }
 {
     ExitCode::from(run(alloc, reader, writer).code())
 }

@@ -3,7 +3,6 @@ use Rattle.std.specs.Prelude.{◌≡◌, ℕ, ◌≤◌, ◌⊎◌, Bool, false,
 use Rattle.std.specs.Io.KnownBytes.{Appends, Consumes, IsAtEnd}
 use Rattle.turn_client_api.specs.declared.call.Call.{Call}
 use Rattle.turn_lines.specs.Answered.{answered_text}
-use Rattle.turn_lines.specs.Status.{code_of}
 use Rattle.turn_lines.specs.Text.{bad_text}
 use Rattle.turn_replay.specs.Trace.{trace_of}
 use Rattle.turn_lines.specs.declared.fault.BadLine.{BadLine}
@@ -57,7 +56,3 @@ Runs input left old new Malformed = Answers input left old new Malformed
 Runs input left old new OutOfMemory = Appends old new (codes "no memory\n")
 Runs input left old new ReadFailed = Appends old new (codes "read failed\n")
 Runs input left old new WriteFailed = ⊤
-
--- a run with this exit status, and its effects
-abbrev pub Exits : Option (List ℕ) → Option (List ℕ) → Option (List ℕ) → Option (List ℕ) → ℕ → Type 0
-Exits input left old new code = (status : Status) × (code ≡ code_of status) × Runs input left old new status

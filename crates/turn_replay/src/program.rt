@@ -3,7 +3,8 @@
 ghost use Rattle.std.specs.Prelude.{◌≡◌, ◌⊎◌};
 ghost use Rattle.std.specs.Io.KnownBytes.{Appends};
 ghost use Rattle.std.specs.Process.{exit_status};
-ghost use Rattle.turn_replay.specs.Answer.{PrintsText, Runs, Exits};
+ghost use Rattle.turn_lines.specs.Status.{Exits};
+ghost use Rattle.turn_replay.specs.Answer.{PrintsText, Runs};
 
 use crate::answer::answer;
 use crate::input::{InputError, read_input};
@@ -16,7 +17,7 @@ use turn_lines::status::Status;
 /// the calls, 2 which line of the trace is bad, 3 that memory allocation failed, and 4 that the trace could not be
 /// read, or not everything, as writing failed.
 pub fn exit_code<R: Read, W: Write>(alloc: Global, reader: &mut R, writer: &mut W) -> ExitCode
-    ensures { Exits (R.remaining reader.old) (R.remaining reader.new) (W.contents writer.old) (W.contents writer.new) (exit_status result) }
+    ensures { Exits (Runs (R.remaining reader.old) (R.remaining reader.new) (W.contents writer.old) (W.contents writer.new)) (exit_status result) }
 {
     ExitCode::from(run(alloc, reader, writer).code())
 }
