@@ -327,6 +327,7 @@ impl StunAgent {
         if let Some(moment) = self.quiet_until(now) {
             return StunAgentPollRet::WaitUntil(moment);
         }
+        // The oldest first, one a call (our choice): in the order in which the caller made its requests.
         match progress_of(&self.transactions, &self.schedule, now) {
             Progress::Over(place) => {
                 let given_up = self.take_out(place);
@@ -363,6 +364,7 @@ impl StunAgent {
             return Ok(None);
         };
         let transaction = &mut self.transactions[place];
+        // The next wait begins now, not when this one ended (our choice): a late caller does not shorten it.
         let payload = transaction.send_again(self.alloc, now)?;
         let to = transaction.to;
         self.soonest = None;

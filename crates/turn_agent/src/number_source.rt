@@ -68,6 +68,7 @@ impl NumberSource {
 /// The seed is not shown, since it reveals all IDs to come.
 impl fmt::Debug for NumberSource {
     fn fmt<W: fmt::Write>(&self, f: &mut fmt::Formatter<W>) -> fmt::Result {
+        // The seed is not printed (our choice): a reader of a log would know all future IDs.
         let place = self.generator.get_word_pos();
         write!(f, "NumberSource {{ place: {place}, .. }}")
     }

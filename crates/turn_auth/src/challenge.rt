@@ -90,6 +90,7 @@ pub(crate) fn picked(
 ) -> Option<IntegrityAlgorithm>
     ensures { result ≡ picked supported.now (value_in 0x8002 message.now) }
 {
+    // The better one that both sides have (our choice).
     if supports(supported, IntegrityAlgorithm::Sha256) {
         if let Some(value) = offered_in(message) {
             if offers_sha256(value) {

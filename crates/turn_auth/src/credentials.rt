@@ -128,6 +128,7 @@ impl Eq for TurnCredentials {
 
 impl fmt::Debug for TurnCredentials {
     fn fmt<W: fmt::Write>(&self, f: &mut fmt::Formatter<W>) -> fmt::Result {
+        // The password is not printed (our choice): a reader of a log could sign with it.
         f.debug_struct("TurnCredentials")
             .field("user", &self.user)
             .finish_non_exhaustive()

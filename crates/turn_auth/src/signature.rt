@@ -52,6 +52,7 @@ pub(crate) fn sign(
 {
     let before = message.as_bytes().len();
     let class = message.message_type().class;
+    // All memory first (our choice), so that a failure leaves the message as it was.
     message.reserve(challenge.signature_len(credentials, anonymous, class))?;
     let added = add_signature(message, anonymous, credentials, challenge, key);
     if added.is_err() {
@@ -113,6 +114,7 @@ pub(crate) fn add_request_attributes(
     ensures all { OnOk result (AddsAll message.old message.new (request_additions anonymous credentials.now challenge.now)) }
     ensures kept { Extends message.old message.new }
 {
+    // The order is our choice: RFC 8489 leaves it open, except that the integrity comes last.
     add_user(message, anonymous, credentials, challenge.realm())?;
     add(message, &Realm::new(challenge.realm()))?;
     add(message, &Nonce::new(challenge.nonce()))?;

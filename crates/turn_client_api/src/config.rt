@@ -24,6 +24,7 @@ use turn_types::{AddressFamily, TransportType};
 #[derive(Debug, Drop)]
 pub struct TurnConfig {
     allocation_transport: TransportType,
+    // Both lists are inline, with room for both values (our choice): no setter allocates memory.
     address_families: SmallVec<AddressFamily, 2>,
     credentials: TurnCredentials,
     supported_integrity: SmallVec<IntegrityAlgorithm, 2>,

@@ -163,6 +163,7 @@ impl GrantLedger {
         ensures state { (s : State) → with_ledger self.new s ≡ jump (event ∷ []) (with_ledger self.old s) }
         ensures room { SameRoomBut 0 1 self.old self.new }
     {
+        // Of several, the last is polled first (our choice): one rule serves one event and several.
         self.events.push_front_reserved(event);
     }
 

@@ -56,6 +56,7 @@ fn receive<C: TurnClientApi>(
     ensures list { OnErr result (tasks.new.items ≡ tasks.old.items) }
     ensures no_memory { OnErr result (StopsAtHand (Some (packet_of came)) now (C.state client.old) (C.state client.new)) }
 {
+    // Room first (our choice): an allocation failure loses nothing that the client returns.
     tasks.reserve(1)?;
     let task = match client.recv(came, now)? {
         TurnRecvRet::Handled => return Ok(()),
@@ -91,6 +92,7 @@ fn poll_tasks<C: TurnClientApi>(
     ensures restful { IfOk result (λ rest. IsRestful rest now (C.state client.new)) }
     ensures no_memory { OnErr result (Draws most now (drive_state tasks.old.items (C.state client.old)) (drive_state tasks.new.items (C.state client.new))) }
 {
+    // No more than the caller says (our choice): a busy client holds up nothing else.
     for _ in 0..most {
         tasks.reserve(1)?;
         match next_task(client, now)? {

@@ -31,6 +31,7 @@ pub fn next_task<C: TurnClientApi>(client: &mut C, now: Instant) -> Result<Next,
     ensures restful { IfOk result (λ next. AnswersRest (answer_of next) now (C.state client.new)) }
     ensures no_memory { OnErr result (NextEnds now (C.state client.old) (C.state client.new)) }
 {
+    // The streams first (our choice): `poll` then speaks of the client as they left it.
     match client.poll_recv(now)? {
         Some(payload) => Ok(Next::Do(Task::Payload(payload))),
         None => poll(client, now),

@@ -32,7 +32,7 @@ impl Outbox {
     }
 
     /// Removes and returns the first queued reply. It does not extend the pause, which applies to
-    /// requests.
+    /// requests (our choice).
     pub(crate) fn take_reply(&mut self) -> Option<Transmit<Data>>
         ensures { (result, with_room self.old.room self.new) ≡ first_reply_step self.old }
     {

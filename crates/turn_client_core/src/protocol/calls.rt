@@ -1,4 +1,7 @@
 //! What the caller requests of the client (RFC 8656, sections 7 to 12; RFC 6062, section 4.3).
+//!
+//! Each call tests its errors in one order, allocation failure last (our choice), so that a caller can
+//! conclude what an error rules out.
 
 mod allocation;
 mod bind_channel;

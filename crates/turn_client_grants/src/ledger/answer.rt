@@ -218,6 +218,7 @@ impl GrantLedger {
         let purposes = self.table.purposes_of(id);
         self.remove(&GrantFilter::ChannelOf(number));
         self.push_event(TurnEvent::ChannelCreateFailed(transport, peer));
+        // Its pending permission goes too (our choice): no other response would answer it.
         self.fail_back(&GrantFilter::PendingPermissionsOf(purposes));
     }
 
@@ -240,6 +241,7 @@ impl GrantLedger {
         if is_granted {
             return self.renew(&GrantFilter::ChannelOf(number), later(now, CHANNEL_SECONDS));
         }
+        // Reserved as after its expiry (our choice): the server may keep the binding so long.
         self.replace(
             &GrantFilter::ChannelOf(number),
             &Grant::Channel(

@@ -58,6 +58,7 @@ impl<'a> AttributeFromRaw<'a> for Nonce<'a> {
     }
 
     fn from_value(value: &'a [u8], _id: TransactionId) -> Option<Nonce<'a>> {
+        // An empty one is malformed (our choice): nothing can be signed with it.
         if value.is_empty() || value.len() > 763 {
             return None;
         }

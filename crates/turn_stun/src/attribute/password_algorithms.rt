@@ -38,7 +38,7 @@ impl PasswordAlgorithm {
 /// parameters, each padded to a multiple of four bytes. Contracts see it as the bytes of the value.
 ///
 /// Unknown algorithms are skipped, and so are entries with parameters, which neither of the known ones
-/// has.
+/// has (our choice): a server may offer more than the client knows.
 #[derive(Debug, Drop)]
 pub struct PasswordAlgorithms<'a> {
     bytes: &'a [u8],

@@ -178,7 +178,8 @@ impl MessageWriteVec {
         MessageWriteVec::builder(alloc, MessageType { method, class }, id)
     }
 
-    /// The success response to a request with that method and transaction ID.
+    /// The success response to a request with that method and transaction ID. It does not take the request
+    /// (our choice): a reply may be made long after that was dropped.
     pub fn builder_success(
         alloc: Global,
         method: Method,

@@ -45,6 +45,7 @@ impl<T: AsSlice<u8> + Drop> DelayedTransmitBuild for DelayedChannel<T> {
     ghost bytes = { delayed_channel_bytes };
 
     fn len(&self) -> usize {
+        // Padded over datagrams too (our choice, which RFC 8656, section 12.5, allows): one form serves both.
         4 + framing::padded_len(self.payload.as_slice().len())
     }
 

@@ -70,6 +70,7 @@ impl TurnClientProtocol {
     {
         let first = self.outbox.candidate();
         let _bytes = first.to_bytes();
+        // What is outstanding or listed is taken (our choice), so that a copy of a reply finds nothing new.
         let taken = self.outbox.outstanding() as u128
             + self.ledger.table().listing_count() as u128
             + self.ledger.table().count() as u128;

@@ -110,6 +110,7 @@ impl TurnClientProtocol {
         requires { connection_at connection.now.local self.old ≡ Some connection.now }
         ensures { self.new ≡ not_bound connection.now (transaction_ended (id_of message.now) self.old) }
     {
+        // A signed error ends the transaction too (our choice): the request was answered.
         self.outbox.end(message.transaction_id());
         self.not_bound(connection);
     }

@@ -117,6 +117,7 @@ impl TurnClientProtocol {
     {
         match Message::from_bytes(frame) {
             Ok(message) => {
+                // `Handled` whatever its effect (our choice): the bytes were those of the connection.
                 self.bind_step(local, &message, now)?;
                 Ok(TurnProtocolRecv::Handled)
             }

@@ -103,6 +103,7 @@ impl TurnClientProtocol {
         ensures free { piece_takes_none transmit.to (T.items transmit.payload) self.old ≡ true → IsOk result }
     {
         if self.is_broken_at(transmit.to) {
+            // The other streams go on all the same (our choice): the caller need not know that this one broke.
             return self.broken_piece(transmit.to, now);
         }
         self.whole_piece(transmit, now)

@@ -114,8 +114,10 @@ impl TurnClientProtocol {
             id,
         )?;
         let from = self.outbox.local_addr();
+        // Room for its failure events too (our choice): a stray packet ends no client that is short of memory.
         self.ledger.reserve(0, 2, self.families.len())?;
         let packet = self.outbox.begin(id, text, from, now)?;
+        // Drawn once the rest has succeeded (our choice): a refusal leaves the source of IDs too.
         self.outbox.draw();
         self.outbox.note_sent(now);
         self.ledger

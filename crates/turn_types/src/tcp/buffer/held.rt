@@ -34,6 +34,7 @@ impl TurnTcpBuffer {
         ensures after { self.new ≡ broken_off more self.old }
         ensures kept { IsKept self.new }
     {
+        // What follows is lost too (our choice): it is unknown where the next frame begins.
         let rest = self.rest().len();
         self.counts.add_taken(rest);
         self.counts.add_taken(more);
