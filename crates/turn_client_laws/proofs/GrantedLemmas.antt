@@ -107,7 +107,7 @@ control-grants g one over whole covers = by g (message-brings g one.bytes one.mo
     by (Connection c) (inr (was, is, kept)) = absurd (connection c was is kept)
 
 -- a grant that a map leaves existed before, or is a connection at this local address
-deadline-has : (local : SocketAddr) (g x : Grant) → g ≡ deadline_set local None x → (g ≡ x) ⊎ ((c : DataConnection) × (g ≡ Connection c) × (c.local ≡ local))
+pub deadline-has : (local : SocketAddr) (g x : Grant) → g ≡ deadline_set local None x → (g ≡ x) ⊎ ((c : DataConnection) × (g ≡ Connection c) × (c.local ≡ local))
 deadline-has local g (Connection c) e = by (same_address c.local local) refl
   where
     by : (b : Bool) → same_address c.local local ≡ b → (g ≡ Connection c) ⊎ ((d : DataConnection) × (g ≡ Connection d) × (d.local ≡ local))

@@ -2,12 +2,10 @@
 -- answers.
 use Rattle.std.proofs.Common.{◌≡◌, ◌⊎◌, ◌∙◌, ℕ, Bool, true, false, cond, List, Option, Some, None, refl, subst, sym, ap, inl, inr}
 use Rattle.std.specs.List.{Contains}
-use Rattle.std.specs.declared.net.socket_addr.SocketAddr.{SocketAddr}
 use Rattle.turn_stun.specs.Message.{id_of}
 use Rattle.turn_stun.specs.declared.message.header.MessageClass.TheVariants.{Success}
 use Rattle.turn_auth.specs.LongTerm.{Challenge}
 use Rattle.turn_auth.specs.Validation.{IsValidated, validation_of}
-use Rattle.turn_agent.specs.Agent.{same_address}
 use Rattle.turn_client_api.specs.State.{State, auth_of}
 use Rattle.turn_client_api.specs.declared.grant.Grant.{Grant}
 use Rattle.turn_client_api.specs.declared.grant.Grant.TheVariants.{Allocation, Permission, Channel, Connect, Offer, Connection}
@@ -31,11 +29,11 @@ use Rattle.turn_client_laws.specs.LawsReplies.{IsAccepted, IsAwaited, IsNotAwait
 use Rattle.turn_client_api.specs.Payloads.{is_message, message_step}
 use Rattle.turn_client_api.specs.Receive.{connection_gone}
 use Rattle.turn_client_laws.proofs.AcceptedReplyLemmas.{bind-ended}
-use Rattle.turn_client_laws.proofs.AddressLemmas.{same_address-true}
 use Rattle.turn_client_laws.proofs.BoundLemmas.{binds-turn, found-local}
 use Rattle.turn_client_laws.proofs.GrantOriginCallLemmas.{Binds, BindsOrLeaves, bind-leaves, gone-leaves}
 use Rattle.turn_client_laws.proofs.GrantOriginLemmas.{has-mapped}
 use Rattle.turn_client_laws.proofs.GrantOriginMessageLemmas.{message-grants}
+use Rattle.turn_client_laws.proofs.GrantedLemmas.{deadline-has}
 use Rattle.turn_client_laws.proofs.HasLemmas.{Has}
 use Rattle.turn_client_laws.proofs.StandLemmas.{Covers, covers-left}
 use Rattle.turn_client_laws.proofs.TurnBringLemmas.{IsBrought}
@@ -175,19 +173,6 @@ module _ (one : Input) (over : IsOverControl one) (whole : is_message one.bytes 
       by (inr (judged, grant)) = inr (granted g judged grant)
 
 -- ---- over a connection that waits to be bound
-
--- a grant that a map leaves existed before, or is a connection at this local address
-deadline-has : (local : SocketAddr) (g x : Grant) → g ≡ deadline_set local None x → (g ≡ x) ⊎ ((c : DataConnection) × (g ≡ Connection c) × (c.local ≡ local))
-deadline-has local g (Connection c) e = by (same_address c.local local) refl
-  where
-    by : (b : Bool) → same_address c.local local ≡ b → (g ≡ Connection c) ⊎ ((d : DataConnection) × (g ≡ Connection d) × (d.local ≡ local))
-    by true f = inr (record c { deadline = None }, e ∙ rw f refl, same_address-true c.local local f)
-    by false f = inl (e ∙ rw f refl)
-deadline-has local g (Allocation a) e = inl e
-deadline-has local g (Permission ip progress) e = inl e
-deadline-has local g (Channel number peer progress) e = inl e
-deadline-has local g (Connect peer) e = inl e
-deadline-has local g (Offer offer) e = inl e
 
 module _ (one : Input) (stream : Stream) (of : one.stream ≡ Some stream) (waits : stream.mode ≡ Waiting) (whole : is_message one.bytes ≡ true) where
   -- the request is no longer outstanding
