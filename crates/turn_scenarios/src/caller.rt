@@ -39,7 +39,7 @@ pub(crate) struct Caller {
 
 /// The result of one iteration of the caller's loop.
 #[derive(Clone, Copy)]
-struct Turn {
+struct Iteration {
     /// Whether there was a packet, an input or an event.
     has_done: bool,
     /// The time until which nothing is due, in milliseconds.
@@ -86,31 +86,31 @@ impl Caller {
     ) -> Result<(), AllocError> {
         let mut slept = false;
         for _ in 0..MANY {
-            let turn = self.turn(client, rules)?;
-            if slept && turn.until > self.now && !turn.has_done && !self.has_ended {
+            let iteration = self.iterate(client, rules)?;
+            if slept && iteration.until > self.now && !iteration.has_done && !self.has_ended {
                 self.idle = self.idle.saturating_add(1);
             }
             if self.has_ended {
                 self.draw_events(client)?;
                 break;
             }
-            if turn.until > moment {
+            if iteration.until > moment {
                 break;
             }
-            slept = turn.until > self.now;
-            self.now = turn.until;
+            slept = iteration.until > self.now;
+            self.now = iteration.until;
         }
         self.now = moment;
         Ok(())
     }
 
     /// Runs one iteration of the loop, at the current time.
-    fn drive_client<C: TurnClientApi>(
+    fn iterate<C: TurnClientApi>(
         &mut self,
         client: &mut C,
         rules: &[Rule<'_>],
-    ) -> Result<Turn, AllocError> {
-        let came = self.hand_in(client)?;
+    ) -> Result<Iteration, AllocError> {
+        let came = self.receive(client)?;
         let sent = self.send(client, rules)?;
         let told = self.draw_events(client)?;
         let wait = self.poll(client)?;
@@ -118,7 +118,7 @@ impl Caller {
             Some((comes, _)) => wait.min(*comes),
             None => wait,
         };
-        Ok(Turn {
+        Ok(Iteration {
             has_done: came || sent || told,
             until: until.max(self.now),
         })
@@ -140,7 +140,7 @@ impl Caller {
     }
 
     /// Passes in the packets that have arrived, and returns whether there were any.
-    fn hand_in<C: TurnClientApi>(&mut self, client: &mut C) -> Result<bool, AllocError> {
+    fn receive<C: TurnClientApi>(&mut self, client: &mut C) -> Result<bool, AllocError> {
         let first = self.came;
         for (comes, bytes) in self.coming.as_slice().iter().skip(first) {
             if *comes > self.now {

@@ -108,7 +108,7 @@ impl<'a> Looped<'a> {
     /// Runs the loop up to this time, and sleeps between its iterations.
     fn wait<C: TurnClientApi>(&mut self, client: &mut C, moment: u32) -> Result<(), AllocError> {
         for _ in 0..MANY {
-            let rest = self.turn(client)?;
+            let rest = self.iterate(client)?;
             let until = self.wakes(rest);
             if until > moment || self.has_ended {
                 break;
@@ -120,7 +120,7 @@ impl<'a> Looped<'a> {
     }
 
     /// One iteration of the loop.
-    fn drive_client<C: TurnClientApi>(&mut self, client: &mut C) -> Result<Rest, AllocError> {
+    fn iterate<C: TurnClientApi>(&mut self, client: &mut C) -> Result<Rest, AllocError> {
         let mut tasks = Vec::new(self.alloc);
         let came = self.next_packet(client)?;
         let rest = drive_client(client, came, at(self.now), self.most, &mut tasks)?;
