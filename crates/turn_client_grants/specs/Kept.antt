@@ -16,7 +16,7 @@ half (suc zero) = zero
 half (suc (suc n)) = suc (half n)
 
 -- the keys lead to the grants, and the summary is theirs
-pub record IsKept (grants : List Grant) (listed : List Listing) (find : Key → Option Grant) (summary : Summary) : Type 0 where
+pub record IsIndexed (grants : List Grant) (listed : List Listing) (find : Key → Option Grant) (summary : Summary) : Type 0 where
   pub table : IsTable grants listed
   pub found : IsIndex is_found_by find grants
   pub summed : IsSummary summary grants listed

@@ -59,7 +59,7 @@ impl Model for GrantTable {
     ghost use Rattle.std.specs.Prelude.{◌-◌, min, vec_capacity, vec_len};
     ghost use Rattle.std.specs.HashMap as hash;
     ghost use Rattle.std.specs.HashMap.{spare};
-    ghost use Rattle.turn_client_grants.specs.Kept.{IsKept, half};
+    ghost use Rattle.turn_client_grants.specs.Kept.{IsIndexed, half};
     ghost use Rattle.turn_client_grants.specs.Table.{Table};
 
     ghost Value = { Table };
@@ -71,7 +71,7 @@ impl Model for GrantTable {
       listing_room = t.listed.room;
     } };
 
-    ghost invariant = { λ t. IsKept t.grants.items t.listed.items (hash.get ⟦<Key as PartialEq>⟧.eq t.found) t.summary };
+    ghost invariant = { λ t. IsIndexed t.grants.items t.listed.items (hash.get ⟦<Key as PartialEq>⟧.eq t.found) t.summary };
 }
 
 impl GrantTable {
