@@ -9,6 +9,7 @@ pub use data_range::DataRange;
 use std::alloc::Global;
 use std::convert::AsSlice;
 use std::net::SocketAddr;
+use std::ops::Range;
 use turn_stun::transport::Transmit;
 use turn_types::TransportType;
 
@@ -62,6 +63,8 @@ pub struct TurnPeerData<T: AsSlice<u8>> {
 }
 
 impl<T: AsSlice<u8>> TurnPeerData<T> {
+    ghost use Rattle.turn_client_api.specs.Answers.{place_in};
+
     /// These bytes, as data that this peer sent over this transport.
     pub fn new(
         transport: TransportType,
@@ -84,6 +87,16 @@ impl<T: AsSlice<u8>> TurnPeerData<T> {
         ensures { result.now ≡ payload_of self.now }
     {
         self.data.as_slice()
+    }
+
+    /// The range of these bytes in what the caller passed in, or `None` if they are owned.
+    pub fn place(&self) -> Option<Range<usize>>
+        ensures { result ≡ place_in (held_in self.now) }
+    {
+        match &self.data {
+            DataRangeOrOwned::Range(range) => Some(range.range()),
+            DataRangeOrOwned::Owned(_) => None,
+        }
     }
 }
 
