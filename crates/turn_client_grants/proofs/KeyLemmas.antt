@@ -1,23 +1,26 @@
--- The map of the grants, as it is filtered, and as grants are added and removed.
+-- The map of the grants, as grants are added and removed.
 use Rattle.std.specs.Prelude.{◌≡◌, ℕ, ◌==◌, Bool, true, false, cond, not, ◌||◌, ◌&&◌, List, [], ◌∷◌, ◌++◌, filter, filter_map, fold, map, Option, Some, None, is_none, is_some, option_and_then}
 use Rattle.std.specs.Prelude.{option_map, option_to_list, refl}
-use Rattle.std.specs.List.{list_all, list_any, IsDistinct}
-use Rattle.std.specs.Map.{keys_of, lookup}
+use Rattle.std.specs.List.{list_all, list_any}
 use Rattle.std.specs.declared.net.ip_addr.IpAddr.{IpAddr}
 use Rattle.std.specs.declared.net.socket_addr.SocketAddr.{SocketAddr}
 use Rattle.std.proofs.Common.{sym, ◌∙◌, ap, append-nil, append_assoc, subst}
 use Rattle.std.proofs.lemmas.Bool.{and_parts, eqb-true}
+use Rattle.std.proofs.lemmas.List.Elements.{filter_agree}
 use Rattle.std.proofs.lemmas.List.Folds.{list_any-append}
-use Rattle.std.proofs.lemmas.Map.Entries.{lookup-filter-values, option_filter}
+use Rattle.std.proofs.lemmas.Map.Entries.{option_filter}
+use Rattle.std.proofs.lemmas.Option.{same_Some}
 use Rattle.turn_agent.specs.Agent.{same_address}
 use Rattle.turn_client_laws.proofs.AddressLemmas.{same_address-true, same_ip-true}
 use Rattle.turn_client_api.specs.Calls.{active_channel, is_in_progress, is_offer_of, progress_to, without_first}
 use Rattle.turn_client_api.specs.Effect.{new_allocation}
-use Rattle.turn_client_api.specs.Grants.{channel_at, channel_peer, is_channel_of, is_permission_of, permission_progress, same_ip}
+use Rattle.turn_client_api.specs.Grants.{channel_at, channel_peer, is_channel_of, is_for, is_permission_of, permission_progress, same_ip}
 use Rattle.turn_client_api.specs.Poll.{told, first_reported, unreported_in}
 use Rattle.turn_client_api.specs.declared.grant.Grant.{Grant}
 use Rattle.turn_client_api.specs.declared.grant.Grant.TheVariants.{Allocation, Permission, Channel, Connect, Offer, Connection}
 use Rattle.turn_client_api.specs.declared.grant.DataOffer.{DataOffer}
+use Rattle.turn_client_api.specs.declared.grant.Listing.{Listing}
+use Rattle.turn_client_api.specs.declared.grant.Purpose.{Purpose}
 use Rattle.turn_client_api.specs.declared.grant.Progress.{Progress}
 use Rattle.turn_client_api.specs.declared.grant.Progress.TheVariants.{Pending, Active, Reserved}
 use Rattle.turn_client_api.specs.declared.grant.Relay.{Relay}
@@ -25,36 +28,12 @@ use Rattle.turn_types.specs.declared.family.AddressFamily.{AddressFamily}
 use Rattle.turn_client_grants.specs.Index.{IsIndex}
 use Rattle.turn_client_grants.specs.Keys.{found_after, is_found_by, is_open_to}
 use Rattle.turn_client_grants.specs.Lists.{first_among}
-use Rattle.turn_client_grants.specs.Table.{are_apart, changed, has_no_double}
-use Rattle.turn_client_grants.specs.GrantFilter.{holds}
+use Rattle.turn_client_grants.specs.Table.{are_apart, changed, has_no_double, unlisted_in}
 use Rattle.turn_client_grants.specs.declared.changes.Change.{Change}
 use Rattle.turn_client_grants.specs.declared.key.Key.{Key}
 use Rattle.turn_client_grants.specs.declared.key.Key.TheVariants as By
-use Rattle.turn_client_grants.specs.declared.grant_filter.GrantFilter.{GrantFilter}
-use Rattle.turn_client_grants.proofs.IndexLemmas.{any-by_index, first-by_index, index-changed, index-filtered, index-pushed, index-pushed_other, index-same}
-use Rattle.turn_client_grants.proofs.SameKeys.{key-laws, key-true, key_eq}
+use Rattle.turn_client_grants.proofs.IndexLemmas.{any-by_index, first-by_index, index-agrees, index-changed, index-found, index-filtered, index-pushed, index-pushed_other, index-same}
 use Rattle.turn_client_grants.proofs.TableLemmas.{changed-same}
-
--- ---- a filter of the map that tests the keys, too
-
-pub lookup-filter-pairs : {X : Type 0} (p : Key → X → Bool) (q : Key) (es : List (Key × X)) → IsDistinct key_eq (keys_of es)
-    → lookup (key_eq q) (filter (λ e. p e.0 e.1) es) ≡ option_filter (p q) (lookup (key_eq q) es)
-lookup-filter-pairs {X} p q es distinct = alike es ∙ lookup-filter-values key-laws (p q) q es distinct
-  where
-    alike : (es : List (Key × X)) → lookup (key_eq q) (filter (λ e. p e.0 e.1) es) ≡ lookup (key_eq q) (filter (λ e. p q e.1) es)
-    alike [] = refl
-    alike (e ∷ es) = by (key_eq q e.0) (p e.0 e.1) (p q e.1) refl refl refl (alike es)
-      where
-        by : (t a b : Bool) → key_eq q e.0 ≡ t → p e.0 e.1 ≡ a → p q e.1 ≡ b → lookup (key_eq q) (filter (λ e. p e.0 e.1) es) ≡ lookup (key_eq q) (filter (λ e. p q e.1) es)
-            → lookup (key_eq q) (filter (λ e. p e.0 e.1) (e ∷ es)) ≡ lookup (key_eq q) (filter (λ e. p q e.1) (e ∷ es))
-        by true true true s f g rest = rw (f, g, s) refl
-        by true true false s f g rest = let no : true ≡ false = sym f ∙ (ap (λ (k : Key). p k e.1) (sym (key-true q e.0 s)) ∙ g) in cc
-        by true false true s f g rest = let no : false ≡ true = sym f ∙ (ap (λ (k : Key). p k e.1) (sym (key-true q e.0 s)) ∙ g) in cc
-        by true false false s f g rest = rw (f, g) rest
-        by false true true s f g rest = rw (f, g, s) rest
-        by false true false s f g rest = rw (f, g, s) rest
-        by false false true s f g rest = rw (f, g, s) rest
-        by false false false s f g rest = rw (f, g) rest
 
 -- ---- a new grant has keys of its own
 
@@ -246,13 +225,13 @@ pub index-changed_by : (change : Change) (rows : List Grant) (find then : Key �
     → ((k : Key) → then k ≡ option_map (changed change) (find k)) → IsIndex is_found_by then (map (changed change) rows)
 index-changed_by change rows find then is now = index-changed is_found_by find then rows (changed change) is now (found-changed change)
 
-pub index-without : (which : GrantFilter) (rows : List Grant) (find then : Key → Option Grant) → IsIndex is_found_by find rows
-    → ((k : Key) → then k ≡ option_filter (λ g. not (holds which g)) (find k)) → IsIndex is_found_by then (filter (λ g. not (holds which g)) rows)
-index-without which rows find then is now = index-filtered is_found_by find then rows (λ g. not (holds which g)) is now
+pub index-without : (which : Grant → Bool) (rows : List Grant) (find then : Key → Option Grant) → IsIndex is_found_by find rows
+    → ((k : Key) → then k ≡ option_filter (λ g. not (which g)) (find k)) → IsIndex is_found_by then (filter (λ g. not (which g)) rows)
+index-without which rows find then is now = index-filtered is_found_by find then rows (λ g. not (which g)) is now
 
 -- ---- one replaces others
 
-any-both : (p q : Grant → Bool) (rows : List Grant) → list_any (λ g. p g && q g) rows ≡ list_any p (filter q rows)
+pub any-both : (p q : Grant → Bool) (rows : List Grant) → list_any (λ g. p g && q g) rows ≡ list_any p (filter q rows)
 any-both p q [] = refl
 any-both p q (g ∷ rows) = by (p g) (q g) refl refl (any-both p q rows)
   where
@@ -279,21 +258,78 @@ keyed-found which rows find grant is keyed k at = by (find k) (one-goes which ro
     by None h = cc
     by (Some g) h = refl
 
-pub index-replaced : (which : GrantFilter) (rows : List Grant) (find then : Key → Option Grant) (grant : Grant) → IsIndex is_found_by find rows → IsKeyed (holds which) grant rows
-    → ((k : Key) → then k ≡ cond (is_found_by k grant) (Some grant) (option_filter (λ g. not (holds which g)) (find k)))
-    → IsIndex is_found_by then (filter (λ g. not (holds which g)) rows ++ grant ∷ [])
+pub index-replaced : (which : Grant → Bool) (rows : List Grant) (find then : Key → Option Grant) (grant : Grant) → IsIndex is_found_by find rows → IsKeyed which grant rows
+    → ((k : Key) → then k ≡ cond (is_found_by k grant) (Some grant) (option_filter (λ g. not (which g)) (find k)))
+    → IsIndex is_found_by then (filter (λ g. not (which g)) rows ++ grant ∷ [])
 index-replaced which rows find then grant is keyed now =
-    let mid : Key → Option Grant = λ k. option_filter (λ g. not (holds which g)) (find k) in
-    index-pushed is_found_by mid then (filter (λ g. not (holds which g)) rows) grant (λ k. is_found_by k grant) (index-without which rows find mid is (λ k. refl)) now (λ k. refl)
-    (λ k at. by (find k) (one-goes (holds which) rows find k is (keyed k at)))
+    let mid : Key → Option Grant = λ k. option_filter (λ g. not (which g)) (find k) in
+    index-pushed is_found_by mid then (filter (λ g. not (which g)) rows) grant (λ k. is_found_by k grant) (index-without which rows find mid is (λ k. refl)) now (λ k. refl)
+    (λ k at. by (find k) (one-goes which rows find k is (keyed k at)))
   where
     gone : (b : Bool) (g : Grant) → (b || false) ≡ true → cond (not b) (Some g) None ≡ None
     gone true g h = refl
     gone false g h = cc
 
-    by : (found : Option Grant) → list_any (holds which) (option_to_list found) ≡ true → option_filter (λ g. not (holds which g)) found ≡ None
+    by : (found : Option Grant) → list_any which (option_to_list found) ≡ true → option_filter (λ g. not (which g)) found ≡ None
     by None h = refl
-    by (Some g) h = gone (holds which g) g h
+    by (Some g) h = gone (which g) g h
+
+-- ---- the grant that a key finds
+
+any-filtered : (p q : Grant → Bool) (rows : List Grant) → list_any (λ g. p g && q g) rows ≡ list_any q (filter p rows)
+any-filtered p q [] = refl
+any-filtered p q (g ∷ rows) = by (p g) refl (any-filtered p q rows)
+  where
+    by : (b : Bool) → p g ≡ b → list_any (λ g. p g && q g) rows ≡ list_any q (filter p rows) → list_any (λ g. p g && q g) (g ∷ rows) ≡ list_any q (filter p (g ∷ rows))
+    by true e rest = rw (e, rest) refl
+    by false e rest = rw e rest
+
+first-passes : (p : Grant → Bool) (rows : List Grant) (g : Grant) → filter p rows ≡ g ∷ [] → p g ≡ true
+first-passes p [] g alone = cc
+first-passes p (h ∷ rows) g alone = by (p h) refl alone (first-passes p rows g)
+  where
+    by : (b : Bool) → p h ≡ b → filter p (h ∷ rows) ≡ g ∷ [] → (filter p rows ≡ g ∷ [] → p g ≡ true) → p g ≡ true
+    by true e alone rest = let both : h ∷ filter p rows ≡ g ∷ [] = rw e at alone in let same : h ≡ g = cc in rw (← same) e
+    by false e alone rest = rest (rw e at alone)
+
+-- it is the only one for whose requests the key stands
+pub unlisted-one : (rows : List Grant) (listed : List Listing) (find : Key → Option Grant) (key : Key) (old : Grant) → IsIndex is_found_by find rows → find key ≡ Some old
+    → filter (λ l. not (is_for l.purpose old)) listed ≡ unlisted_in (is_found_by key) rows listed
+unlisted-one rows listed find key old is found =
+    filter_agree (λ l. not (is_for l.purpose old)) (λ l. not (list_any (λ g. is_found_by key g && is_for l.purpose g) rows)) (λ l. ap not (by l.purpose)) listed
+  where
+    none : (b : Bool) → b ≡ (b || false)
+    none true = refl
+    none false = refl
+
+    by : (p : Purpose) → is_for p old ≡ list_any (λ g. is_found_by key g && is_for p g) rows
+    by p = none (is_for p old) ∙ sym (any-filtered (is_found_by key) (is_for p) rows ∙ ap (list_any (is_for p)) (index-found is_found_by find rows key old is found))
+
+-- its keys are those that lead to a grant that the key finds
+pub taken-one : (rows : List Grant) (find : Key → Option Grant) (key : Key) (old : Grant) (k : Key) → IsIndex is_found_by find rows → find key ≡ Some old
+    → cond (is_found_by k old) None (find k) ≡ option_filter (λ g. not (is_found_by key g)) (find k)
+taken-one rows find key old k is found = by (find k) refl (is_found_by k old) refl
+  where
+    alone : filter (is_found_by key) rows ≡ old ∷ []
+    alone = index-found is_found_by find rows key old is found
+
+    by : (at : Option Grant) → find k ≡ at → (b : Bool) → is_found_by k old ≡ b → cond (is_found_by k old) None (find k) ≡ option_filter (λ g. not (is_found_by key g)) (find k)
+    by None e true d = rw (e, d) refl
+    by None e false d = rw (e, d) refl
+    by (Some g) e true d =
+        let same : g ≡ old = same_Some g old (sym e ∙ index-agrees is_found_by (is_found_by key) find rows k old is alone d) in
+        let passes : is_found_by key g ≡ true = rw same (first-passes (is_found_by key) rows old alone) in
+        rw (e, d, passes) refl
+    by (Some g) e false d = rw (e, d) (one (is_found_by key g) refl)
+      where
+        one : (b : Bool) → is_found_by key g ≡ b → Some g ≡ cond (not (is_found_by key g)) (Some g) None
+        one false f = rw f refl
+        one true f =
+            let own : filter (is_found_by k) rows ≡ g ∷ [] = index-found is_found_by find rows k g is e in
+            let same : old ≡ g = same_Some old g (sym found ∙ index-agrees is_found_by (is_found_by k) find rows key g is own f) in
+            let passes : is_found_by k old ≡ true = rw same (first-passes (is_found_by k) rows g own) in
+            let no : false ≡ true = sym d ∙ passes in
+            cc
 
 -- ---- reading
 

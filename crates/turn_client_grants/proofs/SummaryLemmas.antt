@@ -6,7 +6,10 @@ use Rattle.std.specs.Option.{option_or}
 use Rattle.std.proofs.lemmas.Bool.{lt-leb}
 use Rattle.std.proofs.lemmas.Grind.{fold-append}
 use Rattle.std.proofs.lemmas.List.Elements.{All-cons, All-nil}
+use Rattle.std.specs.declared.net.socket_addr.SocketAddr.{SocketAddr}
 use Rattle.turn_types.specs.declared.family.AddressFamily.{AddressFamily}
+use Rattle.turn_agent.specs.Agent.{same_address}
+use Rattle.turn_client_api.specs.Calls.{channels_to, progress_to, reserved_from}
 use Rattle.turn_client_api.specs.Due.{end_of, refresh_time}
 use Rattle.turn_client_api.specs.Grants.{as_allocation, family_of, is_of, is_of_family, is_of_request, is_request}
 use Rattle.turn_client_laws.specs.LawsBodies.{lapse_of, expiry_times}
@@ -25,7 +28,7 @@ use Rattle.turn_client_api.specs.declared.grant.Relay.{Relay}
 use Rattle.turn_client_grants.specs.Due.{all_times, times_of, relay_ends}
 use Rattle.turn_client_grants.specs.Lists.{both_of, first_among, with_lists}
 use Rattle.turn_client_grants.specs.Refresh.{due_purpose, first_of_family, first_refresh}
-use Rattle.turn_client_grants.specs.Summary.{end_in, is_by_request, is_requested, is_untold, lapse_in, never}
+use Rattle.turn_client_grants.specs.Summary.{end_in, is_by_request, is_requested, is_reserved, is_untold, lapse_in, never}
 use Rattle.turn_client_grants.proofs.RefreshLemmas.{refreshes_first, refreshes_none}
 
 -- ---- the least of several times
@@ -299,6 +302,33 @@ none-requested id (Permission ip progress ∷ gs) none = none-requested id gs no
 none-requested id (Channel number peer progress ∷ gs) none = none-requested id gs none
 none-requested id (Connect peer ∷ gs) none = none-requested id gs none
 none-requested id (Connection c ∷ gs) none = none-requested id gs none
+
+-- ---- reserved channels
+
+none-reserved : (peer : SocketAddr) (now : ℕ) (gs : List Grant) → list_any is_reserved gs ≡ false → filter_map (reserved_from now) (filter_map (progress_to peer) gs) ≡ []
+none-reserved peer now [] none = refl
+none-reserved peer now (Allocation a ∷ gs) none = none-reserved peer now gs none
+none-reserved peer now (Permission ip progress ∷ gs) none = none-reserved peer now gs none
+none-reserved peer now (Channel number other Pending ∷ gs) none = by (same_address other peer) refl (none-reserved peer now gs none)
+  where
+    by : (b : Bool) → same_address other peer ≡ b → filter_map (reserved_from now) (filter_map (progress_to peer) gs) ≡ []
+        → filter_map (reserved_from now) (filter_map (progress_to peer) (Channel number other Pending ∷ gs)) ≡ []
+    by true e rest = rw e rest
+    by false e rest = rw e rest
+none-reserved peer now (Channel number other (Active expiry) ∷ gs) none = by (same_address other peer) refl (none-reserved peer now gs none)
+  where
+    by : (b : Bool) → same_address other peer ≡ b → filter_map (reserved_from now) (filter_map (progress_to peer) gs) ≡ []
+        → filter_map (reserved_from now) (filter_map (progress_to peer) (Channel number other (Active expiry) ∷ gs)) ≡ []
+    by true e rest = rw e rest
+    by false e rest = rw e rest
+none-reserved peer now (Channel number other (Reserved until) ∷ gs) none = let no : true ≡ false = none in cc
+none-reserved peer now (Connect other ∷ gs) none = none-reserved peer now gs none
+none-reserved peer now (Offer offer ∷ gs) none = none-reserved peer now gs none
+none-reserved peer now (Connection c ∷ gs) none = none-reserved peer now gs none
+
+-- no peer is kept from being bound if no channel is reserved
+pub no-reservation : (s : State) (peer : SocketAddr) (now : ℕ) → list_any is_reserved s.grants ≡ false → None ≡ slice_get (filter_map (reserved_from now) (channels_to peer s)) 0
+no-reservation s peer now none = ap (λ (times : List ℕ). slice_get times 0) (sym (none-reserved peer now s.grants none))
 
 -- ---- the two allocations
 

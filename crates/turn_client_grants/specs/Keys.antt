@@ -1,5 +1,5 @@
 -- The keys by which a grant is found, and a map that leads from keys to grants.
-use Rattle.std.specs.Prelude.{Bool, false, ◌&&◌, cond, Option, Some}
+use Rattle.std.specs.Prelude.{Bool, false, ◌&&◌, cond, not, Option, None, Some}
 use Rattle.std.specs.declared.net.socket_addr.SocketAddr.{SocketAddr}
 use Rattle.turn_agent.specs.Agent.{same_address}
 use Rattle.turn_client_api.specs.Calls.{is_in_progress}
@@ -22,3 +22,15 @@ is_found_by (By.Ip ip) grant = is_permission_of ip grant
 -- what the key leads to, if the grant is found by its keys from now on
 abbrev pub found_after : Key → Option Grant → Grant → Option Grant
 found_after k was grant = cond (is_found_by k grant) (Some grant) was
+
+-- what the key leads to, if its grant is taken out, unless the other grant is found by it
+abbrev pub taken_after : Bool → Key → Option Grant → Grant → Option Grant
+taken_after is_out k was other = cond (is_out && not (is_found_by k other)) None was
+
+-- what the key leads to, if the old grant is found no more, except by the keys of the other
+abbrev pub released_after : Key → Option Grant → Grant → Grant → Option Grant
+released_after k was old other = taken_after (is_found_by k old) k was other
+
+-- what the key leads to, if the grant is found in place of the old one from now on
+abbrev pub replaced_after : Key → Option Grant → Grant → Grant → Option Grant
+replaced_after k was old grant = cond (is_found_by k grant) (Some grant) (cond (is_found_by k old) None was)

@@ -49,6 +49,11 @@ abbrev pub is_requested : Grant → Bool
 is_requested (Offer offer) = is_by_request offer.origin
 is_requested _ = false
 
+-- a channel that is reserved
+abbrev pub is_reserved : Grant → Bool
+is_reserved (Channel number peer (Reserved until)) = true
+is_reserved _ = false
+
 -- it is the summary of these grants and these requests
 pub record IsSummary (summary : Summary) (grants : List Grant) (listed : List Listing) : Type 0 where
   pub first : summary.first ≡ slice_get (filter_map as_allocation grants) 0
@@ -58,3 +63,4 @@ pub record IsSummary (summary : Summary) (grants : List Grant) (listed : List Li
   pub refresh : (s : State) → summary.refresh ≡ fold min max_time (filter_map (refresh_time (with_lists grants listed s)) grants)
   pub untold : summary.has_untold ≡ list_any is_untold grants
   pub requested : summary.has_requested ≡ list_any is_requested grants
+  pub reserved : summary.has_reserved ≡ list_any is_reserved grants

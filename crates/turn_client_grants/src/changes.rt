@@ -1,15 +1,18 @@
 //! How lists of grants and of requests change.
 
 ghost use Rattle.std.specs.Prelude.{◌≡◌, ◌≤◌, ◌<◌, ◌+◌, ◌++◌, ◌∷◌, [], true, filter, length, map, not, option_to_list, vec_capacity, vec_len};
+ghost use Rattle.std.specs.List.{list_any};
 ghost use Rattle.turn_client_api.specs.Connections.{deadline_set};
 ghost use Rattle.turn_client_api.specs.Effect.{lasting, new_allocation};
-ghost use Rattle.turn_client_api.specs.Grants.{changed_allocation, is_for_allocation, is_of_family};
+ghost use Rattle.turn_client_api.specs.Grants.{changed_allocation, is_for, is_for_allocation, is_of_family};
 ghost use Rattle.turn_client_api.specs.Requests.{listings};
+ghost use Rattle.turn_client_grants.specs.Keys.{is_found_by};
 ghost use Rattle.turn_client_grants.specs.Table.{changed, unlisted_in};
 ghost use Rattle.turn_client_grants.specs.GrantFilter.{holds, purposes_in};
 
 use crate::grant_filter::GrantFilter;
-use crate::kind::{is_for_allocation, is_of_family};
+use crate::key::Key;
+use crate::kind::{is_for, is_for_allocation, is_of_family};
 use crate::listed::is_for_one;
 use crate::purposes::Purposes;
 use crate::time::{NANOS_PER_SECOND, later};
@@ -195,6 +198,20 @@ pub(crate) fn add_allocations(
     }
 }
 
+/// Whether one of these grants is there.
+fn has_any(grants: &[Grant], which: &GrantFilter) -> bool
+    ensures { result ≡ list_any (holds which.now) grants.now }
+{
+    grants.iter().any(|grant| which.holds(grant))
+}
+
+/// Whether none of these grants is there.
+pub(crate) fn are_absent(grants: &[Grant], which: &GrantFilter) -> bool
+    ensures { result ≡ not (list_any (holds which.now) grants.now) }
+{
+    !has_any(grants, which)
+}
+
 /// Removes these grants.
 pub(crate) fn remove(grants: &mut Vec<Grant>, which: &GrantFilter)
     ensures items { grants.new.items ≡ filter (λ g. not (holds which.now g)) grants.old.items }
@@ -202,6 +219,24 @@ pub(crate) fn remove(grants: &mut Vec<Grant>, which: &GrantFilter)
     ensures len { vec_len grants.new ≤ vec_len grants.old }
 {
     grants.retain(|grant| !which.holds(grant));
+}
+
+/// Removes the grant that this key finds.
+pub(crate) fn remove_found(grants: &mut Vec<Grant>, key: &Key)
+    ensures items { grants.new.items ≡ filter (λ g. not (is_found_by key.now g)) grants.old.items }
+    ensures capacity { vec_capacity grants.new ≡ vec_capacity grants.old }
+    ensures len { vec_len grants.new ≤ vec_len grants.old }
+{
+    grants.retain(|grant| !key.finds(grant));
+}
+
+/// Removes the listings for this grant.
+pub(crate) fn unlist_one(listed: &mut Vec<Listing>, grant: &Grant)
+    ensures items { listed.new.items ≡ filter (λ l. not (is_for l.purpose grant.now)) listed.old.items }
+    ensures capacity { vec_capacity listed.new ≡ vec_capacity listed.old }
+    ensures len { vec_len listed.new ≤ vec_len listed.old }
+{
+    listed.retain(|listing| !is_for(&listing.purpose, grant));
 }
 
 /// Removes the listings for these grants.

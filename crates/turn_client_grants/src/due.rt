@@ -5,6 +5,7 @@ ghost use Rattle.std.specs.Prelude.{◌≡◌, ◌-◌, false, fold, map, max, m
 ghost use Rattle.turn_client_api.specs.Due.{is_refreshable, refresh_time, refresh_time_by_kind, refresh_time_of};
 ghost use Rattle.turn_client_api.specs.State.{State};
 ghost use Rattle.turn_client_grants.specs.Lists.{find_allocation_in, with_lists};
+ghost use Rattle.turn_client_grants.specs.Pending.{is_refreshed};
 
 use crate::kind::{family_of, family_of_ip};
 use crate::listed::has_request;
@@ -78,6 +79,13 @@ fn refresh_time_by_kind(grant: &Grant) -> Option<Instant>
         Grant::Offer(_) => None,
         Grant::Connection(_) => None,
     }
+}
+
+/// Whether a grant of its kind is refreshed.
+pub(crate) fn is_refreshed(grant: &Grant) -> bool
+    ensures { result ≡ is_refreshed grant.now }
+{
+    refresh_time_by_kind(grant).is_some()
 }
 
 /// When the grant is to be refreshed, or `None` if a request for that is pending.

@@ -1,11 +1,11 @@
 //! The keys by which a grant is found.
 
-ghost use Rattle.std.specs.Prelude.{◌≡◌, ◌&&◌, ◌||◌, ◌<◌, ◌≤◌, ◌+◌, Some, cond, fold, length, not, true, IsSome, OnOk, option_map};
+ghost use Rattle.std.specs.Prelude.{◌≡◌, ◌&&◌, ◌<◌, ◌≤◌, ◌+◌, Some, cond, fold, length, not, true, IsSome, OnOk, option_map};
 ghost use Rattle.std.specs.HashMap as hash;
 ghost use Rattle.std.specs.HashMap.{spare};
 ghost use Rattle.std.proofs.lemmas.Map.Entries.{option_filter};
 ghost use Rattle.turn_agent.specs.Agent.{same_address};
-ghost use Rattle.turn_client_grants.specs.Keys.{found_after, is_found_by, is_open_to};
+ghost use Rattle.turn_client_grants.specs.Keys.{found_after, is_found_by, is_open_to, released_after, replaced_after, taken_after};
 ghost use Rattle.turn_client_grants.specs.Table.{changed};
 ghost use Rattle.turn_client_grants.specs.GrantFilter.{holds};
 
@@ -31,7 +31,7 @@ pub enum Key {
 
 impl Key {
     /// Whether the grant is found by this key.
-    fn finds(&self, grant: &Grant) -> bool
+    pub(crate) fn finds(&self, grant: &Grant) -> bool
         ensures { result ≡ is_found_by self.now grant.now }
     {
         match self {
@@ -73,8 +73,7 @@ fn put<K: Eq + Hash + Drop, V: Copy + Drop>(map: &mut HashMap<K, V>, key: K, val
 /// The grant is found by its keys from now on.
 pub(crate) fn add(found: &mut HashMap<Key, Grant>, grant: &Grant)
     requires { 2 ≤ spare found.old }
-    ensures leads { (k : Key) → hash.get ⟦<Key as PartialEq>⟧.eq found.new k
-        ≡ cond (is_found_by k grant.now) (Some grant.now) (hash.get ⟦<Key as PartialEq>⟧.eq found.old k) }
+    ensures leads { (k : Key) → hash.get ⟦<Key as PartialEq>⟧.eq found.new k ≡ found_after k (hash.get ⟦<Key as PartialEq>⟧.eq found.old k) grant.now }
     ensures room { spare found.old ≤ spare found.new + 2 }
 {
     match grant {
@@ -116,23 +115,45 @@ fn set(found: &mut HashMap<Key, Grant>, key: Key, grant: &Grant)
     }
 }
 
-/// Removes these grants from the map, except under the keys of the grant that replaces them.
-fn remove_others(found: &mut HashMap<Key, Grant>, which: &GrantFilter, grant: &Grant)
-    ensures left { (k : Key) → hash.get ⟦<Key as PartialEq>⟧.eq found.new k
-        ≡ option_filter (λ g. is_found_by k grant.now || not (holds which.now g)) (hash.get ⟦<Key as PartialEq>⟧.eq found.old k) }
+/// The key, unless it finds the grant, leads nowhere from now on.
+fn take_unless(found: &mut HashMap<Key, Grant>, key: Key, grant: &Grant)
+    ensures leads { let eq = ⟦<Key as PartialEq>⟧.eq in (k : Key) → hash.get eq found.new k ≡ taken_after (eq key k) k (hash.get eq found.old k) grant.now }
     ensures room { spare found.old ≤ spare found.new }
 {
-    found.retain(|key, held| key.finds(grant) || !which.holds(held));
+    let is_kept = key.finds(grant);
+    if is_kept {
+        return;
+    }
+    let _taken = found.remove(&key);
 }
 
-/// The grant replaces these. Each of its keys leads to a grant already.
-pub(crate) fn replace(found: &mut HashMap<Key, Grant>, which: &GrantFilter, grant: &Grant)
-    requires { (k : Key) → is_found_by k grant.now ≡ true → IsSome (hash.get ⟦<Key as PartialEq>⟧.eq found.old k) }
-    ensures leads { (k : Key) → hash.get ⟦<Key as PartialEq>⟧.eq found.new k
-        ≡ cond (is_found_by k grant.now) (Some grant.now) (option_filter (λ g. not (holds which.now g)) (hash.get ⟦<Key as PartialEq>⟧.eq found.old k)) }
+/// The old grant is found no more, except by the keys of the new one.
+fn remove_keys(found: &mut HashMap<Key, Grant>, old: &Grant, grant: &Grant)
+    ensures leads { let eq = ⟦<Key as PartialEq>⟧.eq in (k : Key) → hash.get eq found.new k ≡ released_after k (hash.get eq found.old k) old.now grant.now }
     ensures room { spare found.old ≤ spare found.new }
 {
-    remove_others(found, which, grant);
+    match old {
+        Grant::Permission(ip, _) => take_unless(found, Key::Ip(*ip), grant),
+        Grant::Channel(number, _, Progress::Reserved(_)) => {
+            take_unless(found, Key::Number(*number), grant);
+        }
+        Grant::Channel(number, peer, Progress::Pending | Progress::Active(_)) => {
+            take_unless(found, Key::Number(*number), grant);
+            take_unless(found, Key::Peer(*peer), grant);
+        }
+        Grant::Allocation(_) => {}
+        Grant::Connect(_) => {}
+        Grant::Offer(_) => {}
+        Grant::Connection(_) => {}
+    }
+}
+
+/// Each key of the grant, which leads to a grant already, leads to this one from now on.
+fn set_keys(found: &mut HashMap<Key, Grant>, grant: &Grant)
+    requires { (k : Key) → is_found_by k grant.now ≡ true → IsSome (hash.get ⟦<Key as PartialEq>⟧.eq found.old k) }
+    ensures leads { (k : Key) → hash.get ⟦<Key as PartialEq>⟧.eq found.new k ≡ found_after k (hash.get ⟦<Key as PartialEq>⟧.eq found.old k) grant.now }
+    ensures room { spare found.new ≡ spare found.old }
+{
     match grant {
         Grant::Permission(ip, _) => set(found, Key::Ip(*ip), grant),
         Grant::Channel(number, _, Progress::Reserved(_)) => {
@@ -147,6 +168,16 @@ pub(crate) fn replace(found: &mut HashMap<Key, Grant>, which: &GrantFilter, gran
         Grant::Offer(_) => {}
         Grant::Connection(_) => {}
     }
+}
+
+/// The grant is found in place of the old one. Each of its keys leads to a grant already.
+pub(crate) fn replace(found: &mut HashMap<Key, Grant>, old: &Grant, grant: &Grant)
+    requires { (k : Key) → is_found_by k grant.now ≡ true → IsSome (hash.get ⟦<Key as PartialEq>⟧.eq found.old k) }
+    ensures leads { let eq = ⟦<Key as PartialEq>⟧.eq in (k : Key) → hash.get eq found.new k ≡ replaced_after k (hash.get eq found.old k) old.now grant.now }
+    ensures room { spare found.old ≤ spare found.new }
+{
+    remove_keys(found, old, grant);
+    set_keys(found, grant);
 }
 
 /// Removes these grants from the map.

@@ -14,6 +14,7 @@ ghost use Rattle.turn_client_grants.specs.GrantFilter.{holds};
 
 use crate::changes::Change;
 use crate::grant_filter::GrantFilter;
+use crate::key::Key;
 use crate::kind::{family_of_ip, is_same_transport};
 use crate::table::GrantTable;
 use std::alloc::{AllocError, Global};
@@ -221,18 +222,18 @@ impl GrantLedger {
         self.table.change(&Change::Renew(*which, expiry));
     }
 
-    /// Replaces these grants, of which there is at least one, by one grant after all others. It uses no
-    /// room for grants.
-    fn replace(&mut self, which: &GrantFilter, grant: &Grant)
+    /// Replaces the grant that this key finds by another one, after all others. It uses no room for
+    /// grants.
+    fn replace(&mut self, key: &Key, grant: &Grant)
         requires numbered { is_numbered grant.now ≡ true }
         requires apart { IsApart grant.now }
-        requires there { list_any (holds which.now) self.old.grants ≡ true }
-        // By each key that finds the new grant, one of these is found.
-        requires keyed { (k : Key) → is_found_by k grant.now ≡ true → list_any (λ g. holds which.now g && is_found_by k g) self.old.grants ≡ true }
+        requires there { list_any (is_found_by key.now) self.old.grants ≡ true }
+        // Each key that finds the new grant finds the old one.
+        requires keyed { (k : Key) → is_found_by k grant.now ≡ true → list_any (λ g. is_found_by key.now g && is_found_by k g) self.old.grants ≡ true }
         requires aside { 2 ≤ self.old.event_room }
-        ensures state { (s : State) → with_ledger self.new s ≡ with_grant grant.now (without_grants (holds which.now) (with_ledger self.old s)) }
+        ensures state { (s : State) → with_ledger self.new s ≡ with_grant grant.now (without_grants (is_found_by key.now) (with_ledger self.old s)) }
         ensures room { SameRoomBut 0 2 self.old self.new }
     {
-        self.table.replace(which, grant);
+        self.table.replace(key, grant);
     }
 }

@@ -4,7 +4,7 @@ ghost use Rattle.std.specs.Prelude.{ℕ, ◌≡◌, ◌==◌, ◌≤◌, ◌<◌
 ghost use Rattle.std.specs.HashMap.{spare};
 ghost use Rattle.std.specs.List.{list_any};
 ghost use Rattle.std.proofs.lemmas.Map.Entries.{option_filter};
-ghost use Rattle.turn_client_api.specs.Grants.{is_for_allocation};
+ghost use Rattle.turn_client_api.specs.Grants.{is_for, is_for_allocation};
 ghost use Rattle.turn_client_api.specs.Requests.{listings};
 ghost use Rattle.turn_client_grants.specs.Listed.{has_some, is_for_none, purposes_at, with_only};
 ghost use Rattle.turn_client_grants.specs.Table.{unlisted_in};
@@ -123,6 +123,16 @@ impl Listings {
         remove_empty(&mut self.by_id);
     }
 
+    /// Removes the listings for this grant.
+    pub(crate) fn unlist_one(&mut self, grant: &Grant)
+        ensures items { self.new.items ≡ filter (λ l. not (is_for l.purpose grant.now)) self.old.items }
+        ensures room { self.old.room ≤ self.new.room }
+    {
+        changes::unlist_one(&mut self.items, grant);
+        remove_for_one(&mut self.by_id, grant);
+        remove_empty(&mut self.by_id);
+    }
+
     /// Removes the listings for an ALLOCATE.
     pub(crate) fn unlist_allocates(&mut self)
         ensures items { self.new.items ≡ filter (λ l. not (is_for_allocation l.purpose)) self.old.items }
@@ -150,6 +160,17 @@ fn remove_for(by_id: &mut HashMap<TransactionId, Purposes>, grants: &[Grant], wh
 {
     by_id.retain(|_, purposes| {
         *purposes = purposes.not_for(grants, which);
+        true
+    });
+}
+
+/// Removes the purposes for this grant.
+fn remove_for_one(by_id: &mut HashMap<TransactionId, Purposes>, grant: &Grant)
+    ensures left { (k : ℕ) → purposes_at by_id.new k ≡ option_map (with_only (λ p. not (is_for p grant.now))) (purposes_at by_id.old k) }
+    ensures room { spare by_id.old ≤ spare by_id.new }
+{
+    by_id.retain(|_, purposes| {
+        *purposes = purposes.not_for_one(grant);
         true
     });
 }

@@ -1,15 +1,17 @@
 //! What is read from all grants at once, and kept until they change.
 
-ghost use Rattle.std.specs.Prelude.{◌≡◌, ◌&&◌, filter_map, fold, min, option_to_list};
+ghost use Rattle.std.specs.Prelude.{◌≡◌, ◌&&◌, ◌||◌, ◌++◌, List, false, filter_map, fold, is_some, min, option_to_list};
 ghost use Rattle.std.specs.List.{list_any};
 ghost use Rattle.turn_client_api.specs.Due.{refresh_time};
-ghost use Rattle.turn_client_api.specs.Grants.{is_for};
-ghost use Rattle.turn_client_api.specs.State.{State, max_time};
+ghost use Rattle.turn_client_api.specs.Grants.{as_allocation, is_for};
+ghost use Rattle.turn_client_api.specs.State.{State};
+ghost use Rattle.turn_client_api.specs.declared.grant.Grant.{Grant};
 ghost use Rattle.turn_client_api.specs.declared.grant.Grant.TheVariants.{Allocation};
 ghost use Rattle.turn_client_grants.specs.Lists.{with_lists};
-ghost use Rattle.turn_client_grants.specs.Summary.{IsSummary, end_in, is_requested, is_untold, lapse_in, never};
+ghost use Rattle.turn_client_grants.specs.Summary.{IsSummary, end_in, is_requested, is_reserved, is_untold, lapse_in};
 
 use crate::due::{least, refresh_time};
+use crate::kind::is_allocation;
 use crate::listed::has_request;
 use crate::reads::nth_allocation;
 use turn_client_api::{Grant, Listing, Origin, Progress, Relay};
@@ -21,8 +23,8 @@ const GREATEST: u64 = (1 << 63) - 1;
 /// Later than every time.
 const NEVER: u64 = 1 << 63;
 
-/// What is read from all grants at once. Each change of the grants or of the requests computes it
-/// anew.
+/// What is read from all grants at once. A change of the grants or of the requests that may change it
+/// computes it anew; a grant that is added after all others is counted beside what it was.
 #[derive(Clone, Copy, Debug, PartialEq, Eq)]
 pub struct Summary {
     /// The allocation that the server granted first.
@@ -39,6 +41,8 @@ pub struct Summary {
     pub has_untold: bool,
     /// Whether there is an offer that the server made by a request.
     pub has_requested: bool,
+    /// Whether a channel is reserved.
+    pub has_reserved: bool,
 }
 
 /// The summary of these grants and these requests.
@@ -47,11 +51,12 @@ pub(crate) fn summary_of(grants: &[Grant], listed: &[Listing]) -> Summary
 {
     let first = nth_allocation(grants, 0);
     let second = nth_allocation(grants, 1);
-    let end = next_end(grants);
-    let lapse = next_lapse(grants, listed);
-    let refresh = next_refresh(grants, listed);
+    let end = next_end(Instant::from_nanos(GREATEST), grants);
+    let lapse = next_lapse(NEVER, grants, listed);
+    let refresh = next_refresh(Instant::from_nanos(GREATEST), grants, grants, listed);
     let has_untold = any_untold(grants);
     let has_requested = any_requested(grants);
+    let has_reserved = any_reserved(grants);
     Summary {
         first,
         second,
@@ -60,6 +65,65 @@ pub(crate) fn summary_of(grants: &[Grant], listed: &[Listing]) -> Summary
         refresh,
         has_untold,
         has_requested,
+        has_reserved,
+    }
+}
+
+/// The summary of these grants and these requests: the given one, unless they have changed in a way
+/// that may change it.
+pub(crate) fn kept_unless(
+    has_changed: bool,
+    summary: &Summary,
+    grants: &[Grant],
+    listed: &[Listing],
+) -> Summary
+    requires { has_changed ≡ false → IsSummary summary.now grants.now listed.now }
+    ensures { IsSummary result grants.now listed.now }
+{
+    if has_changed {
+        return summary_of(grants, listed);
+    }
+    *summary
+}
+
+/// The summary of these grants and these requests, where the given one is that without the last
+/// grants.
+pub(crate) fn summary_with(
+    summary: &Summary,
+    grants: &[Grant],
+    listed: &[Listing],
+    last: &[Grant],
+) -> Summary
+    ensures { (others : List Grant) → grants.now ≡ others ++ last.now → IsSummary summary.now others listed.now → IsSummary result grants.now listed.now }
+{
+    let has_allocation = any_allocation(last);
+    if has_allocation {
+        return summary_of(grants, listed);
+    }
+    joined(summary, grants, listed, last)
+}
+
+/// The same, if the last grants are no allocations: whether other grants are refreshed depends on
+/// these.
+fn joined(summary: &Summary, grants: &[Grant], listed: &[Listing], last: &[Grant]) -> Summary
+    requires { list_any (λ g. is_some (as_allocation g)) last.now ≡ false }
+    ensures { (others : List Grant) → grants.now ≡ others ++ last.now → IsSummary summary.now others listed.now → IsSummary result grants.now listed.now }
+{
+    let end = next_end(summary.end, last);
+    let lapse = next_lapse(summary.lapse, last, listed);
+    let refresh = next_refresh(summary.refresh, last, grants, listed);
+    let has_untold = untold_with(summary, last);
+    let has_requested = requested_with(summary, last);
+    let has_reserved = reserved_with(summary, last);
+    Summary {
+        first: summary.first,
+        second: summary.second,
+        end,
+        lapse,
+        refresh,
+        has_untold,
+        has_requested,
+        has_reserved,
     }
 }
 
@@ -79,11 +143,11 @@ fn end_in(grant: &Grant) -> Option<Instant>
     }
 }
 
-/// The earliest expiry or deadline of the grants other than allocations.
-fn next_end(grants: &[Grant]) -> Instant
-    ensures { result ≡ fold min max_time (filter_map end_in grants.now) }
+/// The earliest of the time and of the expiries and deadlines of the grants other than allocations.
+fn next_end(time: Instant, grants: &[Grant]) -> Instant
+    ensures { result ≡ fold min time (filter_map end_in grants.now) }
 {
-    let mut soonest = Instant::from_nanos(GREATEST);
+    let mut soonest = time;
     for grant in grants {
         soonest = least(soonest, end_in(grant));
     }
@@ -133,23 +197,24 @@ fn least_nanos(moment: u64, other: Option<u64>) -> u64
     }
 }
 
-/// The earliest time at which a grant expires.
-fn next_lapse(grants: &[Grant], listed: &[Listing]) -> u64
-    ensures { result ≡ fold min never (filter_map (lapse_in listed.now) grants.now) }
+/// The earliest of the time and of those at which a grant expires, in nanoseconds.
+fn next_lapse(time: u64, grants: &[Grant], listed: &[Listing]) -> u64
+    ensures { result ≡ fold min time (filter_map (lapse_in listed.now) grants.now) }
 {
-    let mut soonest = NEVER;
+    let mut soonest = time;
     for grant in grants {
         soonest = least_nanos(soonest, lapse_in(listed, grant));
     }
     soonest
 }
 
-/// The earliest time at which a grant is to be refreshed.
-fn next_refresh(grants: &[Grant], listed: &[Listing]) -> Instant
-    ensures { (s : State) → result ≡ fold min max_time (filter_map (refresh_time (with_lists grants.now listed.now s)) grants.now) }
+/// The earliest of the time and of those at which one of these grants is to be refreshed. `grants` are
+/// all grants.
+fn next_refresh(time: Instant, these: &[Grant], grants: &[Grant], listed: &[Listing]) -> Instant
+    ensures { (s : State) → result ≡ fold min time (filter_map (refresh_time (with_lists grants.now listed.now s)) these.now) }
 {
-    let mut soonest = Instant::from_nanos(GREATEST);
-    for grant in grants {
+    let mut soonest = time;
+    for grant in these {
         soonest = least(soonest, refresh_time(grants, listed, grant));
     }
     soonest
@@ -182,9 +247,51 @@ fn any_untold(grants: &[Grant]) -> bool
     grants.iter().any(|grant| is_untold(grant))
 }
 
+/// Whether there was such an offer, or is one among the last grants.
+fn untold_with(summary: &Summary, last: &[Grant]) -> bool
+    ensures { result ≡ (summary.now.has_untold || list_any is_untold last.now) }
+{
+    summary.has_untold || any_untold(last)
+}
+
 /// Whether there is an offer that the server made by a request.
 fn any_requested(grants: &[Grant]) -> bool
     ensures { result ≡ list_any is_requested grants.now }
 {
     grants.iter().any(|grant| is_requested(grant))
+}
+
+/// Whether there was such an offer, or is one among the last grants.
+fn requested_with(summary: &Summary, last: &[Grant]) -> bool
+    ensures { result ≡ (summary.now.has_requested || list_any is_requested last.now) }
+{
+    summary.has_requested || any_requested(last)
+}
+
+/// Whether the grant is a reserved channel.
+fn is_reserved(grant: &Grant) -> bool
+    ensures { result ≡ is_reserved grant.now }
+{
+    matches!(grant, Grant::Channel(_, _, Progress::Reserved(_)))
+}
+
+/// Whether a channel is reserved.
+fn any_reserved(grants: &[Grant]) -> bool
+    ensures { result ≡ list_any is_reserved grants.now }
+{
+    grants.iter().any(|grant| is_reserved(grant))
+}
+
+/// Whether there was such a channel, or is one among the last grants.
+fn reserved_with(summary: &Summary, last: &[Grant]) -> bool
+    ensures { result ≡ (summary.now.has_reserved || list_any is_reserved last.now) }
+{
+    summary.has_reserved || any_reserved(last)
+}
+
+/// Whether one of the grants is an allocation.
+fn any_allocation(grants: &[Grant]) -> bool
+    ensures { result ≡ list_any (λ g. is_some (as_allocation g)) grants.now }
+{
+    grants.iter().any(|grant| is_allocation(grant))
 }

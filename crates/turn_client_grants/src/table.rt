@@ -4,7 +4,7 @@
 //! leads from a channel's number, from the peer of a channel that is pending or active, and from the IP
 //! address of a permission to a copy of the grant. For the reads that each packet needs, a table of few
 //! grants is scanned instead. What is read from all grants at once, such as the next expiry and the next
-//! refresh, is a summary, which each change computes anew.
+//! refresh, is a summary. It is computed anew only by a change after which it may be another one.
 
 ghost use Rattle.std.specs.Prelude.{◌≡◌, ◌≤◌, ◌<◌, ◌+◌, ◌++◌, ◌∷◌, ◌==◌, ◌&&◌, [], false, true, None, filter, filter_map, length, map, not, reverse, OnOk};
 ghost use Rattle.std.specs.List.{list_all, list_any};
@@ -24,10 +24,11 @@ use crate::changes::{self, Change};
 use crate::failures::{push_closes_back, push_failures_back, push_failures_front};
 use crate::grant_filter::GrantFilter;
 use crate::key::{self, Key};
+use crate::kind::is_pending;
 use crate::listings::Listings;
 use crate::offers;
 use crate::purposes::Purposes;
-use crate::summary::{Summary, summary_of};
+use crate::summary::{Summary, kept_unless, summary_of, summary_with};
 use std::alloc::{AllocError, Global};
 use std::collections::{HashMap, VecDeque};
 use std::marker::Model;
@@ -38,6 +39,7 @@ use turn_stun::transaction::TransactionId;
 use turn_stun::transport::TransportType;
 use turn_types::AddressFamily;
 
+mod found;
 mod read;
 
 /// The grants of a client, in the order in which they were requested or granted, and what the requests
@@ -121,7 +123,12 @@ impl GrantTable {
     {
         changes::add(&mut self.grants, grant);
         key::add(&mut self.found, grant);
-        self.summary = summary_of(self.grants.as_slice(), self.listed.as_slice());
+        self.summary = summary_with(
+            &self.summary,
+            self.grants.as_slice(),
+            self.listed.as_slice(),
+            &[*grant],
+        );
     }
 
     /// Adds grants, which must be new and differ (`are_new`), after all others.
@@ -136,7 +143,12 @@ impl GrantTable {
     {
         changes::add_all(&mut self.grants, more);
         key::add_all(&mut self.found, more);
-        self.summary = summary_of(self.grants.as_slice(), self.listed.as_slice());
+        self.summary = summary_with(
+            &self.summary,
+            self.grants.as_slice(),
+            self.listed.as_slice(),
+            more,
+        );
     }
 
     /// Adds the allocations with these relayed addresses, after all other grants, for so many seconds
@@ -162,8 +174,14 @@ impl GrantTable {
         ensures grant_room { self.new.grant_room ≡ self.old.grant_room }
         ensures listing_room { self.old.listing_room ≤ self.new.listing_room + 2 }
     {
+        let is_refresh = self.are_for_refreshed(purposes);
         self.listed.list(id, purposes);
-        self.summary = summary_of(self.grants.as_slice(), self.listed.as_slice());
+        self.summary = kept_unless(
+            is_refresh,
+            &self.summary,
+            self.grants.as_slice(),
+            self.listed.as_slice(),
+        );
     }
 
     /// Queues the failures of these grants after the queued events.
@@ -214,6 +232,10 @@ impl GrantTable {
         ensures grant_room { self.new.grant_room ≡ self.old.grant_room }
         ensures listing_room { self.old.listing_room ≤ self.new.listing_room }
     {
+        let are_absent = changes::are_absent(self.grants.as_slice(), which);
+        if are_absent {
+            return;
+        }
         self.listed.unlist(self.grants.as_slice(), which);
         self.summary = summary_of(self.grants.as_slice(), self.listed.as_slice());
     }
@@ -236,6 +258,10 @@ impl GrantTable {
         ensures grant_room { self.old.grant_room ≤ self.new.grant_room }
         ensures listing_room { self.old.listing_room ≤ self.new.listing_room }
     {
+        let are_absent = changes::are_absent(self.grants.as_slice(), which);
+        if are_absent {
+            return;
+        }
         self.listed.unlist(self.grants.as_slice(), which);
         changes::remove(&mut self.grants, which);
         key::remove(&mut self.found, which);
@@ -264,24 +290,36 @@ impl GrantTable {
         self.summary = summary_of(self.grants.as_slice(), self.listed.as_slice());
     }
 
-    /// Replaces these grants by one grant, which is no allocation, after all others.
-    pub(crate) fn replace(&mut self, which: &GrantFilter, grant: &Grant)
+    /// Replaces the grant that this key finds by another one, which is no allocation, after all others.
+    pub(crate) fn replace(&mut self, key: &Key, grant: &Grant)
         requires numbered { is_numbered grant.now ≡ true }
         requires apart { as_allocation grant.now ≡ None }
-        requires there { list_any (holds which.now) self.old.grants ≡ true }
-        // By each key that finds the new grant, one of these is found.
-        requires keyed { (k : Key) → is_found_by k grant.now ≡ true → list_any (λ g. holds which.now g && is_found_by k g) self.old.grants ≡ true }
-        ensures grants { self.new.grants ≡ filter (λ g. not (holds which.now g)) self.old.grants ++ grant.now ∷ [] }
-        ensures listed { self.new.listed ≡ unlisted_in (holds which.now) self.old.grants self.old.listed }
+        requires there { list_any (is_found_by key.now) self.old.grants ≡ true }
+        // Each key that finds the new grant finds the old one.
+        requires keyed { (k : Key) → is_found_by k grant.now ≡ true → list_any (λ g. is_found_by key.now g && is_found_by k g) self.old.grants ≡ true }
+        ensures grants { self.new.grants ≡ filter (λ g. not (is_found_by key.now g)) self.old.grants ++ grant.now ∷ [] }
+        ensures listed { self.new.listed ≡ unlisted_in (is_found_by key.now) self.old.grants self.old.listed }
         ensures grant_room { self.old.grant_room ≤ self.new.grant_room }
         ensures fewer { length self.new.grants ≤ length self.old.grants }
         ensures listing_room { self.old.listing_room ≤ self.new.listing_room }
     {
-        self.listed.unlist(self.grants.as_slice(), which);
-        changes::remove(&mut self.grants, which);
+        let old = self.found[key];
+        self.listed.unlist_one(&old);
+        changes::remove_found(&mut self.grants, key);
+        let summary = kept_unless(
+            !is_pending(&old),
+            &self.summary,
+            self.grants.as_slice(),
+            self.listed.as_slice(),
+        );
         changes::add(&mut self.grants, grant);
-        key::replace(&mut self.found, which, grant);
-        self.summary = summary_of(self.grants.as_slice(), self.listed.as_slice());
+        self.summary = summary_with(
+            &summary,
+            self.grants.as_slice(),
+            self.listed.as_slice(),
+            &[*grant],
+        );
+        key::replace(&mut self.found, &old, grant);
     }
 
     /// Changes grants that keep their places.

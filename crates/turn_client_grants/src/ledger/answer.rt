@@ -14,6 +14,7 @@ ghost use Rattle.turn_client_grants.specs.Ledger.{SameRoomBut, with_ledger};
 ghost use Rattle.turn_client_grants.specs.Table.{is_numbered};
 
 use crate::grant_filter::GrantFilter;
+use crate::key::Key;
 use crate::ledger::GrantLedger;
 use crate::time::later;
 use std::net::{IpAddr, SocketAddr};
@@ -73,7 +74,7 @@ impl GrantLedger {
     {
         let transport = self.transport();
         self.replace(
-            &GrantFilter::PermissionOf(ip),
+            &Key::Ip(ip),
             &Grant::Permission(ip, Progress::Active(expiry)),
         );
         self.push_event(TurnEvent::PermissionCreated(transport, ip));
@@ -202,7 +203,7 @@ impl GrantLedger {
         let transport = self.transport();
         self.permissions_answered(id, true, now);
         self.replace(
-            &GrantFilter::ChannelOf(number),
+            &Key::Number(number),
             &Grant::Channel(number, peer, Progress::Active(later(now, CHANNEL_SECONDS))),
         );
         self.push_event(TurnEvent::ChannelCreated(transport, peer));
@@ -243,7 +244,7 @@ impl GrantLedger {
         }
         // Reserved as after its expiry (our choice): the server may keep the binding so long.
         self.replace(
-            &GrantFilter::ChannelOf(number),
+            &Key::Number(number),
             &Grant::Channel(
                 number,
                 peer,

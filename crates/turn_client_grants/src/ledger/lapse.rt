@@ -13,6 +13,7 @@ ghost use Rattle.turn_client_grants.specs.Table.{is_numbered};
 ghost use Rattle.turn_client_grants.specs.GrantFilter.{holds, purposes_in};
 
 use crate::grant_filter::GrantFilter;
+use crate::key::Key;
 use crate::kind::family_of;
 use crate::ledger::GrantLedger;
 use crate::ledger::answer::RESERVED_SECONDS;
@@ -175,7 +176,7 @@ impl GrantLedger {
         let transport = self.transport();
         let until = later(expiry, RESERVED_SECONDS);
         self.table.replace(
-            &GrantFilter::ChannelOf(number),
+            &Key::Number(number),
             &Grant::Channel(number, peer, Progress::Reserved(until)),
         );
         self.events

@@ -204,7 +204,11 @@ impl GrantTable {
     pub fn reserved_until(&self, peer: SocketAddr, now: Instant) -> Option<Instant>
         ensures { (s : State) → result ≡ slice_get (filter_map (reserved_from now) (channels_to peer (with_table self.now s))) 0 }
     {
-        reads::reserved_until(self.grants.as_slice(), peer, now)
+        let has_reserved = self.summary.has_reserved;
+        if has_reserved {
+            return reads::reserved_until(self.grants.as_slice(), peer, now);
+        }
+        None
     }
 
     /// The least channel number that no channel has, not even a pending or reserved one, in any
