@@ -3,6 +3,7 @@
 pub(crate) mod answers;
 pub(crate) mod lapses;
 pub(crate) mod reads;
+pub(crate) mod times;
 
 use crate::grants::random::Draw;
 use std::alloc::{AllocError, Global};

@@ -1,4 +1,5 @@
-//! 10,000 random changes of a ledger, compared with plain lists that are kept by hand.
+//! 10,000 random changes of ledgers, 2,000 of each. After each the ledger is compared with plain lists that
+//! are kept by hand.
 
 mod answers;
 mod asks;
@@ -8,7 +9,7 @@ mod connections;
 use crate::fixture::same;
 use crate::grants::plain::{Plain, SECOND, TRANSPORT};
 use crate::grants::random::compare::is_same;
-use std::alloc::AllocError;
+use std::alloc::{AllocError, Global};
 use std::process::Abort;
 use std::test::Fail;
 use turn_client_api::TurnEvent;
@@ -33,6 +34,21 @@ impl Random {
     fn byte(&mut self) -> u8 {
         (self.draw() % 256) as u8
     }
+
+    /// A change at this time, or up to 1,000 s earlier.
+    fn change(&mut self, time: u64) -> Draw {
+        let is_earlier = self.draw() % 8 == 0;
+        let back = if is_earlier {
+            (self.draw() % 1_000).saturating_mul(SECOND)
+        } else {
+            0
+        };
+        Draw {
+            n: self.byte(),
+            m: self.byte(),
+            now: time.saturating_sub(back),
+        }
+    }
 }
 
 /// The values with which one change is drawn.
@@ -44,20 +60,25 @@ pub(crate) struct Draw {
     pub(crate) now: u64,
 }
 
-/// Room for far too many is refused, whichever list it is for.
-fn is_refused(rt: &impl Abort, ledger: &mut GrantLedger) {
-    let far_too_many = usize::MAX / 64;
-    same(rt, ledger.reserve(far_too_many, 0, 0).is_err(), true);
-    same(rt, ledger.reserve(1, far_too_many, 0).is_err(), true);
-    same(rt, ledger.reserve(1, 1, far_too_many).is_err(), true);
+/// A reservation of too much memory is refused, whichever list it is for: of more than an address space has,
+/// or of more than a vector may.
+fn is_refused(rt: &impl Abort, ledger: &mut GrantLedger, draw: &Draw) {
+    let too_many = if draw.m % 8 == 0 {
+        1usize << 48
+    } else {
+        usize::MAX / 64
+    };
+    same(rt, ledger.reserve(too_many, 0, 0).is_err(), true);
+    same(rt, ledger.reserve(1, too_many, 0).is_err(), true);
+    same(rt, ledger.reserve(1, 1, too_many).is_err(), true);
 }
 
-/// The caller polls what is queued, in the same order.
-fn polls(rt: &impl Abort, ledger: &mut GrantLedger, plain: &mut Plain) {
-    same(rt, ledger.has_event(), !plain.events.is_empty());
-    same(rt, ledger.next_event(), plain.events.pop_front());
-    same(rt, ledger.next_event(), plain.events.pop_front());
-    same(rt, ledger.next_close(), plain.closes.pop_front());
+/// The caller polls up to so many events and addresses to close.
+fn polls(rt: &impl Abort, ledger: &mut GrantLedger, plain: &mut Plain, count: u8) {
+    for _ in 0..count {
+        same(rt, ledger.next_event(), plain.events.pop_front());
+        same(rt, ledger.next_close(), plain.closes.pop_front());
+    }
 }
 
 /// The requested families fail, before or after all queued events.
@@ -152,31 +173,90 @@ fn changes(
     third_changes(ledger, plain, kind - 19, draw)
 }
 
-/// Makes changes one after the other, and compares both after each of them.
-fn turns(rt: &impl Abort, ledger: &mut GrantLedger, plain: &mut Plain) -> Result<(), AllocError> {
-    let mut random = Random { state: 1 };
-    let mut now = 0u64;
-    for _turn in 0..10_000u32 {
-        now = now.saturating_add((random.draw() % 9).saturating_mul(SECOND));
-        let draw = Draw {
-            n: random.byte(),
-            m: random.byte(),
-            now,
-        };
-        match random.draw() % 30 {
-            27 | 28 => polls(rt, ledger, plain),
-            29 => is_refused(rt, ledger),
-            kind => changes(ledger, plain, kind, &draw)?,
-        }
-        is_same(rt, ledger, plain, &draw, random.draw() % 5);
+/// Whether a step of this kind is a change by a request, a reply or the time. The others poll or refuse
+/// memory.
+fn is_change(kind: u64) -> bool {
+    kind < 27
+}
+
+/// Makes one change, refuses memory, or polls.
+fn step(
+    rt: &impl Abort,
+    ledger: &mut GrantLedger,
+    plain: &mut Plain,
+    kind: u64,
+    draw: &Draw,
+) -> Result<(), AllocError> {
+    match kind {
+        27 | 28 => polls(rt, ledger, plain, draw.m % 32),
+        29 => is_refused(rt, ledger, draw),
+        kind => changes(ledger, plain, kind, draw)?,
     }
+    Ok(())
+}
+
+/// How many changes a test makes. The five tests together make 10,000.
+const CHANGES: u32 = 2_000;
+
+/// More steps than that takes: one of ten polls or refuses memory.
+const STEPS: u32 = 3_000;
+
+/// Makes changes one after the other, and compares both after each step. Time passes, but one step of
+/// eight is made at an earlier time.
+fn steps(
+    rt: &impl Abort,
+    ledger: &mut GrantLedger,
+    plain: &mut Plain,
+    seed: u64,
+    alloc: Global,
+) -> Result<(), AllocError> {
+    let mut random = Random { state: seed };
+    let mut time = 0u64;
+    let mut count = 0u32;
+    for _step in 0..STEPS {
+        if count == CHANGES {
+            break;
+        }
+        time = time.saturating_add((random.draw() % 9).saturating_mul(SECOND));
+        let draw = random.change(time);
+        let kind = random.draw() % 30;
+        step(rt, ledger, plain, kind, &draw)?;
+        is_same(rt, ledger, plain, draw.now, alloc)?;
+        count = count.saturating_add(u32::from(is_change(kind)));
+    }
+    same(rt, count, CHANGES);
+    Ok(())
+}
+
+/// Makes the changes that this seed draws.
+fn random_changes(rt: &impl Abort, seed: u64, alloc: Global) -> Result<(), Fail> {
+    let mut ledger = Box::new(alloc, GrantLedger::new(TRANSPORT, alloc))?;
+    let mut plain = Box::new(alloc, Plain::new(alloc))?;
+    steps(rt, &mut ledger, &mut plain, seed, alloc)?;
     Ok(())
 }
 
 #[test]
 fn random_changes_are_those_of_plain_lists(rt: HostRuntime) -> Result<(), Fail> {
-    let mut ledger = Box::new(rt.alloc(), GrantLedger::new(TRANSPORT, rt.alloc()))?;
-    let mut plain = Box::new(rt.alloc(), Plain::new(rt.alloc()))?;
-    turns(&rt, &mut ledger, &mut plain)?;
-    Ok(())
+    random_changes(&rt, 1, rt.alloc())
+}
+
+#[test]
+fn second_changes_are_those_of_plain_lists(rt: HostRuntime) -> Result<(), Fail> {
+    random_changes(&rt, 2, rt.alloc())
+}
+
+#[test]
+fn third_changes_are_those_of_plain_lists(rt: HostRuntime) -> Result<(), Fail> {
+    random_changes(&rt, 3, rt.alloc())
+}
+
+#[test]
+fn fourth_changes_are_those_of_plain_lists(rt: HostRuntime) -> Result<(), Fail> {
+    random_changes(&rt, 4, rt.alloc())
+}
+
+#[test]
+fn fifth_changes_are_those_of_plain_lists(rt: HostRuntime) -> Result<(), Fail> {
+    random_changes(&rt, 5, rt.alloc())
 }

@@ -96,7 +96,7 @@ impl Plain {
     }
 
     /// Whether a request for the row is listed.
-    fn has_request(&self, row: &Row) -> bool {
+    pub(crate) fn has_request(&self, row: &Row) -> bool {
         self.asked.iter().any(|asked| row.is(asked.kind, asked.key))
     }
 
@@ -177,7 +177,7 @@ impl Plain {
 }
 
 /// Whether the row is in the allocation, or is it.
-fn is_in(relay: &Row, row: &Row) -> bool {
+pub(crate) fn is_in(relay: &Row, row: &Row) -> bool {
     is_ipv6(row.peer) == is_ipv6(relay.peer)
 }
 

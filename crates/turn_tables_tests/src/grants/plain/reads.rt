@@ -4,7 +4,8 @@ use crate::grants::plain::answers::offer_key;
 use crate::grants::plain::{
     Kind, Plain, Reason, Row, Stage, address, at, byte_of, id, is_ipv6, number_of,
 };
-use turn_client_api::{DataConnection, DataOffer, Origin, Progress, Purpose, Relay};
+use std::net::SocketAddr;
+use turn_client_api::{DataConnection, DataOffer, Grant, Origin, Progress, Purpose, Relay};
 use turn_stun::instant::Instant;
 
 impl Row {
@@ -49,6 +50,29 @@ impl Row {
         }
     }
 
+    /// The grant that the row is.
+    pub(crate) fn grant(&self) -> Grant {
+        let peer = address(self.peer);
+        match self.kind {
+            Kind::Allocate | Kind::Allocation => Grant::Allocation(self.relay()),
+            Kind::Permission => Grant::Permission(peer.ip(), self.progress()),
+            Kind::Channel => Grant::Channel(number_of(self.key), peer, self.progress()),
+            Kind::Connect => Grant::Connect(peer),
+            Kind::Offer => Grant::Offer(offer_of(self)),
+            Kind::Connection => Grant::Connection(self.connection()),
+        }
+    }
+
+    /// Whether the row is an allocation that is not expired.
+    pub(crate) fn is_relay(&self) -> bool {
+        self.kind == Kind::Allocation && !self.is_marked
+    }
+
+    /// Whether the row is an active permission for a peer over IPv6, or over IPv4.
+    pub(crate) fn permits(&self, over_ipv6: bool) -> bool {
+        self.is_at(Kind::Permission, Stage::Active) && is_ipv6(self.peer) == over_ipv6
+    }
+
     /// Whether the row has this kind and this peer.
     fn is_to(&self, kind: Kind, peer: u8) -> bool {
         self.kind == kind && self.peer == peer
@@ -91,6 +115,48 @@ impl Plain {
     pub(crate) fn permission(&self, peer: u8) -> Option<Progress> {
         self.find(Kind::Permission, u32::from(peer))
             .map(|row| row.progress())
+    }
+
+    /// Whether the peer has an active permission.
+    pub(crate) fn has_active_permission(&self, peer: u8) -> bool {
+        self.find(Kind::Permission, u32::from(peer))
+            .is_some_and(|row| row.stage == Stage::Active)
+    }
+
+    /// Whether the peer has an active permission in an allocation that is not expired.
+    pub(crate) fn may_send(&self, peer: u8) -> bool {
+        self.has_active_permission(peer)
+            && self
+                .find(Kind::Allocation, u32::from(is_ipv6(peer)))
+                .is_some_and(|row| !row.is_marked)
+    }
+
+    /// The allocation at this place of the two.
+    pub(crate) fn nth_allocation(&self, place: usize) -> Option<Relay> {
+        let mut left = place;
+        for row in &self.rows {
+            if row.kind == Kind::Allocation {
+                if left == 0 {
+                    return Some(row.relay());
+                }
+                left = left.saturating_sub(1);
+            }
+        }
+        None
+    }
+
+    /// The peer of the channel with this number.
+    pub(crate) fn owner(&self, number: u16) -> Option<SocketAddr> {
+        self.find(Kind::Channel, u32::from(number))
+            .map(|row| address(row.peer))
+    }
+
+    /// The peer of the active channel with this number.
+    pub(crate) fn active_owner(&self, number: u16) -> Option<SocketAddr> {
+        match self.find(Kind::Channel, u32::from(number)) {
+            Some(row) if row.stage == Stage::Active => Some(address(row.peer)),
+            _ => None,
+        }
     }
 
     pub(crate) fn channel(&self, number: u16) -> Option<Progress> {
@@ -230,6 +296,17 @@ impl Plain {
         self.is_asked(id)
             || self.rows.iter().any(|row| row.kind == Kind::Offer
                 && row.reason == Reason::Request(id % 16))
+    }
+
+    /// The purpose of the request with this ID to bind the connection from this local address.
+    pub(crate) fn bind_purpose(&self, id: u8, local: u8) -> Option<Purpose> {
+        for asked in &self.asked {
+            let is_bind = asked.kind == Kind::Connection && asked.key == u32::from(local);
+            if is_bind && asked.id == id % 16 {
+                return Some(asked.purpose);
+            }
+        }
+        None
     }
 
     /// The purpose at this place of those that the request with this ID was made for.

@@ -1,0 +1,90 @@
+//! All rows and queues, in their order.
+
+use crate::fixture::{check, same};
+use crate::grants::plain::{Plain, TRANSPORT, address, family, id, is_ipv6};
+use std::alloc::{AllocError, Global};
+use std::process::Abort;
+use turn_client_api::{Grant, Listing};
+use turn_client_grants::GrantLedger;
+use turn_stun::transport::TransportType;
+
+/// Both have the same grants, listings, queued events and addresses to close, in the same order.
+///
+/// No call lends these lists, so the text of the ledger, which has each of them once, is compared.
+pub(crate) fn are_same(
+    rt: &impl Abort,
+    ledger: &GrantLedger,
+    plain: &Plain,
+    alloc: Global,
+) -> Result<(), AllocError> {
+    same(rt, ledger.table().count(), plain.rows.len());
+    same(rt, ledger.table().listing_count(), plain.asked.len());
+    same(rt, ledger.has_event(), !plain.events.is_empty());
+    let text = format!(in alloc; "{ledger:?}")?;
+    let grants = format!(in alloc; "{:?}", plain.grants(alloc)?)?;
+    check(rt, text.contains(grants.as_str()));
+    let listed = format!(in alloc; "{:?}", plain.listings(alloc)?)?;
+    check(rt, text.contains(listed.as_str()));
+    let queues = format!(in alloc; "events: {:?}, closes: {:?} }}", plain.events, plain.closes)?;
+    check(rt, text.ends_with(queues.as_str()));
+    Ok(())
+}
+
+/// The iterators yield the same addresses in the same order.
+pub(crate) fn have_same_addresses(rt: &impl Abort, ledger: &GrantLedger, plain: &Plain) {
+    relayed(rt, ledger, plain);
+    for n in 0..8u8 {
+        permitted(rt, ledger, plain, n);
+    }
+    let mut none = ledger.permissions(TransportType::Udp, address(0));
+    same(rt, none.next(), None);
+}
+
+fn relayed(rt: &impl Abort, ledger: &GrantLedger, plain: &Plain) {
+    let mut found = ledger.relayed_addresses();
+    for row in &plain.rows {
+        if row.is_relay() {
+            same(rt, found.next(), Some((TRANSPORT, address(row.peer))));
+        }
+    }
+    same(rt, found.next(), None);
+}
+
+/// The permitted peers of the allocation with this relayed address, if there is one that is not expired.
+fn permitted(rt: &impl Abort, ledger: &GrantLedger, plain: &Plain, n: u8) {
+    let mut found = ledger.permissions(TRANSPORT, address(n));
+    let mut all = ledger.table().permitted_addresses(family(n));
+    let is_in_use = plain.has_relayed(n);
+    for row in &plain.rows {
+        if row.permits(is_ipv6(n)) {
+            let ip = Some(address(row.peer).ip());
+            same(rt, all.next(), ip);
+            same(rt, found.next(), if is_in_use { ip } else { None });
+        }
+    }
+    same(rt, all.next(), None);
+    same(rt, found.next(), None);
+}
+
+impl Plain {
+    /// The rows as grants.
+    fn grants(&self, alloc: Global) -> Result<Vec<Grant>, AllocError> {
+        let mut grants = Vec::new(alloc);
+        for row in &self.rows {
+            grants.push(row.grant())?;
+        }
+        Ok(grants)
+    }
+
+    /// What is listed.
+    fn listings(&self, alloc: Global) -> Result<Vec<Listing>, AllocError> {
+        let mut listings = Vec::new(alloc);
+        for asked in &self.asked {
+            listings.push(Listing {
+                id: id(asked.id),
+                purpose: asked.purpose,
+            })?;
+        }
+        Ok(listings)
+    }
+}
