@@ -2,6 +2,7 @@
 
 mod fixture;
 mod ids;
+mod many;
 mod memory;
 mod responses;
 mod schedules;

@@ -41,7 +41,7 @@ static ROWS: [Row; 7] = [
 ];
 
 /// Whether the agent accepts a message.
-fn accepts(rt: &impl Abort, agent: &mut StunAgent, bytes: [u8; 20], from: SocketAddr) -> bool {
+pub fn accepts(rt: &impl Abort, agent: &mut StunAgent, bytes: [u8; 20], from: SocketAddr) -> bool {
     let message = Message::from_bytes(bytes.as_slice()).expect(rt, "a message");
     agent.handle_stun_message(&message, from)
 }
