@@ -21,6 +21,13 @@ void keep_least(uint32_t row, double *found);
 /* Begins a measurement. The answers of a batch are looked at by `is_right`. */
 void begin(int (*is_right)(uint32_t row, uint64_t turns, uint64_t sum));
 
+/* How many bytes the program held more at the end of what a row timed once than at its beginning. */
+double bytes_of(uint32_t row);
+
+/* Stops the clock of what is timed once, while the driver itself has work to do, and lets it go on. */
+void pause_clock(void);
+void resume_clock(void);
+
 /* Leaves a row out of the measurement. */
 void skip(uint32_t row);
 

@@ -71,7 +71,8 @@ static size_t answer(const uint8_t *request, uint16_t class, const uint8_t *body
     return 44 + len;
 }
 
-size_t bench_answer(const uint8_t *request, size_t len, uint8_t *room, size_t room_len)
+/* The bytes of the server's answer. */
+static size_t served(const uint8_t *request, size_t len, uint8_t *room, size_t room_len)
 {
     if (len < 20 || room_len < 256) {
         wrong("a packet of the client");
@@ -88,4 +89,12 @@ size_t bench_answer(const uint8_t *request, size_t len, uint8_t *room, size_t ro
     default:
         return answer(request, SUCCESS, ALLOCATION, 0, 1, room);
     }
+}
+
+size_t bench_answer(const uint8_t *request, size_t len, uint8_t *room, size_t room_len)
+{
+    pause_clock();
+    size_t count = served(request, len, room, room_len);
+    resume_clock();
+    return count;
 }

@@ -1,5 +1,6 @@
 /* Batches of turns, and what the least of them took. */
 #include "bench.h"
+#include <malloc.h>
 #include <math.h>
 #include <stdio.h>
 #include <stdlib.h>
@@ -21,6 +22,10 @@ static int batch;
 static uint64_t turns;
 static double began;
 
+/* What is timed once: how long the clock stood still, and how many bytes were in use when it began. */
+static double paused, pause_began;
+static double held, bytes[ROWS];
+
 static double nanos(void)
 {
     struct timespec now;
@@ -34,6 +39,7 @@ void begin(int (*judge)(uint32_t, uint64_t, uint64_t))
     now_row = UINT32_MAX;
     for (int row = 0; row < ROWS; row++) {
         least[row] = NAN;
+        bytes[row] = NAN;
         skipped[row] = 0;
     }
 }
@@ -47,6 +53,61 @@ void keep_least(uint32_t row, double *found)
 {
     if (!(*found <= least[row])) {
         *found = least[row];
+    }
+}
+
+double bytes_of(uint32_t row)
+{
+    return bytes[row];
+}
+
+/* How many bytes of memory are in use. */
+static double in_use(void)
+{
+    struct mallinfo2 info = mallinfo2();
+    return (double)info.uordblks + (double)info.hblkhd;
+}
+
+/* How long it takes to read the clock. */
+static double reading(void)
+{
+    double quickest = INFINITY;
+    for (int i = 0; i < 100; i++) {
+        double start = nanos();
+        quickest = fmin(quickest, nanos() - start);
+    }
+    return quickest;
+}
+
+void pause_clock(void)
+{
+    pause_began = nanos();
+}
+
+void resume_clock(void)
+{
+    paused += nanos() - pause_began;
+}
+
+void bench_start(uint32_t row)
+{
+    if (row >= ROWS) {
+        wrong("a row");
+    }
+    held = in_use();
+    paused = reading();
+    began = nanos();
+}
+
+void bench_stop(uint32_t row, uint64_t count)
+{
+    double spent = nanos() - began - paused;
+    if (row >= ROWS || !is_right(row, count, count)) {
+        wrong("what is timed once");
+    }
+    bytes[row] = in_use() - held;
+    if (!(least[row] <= spent / (double)count)) {
+        least[row] = spent / (double)count;
     }
 }
 
