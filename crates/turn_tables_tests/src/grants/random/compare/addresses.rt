@@ -25,13 +25,10 @@ fn allocations(rt: &impl Abort, ledger: &GrantLedger, plain: &Plain, n: u8) {
     same(rt, ledger.has_relayed(TRANSPORT, relayed), is_in_use);
     same(rt, ledger.has_relayed(TransportType::Udp, relayed), false);
     same(rt, ledger.table().has_relayed(relayed), is_in_use);
-    let relay = plain.relay(n);
-    same(
-        rt,
-        ledger.find_allocation_to(TRANSPORT, relayed.ip()),
-        relay,
-    );
-    same(rt, ledger.table().find_allocation(family(n)), relay);
+    let found = ledger.find_allocation_to(TRANSPORT, relayed.ip());
+    same(rt, found, plain.relay(n));
+    let same_family = ledger.table().find_allocation(family(n));
+    same(rt, same_family, plain.relay(n));
 }
 
 fn permissions(rt: &impl Abort, ledger: &GrantLedger, plain: &Plain, n: u8) {
