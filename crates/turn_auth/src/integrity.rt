@@ -1,6 +1,7 @@
 //! MESSAGE-INTEGRITY and MESSAGE-INTEGRITY-SHA256 (RFC 8489, sections 14.5 and 14.6).
 
 ghost use Rattle.std.specs.Prelude.{◌≡◌, ◌≤◌, ◌<◌, ◌+◌, ◌^◌, ℕ, List, [], length};
+ghost use Rattle.std.specs.Str.{bytes_eq};
 ghost use Rattle.sha1.specs.Sha1.{sha1};
 ghost use Rattle.sha2.specs.Sha256.{sha256};
 ghost use Rattle.turn_auth.specs.Hmac.{hmac};
@@ -75,7 +76,7 @@ pub(crate) fn sha1_holds(mac: &HmacSha1, message: &Message<'_>) -> Option<bool>
         return Some(false);
     }
     let bytes = message.as_bytes();
-    Some(raw.value == sha1_value(mac, bytes, offset).as_slice())
+    Some(same_bytes(raw.value, sha1_value(mac, bytes, offset).as_slice()))
 }
 
 /// Whether the first seen MESSAGE-INTEGRITY-SHA256 is valid under the key, or `None` if none is seen.
@@ -90,5 +91,17 @@ pub(crate) fn sha256_holds(mac: &HmacSha256, message: &Message<'_>) -> Option<bo
         return Some(false);
     }
     let bytes = message.as_bytes();
-    Some(raw.value == sha256_value(mac, bytes, offset).as_slice())
+    Some(same_bytes(raw.value, sha256_value(mac, bytes, offset).as_slice()))
+}
+
+/// Whether both have the same bytes. All of them are compared, whatever the first ones are, so that the time of an
+/// answer says little of where a wrong integrity differs.
+fn same_bytes(found: &[u8], want: &[u8]) -> bool
+    ensures { result ≡ bytes_eq found.now want.now }
+{
+    match (found, want) {
+        ([one, found @ ..], [other, want @ ..]) => (one == other) & same_bytes(found, want),
+        ([], []) => true,
+        _ => false,
+    }
 }
