@@ -4,7 +4,7 @@ use crate::fixture::{check, same};
 use crate::grants::plain::{Plain, TRANSPORT, address, family, id, is_ipv6};
 use std::alloc::{AllocError, Global};
 use std::process::Abort;
-use turn_client_api::{Grant, Listing};
+use turn_client_api::Listing;
 use turn_client_grants::GrantLedger;
 use turn_stun::transport::TransportType;
 
@@ -21,7 +21,7 @@ pub(crate) fn are_same(
     same(rt, ledger.table().listing_count(), plain.asked.len());
     same(rt, ledger.has_event(), !plain.events.is_empty());
     let text = format!(in alloc; "{ledger:?}")?;
-    let grants = format!(in alloc; "{:?}", plain.grants(alloc)?)?;
+    let grants = plain.grants_text(alloc)?;
     check(rt, text.contains(grants.as_str()));
     let listed = format!(in alloc; "{:?}", plain.listings(alloc)?)?;
     check(rt, text.contains(listed.as_str()));
@@ -67,13 +67,17 @@ fn permitted(rt: &impl Abort, ledger: &GrantLedger, plain: &Plain, n: u8) {
 }
 
 impl Plain {
-    /// The rows as grants.
-    fn grants(&self, alloc: Global) -> Result<Vec<Grant>, AllocError> {
-        let mut grants = Vec::new(alloc);
+    /// The rows as the text of a list of grants.
+    fn grants_text(&self, alloc: Global) -> Result<String, AllocError> {
+        let mut text = format!(in alloc; "grants: [")?;
+        let mut separator = "";
         for row in &self.rows {
-            grants.push(row.grant())?;
+            let one = format!(in alloc; "{separator}{:?}", row.grant())?;
+            text.push_str(one.as_str())?;
+            separator = ", ";
         }
-        Ok(grants)
+        text.push_str("], listed: ")?;
+        Ok(text)
     }
 
     /// What is listed.
