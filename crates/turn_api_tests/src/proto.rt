@@ -3,6 +3,5 @@
 mod calls;
 mod fixture;
 mod memory;
-mod original_paths;
 mod paths;
 mod worked_runs;
