@@ -4,7 +4,7 @@
 //! iteration that may poll the client only once has the same result as one that may poll it often.
 
 use crate::exchange::{DATA, GENEROUS, PEER, RELAYED, SEND};
-use crate::fixture::{IPV4, Place, at, check, client_for, client_over_tcp, local, server};
+use crate::fixture::{IPV4, Place, at, client_for, client_over_tcp, local, server};
 use crate::server::Server;
 use std::alloc::{AllocError, Global};
 use std::net::SocketAddr;
@@ -77,8 +77,6 @@ struct Looped<'a> {
     done: usize,
     /// How many tasks were not expected.
     wrong: u32,
-    /// How many tasks the longest list of an iteration had.
-    longest: usize,
     /// Whether work may be left, so that no input is passed in.
     has_more: bool,
     has_ended: bool,
@@ -96,7 +94,6 @@ impl<'a> Looped<'a> {
             rows,
             done: 0,
             wrong: 0,
-            longest: 0,
             has_more: false,
             has_ended: false,
         }
@@ -127,7 +124,6 @@ impl<'a> Looped<'a> {
         let mut tasks = Vec::new(self.alloc);
         let came = self.next_packet(client)?;
         let rest = drive_client(client, came, at(self.now), self.most, &mut tasks)?;
-        self.longest = self.longest.max(tasks.len());
         for task in tasks {
             self.carry_out(&task)?;
         }
@@ -228,8 +224,7 @@ fn greets<C: TurnClientApi>(alloc: Global, client: &mut C, now: u32) -> Result<b
     }
 }
 
-/// Asserts that the loop returns the tasks of the rows, and nothing else, and that it ends with its client. Returns the
-/// length of its longest list of tasks.
+/// Asserts that the loop returns the tasks of the rows, and nothing else, and that it ends with its client.
 fn loops<C: TurnClientApi>(
     rt: &impl Abort,
     alloc: Global,
@@ -237,7 +232,7 @@ fn loops<C: TurnClientApi>(
     most: u32,
     pieces: &[&[u8]],
     rows: &[Row<'_>],
-) -> Result<usize, Fail> {
+) -> Result<(), Fail> {
     let mut looped = Looped::new(alloc, most, rows);
     looped.wait(&mut client, 200)?;
     let _ = client.create_permission(TransportType::Udp, PEER.ip(), at(200));
@@ -253,7 +248,7 @@ fn loops<C: TurnClientApi>(
         (looped.done, looped.wrong, greeted, looped.has_ended),
         (rows.len(), 0, true, true)
     );
-    Ok(looped.longest)
+    Ok(())
 }
 
 /// The input over UDP.
@@ -284,30 +279,5 @@ fn the_loop_carries_a_stream(rt: HostRuntime) -> Result<(), Fail> {
         let client = client_over_tcp(rt.alloc(), IPV4)?;
         loops(&rt, rt.alloc(), client, most, &[TWICE], OVER_TCP)?;
     }
-    Ok(())
-}
-
-/// How many payloads of one piece are more than a list grows to at once.
-const PAYLOADS: usize = 100;
-
-// An iteration that may poll the client often returns all payloads of a piece in one list.
-#[test]
-fn a_list_holds_the_payloads_of_a_long_piece(rt: HostRuntime) -> Result<(), Fail> {
-    let mut piece = Vec::new(rt.alloc());
-    let mut rows = Vec::from_slice(rt.alloc(), OVER_TCP.split_at(5).0)?;
-    for _ in 0..PAYLOADS {
-        piece.extend_from_slice(DATA)?;
-        rows.push((300, Want::Data(PEER, b"hello")))?;
-    }
-    let client = client_over_tcp(rt.alloc(), IPV4)?;
-    let longest = loops(
-        &rt,
-        rt.alloc(),
-        client,
-        MANY,
-        &[piece.as_slice()],
-        rows.as_slice(),
-    )?;
-    check(&rt, longest == PAYLOADS, 0);
     Ok(())
 }
