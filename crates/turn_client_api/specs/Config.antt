@@ -1,5 +1,5 @@
 -- What a client is configured with.
-use Rattle.std.specs.Prelude.{◌≡◌, Bool, true, false, List, [], ◌∷◌, ◌++◌, Option, unwrap_or, if◌then◌else◌}
+use Rattle.std.specs.Prelude.{◌≡◌, ℕ, Bool, true, false, List, [], ◌∷◌, ◌++◌, Option, unwrap_or, if◌then◌else◌}
 use Rattle.std.specs.List.{list_any}
 use Rattle.smallvec.specs.SmallVec.{SmallVec}
 use Rattle.turn_stun.specs.declared.transport.TransportType.{TransportType}
@@ -19,6 +19,12 @@ pub record Config : Type 0 where
   pub supported_integrity : List IntegrityAlgorithm
   pub anonymous_username : Feature
   pub request_timers : Option Timers
+  -- so many challenges are answered in sequence
+  pub max_stale_nonces : ℕ
+
+-- unless another limit is set (our choice)
+abbrev pub default_max_stale_nonces : ℕ
+default_max_stale_nonces = 9
 
 -- when requests are retransmitted and time out: as it was set, or else as in RFC 8489, section 6.2.1
 abbrev pub timers_of : Config → Timers

@@ -9,7 +9,7 @@ use Rattle.turn_client_api.specs.Grants.{purposes_of}
 use Rattle.turn_client_api.specs.Requests.{connection_attempt_method, connection_bind_method}
 use Rattle.turn_client_api.specs.Judgement.{Judgement, Unrelated, Challenged, Fatal, LateResponse, DataIndication, ConnectionAttempt, SignedRequest}
 use Rattle.turn_client_api.specs.Judgement.{SignedSuccess, SignedError, bind_judgement, judgement_of, method_in}
-use Rattle.turn_client_api.specs.Retry.{max_challenges, retried}
+use Rattle.turn_client_api.specs.Retry.{retried}
 use Rattle.turn_client_api.specs.Connections.{attempt_indicated, connection_at}
 use Rattle.turn_client_api.specs.Payloads.{is_message}
 use Rattle.turn_client_api.specs.Streams.{is_ready}
@@ -19,7 +19,7 @@ use Rattle.turn_client_api.specs.Streams.{is_ready}
 -- a challenge that is answered, since its ID is listed for something requested over the control connection,
 -- or that is one too many and ends the client
 abbrev pub challenge_takes_memory : List ℕ → State → Bool
-challenge_takes_memory message s = is_some (retried (purposes_of (id_of message) s)) || not (nat_lt s.challenges max_challenges)
+challenge_takes_memory message s = is_some (retried (purposes_of (id_of message) s)) || not (nat_lt s.challenges s.config.max_stale_nonces)
 
 -- Only a message that the client answers, or that changes it, allocates memory: none that is not for it, no
 -- late reply, no DATA indication, no ConnectionAttempt that is not accepted, and no other request.

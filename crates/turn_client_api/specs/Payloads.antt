@@ -16,7 +16,7 @@ use Rattle.turn_client_api.specs.Requests.{fresh_id, method_for, refresh_method,
 use Rattle.turn_client_api.specs.Judgement.{Judgement, Unrelated, Challenged, Fatal, LateResponse, DataIndication, ConnectionAttempt, SignedRequest}
 use Rattle.turn_client_api.specs.Judgement.{SignedSuccess, SignedError, judgement_of, method_in, has_unknown, last_in, last_peer_in, last_icmp_in}
 use Rattle.turn_client_api.specs.Effect.{allocate_granted, allocate_denied, effect, transaction_ended, closed, fail_all}
-use Rattle.turn_client_api.specs.Retry.{max_challenges, retried, state_after_retry}
+use Rattle.turn_client_api.specs.Retry.{retried, state_after_retry}
 use Rattle.turn_client_api.specs.Connections.{attempt_requested, attempt_indicated}
 
 -- the data of a peer, and where it lies in the bytes that the caller passed in, unless it is owned
@@ -87,10 +87,11 @@ response_step is_granted message now s =
 
 -- ---- a whole message
 
--- the challenge is answered: one too many ends the client, and one that is for nothing is ignored
+-- The challenge is answered: one too many ends the client, since its server may always require another nonce
+-- (our choice). One that is for nothing is ignored.
 abbrev pub challenge_step : List ℕ → Challenge → ℕ → State → Outcome × State
 challenge_step message challenge now s =
-    if nat_lt s.challenges max_challenges
+    if nat_lt s.challenges s.config.max_stale_nonces
     then option_map_or (λ purpose. (Handled, state_after_retry s (id_of message) purpose challenge now)) (retried (purposes_of (id_of message) s)) (Ignored, s)
     else (Handled, closed (fail_all s))
 

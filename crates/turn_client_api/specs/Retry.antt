@@ -6,11 +6,6 @@ use Rattle.turn_client_api.specs.Grants.{purposes_of}
 use Rattle.turn_client_api.specs.Requests.{fresh_id, request_started, queued, request_for}
 use Rattle.turn_client_api.specs.Effect.{transaction_ended}
 
--- so many challenges are answered in sequence: a server that always requires another nonce ends the client
--- (our choice)
-abbrev pub max_challenges : ℕ
-max_challenges = 9
-
 abbrev pub is_refresh : Purpose → Bool
 is_refresh (ForRefresh family lifetime) = true
 is_refresh _ = false

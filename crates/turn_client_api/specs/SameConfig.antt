@@ -49,5 +49,9 @@ same_user a b =
     && pointwise same_algorithm a.supported_integrity b.supported_integrity
     && same_feature a.anonymous_username b.anonymous_username
 
+-- both wait for a server alike, and answer as many challenges
+abbrev pub same_limits : Config → Config → Bool
+same_limits a b = same_set_timers a.request_timers b.request_timers && (a.max_stale_nonces == b.max_stale_nonces)
+
 abbrev pub same_config : Config → Config → Bool
-same_config a b = same_request a b && same_user a b && same_set_timers a.request_timers b.request_timers
+same_config a b = same_request a b && same_user a b && same_limits a b

@@ -84,21 +84,22 @@ same_config-Decides a b =
     (both (both (same_credentials-Decides a.credentials b.credentials)
     (pointwise_decides same_algorithm-Decides a.supported_integrity b.supported_integrity))
     (same_feature-Decides a.anonymous_username b.anonymous_username)))
-    (same_set_timers-Decides a.request_timers b.request_timers))
-    (λ (((transport, families), ((credentials, algorithms), anonymous)), timers) i. record {
+    (both (same_set_timers-Decides a.request_timers b.request_timers) (unsigned_Decides a.max_stale_nonces b.max_stale_nonces)))
+    (λ (((transport, families), ((credentials, algorithms), anonymous)), (timers, limit)) i. record {
       allocation_transport = transport i;
       address_families = families i;
       credentials = credentials i;
       supported_integrity = algorithms i;
       anonymous_username = anonymous i;
       request_timers = timers i;
+      max_stale_nonces = limit i;
     })
     (λ e. (
       (
         (ap (λ c. c.allocation_transport) e, ap (λ c. c.address_families) e),
         ((ap (λ c. c.credentials) e, ap (λ c. c.supported_integrity) e), ap (λ c. c.anonymous_username) e),
       ),
-      ap (λ c. c.request_timers) e,
+      (ap (λ c. c.request_timers) e, ap (λ c. c.max_stale_nonces) e),
     ))
 
 pub same_config-equivalence : IsEquivalence same_config

@@ -1,14 +1,16 @@
 //! What a client requests from its server, and with which credentials.
 
 ghost use Rattle.std.specs.Prelude.{◌≡◌, ◌<◌, ◌≤◌, ◌≢◌, [], ◌∷◌, Some, None, length, IfOk, AllPairs, Contains};
+ghost use Rattle.std.specs.Int.NonZero.{non_zero_u16_get};
 ghost use Rattle.turn_agent.specs.Schedule.{wait_of};
 ghost use Rattle.turn_auth.specs.LongTerm.{with_algorithm};
-ghost use Rattle.turn_client_api.specs.Config.{Config, timers_of, with_family};
-ghost use Rattle.turn_client_api.specs.SameConfig.{same_request, same_user};
+ghost use Rattle.turn_client_api.specs.Config.{Config, default_max_stale_nonces, timers_of, with_family};
+ghost use Rattle.turn_client_api.specs.SameConfig.{same_limits, same_request, same_user};
 
 use smallvec::SmallVec;
 use std::alloc::{AllocError, Global};
 use std::marker::Model;
+use std::num::NonZeroU16;
 use std::time::Duration;
 use turn_agent::schedule::RequestTimers;
 use turn_auth::credentials::TurnCredentials;
@@ -30,9 +32,11 @@ pub struct TurnConfig {
     supported_integrity: SmallVec<IntegrityAlgorithm, 2>,
     anonymous_username: Feature,
     request_timers: Option<RequestTimers>,
+    max_stale_nonces: NonZeroU16,
 }
 
 impl Model for TurnConfig {
+    ghost use Rattle.std.specs.Int.NonZero.{non_zero_u16_get};
     ghost use Rattle.turn_client_api.specs.Config.{Config, IsKeptConfig};
 
     ghost Value = { Config };
@@ -44,6 +48,7 @@ impl Model for TurnConfig {
       supported_integrity = c.supported_integrity.items;
       anonymous_username = c.anonymous_username;
       request_timers = c.request_timers;
+      max_stale_nonces = non_zero_u16_get c.max_stale_nonces;
     } };
 
     ghost invariant = { λ c. IsKeptConfig c.address_families c.supported_integrity };
@@ -52,7 +57,8 @@ impl Model for TurnConfig {
 impl TurnConfig {
     /// The configuration of a client with these credentials: it requests an IPv4 address that
     /// relays over UDP, supports integrity with SHA-1, hides its user name as `Feature::Auto` says,
-    /// and retransmits at the times of RFC 8489, section 6.2.1. Allocates no memory.
+    /// retransmits at the times of RFC 8489, section 6.2.1, and answers nine challenges in a row.
+    /// Allocates no memory.
     pub fn new(alloc: Global, credentials: TurnCredentials) -> TurnConfig
         ensures { result ≡ record {
           allocation_transport = TransportType.Udp;
@@ -61,6 +67,7 @@ impl TurnConfig {
           supported_integrity = IntegrityAlgorithm.Sha1 ∷ [];
           anonymous_username = Feature.Auto;
           request_timers = None;
+          max_stale_nonces = default_max_stale_nonces;
         } }
     {
         TurnConfig {
@@ -70,6 +77,7 @@ impl TurnConfig {
             supported_integrity: SmallVec::from_slice(alloc, &[IntegrityAlgorithm::Sha1]).unwrap(),
             anonymous_username: Feature::Auto,
             request_timers: None,
+            max_stale_nonces: NonZeroU16::new(9).unwrap(),
         }
     }
 
@@ -217,6 +225,30 @@ impl TurnConfig {
         self.request_timers.unwrap_or_default()
     }
 
+    /// Sets how many challenges in a row the client answers (our choice: RFC 8489, section 9.2.5,
+    /// sets no limit). The next one ends the client, so that a server that always requires another
+    /// nonce comes to an end. Each challenge over the control connection counts that makes the client
+    /// repeat a request, the first one, too. The count begins anew with the next signed reply to an
+    /// outstanding request.
+    ///
+    /// By default these are 9. Set more for a client with many permissions and channels, or over a
+    /// slow link: the refreshes that leave before the first answer returns have one nonce, and if the
+    /// server has changed it, each of them is challenged and counts. A limit above the number of
+    /// allocations, permissions and channels is enough for that.
+    pub fn set_max_stale_nonces(&mut self, max_stale_nonces: NonZeroU16)
+        ensures { self.new ≡ record self.old { max_stale_nonces = non_zero_u16_get max_stale_nonces } }
+    {
+        self.max_stale_nonces = max_stale_nonces;
+    }
+
+    /// How many challenges in a row the client answers, as `set_max_stale_nonces` last set it, or
+    /// else 9.
+    pub fn max_stale_nonces(&self) -> NonZeroU16
+        ensures { non_zero_u16_get result ≡ self.now.max_stale_nonces }
+    {
+        self.max_stale_nonces
+    }
+
     /// A configuration with the same settings.
     ///
     /// # Errors
@@ -234,6 +266,7 @@ impl TurnConfig {
             supported_integrity: SmallVec::from_slice(alloc, self.supported_integrity.as_slice())?,
             anonymous_username: self.anonymous_username,
             request_timers: self.request_timers,
+            max_stale_nonces: self.max_stale_nonces,
         })
     }
 
@@ -253,6 +286,14 @@ impl TurnConfig {
             && self.supported_integrity.as_slice() == other.supported_integrity.as_slice()
             && self.anonymous_username == other.anonymous_username
     }
+
+    /// Whether both wait for a server alike, and answer as many of its challenges in a row.
+    fn is_same_limits(&self, other: &TurnConfig) -> bool
+        ensures { result ≡ same_limits self.now other.now }
+    {
+        self.request_timers == other.request_timers
+            && self.max_stale_nonces.get() == other.max_stale_nonces.get()
+    }
 }
 
 /// By content. Times that were never set differ from the same times that were set.
@@ -270,9 +311,7 @@ impl PartialEq for TurnConfig {
         ensures settings { result ≡ same_config self.now other.now }
         ensures content { IsTrue result ↔ (self.now ≡ other.now) }
     {
-        self.is_same_request(other)
-            && self.is_same_user(other)
-            && self.request_timers == other.request_timers
+        self.is_same_request(other) && self.is_same_user(other) && self.is_same_limits(other)
     }
 }
 

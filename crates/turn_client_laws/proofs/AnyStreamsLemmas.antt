@@ -23,7 +23,7 @@ use Rattle.turn_client_api.specs.Judgement.{Judgement, Unrelated, Challenged, Fa
 use Rattle.turn_client_api.specs.Judgement.{connection_id_in, lifetime_in, method_in, peer_in}
 use Rattle.turn_client_api.specs.Effect.{allocate_denied, allocate_granted, allocation_mismatch, channel_answered, connect_answered, effect, transaction_ended, family_not_supported, has_code}
 use Rattle.turn_client_api.specs.Effect.{min_lifetime, permission_answered, permission_answered_for, listed_permissions_answered, prolonged, refreshed}
-use Rattle.turn_client_api.specs.Retry.{max_challenges, retried}
+use Rattle.turn_client_api.specs.Retry.{retried}
 use Rattle.turn_client_api.specs.Connections.{attempt_indicated, attempt_requested, is_connected, accepts_attempt}
 use Rattle.turn_client_api.specs.Payloads.{Outcome, Handled, Ignored, answered_purposes, challenge_step, message_step, response_step, signed_step, wrong_step}
 
@@ -116,9 +116,9 @@ module _ (x : List Stream) where
   -- ---- over the control connection
 
   challenge-alike : (message : List ℕ) (d : Challenge) (now : ℕ) (s : State) → challenge_step message d now (with_streams x s) ≡ both_with x (challenge_step message d now s)
-  challenge-alike message d now s = by (ltb s.challenges max_challenges) refl (retried (purposes_of (id_of message) s)) refl
+  challenge-alike message d now s = by (ltb s.challenges s.config.max_stale_nonces) refl (retried (purposes_of (id_of message) s)) refl
     where
-      by : (b : Bool) → ltb s.challenges max_challenges ≡ b → (o : Option Purpose) → retried (purposes_of (id_of message) s) ≡ o
+      by : (b : Bool) → ltb s.challenges s.config.max_stale_nonces ≡ b → (o : Option Purpose) → retried (purposes_of (id_of message) s) ≡ o
           → challenge_step message d now (with_streams x s) ≡ both_with x (challenge_step message d now s)
       by false e o f = rw e refl
       by true e None f = rw (e, f) refl

@@ -3,9 +3,9 @@ use Rattle.std.proofs.Common.{◌≡◌, ℕ, List, refl}
 use Rattle.turn_client_api.specs.State.{State}
 use Rattle.turn_client_api.specs.declared.call.Call.{Call}
 use Rattle.turn_client_api.specs.Payloads.{message_step}
-use Rattle.turn_client_api.specs.Steps.{state_after}
+use Rattle.turn_client_api.specs.Steps.{Leaves, state_after}
 use Rattle.turn_client_laws.proofs.Edits.{KeepsAllEdits}
-use Rattle.turn_client_laws.proofs.EditsOfCalls.{calls-walk}
+use Rattle.turn_client_laws.proofs.EditsOfCalls.{calls-walk, leaves-walk}
 use Rattle.turn_client_laws.proofs.EditsOfMessages.{edits-IsKept}
 use Rattle.turn_client_laws.proofs.FixedFields.{fixed-all-edits}
 
@@ -20,3 +20,7 @@ message-configured = (edits-IsKept StayConfigured StayConfigured-KeepsAllEdits (
 
 pub call-configured : (call : Call) (s : State) → (state_after call s).config ≡ s.config
 call-configured = calls-walk StayConfigured StayConfigured-KeepsAllEdits (λ s streams. refl)
+
+-- even if memory allocation fails
+pub leaves-configured : (call : Call) (s t : State) → Leaves call s t → t.config ≡ s.config
+leaves-configured = leaves-walk StayConfigured StayConfigured-KeepsAllEdits (λ s streams. refl)

@@ -28,7 +28,7 @@ use Rattle.turn_client_api.specs.Grants.{family_of, family_of_ip, is_channel_of,
 use Rattle.turn_client_api.specs.Requests.{request_started, first_allocate, request_for}
 use Rattle.turn_client_api.specs.Judgement.{challenge_in}
 use Rattle.turn_client_api.specs.Effect.{challenges_reset, transaction_ended, new_allocation, phase_with, relayed_in, taken_addresses, with_offer}
-use Rattle.turn_client_api.specs.Retry.{max_challenges, phase_after, with_held}
+use Rattle.turn_client_api.specs.Retry.{phase_after, with_held}
 use Rattle.turn_client_api.specs.Calls.{channel_numbers, offer_origin, offer_taken}
 use Rattle.turn_client_api.specs.Connections.{is_connecting, is_indicated, max_indicated}
 use Rattle.turn_client_api.specs.Transmit.{sent}
@@ -166,7 +166,7 @@ pub record KeepsHeeded (Heeded : Type 0) (R : State → State → Type 0) : Type
       → R s (with_grant (Channel number peer progress) (without_grants (is_channel_of number) s))
   -- challenges
   pub holds : (message : List ℕ) (d : Challenge) (s : State) → challenge_in s message ≡ Some d → R s (with_held d s)
-  pub counts : (s : State) → IsSome s.held → s.challenges < max_challenges → R s (record s { phase = phase_after s.phase; challenges = s.challenges + 1 })
+  pub counts : (s : State) → IsSome s.held → s.challenges < s.config.max_stale_nonces → R s (record s { phase = phase_after s.phase; challenges = s.challenges + 1 })
   pub resets : Heeded → (s : State) → R s (challenges_reset s)
   -- all grants are removed
   pub empties : (s : State) → R s (without_grants (λ g. true) s)

@@ -31,7 +31,7 @@ use Rattle.turn_client_api.specs.Judgement.{Judgement, Unrelated, Challenged, Fa
 use Rattle.turn_client_api.specs.Judgement.{challenge_in, challenged_or, judgement_of, bind_judgement, is_bind_of, connection_id_in, lifetime_in, method_in, peer_in}
 use Rattle.turn_client_api.specs.Effect.{allocate_denied, allocate_granted, allocated, closed, transaction_ended, fail_all, family_not_supported, has_code, in_phase, phase_with, relayed_in}
 use Rattle.turn_client_api.specs.Effect.{taken_addresses, with_offer}
-use Rattle.turn_client_api.specs.Retry.{bind_time, first_or, is_allocate_or_connect, is_channel_bind, is_create_permission, is_refresh, max_challenges, phase_after, retried, state_after_retry}
+use Rattle.turn_client_api.specs.Retry.{bind_time, first_or, is_allocate_or_connect, is_channel_bind, is_create_permission, is_refresh, phase_after, retried, state_after_retry}
 use Rattle.turn_client_api.specs.Retry.{with_held}
 use Rattle.turn_client_api.specs.Connections.{attempt_indicated, attempt_requested, bind_again, bind_answered, bind_step, bound, connection_at, is_connected, is_connecting, accepts_attempt}
 use Rattle.turn_client_api.specs.Connections.{is_indicated, max_indicated, not_bound, with_deadline, with_mode}
@@ -157,7 +157,7 @@ module _ (Heeded : Type 0) (R : State → State → Type 0) (k : KeepsHeeded Hee
   then : (s t u : State) → R s t → R t u → R s u
   then s t u = k.edits.trans s t u
 
-  retry-walk : (s : State) (message : List ℕ) (id : ℕ) (purpose : Purpose) (d : Challenge) (now : ℕ) → IsBegun s.phase → challenge_in s message ≡ Some d → ltb s.challenges max_challenges ≡ true
+  retry-walk : (s : State) (message : List ℕ) (id : ℕ) (purpose : Purpose) (d : Challenge) (now : ℕ) → IsBegun s.phase → challenge_in s message ≡ Some d → ltb s.challenges s.config.max_stale_nonces ≡ true
       → Has purpose (purposes_of id s) → R s (state_after_retry s id purpose d now)
   retry-walk s message id purpose d now begun e few answers =
       let a = with_held d s in
@@ -168,14 +168,14 @@ module _ (Heeded : Type 0) (R : State → State → Type 0) (k : KeepsHeeded Hee
       let f = request_started (fresh_id s) text (purposes_of id s) now c in
       then s a end (k.holds message d s e)
       (then a b end (k.edits.finishes id a)
-      (then b c end (k.counts b refl (ltb-true s.challenges max_challenges few))
+      (then b c end (k.counts b refl (ltb-true s.challenges s.config.max_stale_nonces few))
       (then c f end (k.edits.asks (fresh_id s) text (purposes_of id s) now c (begun-after s.phase begun) (λ p there. inr (inr (purposes-listed id s p there)))
       (inr (inr (purposes-listed id s, (purpose, answers, refl))))) (k.edits.queues end.queue f (begun-after s.phase begun)))))
 
   challenge-walk : (message : List ℕ) (d : Challenge) (now : ℕ) (s : State) → IsBegun s.phase → challenge_in s message ≡ Some d → R s (challenge_step message d now s).1
-  challenge-walk message d now s begun e = by (ltb s.challenges max_challenges) refl (retried (purposes_of (id_of message) s)) refl
+  challenge-walk message d now s begun e = by (ltb s.challenges s.config.max_stale_nonces) refl (retried (purposes_of (id_of message) s)) refl
     where
-      by : (b : Bool) → ltb s.challenges max_challenges ≡ b → (o : Option Purpose) → retried (purposes_of (id_of message) s) ≡ o → R s (challenge_step message d now s).1
+      by : (b : Bool) → ltb s.challenges s.config.max_stale_nonces ≡ b → (o : Option Purpose) → retried (purposes_of (id_of message) s) ≡ o → R s (challenge_step message d now s).1
       by false f o g = rw f (fail-walk R k.edits s)
       by true f None g = rw (f, g) (k.edits.same s)
       by true f (Some purpose) g = rw (f, g) (retry-walk s message (id_of message) purpose d now begun e f (retried-has (purposes_of (id_of message) s) purpose g))

@@ -32,7 +32,7 @@ use Rattle.turn_client_api.specs.Judgement.{Judgement, Unrelated, Challenged, Fa
 use Rattle.turn_client_api.specs.Judgement.{challenged_or, challenge_in, answers_one, answers_allocate, authenticating_judgement, allocated_judgement, requesting_judgement, indication_judgement}
 use Rattle.turn_client_api.specs.Judgement.{class_in, connection_id_in, lifetime_in, method_in, peer_in}
 use Rattle.turn_client_api.specs.Effect.{allocate_granted, effect, transaction_ended, family_not_supported, has_code, new_allocation, relayed_in, taken_addresses, with_offer}
-use Rattle.turn_client_api.specs.Retry.{max_challenges, retried}
+use Rattle.turn_client_api.specs.Retry.{retried}
 use Rattle.turn_client_api.specs.Connections.{attempt_indicated, attempt_requested, is_connected, accepts_attempt}
 use Rattle.turn_client_api.specs.Payloads.{Outcome, Handled, Ignored, answered_purposes, challenge_step, is_answered, message_step, response_step, signed_step, wrong_step}
 use Rattle.turn_client_laws.specs.LawsGranted.{IsGivenFor, IsGrant, IsActiveGrant}
@@ -288,9 +288,9 @@ denied-leaves Closed message now s = refused-leaves message now (record s { phas
 -- ---- other messages
 
 challenge-leaves : (message : List ℕ) (d : Challenge) (now : ℕ) (s : State) → Leaves s (challenge_step message d now s).1
-challenge-leaves message d now s = by (ltb s.challenges max_challenges) refl (retried (asked_for message s)) refl
+challenge-leaves message d now s = by (ltb s.challenges s.config.max_stale_nonces) refl (retried (asked_for message s)) refl
   where
-    by : (b : Bool) → ltb s.challenges max_challenges ≡ b → (o : Option Purpose) → retried (asked_for message s) ≡ o → Leaves s (challenge_step message d now s).1
+    by : (b : Bool) → ltb s.challenges s.config.max_stale_nonces ≡ b → (o : Option Purpose) → retried (asked_for message s) ≡ o → Leaves s (challenge_step message d now s).1
     by false f o g = rw f (leaves-same s)
     by true f None g = rw (f, g) (leaves-same s)
     by true f (Some purpose) g = rw (f, g) (leaves-same s)

@@ -24,7 +24,7 @@ use Rattle.turn_client_api.specs.Grants.{purposes_of}
 use Rattle.turn_client_api.specs.Requests.{connection_bind_method}
 use Rattle.turn_client_api.specs.Judgement.{Judgement, Unrelated, Challenged, Fatal, LateResponse, DataIndication, ConnectionAttempt, SignedRequest, SignedSuccess, SignedError, allocated_judgement}
 use Rattle.turn_client_api.specs.Judgement.{answers_allocate, answers_one, authenticating_judgement, bind_judgement, challenged_or, class_in, is_bind_of, judgement_of, method_in}
-use Rattle.turn_client_api.specs.Retry.{bind_time, max_challenges, retried}
+use Rattle.turn_client_api.specs.Retry.{bind_time, retried}
 use Rattle.turn_client_api.specs.Connections.{bind_again, bind_answered, bind_step, connection_at, with_deadline}
 use Rattle.turn_client_api.specs.Payloads.{challenge_step, message_step, wrong_step}
 use Rattle.turn_client_laws.proofs.HasLemmas.{Has, has-filter}
@@ -97,9 +97,9 @@ bind-stray local message s none = by (validation_of (auth_of s) message) refl
 -- ---- it changes no grant
 
 challenge-grants : (message : List ℕ) (d : Challenge) (now : ℕ) (s : State) → (challenge_step message d now s).1.grants ≡ s.grants
-challenge-grants message d now s = by (ltb s.challenges max_challenges) refl (retried (purposes_of (id_of message) s)) refl
+challenge-grants message d now s = by (ltb s.challenges s.config.max_stale_nonces) refl (retried (purposes_of (id_of message) s)) refl
   where
-    by : (b : Bool) → ltb s.challenges max_challenges ≡ b → (o : Option Purpose) → retried (purposes_of (id_of message) s) ≡ o → (challenge_step message d now s).1.grants ≡ s.grants
+    by : (b : Bool) → ltb s.challenges s.config.max_stale_nonces ≡ b → (o : Option Purpose) → retried (purposes_of (id_of message) s) ≡ o → (challenge_step message d now s).1.grants ≡ s.grants
     by false f o g = rw f refl
     by true f None g = rw (f, g) refl
     by true f (Some purpose) g = rw (f, g) refl

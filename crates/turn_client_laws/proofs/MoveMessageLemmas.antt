@@ -34,7 +34,7 @@ use Rattle.turn_client_api.specs.Requests.{connection_attempt_method, connection
 use Rattle.turn_client_api.specs.Judgement.{Judgement, Unrelated, Challenged, Fatal, LateResponse, DataIndication, ConnectionAttempt, SignedRequest, SignedSuccess, SignedError, answers_allocate}
 use Rattle.turn_client_api.specs.Judgement.{authenticating_judgement, bind_judgement, class_in, connection_id_in, is_bind_of, judgement_of, lifetime_in, method_in, peer_in}
 use Rattle.turn_client_api.specs.Effect.{allocate_denied, allocate_granted, transaction_ended, family_not_supported, has_code, in_phase}
-use Rattle.turn_client_api.specs.Retry.{bind_time, max_challenges, retried, state_after_retry, with_held}
+use Rattle.turn_client_api.specs.Retry.{bind_time, retried, state_after_retry, with_held}
 use Rattle.turn_client_api.specs.Connections.{attempt_indicated, attempt_requested, bind_again, bind_answered, bind_step, connection_at, deadline_set, is_connected, accepts_attempt, bound, not_bound}
 use Rattle.turn_client_api.specs.Connections.{with_deadline}
 use Rattle.turn_client_api.specs.Payloads.{Outcome, Handled, Ignored, challenge_step, channel_sent, datagram_step, is_channel_frame, is_message, message_step, response_step, signed_step, wrong_step}
@@ -114,9 +114,9 @@ retry-turns Taken message purpose d now s answers = (
     }
 
 challenge-turns : (Taken : Grant → Type 0) (message : List ℕ) (d : Challenge) (now : ℕ) (s : State) → Turns Taken message now s (challenge_step message d now s).1
-challenge-turns Taken message d now s = by (ltb s.challenges max_challenges) refl (retried (purposes_of (id_of message) s)) refl
+challenge-turns Taken message d now s = by (ltb s.challenges s.config.max_stale_nonces) refl (retried (purposes_of (id_of message) s)) refl
   where
-    by : (b : Bool) → ltb s.challenges max_challenges ≡ b → (o : Option Purpose) → retried (purposes_of (id_of message) s) ≡ o → Turns Taken message now s (challenge_step message d now s).1
+    by : (b : Bool) → ltb s.challenges s.config.max_stale_nonces ≡ b → (o : Option Purpose) → retried (purposes_of (id_of message) s) ≡ o → Turns Taken message now s (challenge_step message d now s).1
     by false e o f =
         rw e (turns-settled Taken message now s _ (adds-same Never s.transactions, adds-filter Never _ s.listed, loses-same Taken s.grants))
     by true e None f = rw (e, f) (turns-same Taken message now s)

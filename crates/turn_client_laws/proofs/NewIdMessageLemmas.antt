@@ -27,7 +27,7 @@ use Rattle.turn_client_api.specs.Judgement.{Judgement, Unrelated, Challenged, Fa
 use Rattle.turn_client_api.specs.Judgement.{connection_id_in, is_bind_of, judgement_of, lifetime_in, method_in, peer_in}
 use Rattle.turn_client_api.specs.Effect.{allocate_denied, allocate_granted, allocation_mismatch, channel_answered, connect_answered, effect, transaction_ended, family_not_supported, has_code}
 use Rattle.turn_client_api.specs.Effect.{min_lifetime, permission_answered, permission_answered_for, listed_permissions_answered, prolonged, refreshed}
-use Rattle.turn_client_api.specs.Retry.{max_challenges, retried, state_after_retry}
+use Rattle.turn_client_api.specs.Retry.{retried, state_after_retry}
 use Rattle.turn_client_api.specs.Connections.{attempt_indicated, attempt_requested, bind_again, bind_answered, bind_step, connection_at, is_connected, accepts_attempt}
 use Rattle.turn_client_api.specs.Payloads.{Outcome, Handled, Ignored, answered_purposes, challenge_step, message_step, response_step, signed_step, wrong_step}
 
@@ -182,9 +182,9 @@ retry-draws : (id : ℕ) (s : State) (other : ℕ) (purpose : Purpose) (d : Chal
 retry-draws id s other purpose d now = draws-one id s (A.without_transaction other s.transactions) _ (outstanding-without id other s.transactions) refl
 
 challenge-draws : (id : ℕ) (message : List ℕ) (d : Challenge) (now : ℕ) (s : State) → Draws id s (challenge_step message d now s).1
-challenge-draws id message d now s = by (ltb s.challenges max_challenges) refl (retried (purposes_of (id_of message) s)) refl
+challenge-draws id message d now s = by (ltb s.challenges s.config.max_stale_nonces) refl (retried (purposes_of (id_of message) s)) refl
   where
-    by : (b : Bool) → ltb s.challenges max_challenges ≡ b → (o : Option Purpose) → retried (purposes_of (id_of message) s) ≡ o → Draws id s (challenge_step message d now s).1
+    by : (b : Bool) → ltb s.challenges s.config.max_stale_nonces ≡ b → (o : Option Purpose) → retried (purposes_of (id_of message) s) ≡ o → Draws id s (challenge_step message d now s).1
     by false f o g = rw f (draws-same id s)
     by true f None g = rw (f, g) (draws-same id s)
     by true f (Some purpose) g = rw (f, g) (retry-draws id s (id_of message) purpose d now)

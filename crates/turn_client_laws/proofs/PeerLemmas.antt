@@ -41,7 +41,7 @@ use Rattle.turn_client_api.specs.State.{auth_of}
 use Rattle.turn_client_api.specs.Requests.{data_method}
 use Rattle.turn_client_api.specs.Judgement.{method_in, class_in, by_class, challenged_or, challenge_in, answers_one, answers_allocate, requesting_judgement, authenticating_judgement}
 use Rattle.turn_client_api.specs.Judgement.{allocated_judgement}
-use Rattle.turn_client_api.specs.Retry.{max_challenges, retried}
+use Rattle.turn_client_api.specs.Retry.{retried}
 use Rattle.turn_client_api.specs.Connections.{attempt_requested, bind_step}
 use Rattle.turn_client_api.specs.Payloads.{Handled, Ignored, PeerData, PeerIcmp, outcome_for, signed_step, challenge_step, answered_purposes}
 use Rattle.turn_client_api.specs.Payloads.{Outcome, data_indicated, data_of, channel_sent, message_step, datagram_step, is_message, is_channel_frame}
@@ -137,9 +137,9 @@ signed_step-nobodys is_granted message now s = by s.phase refl is_granted
     by Closed e g = rw e (outcome_for-nobodys message (answered_purposes message s))
 
 challenge_step-nobodys : (message : List ℕ) (challenge : Challenge) (now : ℕ) (s : State) → HasNoPeer (challenge_step message challenge now s).0
-challenge_step-nobodys message challenge now s = by (ltb s.challenges max_challenges) refl (retried (purposes_of (id_of message) s)) refl
+challenge_step-nobodys message challenge now s = by (ltb s.challenges s.config.max_stale_nonces) refl (retried (purposes_of (id_of message) s)) refl
   where
-    by : (b : Bool) → ltb s.challenges max_challenges ≡ b → (o : Option Purpose) → retried (purposes_of (id_of message) s) ≡ o → HasNoPeer (challenge_step message challenge now s).0
+    by : (b : Bool) → ltb s.challenges s.config.max_stale_nonces ≡ b → (o : Option Purpose) → retried (purposes_of (id_of message) s) ≡ o → HasNoPeer (challenge_step message challenge now s).0
     by false e o f = rw e tt
     by true e None f = rw (e, f) tt
     by true e (Some purpose) f = rw (e, f) tt

@@ -22,7 +22,7 @@ use Rattle.turn_client_api.specs.Due.{has_reply}
 use Rattle.turn_client_api.specs.Effect.{transaction_ended, phase_with, relayed_in, taken_addresses}
 use Rattle.turn_client_api.specs.Payloads.{challenge_step, message_step}
 use Rattle.turn_client_api.specs.Poll.{poll_step, timed_step}
-use Rattle.turn_client_api.specs.Retry.{max_challenges, phase_after, retried}
+use Rattle.turn_client_api.specs.Retry.{phase_after, retried}
 use Rattle.turn_client_api.specs.Steps.{Leaves, state_after}
 use Rattle.turn_client_api.specs.declared.call.Call.{Call}
 use Rattle.turn_client_laws.specs.LawsSteps.{GoesOn, IsChallengeCounted, KeepsRealm, StaysClosed, KeepsChallengeLimit, rank}
@@ -83,12 +83,12 @@ rank-with (a ∷ others) = omega arith
 
 -- a challenge that is answered is counted
 pub challenge-IsCounted : (message : List ℕ) (now : ℕ) (s : State) (d : Challenge) → judgement_of s message ≡ Challenged d → IsChallengeCounted s (message_step message now s).1
-challenge-IsCounted message now s d e = rw e (by (ltb s.challenges max_challenges) refl (retried (purposes_of (id_of message) s)) refl)
+challenge-IsCounted message now s d e = rw e (by (ltb s.challenges s.config.max_stale_nonces) refl (retried (purposes_of (id_of message) s)) refl)
   where
-    by : (b : Bool) → ltb s.challenges max_challenges ≡ b → (o : Option Purpose) → retried (purposes_of (id_of message) s) ≡ o → IsChallengeCounted s (challenge_step message d now s).1
-    by false f o g = rw f (inr (inr (ltb-false s.challenges max_challenges f, refl, refl)))
+    by : (b : Bool) → ltb s.challenges s.config.max_stale_nonces ≡ b → (o : Option Purpose) → retried (purposes_of (id_of message) s) ≡ o → IsChallengeCounted s (challenge_step message d now s).1
+    by false f o g = rw f (inr (inr (ltb-false s.challenges s.config.max_stale_nonces f, refl, refl)))
     by true f None g = rw (f, g) (inl refl)
-    by true f (Some purpose) g = rw (f, g) (inr (inl (ltb-true s.challenges max_challenges f, refl)))
+    by true f (Some purpose) g = rw (f, g) (inr (inl (ltb-true s.challenges s.config.max_stale_nonces f, refl)))
 
 -- ---- each edit
 

@@ -6,6 +6,7 @@ use Rattle.turn_auth.specs.LongTerm.{Challenge}
 use Rattle.turn_auth.specs.Validation.{validation_of}
 use Rattle.turn_auth.specs.declared.integrity.IntegrityAlgorithm.TheVariants.{Sha1}
 use Rattle.turn_auth.specs.declared.validation.Validation.TheVariants.{Validated, Refused}
+use Rattle.turn_client_api.specs.Config.{default_max_stale_nonces}
 use Rattle.turn_client_api.specs.State.{State, auth_of}
 use Rattle.turn_client_api.specs.declared.state.Phase.TheVariants.{Authenticating}
 use Rattle.turn_client_api.specs.declared.grant.Grant.{Grant}
@@ -213,7 +214,7 @@ offer_of origin = Offer (record { connection_id = 9; peer = peer; is_reported = 
 -- it requested an IPv4 address by its first ALLOCATE
 abbrev pub asking_first : List ℕ → State → State
 asking_first text s = record (requesting text s) {
-  config = record s.config { supported_integrity = Sha1 ∷ [] };
+  config = record s.config { supported_integrity = Sha1 ∷ []; max_stale_nonces = default_max_stale_nonces };
   families = IPV4 ∷ [];
   held = None;
   challenges = 0;
@@ -227,3 +228,7 @@ held_by_it = record { realm = realm; nonce = nonce; algorithm = Sha1; password_a
 -- request
 abbrev pub challenged : ℕ → SocketAddr → List ℕ → State → State
 challenged count to text s = record (asking_permission to text s) { held = Some held_by_it; challenges = count; families = [] }
+
+-- so many challenges are answered in sequence
+abbrev pub allowing : ℕ → State → State
+allowing limit s = record s { config = record s.config { max_stale_nonces = limit } }

@@ -13,6 +13,7 @@ use Rattle.turn_types.specs.declared.family.AddressFamily.TheVariants.{IPV4, IPV
 use Rattle.turn_auth.specs.LongTerm.{Challenge}
 use Rattle.turn_agent.specs.declared.transaction.Transaction.{Transaction}
 use Rattle.turn_agent.specs.Agent.{first_sent}
+use Rattle.turn_client_api.specs.Config.{default_max_stale_nonces}
 use Rattle.turn_client_api.specs.State.{State}
 use Rattle.turn_client_api.specs.declared.state.Phase.TheVariants.{Requesting, Allocated}
 use Rattle.turn_client_api.specs.declared.grant.Purpose.TheVariants.{ForAllocation, ForRefresh}
@@ -52,7 +53,7 @@ peer = V4 (xor_v4 (10 ∷ 0 ∷ 0 ∷ 3 ∷ []) 9000)
 -- a client over UDP with these grants, that sent its last request at this time and awaits nothing
 abbrev pub granted_at : ℕ → List Grant → State → State
 granted_at moment grants s = record s {
-  config = record s.config { allocation_transport = Udp; request_timers = None };
+  config = record s.config { allocation_transport = Udp; request_timers = None; max_stale_nonces = default_max_stale_nonces };
   transport = Udp;
   phase = Allocated;
   grants = grants;

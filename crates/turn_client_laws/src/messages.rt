@@ -12,7 +12,7 @@ ghost use Rattle.turn_client_api.specs.declared.event.TurnEvent.TheVariants.{Per
 ghost use Rattle.turn_client_api.specs.Payloads.{Handled};
 ghost use Rattle.turn_client_laws.specs.LawsRows.{peer, ip_of_peer, relayed_v4, relayed_v6};
 ghost use Rattle.turn_client_laws.specs.LawsMessages.{IgnoresCopy, IgnoresUnsigned, Ignores, WhenSigned, after_message, allocating, allocation_of_v4};
-ghost use Rattle.turn_client_laws.specs.LawsMessages.{asking_channel, asking_connection, asking_first, asking_permission, bad_request_reply, both_allocated};
+ghost use Rattle.turn_client_laws.specs.LawsMessages.{allowing, asking_channel, asking_connection, asking_first, asking_permission, bad_request_reply, both_allocated};
 ghost use Rattle.turn_client_laws.specs.LawsMessages.{challenged, channel_bound, channel_not_bound};
 ghost use Rattle.turn_client_laws.specs.LawsMessages.{connected, granted_channel, granted_permission, granted_v4, granted_v6, held_by_it, lasting_600_s};
 ghost use Rattle.turn_client_laws.specs.LawsMessages.{lifetime_behind, mismatched, not_connected, offer_of, one_allocated, one_family_alone};
@@ -84,8 +84,12 @@ pub fn challenges_are_answered()
     ensures unasked { (text : List ℕ) (s : State) → Ignores unauthorized (record (asking_first text s) { transactions = [] }) }
     ensures refused { (text : List ℕ) (s : State) → (after_message bad_request_reply (asking_first text s)).1.phase ≡ Closed }
     ensures told { (text : List ℕ) (s : State) → (after_message bad_request_reply (asking_first text s)).1.events ≡ AllocationCreateFailed IPV4 ∷ [] }
-    // Nine in sequence are answered, and the tenth ends the client.
+    // By default nine in sequence are answered, and the tenth ends the client.
     ensures ninth { (to : SocketAddr) (text : List ℕ) (s : State) → (after_message stale (challenged 8 to text s)).1.challenges ≡ 9 }
     ensures still { (to : SocketAddr) (text : List ℕ) (s : State) → (after_message stale (challenged 8 to text s)).1.phase ≡ Allocated }
     ensures tenth { (to : SocketAddr) (text : List ℕ) (s : State) → (after_message stale (challenged 9 to text s)).1.phase ≡ Closed }
+    // Where ten may be, the tenth is answered, and the eleventh ends the client; so does the second where one may be.
+    ensures more { (to : SocketAddr) (text : List ℕ) (s : State) → (after_message stale (allowing 10 (challenged 9 to text s))).1.challenges ≡ 10 }
+    ensures eleventh { (to : SocketAddr) (text : List ℕ) (s : State) → (after_message stale (allowing 10 (challenged 10 to text s))).1.phase ≡ Closed }
+    ensures second { (to : SocketAddr) (text : List ℕ) (s : State) → (after_message stale (allowing 1 (challenged 1 to text s))).1.phase ≡ Closed }
 {}

@@ -19,11 +19,12 @@ pub fn stays_closed()
     ensures told { (now : ℕ) (s : State) → s.phase ≡ Closed → s.events ≡ [] → has_reply s ≡ false → (poll_step now s).0 ≡ Do.Closed }
 {}
 
-/// At most nine challenges are answered in sequence, except those to a CONNECTION_BIND (our choice: RFC
-/// 8489, section 9.2.5, sets no limit): each answer is counted, and the count falls only by a message that
-/// the call processes, a signed reply to an outstanding request that answers something that this was made
-/// for.
+/// In sequence at most as many challenges are answered as the configuration says, which no call changes,
+/// except those to a CONNECTION_BIND (our choice: RFC 8489, section 9.2.5, sets no limit): each answer is
+/// counted, and the count falls only by a message that the call processes, a signed reply to an outstanding
+/// request that answers something that this was made for.
 pub fn challenges_are_counted()
+    ensures configured { (call : Call) (s t : State) → Leaves call s t → t.config ≡ s.config }
     ensures stays { (call : Call) (s t : State) → Leaves call s t → KeepsChallengeLimit s t }
     ensures each { (message : List ℕ) (now : ℕ) (s : State) → CountsChallenge message now s }
     ensures falls { (call : Call) (s t : State) → Leaves call s t → t.challenges < s.challenges → IsBroughtBy IsReplyAccepted call s }

@@ -42,3 +42,15 @@ returns-clause-still c = λ to text s. refl
 pub returns-clause-tenth : goal.returns-clause-tenth
 unfolding attributes_from seen_after
 returns-clause-tenth c = λ to text s. refl
+
+pub returns-clause-more : goal.returns-clause-more
+unfolding attributes_from seen_after
+returns-clause-more c = λ to text s. refl
+
+pub returns-clause-eleventh : goal.returns-clause-eleventh
+unfolding attributes_from seen_after
+returns-clause-eleventh c = λ to text s. refl
+
+pub returns-clause-second : goal.returns-clause-second
+unfolding attributes_from seen_after
+returns-clause-second c = λ to text s. refl
