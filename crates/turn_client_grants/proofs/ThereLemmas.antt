@@ -33,6 +33,7 @@ someone address = initial Udp address address
       supported_integrity = [];
       anonymous_username = Disabled;
       request_timers = None;
+      max_stale_nonces = 1;
     })
     []
 

@@ -49,6 +49,7 @@ someone =
       supported_integrity = [];
       anonymous_username = Auto;
       request_timers = None;
+      max_stale_nonces = 1;
     }) []
 
 -- a request is as long as the length with which it was begun

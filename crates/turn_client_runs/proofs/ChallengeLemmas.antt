@@ -2,6 +2,7 @@
 use Rattle.std.proofs.Common.{◌≡◌, ◌⊎◌, ◌∙◌, ◌<◌, ◌≤◌, ◌+◌, ltb, ℕ, Bool, true, false, List, [], ◌∷◌, ◌++◌, Some, inl, inr, refl, sym, subst, ap, arith}
 use Rattle.std.proofs.lemmas.Bool.{ltb-true, ltb-false}
 use Rattle.turn_auth.specs.LongTerm.{Challenge}
+use Rattle.turn_client_api.specs.Config.{Config}
 use Rattle.turn_client_api.specs.State.{State}
 use Rattle.turn_client_api.specs.Payloads.{Outcome, is_message}
 use Rattle.turn_client_laws.specs.Handled.{Input, handled, processed}
@@ -9,9 +10,9 @@ use Rattle.turn_client_laws.specs.LawsHandled.{ProcessesInputs, TakesInput, Inpu
 use Rattle.turn_client_laws.specs.LawsReplies.{IsReplyAccepted}
 use Rattle.turn_client_laws.specs.LawsStates.{HoldsAtFirst, StaysInCalls}
 use Rattle.turn_client_laws.specs.LawsSteps.{IsChallengeCounted, KeepsRealm}
-use Rattle.turn_client_api.specs.Retry.{max_challenges}
 use Rattle.turn_client_api.specs.Steps.{state_after, state_after_all}
 use Rattle.turn_client_api.specs.declared.call.Call.{Call}
+use Rattle.turn_client_laws.proofs.ConfiguredLemmas.{leaves-configured}
 use Rattle.turn_client_laws.proofs.CountLemmas.{bringing, leaves-heeded}
 use Rattle.turn_client_laws.proofs.PhasesGoOn.{challenge-IsCounted, leaves-keeps}
 use Rattle.turn_client_laws.proofs.TurnBringLemmas.{turn-brings}
@@ -143,12 +144,19 @@ run-counts s (call ∷ calls) = by (call-counts call s) (run-counts (state_after
     by (inr among) rest = inr (among-left IsHeededIn turns more among)
     by (inl first) (inr among) = inr (among-right IsHeededIn turns more among)
 
-pub few-answered : (s : State) (calls : List Call) → IsWithinChallengeLimit s → (answers_in (handled_in s calls) ≤ max_challenges) ⊎ IsHeededAmong (handled_in s calls)
+-- what the client was made with stays
+pub run-configured : (s : State) (calls : List Call) → (state_after_all s calls).config ≡ s.config
+run-configured s calls = kept-behind (λ (t : State). t.config ≡ s.config) (λ call t u leaves same. leaves-configured call t u leaves ∙ same) s calls refl
+
+pub few-answered : (s : State) (calls : List Call) → IsWithinChallengeLimit s → (answers_in (handled_in s calls) ≤ s.config.max_stale_nonces) ⊎ IsHeededAmong (handled_in s calls)
 few-answered s calls patient = by (run-counts s calls)
   where
     last : IsWithinChallengeLimit (state_after_all s calls)
     last = kept-behind IsWithinChallengeLimit leaves-patient s calls patient
 
-    by : Counts s (state_after_all s calls) (handled_in s calls) → (answers_in (handled_in s calls) ≤ max_challenges) ⊎ IsHeededAmong (handled_in s calls)
-    by (inl counts) = inl (omega (arith, counts, last))
+    same : (state_after_all s calls).config.max_stale_nonces ≡ s.config.max_stale_nonces
+    same = ap (λ (c : Config). c.max_stale_nonces) (run-configured s calls)
+
+    by : Counts s (state_after_all s calls) (handled_in s calls) → (answers_in (handled_in s calls) ≤ s.config.max_stale_nonces) ⊎ IsHeededAmong (handled_in s calls)
+    by (inl counts) = inl (omega (arith, counts, last, same))
     by (inr among) = inr among

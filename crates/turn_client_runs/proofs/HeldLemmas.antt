@@ -13,7 +13,7 @@ use Rattle.turn_client_api.specs.Grants.{is_connection_from, purposes_of, withou
 use Rattle.turn_client_api.specs.Judgement.{Judgement, Unrelated, Challenged, Fatal, LateResponse, DataIndication, ConnectionAttempt, SignedRequest, SignedSuccess, SignedError, answers_one}
 use Rattle.turn_client_api.specs.Judgement.{challenge_in, challenged_or, judgement_of}
 use Rattle.turn_client_api.specs.Effect.{closed, transaction_ended, fail_all}
-use Rattle.turn_client_api.specs.Retry.{max_challenges, retried, state_after_retry}
+use Rattle.turn_client_api.specs.Retry.{retried, state_after_retry}
 use Rattle.turn_client_api.specs.Connections.{bind_step, connection_at}
 use Rattle.turn_client_api.specs.Payloads.{Outcome, Handled, Ignored, is_message, message_step}
 use Rattle.turn_client_api.specs.Receive.{connection_gone}
@@ -81,9 +81,9 @@ module _ (message : List ℕ) (now : ℕ) (s : State) where
   ends u none e h = absurd (ended-early u none (subst (λ (p : Outcome × State). IsLate p.1) e h))
 
   challenge-late : (d : Challenge) → s.held ≡ None → judgement_of s message ≡ Challenged d → IsLate (message_step message now s).1 → Came
-  challenge-late d none judged = by (ltb s.challenges max_challenges) refl (retried (purposes_of (id_of message) s)) refl
+  challenge-late d none judged = by (ltb s.challenges s.config.max_stale_nonces) refl (retried (purposes_of (id_of message) s)) refl
     where
-      by : (b : Bool) → ltb s.challenges max_challenges ≡ b → (o : Option Purpose) → retried (purposes_of (id_of message) s) ≡ o → IsLate (message_step message now s).1 → Came
+      by : (b : Bool) → ltb s.challenges s.config.max_stale_nonces ≡ b → (o : Option Purpose) → retried (purposes_of (id_of message) s) ≡ o → IsLate (message_step message now s).1 → Came
       by false f o g = ends s none (rw (judged, f) refl)
       by true f None g = nothing Ignored (rw (judged, f, g) refl)
       by true f (Some purpose) g = λ h.

@@ -33,7 +33,7 @@ use Rattle.turn_client_api.specs.Judgement.{connection_id_in, is_bind_of, judgem
 use Rattle.turn_client_laws.specs.LawsRequests.{IsMade}
 use Rattle.turn_client_api.specs.Payloads.{Outcome, Handled, Ignored, challenge_step, channel_sent, datagram_step, is_channel_frame, is_message, message_step, response_step, signed_step, wrong_step}
 use Rattle.turn_client_api.specs.Requests.{connection_attempt_method, connection_bind_method, fresh_id, listings, request_for, requested}
-use Rattle.turn_client_api.specs.Retry.{max_challenges, retried, state_after_retry, with_held}
+use Rattle.turn_client_api.specs.Retry.{retried, state_after_retry, with_held}
 use Rattle.turn_client_api.specs.Streams.{frame_step}
 use Rattle.turn_client_laws.proofs.GrantOriginLemmas.{has-mapped}
 use Rattle.turn_client_laws.proofs.HasLemmas.{Has, has-right}
@@ -94,7 +94,7 @@ retry-relists message purpose d now s first =
 
 challenge-relists : (message : List ℕ) (d : Challenge) (now : ℕ) (s : State) → Relists message now s (challenge_step message d now s).1
 challenge-relists message d now s =
-    by_test (Relists message now s) (ltb s.challenges max_challenges) _ (Handled, closed (fail_all s)) (by (retried (purposes_of (id_of message) s)) (λ p e. e))
+    by_test (Relists message now s) (ltb s.challenges s.config.max_stale_nonces) _ (Handled, closed (fail_all s)) (by (retried (purposes_of (id_of message) s)) (λ p e. e))
     (still message now s (closed (fail_all s)) (adds-filter Never _ s.listed))
   where
     by : (o : Option Purpose) → ((p : Purpose) → o ≡ Some p → retried (purposes_of (id_of message) s) ≡ Some p)

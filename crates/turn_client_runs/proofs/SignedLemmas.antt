@@ -25,7 +25,7 @@ use Rattle.turn_client_laws.specs.LawsSteps.{rank}
 use Rattle.turn_client_api.specs.Payloads.{challenge_step, message_step, wrong_step}
 use Rattle.turn_client_api.specs.Receive.{connection_gone}
 use Rattle.turn_client_api.specs.Requests.{first_allocate, fresh_id, request_for}
-use Rattle.turn_client_api.specs.Retry.{max_challenges, phase_after, retried, state_after_retry, with_held}
+use Rattle.turn_client_api.specs.Retry.{phase_after, retried, state_after_retry, with_held}
 use Rattle.turn_client_laws.proofs.AllocateFamilies.{StayInOrder, StayInOrder-KeepsAllEdits, in_order-stated, stated-in_order}
 use Rattle.turn_client_laws.proofs.EditsOfMessages.{edits-IsKept, purposes-listed, retried-has}
 use Rattle.turn_client_laws.proofs.HasLemmas.{Has, has-append, has-filter}
@@ -194,12 +194,12 @@ module _ (message : List ℕ) (now : ℕ) (s : State) (order : AllocatesInOrder 
 
   -- the first challenge is answered, or the client ends
   challenged-signs : s.phase ≡ Requesting → is_outstanding (id_of message) s.transactions ≡ true → (d : Challenge) → Signs (challenge_step message d now s).1
-  challenged-signs e awaited d = by (ltb s.challenges max_challenges) refl (retried (purposes_of (id_of message) s)) refl
+  challenged-signs e awaited d = by (ltb s.challenges s.config.max_stale_nonces) refl (retried (purposes_of (id_of message) s)) refl
     where
       end : State
       end = (challenge_step message d now s).1
 
-      by : (few : Bool) → ltb s.challenges max_challenges ≡ few → (o : Option Purpose) → retried (purposes_of (id_of message) s) ≡ o → Signs end
+      by : (few : Bool) → ltb s.challenges s.config.max_stale_nonces ≡ few → (o : Option Purpose) → retried (purposes_of (id_of message) s) ≡ o → Signs end
       by false f o g = let is : (challenge_step message d now s).1 ≡ closed (fail_all s) = rw f refl in closed-signs (fail_all s) end is
       by true f None g = let is : (challenge_step message d now s).1 ≡ s = rw (f, g) refl in same-signs s end is h
       by true f (Some purpose) g =

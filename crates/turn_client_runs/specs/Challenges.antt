@@ -4,7 +4,6 @@ use Rattle.std.specs.List.{Contains}
 use Rattle.turn_auth.specs.LongTerm.{Challenge}
 use Rattle.turn_client_api.specs.State.{State}
 use Rattle.turn_client_api.specs.Judgement.{Challenged, judgement_of}
-use Rattle.turn_client_api.specs.Retry.{max_challenges}
 use Rattle.turn_client_api.specs.Payloads.{is_message}
 use Rattle.turn_client_laws.specs.Handled.{Input, processed}
 use Rattle.turn_client_laws.specs.LawsHandled.{IsOverControl}
@@ -13,9 +12,9 @@ use Rattle.turn_client_laws.specs.LawsSteps.{IsChallengeCounted}
 use Rattle.turn_client_api.specs.declared.call.Call.{Call}
 use Rattle.turn_client_runs.specs.Inputs.{IsAmong, handled_in}
 
--- no more challenges were answered than allowed
+-- no more challenges were answered than the configuration allows
 abbrev pub IsWithinChallengeLimit : State → Type 0
-IsWithinChallengeLimit s = s.challenges ≤ max_challenges
+IsWithinChallengeLimit s = s.challenges ≤ s.config.max_stale_nonces
 
 -- the input is a challenge over the control connection
 pub record IsChallengeInput (one : Input) : Type 0 where
@@ -46,6 +45,6 @@ IsHeededAmong turns =
 abbrev pub CountsAll : State → List Call → Type 0
 CountsAll s calls = (one : Input) → Contains (handled_in s calls) one → IsChallengeInput one → CountsIt one
 
--- at most nine are answered by the calls, unless challenges are counted anew among them
+-- at most as many are answered by the calls as configured, unless challenges are counted anew among them
 abbrev pub AnswersFew : State → List Call → Type 0
-AnswersFew s calls = (answers_in (handled_in s calls) ≤ max_challenges) ⊎ IsHeededAmong (handled_in s calls)
+AnswersFew s calls = (answers_in (handled_in s calls) ≤ s.config.max_stale_nonces) ⊎ IsHeededAmong (handled_in s calls)

@@ -63,9 +63,9 @@ abbrev pub RepliesCountOnce : State → List Call → Type 0
 RepliesCountOnce first calls =
     EachReply EndsItsRequest first calls × InEachPart CountsOnce first calls
 
--- at most nine challenges are answered between two signed replies
+-- at most as many challenges are answered between two signed replies as the client was configured with
 abbrev pub FewAreAnswered : State → List Call → Type 0
-FewAreAnswered = InEachPart (λ s middle. IsWithinChallengeLimit s × AnswersFew s middle × CountsAll s middle)
+FewAreAnswered first = InEachPart (λ s middle. (s.config ≡ first.config) × IsWithinChallengeLimit s × AnswersFew s middle × CountsAll s middle) first
 
 -- realm and algorithm, once held, never change
 abbrev pub RealmStays : State → List Call → Type 0

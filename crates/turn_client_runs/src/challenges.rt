@@ -7,11 +7,12 @@ ghost use Rattle.turn_client_api.specs.declared.call.Call.{Call};
 ghost use Rattle.turn_client_runs.specs.Challenges.{AnswersFew, CountsAll, IsWithinChallengeLimit};
 ghost use Rattle.turn_client_runs.specs.Holds.{HoldsInAnyRun, HoldsInRuns, Reaches};
 
-/// At most nine challenges are answered in sequence, except those to a CONNECTION_BIND (our choice: RFC
-/// 8489, section 9.2.5, sets no limit): the count of the state is at most nine after every run, even if
-/// some memory allocations failed. Each challenge of a run is counted if it is answered. From any state of
-/// a run on, further calls answer at most nine, unless the server accepts a request among them: then a
-/// signed reply to an outstanding request is received, and challenges are counted anew.
+/// In sequence at most as many challenges are answered as the configuration says, except those to a
+/// CONNECTION_BIND (our choice: RFC 8489, section 9.2.5, sets no limit): the count of the state is at most
+/// that after every run, even if some memory allocations failed. Each challenge of a run is counted if it is
+/// answered. From any state of a run on, further calls answer at most so many, unless the server accepts a
+/// request among them: then a signed reply to an outstanding request is received, and challenges are counted
+/// anew.
 pub fn few_challenges_are_answered()
     ensures found { HoldsInRuns IsWithinChallengeLimit }
     ensures any { HoldsInAnyRun IsWithinChallengeLimit }
