@@ -7,7 +7,7 @@ use turn_client_api::{TurnClientApi, TurnEvent, TurnPollRet, TurnRecvRet};
 use turn_stun::data::Data;
 use turn_stun::transport::Transmit;
 
-/// The time from a request to its response, in milliseconds.
+/// The time from a request to its response, in milliseconds, unless the link is slow.
 const DELAY: u32 = 20;
 
 /// More than a client ever sends or reports at once here.
@@ -19,6 +19,8 @@ pub(crate) struct Caller {
     pub(crate) server: Server,
     /// Milliseconds since the start.
     now: u32,
+    /// The time from a request to its response, in milliseconds.
+    delay: u32,
     /// The server's responses, each with its time of arrival.
     coming: Vec<(u32, Vec<u8>)>,
     /// How many of these have arrived.
@@ -48,9 +50,15 @@ struct Iteration {
 
 impl Caller {
     pub(crate) fn new(alloc: Global) -> Caller {
+        Caller::over_slow_link(alloc, DELAY)
+    }
+
+    /// A caller whose requests are answered after this many milliseconds.
+    pub(crate) fn over_slow_link(alloc: Global, delay: u32) -> Caller {
         Caller {
             server: Server::new(alloc),
             now: 0,
+            delay,
             coming: Vec::new(alloc),
             came: 0,
             told: Vec::new(alloc),
@@ -175,7 +183,9 @@ impl Caller {
     fn carry(&mut self, packet: &Transmit<Data>, rules: &[Rule<'_>]) -> Result<(), AllocError> {
         self.sent = self.sent.saturating_add(1);
         match self.server.answer(rules, packet.payload.as_bytes())? {
-            Some(answer) => self.coming.push((self.now.saturating_add(DELAY), answer))?,
+            Some(answer) => self
+                .coming
+                .push((self.now.saturating_add(self.delay), answer))?,
             None => {}
         }
         Ok(())

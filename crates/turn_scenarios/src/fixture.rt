@@ -4,7 +4,9 @@ ghost use Rattle.std.specs.Prelude.{◌≡◌, ◌≤◌, ◌*◌, ◌^◌, IfOk
 
 use std::alloc::Global;
 use std::net::{IpAddr, Ipv4Addr, Ipv6Addr, SocketAddr};
+use std::num::NonZeroU16;
 use std::process::Abort;
+use std::time::Duration;
 use turn_auth::credentials::{CredentialsError, TurnCredentials};
 use turn_client_api::TurnConfig;
 use turn_client_proto::tcp::TurnClientTcp;
@@ -82,6 +84,21 @@ pub(crate) fn client_for(
     families: Families,
 ) -> Result<TurnClientUdp, CredentialsError> {
     let config = config_for(alloc, families)?;
+    Ok(TurnClientUdp::allocate(alloc, local(), server(), config, [0; 32])?)
+}
+
+/// The same for IPv4 and a slow link: it waits for 3 s before it sends a request again. It answers so many challenges in
+/// a row, or the default number.
+pub(crate) fn client_over_slow_link(
+    alloc: Global,
+    max_stale_nonces: Option<NonZeroU16>,
+) -> Result<TurnClientUdp, CredentialsError> {
+    let mut config = config_for(alloc, IPV4)?;
+    let wait = Duration::from_secs(3);
+    config.set_request_retransmits(wait, wait, 7, wait);
+    if let Some(limit) = max_stale_nonces {
+        config.set_max_stale_nonces(limit);
+    }
     Ok(TurnClientUdp::allocate(alloc, local(), server(), config, [0; 32])?)
 }
 

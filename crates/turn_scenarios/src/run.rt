@@ -6,10 +6,13 @@
 ghost use Rattle.std.specs.Prelude.{◌≡◌, ◌≤◌, ◌*◌, ◌^◌};
 
 use crate::caller::Caller;
-use crate::fixture::{Families, Place, at, client_for, client_over_tcp, local, server};
+use crate::fixture::{
+    Families, Place, at, client_for, client_over_slow_link, client_over_tcp, local, server,
+};
 use crate::server::Rule;
 use std::alloc::{AllocError, Global};
 use std::net::SocketAddr;
+use std::num::NonZeroU16;
 use std::process::Abort;
 use std::test::Fail;
 use turn_client_api::{
@@ -26,6 +29,8 @@ pub(crate) enum Ask<'a> {
     /// The next event of the client, reported at the time of the row.
     Event,
     Permit(Place),
+    /// A permission for each of the first peers of `peer_number`, this many of them.
+    PermitAll(u8),
     Bind(Place),
     Delete,
     /// `hello` is sent to the peer.
@@ -34,6 +39,8 @@ pub(crate) enum Ask<'a> {
     Relayed,
     /// Whether the peer has a permission.
     Permitted(Place),
+    /// Whether each of these peers, so many of them, has a permission.
+    PermittedAll(u8),
     /// A datagram with these bytes from the server, or a piece of its stream.
     Hear(&'a [u8]),
     /// The next payload in the streams.
@@ -121,6 +128,29 @@ fn permits<C: TurnClientApi>(client: &mut C, now: u32, place: Place, want: &Want
         Err(CreatePermissionError::NoAllocation) => matches!(want, Want::NoAllocation),
         Err(CreatePermissionError::OutOfMemory) => false,
     }
+}
+
+/// The peer of this number.
+fn peer_number(number: u8) -> Place {
+    Place::V4(number.saturating_add(100), 9_000)
+}
+
+/// Whether a permission for each of so many peers is requested, or refused, as expected.
+fn permits_all<C: TurnClientApi>(client: &mut C, now: u32, count: u8, want: &Want<'_>) -> bool {
+    let mut all = true;
+    for number in 0..count {
+        all = permits(client, now, peer_number(number), want) && all;
+    }
+    all
+}
+
+/// Whether each of so many peers has a permission.
+fn are_permitted<C: TurnClientApi>(client: &C, count: u8) -> bool {
+    let mut all = true;
+    for number in 0..count {
+        all = client.have_permission(TransportType::Udp, peer_number(number).ip()) && all;
+    }
+    all
 }
 
 /// Whether the channel is requested, or refused, as expected.
@@ -281,6 +311,7 @@ fn holds<C: TurnClientApi>(
     match ask {
         Ask::Event => Ok(happens(caller, *now, want)),
         Ask::Permit(place) => Ok(permits(client, *now, *place, want)),
+        Ask::PermitAll(count) => Ok(permits_all(client, *now, *count, want)),
         Ask::Bind(place) => Ok(binds(client, *now, place.address(), want)),
         Ask::Delete => Ok(deletes(client, *now, want)),
         Ask::Greet(place) => greets(client, alloc, *now, *place, want),
@@ -289,6 +320,7 @@ fn holds<C: TurnClientApi>(
             let found = client.have_permission(TransportType::Udp, place.ip());
             Ok(is(found, want))
         }
+        Ask::PermittedAll(count) => Ok(is(are_permitted(client, *count), want)),
         Ask::Hear(bytes) => hears(client, *now, server(), bytes, want),
         Ask::HearMore => hears_more(client, *now, want),
         Ask::Overhear(bytes) => hears(client, *now, other_port(), bytes, want),
@@ -328,11 +360,11 @@ fn follows<C: TurnClientApi>(
 fn follows_all<C: TurnClientApi>(
     rt: &impl Abort,
     mut client: C,
+    mut caller: Caller,
     alloc: Global,
     rules: &[Rule<'_>],
     parts: &[&[Row<'_>]],
 ) -> Result<(), Fail> {
-    let mut caller = Caller::new(alloc);
     for rows in parts {
         follows(rt, &mut client, &mut caller, alloc, rules, rows)?;
     }
@@ -347,7 +379,23 @@ pub(crate) fn follow(
     rules: &[Rule<'_>],
     parts: &[&[Row<'_>]],
 ) -> Result<(), Fail> {
-    follows_all(rt, client_for(alloc, families)?, alloc, rules, parts)
+    let client = client_for(alloc, families)?;
+    follows_all(rt, client, Caller::new(alloc), alloc, rules, parts)
+}
+
+/// The same for a client that answers so many challenges in a row, over a link with a round trip of this many
+/// milliseconds.
+pub(crate) fn follow_over_slow_link(
+    rt: &impl Abort,
+    alloc: Global,
+    max_stale_nonces: Option<NonZeroU16>,
+    delay: u32,
+    rules: &[Rule<'_>],
+    parts: &[&[Row<'_>]],
+) -> Result<(), Fail> {
+    let client = client_over_slow_link(alloc, max_stale_nonces)?;
+    let caller = Caller::over_slow_link(alloc, delay);
+    follows_all(rt, client, caller, alloc, rules, parts)
 }
 
 /// The same for a new client over TCP.
@@ -358,5 +406,6 @@ pub(crate) fn follow_over_tcp(
     rules: &[Rule<'_>],
     parts: &[&[Row<'_>]],
 ) -> Result<(), Fail> {
-    follows_all(rt, client_over_tcp(alloc, families)?, alloc, rules, parts)
+    let client = client_over_tcp(alloc, families)?;
+    follows_all(rt, client, Caller::new(alloc), alloc, rules, parts)
 }

@@ -47,6 +47,8 @@ pub(crate) enum Often {
     After(u32),
     /// All requests after this many others.
     From(u32),
+    /// All requests after this many others that are signed with the nonce `nonce`.
+    StaleFrom(u32),
 }
 
 /// The signer of a message.
@@ -94,11 +96,12 @@ pub(crate) struct Server {
 }
 
 impl Often {
-    fn fits(self, before: u32) -> bool {
+    fn fits(self, before: u32, request: &[u8]) -> bool {
         match self {
             Often::Always => true,
             Often::After(count) => before == count,
             Often::From(count) => before >= count,
+            Often::StaleFrom(count) => before >= count && has_first_nonce(request),
         }
     }
 }
@@ -141,7 +144,7 @@ impl Server {
         let method = request.method().value;
         let before = self.count(method);
         let id = request.transaction_id().to_bytes();
-        match answer_of(rules, method, before) {
+        match answer_of(rules, method, before, bytes) {
             Answer::Nothing => Ok(None),
             Answer::Success(parts, signer) => {
                 let kind = 0x0100 | method;
@@ -170,13 +173,21 @@ impl Server {
 }
 
 /// The answer in the table.
-fn answer_of<'a>(rules: &[Rule<'a>], method: u16, before: u32) -> Answer<'a> {
+fn answer_of<'a>(rules: &[Rule<'a>], method: u16, before: u32, request: &[u8]) -> Answer<'a> {
     for (of, often, answer) in rules {
-        if *of == method && often.fits(before) {
+        if *of == method && often.fits(before, request) {
             return *answer;
         }
     }
     Answer::Nothing
+}
+
+/// Whether the request is signed with the nonce `nonce`.
+fn has_first_nonce(request: &[u8]) -> bool {
+    match request.split_last_chunk::<24>() {
+        Some((text, _)) => text.ends_with(CREDENTIALS),
+        None => false,
+    }
 }
 
 /// Whether the message ends with the integrity of the bytes before it.

@@ -4,11 +4,12 @@ use crate::exchange::{
     ALLOCATES, ASK_ALLOCATION, BINDS, CHALLENGES, PEER, PEER_ADDRESS, PERMITS, REFRESHES, RELAYED,
 };
 use crate::fixture::IPV4;
-use crate::run::{Ask, Row, Want, follow};
+use crate::run::{Ask, Row, Want, follow, follow_over_slow_link};
 use crate::server::{
     ALLOCATE, Answer, CHANNEL_BIND, CREATE_PERMISSION, CREDENTIALS, FRESH_CREDENTIALS, Often,
     REFRESH, Rule, Signer,
 };
+use std::num::NonZeroU16;
 use std::test::Fail;
 use turn_types::AddressFamily;
 
@@ -93,4 +94,71 @@ const NINE_CHALLENGES: &[Row<'static>] = &[
 #[test]
 fn nine_challenges_are_answered(rt: HostRuntime) -> Result<(), Fail> {
     follow(&rt, rt.alloc(), IPV4, ALWAYS_STALE, &[NINE_CHALLENGES])
+}
+
+/// After thirty permissions, the nonce `nonce` is stale.
+const FORGETS_LATER: &[Rule<'static>] = &[
+    CHALLENGES,
+    (CREATE_PERMISSION, Often::StaleFrom(30), STALE),
+    ALLOCATES,
+    PERMITS,
+    REFRESHES,
+];
+
+// At a round trip of 700 ms the address is granted at 1.4 s. Thirty permissions are requested 50 ms apart from 2 s on,
+// granted from 2.7 s on, and requested again from 242.7 s on. The first of these is challenged at 243.4 s, when thirteen
+// others have left with its nonce.
+const THIRTY_PEERS: &[Row<'static>] = &[
+    (1_400, Ask::Event, Want::Allocated(RELAYED)),
+    (2_000, Ask::PermitAll(30), Want::Done),
+    (3_450, Ask::Sent, Want::Count(32)),
+    (4_149, Ask::PermittedAll(30), Want::No),
+    (4_150, Ask::PermittedAll(30), Want::Yes),
+    (242_699, Ask::Sent, Want::Count(32)),
+    (243_350, Ask::Sent, Want::Count(46)),
+    (243_849, Ask::Ended, Want::No),
+];
+
+// Nine are answered, and the tenth comes 450 ms after the first. Nothing can be requested any more.
+const LOST: &[Row<'static>] = &[
+    (243_849, Ask::PermittedAll(30), Want::Yes),
+    (243_850, Ask::Ended, Want::Yes),
+    (243_850, Ask::Permit(PEER), Want::NoAllocation),
+    (400_000, Ask::Ended, Want::Yes),
+];
+
+// All fourteen are answered: thirty requests, and these again.
+const KEPT: &[Row<'static>] = &[
+    (243_850, Ask::Ended, Want::No),
+    (260_000, Ask::Sent, Want::Count(76)),
+    (260_000, Ask::Unsigned, Want::Count(1)),
+    (260_000, Ask::Ignored, Want::Count(0)),
+    (400_000, Ask::Ended, Want::No),
+    (400_000, Ask::PermittedAll(30), Want::Yes),
+    (400_000, Ask::Relayed, Want::Addresses(&[RELAYED])),
+];
+
+#[test]
+fn thirty_peers_over_a_slow_link_are_lost_by_default(rt: HostRuntime) -> Result<(), Fail> {
+    follow_over_slow_link(
+        &rt,
+        rt.alloc(),
+        None,
+        700,
+        FORGETS_LATER,
+        &[THIRTY_PEERS, LOST],
+    )
+}
+
+#[test]
+fn thirty_peers_over_a_slow_link_are_kept_by_a_higher_limit(rt: HostRuntime) -> Result<(), Fail> {
+    let limit = NonZeroU16::new(256);
+    follow_over_slow_link(
+        &rt,
+        rt.alloc(),
+        limit,
+        700,
+        FORGETS_LATER,
+        &[THIRTY_PEERS, KEPT],
+    )
 }

@@ -3,6 +3,7 @@
 use crate::api::{boxed, boxed_config};
 use crate::fixture::{check, same, same_bytes};
 use std::alloc::Global;
+use std::num::NonZeroU16;
 use std::process::Abort;
 use std::time::Duration;
 use turn_agent::schedule::RequestTimers;
@@ -41,6 +42,7 @@ fn a_new_configuration_asks_for_ipv4_over_udp(rt: HostRuntime) {
     asks_for(&rt, &config, TransportType::Udp, &[AddressFamily::IPV4]);
     signs_by(&rt, &config, &[IntegrityAlgorithm::Sha1], Feature::Auto);
     same(&rt, config.request_timers(), RequestTimers::default());
+    same(&rt, config.max_stale_nonces().get(), 9);
 }
 
 /// Sets each setting to another value than its default.
@@ -50,6 +52,17 @@ fn set_all(config: &mut TurnConfig) {
     config.set_supported_integrity(IntegrityAlgorithm::Sha256);
     config.set_anonymous_username(Feature::Required);
     set_times(config);
+}
+
+#[test]
+fn a_copy_has_the_limit_of_challenges(rt: HostRuntime) {
+    let mut first = boxed_config(rt.alloc()).expect(&rt, "memory");
+    let other = copy(&rt, rt.alloc(), &first);
+    first.set_max_stale_nonces(NonZeroU16::MAX);
+    let same_limit = copy(&rt, rt.alloc(), &first);
+    same(&rt, same_limit.max_stale_nonces().get(), 65_535);
+    check(&rt, *same_limit == *first);
+    check(&rt, *other != *first);
 }
 
 /// Compares the times with those of `set_times`.
