@@ -18,7 +18,7 @@ use Rattle.turn_client_api.specs.Judgement as J
 use Rattle.turn_client_api.specs.Judgement.{Judgement, connection_id_in, judgement_of, peer_in}
 use Rattle.turn_client_api.specs.Memory.{challenge_takes_memory, frame_takes_memory, is_free_frame, is_whole_frame, message_takes_memory, packet_takes_memory}
 use Rattle.turn_client_api.specs.Payloads.{Outcome, Handled, Ignored, PeerData, PeerIcmp, challenge_step, is_message, message_step}
-use Rattle.turn_client_api.specs.Retry.{max_challenges, retried}
+use Rattle.turn_client_api.specs.Retry.{retried}
 use Rattle.turn_client_api.specs.State.{State}
 use Rattle.turn_client_api.specs.Streams.{control_frame_step, framed_stream_step, is_bound, is_ready, stream_at, with_bytes}
 use Rattle.turn_client_api.specs.declared.grant.Purpose.{Purpose}
@@ -203,7 +203,7 @@ unlisted-none (Some purpose) few e = let no : true ≡ false = e in cc
 
 challenge-stays : (message : List ℕ) (challenge : Challenge) (now : ℕ) (s : State) → challenge_takes_memory message s ≡ false → (challenge_step message challenge now s).1 ≡ s
 challenge-stays message challenge now s free =
-    let (unlisted, few) = unlisted-none (retried (purposes_of (id_of message) s)) (nat_lt s.challenges max_challenges) free in
+    let (unlisted, few) = unlisted-none (retried (purposes_of (id_of message) s)) (nat_lt s.challenges s.config.max_stale_nonces) free in
     rw (few, unlisted) refl
 
 some-not : {A : Type 0} (o : Option A) → is_some o ≡ false → o ≡ None

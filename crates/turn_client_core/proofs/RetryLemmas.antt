@@ -83,13 +83,13 @@ answered-other id fresh transactions unsent outstanding = by (fresh == id) refl
 
 -- ---- a challenge is answered, or concerns no request
 
-pub answered-is : (s : State) (message : List ℕ) (challenge : Challenge) (now : ℕ) (purpose : Purpose) → s.challenges < 9 → retried (purposes_of (id_of message) s) ≡ Some purpose
+pub answered-is : (s : State) (message : List ℕ) (challenge : Challenge) (now : ℕ) (purpose : Purpose) → s.challenges < s.config.max_stale_nonces → retried (purposes_of (id_of message) s) ≡ Some purpose
     → challenge_step message challenge now s ≡ (Handled, state_after_retry s (id_of message) purpose challenge now)
-answered-is s message challenge now purpose few found = rw (lt-ltb s.challenges 9 few, found) refl
+answered-is s message challenge now purpose few found = rw (lt-ltb s.challenges s.config.max_stale_nonces few, found) refl
 
-pub unknown-is : (s : State) (message : List ℕ) (challenge : Challenge) (now : ℕ) → s.challenges < 9 → retried (purposes_of (id_of message) s) ≡ None
+pub unknown-is : (s : State) (message : List ℕ) (challenge : Challenge) (now : ℕ) → s.challenges < s.config.max_stale_nonces → retried (purposes_of (id_of message) s) ≡ None
     → challenge_step message challenge now s ≡ (Ignored, s)
-unknown-is s message challenge now few found = rw (lt-ltb s.challenges 9 few, found) refl
+unknown-is s message challenge now few found = rw (lt-ltb s.challenges s.config.max_stale_nonces few, found) refl
 
 -- ---- an ALLOCATE is made again
 

@@ -19,10 +19,6 @@ use turn_client_requests::request_under;
 use turn_stun::instant::Instant;
 use turn_stun::message::Message;
 
-/// How many challenges are answered in a row: a server that always requires another nonce ends the
-/// client (our choice).
-const MAX_CHALLENGES: u32 = 9;
-
 impl TurnClientProtocol {
     /// Answers the challenge, or ends the client if it is one too many. A challenge that concerns no
     /// request over the control connection is ignored unless it is one too many.
@@ -43,7 +39,7 @@ impl TurnClientProtocol {
         ensures err { OnErr result (self.new ≡ self.old) }
         ensures wanted { OnErr result (challenge_takes_memory message.now self.old ≡ true) }
     {
-        if self.challenges < MAX_CHALLENGES {
+        if self.challenges < u32::from(self.config.max_stale_nonces().get()) {
             return self.answer_challenge(message, now);
         }
         self.fail()?;
@@ -62,7 +58,8 @@ impl TurnClientProtocol {
         now: Instant,
     ) -> Result<TurnProtocolRecv, AllocError>
         requires challenge { IsSome (challenge_in self.old message.now) }
-        requires few { self.old.challenges < 9 }
+        requires few { self.old.challenges < self.old.config.max_stale_nonces }
+        requires small { self.old.challenges < 65535 }
         ensures answer { TellsOfChallenge message.now now self.old result }
         ensures part { IfOk result (IsPart message.now self.old self.new) }
         ensures after { MeetsChallenge message.now now self.old self.new result }
@@ -90,7 +87,8 @@ impl TurnClientProtocol {
         now: Instant,
     ) -> Result<(), AllocError>
         requires challenge { IsSome (challenge_in self.old message.now) }
-        requires few { self.old.challenges < 9 }
+        requires few { self.old.challenges < self.old.config.max_stale_nonces }
+        requires small { self.old.challenges < 65535 }
         requires asked { retried (purposes_of (id_of message.now) self.old) ≡ Some purpose.now }
         ensures ok { AsksAgain purpose.now message.now now self.old self.new result }
         ensures err { OnErr result (self.new ≡ self.old) }
