@@ -44,7 +44,8 @@ pub struct Replayed {
 /// - `counted`: a reply is accepted only if its request is outstanding, and ends it; so a second reply with its
 ///   ID is accepted only if a new request was made with that ID (RFC 8489, section 6.3).
 /// - `challenges`: each challenge that is answered over the control connection is counted, and in any
-///   consecutive calls at most nine are, unless a signed reply lowers the count (RFC 8489, section 9.2.5).
+///   consecutive calls at most `max_stale_nonces` of the configuration are, unless a signed reply lowers the
+///   count (RFC 8489, section 9.2.5).
 /// - `realm`, `held`: realm and algorithm, once held, never change, and are those of the first challenge that was
 ///   answered.
 /// - `short`: after a `poll_recv` that returns none, each stream holds fewer than 65,555 bytes, if the bytes
