@@ -1,0 +1,6 @@
+pub mod AddressLemmas
+pub mod KeptLemmas
+pub mod MadeLemmas
+pub mod NthLemmas
+pub mod RangeLemmas
+pub mod SendLemmas

@@ -1,0 +1,7 @@
+use Rattle.turn_c_calls.proofs.plain.reply_to.Goals as goal
+
+pub returns-in-CreatePermission-clause-ok : goal.returns-in-CreatePermission-clause-ok
+returns-in-CreatePermission-clause-ok g c = rw c.in-CreatePermission.is c.create_permission.ensures.ok
+
+pub returns-in-BindChannel-clause-ok : goal.returns-in-BindChannel-clause-ok
+returns-in-BindChannel-clause-ok g c = rw c.in-BindChannel.is c.bind_channel.ensures.ok

@@ -1,0 +1,11 @@
+pub mod Address
+pub mod Answer
+pub mod Arms
+pub mod Buffer
+pub mod Held
+pub mod Judge
+pub mod Open
+pub mod Request
+pub mod Settings
+pub mod Step
+pub mod Unread

@@ -1,0 +1,51 @@
+-- A new session.
+use Rattle.std.specs.Prelude.{◌≡◌, ℕ, ◌==◌, if◌then◌else◌, List, [], length, Option, Some, None, Result, Ok, Err, ⊤}
+use Rattle.turn_auth.specs.Credentials.{Credentials}
+use Rattle.turn_client_api.specs.State.{State, initial}
+use Rattle.turn_lines.specs.Configuration.{config_with}
+use Rattle.turn_lines.specs.Fault.{needed}
+use Rattle.turn_lines.specs.Head.{credentials_with}
+use Rattle.turn_c_calls.specs.Held.{Held, held}
+use Rattle.turn_c_calls.specs.Settings.{plan_of}
+use Rattle.turn_c_calls.specs.declared.code.TheConstants.{BAD_CREDENTIALS, BAD_SEED, BAD_SETTINGS, OUT_OF_MEMORY}
+use Rattle.turn_c_calls.specs.declared.opening.OpenError.{OpenError}
+use Rattle.turn_c_calls.specs.declared.opening.OpenError.TheVariants as Errors
+use Rattle.turn_c_calls.specs.declared.settings.Plan.{Plan}
+use Rattle.turn_c_calls.specs.declared.settings.Settings.{Settings}
+
+-- 32 bytes
+abbrev pub seed_of : List ℕ → Option (List ℕ)
+seed_of seed = if length seed == 32 then Some seed else None
+
+-- the new client of a plan
+abbrev pub new_client : Plan → Credentials → List ℕ → State
+new_client plan credentials seed =
+    initial plan.ends.transport plan.ends.local plan.ends.remote (config_with plan.request credentials plan.waits) seed
+
+-- of which nothing is to be read
+abbrev pub new_session : Plan → Credentials → List ℕ → Held
+new_session plan credentials seed = held (new_client plan credentials seed) []
+
+-- the requested session, or the first error
+abbrev pub session_of : Settings → List ℕ → List ℕ → List ℕ → Result Held OpenError
+session_of settings user password seed =
+    needed (plan_of settings) Errors.Settings (λ plan.
+    needed (credentials_with user password) Errors.Credentials (λ credentials.
+    needed (seed_of seed) Errors.Seed (λ seed. Ok (new_session plan credentials seed))))
+
+-- why there are no credentials
+abbrev pub IsNoUser : List ℕ → List ℕ → OpenError → Type 0
+IsNoUser user password Errors.Credentials = credentials_with user password ≡ None
+IsNoUser user password Errors.OutOfMemory = ⊤
+IsNoUser user password _ = ⊥
+
+-- why there is none: the first error, or memory allocation failed
+abbrev pub Refuses : Result Held OpenError → OpenError → Type 0
+Refuses said Errors.OutOfMemory = ⊤
+Refuses said fault = said ≡ Err fault
+
+abbrev pub error_code : OpenError → ℕ
+error_code Errors.Settings = BAD_SETTINGS
+error_code Errors.Credentials = BAD_CREDENTIALS
+error_code Errors.Seed = BAD_SEED
+error_code Errors.OutOfMemory = OUT_OF_MEMORY

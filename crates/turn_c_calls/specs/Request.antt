@@ -1,0 +1,122 @@
+-- A request, and which call of a client it is.
+use Rattle.std.specs.Prelude.{ℕ, ◌==◌, ◌^◌, nat_le, if◌then◌else◌, List, [], ◌∷◌, Option, Some, None}
+use Rattle.std.specs.List.{find}
+use Rattle.std.specs.Option.{option_map}
+use Rattle.std.specs.declared.net.socket_addr.SocketAddr.{SocketAddr}
+use Rattle.turn_stun.specs.declared.transport.Transmit.{Transmit}
+use Rattle.turn_client_api.specs.declared.call.Call.{Call}
+use Rattle.turn_client_api.specs.declared.call.Call.TheVariants as Calls
+use Rattle.turn_lines.specs.Parts.{◌>>=◌}
+use Rattle.turn_c_calls.specs.Address.{ip_at, socket_at, transport_of}
+use Rattle.turn_c_calls.specs.declared.address.Address.{Address}
+use Rattle.turn_c_calls.specs.declared.code.TheConstants.{BIND_CHANNEL, TCP_CLOSED, TCP_CONNECT, DELETE, POLL_EVENT, PROTOCOL_ERROR, HAVE_PERMISSION}
+use Rattle.turn_c_calls.specs.declared.code.TheConstants.{NO_FAMILY, PERMISSIONS, CREATE_PERMISSION, POLL, POLL_RECV, READ, RECV, RELAYED_ADDRESSES}
+use Rattle.turn_c_calls.specs.declared.code.TheConstants.{SEND_TO, ALLOCATED_TCP_SOCKET, POLL_TRANSMIT}
+use Rattle.turn_c_calls.specs.declared.request.Operation.{Operation}
+use Rattle.turn_c_calls.specs.declared.request.Operation.TheVariants as Operations
+use Rattle.turn_c_calls.specs.declared.request.Kind.{Kind}
+use Rattle.turn_c_calls.specs.declared.request.Kind.TheVariants as Kinds
+use Rattle.turn_c_calls.specs.declared.request.Request.{Request}
+use Rattle.turn_client_api.specs.declared.poll.Socket5Tuple.{Socket5Tuple}
+
+-- in nanoseconds
+abbrev pub time_of : ℕ → Option ℕ
+time_of nanos = if nat_le nanos (2 ^ 62) then Some nanos else None
+
+-- the calls with their numbers
+abbrev pub kinds : List (ℕ × Kind)
+kinds =
+    (DELETE, Kinds.Delete) ∷ (CREATE_PERMISSION, Kinds.CreatePermission) ∷ (BIND_CHANNEL, Kinds.BindChannel)
+    ∷ (TCP_CONNECT, Kinds.TcpConnect) ∷ (ALLOCATED_TCP_SOCKET, Kinds.AllocatedTcpSocket) ∷ (TCP_CLOSED, Kinds.TcpClosed)
+    ∷ (SEND_TO, Kinds.SendTo) ∷ (RECV, Kinds.Recv) ∷ (POLL_RECV, Kinds.PollRecv)
+    ∷ (POLL, Kinds.Poll) ∷ (POLL_TRANSMIT, Kinds.PollTransmit) ∷ (POLL_EVENT, Kinds.PollEvent)
+    ∷ (PROTOCOL_ERROR, Kinds.ProtocolError) ∷ (RELAYED_ADDRESSES, Kinds.RelayedAddresses) ∷ (PERMISSIONS, Kinds.Permissions)
+    ∷ (HAVE_PERMISSION, Kinds.HavePermission) ∷ (READ, Kinds.Read) ∷ []
+
+abbrev pub kind_of : ℕ → Option Kind
+kind_of code = option_map (λ k. k.1) (find (λ k. code == k.0) kinds)
+
+-- the local address of a data connection, or none if it could not be opened
+abbrev pub local_at : Address → Option (Option SocketAddr)
+local_at a = if a.family == NO_FAMILY then Some None else option_map Some (socket_at a)
+
+-- the connection that the caller has opened, or could not open
+abbrev pub socket_operation : ℕ → Request → Option Operation
+socket_operation now r = do
+  transport ← transport_of r.transport
+  from ← socket_at r.from
+  to ← socket_at r.to
+  peer ← socket_at r.peer
+  local ← local_at r.local
+  Some (Operations.Call (Calls.AllocatedTcpSocket r.id (record { transport = transport; from = from; to = to }) peer local now))
+
+-- what a request of each kind does at a time
+abbrev pub operation_with : ℕ → Request → Kind → Option Operation
+operation_with now r Kinds.Delete = Some (Operations.Call (Calls.Delete now))
+operation_with now r Kinds.CreatePermission = do
+  transport ← transport_of r.transport
+  peer ← ip_at r.peer
+  Some (Operations.Call (Calls.CreatePermission transport peer now))
+operation_with now r Kinds.BindChannel = do
+  transport ← transport_of r.transport
+  peer ← socket_at r.peer
+  Some (Operations.Call (Calls.BindChannel transport peer now))
+operation_with now r Kinds.TcpConnect = option_map (λ peer. Operations.Call (Calls.TcpConnect peer now)) (socket_at r.peer)
+operation_with now r Kinds.AllocatedTcpSocket = socket_operation now r
+operation_with now r Kinds.TcpClosed = do
+  local ← socket_at r.from
+  remote ← socket_at r.to
+  Some (Operations.Call (Calls.TcpClosed local remote now))
+operation_with now r Kinds.SendTo = do
+  transport ← transport_of r.transport
+  to ← socket_at r.peer
+  Some (Operations.SendTo transport to now)
+operation_with now r Kinds.Recv = do
+  transport ← transport_of r.transport
+  from ← socket_at r.from
+  to ← socket_at r.to
+  Some (Operations.Recv (record { transport = transport; from = from; to = to }) now)
+operation_with now r Kinds.PollRecv = Some (Operations.PollRecv now)
+operation_with now r Kinds.Poll = Some (Operations.Poll now)
+operation_with now r Kinds.PollTransmit = Some (Operations.PollTransmit now)
+operation_with now r Kinds.PollEvent = Some Operations.PollEvent
+operation_with now r Kinds.ProtocolError = Some (Operations.Call Calls.ProtocolError)
+operation_with now r Kinds.RelayedAddresses = Some (Operations.RelayedAddresses r.id)
+operation_with now r Kinds.Permissions = do
+  transport ← transport_of r.transport
+  relayed ← socket_at r.from
+  Some (Operations.Permissions transport relayed r.id)
+operation_with now r Kinds.HavePermission = do
+  transport ← transport_of r.transport
+  peer ← ip_at r.peer
+  Some (Operations.Call (Calls.HavePermission transport peer))
+operation_with now r Kinds.Read = Some Operations.Read
+
+abbrev pub operation_of : ℕ → Request → Option Operation
+operation_of now r = kind_of r.kind >>= operation_with now r
+
+-- the packet that has these bytes
+abbrev pub packet_over : Socket5Tuple → List ℕ → Transmit (List ℕ)
+packet_over tuple bytes = record { payload = bytes; transport = tuple.transport; from = tuple.from; to = tuple.to }
+
+abbrev pub recv_call : Socket5Tuple → List ℕ → ℕ → Call
+recv_call tuple bytes now = Calls.Recv (packet_over tuple bytes) now
+
+-- the call that is made with this data, if it is one
+abbrev pub call_in : Operation → List ℕ → Option Call
+call_in (Operations.Call call) bytes = Some call
+call_in (Operations.SendTo transport to now) bytes = Some (Calls.SendTo transport to bytes now)
+call_in (Operations.Recv tuple now) bytes = Some (recv_call tuple bytes now)
+call_in (Operations.PollRecv now) bytes = Some (Calls.PollRecv now)
+call_in (Operations.Poll now) bytes = Some (Calls.Poll now)
+call_in (Operations.PollTransmit now) bytes = Some (Calls.PollTransmit now)
+call_in Operations.PollEvent bytes = Some Calls.PollEvent
+call_in (Operations.RelayedAddresses index) bytes = Some Calls.RelayedAddresses
+call_in (Operations.Permissions transport relayed index) bytes = Some (Calls.Permissions transport relayed)
+call_in Operations.Read bytes = None
+
+-- the index in the list that it returns
+abbrev pub index_in : Operation → ℕ
+index_in (Operations.RelayedAddresses index) = index
+index_in (Operations.Permissions transport relayed index) = index
+index_in operation = 0

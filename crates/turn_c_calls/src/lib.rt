@@ -1,0 +1,27 @@
+//! The calls of a client as a C program makes them: structs of numbers in, structs of numbers out. Nothing here is unsafe.
+//!
+//! ```text
+//!  Settings, user, password, seed -- start --> Session
+//!  Request, data ------------------- step ---> Answer, and bytes in the buffer
+//! ```
+//!
+//! A [`Session`](session::Session) is a client, with the bytes that did not fit into a buffer and are to be read. Each
+//! [`Request`](request::Request) is a call of the client, and its [`Answer`](answer::Answer) says the reply of the machine's
+//! step; a request that is refused changes nothing but the answer's kind. [`library`] has the three functions that a C
+//! library exports, and [`code`] the numbers.
+#![tactic(auto)]
+
+pub mod address;
+pub mod answer;
+mod buffer;
+pub mod code;
+mod give;
+mod judge;
+pub mod library;
+mod make;
+pub mod opening;
+mod plain;
+pub mod request;
+pub mod session;
+pub mod settings;
+mod unread;

@@ -1,0 +1,53 @@
+//! What the C library exports, but for the pointers.
+
+ghost use Rattle.std.specs.Prelude.{◌≡◌, Ok, IfErr, IfOk};
+ghost use Rattle.turn_c_calls.specs.Open.{Refuses, session_of};
+ghost use Rattle.turn_c_calls.specs.Step.{Steps};
+
+use crate::answer::Answer;
+use crate::opening::{OpenError, new_session};
+use crate::request::Request;
+use crate::session::Session;
+use crate::settings::Settings;
+use std::alloc::Global;
+
+/// A new session in a box, as [`new_session`] makes it.
+///
+/// # Errors
+///
+/// As for [`new_session`].
+pub fn start(
+    alloc: Global,
+    settings: &Settings,
+    user: &[u8],
+    password: &[u8],
+    seed: &[u8],
+) -> Result<Box<Session>, OpenError>
+    ensures ok { IfOk result (λ session. session_of settings.now user.now password.now seed.now ≡ Ok session.value) }
+    ensures err { IfErr result (Refuses (session_of settings.now user.now password.now seed.now)) }
+{
+    let session = new_session(alloc, settings, user, password, seed)?;
+    match Box::new(alloc, session) {
+        Ok(session) => Ok(session),
+        Err(_) => Err(OpenError::OutOfMemory),
+    }
+}
+
+/// Answers a request with its data, and returns the kind of the answer. Bytes of the answer are written to the buffer.
+pub fn step(
+    session: &mut Session,
+    alloc: Global,
+    request: &Request,
+    bytes: &[u8],
+    buffer: &mut [u8],
+    answer: &mut Answer,
+) -> u32
+    ensures step { Steps request.now bytes.now session.old session.new buffer.old buffer.new answer.old answer.new }
+    ensures kind { result ≡ answer.new.kind }
+{
+    session.answer(alloc, request, bytes, buffer, answer);
+    answer.kind
+}
+
+/// Drops a session.
+pub fn finish(_session: Box<Session>) {}

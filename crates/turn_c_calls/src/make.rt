@@ -1,0 +1,213 @@
+//! What a request does, done with a client.
+
+ghost use Rattle.std.specs.Prelude.{◌≡◌, ◌≤◌, ◌^◌, ◌+◌, [], nat_lt, length, slice_get, OnOk, OnErr};
+ghost use Rattle.turn_client_api.specs.Calls.{permissions_of, relayed_addresses_of, FitsDatagram};
+ghost use Rattle.turn_client_api.specs.Steps.{EndsWithoutMemory};
+ghost use Rattle.turn_client_proto.specs.Run.{IsCallable};
+ghost use Rattle.turn_c_calls.specs.Answer.{of_kind, permission_answer, relayed_answer};
+ghost use Rattle.turn_c_calls.specs.Arms.{DoesSo, FailsSo, Makes, MakesAside, MakesPlain, Stops};
+ghost use Rattle.turn_c_calls.specs.Buffer.{Puts};
+ghost use Rattle.turn_c_calls.specs.Judge.{IsPlainCall, IsReady};
+ghost use Rattle.turn_c_calls.specs.Request.{call_in, index_in};
+
+use crate::answer::Answer;
+use crate::code::{BYTES, NOTHING};
+use crate::give::{deliver, give, report, write};
+use crate::plain::reply_to;
+use crate::request::Operation;
+use crate::unread::{Kept, Unread};
+use std::alloc::{AllocError, Global};
+use std::net::SocketAddr;
+use turn_client_api::{Call, Socket5Tuple, TurnClientApi};
+use turn_lines::refusal::Refusal;
+use turn_stun::instant::Instant;
+use turn_stun::transport::{Transmit, TransportType};
+
+/// Does what a request says, which is possible with this data and this buffer.
+///
+/// # Errors
+///
+/// If memory allocation for the call fails. The client is as the call leaves it then, and nothing else has changed.
+pub fn make<C: TurnClientApi>(
+    alloc: Global,
+    client: &mut C,
+    operation: Operation,
+    bytes: &[u8],
+    unread: &mut Unread,
+    buffer: &mut [u8],
+    answer: &mut Answer,
+) -> Result<(), AllocError>
+    requires { IsReady (C.state client.old).config.allocation_transport (nat_lt 0 (length unread.old)) bytes.now (length buffer.old) operation }
+    ensures ok { OnOk result (DoesSo (call_in operation bytes.now) (index_in operation) (C.state client.old) (C.state client.new)
+        unread.old unread.new buffer.old buffer.new answer.old answer.new) }
+    ensures err { OnErr result (FailsSo (call_in operation bytes.now) (C.state client.old) (C.state client.new)
+        unread.old unread.new buffer.old buffer.new) }
+    ensures same { OnErr result (answer.new ≡ answer.old) }
+{
+    match operation {
+        Operation::Call(call) => plain(client, &call, answer)?,
+        Operation::SendTo { transport, to, now } => {
+            send_to(client, transport, to, bytes, now, buffer, answer);
+        }
+        Operation::Recv { tuple, now } => {
+            let packet = Transmit::new(bytes, tuple.transport, tuple.from, tuple.to);
+            let outcome = client.recv(packet, now)?;
+            report(alloc, outcome, unread, buffer, answer);
+        }
+        Operation::PollRecv { now } => poll_recv(client, now, unread, buffer, answer)?,
+        Operation::Poll { now } => poll(client, now, answer)?,
+        Operation::PollTransmit { now } => poll_transmit(client, now, unread, buffer, answer)?,
+        Operation::PollEvent => poll_event(client, answer),
+        Operation::RelayedAddresses { index } => relayed_addresses(client, index, answer),
+        Operation::Permissions {
+            transport,
+            relayed,
+            index,
+        } => permissions(client, transport, relayed, index, answer),
+        Operation::Read => read(unread, buffer, answer),
+    }
+    Ok(())
+}
+
+/// Makes a call whose reply has neither bytes nor a list.
+fn plain<C: TurnClientApi>(
+    client: &mut C,
+    call: &Call,
+    answer: &mut Answer,
+) -> Result<(), AllocError>
+    requires callable { IsCallable (C.state client.old).config.allocation_transport call.now }
+    requires plain { IsPlainCall call.now }
+    ensures ok { OnOk result (MakesPlain call.now 0 (C.state client.old) (C.state client.new) answer.old answer.new) }
+    ensures err { OnErr result (EndsWithoutMemory call.now (C.state client.old) (C.state client.new)) }
+    ensures same { OnErr result (answer.new ≡ answer.old) }
+{
+    let reply = reply_to(client, call)?;
+    answer.set_reply(&reply);
+    Ok(())
+}
+
+/// Sends the data to a peer: the packet is written to the buffer.
+fn send_to<C: TurnClientApi>(
+    client: &mut C,
+    transport: TransportType,
+    to: SocketAddr,
+    bytes: &[u8],
+    now: Instant,
+    buffer: &mut [u8],
+    answer: &mut Answer,
+)
+    requires time { now ≤ 2 ^ 62 }
+    requires short { FitsDatagram (C.state client.old).config.allocation_transport bytes.now }
+    requires fits { length bytes.now + 64 ≤ length buffer.old }
+    ensures { MakesAside (Call.SendTo transport to bytes.now now) (C.state client.old) (C.state client.new) buffer.old buffer.new answer.old answer.new }
+{
+    match client.send_to(transport, to, bytes, now) {
+        Ok(Some(packet)) => write(packet, buffer, answer),
+        Ok(None) => unreachable!(),
+        Err(error) => answer.set_refusal(Refusal::from(error)),
+    }
+}
+
+/// Returns the next data of a peer that the streams hold.
+fn poll_recv<C: TurnClientApi>(
+    client: &mut C,
+    now: Instant,
+    unread: &mut Unread,
+    buffer: &mut [u8],
+    answer: &mut Answer,
+) -> Result<(), AllocError>
+    requires time { now ≤ 2 ^ 62 }
+    requires none_left { unread.old ≡ [] }
+    ensures ok { OnOk result (Makes (Call.PollRecv now) (C.state client.old) (C.state client.new)
+        unread.old unread.new buffer.old buffer.new answer.old answer.new) }
+    ensures err { OnErr result (Stops (Call.PollRecv now) (C.state client.old) (C.state client.new)
+        unread.old unread.new buffer.old buffer.new) }
+    ensures same { OnErr result (answer.new ≡ answer.old) }
+{
+    match client.poll_recv(now)? {
+        None => answer.kind = NOTHING,
+        Some(given) => deliver(given, unread, buffer, answer),
+    }
+    Ok(())
+}
+
+/// Returns what to do next.
+fn poll<C: TurnClientApi>(
+    client: &mut C,
+    now: Instant,
+    answer: &mut Answer,
+) -> Result<(), AllocError>
+    requires { now ≤ 2 ^ 62 }
+    ensures ok { OnOk result (MakesPlain (Call.Poll now) 0 (C.state client.old) (C.state client.new) answer.old answer.new) }
+    ensures err { OnErr result (EndsWithoutMemory (Call.Poll now) (C.state client.old) (C.state client.new)) }
+    ensures same { OnErr result (answer.new ≡ answer.old) }
+{
+    let returned = client.poll(now)?;
+    answer.set_poll(&returned);
+    Ok(())
+}
+
+/// Returns the next packet.
+fn poll_transmit<C: TurnClientApi>(
+    client: &mut C,
+    now: Instant,
+    unread: &mut Unread,
+    buffer: &mut [u8],
+    answer: &mut Answer,
+) -> Result<(), AllocError>
+    requires time { now ≤ 2 ^ 62 }
+    requires none_left { unread.old ≡ [] }
+    ensures ok { OnOk result (Makes (Call.PollTransmit now) (C.state client.old) (C.state client.new)
+        unread.old unread.new buffer.old buffer.new answer.old answer.new) }
+    ensures err { OnErr result (Stops (Call.PollTransmit now) (C.state client.old) (C.state client.new)
+        unread.old unread.new buffer.old buffer.new) }
+    ensures same { OnErr result (answer.new ≡ answer.old) }
+{
+    match client.poll_transmit(now)? {
+        None => answer.kind = NOTHING,
+        Some(packet) => {
+            answer.set_packet(packet.transport, packet.from, packet.to);
+            give(Kept::Packet(packet.payload), unread, buffer, answer);
+        }
+    }
+    Ok(())
+}
+
+/// Returns the next event.
+fn poll_event<C: TurnClientApi>(client: &mut C, answer: &mut Answer)
+    ensures { MakesPlain Call.PollEvent 0 (C.state client.old) (C.state client.new) answer.old answer.new }
+{
+    match client.poll_event() {
+        None => answer.kind = NOTHING,
+        Some(event) => answer.set_event(&event),
+    }
+}
+
+/// The relayed address at this index.
+fn relayed_addresses<C: TurnClientApi>(client: &C, index: u32, answer: &mut Answer)
+    ensures { answer.new ≡ relayed_answer (slice_get (relayed_addresses_of (C.state client.now)) index) answer.old }
+{
+    answer.set_relayed(client.relayed_addresses().nth(index as usize));
+}
+
+/// The address at this index of those that have a permission in the allocation with this relayed address.
+fn permissions<C: TurnClientApi>(
+    client: &C,
+    transport: TransportType,
+    relayed: SocketAddr,
+    index: u32,
+    answer: &mut Answer,
+)
+    ensures { answer.new ≡ permission_answer (slice_get (permissions_of transport relayed (C.state client.now)) index) answer.old }
+{
+    answer.set_permission(client.permissions(transport, relayed).nth(index as usize));
+}
+
+/// Reads the next bytes.
+fn read(unread: &mut Unread, buffer: &mut [u8], answer: &mut Answer)
+    ensures { Puts unread.old [] (of_kind BYTES answer.old) buffer.old buffer.new unread.new answer.new }
+{
+    answer.kind = BYTES;
+    answer.len = unread.read(buffer);
+    answer.left = unread.len();
+}

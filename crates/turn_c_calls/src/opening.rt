@@ -1,0 +1,124 @@
+//! A new session.
+
+ghost use Rattle.std.specs.Prelude.{◌≡◌, None, Ok, Some, IfOk, IfErr};
+ghost use Rattle.turn_client_proto.specs.Client.{state_of};
+ghost use Rattle.turn_stun.specs.declared.transport.TransportType.TheVariants.{Udp};
+ghost use Rattle.turn_lines.specs.Head.{credentials_with};
+ghost use Rattle.turn_c_calls.specs.Open.{IsNoUser, Refuses, new_client, seed_of, session_of};
+
+use crate::code::{BAD_CREDENTIALS, BAD_SEED, BAD_SETTINGS, OUT_OF_MEMORY};
+use crate::session::Session;
+use crate::settings::{Plan, Settings, plan_of};
+use std::alloc::{AllocError, Global};
+use turn_auth::credentials::{CredentialsError, TurnCredentials};
+use turn_client_proto::client::TurnClient;
+use turn_client_proto::runs::replay;
+use turn_lines::configuration::configuration;
+
+/// Why there is no session: the first of these that holds. A memory allocation may also fail before the seed is tested.
+#[derive(Clone, Copy, Debug, PartialEq, Eq)]
+pub enum OpenError {
+    /// The settings have a number or an address that is invalid, or a client over UDP requests an allocation over TCP.
+    Settings,
+    /// The user name does not have 1 to 508 bytes, or the password has over 65,535.
+    Credentials,
+    /// The seed does not have 32 bytes.
+    Seed,
+    /// Memory allocation failed.
+    OutOfMemory,
+}
+
+impl From<AllocError> for OpenError {
+    ghost use Rattle.std.specs.Prelude.{◌≡◌};
+    ghost use Rattle.turn_c_calls.specs.declared.opening.OpenError.TheVariants.{OutOfMemory};
+
+    ghost from_gives = { λ _ error. error ≡ OutOfMemory };
+
+    fn from(_error: AllocError) -> OpenError {
+        OpenError::OutOfMemory
+    }
+}
+
+impl OpenError {
+    ghost use Rattle.std.specs.Prelude.{◌≡◌};
+    ghost use Rattle.turn_c_calls.specs.Open.{error_code};
+
+    /// The number of the error.
+    pub fn code(self) -> u32
+        ensures { result ≡ error_code self }
+    {
+        match self {
+            OpenError::Settings => BAD_SETTINGS,
+            OpenError::Credentials => BAD_CREDENTIALS,
+            OpenError::Seed => BAD_SEED,
+            OpenError::OutOfMemory => OUT_OF_MEMORY,
+        }
+    }
+}
+
+/// A session with a new client that has these settings and credentials, and draws its transaction IDs from this seed.
+///
+/// # Errors
+///
+/// The first that holds of `Settings`, `Credentials` and `Seed`, or `OutOfMemory` if memory allocation for the credentials
+/// or for the client fails.
+pub fn new_session(
+    alloc: Global,
+    settings: &Settings,
+    user: &[u8],
+    password: &[u8],
+    seed: &[u8],
+) -> Result<Session, OpenError>
+    ensures ok { IfOk result (λ session. session_of settings.now user.now password.now seed.now ≡ Ok session) }
+    ensures err { IfErr result (Refuses (session_of settings.now user.now password.now seed.now)) }
+{
+    let plan = plan_of(settings).ok_or(OpenError::Settings)?;
+    let credentials = credentials(alloc, user, password)?;
+    let seed = seed_of(seed).ok_or(OpenError::Seed)?;
+    let client = new_client(alloc, plan, credentials, seed)?;
+    Ok(Session::new(client, plan.request.allocation))
+}
+
+/// The credentials, or `Credentials` or `OutOfMemory`.
+fn credentials(alloc: Global, user: &[u8], password: &[u8]) -> Result<TurnCredentials, OpenError>
+    ensures ok { IfOk result (λ credentials. credentials_with user.now password.now ≡ Some credentials) }
+    ensures err { IfErr result (IsNoUser user.now password.now) }
+{
+    match TurnCredentials::new(alloc, user, password) {
+        Ok(credentials) => Ok(credentials),
+        Err(CredentialsError::OutOfMemory) => Err(OpenError::OutOfMemory),
+        Err(_) => Err(OpenError::Credentials),
+    }
+}
+
+/// The seed, of 32 bytes.
+fn seed_of(seed: &[u8]) -> Option<[u8; 32]>
+    ensures { result ≡ seed_of seed.now }
+{
+    <[u8; 32]>::try_from(seed).ok()
+}
+
+/// The new client of a plan.
+fn new_client(
+    alloc: Global,
+    plan: Plan,
+    credentials: TurnCredentials,
+    seed: [u8; 32],
+) -> Result<TurnClient, AllocError>
+    requires { plan.ends.transport ≡ Udp → plan.request.allocation ≡ Udp }
+    ensures { IfOk result (λ client. state_of client ≡ new_client plan credentials seed) }
+{
+    let config = configuration(alloc, plan.request, credentials, plan.waits);
+    let ends = plan.ends;
+    // After no calls the client of a run is a new one.
+    let replayed = replay(
+        alloc,
+        ends.transport,
+        ends.local,
+        ends.remote,
+        config,
+        seed,
+        &[],
+    )?;
+    Ok(replayed.client)
+}

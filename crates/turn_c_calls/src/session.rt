@@ -1,0 +1,77 @@
+//! A client with the bytes that are to be read of it.
+
+use crate::answer::Answer;
+use crate::code::OUT_OF_MEMORY;
+use crate::judge::judged;
+use crate::make::make;
+use crate::request::Request;
+use crate::unread::Unread;
+use std::alloc::Global;
+use std::marker::Model;
+use turn_client_proto::client::TurnClient;
+use turn_stun::transport::TransportType;
+
+/// A client as C has it, with the bytes that are to be read. Contracts see both.
+#[derive(Debug, Drop)]
+pub struct Session {
+    client: TurnClient,
+    relays: TransportType,
+    unread: Unread,
+}
+
+impl Model for Session {
+    ghost use Rattle.std.specs.Prelude.{◌≡◌};
+    ghost use Rattle.turn_client_proto.specs.Client.{state_of};
+    ghost use Rattle.turn_c_calls.specs.Held.{Held, held};
+
+    ghost Value = { Held };
+
+    ghost view = { λ s. held (state_of s.client) s.unread };
+
+    // What its allocations relay over, which no call changes.
+    ghost invariant = { λ s. (state_of s.client).config.allocation_transport ≡ s.relays };
+}
+
+impl Session {
+    ghost use Rattle.std.specs.Prelude.{◌≡◌, []};
+    ghost use Rattle.turn_client_proto.specs.Client.{state_of};
+    ghost use Rattle.turn_c_calls.specs.Held.{held};
+    ghost use Rattle.turn_c_calls.specs.Step.{Steps};
+
+    /// This client, whose allocations relay over `relays`, with nothing to be read.
+    pub(crate) fn new(client: TurnClient, relays: TransportType) -> Session
+        requires { (state_of client).config.allocation_transport ≡ relays }
+        ensures { result ≡ held (state_of client) [] }
+    {
+        Session {
+            client,
+            relays,
+            unread: Unread::new(),
+        }
+    }
+
+    /// Answers a request with its data. Bytes of the answer are written to the buffer.
+    pub fn answer(
+        &mut self,
+        alloc: Global,
+        request: &Request,
+        bytes: &[u8],
+        buffer: &mut [u8],
+        answer: &mut Answer,
+    )
+        ensures { Steps request.now bytes.now self.old self.new buffer.old buffer.new answer.old answer.new }
+    {
+        let is_left = self.unread.is_left();
+        match judged(self.relays, request, is_left, bytes, buffer.len()) {
+            Err(fault) => answer.kind = fault.code(),
+            Ok(operation) => {
+                let client = &mut self.client;
+                let unread = &mut self.unread;
+                match make(alloc, client, operation, bytes, unread, buffer, answer) {
+                    Ok(()) => {}
+                    Err(_) => answer.kind = OUT_OF_MEMORY,
+                }
+            }
+        }
+    }
+}

@@ -1,0 +1,186 @@
+//! The settings of a new client.
+
+ghost use Rattle.std.specs.Prelude.{◌≡◌, IfSome};
+ghost use Rattle.turn_stun.specs.declared.transport.TransportType.TheVariants.{Udp};
+ghost use Rattle.turn_c_calls.specs.Settings.{algorithm_of, algorithms_of, families_of, family_of, feature_of};
+ghost use Rattle.turn_c_calls.specs.Settings.{ends_of, other_algorithm, other_family, plan_of, request_of, waits_of};
+
+use crate::address::{Address, socket_at, transport_of};
+use crate::code::{AUTO, DISABLED, NONE, REQUIRED, SHA1, SHA256, VERSION_4, VERSION_6};
+use turn_auth::feature::Feature;
+use turn_auth::integrity::IntegrityAlgorithm;
+use turn_lines::head::{Ends, Request, Waits};
+use turn_stun::transport::TransportType;
+use turn_types::AddressFamily;
+
+/// The settings of a new client: all but its user and its seed. [`code`](crate::code) has the numbers.
+#[derive(Clone, Copy, Debug, PartialEq, Eq)]
+#[repr(C)]
+pub struct Settings {
+    /// The wait after a request is first sent, in nanoseconds, if `has_waits` says so.
+    pub wait_initial: u64,
+    /// The longest wait before a request is sent again, in nanoseconds.
+    pub wait_max: u64,
+    /// The wait after a request is last sent, in nanoseconds.
+    pub wait_last: u64,
+    /// How many times a request is sent in all.
+    pub wait_count: u32,
+    /// 0 for the default retransmission times, and any other number for these.
+    pub has_waits: u32,
+    /// The transport between the client and its server.
+    pub transport: u32,
+    /// The transport between the server and peers. It is UDP if the client reaches its server over UDP.
+    pub relays: u32,
+    /// The address family that is requested first.
+    pub family: u32,
+    /// The other family if it is requested too, or 0.
+    pub other_family: u32,
+    /// The integrity algorithm that is offered first.
+    pub algorithm: u32,
+    /// The other algorithm if it is offered too, or 0.
+    pub other_algorithm: u32,
+    /// Whether the user name is hidden from observers.
+    pub anonymous: u32,
+    /// 0, and not read.
+    pub reserved: u32,
+    /// The client's address.
+    pub local: Address,
+    /// The server's address.
+    pub remote: Address,
+}
+
+/// What the settings say.
+#[derive(Clone, Copy, Debug, PartialEq, Eq)]
+pub struct Plan {
+    /// The addresses of the client and its server.
+    pub ends: Ends,
+    /// The allocation that the client requests, and how.
+    pub request: Request,
+    /// The retransmission times, or `None` for the default ones.
+    pub waits: Option<Waits>,
+}
+
+/// What the settings say, or none if a number or an address is invalid, or if a client over UDP requests an allocation
+/// over TCP (RFC 6062, section 4.1).
+pub fn plan_of(settings: &Settings) -> Option<Plan>
+    ensures value { result ≡ plan_of settings.now }
+    ensures relays { IfSome result (λ plan. plan.ends.transport ≡ Udp → plan.request.allocation ≡ Udp) }
+{
+    let ends = ends_of(settings)?;
+    let request = request_of(settings)?;
+    match (ends.transport, request.allocation) {
+        (TransportType::Udp, TransportType::Tcp) => None,
+        _ => Some(Plan {
+            ends,
+            request,
+            waits: waits_of(settings),
+        }),
+    }
+}
+
+fn ends_of(settings: &Settings) -> Option<Ends>
+    ensures { result ≡ ends_of settings.now }
+{
+    let transport = transport_of(settings.transport)?;
+    let local = socket_at(&settings.local)?;
+    let remote = socket_at(&settings.remote)?;
+    Some(Ends {
+        transport,
+        local,
+        remote,
+    })
+}
+
+fn request_of(settings: &Settings) -> Option<Request>
+    ensures { result ≡ request_of settings.now }
+{
+    let allocation = transport_of(settings.relays)?;
+    let families = families_of(settings.family, settings.other_family)?;
+    let algorithms = algorithms_of(settings.algorithm, settings.other_algorithm)?;
+    let anonymous = feature_of(settings.anonymous)?;
+    Some(Request {
+        allocation,
+        families,
+        algorithms,
+        anonymous,
+    })
+}
+
+fn families_of(first: u32, other: u32) -> Option<(AddressFamily, Option<AddressFamily>)>
+    ensures { result ≡ families_of first other }
+{
+    let first = family_of(first)?;
+    let other = other_family(other)?;
+    Some((first, other))
+}
+
+fn other_family(code: u32) -> Option<Option<AddressFamily>>
+    ensures { result ≡ other_family code }
+{
+    if code == NONE {
+        return Some(None);
+    }
+    Some(Some(family_of(code)?))
+}
+
+fn family_of(code: u32) -> Option<AddressFamily>
+    ensures { result ≡ family_of code }
+{
+    match code {
+        VERSION_4 => Some(AddressFamily::IPV4),
+        VERSION_6 => Some(AddressFamily::IPV6),
+        _ => None,
+    }
+}
+
+fn algorithms_of(first: u32, other: u32) -> Option<(IntegrityAlgorithm, Option<IntegrityAlgorithm>)>
+    ensures { result ≡ algorithms_of first other }
+{
+    let first = algorithm_of(first)?;
+    let other = other_algorithm(other)?;
+    Some((first, other))
+}
+
+fn other_algorithm(code: u32) -> Option<Option<IntegrityAlgorithm>>
+    ensures { result ≡ other_algorithm code }
+{
+    if code == NONE {
+        return Some(None);
+    }
+    Some(Some(algorithm_of(code)?))
+}
+
+fn algorithm_of(code: u32) -> Option<IntegrityAlgorithm>
+    ensures { result ≡ algorithm_of code }
+{
+    match code {
+        SHA1 => Some(IntegrityAlgorithm::Sha1),
+        SHA256 => Some(IntegrityAlgorithm::Sha256),
+        _ => None,
+    }
+}
+
+fn feature_of(code: u32) -> Option<Feature>
+    ensures { result ≡ feature_of code }
+{
+    match code {
+        AUTO => Some(Feature::Auto),
+        REQUIRED => Some(Feature::Required),
+        DISABLED => Some(Feature::Disabled),
+        _ => None,
+    }
+}
+
+fn waits_of(settings: &Settings) -> Option<Waits>
+    ensures { result ≡ waits_of settings.now }
+{
+    if settings.has_waits == NONE {
+        return None;
+    }
+    Some(Waits {
+        initial: settings.wait_initial,
+        max: settings.wait_max,
+        count: settings.wait_count,
+        last: settings.wait_last,
+    })
+}
