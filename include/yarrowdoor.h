@@ -1,0 +1,664 @@
+/* Yarrowdoor: a TURN client that does no I/O (RFC 8656, 6062 and 6156; messages by RFC 8489), for C99 and C++.
+
+   The caller owns the sockets and the clock. It passes in bytes and times, and gets packets to send, data of peers,
+   events, and the time at which to call again:
+
+       for (;;) {
+           send each packet of yarrowdoor_poll_transmit, until it answers YARROWDOOR_NOTHING;
+           handle each event of yarrowdoor_poll_event, until it answers YARROWDOOR_NOTHING;
+           yarrowdoor_poll: YARROWDOOR_WAIT_UNTIL names the wake-up time, in answer.time;
+           wait for a packet of the server, up to the wake-up time, and pass it to yarrowdoor_recv;
+       }
+
+   Each call answers by a number, which is also answer.kind; the other fields that a kind uses are named beside it, and
+   those that it does not use are 0. Times are nanoseconds of a clock of the caller's choice that never goes back, at
+   most 2^62. Lengths are bytes. Ports and numbers are in the byte order of the host.
+
+   What the caller owes, since nothing checks it:
+   - A client is a pointer that yarrowdoor_new has put there, and that was not passed to yarrowdoor_free.
+   - One call of a client at a time, and the memory behind its pointer is neither read nor written.
+   - No pointer is null, except those to bytes and buffers of length 0, in the functions below. All behind a pointer is
+     readable, and what is not const is writable.
+   - What a call writes (its buffer, its answer) overlaps nothing else that is passed to it.
+
+   No pointer into memory of the library is given to the caller: bytes are copied to the caller's buffer, or named by
+   their place in the bytes that the caller passed in. The library reads no clock, opens nothing and starts no thread.
+   Its memory is that of malloc, and it leaves errno as malloc does. */
+#ifndef YARROWDOOR_H
+#define YARROWDOOR_H
+
+#include <stddef.h>
+#include <stdint.h>
+#include <string.h>
+
+#ifdef __cplusplus
+extern "C" {
+#endif
+
+/* A client, between yarrowdoor_new and yarrowdoor_free. */
+typedef struct yarrowdoor yarrowdoor;
+
+/* ---- numbers */
+
+/* What carries packets. */
+enum yarrowdoor_transport {
+    YARROWDOOR_UDP = 0, /* datagrams */
+    YARROWDOOR_TCP = 1  /* a stream of bytes */
+};
+
+/* The family of an address. */
+enum yarrowdoor_family {
+    YARROWDOOR_NO_ADDRESS = 0, /* there is no address */
+    YARROWDOOR_IPV4 = 4,
+    YARROWDOOR_IPV6 = 6
+};
+
+/* How requests are signed (RFC 8489, sections 14.5 and 14.6). */
+enum yarrowdoor_algorithm {
+    YARROWDOOR_SHA1 = 1,  /* MESSAGE-INTEGRITY */
+    YARROWDOOR_SHA256 = 2 /* MESSAGE-INTEGRITY-SHA256 */
+};
+
+/* Whether requests hide the user name (USERHASH; RFC 8489, section 14.4). */
+enum yarrowdoor_anonymous {
+    YARROWDOOR_AUTO = 0,     /* as the client sees the server offer it: never, so far */
+    YARROWDOOR_REQUIRED = 1, /* always */
+    YARROWDOOR_DISABLED = 2  /* never */
+};
+
+/* The greatest length of a packet of yarrowdoor_poll_transmit, in bytes: what its buffer needs. */
+#define YARROWDOOR_MAX_PACKET ((size_t)65556)
+
+/* What the packet of yarrowdoor_send_to may have beyond its data, in bytes: its buffer needs as much more. */
+#define YARROWDOOR_MAX_OVERHEAD ((size_t)64)
+
+/* The most data of yarrowdoor_send_to where the allocation relays over UDP, in bytes. */
+#define YARROWDOOR_MAX_PAYLOAD ((size_t)65504)
+
+/* The greatest time, in nanoseconds: 146 years. */
+#define YARROWDOOR_MAX_TIME ((uint64_t)1 << 62)
+
+/* The bytes of a seed. */
+#define YARROWDOOR_SEED_LEN ((size_t)32)
+
+/* What a call answers. */
+enum yarrowdoor_kind {
+    /* Nothing was done. Of the next five the first that holds is answered, and the client is as it was. */
+    YARROWDOOR_BAD_TIME = 2,     /* the time is over 2^62 ns */
+    YARROWDOOR_BAD_CALL = 3,     /* there is no such call, or it lacks a transport or an address */
+    YARROWDOOR_BAD_PAYLOAD = 4,  /* the data has over 65,504 bytes, and the allocation relays over UDP */
+    YARROWDOOR_UNREAD_BYTES = 5, /* yarrowdoor_read has to read the rest of an earlier answer first */
+    YARROWDOOR_SMALL_BUFFER = 6, /* the buffer is too small */
+
+    /* A memory allocation failed. The client is valid, and may have ended: poll it. */
+    YARROWDOOR_OUT_OF_MEMORY = 1,
+
+    /* The client refuses the call, and error says why. */
+    YARROWDOOR_REFUSED = 7,
+
+    YARROWDOOR_DONE = 8,    /* it is done */
+    YARROWDOOR_NOTHING = 9, /* there is none */
+
+    /* of yarrowdoor_poll */
+    YARROWDOOR_WAIT_UNTIL = 10,          /* nothing is due before time: the wake-up time */
+    YARROWDOOR_ALLOCATE_TCP_SOCKET = 11, /* open a data connection to `to`, for peer: id, transport, from, to, peer */
+    YARROWDOOR_TCP_CLOSE = 12,           /* close the connection from `from` to `to` */
+    YARROWDOOR_CLOSED = 13,              /* the client has ended, and does nothing more */
+
+    /* of yarrowdoor_poll_transmit and yarrowdoor_send_to */
+    YARROWDOOR_PACKET = 14, /* send the len bytes in the buffer over transport, from `from` to `to` */
+
+    /* of yarrowdoor_recv and yarrowdoor_poll_recv */
+    YARROWDOOR_HANDLED = 15,         /* the bytes were for the client itself */
+    YARROWDOOR_IGNORED = 16,         /* the bytes were not for this client */
+    YARROWDOOR_PEER_DATA = 17,       /* peer sent data over transport: len bytes in the buffer, and left more to read */
+    YARROWDOOR_PEER_DATA_RANGE = 34, /* peer sent data over transport: len of the bytes passed in, from start on */
+    YARROWDOOR_PEER_ICMP = 18, /* an ICMP packet came for data to peer: transport, icmp_type, icmp_code, icmp_data */
+
+    /* of yarrowdoor_read */
+    YARROWDOOR_BYTES = 19, /* len bytes in the buffer, and left more to read */
+
+    /* of the calls that only look */
+    YARROWDOOR_ADDRESS = 20, /* peer is the address at this index; transport, where it is a relayed one */
+    YARROWDOOR_YES = 21,
+    YARROWDOOR_NO = 22,
+
+    /* of yarrowdoor_poll_event */
+    YARROWDOOR_ALLOCATION_CREATED = 23,       /* the server relays peer for the client, over transport */
+    YARROWDOOR_ALLOCATION_CREATE_FAILED = 24, /* the server relays no address of family */
+    YARROWDOOR_PERMISSION_CREATED = 25,       /* the IP address of peer has a permission, over transport */
+    YARROWDOOR_PERMISSION_CREATE_FAILED = 26, /* the IP address of peer got no permission, or has it no longer */
+    YARROWDOOR_CHANNEL_CREATED = 27,          /* peer has a channel, over transport */
+    YARROWDOOR_CHANNEL_CREATE_FAILED = 28,    /* peer got no channel, or has it no longer */
+    YARROWDOOR_TCP_CONNECTED = 29,            /* there is a data connection to peer */
+    YARROWDOOR_TCP_CONNECT_FAILED = 30,       /* there is no data connection to peer */
+
+    /* of yarrowdoor_new, beside 0 and YARROWDOOR_OUT_OF_MEMORY */
+    YARROWDOOR_BAD_SETTINGS = 31,    /* a number or an address is none, or it is UDP with an allocation over TCP */
+    YARROWDOOR_BAD_CREDENTIALS = 32, /* the user name has not 1 to 508 bytes, or the password over 65,535 */
+    YARROWDOOR_BAD_SEED = 33         /* the seed has not 32 bytes */
+};
+
+/* Why a client refuses a call, as the error of YARROWDOOR_REFUSED. The client is as it was, unless the call says
+   otherwise. */
+enum yarrowdoor_error {
+    YARROWDOOR_ERROR_ALREADY_EXISTS = 1, /* it is active, or requested already */
+    YARROWDOOR_ERROR_NO_ALLOCATION = 2,  /* there is no allocation for it */
+    YARROWDOOR_ERROR_NO_PERMISSION = 3,  /* the peer has no permission */
+    YARROWDOOR_ERROR_NO_SOCKET = 4,      /* no data connection to the peer is bound */
+    YARROWDOOR_ERROR_EXPIRED = 5         /* the peer had a channel, and may have another only after time */
+};
+
+/* ---- structs */
+
+/* An IP address with a port, or none. */
+typedef struct yarrowdoor_address {
+    uint8_t ip[16];   /* first byte first; IPv4 uses the first four, and the others are 0 */
+    uint32_t flow;    /* sin6_flowinfo of an IPv6 address, else 0 */
+    uint32_t scope;   /* sin6_scope_id of an IPv6 address, else 0 */
+    uint16_t port;    /* in the byte order of the host */
+    uint8_t family;   /* YARROWDOOR_IPV4, YARROWDOOR_IPV6, or YARROWDOOR_NO_ADDRESS */
+    uint8_t reserved; /* 0 */
+} yarrowdoor_address;
+
+/* What a new client is and does. yarrowdoor_settings_of gives the usual ones. */
+typedef struct yarrowdoor_settings {
+    uint64_t wait_initial; /* from the first transmission of a request to the second, in nanoseconds; then doubled */
+    uint64_t wait_max;     /* the longest wait between two transmissions, in nanoseconds */
+    uint64_t wait_last;    /* the wait after the last transmission, in nanoseconds */
+    uint32_t wait_count;   /* how often a request is transmitted in all */
+    uint32_t has_waits;    /* 0: the waits of RFC 8489, section 6.2.1, and the four above are not read */
+    uint32_t transport;    /* between client and server */
+    uint32_t allocation_transport; /* between server and peers; over TCP only where transport is TCP (RFC 6062) */
+    uint32_t family;               /* of the relayed address: YARROWDOOR_IPV4 or YARROWDOOR_IPV6 */
+    uint32_t other_family;         /* of a second relayed address, or 0 */
+    uint32_t algorithm;            /* that the client prefers */
+    uint32_t other_algorithm;      /* that it accepts too, or 0 */
+    uint32_t anonymous;            /* YARROWDOOR_AUTO, YARROWDOOR_REQUIRED or YARROWDOOR_DISABLED */
+    uint32_t reserved;             /* 0 */
+    yarrowdoor_address local;      /* the client's address: that of the socket */
+    yarrowdoor_address remote;     /* the server's address */
+} yarrowdoor_settings;
+
+/* A call: the functions below fill it in. */
+typedef struct yarrowdoor_request {
+    uint64_t time;
+    uint32_t kind;
+    uint32_t id;
+    uint32_t transport;
+    uint32_t reserved;
+    yarrowdoor_address from;
+    yarrowdoor_address to;
+    yarrowdoor_address peer;
+    yarrowdoor_address local;
+} yarrowdoor_request;
+
+/* What a call answers: enum yarrowdoor_kind says which fields each kind uses. The others are 0. */
+typedef struct yarrowdoor_answer {
+    uint32_t kind;      /* of enum yarrowdoor_kind */
+    uint32_t error;     /* of enum yarrowdoor_error */
+    uint64_t time;      /* in nanoseconds */
+    size_t len;         /* bytes in the buffer from its front on, or of those passed in */
+    size_t start;       /* where the data begins in the bytes passed in */
+    size_t left;        /* bytes that did not fit into the buffer: yarrowdoor_read reads them */
+    uint32_t id;        /* of a connection */
+    uint32_t transport; /* of enum yarrowdoor_transport */
+    uint32_t family;    /* of enum yarrowdoor_family */
+    uint32_t icmp_data; /* RFC 8656, section 18.13 */
+    uint8_t icmp_type;
+    uint8_t icmp_code;
+    uint16_t reserved;
+    yarrowdoor_address from;
+    yarrowdoor_address to;
+    yarrowdoor_address peer;
+} yarrowdoor_answer;
+
+/* ---- what the library exports */
+
+/* Makes a client: 0, and the client at *place. Else *place is as it was, and the number is the first of
+   YARROWDOOR_BAD_SETTINGS, YARROWDOOR_BAD_CREDENTIALS and YARROWDOOR_BAD_SEED that holds, or
+   YARROWDOOR_OUT_OF_MEMORY. The client sends nothing until it is polled.
+
+   User name and password are bytes; typed text has to be prepared before (RFC 8489, section 14.3). Transaction IDs are
+   drawn from the seed: 32 bytes that nobody else knows, new for each client. A getrandom(2) gives them. */
+uint32_t yarrowdoor_new(const yarrowdoor_settings *settings, const uint8_t *user, size_t user_len,
+                        const uint8_t *password, size_t password_len, const uint8_t *seed, size_t seed_len,
+                        yarrowdoor **place);
+
+/* Makes a call. Use the functions below, which fill in the request, and set the answer to 0 before: the fields that an
+   answer does not use stay as they were. */
+uint32_t yarrowdoor_call(yarrowdoor *client, const yarrowdoor_request *request, const uint8_t *bytes, size_t bytes_len,
+                         uint8_t *buffer, size_t buffer_len, yarrowdoor_answer *answer);
+
+/* Frees a client. It sends nothing: yarrowdoor_delete gives the allocations back to the server before. */
+void yarrowdoor_free(yarrowdoor *client);
+
+#ifdef __cplusplus
+}
+#endif
+
+/* ---- the layout, as the library has it */
+
+#if defined(__cplusplus) && __cplusplus >= 201103L
+#define YARROWDOOR_ASSERT(name, holds) static_assert(holds, #name)
+#elif defined(__STDC_VERSION__) && __STDC_VERSION__ >= 201112L
+#define YARROWDOOR_ASSERT(name, holds) _Static_assert(holds, #name)
+#else
+#define YARROWDOOR_ASSERT(name, holds) typedef char yarrowdoor_assert_##name[(holds) ? 1 : -1]
+#endif
+#define YARROWDOOR_AT(type, field, place)                                                                              \
+    YARROWDOOR_ASSERT(type##_##field, offsetof(yarrowdoor_##type, field) == (place))
+
+YARROWDOOR_ASSERT(size_is_64_bits, sizeof(size_t) == 8);
+YARROWDOOR_ASSERT(size_of_address, sizeof(yarrowdoor_address) == 28);
+YARROWDOOR_ASSERT(size_of_settings, sizeof(yarrowdoor_settings) == 120);
+YARROWDOOR_ASSERT(size_of_request, sizeof(yarrowdoor_request) == 136);
+YARROWDOOR_ASSERT(size_of_answer, sizeof(yarrowdoor_answer) == 144);
+YARROWDOOR_AT(address, ip, 0);
+YARROWDOOR_AT(address, flow, 16);
+YARROWDOOR_AT(address, scope, 20);
+YARROWDOOR_AT(address, port, 24);
+YARROWDOOR_AT(address, family, 26);
+YARROWDOOR_AT(address, reserved, 27);
+YARROWDOOR_AT(settings, wait_initial, 0);
+YARROWDOOR_AT(settings, wait_max, 8);
+YARROWDOOR_AT(settings, wait_last, 16);
+YARROWDOOR_AT(settings, wait_count, 24);
+YARROWDOOR_AT(settings, has_waits, 28);
+YARROWDOOR_AT(settings, transport, 32);
+YARROWDOOR_AT(settings, allocation_transport, 36);
+YARROWDOOR_AT(settings, family, 40);
+YARROWDOOR_AT(settings, other_family, 44);
+YARROWDOOR_AT(settings, algorithm, 48);
+YARROWDOOR_AT(settings, other_algorithm, 52);
+YARROWDOOR_AT(settings, anonymous, 56);
+YARROWDOOR_AT(settings, reserved, 60);
+YARROWDOOR_AT(settings, local, 64);
+YARROWDOOR_AT(settings, remote, 92);
+YARROWDOOR_AT(request, time, 0);
+YARROWDOOR_AT(request, kind, 8);
+YARROWDOOR_AT(request, id, 12);
+YARROWDOOR_AT(request, transport, 16);
+YARROWDOOR_AT(request, reserved, 20);
+YARROWDOOR_AT(request, from, 24);
+YARROWDOOR_AT(request, to, 52);
+YARROWDOOR_AT(request, peer, 80);
+YARROWDOOR_AT(request, local, 108);
+YARROWDOOR_AT(answer, kind, 0);
+YARROWDOOR_AT(answer, error, 4);
+YARROWDOOR_AT(answer, time, 8);
+YARROWDOOR_AT(answer, len, 16);
+YARROWDOOR_AT(answer, start, 24);
+YARROWDOOR_AT(answer, left, 32);
+YARROWDOOR_AT(answer, id, 40);
+YARROWDOOR_AT(answer, transport, 44);
+YARROWDOOR_AT(answer, family, 48);
+YARROWDOOR_AT(answer, icmp_data, 52);
+YARROWDOOR_AT(answer, icmp_type, 56);
+YARROWDOOR_AT(answer, icmp_code, 57);
+YARROWDOOR_AT(answer, reserved, 58);
+YARROWDOOR_AT(answer, from, 60);
+YARROWDOOR_AT(answer, to, 88);
+YARROWDOOR_AT(answer, peer, 116);
+
+/* ---- calls
+
+   Each may answer YARROWDOOR_BAD_TIME where it takes a time, YARROWDOOR_BAD_CALL where it takes a transport or an
+   address, and YARROWDOOR_OUT_OF_MEMORY unless it says that it takes no memory. That is not repeated below. */
+
+/* The kinds of requests. */
+enum yarrowdoor_request_kind {
+    YARROWDOOR_CALL_DELETE = 1,
+    YARROWDOOR_CALL_CREATE_PERMISSION = 2,
+    YARROWDOOR_CALL_BIND_CHANNEL = 3,
+    YARROWDOOR_CALL_TCP_CONNECT = 4,
+    YARROWDOOR_CALL_ALLOCATED_TCP_SOCKET = 5,
+    YARROWDOOR_CALL_TCP_CLOSED = 6,
+    YARROWDOOR_CALL_SEND_TO = 7,
+    YARROWDOOR_CALL_RECV = 8,
+    YARROWDOOR_CALL_POLL_RECV = 9,
+    YARROWDOOR_CALL_POLL = 10,
+    YARROWDOOR_CALL_POLL_TRANSMIT = 11,
+    YARROWDOOR_CALL_POLL_EVENT = 12,
+    YARROWDOOR_CALL_PROTOCOL_ERROR = 13,
+    YARROWDOOR_CALL_RELAYED_ADDRESSES = 14,
+    YARROWDOOR_CALL_PERMISSIONS = 15,
+    YARROWDOOR_CALL_HAVE_PERMISSION = 16,
+    YARROWDOOR_CALL_READ = 17
+};
+
+/* A request of this kind at this time, all else 0. */
+static inline yarrowdoor_request yarrowdoor_request_of(uint32_t kind, uint64_t now)
+{
+    yarrowdoor_request request;
+    memset(&request, 0, sizeof request);
+    request.kind = kind;
+    request.time = now;
+    return request;
+}
+
+/* Makes a call that neither takes nor gives bytes. */
+static inline uint32_t yarrowdoor_call_plain(yarrowdoor *client, const yarrowdoor_request *request,
+                                             yarrowdoor_answer *answer)
+{
+    uint8_t bytes = 0, buffer = 0;
+    memset(answer, 0, sizeof *answer);
+    return yarrowdoor_call(client, request, &bytes, 0, &buffer, 0, answer);
+}
+
+/* Makes a call with bytes and a buffer, each of which may be null where its length is 0. */
+static inline uint32_t yarrowdoor_call_bytes(yarrowdoor *client, const yarrowdoor_request *request,
+                                             const uint8_t *bytes, size_t bytes_len, uint8_t *buffer, size_t buffer_len,
+                                             yarrowdoor_answer *answer)
+{
+    uint8_t no_bytes = 0, no_buffer = 0;
+    memset(answer, 0, sizeof *answer);
+    return yarrowdoor_call(client, request, bytes_len ? bytes : &no_bytes, bytes_len, buffer_len ? buffer : &no_buffer,
+                           buffer_len, answer);
+}
+
+/* The usual settings: an IPv4 address relayed over UDP, SHA-1, and the waits of the RFC. */
+static inline yarrowdoor_settings yarrowdoor_settings_of(uint32_t transport, const yarrowdoor_address *local,
+                                                         const yarrowdoor_address *remote)
+{
+    yarrowdoor_settings settings;
+    memset(&settings, 0, sizeof settings);
+    settings.transport = transport;
+    settings.allocation_transport = YARROWDOOR_UDP;
+    settings.family = YARROWDOOR_IPV4;
+    settings.algorithm = YARROWDOOR_SHA1;
+    settings.anonymous = YARROWDOOR_AUTO;
+    settings.local = *local;
+    settings.remote = *remote;
+    return settings;
+}
+
+/* What is to be done next. YARROWDOOR_WAIT_UNTIL: nothing before answer->time, when to poll again; any other call
+   may make it earlier, so poll after it. YARROWDOOR_ALLOCATE_TCP_SOCKET: open a connection from any port of this
+   host to answer->to over answer->transport, and pass it to yarrowdoor_allocated_tcp_socket with the id and the
+   addresses of the answer. YARROWDOOR_TCP_CLOSE: close the connection from answer->from to answer->to.
+   YARROWDOOR_CLOSED: the client has ended. */
+static inline uint32_t yarrowdoor_poll(yarrowdoor *client, uint64_t now, yarrowdoor_answer *answer)
+{
+    yarrowdoor_request request = yarrowdoor_request_of(YARROWDOOR_CALL_POLL, now);
+    return yarrowdoor_call_plain(client, &request, answer);
+}
+
+/* The next packet that is due. YARROWDOOR_PACKET: send the answer->len bytes in the buffer. YARROWDOOR_NOTHING: none
+   is due. YARROWDOOR_UNREAD_BYTES: read the rest of an earlier answer first. YARROWDOOR_SMALL_BUFFER: the buffer has
+   under YARROWDOOR_MAX_PACKET bytes, which every packet fits into. */
+static inline uint32_t yarrowdoor_poll_transmit(yarrowdoor *client, uint64_t now, uint8_t *buffer, size_t buffer_len,
+                                                yarrowdoor_answer *answer)
+{
+    yarrowdoor_request request = yarrowdoor_request_of(YARROWDOOR_CALL_POLL_TRANSMIT, now);
+    return yarrowdoor_call_bytes(client, &request, NULL, 0, buffer, buffer_len, answer);
+}
+
+/* The next event: YARROWDOOR_ALLOCATION_CREATED and those behind it, or YARROWDOOR_NOTHING. It takes no memory. */
+static inline uint32_t yarrowdoor_poll_event(yarrowdoor *client, yarrowdoor_answer *answer)
+{
+    yarrowdoor_request request = yarrowdoor_request_of(YARROWDOOR_CALL_POLL_EVENT, 0);
+    return yarrowdoor_call_plain(client, &request, answer);
+}
+
+/* Passes in bytes that were received over `transport`, from the server at `from`, by the client's socket at `to`:
+   one datagram, or what one read of a stream gave, or nothing where the stream has ended. YARROWDOOR_HANDLED,
+   YARROWDOOR_IGNORED, YARROWDOOR_PEER_ICMP. YARROWDOOR_PEER_DATA_RANGE: data of answer->peer, the answer->len bytes
+   at bytes + answer->start. YARROWDOOR_PEER_DATA: data of answer->peer that came in pieces, answer->len bytes in the
+   buffer and answer->left more, for yarrowdoor_read. YARROWDOOR_UNREAD_BYTES: read the rest of an earlier answer
+   first. YARROWDOOR_OUT_OF_MEMORY: the client has ended, and a stream gives nothing more; bytes that are not from the
+   server, and data of peers over UDP, take no memory. Data that does not fit into the buffer takes none either, so
+   none of it is lost. Over TCP call yarrowdoor_poll_recv afterwards. */
+static inline uint32_t yarrowdoor_recv(yarrowdoor *client, uint32_t transport, const yarrowdoor_address *from,
+                                       const yarrowdoor_address *to, const uint8_t *bytes, size_t bytes_len,
+                                       uint64_t now, uint8_t *buffer, size_t buffer_len, yarrowdoor_answer *answer)
+{
+    yarrowdoor_request request = yarrowdoor_request_of(YARROWDOOR_CALL_RECV, now);
+    request.transport = transport;
+    request.from = *from;
+    request.to = *to;
+    return yarrowdoor_call_bytes(client, &request, bytes, bytes_len, buffer, buffer_len, answer);
+}
+
+/* The next data of peers in the streams that were passed in: call it after yarrowdoor_recv over TCP, until it
+   answers YARROWDOOR_NOTHING. YARROWDOOR_PEER_DATA: answer->len bytes in the buffer and answer->left more, for
+   yarrowdoor_read. YARROWDOOR_UNREAD_BYTES: read the rest of an earlier answer first. YARROWDOOR_OUT_OF_MEMORY: as
+   for yarrowdoor_recv. Where no stream holds anything it takes no memory. */
+static inline uint32_t yarrowdoor_poll_recv(yarrowdoor *client, uint64_t now, uint8_t *buffer, size_t buffer_len,
+                                            yarrowdoor_answer *answer)
+{
+    yarrowdoor_request request = yarrowdoor_request_of(YARROWDOOR_CALL_POLL_RECV, now);
+    return yarrowdoor_call_bytes(client, &request, NULL, 0, buffer, buffer_len, answer);
+}
+
+/* The next bytes of an answer whose answer->left was not 0. YARROWDOOR_BYTES: answer->len bytes in the buffer, and
+   answer->left more. Until none is left, yarrowdoor_recv, yarrowdoor_poll_recv and yarrowdoor_poll_transmit answer
+   YARROWDOOR_UNREAD_BYTES and do nothing. It takes no memory. */
+static inline uint32_t yarrowdoor_read(yarrowdoor *client, uint8_t *buffer, size_t buffer_len,
+                                       yarrowdoor_answer *answer)
+{
+    yarrowdoor_request request = yarrowdoor_request_of(YARROWDOOR_CALL_READ, 0);
+    return yarrowdoor_call_bytes(client, &request, NULL, 0, buffer, buffer_len, answer);
+}
+
+/* Makes the packet that carries data to `peer`, which needs a permission, over `transport`, that of the allocation.
+   YARROWDOOR_PACKET: send the answer->len bytes in the buffer. YARROWDOOR_REFUSED: YARROWDOOR_ERROR_NO_PERMISSION,
+   or over TCP YARROWDOOR_ERROR_NO_SOCKET. YARROWDOOR_BAD_PAYLOAD: over YARROWDOOR_MAX_PAYLOAD bytes, and the
+   allocation relays over UDP. YARROWDOOR_SMALL_BUFFER: the buffer has under data_len + YARROWDOOR_MAX_OVERHEAD
+   bytes. It takes no memory. */
+static inline uint32_t yarrowdoor_send_to(yarrowdoor *client, uint32_t transport, const yarrowdoor_address *peer,
+                                          const uint8_t *data, size_t data_len, uint64_t now, uint8_t *buffer,
+                                          size_t buffer_len, yarrowdoor_answer *answer)
+{
+    yarrowdoor_request request = yarrowdoor_request_of(YARROWDOOR_CALL_SEND_TO, now);
+    request.transport = transport;
+    request.peer = *peer;
+    return yarrowdoor_call_bytes(client, &request, data, data_len, buffer, buffer_len, answer);
+}
+
+/* Requests a permission for the IP address of `peer`, whatever its port (RFC 8656, section 9): data may be sent to
+   it and received from it. YARROWDOOR_DONE: an event reports what the server says, YARROWDOOR_PERMISSION_CREATED or
+   YARROWDOOR_PERMISSION_CREATE_FAILED. YARROWDOOR_REFUSED: YARROWDOOR_ERROR_NO_ALLOCATION, or
+   YARROWDOOR_ERROR_ALREADY_EXISTS. */
+static inline uint32_t yarrowdoor_create_permission(yarrowdoor *client, uint32_t transport,
+                                                    const yarrowdoor_address *peer, uint64_t now,
+                                                    yarrowdoor_answer *answer)
+{
+    yarrowdoor_request request = yarrowdoor_request_of(YARROWDOOR_CALL_CREATE_PERMISSION, now);
+    request.transport = transport;
+    request.peer = *peer;
+    return yarrowdoor_call_plain(client, &request, answer);
+}
+
+/* Whether the IP address of `peer` has an active permission: YARROWDOOR_YES or YARROWDOOR_NO. It takes no memory. */
+static inline uint32_t yarrowdoor_have_permission(yarrowdoor *client, uint32_t transport,
+                                                  const yarrowdoor_address *peer, yarrowdoor_answer *answer)
+{
+    yarrowdoor_request request = yarrowdoor_request_of(YARROWDOOR_CALL_HAVE_PERMISSION, 0);
+    request.transport = transport;
+    request.peer = *peer;
+    return yarrowdoor_call_plain(client, &request, answer);
+}
+
+/* Requests a channel to `peer`, and with it a permission (RFC 8656, section 12): its data then has four bytes of
+   header, and not 36 or 48. YARROWDOOR_DONE: an event reports what the server says, YARROWDOOR_CHANNEL_CREATED or
+   YARROWDOOR_CHANNEL_CREATE_FAILED. YARROWDOOR_REFUSED: YARROWDOOR_ERROR_NO_ALLOCATION;
+   YARROWDOOR_ERROR_ALREADY_EXISTS, also where all 4,096 numbers are taken; YARROWDOOR_ERROR_EXPIRED, up to
+   answer->time. */
+static inline uint32_t yarrowdoor_bind_channel(yarrowdoor *client, uint32_t transport, const yarrowdoor_address *peer,
+                                               uint64_t now, yarrowdoor_answer *answer)
+{
+    yarrowdoor_request request = yarrowdoor_request_of(YARROWDOOR_CALL_BIND_CHANNEL, now);
+    request.transport = transport;
+    request.peer = *peer;
+    return yarrowdoor_call_plain(client, &request, answer);
+}
+
+/* Requests that the server connect to `peer`, which needs a permission, from an allocation over TCP (RFC 6062,
+   section 4.3). YARROWDOOR_DONE: yarrowdoor_poll answers YARROWDOOR_ALLOCATE_TCP_SOCKET, or an event
+   YARROWDOOR_TCP_CONNECT_FAILED. YARROWDOOR_REFUSED: YARROWDOOR_ERROR_NO_ALLOCATION, YARROWDOOR_ERROR_NO_PERMISSION
+   or YARROWDOOR_ERROR_ALREADY_EXISTS. */
+static inline uint32_t yarrowdoor_tcp_connect(yarrowdoor *client, const yarrowdoor_address *peer, uint64_t now,
+                                              yarrowdoor_answer *answer)
+{
+    yarrowdoor_request request = yarrowdoor_request_of(YARROWDOOR_CALL_TCP_CONNECT, now);
+    request.peer = *peer;
+    return yarrowdoor_call_plain(client, &request, answer);
+}
+
+/* Passes in the data connection that YARROWDOOR_ALLOCATE_TCP_SOCKET asked for: its id, transport, from, to and peer,
+   and `local`, the address of the new socket, or null where no connection could be opened. YARROWDOOR_DONE: an event
+   reports YARROWDOOR_TCP_CONNECTED or YARROWDOOR_TCP_CONNECT_FAILED. YARROWDOOR_REFUSED:
+   YARROWDOOR_ERROR_NO_ALLOCATION where no such connection is offered, or YARROWDOOR_ERROR_ALREADY_EXISTS where
+   another has this local address. */
+static inline uint32_t yarrowdoor_allocated_tcp_socket(yarrowdoor *client, uint32_t id, uint32_t transport,
+                                                       const yarrowdoor_address *from, const yarrowdoor_address *to,
+                                                       const yarrowdoor_address *peer, const yarrowdoor_address *local,
+                                                       uint64_t now, yarrowdoor_answer *answer)
+{
+    yarrowdoor_request request = yarrowdoor_request_of(YARROWDOOR_CALL_ALLOCATED_TCP_SOCKET, now);
+    request.id = id;
+    request.transport = transport;
+    request.from = *from;
+    request.to = *to;
+    request.peer = *peer;
+    if (local) {
+        request.local = *local;
+    }
+    return yarrowdoor_call_plain(client, &request, answer);
+}
+
+/* Reports that the connection from `local` to `remote` was closed, or broke: YARROWDOOR_DONE. */
+static inline uint32_t yarrowdoor_tcp_closed(yarrowdoor *client, const yarrowdoor_address *local,
+                                             const yarrowdoor_address *remote, uint64_t now, yarrowdoor_answer *answer)
+{
+    yarrowdoor_request request = yarrowdoor_request_of(YARROWDOOR_CALL_TCP_CLOSED, now);
+    request.from = *local;
+    request.to = *remote;
+    return yarrowdoor_call_plain(client, &request, answer);
+}
+
+/* Requests that the server delete the allocations (RFC 8656, section 8). YARROWDOOR_DONE: poll and transmit until
+   YARROWDOOR_CLOSED. YARROWDOOR_REFUSED: YARROWDOOR_ERROR_NO_ALLOCATION. */
+static inline uint32_t yarrowdoor_delete(yarrowdoor *client, uint64_t now, yarrowdoor_answer *answer)
+{
+    yarrowdoor_request request = yarrowdoor_request_of(YARROWDOOR_CALL_DELETE, now);
+    return yarrowdoor_call_plain(client, &request, answer);
+}
+
+/* Reports an error of a layer between client and server, as TLS, after which nothing can be sent: YARROWDOOR_DONE.
+   The client has ended then. */
+static inline uint32_t yarrowdoor_protocol_error(yarrowdoor *client, yarrowdoor_answer *answer)
+{
+    yarrowdoor_request request = yarrowdoor_request_of(YARROWDOOR_CALL_PROTOCOL_ERROR, 0);
+    return yarrowdoor_call_plain(client, &request, answer);
+}
+
+/* The relayed address at `index`, from 0. YARROWDOOR_ADDRESS: answer->peer over answer->transport.
+   YARROWDOOR_NOTHING: there are no more. It takes no memory. */
+static inline uint32_t yarrowdoor_relayed_address(yarrowdoor *client, uint32_t index, yarrowdoor_answer *answer)
+{
+    yarrowdoor_request request = yarrowdoor_request_of(YARROWDOOR_CALL_RELAYED_ADDRESSES, 0);
+    request.id = index;
+    return yarrowdoor_call_plain(client, &request, answer);
+}
+
+/* The IP address at `index`, from 0, of those that have an active permission in the allocation whose relayed address
+   is `relayed`, over `transport`. YARROWDOOR_ADDRESS: answer->peer, whose port is 0. YARROWDOOR_NOTHING: there are
+   no more. It takes no memory. */
+static inline uint32_t yarrowdoor_permission(yarrowdoor *client, uint32_t transport, const yarrowdoor_address *relayed,
+                                             uint32_t index, yarrowdoor_answer *answer)
+{
+    yarrowdoor_request request = yarrowdoor_request_of(YARROWDOOR_CALL_PERMISSIONS, 0);
+    request.transport = transport;
+    request.from = *relayed;
+    request.id = index;
+    return yarrowdoor_call_plain(client, &request, answer);
+}
+
+/* ---- addresses */
+
+/* The IPv4 address a.b.c.d with this port. */
+static inline yarrowdoor_address yarrowdoor_ipv4(uint8_t a, uint8_t b, uint8_t c, uint8_t d, uint16_t port)
+{
+    yarrowdoor_address address;
+    memset(&address, 0, sizeof address);
+    address.ip[0] = a;
+    address.ip[1] = b;
+    address.ip[2] = c;
+    address.ip[3] = d;
+    address.port = port;
+    address.family = YARROWDOOR_IPV4;
+    return address;
+}
+
+/* Whether two addresses are the same, with port, flow and scope. */
+static inline int yarrowdoor_is_same_address(const yarrowdoor_address *a, const yarrowdoor_address *b)
+{
+    return a->family == b->family && a->port == b->port && a->flow == b->flow && a->scope == b->scope &&
+           memcmp(a->ip, b->ip, sizeof a->ip) == 0;
+}
+
+#if defined(__unix__) || defined(__APPLE__)
+#include <netinet/in.h>
+#include <sys/socket.h>
+
+/* The address of a sockaddr_in or a sockaddr_in6. One of another family gives YARROWDOOR_NO_ADDRESS. */
+static inline yarrowdoor_address yarrowdoor_of_sockaddr(const struct sockaddr *from)
+{
+    yarrowdoor_address address;
+    uint8_t port[2];
+    memset(&address, 0, sizeof address);
+    if (from->sa_family == AF_INET) {
+        struct sockaddr_in in;
+        memcpy(&in, from, sizeof in);
+        memcpy(address.ip, &in.sin_addr, 4);
+        memcpy(port, &in.sin_port, 2);
+        address.family = YARROWDOOR_IPV4;
+    } else if (from->sa_family == AF_INET6) {
+        struct sockaddr_in6 in;
+        memcpy(&in, from, sizeof in);
+        memcpy(address.ip, &in.sin6_addr, 16);
+        memcpy(port, &in.sin6_port, 2);
+        address.flow = in.sin6_flowinfo;
+        address.scope = in.sin6_scope_id;
+        address.family = YARROWDOOR_IPV6;
+    } else {
+        return address;
+    }
+    address.port = (uint16_t)(port[0] << 8 | port[1]);
+    return address;
+}
+
+/* Writes the address as a sockaddr_in or a sockaddr_in6, and returns its length, or 0 where it is no address. */
+static inline socklen_t yarrowdoor_to_sockaddr(const yarrowdoor_address *address, struct sockaddr_storage *to)
+{
+    uint8_t port[2];
+    port[0] = (uint8_t)(address->port >> 8);
+    port[1] = (uint8_t)(address->port & 0xff);
+    memset(to, 0, sizeof *to);
+    if (address->family == YARROWDOOR_IPV4) {
+        struct sockaddr_in in;
+        memset(&in, 0, sizeof in);
+        in.sin_family = AF_INET;
+        memcpy(&in.sin_addr, address->ip, 4);
+        memcpy(&in.sin_port, port, 2);
+        memcpy(to, &in, sizeof in);
+        return (socklen_t)sizeof in;
+    }
+    if (address->family == YARROWDOOR_IPV6) {
+        struct sockaddr_in6 in;
+        memset(&in, 0, sizeof in);
+        in.sin6_family = AF_INET6;
+        memcpy(&in.sin6_addr, address->ip, 16);
+        memcpy(&in.sin6_port, port, 2);
+        in.sin6_flowinfo = address->flow;
+        in.sin6_scope_id = address->scope;
+        memcpy(to, &in, sizeof in);
+        return (socklen_t)sizeof in;
+    }
+    return 0;
+}
+#endif
+
+#endif
