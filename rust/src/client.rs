@@ -1,0 +1,216 @@
+//! Either client as one type, and the macro for further such types.
+
+pub use crate::api::{
+    BindChannelError, CreatePermissionError, DeleteError, SendError, TcpAllocateError, TurnEvent,
+    TurnPollRet, TurnRecvRet,
+};
+use crate::tcp::TurnClientTcp;
+use crate::udp::TurnClientUdp;
+
+/// Implements [`TurnClientApi`](crate::api::TurnClientApi) for a type, by the same calls of other values: `$call` is the
+/// macro that makes them, and `$each` says of which.
+#[doc(hidden)]
+#[macro_export]
+macro_rules! __delegate {
+    ($name:ty, $self:ident, $call:ident => $each:tt) => {
+        impl $crate::api::TurnClientApi for $name {
+            fn transport(&$self) -> $crate::types::TransportType {
+                $crate::$call!($each, $self, transport())
+            }
+
+            fn local_addr(&$self) -> ::core::net::SocketAddr {
+                $crate::$call!($each, $self, local_addr())
+            }
+
+            fn remote_addr(&$self) -> ::core::net::SocketAddr {
+                $crate::$call!($each, $self, remote_addr())
+            }
+
+            fn relayed_addresses(
+                &$self,
+            ) -> impl Iterator<Item = ($crate::types::TransportType, ::core::net::SocketAddr)> + '_ {
+                $crate::$call!(@iterator $each, $self, relayed_addresses())
+            }
+
+            fn permissions(
+                &$self,
+                transport: $crate::types::TransportType,
+                relayed: ::core::net::SocketAddr,
+            ) -> impl Iterator<Item = ::core::net::IpAddr> + '_ {
+                $crate::$call!(@iterator $each, $self, permissions(transport, relayed))
+            }
+
+            fn delete(&mut $self, now: $crate::types::Instant) -> Result<(), $crate::api::DeleteError> {
+                $crate::$call!($each, $self, delete(now))
+            }
+
+            fn create_permission(
+                &mut $self,
+                transport: $crate::types::TransportType,
+                peer_addr: ::core::net::IpAddr,
+                now: $crate::types::Instant,
+            ) -> Result<(), $crate::api::CreatePermissionError> {
+                $crate::$call!($each, $self, create_permission(transport, peer_addr, now))
+            }
+
+            fn have_permission(
+                &$self,
+                transport: $crate::types::TransportType,
+                to: ::core::net::IpAddr,
+            ) -> bool {
+                $crate::$call!($each, $self, have_permission(transport, to))
+            }
+
+            fn bind_channel(
+                &mut $self,
+                transport: $crate::types::TransportType,
+                peer_addr: ::core::net::SocketAddr,
+                now: $crate::types::Instant,
+            ) -> Result<(), $crate::api::BindChannelError> {
+                $crate::$call!($each, $self, bind_channel(transport, peer_addr, now))
+            }
+
+            fn tcp_connect(
+                &mut $self,
+                peer_addr: ::core::net::SocketAddr,
+                now: $crate::types::Instant,
+            ) -> Result<(), $crate::api::TcpConnectError> {
+                $crate::$call!($each, $self, tcp_connect(peer_addr, now))
+            }
+
+            fn allocated_tcp_socket(
+                &mut $self,
+                id: u32,
+                five_tuple: $crate::api::Socket5Tuple,
+                peer_addr: ::core::net::SocketAddr,
+                local_addr: Option<::core::net::SocketAddr>,
+                now: $crate::types::Instant,
+            ) -> Result<(), $crate::api::TcpAllocateError> {
+                $crate::$call!(
+                    $each, $self, allocated_tcp_socket(id, five_tuple, peer_addr, local_addr, now)
+                )
+            }
+
+            fn tcp_closed(
+                &mut $self,
+                local_addr: ::core::net::SocketAddr,
+                remote_addr: ::core::net::SocketAddr,
+                now: $crate::types::Instant,
+            ) {
+                $crate::$call!($each, $self, tcp_closed(local_addr, remote_addr, now))
+            }
+
+            fn send_to<T: AsRef<[u8]> + ::core::fmt::Debug>(
+                &mut $self,
+                transport: $crate::types::TransportType,
+                to: ::core::net::SocketAddr,
+                data: T,
+                now: $crate::types::Instant,
+            ) -> Result<
+                Option<$crate::api::TransmitBuild<$crate::api::DelayedMessageOrChannelSend<T>>>,
+                $crate::api::SendError,
+            > {
+                $crate::$call!($each, $self, send_to(transport, to, data, now))
+            }
+
+            fn recv<T: AsRef<[u8]> + ::core::fmt::Debug>(
+                &mut $self,
+                transmit: $crate::api::Transmit<T>,
+                now: $crate::types::Instant,
+            ) -> $crate::api::TurnRecvRet<T> {
+                $crate::$call!($each, $self, recv(transmit, now))
+            }
+
+            fn poll_recv(
+                &mut $self,
+                now: $crate::types::Instant,
+            ) -> Option<$crate::api::TurnPeerData<Vec<u8>>> {
+                $crate::$call!($each, $self, poll_recv(now))
+            }
+
+            fn poll(&mut $self, now: $crate::types::Instant) -> $crate::api::TurnPollRet {
+                $crate::$call!($each, $self, poll(now))
+            }
+
+            fn poll_transmit(
+                &mut $self,
+                now: $crate::types::Instant,
+            ) -> Option<$crate::api::Transmit<$crate::api::Data<'static>>> {
+                $crate::$call!($each, $self, poll_transmit(now))
+            }
+
+            fn poll_event(&mut $self) -> Option<$crate::api::TurnEvent> {
+                $crate::$call!($each, $self, poll_event())
+            }
+
+            fn protocol_error(&mut $self) {
+                $crate::$call!($each, $self, protocol_error())
+            }
+        }
+    };
+}
+
+/// A call of the field of a struct.
+#[doc(hidden)]
+#[macro_export]
+macro_rules! __of_field {
+    (@iterator $field:tt, $self:ident, $call:ident $arguments:tt) => {
+        $crate::__of_field!($field, $self, $call $arguments)
+    };
+    (($field:ident), $self:ident, $call:ident $arguments:tt) => {
+        $self.$field.$call $arguments
+    };
+}
+
+/// A call of the value in a variant of an enum. At most one of the iterators is there.
+#[doc(hidden)]
+#[macro_export]
+macro_rules! __of_variant {
+    (@iterator ($($variant:ident),+), $self:ident, $call:ident $arguments:tt) => {
+        ::core::iter::empty()$(.chain(
+            if let Self::$variant(value) = $self { Some(value.$call $arguments) } else { None }
+                .into_iter()
+                .flatten(),
+        ))+
+    };
+    (($($variant:ident),+), $self:ident, $call:ident $arguments:tt) => {
+        match $self {
+            $(Self::$variant(value) => value.$call $arguments,)+
+        }
+    };
+}
+
+/// Declares an enum of clients, which is a client itself.
+///
+/// # Examples
+///
+/// ```
+/// use yarrowdoor::tcp::TurnClientTcp;
+/// use yarrowdoor::udp::TurnClientUdp;
+/// yarrowdoor::impl_client!(pub MyClient, (Udp, TurnClientUdp), (Tcp, TurnClientTcp));
+/// ```
+#[macro_export]
+macro_rules! impl_client {
+    ($vis:vis $name:ident, $(($variant:ident, $ty:ty)),+) => {
+        /// A TURN client.
+        #[derive(Debug)]
+        $vis enum $name {
+            $(
+                #[doc = concat!("A `", stringify!($ty), "`.")]
+                $variant($ty),
+            )+
+        }
+
+        $crate::__delegate!($name, self, __of_variant => ($($variant),+));
+
+        $(
+            impl From<$ty> for $name {
+                fn from(value: $ty) -> Self {
+                    Self::$variant(value)
+                }
+            }
+        )+
+    };
+}
+
+impl_client!(pub TurnClient, (Udp, TurnClientUdp), (Tcp, TurnClientTcp));

@@ -1,0 +1,55 @@
+//! A TURN client that does no I/O (RFC 8656, 6062 and 6156), for programs that sockets and clock belong to.
+//!
+//! This package gives the surface of the crate `turn-client-proto` 0.7.3, by its names, over the library for C that
+//! `tools/library` builds. The client in that library is proved; this package and its caller are not. It needs no other
+//! package.
+//!
+//! # Getting started
+//!
+//! A client over UDP is [`udp::TurnClientUdp`], and one over TCP [`tcp::TurnClientTcp`]; [`client::TurnClient`] is either
+//! of them. The trait of all clients is [`api::TurnClientApi`], whose documentation has a caller's loop.
+//!
+//! ```
+//! use yarrowdoor::api::TurnConfig;
+//! use yarrowdoor::types::TurnCredentials;
+//! use yarrowdoor::udp::TurnClientUdp;
+//!
+//! let turn_server_address = "127.0.0.1:3478".parse().unwrap();
+//! let local_address = "127.0.0.1:1000".parse().unwrap();
+//! let credentials = TurnCredentials::new("username", "password");
+//! let config = TurnConfig::new(credentials);
+//!
+//! let client = TurnClientUdp::allocate(local_address, turn_server_address, config);
+//! ```
+//!
+//! # Differences from the original crate
+//!
+//! - Times are from 0 to 2^62 ns, and each call panics at others. A user name has 1 to 508 bytes and a password at most
+//!   65,535, and [`types::TurnCredentials::new`] panics at others; `try_new` returns an error.
+//! - [`api::SendError`] has the variant `PayloadTooLong`: data of over 65,504 bytes fits into no datagram to the server.
+//! - A packet of `send_to` is built by the call: [`api::DelayedMessageOrChannelSend`] holds its bytes.
+//! - `allocate_with_seed` takes the seed of the transaction IDs; `allocate` draws one from the system.
+//! - Where memory allocation fails the process ends, as everywhere in Rust (`std::alloc::handle_alloc_error`).
+//! - A client is `Send`, by an argument that nothing proves (`handle.rs`), and not `Sync`:
+//!
+//! ```compile_fail,E0277
+//! fn share<T: Sync>() {}
+//! share::<yarrowdoor::udp::TurnClientUdp>();
+//! ```
+
+pub mod api;
+pub mod client;
+mod convert;
+mod handle;
+mod protocol;
+pub mod stun;
+mod sys;
+pub mod tcp;
+pub mod types;
+pub mod udp;
+
+/// The traits that a caller needs.
+pub mod prelude {
+    pub use crate::api::TurnClientApi;
+    pub use crate::types::prelude::DelayedTransmitBuild;
+}

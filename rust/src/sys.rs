@@ -1,0 +1,244 @@
+//! The library for C, as `include/yarrowdoor.h` declares it. A test compares the numbers and the layout with that file.
+
+use std::mem::{offset_of, size_of};
+
+/// Declares the numbers of the library, each by its name in the header without the prefix.
+macro_rules! numbers {
+    ($($(#[$doc:meta])* $name:ident: $of:ty = $value:expr;)+) => {
+        $($(#[$doc])* pub(crate) const $name: $of = $value;)+
+
+        #[cfg(test)]
+        const NUMBERS: &[(&str, u64)] = &[$((stringify!($name), $value as u64)),+];
+    };
+}
+
+numbers! {
+    UDP: u32 = 0;
+    TCP: u32 = 1;
+
+    NO_ADDRESS: u8 = 0;
+    IPV4: u8 = 4;
+    IPV6: u8 = 6;
+
+    SHA1: u32 = 1;
+    SHA256: u32 = 2;
+
+    AUTO: u32 = 0;
+    REQUIRED: u32 = 1;
+    DISABLED: u32 = 2;
+
+    /// The greatest length of a packet of `poll_transmit`, in bytes.
+    MAX_PACKET: usize = 65_556;
+    /// What the packet of `send_to` may have beyond its data, in bytes.
+    MAX_OVERHEAD: usize = 64;
+
+    CALL_DELETE: u32 = 1;
+    CALL_CREATE_PERMISSION: u32 = 2;
+    CALL_BIND_CHANNEL: u32 = 3;
+    CALL_TCP_CONNECT: u32 = 4;
+    CALL_ALLOCATED_TCP_SOCKET: u32 = 5;
+    CALL_TCP_CLOSED: u32 = 6;
+    CALL_SEND_TO: u32 = 7;
+    CALL_RECV: u32 = 8;
+    CALL_POLL_RECV: u32 = 9;
+    CALL_POLL: u32 = 10;
+    CALL_POLL_TRANSMIT: u32 = 11;
+    CALL_POLL_EVENT: u32 = 12;
+    CALL_PROTOCOL_ERROR: u32 = 13;
+    CALL_RELAYED_ADDRESSES: u32 = 14;
+    CALL_PERMISSIONS: u32 = 15;
+    CALL_HAVE_PERMISSION: u32 = 16;
+    CALL_READ: u32 = 17;
+
+    OUT_OF_MEMORY: u32 = 1;
+    BAD_TIME: u32 = 2;
+    BAD_PAYLOAD: u32 = 4;
+    REFUSED: u32 = 7;
+    DONE: u32 = 8;
+    NOTHING: u32 = 9;
+    WAIT_UNTIL: u32 = 10;
+    ALLOCATE_TCP_SOCKET: u32 = 11;
+    TCP_CLOSE: u32 = 12;
+    CLOSED: u32 = 13;
+    PACKET: u32 = 14;
+    HANDLED: u32 = 15;
+    IGNORED: u32 = 16;
+    PEER_DATA: u32 = 17;
+    PEER_DATA_RANGE: u32 = 34;
+    PEER_ICMP: u32 = 18;
+    BYTES: u32 = 19;
+    ADDRESS: u32 = 20;
+    YES: u32 = 21;
+    NO: u32 = 22;
+    ALLOCATION_CREATED: u32 = 23;
+    ALLOCATION_CREATE_FAILED: u32 = 24;
+    PERMISSION_CREATED: u32 = 25;
+    PERMISSION_CREATE_FAILED: u32 = 26;
+    CHANNEL_CREATED: u32 = 27;
+    CHANNEL_CREATE_FAILED: u32 = 28;
+    TCP_CONNECTED: u32 = 29;
+    TCP_CONNECT_FAILED: u32 = 30;
+
+    ERROR_ALREADY_EXISTS: u32 = 1;
+    ERROR_NO_ALLOCATION: u32 = 2;
+    ERROR_NO_PERMISSION: u32 = 3;
+    ERROR_NO_SOCKET: u32 = 4;
+    ERROR_EXPIRED: u32 = 5;
+}
+
+/// A client: nothing of it is known here.
+#[repr(C)]
+pub(crate) struct Client {
+    _opaque: [u8; 0],
+}
+
+#[derive(Clone, Copy, Default)]
+#[repr(C)]
+pub(crate) struct Address {
+    pub(crate) ip: [u8; 16],
+    pub(crate) flow: u32,
+    pub(crate) scope: u32,
+    pub(crate) port: u16,
+    pub(crate) family: u8,
+    pub(crate) reserved: u8,
+}
+
+#[derive(Clone, Copy, Default)]
+#[repr(C)]
+pub(crate) struct Settings {
+    pub(crate) wait_initial: u64,
+    pub(crate) wait_max: u64,
+    pub(crate) wait_last: u64,
+    pub(crate) wait_count: u32,
+    pub(crate) has_waits: u32,
+    pub(crate) transport: u32,
+    pub(crate) allocation_transport: u32,
+    pub(crate) family: u32,
+    pub(crate) other_family: u32,
+    pub(crate) algorithm: u32,
+    pub(crate) other_algorithm: u32,
+    pub(crate) anonymous: u32,
+    pub(crate) reserved: u32,
+    pub(crate) local: Address,
+    pub(crate) remote: Address,
+}
+
+#[derive(Clone, Copy, Default)]
+#[repr(C)]
+pub(crate) struct Request {
+    pub(crate) time: u64,
+    pub(crate) kind: u32,
+    pub(crate) id: u32,
+    pub(crate) transport: u32,
+    pub(crate) reserved: u32,
+    pub(crate) from: Address,
+    pub(crate) to: Address,
+    pub(crate) peer: Address,
+    pub(crate) local: Address,
+}
+
+#[derive(Clone, Copy, Default)]
+#[repr(C)]
+pub(crate) struct Answer {
+    pub(crate) kind: u32,
+    pub(crate) error: u32,
+    pub(crate) time: u64,
+    pub(crate) len: usize,
+    pub(crate) start: usize,
+    pub(crate) left: usize,
+    pub(crate) id: u32,
+    pub(crate) transport: u32,
+    pub(crate) family: u32,
+    pub(crate) icmp_data: u32,
+    pub(crate) icmp_type: u8,
+    pub(crate) icmp_code: u8,
+    pub(crate) reserved: u16,
+    pub(crate) from: Address,
+    pub(crate) to: Address,
+    pub(crate) peer: Address,
+}
+
+const _: () = {
+    assert!(size_of::<usize>() == 8);
+    assert!(
+        size_of::<Address>() == 28
+            && offset_of!(Address, port) == 24
+            && offset_of!(Address, family) == 26
+    );
+    assert!(
+        size_of::<Settings>() == 120
+            && offset_of!(Settings, transport) == 32
+            && offset_of!(Settings, local) == 64
+    );
+    assert!(
+        size_of::<Request>() == 136
+            && offset_of!(Request, from) == 24
+            && offset_of!(Request, local) == 108
+    );
+    assert!(
+        size_of::<Answer>() == 144 && offset_of!(Answer, len) == 16 && offset_of!(Answer, id) == 40
+    );
+    assert!(
+        offset_of!(Answer, icmp_type) == 56
+            && offset_of!(Answer, from) == 60
+            && offset_of!(Answer, peer) == 116
+    );
+};
+
+extern "C" {
+    pub(crate) fn yarrowdoor_new(
+        settings: *const Settings,
+        user: *const u8,
+        user_len: usize,
+        password: *const u8,
+        password_len: usize,
+        seed: *const u8,
+        seed_len: usize,
+        place: *mut *mut Client,
+    ) -> u32;
+
+    pub(crate) fn yarrowdoor_call(
+        client: *mut Client,
+        request: *const Request,
+        bytes: *const u8,
+        bytes_len: usize,
+        buffer: *mut u8,
+        buffer_len: usize,
+        answer: *mut Answer,
+    ) -> u32;
+
+    pub(crate) fn yarrowdoor_free(client: *mut Client);
+}
+
+#[cfg(test)]
+mod tests {
+    use super::NUMBERS;
+
+    const HEADER: &str = include_str!("../../include/yarrowdoor.h");
+
+    /// What the header says that this name is.
+    fn number_of(name: &str) -> Option<u64> {
+        HEADER.lines().find_map(|line| {
+            let line = line.trim_start().trim_start_matches("#define ");
+            let rest = line.strip_prefix("YARROWDOOR_")?.strip_prefix(name)?;
+            let value = rest
+                .trim_start_matches([' ', '='])
+                .trim_start_matches("((size_t)");
+            let end = value
+                .find(|c: char| !c.is_ascii_digit())
+                .unwrap_or(value.len());
+            if rest.starts_with(' ') {
+                value[..end].parse().ok()
+            } else {
+                None
+            }
+        })
+    }
+
+    #[test]
+    fn the_numbers_are_those_of_the_header() {
+        for (name, value) in NUMBERS {
+            assert_eq!(number_of(name), Some(*value), "{name}");
+        }
+    }
+}

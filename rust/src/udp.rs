@@ -1,0 +1,76 @@
+//! The client over UDP.
+
+pub use crate::api::{
+    BindChannelError, CreatePermissionError, DeleteError, SendError, TcpAllocateError, TurnEvent,
+    TurnPollRet, TurnRecvRet,
+};
+
+use crate::api::TurnConfig;
+use crate::handle::system_seed;
+use crate::protocol::Protocol;
+use crate::stun::types::TransportType;
+use std::net::SocketAddr;
+
+/// A TURN client over UDP.
+#[derive(Debug)]
+pub struct TurnClientUdp {
+    protocol: Protocol,
+}
+
+impl TurnClientUdp {
+    /// A client at this address, which requests relayed addresses from this server. It sends nothing until it is polled.
+    ///
+    /// Transaction IDs are drawn from a seed of the system's random numbers.
+    ///
+    /// # Panics
+    ///
+    /// The configuration requests an allocation over TCP. The system has no random numbers.
+    ///
+    /// # Examples
+    ///
+    /// ```
+    /// # use yarrowdoor::api::TurnConfig;
+    /// # use yarrowdoor::prelude::*;
+    /// # use yarrowdoor::udp::TurnClientUdp;
+    /// # use yarrowdoor::types::{TransportType, TurnCredentials};
+    /// let credentials = TurnCredentials::new("tuser", "tpass");
+    /// let config = TurnConfig::new(credentials);
+    /// let local_addr = "192.168.0.1:4000".parse().unwrap();
+    /// let remote_addr = "10.0.0.1:3478".parse().unwrap();
+    /// let client = TurnClientUdp::allocate(local_addr, remote_addr, config);
+    /// assert_eq!(client.transport(), TransportType::Udp);
+    /// assert_eq!(client.local_addr(), local_addr);
+    /// assert_eq!(client.remote_addr(), remote_addr);
+    /// assert_eq!(client.relayed_addresses().count(), 0);
+    /// ```
+    pub fn allocate(
+        local_addr: SocketAddr,
+        remote_addr: SocketAddr,
+        config: TurnConfig,
+    ) -> TurnClientUdp {
+        TurnClientUdp::allocate_with_seed(local_addr, remote_addr, config, system_seed())
+    }
+
+    /// The same, with this seed: 32 bytes that nobody else knows, new for each client. The same seed and the same calls
+    /// give the same packets.
+    ///
+    /// # Panics
+    ///
+    /// The configuration requests an allocation over TCP.
+    pub fn allocate_with_seed(
+        local_addr: SocketAddr,
+        remote_addr: SocketAddr,
+        config: TurnConfig,
+        seed: [u8; 32],
+    ) -> TurnClientUdp {
+        assert!(
+            config.allocation_transport() == TransportType::Udp,
+            "Attempt made to create a UDP TURN client without a UDP allocation"
+        );
+        TurnClientUdp {
+            protocol: Protocol::new(TransportType::Udp, local_addr, remote_addr, &config, &seed),
+        }
+    }
+}
+
+crate::__delegate!(TurnClientUdp, self, __of_field => (protocol));
