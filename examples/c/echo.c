@@ -1,0 +1,194 @@
+/* usage: echo SERVER PORT USER PASSWORD PEER PORT TEXT
+
+   Sends a text to a peer through a TURN server over UDP, prints what the peer sends back, deletes the allocation and
+   ends. It is the whole caller of the library: a socket, a clock, and poll(2). examples/c/README.md says how to run it. */
+#define _DEFAULT_SOURCE
+#include <errno.h>
+#include <netdb.h>
+#include <poll.h>
+#include <stdio.h>
+#include <stdlib.h>
+#include <string.h>
+#include <time.h>
+#include <unistd.h>
+#include <yarrowdoor.h>
+
+static yarrowdoor *client;
+static int connection;
+static yarrowdoor_address local, server, peer;
+static const char *text;
+/* A packet to send, or the data of a packet that was received in pieces. */
+static uint8_t buffer[65556];
+
+static void stop(const char *why)
+{
+    fprintf(stderr, "echo: %s\n", why);
+    exit(1);
+}
+
+static uint64_t now(void)
+{
+    struct timespec t;
+    clock_gettime(CLOCK_MONOTONIC, &t);
+    return (uint64_t)t.tv_sec * 1000000000 + (uint64_t)t.tv_nsec;
+}
+
+static yarrowdoor_address resolve(const char *host, const char *port)
+{
+    struct addrinfo hints, *found;
+    memset(&hints, 0, sizeof hints);
+    hints.ai_socktype = SOCK_DGRAM;
+    if (getaddrinfo(host, port, &hints, &found) != 0) {
+        stop("no such address");
+    }
+    yarrowdoor_address address = yarrowdoor_of_sockaddr(found->ai_addr);
+    freeaddrinfo(found);
+    return address;
+}
+
+/* Opens the socket to the server. Its local address is the client's. */
+static void open_connection(void)
+{
+    struct sockaddr_storage to, at;
+    socklen_t to_len = yarrowdoor_to_sockaddr(&server, &to), len = sizeof at;
+    connection = socket(to.ss_family, SOCK_DGRAM, 0);
+    if (connection < 0 || connect(connection, (struct sockaddr *)&to, to_len) != 0 ||
+        getsockname(connection, (struct sockaddr *)&at, &len) != 0) {
+        stop(strerror(errno));
+    }
+    local = yarrowdoor_of_sockaddr((struct sockaddr *)&at);
+}
+
+static void make_client(const char *user, const char *password)
+{
+    uint8_t seed[YARROWDOOR_SEED_LEN];
+    yarrowdoor_settings settings = yarrowdoor_settings_of(YARROWDOOR_UDP, &local, &server);
+    settings.family = peer.family; /* the relayed address has the peer's IP version */
+    if (getentropy(seed, sizeof seed) != 0) {
+        stop(strerror(errno));
+    }
+    uint32_t error = yarrowdoor_new(&settings, (const uint8_t *)user, strlen(user), (const uint8_t *)password,
+                                    strlen(password), seed, sizeof seed, &client);
+    if (error) {
+        stop(error == YARROWDOOR_BAD_CREDENTIALS ? "no such user name or password" : "no client");
+    }
+}
+
+/* A packet that is lost, or that the socket does not take, is retransmitted by the client. */
+static void send_packet(const yarrowdoor_answer *packet)
+{
+    if (send(connection, buffer, packet->len, 0) < 0) {
+        fprintf(stderr, "echo: not sent: %s\n", strerror(errno));
+    }
+}
+
+static void send_text(void)
+{
+    static uint8_t place[65556];
+    yarrowdoor_answer packet;
+    size_t len = strlen(text) < 1000 ? strlen(text) : 1000;
+    if (yarrowdoor_send_to(client, YARROWDOOR_UDP, &peer, (const uint8_t *)text, len, now(), place, sizeof place,
+                           &packet) != YARROWDOOR_PACKET) {
+        stop("the text cannot be sent");
+    }
+    if (send(connection, place, packet.len, 0) < 0) {
+        stop(strerror(errno));
+    }
+}
+
+static void handle_event(const yarrowdoor_answer *event)
+{
+    yarrowdoor_answer answer;
+    switch (event->kind) {
+    case YARROWDOOR_ALLOCATION_CREATED:
+        printf("relayed at port %d\n", event->peer.port);
+        yarrowdoor_create_permission(client, YARROWDOOR_UDP, &peer, now(), &answer);
+        break;
+    case YARROWDOOR_PERMISSION_CREATED:
+        send_text();
+        break;
+    case YARROWDOOR_ALLOCATION_CREATE_FAILED:
+        stop("the server gives no relayed address");
+        break;
+    case YARROWDOOR_PERMISSION_CREATE_FAILED:
+        stop("the server does not permit the peer");
+        break;
+    default:
+        break;
+    }
+}
+
+/* Prints what a peer sent, and lets the client go. */
+static void handle_data(const uint8_t *data, size_t len)
+{
+    yarrowdoor_answer answer;
+    printf("%.*s\n", (int)len, (const char *)data);
+    yarrowdoor_delete(client, now(), &answer);
+}
+
+/* Sends what is due, handles what has happened, and returns the wake-up time. */
+static uint64_t drive(void)
+{
+    yarrowdoor_answer answer;
+    for (;;) {
+        while (yarrowdoor_poll_transmit(client, now(), buffer, sizeof buffer, &answer) == YARROWDOOR_PACKET) {
+            send_packet(&answer);
+        }
+        if (yarrowdoor_poll_event(client, &answer) != YARROWDOOR_NOTHING) {
+            handle_event(&answer);
+            continue;
+        }
+        switch (yarrowdoor_poll(client, now(), &answer)) {
+        case YARROWDOOR_WAIT_UNTIL:
+            if (answer.time > now()) {
+                return answer.time;
+            }
+            break;
+        case YARROWDOOR_CLOSED:
+            yarrowdoor_free(client);
+            exit(0);
+        case YARROWDOOR_OUT_OF_MEMORY:
+            stop("out of memory");
+            break;
+        default: /* data connections, which only an allocation over TCP has */
+            break;
+        }
+    }
+}
+
+/* Waits for a packet of the server, up to a time. */
+static void receive(uint64_t until)
+{
+    static uint8_t bytes[65536];
+    struct pollfd one = {connection, POLLIN, 0};
+    uint64_t start = now(), wait = until > start ? (until - start) / 1000000 + 1 : 0;
+    yarrowdoor_answer answer;
+    if (poll(&one, 1, wait < 3600000 ? (int)wait : 3600000) <= 0) {
+        return;
+    }
+    ssize_t len = recv(connection, bytes, sizeof bytes, 0);
+    if (len < 0) {
+        fprintf(stderr, "echo: no answer: %s\n", strerror(errno));
+        return;
+    }
+    /* over UDP the data of a peer always lies in the bytes of one datagram */
+    if (yarrowdoor_recv(client, YARROWDOOR_UDP, &server, &local, bytes, (size_t)len, now(), buffer, sizeof buffer,
+                        &answer) == YARROWDOOR_PEER_DATA_RANGE) {
+        handle_data(bytes + answer.start, answer.len);
+    }
+}
+
+int main(int argc, char **argv)
+{
+    if (argc != 8) {
+        stop("usage: echo SERVER PORT USER PASSWORD PEER PORT TEXT");
+    }
+    server = resolve(argv[1], argv[2]);
+    peer = resolve(argv[5], argv[6]);
+    text = argv[7];
+    open_connection();
+    make_client(argv[3], argv[4]);
+    for (;;) {
+        receive(drive());
+    }
+}
