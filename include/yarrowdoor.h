@@ -246,60 +246,61 @@ void yarrowdoor_free(yarrowdoor *client);
 #else
 #define YARROWDOOR_ASSERT(name, holds) typedef char yarrowdoor_assert_##name[(holds) ? 1 : -1]
 #endif
-#define YARROWDOOR_AT(type, field, place)                                                                              \
-    YARROWDOOR_ASSERT(type##_##field, offsetof(yarrowdoor_##type, field) == (place))
+#define YARROWDOOR_AT(type, field, place, size)                                                                        \
+    YARROWDOOR_ASSERT(type##_##field, offsetof(yarrowdoor_##type, field) == (place) &&                                 \
+                                          sizeof(((yarrowdoor_##type *)0)->field) == (size))
 
 YARROWDOOR_ASSERT(size_is_64_bits, sizeof(size_t) == 8);
 YARROWDOOR_ASSERT(size_of_address, sizeof(yarrowdoor_address) == 28);
 YARROWDOOR_ASSERT(size_of_settings, sizeof(yarrowdoor_settings) == 120);
 YARROWDOOR_ASSERT(size_of_request, sizeof(yarrowdoor_request) == 136);
 YARROWDOOR_ASSERT(size_of_answer, sizeof(yarrowdoor_answer) == 144);
-YARROWDOOR_AT(address, ip, 0);
-YARROWDOOR_AT(address, flow, 16);
-YARROWDOOR_AT(address, scope, 20);
-YARROWDOOR_AT(address, port, 24);
-YARROWDOOR_AT(address, family, 26);
-YARROWDOOR_AT(address, reserved, 27);
-YARROWDOOR_AT(settings, wait_initial, 0);
-YARROWDOOR_AT(settings, wait_max, 8);
-YARROWDOOR_AT(settings, wait_last, 16);
-YARROWDOOR_AT(settings, wait_count, 24);
-YARROWDOOR_AT(settings, has_waits, 28);
-YARROWDOOR_AT(settings, transport, 32);
-YARROWDOOR_AT(settings, allocation_transport, 36);
-YARROWDOOR_AT(settings, family, 40);
-YARROWDOOR_AT(settings, other_family, 44);
-YARROWDOOR_AT(settings, algorithm, 48);
-YARROWDOOR_AT(settings, other_algorithm, 52);
-YARROWDOOR_AT(settings, anonymous, 56);
-YARROWDOOR_AT(settings, reserved, 60);
-YARROWDOOR_AT(settings, local, 64);
-YARROWDOOR_AT(settings, remote, 92);
-YARROWDOOR_AT(request, time, 0);
-YARROWDOOR_AT(request, kind, 8);
-YARROWDOOR_AT(request, id, 12);
-YARROWDOOR_AT(request, transport, 16);
-YARROWDOOR_AT(request, reserved, 20);
-YARROWDOOR_AT(request, from, 24);
-YARROWDOOR_AT(request, to, 52);
-YARROWDOOR_AT(request, peer, 80);
-YARROWDOOR_AT(request, local, 108);
-YARROWDOOR_AT(answer, kind, 0);
-YARROWDOOR_AT(answer, error, 4);
-YARROWDOOR_AT(answer, time, 8);
-YARROWDOOR_AT(answer, len, 16);
-YARROWDOOR_AT(answer, start, 24);
-YARROWDOOR_AT(answer, left, 32);
-YARROWDOOR_AT(answer, id, 40);
-YARROWDOOR_AT(answer, transport, 44);
-YARROWDOOR_AT(answer, family, 48);
-YARROWDOOR_AT(answer, icmp_data, 52);
-YARROWDOOR_AT(answer, icmp_type, 56);
-YARROWDOOR_AT(answer, icmp_code, 57);
-YARROWDOOR_AT(answer, reserved, 58);
-YARROWDOOR_AT(answer, from, 60);
-YARROWDOOR_AT(answer, to, 88);
-YARROWDOOR_AT(answer, peer, 116);
+YARROWDOOR_AT(address, ip, 0, 16);
+YARROWDOOR_AT(address, flow, 16, 4);
+YARROWDOOR_AT(address, scope, 20, 4);
+YARROWDOOR_AT(address, port, 24, 2);
+YARROWDOOR_AT(address, family, 26, 1);
+YARROWDOOR_AT(address, reserved, 27, 1);
+YARROWDOOR_AT(settings, wait_initial, 0, 8);
+YARROWDOOR_AT(settings, wait_max, 8, 8);
+YARROWDOOR_AT(settings, wait_last, 16, 8);
+YARROWDOOR_AT(settings, wait_count, 24, 4);
+YARROWDOOR_AT(settings, has_waits, 28, 4);
+YARROWDOOR_AT(settings, transport, 32, 4);
+YARROWDOOR_AT(settings, allocation_transport, 36, 4);
+YARROWDOOR_AT(settings, family, 40, 4);
+YARROWDOOR_AT(settings, other_family, 44, 4);
+YARROWDOOR_AT(settings, algorithm, 48, 4);
+YARROWDOOR_AT(settings, other_algorithm, 52, 4);
+YARROWDOOR_AT(settings, anonymous, 56, 4);
+YARROWDOOR_AT(settings, reserved, 60, 4);
+YARROWDOOR_AT(settings, local, 64, 28);
+YARROWDOOR_AT(settings, remote, 92, 28);
+YARROWDOOR_AT(request, time, 0, 8);
+YARROWDOOR_AT(request, kind, 8, 4);
+YARROWDOOR_AT(request, id, 12, 4);
+YARROWDOOR_AT(request, transport, 16, 4);
+YARROWDOOR_AT(request, reserved, 20, 4);
+YARROWDOOR_AT(request, from, 24, 28);
+YARROWDOOR_AT(request, to, 52, 28);
+YARROWDOOR_AT(request, peer, 80, 28);
+YARROWDOOR_AT(request, local, 108, 28);
+YARROWDOOR_AT(answer, kind, 0, 4);
+YARROWDOOR_AT(answer, error, 4, 4);
+YARROWDOOR_AT(answer, time, 8, 8);
+YARROWDOOR_AT(answer, len, 16, 8);
+YARROWDOOR_AT(answer, start, 24, 8);
+YARROWDOOR_AT(answer, left, 32, 8);
+YARROWDOOR_AT(answer, id, 40, 4);
+YARROWDOOR_AT(answer, transport, 44, 4);
+YARROWDOOR_AT(answer, family, 48, 4);
+YARROWDOOR_AT(answer, icmp_data, 52, 4);
+YARROWDOOR_AT(answer, icmp_type, 56, 1);
+YARROWDOOR_AT(answer, icmp_code, 57, 1);
+YARROWDOOR_AT(answer, reserved, 58, 2);
+YARROWDOOR_AT(answer, from, 60, 28);
+YARROWDOOR_AT(answer, to, 88, 28);
+YARROWDOOR_AT(answer, peer, 116, 28);
 
 /* ---- calls
 
@@ -374,10 +375,11 @@ static inline yarrowdoor_settings yarrowdoor_settings_of(uint32_t transport, con
 }
 
 /* What is to be done next. YARROWDOOR_WAIT_UNTIL: nothing before answer->time, when to poll again; any other call
-   may make it earlier, so poll after it. YARROWDOOR_ALLOCATE_TCP_SOCKET: open a connection from any port of this
-   host to answer->to over answer->transport, and pass it to yarrowdoor_allocated_tcp_socket with the id and the
-   addresses of the answer. YARROWDOOR_TCP_CLOSE: close the connection from answer->from to answer->to.
-   YARROWDOOR_CLOSED: the client has ended. */
+   may make it earlier, so poll after it. While an event is to be polled, that time is `now`.
+   YARROWDOOR_ALLOCATE_TCP_SOCKET: open a connection from any port of this host to answer->to over answer->transport,
+   and pass it to yarrowdoor_allocated_tcp_socket with the id and the addresses of the answer. YARROWDOOR_TCP_CLOSE:
+   close the connection from answer->from to answer->to. YARROWDOOR_CLOSED: the client has ended, and no event is
+   left. */
 static inline uint32_t yarrowdoor_poll(yarrowdoor *client, uint64_t now, yarrowdoor_answer *answer)
 {
     yarrowdoor_request request = yarrowdoor_request_of(YARROWDOOR_CALL_POLL, now);
@@ -547,7 +549,7 @@ static inline uint32_t yarrowdoor_delete(yarrowdoor *client, uint64_t now, yarro
 }
 
 /* Reports an error of a layer between client and server, as TLS, after which nothing can be sent: YARROWDOOR_DONE.
-   The client has ended then. */
+   What is pending fails, by its events, and the client has ended. */
 static inline uint32_t yarrowdoor_protocol_error(yarrowdoor *client, yarrowdoor_answer *answer)
 {
     yarrowdoor_request request = yarrowdoor_request_of(YARROWDOOR_CALL_PROTOCOL_ERROR, 0);

@@ -3,13 +3,14 @@
 use std::thread;
 use std::time::Duration;
 use yarrowdoor::api::{
-    BindChannelError, CreatePermissionError, DeleteError, SendError, TurnConfig, TurnPollRet,
+    BindChannelError, CreatePermissionError, DeleteError, SendError, TurnConfig, TurnEvent,
+    TurnPollRet,
 };
 use yarrowdoor::client::TurnClient;
 use yarrowdoor::prelude::*;
 use yarrowdoor::stun::Instant;
 use yarrowdoor::tcp::TurnClientTcp;
-use yarrowdoor::types::{TransportType, TurnCredentials};
+use yarrowdoor::types::{AddressFamily, TransportType, TurnCredentials};
 use yarrowdoor::udp::TurnClientUdp;
 
 const SEED: [u8; 32] = [0; 32];
@@ -79,7 +80,19 @@ fn a_new_client_refuses_by_name() {
     assert!(!client.have_permission(udp, peer.ip()));
     assert_eq!(client.relayed_addresses().count(), 0);
     assert_eq!(client.permissions(udp, peer).count(), 0);
+}
+
+// docs/MACHINE.md, Calls: what is pending fails, and the client ends. It is closed once its events are polled.
+#[test]
+fn a_protocol_error_ends_the_client() {
+    let (mut client, now) = (client(), Instant::ZERO);
     client.protocol_error();
+    assert_eq!(client.poll(now), TurnPollRet::WaitUntil(now));
+    assert_eq!(
+        client.poll_event(),
+        Some(TurnEvent::AllocationCreateFailed(AddressFamily::IPV4))
+    );
+    assert_eq!(client.poll_event(), None);
     assert_eq!(client.poll(now), TurnPollRet::Closed);
 }
 
