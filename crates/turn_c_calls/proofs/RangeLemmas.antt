@@ -30,11 +30,11 @@ use Rattle.turn_c_calls.proofs.MadeLemmas.{made_so, received}
 taken_again : (n : ℕ) (xs : List ℕ) → take (length (take n xs)) xs ≡ take n xs
 taken_again n xs = ap (λ m. take m xs) (length-take n xs) ∙ take_min n xs
 
-module _ {T : Type 0} {g : Ghosts T ℕ} where
-  -- the packet as the machine sees it
-  abbrev pub shown : Transmit T → Transmit (List ℕ)
-  shown packet = record { payload = g.items packet.payload; transport = packet.transport; from = packet.from; to = packet.to }
+-- the packet as the machine sees it
+abbrev pub shown : {T : Type 0} → Ghosts T ℕ → Transmit T → Transmit (List ℕ)
+shown g packet = record { payload = g.items packet.payload; transport = packet.transport; from = packet.from; to = packet.to }
 
+module _ {T : Type 0} {g : Ghosts T ℕ} where
   pointed_whole : (range : DataRange T g)
       → (take (length (part_of range)) (drop (place_of range).start (g.items (source_of range))) ≡ part_of range)
       × ((place_of range).start + length (part_of range) ≤ length (g.items (source_of range)))
@@ -82,12 +82,12 @@ module _ {T : Type 0} {g : Ghosts T ℕ} where
       inr (pointed_by packet given was buffer after unread a b back points)
 
   pub recv_made : (packet : Transmit T) (outcome : TurnRecvRet T g) (now : ℕ) (s t : State) (was unread buffer after : List ℕ) (a b : Answer)
-      → outcome_of outcome ≡ (packet_step (shown packet) now s).0 → t ≡ (packet_step (shown packet) now s).1
+      → outcome_of outcome ≡ (packet_step (shown g packet) now s).0 → t ≡ (packet_step (shown g packet) now s).1
       → HandsBack packet outcome → Reports (outcome_of outcome) was buffer after unread a b
-      → IsMade (Calls.Recv (shown packet) now) 0 (held s was) (held t unread) buffer after a b
+      → IsMade (Calls.Recv (shown g packet) now) 0 (held s was) (held t unread) buffer after a b
   recv_made packet outcome now s t was unread buffer after a b e e' back reports =
-      made_so (Calls.Recv (shown packet) now) s t (recv_reply (outcome_of outcome)) 0 was unread buffer after a b
-      (received (outcome_of outcome) (shown packet) now s t e e')
+      made_so (Calls.Recv (shown g packet) now) s t (recv_reply (outcome_of outcome)) 0 was unread buffer after a b
+      (received (outcome_of outcome) (shown g packet) now s t e e')
       (shown_by packet outcome was buffer after unread a b back reports)
 
   -- bytes that lie nowhere in what was passed in are owned

@@ -12,3 +12,11 @@ invariant_of-self c =
     let operation = c.in-Ok.operation in
     relays_kept c.make.result (call_in operation c.args.bytes.now) (index_in operation) was now c.args.buffer.now c.make.new.buffer c.args.answer.now c.make.new.answer
     c.make.ensures.ok c.make.ensures.err ∙ c.self.invariant
+
+pub invariant_of-self-in-Err-make : goal.invariant_of-self-in-Err-make
+invariant_of-self-in-Err-make c =
+    let was = held (state_of c.self.inside.client) c.self.inside.unread in
+    let now = held (state_of c.make.new.client) c.make.new.unread in
+    let operation = c.in-Ok.operation in
+    relays_kept c.make.result (call_in operation c.args.bytes.now) (index_in operation) was now c.args.buffer.now c.make.new.buffer c.args.answer.now c.make.new.answer
+    c.make.ensures.ok c.make.ensures.err ∙ c.self.invariant
