@@ -175,7 +175,8 @@ typedef struct yarrowdoor_settings {
     uint32_t algorithm;            /* that the client prefers */
     uint32_t other_algorithm;      /* that it accepts too, or 0 */
     uint32_t anonymous;            /* YARROWDOOR_AUTO, YARROWDOOR_REQUIRED or YARROWDOOR_DISABLED */
-    uint32_t reserved;             /* 0 */
+    uint16_t max_stale_nonces;     /* that are answered in a row; the next challenge ends the client. 0: nine */
+    uint16_t reserved;             /* 0 */
     yarrowdoor_address local;      /* the client's address: that of the socket */
     yarrowdoor_address remote;     /* the server's address */
 } yarrowdoor_settings;
@@ -273,7 +274,8 @@ YARROWDOOR_AT(settings, other_family, 44, 4);
 YARROWDOOR_AT(settings, algorithm, 48, 4);
 YARROWDOOR_AT(settings, other_algorithm, 52, 4);
 YARROWDOOR_AT(settings, anonymous, 56, 4);
-YARROWDOOR_AT(settings, reserved, 60, 4);
+YARROWDOOR_AT(settings, max_stale_nonces, 60, 2);
+YARROWDOOR_AT(settings, reserved, 62, 2);
 YARROWDOOR_AT(settings, local, 64, 28);
 YARROWDOOR_AT(settings, remote, 92, 28);
 YARROWDOOR_AT(request, time, 0, 8);

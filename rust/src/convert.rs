@@ -126,6 +126,7 @@ pub(crate) fn settings(
         algorithm: code_at(algorithms, 0, algorithm_code),
         other_algorithm: code_at(algorithms, 1, algorithm_code),
         anonymous: feature_code(config.anonymous_username()),
+        max_stale_nonces: config.max_stale_nonces().get(),
         local: address(local),
         remote: address(remote),
         ..sys::Settings::default()

@@ -118,7 +118,8 @@ pub(crate) struct Settings {
     pub(crate) algorithm: u32,
     pub(crate) other_algorithm: u32,
     pub(crate) anonymous: u32,
-    pub(crate) reserved: u32,
+    pub(crate) max_stale_nonces: u16,
+    pub(crate) reserved: u16,
     pub(crate) local: Address,
     pub(crate) remote: Address,
 }

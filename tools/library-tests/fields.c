@@ -322,6 +322,27 @@ static void exchange(const yarrowdoor_settings *s)
     check("poll", call_both(YARROWDOOR_CALL_POLL, now), YARROWDOOR_CLOSED);
 }
 
+/* Returns what a client with this limit of challenges says once its first two requests were each challenged. */
+static uint32_t challenged_twice(const yarrowdoor_settings *good, uint16_t limit)
+{
+    yarrowdoor_settings s = *good;
+    yarrowdoor_answer answer;
+    yarrowdoor *client;
+    uint8_t bytes[256];
+    size_t len = decode(RECEIVED[0], bytes);
+    s.max_stale_nonces = limit;
+    check("a new client", new_client(&s, 4, 4, 32, &client), 0);
+    for (uint64_t now = 0; now <= 50000000; now += 50000000) {
+        check("ALLOCATE", yarrowdoor_poll_transmit(client, now, buffer, BUFFER, &answer), YARROWDOOR_PACKET);
+        memcpy(bytes + 8, buffer + 8, 12); /* the transaction ID of the request */
+        check("challenge", yarrowdoor_recv(client, YARROWDOOR_UDP, &s.remote, &s.local, bytes, len, now, buffer, BUFFER,
+                                           &answer), YARROWDOOR_HANDLED);
+    }
+    yarrowdoor_poll_event(client, &answer);
+    yarrowdoor_free(client);
+    return answer.kind;
+}
+
 int main(void)
 {
     yarrowdoor_address local = yarrowdoor_ipv4(192, 168, 0, 1, 1000), remote = yarrowdoor_ipv4(10, 0, 0, 2, 2000);
@@ -329,6 +350,9 @@ int main(void)
     bad_settings(&settings);
     check("a new client", new_client(&settings, 4, 4, 32, &teased), 0);
     check("a new client", new_client(&settings, 4, 4, 32, &plain), 0);
+    check("a challenge more than the limit", challenged_twice(&settings, 1), YARROWDOOR_ALLOCATION_CREATE_FAILED);
+    check("as many challenges as the limit", challenged_twice(&settings, 2), YARROWDOOR_NOTHING);
+    check("the default limit", challenged_twice(&settings, 0), YARROWDOOR_NOTHING);
     exchange(&settings);
     yarrowdoor_free(teased);
     yarrowdoor_free(plain);

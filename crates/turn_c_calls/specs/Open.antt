@@ -1,6 +1,7 @@
 -- A new session.
 use Rattle.std.specs.Prelude.{◌≡◌, ℕ, ◌==◌, if◌then◌else◌, List, [], length, Option, Some, None, Result, Ok, Err, ⊤}
 use Rattle.turn_auth.specs.Credentials.{Credentials}
+use Rattle.turn_client_api.specs.Config.{Config}
 use Rattle.turn_client_api.specs.State.{State, initial}
 use Rattle.turn_lines.specs.Configuration.{config_with}
 use Rattle.turn_lines.specs.Fault.{needed}
@@ -17,10 +18,17 @@ use Rattle.turn_c_calls.specs.declared.settings.Settings.{Settings}
 abbrev pub seed_of : List ℕ → Option (List ℕ)
 seed_of seed = if length seed == 32 then Some seed else None
 
+-- the same with another limit of challenges, if it is one
+abbrev pub limited : ℕ → Config → Config
+limited limit config = record config { max_stale_nonces = if limit == 0 then config.max_stale_nonces else limit }
+
+abbrev pub config_of : Plan → Credentials → Config
+config_of plan credentials = limited plan.max_stale_nonces (config_with plan.request credentials plan.waits)
+
 -- the new client of a plan
 abbrev pub new_client : Plan → Credentials → List ℕ → State
 new_client plan credentials seed =
-    initial plan.ends.transport plan.ends.local plan.ends.remote (config_with plan.request credentials plan.waits) seed
+    initial plan.ends.transport plan.ends.local plan.ends.remote (config_of plan credentials) seed
 
 -- of which nothing is to be read
 abbrev pub new_session : Plan → Credentials → List ℕ → Held

@@ -74,4 +74,4 @@ plan_of s = do
   ends ← ends_of s
   request ← request_of s
   _ ← relayed_for ends.transport request.allocation
-  Some (record { ends = ends; request = request; waits = waits_of s })
+  Some (record { ends = ends; request = request; waits = waits_of s; max_stale_nonces = s.max_stale_nonces })

@@ -4,13 +4,15 @@ ghost use Rattle.std.specs.Prelude.{◌≡◌, None, Ok, Some, IfOk, IfErr};
 ghost use Rattle.turn_client_proto.specs.Client.{state_of};
 ghost use Rattle.turn_stun.specs.declared.transport.TransportType.TheVariants.{Udp};
 ghost use Rattle.turn_lines.specs.Head.{credentials_with};
-ghost use Rattle.turn_c_calls.specs.Open.{IsNoUser, Refuses, new_client, seed_of, session_of};
+ghost use Rattle.turn_c_calls.specs.Open.{IsNoUser, Refuses, config_of, limited, new_client, seed_of, session_of};
 
 use crate::code::{BAD_CREDENTIALS, BAD_SEED, BAD_SETTINGS, OUT_OF_MEMORY};
 use crate::session::Session;
 use crate::settings::{Plan, Settings, plan_of};
 use std::alloc::{AllocError, Global};
+use std::num::NonZeroU16;
 use turn_auth::credentials::{CredentialsError, TurnCredentials};
+use turn_client_api::TurnConfig;
 use turn_client_proto::client::TurnClient;
 use turn_client_proto::runs::replay;
 use turn_lines::configuration::configuration;
@@ -98,6 +100,24 @@ fn seed_of(seed: &[u8]) -> Option<[u8; 32]>
     <[u8; 32]>::try_from(seed).ok()
 }
 
+/// The configuration of a plan.
+fn config_of(alloc: Global, plan: Plan, credentials: TurnCredentials) -> TurnConfig
+    ensures { result ≡ config_of plan credentials }
+{
+    let mut config = configuration(alloc, plan.request, credentials, plan.waits);
+    limit(&mut config, plan.max_stale_nonces);
+    config
+}
+
+/// Sets how many challenges in a row are answered, unless this is 0.
+fn limit(config: &mut TurnConfig, max_stale_nonces: u16)
+    ensures { config.new ≡ limited max_stale_nonces config.old }
+{
+    if let Some(limit) = NonZeroU16::new(max_stale_nonces) {
+        config.set_max_stale_nonces(limit);
+    }
+}
+
 /// The new client of a plan.
 fn new_client(
     alloc: Global,
@@ -108,7 +128,7 @@ fn new_client(
     requires { plan.ends.transport ≡ Udp → plan.request.allocation ≡ Udp }
     ensures { IfOk result (λ client. state_of client ≡ new_client plan credentials seed) }
 {
-    let config = configuration(alloc, plan.request, credentials, plan.waits);
+    let config = config_of(alloc, plan, credentials);
     let ends = plan.ends;
     // After no calls the client of a run is a new one.
     let replayed = replay(

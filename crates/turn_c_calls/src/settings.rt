@@ -41,8 +41,10 @@ pub struct Settings {
     pub other_algorithm: u32,
     /// Whether the user name is hidden from observers.
     pub anonymous: u32,
+    /// How many challenges in a row are answered, or 0 for the default number.
+    pub max_stale_nonces: u16,
     /// 0, and not read.
-    pub reserved: u32,
+    pub reserved: u16,
     /// The client's address.
     pub local: Address,
     /// The server's address.
@@ -58,6 +60,8 @@ pub struct Plan {
     pub request: Request,
     /// The retransmission times, or `None` for the default ones.
     pub waits: Option<Waits>,
+    /// How many challenges in a row are answered, or 0 for the default number.
+    pub max_stale_nonces: u16,
 }
 
 /// What the settings say, or none if a number or an address is invalid, or if a client over UDP requests an allocation
@@ -74,6 +78,7 @@ pub fn plan_of(settings: &Settings) -> Option<Plan>
             ends,
             request,
             waits: waits_of(settings),
+            max_stale_nonces: settings.max_stale_nonces,
         }),
     }
 }

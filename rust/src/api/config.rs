@@ -4,6 +4,7 @@ use crate::stun::auth::Feature;
 use crate::stun::types::message::IntegrityAlgorithm;
 use crate::stun::types::TransportType;
 use crate::types::{AddressFamily, TurnCredentials};
+use std::num::NonZeroU16;
 use std::time::Duration;
 
 /// What a client requests, and how.
@@ -16,7 +17,14 @@ pub struct TurnConfig {
     supported_integrity: Vec<IntegrityAlgorithm>,
     anonymous_username: Feature,
     pub(crate) retransmits: Option<Retransmits>,
+    max_stale_nonces: NonZeroU16,
 }
+
+/// How many challenges in a row are answered unless `set_max_stale_nonces` says otherwise.
+const DEFAULT_MAX_STALE_NONCES: NonZeroU16 = match NonZeroU16::new(9) {
+    Some(limit) => limit,
+    None => unreachable!(),
+};
 
 /// When requests are retransmitted, in nanoseconds.
 #[derive(Clone, Copy, Debug, PartialEq, Eq)]
@@ -61,6 +69,7 @@ impl TurnConfig {
             supported_integrity: vec![IntegrityAlgorithm::Sha1],
             anonymous_username: Feature::Auto,
             retransmits: None,
+            max_stale_nonces: DEFAULT_MAX_STALE_NONCES,
         }
     }
 
@@ -173,5 +182,19 @@ impl TurnConfig {
             count: retransmits,
             last: nanos(final_retransmit_timeout),
         });
+    }
+
+    /// Sets how many challenges in a row the client answers: the next one ends it. The count begins anew with the next
+    /// signed reply to an outstanding request. By default they are 9. The original crate has no such setter.
+    ///
+    /// Set more for many peers over a slow link: refreshes that leave before the first answer returns have one nonce,
+    /// and if the server has changed it, each of them is challenged and counts.
+    pub fn set_max_stale_nonces(&mut self, max_stale_nonces: NonZeroU16) {
+        self.max_stale_nonces = max_stale_nonces;
+    }
+
+    /// How many challenges in a row the client answers.
+    pub fn max_stale_nonces(&self) -> NonZeroU16 {
+        self.max_stale_nonces
     }
 }
