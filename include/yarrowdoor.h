@@ -66,7 +66,7 @@ enum yarrowdoor_anonymous {
     YARROWDOOR_DISABLED = 2  /* never */
 };
 
-/* The greatest length of a packet of yarrowdoor_poll_transmit, in bytes: what its buffer needs. */
+/* What the buffer of yarrowdoor_poll_transmit needs, in bytes: every packet is shorter. */
 #define YARROWDOOR_MAX_PACKET ((size_t)65556)
 
 /* What the packet of yarrowdoor_send_to may have beyond its data, in bytes: its buffer needs as much more. */
@@ -103,7 +103,7 @@ enum yarrowdoor_kind {
     YARROWDOOR_WAIT_UNTIL = 10,          /* nothing is due before time: the wake-up time */
     YARROWDOOR_ALLOCATE_TCP_SOCKET = 11, /* open a data connection to `to`, for peer: id, transport, from, to, peer */
     YARROWDOOR_TCP_CLOSE = 12,           /* close the connection from `from` to `to` */
-    YARROWDOOR_CLOSED = 13,              /* the client has ended, and does nothing more */
+    YARROWDOOR_CLOSED = 13,              /* the client has ended: it makes no more requests */
 
     /* of yarrowdoor_poll_transmit and yarrowdoor_send_to */
     YARROWDOOR_PACKET = 14, /* send the len bytes in the buffer over transport, from `from` to `to` */
@@ -390,7 +390,7 @@ static inline uint32_t yarrowdoor_poll(yarrowdoor *client, uint64_t now, yarrowd
 
 /* The next packet that is due. YARROWDOOR_PACKET: send the answer->len bytes in the buffer. YARROWDOOR_NOTHING: none
    is due. YARROWDOOR_UNREAD_BYTES: read the rest of an earlier answer first. YARROWDOOR_SMALL_BUFFER: the buffer has
-   under YARROWDOOR_MAX_PACKET bytes, which every packet fits into. */
+   under YARROWDOOR_MAX_PACKET bytes, which is more than any packet has. */
 static inline uint32_t yarrowdoor_poll_transmit(yarrowdoor *client, uint64_t now, uint8_t *buffer, size_t buffer_len,
                                                 yarrowdoor_answer *answer)
 {

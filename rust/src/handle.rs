@@ -13,7 +13,7 @@ pub(crate) struct Handle {
 }
 
 // SAFETY: what the pointer leads to is memory of `malloc`, which this value alone owns, and which any thread may use and
-// free. The library has no other state: it keeps nothing in statics or for a thread. Calls do not overlap, since there
+// free. The library has no other state: `tools/library` refuses one with variables. Calls do not overlap, since there
 // is one owner and it is not `Sync`. This is an argument, and no proof: Rattle does not know a client as `Send`.
 unsafe impl Send for Handle {}
 

@@ -29,7 +29,7 @@ may_leave (Operations.PollRecv now) = true
 may_leave (Operations.PollTransmit now) = true
 may_leave operation = false
 
--- The least buffer. A packet adds at most 64 bytes to its data, and a message has at most 65,556.
+-- The least buffer. A packet adds at most 64 bytes to its data, and a message has less than 65,556.
 abbrev pub least_buffer : Operation → ℕ → ℕ
 least_buffer (Operations.SendTo transport to now) len = len + 64
 least_buffer (Operations.PollTransmit now) len = 65556
