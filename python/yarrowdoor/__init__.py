@@ -1,0 +1,15 @@
+"""A TURN client (RFC 8656, 6062 and 6156) over a proved library: `TurnClient` for asyncio, `client.Client` for any loop.
+
+    async with TurnClient("turn:turn.example.org", "user", "password") as relay:
+        print(relay.address)                        # what peers send to
+        await relay.send(b"hello", ("192.0.2.7", 9000))
+        async for data, peer in relay:
+            print(peer, data)
+
+The library is proved; this package is tested, and not proved. `README.md` beside it says how to begin.
+"""
+from .client import Address, Client, Times
+from .errors import (
+    AllocationFailed, Busy, ChannelFailed, ConnectFailed, Ended, LibraryError, PermissionFailed, Refused, WrongCredentials,
+    YarrowdoorError,
+)

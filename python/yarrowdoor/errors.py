@@ -1,0 +1,72 @@
+"""The errors of the package, by name. All of them are a `YarrowdoorError`."""
+from __future__ import annotations
+
+from typing import Optional, Tuple
+
+__all__ = [
+    "AllocationFailed", "Busy", "ChannelFailed", "ConnectFailed", "Ended", "LibraryError", "PermissionFailed", "Refused",
+    "WrongCredentials", "YarrowdoorError",
+]
+
+Hint = Optional[Tuple[int, str]]
+
+
+class YarrowdoorError(Exception):
+    """What all errors of the package are."""
+
+
+class LibraryError(YarrowdoorError, ImportError):
+    """The library for C is not found, or is another version than this package is for."""
+
+
+class Busy(YarrowdoorError, RuntimeError):
+    """A client is used by two threads at once. The call of the second one was not made."""
+
+
+class Refused(YarrowdoorError):
+    """The client refuses a call, and is as it was.
+
+    `reason` is one of `already-exists` (it is active, or requested already), `no-allocation`, `no-permission` (the peer has
+    none), `no-socket` (there is no data connection to the peer) and `expired` (the peer had a channel, and may have another
+    only after `until`, a time of the client in nanoseconds; RFC 8656, section 12).
+    """
+
+    def __init__(self, reason: str, until: int = 0) -> None:
+        super().__init__(reason)
+        self.reason = reason
+        self.until = until
+
+
+class _Hinted(YarrowdoorError):
+    """An error of the server. `code` and `phrase` are what an error response said, if one was seen.
+
+    Nobody has to have signed that response, so it is a hint: anyone who knows the addresses can send such a packet.
+    """
+
+    def __init__(self, message: str, hint: Hint = None) -> None:
+        self.code, self.phrase = hint or (None, "")
+        super().__init__(f"{message} ({self.code} {self.phrase})".replace(" )", ")") if hint else message)
+
+
+class AllocationFailed(_Hinted):
+    """The server gives no relayed address, cannot be reached, or does not answer."""
+
+
+class WrongCredentials(AllocationFailed):
+    """The server gives no relayed address, and a packet said that user name or password are wrong (401, or 400)."""
+
+
+class PermissionFailed(_Hinted):
+    """The server does not let the peer's IP address send (RFC 8656, section 9), or did not answer."""
+
+
+class ChannelFailed(_Hinted):
+    """The server gives the peer no channel (RFC 8656, section 12), or did not answer."""
+
+
+class ConnectFailed(_Hinted):
+    """There is no connection to the peer over TCP (RFC 6062, section 4.3)."""
+
+
+class Ended(YarrowdoorError):
+    """The client has ended: the relayed address is gone. Make a new client, from another local port."""

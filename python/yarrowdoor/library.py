@@ -1,0 +1,311 @@
+"""The library for C, through `ctypes`: where it is found, its structs, and a client as a handle.
+
+A call is a request in, and an answer out, as `yarrowdoor.h` documents them; `client.py` gives them names and types. The
+calls keep the interpreter's lock, since each takes microseconds.
+"""
+from __future__ import annotations
+
+import ctypes
+import functools
+import mmap
+import os
+import pathlib
+import re
+import struct
+import threading
+import weakref
+from typing import NamedTuple, NoReturn, Optional, Tuple, Union
+
+from .errors import Busy, LibraryError
+
+__all__ = ["ADDRESS", "ANSWER", "Answer", "Handle", "Library", "NAME", "NO_ADDRESS", "REQUEST", "SETTINGS", "find", "load"]
+
+Buffer = Union[bytes, bytearray, memoryview]
+
+# The number is that of the layout, and changes with each change that a compiled program would notice.
+NAME = "libyarrowdoor.so.0"
+
+MAX_PACKET = 65556
+MAX_OVERHEAD = 64
+MAX_TIME = 1 << 62
+
+# struct yarrowdoor_address: IP address, flow, scope, port, family, 0.
+ADDRESS = struct.Struct("=16sIIHBB")
+NO_ADDRESS = bytes(ADDRESS.size)
+# struct yarrowdoor_settings: three waits, their count, whether they are set, transport, that of the allocation, family, the
+# other family, algorithm, the other algorithm, anonymous, 0, local and remote address.
+SETTINGS = struct.Struct("=QQQIIIIIIIIII28s28s")
+# struct yarrowdoor_request: time, kind, id, transport, 0, from, to, peer, local.
+REQUEST = struct.Struct("=QIIII28s28s28s28s")
+# struct yarrowdoor_answer: the fields of Answer.
+ANSWER = struct.Struct("=IIQQQQIIIIBBH28s28s28s")
+# What an answer has of data in the bytes that were passed in: len, start, peer.
+RANGE = struct.Struct("=16xQQ84x28s")
+# The length of what is in the buffer, and how much more there is to read.
+LENGTHS = struct.Struct("=16xQ8xQ")
+
+# enum yarrowdoor_request_kind
+DELETE, CREATE_PERMISSION, BIND_CHANNEL, TCP_CONNECT, ALLOCATED_TCP_SOCKET, TCP_CLOSED, SEND_TO, RECV = range(1, 9)
+POLL_RECV, POLL, POLL_TRANSMIT, POLL_EVENT, PROTOCOL_ERROR, RELAYED_ADDRESSES, PERMISSIONS = range(9, 16)
+HAVE_PERMISSION, READ = 16, 17
+
+# enum yarrowdoor_kind
+OUT_OF_MEMORY, BAD_TIME, BAD_CALL, BAD_PAYLOAD, UNREAD_BYTES, SMALL_BUFFER, REFUSED, DONE, NOTHING = range(1, 10)
+WAIT_UNTIL, ALLOCATE_TCP_SOCKET, TCP_CLOSE, CLOSED, PACKET, HANDLED, IGNORED, PEER_DATA, PEER_ICMP = range(10, 19)
+BYTES, ADDRESS_IS, YES, NO = range(19, 23)
+ALLOCATION_CREATED, ALLOCATION_CREATE_FAILED, PERMISSION_CREATED, PERMISSION_CREATE_FAILED = range(23, 27)
+CHANNEL_CREATED, CHANNEL_CREATE_FAILED, TCP_CONNECTED, TCP_CONNECT_FAILED = range(27, 31)
+BAD_SETTINGS, BAD_CREDENTIALS, BAD_SEED, PEER_DATA_RANGE = range(31, 35)
+
+_BAD = {
+    BAD_TIME: "a time is from 0 to 2^62 nanoseconds",
+    BAD_CALL: "there is no such call, transport or address",
+    BAD_PAYLOAD: "the data has over 65,504 bytes, and the allocation relays over UDP",
+    BAD_SETTINGS: "there are no such settings: a UDP client has no allocation over TCP, for one",
+    BAD_CREDENTIALS: "a user name has 1 to 508 bytes, and a password up to 65,535",
+    BAD_SEED: "a seed has 32 bytes",
+}
+
+
+def fail(kind: int) -> NoReturn:
+    """Raises what an answer means by which nothing was done: `MemoryError`, or `ValueError` for a bad call."""
+    if kind == OUT_OF_MEMORY:
+        raise MemoryError("a memory allocation of the client failed")
+    raise ValueError(_BAD.get(kind, f"the library answered {kind}"))
+
+
+class Answer(NamedTuple):
+    """What a call answered: the fields of `struct yarrowdoor_answer`. Addresses are packed (`ADDRESS`)."""
+
+    kind: int
+    error: int
+    time: int
+    len: int
+    start: int
+    left: int
+    id: int
+    transport: int
+    family: int
+    icmp_data: int
+    icmp_type: int
+    icmp_code: int
+    reserved: int
+    from_: bytes
+    to: bytes
+    peer: bytes
+
+
+class Library:
+    """The library, loaded from a file, or by its name from where the system has its libraries.
+
+    `LibraryError` where there is none, or where its version or its structs are others than those of this package.
+    """
+
+    def __init__(self, path: Union[str, os.PathLike[str], None] = None) -> None:
+        self.path = os.fspath(path) if path is not None else NAME
+        if path is not None:
+            _check_version(self.path)
+        try:
+            loaded = ctypes.PyDLL(self.path)
+            self.new, self.call, self.free = loaded.yarrowdoor_new, loaded.yarrowdoor_call, loaded.yarrowdoor_free
+        except (OSError, AttributeError) as error:
+            raise LibraryError(f"the library for C is not loaded: {error}. tools/library of the sources builds it") from None
+        # No argtypes: values of ctypes are passed as they are, which takes half the time.
+        self.new.restype = self.call.restype = ctypes.c_uint32
+        self.free.restype = None
+        _check_layout(self)
+
+
+def find() -> Optional[str]:
+    """The file of the library: `YARROWDOOR_LIB`, or the one in this package. None: the system's is to be tried."""
+    named = os.environ.get("YARROWDOOR_LIB")
+    if named:
+        return named
+    own = pathlib.Path(__file__).with_name(NAME)
+    return str(own) if own.exists() else None
+
+
+@functools.lru_cache(maxsize=None)
+def load() -> Library:
+    """The library that `find` names, loaded once. `LibraryError` where it cannot be used."""
+    return Library(find())
+
+
+def _check_version(path: str) -> None:
+    """Refuses a file whose own name (its soname) is that of another version."""
+    try:
+        with open(path, "rb") as file, mmap.mmap(file.fileno(), 0, access=mmap.ACCESS_READ) as data:
+            found = re.search(rb"\0(libyarrowdoor\.so\.\d+)\0", data)
+            name = found[1].decode() if found else "no library of this name"
+    except (OSError, ValueError) as error:
+        raise LibraryError(f"{path}: {error}") from None
+    if name != NAME:
+        raise LibraryError(f"{path} is {name}, and this package is for {NAME}")
+
+
+def _check_layout(library: Library) -> None:
+    """Refuses a library that reads or writes other structs: makes a client, and looks for what it was given in its answers."""
+    local = ADDRESS.pack(bytes(range(1, 17)), 0x01020304, 0x05060708, 0x090A, 6, 0)
+    remote = ADDRESS.pack(bytes(range(17, 33)), 0x11121314, 0x15161718, 0x191A, 6, 0)
+    settings = SETTINGS.pack(1_000_000_000, 5_000_000_000, 3_000_000_000, 4, 1, 0, 0, 4, 0, 1, 0, 0, 0, local, remote)
+    guard = b"\xa5" * 64
+    handle = Handle(library, settings, b"u", b"p", bytes(32), guard)
+    (packet, data), (wait, _) = handle.call(0, POLL_TRANSMIT), handle.call(7, POLL)
+    holds = packet[:3] == (PACKET, 0, 0) and packet.len == len(data) and packet[6:13] == (0,) * 7
+    holds = holds and data[:2] == b"\0\3" and packet[13:] == (local, remote, NO_ADDRESS)
+    holds = holds and wait[:3] == (WAIT_UNTIL, 0, 1_000_000_000) and handle.beyond_answer() == guard
+    handle.free()
+    if not holds:
+        raise LibraryError(f"{library.path} has other structs than those that this package knows")
+
+
+class Handle:
+    """A client of the library, owned: freed when nothing refers to it any more.
+
+    It is used by one thread at a time. A second one gets `Busy`, and its call is not made. After `free` each call raises
+    `ValueError`.
+    """
+
+    __slots__ = ("__weakref__", "_acquire", "_answer", "_answer_at", "_args", "_beyond", "_call", "_finalizer", "_len",
+                 "_library", "_release", "_request", "_request_at", "_room", "_room_at", "_room_len", "_view", "_client")
+
+    def __init__(self, library: Library, settings: bytes, user: bytes, password: bytes, seed: bytes, guard: bytes = b"") -> None:
+        """A new client. `settings` are packed (`SETTINGS`). `ValueError`, or `MemoryError`, where there is none."""
+        place = ctypes.c_void_p()
+        sizes = [ctypes.c_size_t(len(it)) for it in (user, password, seed)]
+        error = library.new(settings, user, sizes[0], password, sizes[1], seed, sizes[2], ctypes.byref(place))
+        if error:
+            fail(error)
+        lock = threading.Lock()
+        self._library, self._call, self._client = library, library.call, place
+        self._acquire, self._release = lock.acquire, lock.release
+        self._finalizer = weakref.finalize(self, library.free, place)
+        self._request = bytearray(REQUEST.size)
+        self._answer = bytearray(ANSWER.size + len(guard))
+        self._beyond = guard
+        self._answer[ANSWER.size:] = guard
+        self._request_at, self._answer_at = _at(self._request), _at(self._answer)
+        self._len = ctypes.c_size_t()
+        self._make_room(MAX_PACKET)
+
+    def _make_room(self, size: int) -> None:
+        self._room = bytearray(size)
+        self._view = memoryview(self._room)
+        self._room_at, self._room_len = _at(self._room), ctypes.c_size_t(size)
+
+    def free(self) -> None:
+        """Frees the client, which sends nothing. A second time it does nothing."""
+        if not self._acquire(False):
+            raise Busy("another thread uses this client")
+        try:
+            self._call = _freed
+            self._finalizer()
+        finally:
+            self._release()
+
+    def beyond_answer(self) -> bytes:
+        """The bytes behind the answer, as `guard` set them: a call must not change them."""
+        return bytes(self._answer[ANSWER.size:])
+
+    def call(self, now: int, kind: int, id: int = 0, transport: int = 0, from_: bytes = NO_ADDRESS, to: bytes = NO_ADDRESS,
+             peer: bytes = NO_ADDRESS, local: bytes = NO_ADDRESS, data: Buffer = b"") -> Tuple[Answer, bytes]:
+        """Makes a call: its answer, and all bytes of it, also those that are read piece by piece.
+
+        `Busy`, `ValueError` where it is no call, and `MemoryError`, after which the client is valid, and may have ended.
+        """
+        if not self._acquire(False):
+            raise Busy("another thread uses this client")
+        try:
+            kind = self._make(now, kind, id, transport, from_, to, peer, local, data)
+            answer = Answer._make(ANSWER.unpack_from(self._answer))
+            if kind in (PACKET, PEER_DATA):
+                return answer, self._read_all(answer.len, answer.left)
+            return answer, b""
+        finally:
+            self._release()
+
+    def recv(self, now: int, transport: int, from_: bytes, to: bytes, data: Buffer) -> Tuple[int, int, int, bytes]:
+        """Makes the call RECV, read as far as data of a peer in the bytes needs it: kind, start, end and peer.
+
+        Of another kind than PEER_DATA_RANGE the answer is to be read by `last`.
+        """
+        if not self._acquire(False):
+            raise Busy("another thread uses this client")
+        try:
+            kind = self._make(now, RECV, 0, transport, from_, to, NO_ADDRESS, NO_ADDRESS, data)
+            size, start, peer = RANGE.unpack_from(self._answer)
+            return kind, start, start + size, peer
+        finally:
+            self._release()
+
+    def send_to(self, now: int, transport: int, peer: bytes, data: Buffer) -> Tuple[int, bytes]:
+        """Makes the call SEND_TO, read as far as a packet over UDP needs it: kind, and the bytes to send.
+
+        Of another kind than PACKET the answer is to be read by `last`.
+        """
+        if not self._acquire(False):
+            raise Busy("another thread uses this client")
+        try:
+            if len(data) + MAX_OVERHEAD > MAX_PACKET and len(data) + MAX_OVERHEAD > len(self._room):
+                self._make_room(len(data) + MAX_OVERHEAD)
+            kind = self._make(now, SEND_TO, 0, transport, NO_ADDRESS, NO_ADDRESS, peer, NO_ADDRESS, data)
+            if kind != PACKET:
+                return kind, b""
+            return kind, bytes(self._view[: LENGTHS.unpack_from(self._answer)[0]])
+        finally:
+            self._release()
+
+    def last(self) -> Tuple[Answer, bytes]:
+        """The whole answer of the last call, and all bytes of it."""
+        if not self._acquire(False):
+            raise Busy("another thread uses this client")
+        try:
+            answer = Answer._make(ANSWER.unpack_from(self._answer))
+            return answer, self._read_all(answer.len, answer.left) if answer.kind == PEER_DATA else b""
+        finally:
+            self._release()
+
+    def _make(self, now: int, kind: int, id: int, transport: int, from_: bytes, to: bytes, peer: bytes, local: bytes,
+              data: Buffer) -> int:
+        """Makes a call, and returns its kind, or raises. The answer is in `_answer`."""
+        try:
+            REQUEST.pack_into(self._request, 0, now, kind, id, transport, 0, from_, to, peer, local)
+        except struct.error:
+            raise ValueError(f"a time is from 0 to 2^62 nanoseconds, and an id has 32 bits: {now}, {id}") from None
+        self._answer[: ANSWER.size] = _NO_ANSWER
+        if data.__class__ is not bytes:
+            data = _pointed(data)
+        self._len.value = len(data)
+        found = self._call(self._client, self._request_at, data, self._len, self._room_at, self._room_len, self._answer_at)
+        if found <= SMALL_BUFFER:
+            fail(found)
+        return found
+
+    def _read_all(self, size: int, left: int) -> bytes:
+        """The bytes in the buffer, and those that did not fit into it."""
+        pieces = [bytes(self._view[:size])]
+        while left:
+            self._make(0, READ, 0, 0, NO_ADDRESS, NO_ADDRESS, NO_ADDRESS, NO_ADDRESS, b"")
+            size, left = LENGTHS.unpack_from(self._answer)
+            pieces.append(bytes(self._view[:size]))
+        return b"".join(pieces) if len(pieces) > 1 else pieces[0]
+
+
+_NO_ANSWER = bytes(ANSWER.size)
+
+
+def _at(buffer: bytearray) -> ctypes.Array[ctypes.c_char]:
+    """The memory of a buffer, to be passed to the library. It keeps the buffer where it is."""
+    return (ctypes.c_char * len(buffer)).from_buffer(buffer)
+
+
+def _pointed(data: Buffer) -> Union[bytes, ctypes.Array[ctypes.c_char]]:
+    """The memory of the caller's bytes, without a copy where they can be written to."""
+    view = memoryview(data)
+    if view.readonly or not view.c_contiguous or not view.nbytes:
+        return view.tobytes()
+    return (ctypes.c_char * view.nbytes).from_buffer(view)
+
+
+def _freed(*_: object) -> NoReturn:
+    raise ValueError("the client was closed")
