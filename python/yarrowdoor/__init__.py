@@ -13,3 +13,12 @@ from .errors import (
     AllocationFailed, Busy, ChannelFailed, ConnectFailed, Ended, LibraryError, PermissionFailed, Refused, WrongCredentials,
     YarrowdoorError,
 )
+from .relay import Clock, Lost, TurnClient
+from .uri import TurnUri
+
+__version__ = "0.1.0"
+
+__all__ = [
+    "Address", "AllocationFailed", "Busy", "ChannelFailed", "Client", "Clock", "ConnectFailed", "Ended", "LibraryError", "Lost",
+    "PermissionFailed", "Refused", "Times", "TurnClient", "TurnUri", "WrongCredentials", "YarrowdoorError",
+]

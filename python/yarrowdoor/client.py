@@ -126,12 +126,13 @@ class Ignored:
 
 @dataclass
 class PeerData:
-    """`peer` sent this over `transport`: a slice of what was passed in, or bytes that came in pieces."""
+    """`peer` sent this over `transport`: a slice from `start` on of what was passed in, or, with None, what came in pieces."""
 
-    __slots__ = ("data", "peer", "transport")
+    __slots__ = ("data", "peer", "transport", "start")
     data: Buffer
     peer: Address
     transport: str
+    start: Optional[int]
 
 
 @dataclass
@@ -339,14 +340,14 @@ class Client:
         kind, start, end, peer = self._recv(now, way, self._remote if remote is None else packed(remote),
                                             self._local if local is None else packed(local), data)
         if kind == c.PEER_DATA_RANGE:
-            return PeerData(data[start:end], unpacked(peer), _TRANSPORT_NAMES[self._relay_way])
+            return PeerData(data[start:end], unpacked(peer), _TRANSPORT_NAMES[self._relay_way], start)
         if kind == c.HANDLED:
             return _HANDLED
         if kind == c.IGNORED:
             return _IGNORED
         answer, pieces = self._handle.last()
         if kind == c.PEER_DATA:
-            return PeerData(pieces, unpacked(answer.peer), _TRANSPORT_NAMES[answer.transport])
+            return PeerData(pieces, unpacked(answer.peer), _TRANSPORT_NAMES[answer.transport], None)
         return PeerIcmp(unpacked(answer.peer), _TRANSPORT_NAMES[answer.transport], answer.icmp_type, answer.icmp_code,
                         answer.icmp_data)
 
@@ -355,7 +356,7 @@ class Client:
         answer, data = self._handle.call(now, c.POLL_RECV)
         if answer.kind != c.PEER_DATA:
             return None
-        return PeerData(data, unpacked(answer.peer), _TRANSPORT_NAMES[answer.transport])
+        return PeerData(data, unpacked(answer.peer), _TRANSPORT_NAMES[answer.transport], None)
 
     def send_to(self, peer: Address, data: Buffer, now: int) -> Packet:
         """The packet that carries data to `peer`, which needs a permission, or over TCP a data connection.

@@ -1,0 +1,217 @@
+"""Streams to peers over TCP (RFC 6062): a data connection to the server for each, as a reader and a writer of asyncio."""
+from __future__ import annotations
+
+import asyncio
+from typing import TYPE_CHECKING, Any, Dict, List, Optional, Tuple
+
+from . import client as sans_io
+from .client import Address
+from .errors import ConnectFailed, Ended, Refused
+
+if TYPE_CHECKING:
+    from .relay import Link, TurnClient
+
+__all__ = ["PeerTransport", "Streams"]
+
+Pair = Tuple[asyncio.StreamReader, asyncio.StreamWriter]
+
+# So many connections of peers wait to be accepted. A further one is refused.
+BACKLOG = 64
+# The most data of one call, in bytes.
+PIECE = 65536
+
+
+class PeerTransport(asyncio.Transport):
+    """The transport of a stream to a peer, over a data connection. `get_extra_info` knows `peername` and `sockname`."""
+
+    def __init__(self, streams: Streams, link: Link, peer: Address) -> None:
+        super().__init__({"peername": peer, "sockname": streams.relay.address})
+        self._streams, self.link, self.peer = streams, link, peer
+        self.is_accepted = False
+        reader = asyncio.StreamReader(loop=streams.loop)
+        self._protocol = asyncio.StreamReaderProtocol(reader, loop=streams.loop)
+        self._protocol.connection_made(self)
+        self.pair: Pair = reader, asyncio.StreamWriter(self, self._protocol, reader, streams.loop)
+        self._is_lost = False
+
+    def feed(self, data: bytes) -> None:
+        """Takes data of the peer."""
+        self._protocol.data_received(data)
+
+    def lose(self, error: Optional[Exception]) -> None:
+        """The data connection is gone."""
+        if not self._is_lost:
+            self._is_lost = True
+            self._protocol.connection_lost(error)
+
+    def write(self, data: Any) -> None:
+        view = memoryview(data).cast("B")
+        for place in range(0, len(view), PIECE):
+            packet = self._streams.client.send_to(self.peer, view[place : place + PIECE], self._streams.now())
+            self.link.send(packet.data)
+
+    def can_write_eof(self) -> bool:
+        """False: a server ends both directions at once."""
+        return False
+
+    def close(self) -> None:
+        self.link.close()
+
+    def abort(self) -> None:
+        self.link.ended = True
+        self.link.transport.abort()
+
+    def is_closing(self) -> bool:
+        return self.link.ended
+
+    def pause_reading(self) -> None:
+        self.link.transport.pause_reading()
+
+    def resume_reading(self) -> None:
+        if not self.link.transport.is_closing():
+            self.link.transport.resume_reading()
+
+    def is_reading(self) -> bool:
+        return bool(self.link.transport.is_reading())
+
+    def get_write_buffer_size(self) -> int:
+        return int(self.link.transport.get_write_buffer_size())
+
+    def set_write_buffer_limits(self, high: Optional[int] = None, low: Optional[int] = None) -> None:
+        self.link.transport.set_write_buffer_limits(high, low)
+
+    def pause_writing(self) -> None:
+        self._protocol.pause_writing()
+
+    def resume_writing(self) -> None:
+        self._protocol.resume_writing()
+
+    def set_protocol(self, protocol: asyncio.BaseProtocol) -> None:
+        raise NotImplementedError("the stream keeps its protocol")
+
+    def get_protocol(self) -> asyncio.BaseProtocol:
+        return self._protocol
+
+
+class Streams:
+    """All data connections of a relayed address."""
+
+    def __init__(self, relay: TurnClient) -> None:
+        self.relay, self.loop = relay, asyncio.get_running_loop()
+        self._by_peer: Dict[Address, PeerTransport] = {}
+        self._links: List[Link] = []
+        self._wanted: Dict[Address, Optional[Address]] = {}
+        self._accepted: asyncio.Queue[Optional[PeerTransport]] = asyncio.Queue()
+
+    @property
+    def client(self) -> sans_io.Client:
+        return self.relay._open()
+
+    def now(self) -> int:
+        return self.relay._clock.now()
+
+    async def connect(self, peer: Address) -> Pair:
+        """Has the server connect to a peer. A connection that the server closed before it was bound is tried once more:
+        its nonce may have been stale (docs/REAL-SERVERS.md)."""
+        await self.relay.permit(peer[0])
+        for attempt in (1, 2):
+            self._wanted[peer] = None
+            try:
+                await self.relay._request("connect", peer, lambda now: self.client.tcp_connect(peer, now))
+                return self._by_peer[peer].pair
+            except ConnectFailed as error:
+                if attempt == 2 or error.code is not None:
+                    raise
+            finally:
+                self._wanted.pop(peer, None)
+        raise AssertionError
+
+    async def accept(self) -> Pair:
+        """The next connection of a peer."""
+        found = await self._accepted.get()
+        if found is None:
+            self._accepted.put_nowait(None)
+            raise Ended("the client has ended")
+        return found.pair
+
+    async def open(self, wanted: sans_io.AllocateTcpSocket) -> None:
+        """Opens the data connection that the client wants: asked for by `connect`, or offered by a peer."""
+        link = None
+        if wanted.peer in self._wanted or self._accepted.qsize() < BACKLOG:
+            try:
+                link = await self.relay._connect(self._received, self._lost)
+                self._links.append(link)
+                self._add(link, wanted.peer)
+            except OSError:
+                pass
+        try:
+            self.client.allocated_tcp_socket(wanted, link.local if link else None, self.now())
+        except (Ended, Refused):
+            self._forget(link)
+        self.relay._drive()
+
+    def _add(self, link: Link, peer: Address) -> None:
+        stream = self._by_peer[peer] = PeerTransport(self, link, peer)
+        link.on_pause, link.on_resume = stream.pause_writing, stream.resume_writing
+
+    def connected(self, peer: Address) -> None:
+        """The data connection to a peer is bound."""
+        if peer not in self._wanted:
+            self._accepted.put_nowait(self._by_peer[peer])
+
+    def feed(self, data: bytes, peer: Address) -> None:
+        """Takes data of a peer."""
+        stream = self._by_peer.get(peer)
+        if stream is not None:
+            stream.feed(data)
+
+    def link_at(self, local: Address) -> Optional[Link]:
+        """The data connection with this local address."""
+        return next((link for link in self._links if link.local == local), None)
+
+    def drop(self, local: Address) -> None:
+        """Closes a data connection that the client has no use for."""
+        self._forget(self.link_at(local))
+
+    def close(self) -> None:
+        """Closes all streams, when what was written has left them."""
+        for link in self._links:
+            link.close()
+
+    def end(self) -> None:
+        """Closes all streams, since the client has ended."""
+        for link in [*self._links]:
+            self._forget(link)
+        self._accepted.put_nowait(None)
+
+    def _received(self, data: bytes, link: Link) -> None:
+        if self.relay.closed:
+            return
+        answer = self.client.recv(data, self.now(), remote=link.remote, local=link.local)
+        if isinstance(answer, sans_io.PeerData):
+            self.feed(bytes(answer.data), answer.peer)
+        self.relay._note(data, link, ignored=isinstance(answer, sans_io.Ignored))
+        self.relay._take_rest(self.now())
+        self.relay._drive()
+
+    def _lost(self, link: Link, error: Optional[Exception]) -> None:
+        """The data connection has ended, or was closed here."""
+        is_known = link in self._links
+        self._forget(link, error)
+        if is_known and not self.relay.closed:
+            self.client.recv(b"", self.now(), remote=link.remote, local=link.local)
+            self.relay._take_rest(self.now())
+            self.client.tcp_closed(link.local, link.remote, self.now())
+            self.relay._drive()
+
+    def _forget(self, link: Optional[Link], error: Optional[Exception] = None) -> None:
+        if link is None:
+            return
+        if link in self._links:
+            self._links.remove(link)
+        link.close()
+        for peer, stream in [*self._by_peer.items()]:
+            if stream.link is link:
+                del self._by_peer[peer]
+                stream.lose(error)
+                self.relay._settle("connect", peer, ConnectFailed(f"the server closed the connection for {peer}"))
