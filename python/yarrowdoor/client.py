@@ -94,7 +94,7 @@ class TcpClose:
 
 @dataclass
 class Closed:
-    """The client has ended, and no event is left."""
+    """The client has ended. Where the server never answered, an event may be left, that says so."""
 
     __slots__ = ()
 

@@ -108,6 +108,7 @@ class TurnClient:
         self._taker: Optional[asyncio.Future[None]] = None
         self._clock = clock or Clock()
         self._pending: Dict[Tuple[str, Any], asyncio.Future[None]] = {}
+        self._granted: Set[Tuple[str, Any]] = set()
         self._hints: Dict[int, Tuple[int, str]] = {}
         self._sent: Deque[bytes] = collections.deque(maxlen=64)
         self._timer: Optional[asyncio.TimerHandle] = None
@@ -117,7 +118,7 @@ class TurnClient:
         self._why = "the server gives no relayed address"
         self._client: Optional[Client] = None
         self._link: Optional[Link] = None
-        self._driving = False
+        self._driving = self._is_leaving = False
 
     # Beginning and end
 
@@ -156,6 +157,7 @@ class TurnClient:
         """Deletes the relayed address, closes all sockets, and returns when the server has answered, or after two seconds."""
         if self._client is None or self._ended.done():
             return
+        self._is_leaving = True
         try:
             self._streams.close()
             self._client.delete(self._clock.now())
@@ -379,10 +381,7 @@ class TurnClient:
             while not self._ended.done():
                 now = self._clock.now()
                 self._transmit(client, now)
-                for event in iter(client.poll_event, None):
-                    self._take_event(event)
-                if self._ended.done():
-                    return None
+                self._take_events(client)
                 rest = client.poll(now)
                 if isinstance(rest, sans_io.WaitUntil):
                     if rest.time > now:
@@ -392,7 +391,8 @@ class TurnClient:
                 elif isinstance(rest, sans_io.TcpClose):
                     self._streams.drop(rest.local)
                 else:
-                    self._end(Ended("the client has ended"))
+                    self._take_events(client)
+                    self._end(None if self._is_leaving else Ended("the client has ended"))
         finally:
             self._driving = False
 
@@ -415,6 +415,10 @@ class TurnClient:
         self._timer = None
         self._drive()
 
+    def _take_events(self, client: Client) -> None:
+        for event in iter(client.poll_event, None):
+            self._take_event(event)
+
     def _take_event(self, event: sans_io.Event) -> None:
         if isinstance(event, sans_io.AllocationCreated):
             self._address = event.address
@@ -422,12 +426,12 @@ class TurnClient:
         elif isinstance(event, sans_io.AllocationCreateFailed):
             _settle(self._ready, AllocationFailed(self._why, self._hints.get(reasons.ALLOCATE)))
         elif isinstance(event, sans_io.PermissionCreated):
-            self._settle("permit", event.ip, None)
+            self._grant("permit", event.ip)
         elif isinstance(event, sans_io.PermissionCreateFailed):
             hint = self._hints.get(reasons.CREATE_PERMISSION)
             self._lose("permit", "permission", event.ip, PermissionFailed(f"no permission for {event.ip}", hint))
         elif isinstance(event, sans_io.ChannelCreated):
-            self._settle("bind", event.peer, None)
+            self._grant("bind", event.peer)
         elif isinstance(event, sans_io.ChannelCreateFailed):
             hint = self._hints.get(reasons.CHANNEL_BIND)
             self._lose("bind", "channel", event.peer, ChannelFailed(f"no channel to {event.peer}", hint))
@@ -443,8 +447,14 @@ class TurnClient:
         waiter = self._pending.get((what, about))
         return waiter is not None and _settle(waiter, error)
 
+    def _grant(self, what: str, about: Union[str, Address]) -> None:
+        self._granted.add((what, about))
+        self._settle(what, about, None)
+
     def _lose(self, what: str, name: str, about: Union[str, Address], error: Exception) -> None:
-        if not self._settle(what, about, error):
+        was_granted = (what, about) in self._granted
+        self._granted.discard((what, about))
+        if not self._settle(what, about, error) and was_granted:
             lost = Lost(name, about)
             self.lost.append(lost)
             if self.on_lost is not None:
