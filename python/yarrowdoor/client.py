@@ -298,6 +298,7 @@ class Client:
             raise ValueError(f"a number of the settings does not fit: {error}") from None
         user, password = (it.encode() if isinstance(it, str) else bytes(it) for it in (user, password))
         self._handle = c.Handle(library or c.load(), settings, user, password, os.urandom(32) if seed is None else seed)
+        self._way_name, self._local_name, self._remote_name = transport, unpacked(self._local), unpacked(self._remote)
         self._recv, self._send_to = self._handle.recv, self._handle.send_to
 
     def close(self) -> None:
@@ -358,18 +359,18 @@ class Client:
             return None
         return PeerData(data, unpacked(answer.peer), _TRANSPORT_NAMES[answer.transport], None)
 
-    def send_to(self, peer: Address, data: Buffer, now: int) -> Packet:
+    def send_to(self, peer: Address, data: Buffer, now: int, *, transport: Optional[str] = None) -> Packet:
         """The packet that carries data to `peer`, which needs a permission, or over TCP a data connection.
 
         `Refused` (`no-permission`, `no-socket`). `ValueError` for over 65,504 bytes where the allocation is over UDP.
         """
-        kind, sent = self._send_to(now, self._relay_way, packed(peer), data)
-        answer = None
-        if kind != c.PACKET or self._way != self._relay_way or self._way:
-            answer, _ = self._handle.last()
-            _refuse(answer)
-            return _packet(answer, sent)
-        return Packet(sent, "udp", unpacked(self._local), unpacked(self._remote))
+        way = self._relay_way if transport is None else _number(_TRANSPORTS, transport)
+        kind, sent = self._send_to(now, way, packed(peer), data)
+        if kind == c.PACKET and not self._relay_way:
+            return Packet(sent, self._way_name, self._local_name, self._remote_name)
+        answer, _ = self._handle.last()
+        _refuse(answer)
+        return _packet(answer, sent)
 
     # Requests
 

@@ -1,0 +1,155 @@
+"""Runs a trace (docs/LINES.md) by `client.Client`, and gives the lines that turn_replay prints. A trace has no bad line here."""
+import ipaddress
+from typing import Callable, Dict, Iterator, List
+
+from yarrowdoor import client as sans_io
+from yarrowdoor.errors import Refused
+
+
+def address(text: str) -> sans_io.Address:
+    ip, _, port = text.rpartition(":")
+    return ip_of(ip), int(port)
+
+
+def ip_of(text: str) -> str:
+    return str(ipaddress.IPv6Address(bytes.fromhex(text[1:-1]))) if text.startswith("[") else text
+
+
+def shown_ip(ip: str) -> str:
+    return f"[{ipaddress.ip_address(ip).packed.hex()}]" if ":" in ip else ip
+
+
+def shown(where: sans_io.Address) -> str:
+    return f"{shown_ip(where[0])}:{where[1]}"
+
+
+def from_hex(text: str) -> bytes:
+    return bytes.fromhex("" if text == "-" else text)
+
+
+def to_hex(data: bytes) -> str:
+    return bytes(data).hex() or "-"
+
+
+def client_of(head: str) -> sans_io.Client:
+    way, local, remote, relay, families, signs, hides, user, password, seed, *times = head.split(" ")
+    waits = [int(it) for it in times[0].split(",")] if times else []
+    return sans_io.Client(
+        address(local), address(remote), from_hex(user), from_hex(password), transport=way, allocation=relay,
+        families=[int(it) for it in families.split(",")], algorithms=signs.split(","), anonymous=hides, seed=from_hex(seed),
+        times=sans_io.Times(waits[0], waits[1], waits[3], waits[2]) if waits else None,
+    )
+
+
+def shown_packet(packet: object) -> str:
+    if packet is None:
+        return "none"
+    return f"send {packet.transport} {shown(packet.local)} {shown(packet.remote)} {to_hex(packet.data)}"
+
+
+def shown_data(answer: object) -> str:
+    return "none" if answer is None else f"data {answer.transport} {shown(answer.peer)} {to_hex(answer.data)}"
+
+
+def shown_poll(rest: sans_io.Poll) -> str:
+    if isinstance(rest, sans_io.WaitUntil):
+        return f"wait {rest.time}"
+    if isinstance(rest, sans_io.AllocateTcpSocket):
+        return f"socket {rest.id} {rest.transport} {shown(rest.local)} {shown(rest.remote)} {shown(rest.peer)}"
+    return f"close {shown(rest.local)} {shown(rest.remote)}" if isinstance(rest, sans_io.TcpClose) else "closed"
+
+
+def shown_received(answer: sans_io.Received) -> str:
+    if isinstance(answer, sans_io.PeerData):
+        return shown_data(answer)
+    if isinstance(answer, sans_io.PeerIcmp):
+        return f"icmp {answer.transport} {shown(answer.peer)} {answer.type} {answer.code} {answer.data}"
+    return "handled" if isinstance(answer, sans_io.Handled) else "ignored"
+
+
+EVENTS: Dict[type, Callable[[object], str]] = {
+    type(None): lambda it: "none",
+    sans_io.AllocationCreated: lambda it: f"allocated {it.transport} {shown(it.address)}",
+    sans_io.AllocationCreateFailed: lambda it: f"allocate-failed {it.family}",
+    sans_io.PermissionCreated: lambda it: f"permitted {it.transport} {shown_ip(it.ip)}",
+    sans_io.PermissionCreateFailed: lambda it: f"permit-failed {it.transport} {shown_ip(it.ip)}",
+    sans_io.ChannelCreated: lambda it: f"bound {it.transport} {shown(it.peer)}",
+    sans_io.ChannelCreateFailed: lambda it: f"bind-failed {it.transport} {shown(it.peer)}",
+    sans_io.TcpConnected: lambda it: f"connected {shown(it.peer)}",
+    sans_io.TcpConnectFailed: lambda it: f"connect-failed {shown(it.peer)}",
+}
+
+
+class Replay:
+    def __init__(self, head: str) -> None:
+        self.client = client_of(head)
+        self.relay = head.split(" ")[3]
+
+    def answer(self, line: str) -> str:
+        moment, name, *words = line.split(" ")
+        try:
+            return getattr(self, name)(int(moment), *words)
+        except Refused as refusal:
+            return f"refused {refusal.reason}" + (f" {refusal.until}" if refusal.reason == "expired" else "")
+
+    def poll(self, now: int) -> str:
+        return shown_poll(self.client.poll(now))
+
+    def transmit(self, now: int) -> str:
+        return shown_packet(self.client.poll_transmit(now))
+
+    def event(self, now: int) -> str:
+        event = self.client.poll_event()
+        return EVENTS[type(event)](event)
+
+    def recv(self, now: int, way: str, source: str, to: str, data: str) -> str:
+        answer = self.client.recv(from_hex(data), now, transport=way, remote=address(source), local=address(to))
+        return shown_received(answer)
+
+    def poll_recv(self, now: int) -> str:
+        return shown_data(self.client.poll_recv(now))
+
+    def send(self, now: int, way: str, peer: str, data: str) -> str:
+        return shown_packet(self.client.send_to(address(peer), from_hex(data), now, transport=way))
+
+    def permit(self, now: int, way: str, ip: str) -> str:
+        return self.client.create_permission(ip_of(ip), now, transport=way) or "ok"
+
+    def bind(self, now: int, way: str, peer: str) -> str:
+        return self.client.bind_channel(address(peer), now, transport=way) or "ok"
+
+    def connect(self, now: int, peer: str) -> str:
+        return self.client.tcp_connect(address(peer), now) or "ok"
+
+    def socket(self, now: int, number: str, way: str, source: str, to: str, peer: str, local: str) -> str:
+        wanted = sans_io.AllocateTcpSocket(int(number), way, address(source), address(to), address(peer))
+        return self.client.allocated_tcp_socket(wanted, None if local == "-" else address(local), now) or "ok"
+
+    def delete(self, now: int) -> str:
+        return self.client.delete(now) or "ok"
+
+    def closed(self, now: int, local: str, remote: str) -> str:
+        return self.client.tcp_closed(address(local), address(remote), now) or "ok"
+
+    def error(self, now: int) -> str:
+        return self.client.protocol_error() or "ok"
+
+    def relayed(self, now: int) -> str:
+        return self.listed([f"{it.transport} {shown(it.address)}" for it in self.client.relayed_addresses()])
+
+    def permissions(self, now: int, way: str, relayed: str) -> str:
+        return self.listed([shown_ip(it) for it in self.client.permissions(address(relayed), transport=way)])
+
+    def have(self, now: int, way: str, ip: str) -> str:
+        return "yes" if self.client.have_permission(ip_of(ip), transport=way) else "no"
+
+    def listed(self, words: List[str]) -> str:
+        return " ".join([f"list {len(words)}", *words])
+
+
+def replay(trace: str) -> Iterator[str]:
+    """The answers to a trace, a line each."""
+    head, *calls = trace.rstrip("\n").split("\n")
+    client = Replay(head)
+    for line in calls:
+        yield client.answer(line)

@@ -1,0 +1,172 @@
+"""A client against a real server, coturn, which has to be installed."""
+import asyncio
+import contextlib
+import ssl
+import time
+import unittest
+from typing import AsyncIterator
+
+from yarrowdoor import Clock, ConnectFailed, PermissionFailed, TurnClient, WrongCredentials
+
+from . import coturn as server
+
+
+class Echo(asyncio.DatagramProtocol):
+    """A peer that sends back what it gets."""
+
+    def connection_made(self, transport) -> None:
+        self.transport = transport
+
+    def datagram_received(self, data: bytes, source) -> None:
+        self.transport.sendto(data, source)
+
+
+@contextlib.asynccontextmanager
+async def echo_peer() -> AsyncIterator["tuple[str, int]"]:
+    transport, _ = await asyncio.get_running_loop().create_datagram_endpoint(Echo, local_addr=("127.0.0.1", 0))
+    try:
+        yield transport.get_extra_info("sockname")
+    finally:
+        transport.close()
+
+
+async def echo_stream(reader: asyncio.StreamReader, writer: asyncio.StreamWriter) -> None:
+    """Sends back all, until the connection ends. coturn resets it."""
+    with contextlib.suppress(ConnectionError):
+        while data := await reader.read(65536):
+            writer.write(data)
+            await writer.drain()
+    writer.close()
+
+
+@unittest.skipUnless(server.IS_HERE, server.WHY)
+class Coturn(unittest.IsolatedAsyncioTestCase):
+    @classmethod
+    def setUpClass(cls) -> None:
+        stack = contextlib.ExitStack()
+        cls.addClassCleanup(stack.close)
+        cls.server = stack.enter_context(server.coturn())
+
+    def tls(self) -> ssl.SSLContext:
+        if not self.server.certificate:
+            self.skipTest("openssl is not installed, which makes a certificate")
+        return ssl.create_default_context(cafile=self.server.certificate)
+
+    async def echo(self, uri: str, **settings: object) -> None:
+        async with echo_peer() as peer, TurnClient(uri, "user", "pass", **settings) as relay:
+            self.assertEqual(relay.mapped_address, relay.local_address)
+            await relay.send(b"", peer)
+            self.assertEqual(await asyncio.wait_for(relay.receive(), 5), (b"", peer))
+            for way in (relay.permit(peer[0]), relay.bind(peer)):
+                await way
+                for size in (1, 3, 1200, 9000):
+                    await relay.send(bytes([size % 251]) * size, peer)
+                    self.assertEqual(await asyncio.wait_for(relay.receive(), 5), (bytes([size % 251]) * size, peer))
+            many = [b"%d" % number for number in range(200)]
+            for data in many:
+                await relay.send(data, peer)
+                self.assertEqual(await asyncio.wait_for(relay.receive(), 5), (data, peer))
+        self.assertTrue(relay.closed)
+        self.assertEqual((relay.dropped, relay.unsent), (0, 0))
+
+    async def test_udp(self) -> None:
+        await self.echo(self.server.uri())
+
+    async def test_tcp(self) -> None:
+        await self.echo(self.server.uri("turn:127.0.0.1:{port}?transport=tcp"))
+
+    async def test_tls(self) -> None:
+        await self.echo(self.server.uri("turns:localhost:{tls_port}"), ssl=self.tls())
+
+    async def test_a_certificate_that_nobody_trusts(self) -> None:
+        self.tls()
+        with self.assertRaisesRegex(Exception, "certificate"):
+            await TurnClient(self.server.uri("turns:localhost:{tls_port}"), "user", "pass").open()
+
+    async def test_a_hidden_user_name(self) -> None:
+        with self.assertRaises(WrongCredentials):  # coturn does not know USERHASH
+            await TurnClient(self.server.uri(), "user", "pass", anonymous="required").open()
+
+    async def test_wrong_credentials(self) -> None:
+        for form in ("turn:127.0.0.1:{port}", "turn:127.0.0.1:{port}?transport=tcp"):
+            for user, password in (("user", "other"), ("other", "pass")):
+                start = time.monotonic()
+                with self.assertRaises(WrongCredentials):
+                    await TurnClient(self.server.uri(form), user, password).open()
+                self.assertLess(time.monotonic() - start, 2)
+
+    async def test_a_denied_peer(self) -> None:
+        async with TurnClient(self.server.uri(), "user", "pass") as relay:
+            with self.assertRaises(PermissionFailed) as failed:
+                await relay.permit("0.0.0.1")
+            self.assertEqual(failed.exception.code, 403)
+
+    async def streams(self, uri: str, **settings: object) -> None:
+        peers = await asyncio.start_server(echo_stream, "127.0.0.1", 0)
+        peer = peers.sockets[0].getsockname()
+        async with TurnClient(uri, "user", "pass", relay="tcp", **settings) as relay:
+            for _ in range(2):
+                reader, writer = await asyncio.wait_for(relay.connect(peer), 10)
+                sent = bytes(range(256)) * 8192
+                writer.write(sent)
+                self.assertEqual(await asyncio.wait_for(reader.readexactly(len(sent)), 20), sent)
+                await writer.drain()
+                self.assertEqual(writer.get_extra_info("peername"), peer)
+                writer.close()
+                await writer.wait_closed()
+                await asyncio.sleep(0.1)
+            await self.accept(relay)
+            with self.assertRaises(ConnectFailed):
+                await asyncio.wait_for(relay.connect(("127.0.0.1", server.free_port())), 20)
+        peers.close()
+
+    async def accept(self, relay: TurnClient) -> None:
+        """A peer connects to the relayed address, and is answered."""
+        await relay.permit("127.0.0.1")
+        their_reader, their_writer = await asyncio.open_connection(*relay.address)
+        reader, writer = await asyncio.wait_for(relay.accept(), 10)
+        self.assertEqual(writer.get_extra_info("peername"), their_writer.get_extra_info("sockname"))
+        their_writer.write(b"question")
+        self.assertEqual(await asyncio.wait_for(reader.readexactly(8), 5), b"question")
+        writer.write(b"answer")
+        self.assertEqual(await asyncio.wait_for(their_reader.readexactly(6), 5), b"answer")
+        their_writer.close()
+        with contextlib.suppress(ConnectionError):
+            self.assertEqual(await asyncio.wait_for(reader.read(), 5), b"")
+
+    async def test_streams(self) -> None:
+        await self.streams(self.server.uri("turn:127.0.0.1:{port}?transport=tcp"))
+
+    async def test_streams_over_tls(self) -> None:
+        await self.streams(self.server.uri("turns:localhost:{tls_port}"), ssl=self.tls())
+
+    async def test_two_relays(self) -> None:
+        async with TurnClient(self.server.uri(), "user", "pass") as one, TurnClient(self.server.uri(), "user", "pass") as other:
+            await other.permit(one.address[0])
+            await one.send(b"question", other.address)
+            self.assertEqual(await asyncio.wait_for(other.receive(), 5), (b"question", one.address))
+            await other.send(b"answer", one.address)
+            self.assertEqual(await asyncio.wait_for(one.receive(), 5), (b"answer", other.address))
+
+
+@unittest.skipUnless(server.IS_HERE, server.WHY)
+class StaleNonces(unittest.IsolatedAsyncioTestCase):
+    async def test_half_an_hour(self) -> None:
+        """Thirty minutes of the client's time, in 12 seconds, while the server's nonces last 5 seconds."""
+        rate, minutes = 150, 30
+        with server.coturn("--stale-nonce=5") as at:
+            async with echo_peer() as peer, TurnClient(at.uri(), "user", "pass", clock=Clock(rate)) as relay:
+                await asyncio.gather(relay.bind(peer), *(relay.permit(f"127.0.0.{number}") for number in range(2, 6)))
+                until = asyncio.get_running_loop().time() + 60 * minutes / rate
+                number = 0
+                while asyncio.get_running_loop().time() < until:
+                    await relay.send(b"%d" % number, peer)
+                    self.assertEqual(await asyncio.wait_for(relay.receive(), 5), (b"%d" % number, peer))
+                    number += 1
+                    await asyncio.sleep(0.01)
+                self.assertEqual((list(relay.lost), relay.dropped, relay.closed), ([], 0, False))
+        self.assertGreater(number, 100)
+
+
+if __name__ == "__main__":
+    unittest.main()

@@ -1,0 +1,244 @@
+"""The library through `library.py` and `client.py`: what it answers, what it refuses, and that nothing is kept."""
+import ctypes
+import gc
+import os
+import pathlib
+import re
+import shutil
+import subprocess
+import sys
+import tempfile
+import threading
+import unittest
+from typing import List
+
+from yarrowdoor import client as sans_io
+from yarrowdoor import library
+from yarrowdoor.errors import Busy, LibraryError, Refused
+
+from .replay import replay
+
+ROOT = pathlib.Path(__file__).resolve().parent.parent.parent
+LOCAL, REMOTE = ("192.168.0.1", 1000), ("10.0.0.2", 2000)
+PAGE = ROOT / "docs" / "LINES.md"
+
+
+def new_client(**settings: object) -> sans_io.Client:
+    return sans_io.Client(LOCAL, REMOTE, "user", "pass", seed=bytes(32), algorithms=("sha1",), **settings)
+
+
+def blocks() -> List[str]:
+    """The indented blocks of the page on lines."""
+    text = re.sub(r"```[\s\S]*?```", "", PAGE.read_text())
+    return [re.sub(r"^    ", "", it, flags=re.M) + "\n" for it in re.findall(r"(?:^    .*\n?)+", text, re.M)]
+
+
+class Exchanges(unittest.TestCase):
+    """What the client answers: as the pages say, as the transcripts say, and as turn_replay says."""
+
+    @unittest.skipUnless(PAGE.exists(), "the sources are not here")
+    def test_the_exchanges_of_the_page(self) -> None:
+        first, answers, longer, answers_to_longer = (it.strip("\n") + "\n" for it in blocks()[:4])
+        self.assertEqual("".join(f"{it}\n" for it in replay(first)), answers)
+        self.assertEqual("".join(f"{it}\n" for it in replay(longer)), answers_to_longer)
+
+    @unittest.skipUnless((ROOT / "tools" / "library-tests").exists(), "the sources are not here")
+    def test_the_traces_of_the_repository(self) -> None:
+        program = pathlib.Path(os.environ.get("TURN_REPLAY") or ROOT / "crates" / "turn_replay" / "out" / "turn_replay")
+        with tempfile.TemporaryDirectory() as room:
+            made = [sys.executable, str(ROOT / "tools" / "library-tests" / "traces.py"), room, "200"]
+            subprocess.run(made, check=True, stdout=subprocess.DEVNULL)
+            compared = 0
+            for trace in sorted(pathlib.Path(room, "traces").iterdir()):
+                wanted = self.wanted(trace, program)
+                if wanted is not None:
+                    with self.subTest(trace=trace.name):
+                        self.assertEqual([*replay(trace.read_text())], wanted)
+                    compared += 1
+        self.assertGreater(compared, 300 if program.exists() else 100)
+
+    def wanted(self, trace: pathlib.Path, program: pathlib.Path) -> "List[str] | None":
+        """What a trace is answered: by turn_replay where it is built, else by the transcript. None where neither says."""
+        if program.exists():
+            with open(trace, "rb") as file:
+                ran = subprocess.run([str(program)], stdin=file, stdout=subprocess.PIPE)
+            return ran.stdout.decode().splitlines() if ran.returncode == 0 else None
+        answers = trace.parent.parent / "answers" / trace.name
+        return answers.read_text().splitlines() if answers.exists() else None
+
+
+class Refusals(unittest.TestCase):
+    """What is no call, and what the client refuses."""
+
+    def test_what_is_no_client(self) -> None:
+        for settings in (
+            {"allocation": "tcp"}, {"transport": "sctp"}, {"families": ()}, {"families": (4, 6, 4)}, {"families": (5,)},
+            {"algorithms": ("md5",)}, {"anonymous": "yes"}, {"times": sans_io.Times(initial=-1)}, {"seed": bytes(31)},
+            {"user": ""}, {"user": "u" * 509}, {"password": "p" * 65536}, {"local": ("localhost", 1)}, {"remote": ("1.2.3.4", 70000)},
+        ):
+            chosen = {"local": LOCAL, "remote": REMOTE, "user": "user", "password": "pass", **settings}
+            with self.subTest(settings=list(settings)), self.assertRaises(ValueError):
+                sans_io.Client(**chosen)
+
+    def test_what_is_no_call(self) -> None:
+        client = new_client()
+        for bad in (
+            lambda: client.poll(-1), lambda: client.poll((1 << 62) + 1), lambda: client.poll(1 << 64),
+            lambda: client.recv(b"", 0, transport="sctp"), lambda: client.recv(b"", 0, remote=("::g", 1)),
+            lambda: client.send_to(("1.2.3.4", 5), bytes(65505), 0), lambda: client.create_permission("1.2.3", 0),
+            lambda: client.bind_channel(("1.2.3.4", -1), 0), lambda: client.tcp_connect(("1.2.3.4", 5, 6), 0),
+        ):
+            with self.assertRaises(ValueError):
+                bad()
+        self.assertEqual(client.poll(0), sans_io.WaitUntil(0))
+
+    def test_what_is_refused(self) -> None:
+        client = new_client()
+        for refused, reason in (
+            (lambda: client.delete(0), "no-allocation"), (lambda: client.create_permission("1.2.3.4", 0), "no-allocation"),
+            (lambda: client.bind_channel(("1.2.3.4", 5), 0), "no-allocation"),
+            (lambda: client.send_to(("1.2.3.4", 5), b"", 0), "no-permission"),
+        ):
+            with self.assertRaises(Refused) as found:
+                refused()
+            self.assertEqual((found.exception.reason, found.exception.until), (reason, 0))
+
+    def test_ipv6(self) -> None:
+        client = sans_io.Client(("fe80::1", 1000, 0, 3), ("fe80::2", 2000, 0, 3), "user", "pass", families=(6,))
+        packet = client.poll_transmit(0)
+        self.assertEqual((packet.local, packet.remote), (("fe80::1", 1000, 0, 3), ("fe80::2", 2000, 0, 3)))
+        self.assertEqual(sans_io.unpacked(sans_io.packed(("::1", 5, 0, 0))), ("::1", 5))
+
+    def test_buffers_of_the_caller(self) -> None:
+        answers = []
+        for kind in (bytes, bytearray, memoryview, lambda it: memoryview(bytearray(it)), lambda it: memoryview(it * 2)[::2]):
+            client = new_client()
+            client.poll_transmit(0)
+            challenge = bytes.fromhex(
+                "011300202112a44276b8e0ada0f13d90405d6ae50009000400000401001400057265616c6d000000001500056e6f6e6365000000")
+            doubled = bytes(it for one in challenge for it in (one, 0))
+            given = memoryview(doubled)[::2] if kind not in (bytes, bytearray, memoryview) and len(answers) == 4 else kind(challenge)
+            answers.append((client.recv(given, 0), client.poll_transmit(50_000_000).data))
+        self.assertEqual(answers, answers[:1] * 5)
+        self.assertEqual(answers[0][0], sans_io.Handled())
+
+
+class Ownership(unittest.TestCase):
+    """A client is used by one thread at a time, and is freed once."""
+
+    def test_a_second_thread_gets_an_error(self) -> None:
+        client = new_client()
+        client._handle._acquire()
+        found: List[object] = []
+
+        def use() -> None:
+            for call in (lambda: client.poll(0), lambda: client.recv(b"", 0), client.close):
+                try:
+                    found.append(call())
+                except Busy as error:
+                    found.append(error)
+
+        thread = threading.Thread(target=use)
+        thread.start()
+        thread.join()
+        client._handle._release()
+        self.assertEqual([type(it) for it in found], [Busy] * 3)
+        self.assertEqual(client.poll(0), sans_io.WaitUntil(0))
+
+    def test_many_threads_break_nothing(self) -> None:
+        client = new_client()
+        client.poll_transmit(0)
+        wrong: List[object] = []
+
+        def use() -> None:
+            for _ in range(3000):
+                try:
+                    if client.poll(0) != sans_io.WaitUntil(500_000_000):
+                        wrong.append("another answer")
+                except Busy:
+                    pass
+                except Exception as error:
+                    wrong.append(error)
+
+        threads = [threading.Thread(target=use) for _ in range(8)]
+        for thread in threads:
+            thread.start()
+        for thread in threads:
+            thread.join()
+        self.assertEqual(wrong, [])
+
+    def test_each_client_is_freed_once(self) -> None:
+        counted = CountingLibrary()
+        clients = [new_client(library=counted) for _ in range(10)]
+        for client in clients[:5]:
+            client.close()
+            client.close()
+        self.assertEqual((counted.made, counted.freed), (10, 5))
+        del client, clients
+        gc.collect()
+        self.assertEqual((counted.made, counted.freed), (10, 10))
+        with self.assertRaises(ValueError):
+            new_client(library=counted, families=(7,))
+        self.assertEqual(counted.made, counted.freed)
+
+    def test_a_closed_client_makes_no_call(self) -> None:
+        client = new_client()
+        client.close()
+        for call in (lambda: client.poll(0), lambda: client.recv(b"x", 0), lambda: client.send_to(("1.2.3.4", 5), b"", 0)):
+            with self.assertRaises(ValueError):
+                call()
+
+
+class CountingLibrary:
+    """The library, with the clients counted that it makes and frees."""
+
+    def __init__(self) -> None:
+        self.of, self.made, self.freed, self.call = library.load(), 0, 0, library.load().call
+
+    def new(self, *args: object) -> int:
+        error = self.of.new(*args)
+        self.made += not error
+        return error
+
+    def free(self, client: ctypes.c_void_p) -> None:
+        self.freed += 1
+        self.of.free(client)
+
+
+OTHER = """
+#include <stdint.h>
+#include <string.h>
+static char client[1];
+uint32_t yarrowdoor_new(void *s, void *u, size_t ul, void *p, size_t pl, void *d, size_t dl, char **place)
+{ *place = client; return 0; }
+uint32_t yarrowdoor_call(void *c, void *q, void *b, size_t bl, void *r, size_t rl, uint32_t *answer)
+{ memset(answer, 0, 152); answer[0] = 14; return 14; }
+void yarrowdoor_free(void *c) {}
+"""
+
+
+class Loading(unittest.TestCase):
+    """Where there is no library, or another one."""
+
+    def test_no_file(self) -> None:
+        with self.assertRaises(LibraryError):
+            library.Library("/nowhere/libyarrowdoor.so.0")
+
+    def test_no_library(self) -> None:
+        with self.assertRaises(LibraryError):
+            library.Library(__file__)
+
+    @unittest.skipUnless(shutil.which("cc"), "there is no C compiler")
+    def test_other_versions_and_structs(self) -> None:
+        with tempfile.TemporaryDirectory() as room:
+            source = pathlib.Path(room, "other.c")
+            source.write_text(OTHER)
+            for name, reason in (("libyarrowdoor.so.1", "is libyarrowdoor.so.1"), (library.NAME, "other structs")):
+                made = pathlib.Path(room, name)
+                subprocess.run(["cc", "-shared", "-fPIC", f"-Wl,-soname,{name}", str(source), "-o", str(made)], check=True)
+                with self.assertRaisesRegex(LibraryError, reason):
+                    library.Library(made)
+
+
+if __name__ == "__main__":
+    unittest.main()
