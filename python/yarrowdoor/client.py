@@ -43,6 +43,7 @@ _TRANSPORTS = {"udp": 0, "tcp": 1}
 _TRANSPORT_NAMES = ("udp", "tcp")
 _ALGORITHMS = {"sha1": 1, "sha256": 2}
 _ANONYMOUS = {"auto": 0, "required": 1, "disabled": 2}
+_RANGE, _HANDLED_KIND, _PACKET = c.PEER_DATA_RANGE, c.HANDLED, c.PACKET
 _REASONS = {1: "already-exists", 2: "no-allocation", 3: "no-permission", 4: "no-socket", 5: "expired"}
 
 
@@ -299,6 +300,7 @@ class Client:
         user, password = (it.encode() if isinstance(it, str) else bytes(it) for it in (user, password))
         self._handle = c.Handle(library or c.load(), settings, user, password, os.urandom(32) if seed is None else seed)
         self._way_name, self._local_name, self._remote_name = transport, unpacked(self._local), unpacked(self._remote)
+        self._relay_name = allocation
         self._recv, self._send_to = self._handle.recv, self._handle.send_to
 
     def close(self) -> None:
@@ -340,9 +342,9 @@ class Client:
         way = self._way if transport is None else _number(_TRANSPORTS, transport)
         kind, start, end, peer = self._recv(now, way, self._remote if remote is None else packed(remote),
                                             self._local if local is None else packed(local), data)
-        if kind == c.PEER_DATA_RANGE:
-            return PeerData(data[start:end], unpacked(peer), _TRANSPORT_NAMES[self._relay_way], start)
-        if kind == c.HANDLED:
+        if kind == _RANGE:
+            return PeerData(data[start:end], unpacked(peer), self._relay_name, start)
+        if kind == _HANDLED_KIND:
             return _HANDLED
         if kind == c.IGNORED:
             return _IGNORED
@@ -366,10 +368,11 @@ class Client:
         """
         way = self._relay_way if transport is None else _number(_TRANSPORTS, transport)
         kind, sent = self._send_to(now, way, packed(peer), data)
-        if kind == c.PACKET and not self._relay_way:
+        if kind == _PACKET and not self._relay_way:
             return Packet(sent, self._way_name, self._local_name, self._remote_name)
         answer, _ = self._handle.last()
-        _refuse(answer)
+        if kind == c.REFUSED:
+            raise Refused(_REASONS.get(answer.error, str(answer.error)))
         return _packet(answer, sent)
 
     # Requests

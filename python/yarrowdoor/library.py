@@ -37,6 +37,9 @@ NO_ADDRESS = bytes(ADDRESS.size)
 SETTINGS = struct.Struct("=QQQIIIIIIIIII28s28s")
 # struct yarrowdoor_request: time, kind, id, transport, 0, from, to, peer, local.
 REQUEST = struct.Struct("=QIIII28s28s28s28s")
+# What RECV and SEND_TO use of it; all else is 0.
+RECV_REQUEST = struct.Struct("=QIIII28s28s56x")
+SEND_REQUEST = struct.Struct("=QIIII56x28s28x")
 # struct yarrowdoor_answer: the fields of Answer.
 ANSWER = struct.Struct("=IIQQQQIIIIBBH28s28s28s")
 # What an answer has of data in the bytes that were passed in: len, start, peer.
@@ -224,6 +227,9 @@ class Handle:
         finally:
             self._release()
 
+    # These two are the way of each packet, so they do what `_make` does by themselves, and set no answer to 0 before: of the
+    # fields only those are read that the kind has.
+
     def recv(self, now: int, transport: int, from_: bytes, to: bytes, data: Buffer) -> Tuple[int, int, int, bytes]:
         """Makes the call RECV, read as far as data of a peer in the bytes needs it: kind, start, end and peer.
 
@@ -232,9 +238,19 @@ class Handle:
         if not self._acquire(False):
             raise Busy("another thread uses this client")
         try:
-            kind = self._make(now, RECV, 0, transport, from_, to, NO_ADDRESS, NO_ADDRESS, data)
-            size, start, peer = RANGE.unpack_from(self._answer)
-            return kind, start, start + size, peer
+            _pack_recv(self._request, 0, now, RECV, 0, transport, 0, from_, to)
+            if data.__class__ is not bytes:
+                data = _pointed(data)
+            self._len.value = len(data)
+            kind = self._call(self._client, self._request_at, data, self._len, self._room_at, self._room_len, self._answer_at)
+            if kind == PEER_DATA_RANGE:
+                size, start, peer = _unpack_range(self._answer)
+                return kind, start, start + size, peer
+            if kind <= SMALL_BUFFER:
+                fail(kind)
+            return kind, 0, 0, NO_ADDRESS
+        except struct.error:
+            fail(BAD_TIME)
         finally:
             self._release()
 
@@ -246,17 +262,25 @@ class Handle:
         if not self._acquire(False):
             raise Busy("another thread uses this client")
         try:
-            if len(data) + MAX_OVERHEAD > MAX_PACKET and len(data) + MAX_OVERHEAD > len(self._room):
-                self._make_room(len(data) + MAX_OVERHEAD)
-            kind = self._make(now, SEND_TO, 0, transport, NO_ADDRESS, NO_ADDRESS, peer, NO_ADDRESS, data)
-            if kind != PACKET:
-                return kind, b""
-            return kind, bytes(self._view[: LENGTHS.unpack_from(self._answer)[0]])
+            _pack_send(self._request, 0, now, SEND_TO, 0, transport, 0, peer)
+            if data.__class__ is not bytes:
+                data = _pointed(data)
+            self._len.value = size = len(data)
+            if size > MAX_PACKET - MAX_OVERHEAD and size > len(self._room) - MAX_OVERHEAD:
+                self._make_room(size + MAX_OVERHEAD)
+            kind = self._call(self._client, self._request_at, data, self._len, self._room_at, self._room_len, self._answer_at)
+            if kind == PACKET:
+                return kind, bytes(self._view[: _unpack_len(self._answer)[0]])
+            if kind <= SMALL_BUFFER:
+                fail(kind)
+            return kind, b""
+        except struct.error:
+            fail(BAD_TIME)
         finally:
             self._release()
 
     def last(self) -> Tuple[Answer, bytes]:
-        """The whole answer of the last call, and all bytes of it."""
+        """The answer of the last call, and all bytes of it. Fields that its kind does not have may be those of an earlier one."""
         if not self._acquire(False):
             raise Busy("another thread uses this client")
         try:
@@ -292,6 +316,8 @@ class Handle:
 
 
 _NO_ANSWER = bytes(ANSWER.size)
+_pack_recv, _pack_send = RECV_REQUEST.pack_into, SEND_REQUEST.pack_into
+_unpack_range, _unpack_len = RANGE.unpack_from, struct.Struct("=16xQ").unpack_from
 
 
 def _at(buffer: bytearray) -> ctypes.Array[ctypes.c_char]:

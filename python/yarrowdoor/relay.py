@@ -105,7 +105,7 @@ class TurnClient:
         self._deliver: Receiver = receiver or self._queue_data
         self._queue: Deque[Tuple[sans_io.Buffer, Address]] = collections.deque()
         self._queue_max = queue
-        self._taker: Optional[asyncio.Future[None]] = None
+        self._takers: Deque[asyncio.Future[None]] = collections.deque()
         self._clock = clock or Clock()
         self._pending: Dict[Tuple[str, Any], asyncio.Future[None]] = {}
         self._granted: Set[Tuple[str, Any]] = set()
@@ -271,9 +271,9 @@ class TurnClient:
                 if self._error is not None:
                     raise self._error
                 raise StopAsyncIteration
-            if self._taker is None or self._taker.done():
-                self._taker = self._loop.create_future()
-            await asyncio.shield(self._taker)
+            taker = self._loop.create_future()
+            self._takers.append(taker)
+            await taker
         return self._queue.popleft()
 
     async def receive(self) -> Tuple[sans_io.Buffer, Address]:
@@ -288,8 +288,14 @@ class TurnClient:
             self.dropped += 1
             return
         self._queue.append((data, peer))
-        if self._taker is not None and not self._taker.done():
-            self._taker.set_result(None)
+        self._wake_taker()
+
+    def _wake_taker(self) -> bool:
+        """Wakes one that waits for data, and says whether there was one. One that was cancelled waits no more."""
+        while self._takers:
+            if _settle(self._takers.popleft(), None):
+                return True
+        return False
 
     # The sockets
 
@@ -517,8 +523,10 @@ class TurnClient:
             self._ended.set_result(None)
             if self._client is not None:
                 self._client.close()
-        for waiter in [*self._pending.values(), *([self._taker] if self._taker else [])]:
-            _settle(waiter, None if waiter is self._taker else Ended("the client has ended"))
+        for waiter in self._pending.values():
+            _settle(waiter, Ended("the client has ended"))
+        while self._wake_taker():
+            pass
         self._streams.end()
         if self._timer is not None:
             self._timer.cancel()
