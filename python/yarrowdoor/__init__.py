@@ -13,7 +13,8 @@ from .errors import (
     AllocationFailed, Busy, ChannelFailed, ConnectFailed, Ended, LibraryError, PermissionFailed, Refused, WrongCredentials,
     YarrowdoorError,
 )
-from .relay import Clock, Lost, TurnClient
+from .clock import Clock
+from .relay import Lost, TurnClient
 from .uri import TurnUri
 
 __version__ = "0.1.0"

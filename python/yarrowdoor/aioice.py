@@ -9,6 +9,7 @@ for `install` alone.
 from __future__ import annotations
 
 import asyncio
+import importlib
 import ssl as tls
 from typing import Any, Callable, Dict, List, Optional, Set, Tuple, TypeVar, Union
 
@@ -29,9 +30,8 @@ REST = 5.0
 
 def install() -> None:
     """Has aioice make its relayed candidates by `create_turn_endpoint` of this module."""
-    import aioice.turn
-
-    aioice.turn.create_turn_endpoint = create_turn_endpoint
+    module: Any = importlib.import_module("aioice.turn")
+    module.create_turn_endpoint = create_turn_endpoint
 
 
 async def create_turn_endpoint(protocol_factory: Callable[[], Protocol], server_addr: Tuple[str, int], username: Optional[str],

@@ -24,6 +24,7 @@ from __future__ import annotations
 import functools
 import os
 import socket
+import struct
 from dataclasses import dataclass
 from typing import Any, Callable, Dict, List, Optional, Sequence, Tuple, Union
 
@@ -234,7 +235,7 @@ def packed(address: Address) -> bytes:
         if ":" not in ip:
             return c.ADDRESS.pack(socket.inet_pton(socket.AF_INET, ip), 0, 0, port, 4, 0)
         return c.ADDRESS.pack(socket.inet_pton(socket.AF_INET6, ip.partition("%")[0]), flow, scope, port, 6, 0)
-    except (OSError, ValueError, TypeError, c.struct.error):
+    except (OSError, ValueError, TypeError, struct.error):
         raise ValueError(f"{address!r} is not an IP address with a port") from None
 
 
@@ -295,7 +296,7 @@ class Client:
         try:
             settings = c.SETTINGS.pack(*waits, self._way, self._relay_way, *_two(families), *_two(signs),
                                        _number(_ANONYMOUS, anonymous), 0, self._local, self._remote)
-        except c.struct.error as error:
+        except struct.error as error:
             raise ValueError(f"a number of the settings does not fit: {error}") from None
         user, password = (it.encode() if isinstance(it, str) else bytes(it) for it in (user, password))
         self._handle = c.Handle(library or c.load(), settings, user, password, os.urandom(32) if seed is None else seed)

@@ -44,7 +44,8 @@ class _Hinted(YarrowdoorError):
     """
 
     def __init__(self, message: str, hint: Hint = None) -> None:
-        self.code, self.phrase = hint or (None, "")
+        self.code: Optional[int] = hint[0] if hint else None
+        self.phrase: str = hint[1] if hint else ""
         super().__init__(f"{message} ({self.code} {self.phrase})".replace(" )", ")") if hint else message)
 
 

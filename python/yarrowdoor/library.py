@@ -14,7 +14,7 @@ import re
 import struct
 import threading
 import weakref
-from typing import NamedTuple, NoReturn, Optional, Tuple, Union
+from typing import Callable, NamedTuple, NoReturn, Optional, Tuple, Union
 
 from .errors import Busy, LibraryError
 
@@ -180,7 +180,8 @@ class Handle:
         if error:
             fail(error)
         lock = threading.Lock()
-        self._library, self._call, self._client = library, library.call, place
+        self._library, self._client = library, place
+        self._call: Callable[..., int] = library.call
         self._acquire, self._release = lock.acquire, lock.release
         self._finalizer = weakref.finalize(self, library.free, place)
         self._request = bytearray(REQUEST.size)
@@ -239,10 +240,9 @@ class Handle:
             raise Busy("another thread uses this client")
         try:
             _pack_recv(self._request, 0, now, RECV, 0, transport, 0, from_, to)
-            if data.__class__ is not bytes:
-                data = _pointed(data)
-            self._len.value = len(data)
-            kind = self._call(self._client, self._request_at, data, self._len, self._room_at, self._room_len, self._answer_at)
+            given = data if data.__class__ is bytes else _pointed(data)
+            self._len.value = len(given)
+            kind = self._call(self._client, self._request_at, given, self._len, self._room_at, self._room_len, self._answer_at)
             if kind == PEER_DATA_RANGE:
                 size, start, peer = _unpack_range(self._answer)
                 return kind, start, start + size, peer
@@ -263,12 +263,11 @@ class Handle:
             raise Busy("another thread uses this client")
         try:
             _pack_send(self._request, 0, now, SEND_TO, 0, transport, 0, peer)
-            if data.__class__ is not bytes:
-                data = _pointed(data)
-            self._len.value = size = len(data)
+            given = data if data.__class__ is bytes else _pointed(data)
+            self._len.value = size = len(given)
             if size > MAX_PACKET - MAX_OVERHEAD and size > len(self._room) - MAX_OVERHEAD:
                 self._make_room(size + MAX_OVERHEAD)
-            kind = self._call(self._client, self._request_at, data, self._len, self._room_at, self._room_len, self._answer_at)
+            kind = self._call(self._client, self._request_at, given, self._len, self._room_at, self._room_len, self._answer_at)
             if kind == PACKET:
                 return kind, bytes(self._view[: _unpack_len(self._answer)[0]])
             if kind <= SMALL_BUFFER:
@@ -297,10 +296,9 @@ class Handle:
         except struct.error:
             raise ValueError(f"a time is from 0 to 2^62 nanoseconds, and an id has 32 bits: {now}, {id}") from None
         self._answer[: ANSWER.size] = _NO_ANSWER
-        if data.__class__ is not bytes:
-            data = _pointed(data)
-        self._len.value = len(data)
-        found = self._call(self._client, self._request_at, data, self._len, self._room_at, self._room_len, self._answer_at)
+        given = data if data.__class__ is bytes else _pointed(data)
+        self._len.value = len(given)
+        found = self._call(self._client, self._request_at, given, self._len, self._room_at, self._room_len, self._answer_at)
         if found <= SMALL_BUFFER:
             fail(found)
         return found

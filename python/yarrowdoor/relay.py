@@ -4,7 +4,6 @@ from __future__ import annotations
 import asyncio
 import collections
 import ssl as tls
-import time
 from dataclasses import dataclass
 from types import TracebackType
 from typing import Any, AsyncIterator, Awaitable, Callable, Deque, Dict, List, Optional, Set, Tuple, Type, Union
@@ -12,13 +11,15 @@ from typing import Any, AsyncIterator, Awaitable, Callable, Deque, Dict, List, O
 from . import client as sans_io
 from . import reasons
 from .client import Address, Client, Times
+from .clock import Clock
 from .errors import (
     AllocationFailed, ChannelFailed, ConnectFailed, Ended, PermissionFailed, Refused, WrongCredentials, YarrowdoorError,
 )
+from .link import Link
 from .streams import Streams
 from .uri import TurnUri, parse
 
-__all__ = ["Clock", "Lost", "TurnClient"]
+__all__ = ["Lost", "TurnClient"]
 
 # So many requests are pending at a time. The client ends at the tenth challenge in a row, and all that are pending under one
 # nonce are challenged together (docs/REAL-SERVERS.md).
@@ -31,24 +32,6 @@ MAX_SLEEP = 15.0
 DELETE_WAIT = 2.0
 
 Receiver = Callable[[sans_io.Buffer, Address], None]
-
-
-class Clock:
-    """Nanoseconds since it was made, also while the computer sleeps. With another `rate` it is faster, as tests need it."""
-
-    def __init__(self, rate: float = 1.0) -> None:
-        boot = getattr(time, "CLOCK_BOOTTIME", None)
-        self._read: Callable[[], int] = time.monotonic_ns if boot is None else lambda: time.clock_gettime_ns(boot)
-        self._start, self._rate = self._read(), rate
-
-    def now(self) -> int:
-        """The time of the client."""
-        passed = self._read() - self._start
-        return passed if self._rate == 1.0 else int(passed * self._rate)
-
-    def seconds(self, until: int) -> float:
-        """How long it takes until this time of the client, in seconds; 0 where it has passed."""
-        return max(0.0, (until - self.now()) / 1e9 / self._rate)
 
 
 @dataclass(frozen=True)
@@ -316,10 +299,10 @@ class TurnClient:
             return
         now = self._clock.now()
         answer = client.recv(data, now)
-        if answer.__class__ is sans_io.PeerData:
-            self._deliver(answer.data, answer.peer)  # type: ignore[union-attr]
+        if isinstance(answer, sans_io.PeerData):
+            self._deliver(answer.data, answer.peer)
             # A datagram, or a piece that is one ChannelData message, has nothing else in it. Data makes nothing due.
-            if link.frames is None or answer.start == 4 and len(data) < len(answer.data) + 8:  # type: ignore[union-attr]
+            if link.frames is None or answer.start == 4 and len(data) < len(answer.data) + 8:
                 return
         self._note(data, link, ignored=isinstance(answer, sans_io.Ignored))
         if link.frames is not None:
@@ -422,8 +405,10 @@ class TurnClient:
         self._drive()
 
     def _take_events(self, client: Client) -> None:
-        for event in iter(client.poll_event, None):
+        event = client.poll_event()
+        while event is not None:
             self._take_event(event)
+            event = client.poll_event()
 
     def _take_event(self, event: sans_io.Event) -> None:
         if isinstance(event, sans_io.AllocationCreated):
@@ -543,68 +528,3 @@ def _settle(waiter: asyncio.Future[None], error: Optional[Exception]) -> bool:
     else:
         waiter.set_exception(error)
     return True
-
-
-class Link(asyncio.DatagramProtocol, asyncio.Protocol):
-    """A socket to the server, over UDP, TCP or TLS."""
-
-    def __init__(self, received: Callable[[bytes, Link], None], lost: Callable[[Link, Optional[Exception]], None]) -> None:
-        self._received, self._lost = received, lost
-        self.writable = asyncio.Event()
-        self.writable.set()
-        self.frames: Optional[reasons.Frames] = None
-        self.ended = False
-        self.on_pause: Callable[[], None] = lambda: None
-        self.on_resume: Callable[[], None] = lambda: None
-
-    def connection_made(self, transport: Any) -> None:
-        self.transport = transport
-        self.local, self.remote = (_address(transport.get_extra_info(it)) for it in ("sockname", "peername"))
-        is_udp = hasattr(transport, "sendto")
-        self._write = transport.sendto if is_udp else transport.write
-        self.frames = None if is_udp else reasons.Frames()
-
-    def data_received(self, data: bytes) -> None:
-        self._received(data, self)
-
-    def datagram_received(self, data: bytes, addr: Any) -> None:
-        self._received(data, self)
-
-    def error_received(self, exc: Exception) -> None:
-        self._lost(self, exc)
-
-    def connection_lost(self, exc: Optional[Exception]) -> None:
-        self.ended = True
-        self.writable.set()
-        if self.frames is not None:
-            self._lost(self, exc)
-
-    def pause_writing(self) -> None:
-        self.writable.clear()
-        self.on_pause()
-
-    def resume_writing(self) -> None:
-        self.writable.set()
-        self.on_resume()
-
-    def send(self, data: bytes) -> None:
-        """Sends a message of the client. One that is lost is retransmitted, or makes its request fail."""
-        if not self.ended and not self.transport.is_closing():
-            self._write(data)
-
-    def send_data(self, data: bytes) -> bool:
-        """Sends data, or drops it where the socket is full."""
-        if not self.writable.is_set() or self.ended:
-            return False
-        self._write(data)
-        return True
-
-    def close(self) -> None:
-        """Closes the socket, when what was sent has left it."""
-        self.ended = True
-        self.transport.close()
-
-
-def _address(name: Any) -> Address:
-    """An address of a socket, without flow and scope where both are 0."""
-    return tuple(name) if len(name) == 4 and any(name[2:]) else (name[0], name[1])

@@ -9,7 +9,8 @@ from .client import Address
 from .errors import ConnectFailed, Ended, Refused
 
 if TYPE_CHECKING:
-    from .relay import Link, TurnClient
+    from .link import Link
+    from .relay import TurnClient
 
 __all__ = ["PeerTransport", "Streams"]
 
