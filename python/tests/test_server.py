@@ -2,6 +2,7 @@
 import asyncio
 import time
 import unittest
+import unittest.mock
 
 from yarrowdoor import (
     AllocationFailed, ChannelFailed, Clock, Ended, PermissionFailed, Refused, Times, TurnClient, WrongCredentials,
@@ -181,6 +182,28 @@ class ThroughASocket(unittest.IsolatedAsyncioTestCase):
         with self.assertRaises(AllocationFailed) as failed:
             await TurnClient(endpoint.uri, "user", "pass").open()
         self.assertIn("refused", str(failed.exception).lower())
+
+    async def test_another_address_of_the_server(self) -> None:
+        endpoint = await self.serve()
+
+        async def hosts(relay: TurnClient) -> "list[str]":
+            return ["127.0.0.2", "127.0.0.1"]  # nothing listens at the first one
+
+        with unittest.mock.patch.object(TurnClient, "_hosts", hosts):
+            async with TurnClient(endpoint.uri, "user", "pass") as relay:
+                await relay.send(b"hello", ("10.1.0.1", 9000))
+                self.assertEqual(await asyncio.wait_for(relay.receive(), 5), (b"hello", ("10.1.0.1", 9000)))
+
+    async def test_opening_that_is_cancelled(self) -> None:
+        endpoint = await self.serve()
+        endpoint.server.is_dead = True
+        relay = TurnClient(endpoint.uri, "user", "pass")
+        with self.assertRaises(asyncio.TimeoutError):
+            await asyncio.wait_for(relay.open(), 0.1)
+        self.assertTrue(relay.closed)
+        await relay.close()
+        with self.assertRaises(RuntimeError):
+            await relay.open()
 
     async def test_a_server_that_is_silent(self) -> None:
         endpoint = await self.serve()

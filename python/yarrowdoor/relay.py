@@ -3,6 +3,7 @@ from __future__ import annotations
 
 import asyncio
 import collections
+import socket
 import ssl as tls
 from dataclasses import dataclass
 from types import TracebackType
@@ -101,7 +102,7 @@ class TurnClient:
         self._why = "the server gives no relayed address"
         self._client: Optional[Client] = None
         self._link: Optional[Link] = None
-        self._driving = self._is_leaving = False
+        self._driving = self._is_leaving = self._is_used = False
 
     # Beginning and end
 
@@ -115,16 +116,39 @@ class TurnClient:
 
     async def open(self) -> None:
         """Connects to the server, and waits for a relayed address: what entering does. It is called once."""
-        if self._client is not None:
+        if self._is_used:
             raise RuntimeError("this client was opened before: make a new one")
+        self._is_used = True
         self._loop = asyncio.get_running_loop()
         self._requests = asyncio.Semaphore(MAX_REQUESTS)
+        hosts = await self._hosts()
+        for host in hosts:
+            self._is_unreachable, self._host = False, host
+            try:
+                return await self._open_at()
+            except AllocationFailed:
+                if host == hosts[-1] or not self._is_unreachable:
+                    raise
+
+    async def _hosts(self) -> List[str]:
+        """The server's IP addresses over UDP. Over TCP the name: opening a connection tries all that it has."""
+        if self.uri.transport == "tcp":
+            return [self.uri.host]
+        try:
+            found = await self._loop.getaddrinfo(self.uri.host, self.uri.port, type=socket.SOCK_DGRAM)
+        except OSError as error:
+            raise AllocationFailed(f"no connection to {self.uri}: {error}") from error
+        return list(dict.fromkeys(str(it[4][0]) for it in found))
+
+    async def _open_at(self) -> None:
+        """Waits for a relayed address of the server at `_host`."""
         self._ready: asyncio.Future[None] = self._loop.create_future()
         self._ended: asyncio.Future[None] = self._loop.create_future()
         self._streams = Streams(self)
         try:
             self._link = await self._connect(self._control_received, self._control_lost)
         except OSError as error:
+            self._is_unreachable = True
             raise AllocationFailed(f"no connection to {self.uri}: {error}") from error
         try:
             self._client = Client(self._link.local, self._link.remote, self._user, self._password, families=(self._family,),
@@ -287,7 +311,7 @@ class TurnClient:
         uri = self.uri
         link = Link(received, lost)
         if uri.transport == "udp":
-            await self._loop.create_datagram_endpoint(lambda: link, remote_addr=(uri.host, uri.port))
+            await self._loop.create_datagram_endpoint(lambda: link, remote_addr=(self._host, uri.port))
         else:
             name = uri.host if self._ssl else None
             await self._loop.create_connection(lambda: link, uri.host, uri.port, ssl=self._ssl, server_hostname=name)
@@ -350,6 +374,7 @@ class TurnClient:
         if self._client is None or self._ended.done():
             return
         if link.frames is None:
+            self._is_unreachable = True
             self._fail_soon(None, f"no answer from {self.uri}: {error}")
             return
         self._client.recv(b"", self._clock.now())
