@@ -44,6 +44,24 @@ class InItsOwnTime(unittest.TestCase):
         self.assertGreater(server.challenges, 50)
         self.assertGreater(server.refreshes, 30 * 5)
 
+    def thirty_peers_over_a_slow_link(self, limit: int) -> Network:
+        """A client after 20 minutes with a round trip of 700 ms, whose requests leave long before the first one is answered."""
+        network = self.allocated(Server(nonce_life=5), delay=0.35, max_stale_nonces=limit)
+        for number in range(30):
+            network.client.create_permission(f"10.1.0.{number}", network.now)
+        network.run(1200)
+        return network
+
+    def test_a_limit_of_challenges_above_the_number_of_peers(self) -> None:
+        network = self.thirty_peers_over_a_slow_link(256)
+        self.assertFalse(network.is_closed)
+        self.assertEqual((len(network.of(PermissionCreated)), network.of(PermissionCreateFailed)), (30, []))
+
+    def test_a_limit_of_challenges_below_the_number_of_peers(self) -> None:
+        network = self.thirty_peers_over_a_slow_link(9)
+        self.assertTrue(network.is_closed)
+        self.assertEqual(network.of(PermissionCreated), [])
+
     def test_loss_and_late_and_doubled_packets(self) -> None:
         network = self.allocated(Server(), loss=0.1, doubled=0.1, jitter=0.2, seed=7)
         peer = ("10.1.0.1", 9000)

@@ -280,22 +280,25 @@ class Client:
     `allocation` that between server and peers: `"tcp"` (RFC 6062) needs a `transport` of `"tcp"`. `families` are those of
     the relayed addresses: 4, 6 or both. `algorithms` sign requests, the preferred one first (RFC 8489, section 14.5 and
     14.6). `anonymous` hides the user name (section 14.4). The transaction IDs are drawn from `seed`: 32 bytes that nobody
-    else knows; the system's random numbers by default. A client that nothing refers to any more is freed.
+    else knows; the system's random numbers by default. The client answers `max_stale_nonces` challenges in a row, 1 to 65,535,
+    and the next one ends it (docs/REAL-SERVERS.md). A client that nothing refers to any more is freed.
     """
 
     def __init__(self, local: Address, remote: Address, user: Union[str, bytes], password: Union[str, bytes], *,
                  transport: str = "udp", allocation: str = "udp", families: Sequence[int] = (4,),
                  algorithms: Sequence[str] = ("sha256", "sha1"), anonymous: str = "auto", times: Optional[Times] = None,
-                 seed: Optional[bytes] = None, library: Optional[c.Library] = None) -> None:
+                 max_stale_nonces: int = 9, seed: Optional[bytes] = None, library: Optional[c.Library] = None) -> None:
         signs = [_number(_ALGORITHMS, it) for it in algorithms]
         if not 1 <= len(families) <= 2 or not 1 <= len(signs) <= 2:
             raise ValueError("there are one or two families, and one or two algorithms")
+        if not 1 <= max_stale_nonces <= 65_535:
+            raise ValueError(f"the limit of challenges is 1 to 65,535, and not {max_stale_nonces}")
         waits = (times.initial, times.longest, times.last, times.count, 1) if times else (0, 0, 0, 0, 0)
         self._local, self._remote = packed(tuple(local)), packed(tuple(remote))
         self._way, self._relay_way = _number(_TRANSPORTS, transport), _number(_TRANSPORTS, allocation)
         try:
             settings = c.SETTINGS.pack(*waits, self._way, self._relay_way, *_two(families), *_two(signs),
-                                       _number(_ANONYMOUS, anonymous), 0, self._local, self._remote)
+                                       _number(_ANONYMOUS, anonymous), max_stale_nonces, 0, self._local, self._remote)
         except struct.error as error:
             raise ValueError(f"a number of the settings does not fit: {error}") from None
         user, password = (it.encode() if isinstance(it, str) else bytes(it) for it in (user, password))

@@ -33,8 +33,8 @@ MAX_TIME = 1 << 62
 ADDRESS = struct.Struct("=16sIIHBB")
 NO_ADDRESS = bytes(ADDRESS.size)
 # struct yarrowdoor_settings: three waits, their count, whether they are set, transport, that of the allocation, family, the
-# other family, algorithm, the other algorithm, anonymous, 0, local and remote address.
-SETTINGS = struct.Struct("=QQQIIIIIIIIII28s28s")
+# other family, algorithm, the other algorithm, anonymous, the limit of challenges, 0, local and remote address.
+SETTINGS = struct.Struct("=QQQIIIIIIIIIHH28s28s")
 # struct yarrowdoor_request: time, kind, id, transport, 0, from, to, peer, local.
 REQUEST = struct.Struct("=QIIII28s28s28s28s")
 # What RECV and SEND_TO use of it; all else is 0.
@@ -150,7 +150,7 @@ def _check_layout(library: Library) -> None:
     """Refuses a library that reads or writes other structs: makes a client, and looks for what it was given in its answers."""
     local = ADDRESS.pack(bytes(range(1, 17)), 0x01020304, 0x05060708, 0x090A, 6, 0)
     remote = ADDRESS.pack(bytes(range(17, 33)), 0x11121314, 0x15161718, 0x191A, 6, 0)
-    settings = SETTINGS.pack(1_000_000_000, 5_000_000_000, 3_000_000_000, 4, 1, 0, 0, 4, 0, 1, 0, 0, 0, local, remote)
+    settings = SETTINGS.pack(1_000_000_000, 5_000_000_000, 3_000_000_000, 4, 1, 0, 0, 4, 0, 1, 0, 0, 0, 0, local, remote)
     guard = b"\xa5" * 64
     handle = Handle(library, settings, b"u", b"p", bytes(32), guard)
     (packet, data), (wait, _) = handle.call(0, POLL_TRANSMIT), handle.call(7, POLL)

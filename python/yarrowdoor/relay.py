@@ -22,8 +22,7 @@ from .uri import TurnUri, parse
 
 __all__ = ["Lost", "TurnClient"]
 
-# So many requests are pending at a time. The client ends at the tenth challenge in a row, and all that are pending under one
-# nonce are challenged together (docs/REAL-SERVERS.md).
+# So many requests are pending at a time: all that are pending under one nonce are challenged together (docs/REAL-SERVERS.md).
 MAX_REQUESTS = 8
 # How long a signed answer may still come after one that said, unsigned, why it fails.
 GRACE = 1.0
@@ -56,6 +55,8 @@ class TurnClient:
     4 or 6. `ssl` is the context for `turns:` URIs, by default `ssl.create_default_context()`. `times` are those of
     retransmissions. At most `queue` packets of peers wait to be taken; a further one is dropped and counted. With
     `receiver` there is no queue: it is called with data and peer. `anonymous` hides the user name (`client.Client`).
+    `max_stale_nonces` is how many challenges in a row are answered, at least as many as peers have permissions and channels:
+    their refreshes may all be challenged at once.
 
     Entering it raises `AllocationFailed` where there is no relayed address, and `WrongCredentials` where it is for user name
     or password. It is used in one event loop.
@@ -63,7 +64,8 @@ class TurnClient:
 
     def __init__(self, uri: Union[str, TurnUri], user: Union[str, bytes], password: Union[str, bytes], *, relay: str = "udp",
                  family: int = 4, ssl: Optional[tls.SSLContext] = None, times: Optional[Times] = None, queue: int = 1024,
-                 receiver: Optional[Receiver] = None, anonymous: str = "auto", clock: Optional[Clock] = None) -> None:
+                 receiver: Optional[Receiver] = None, anonymous: str = "auto", max_stale_nonces: int = 256,
+                 clock: Optional[Clock] = None) -> None:
         self.uri = parse(uri) if isinstance(uri, str) else uri
         if relay not in ("udp", "tcp"):
             raise ValueError(f"relay is 'udp' or 'tcp', and not {relay!r}")
@@ -75,6 +77,7 @@ class TurnClient:
             raise ValueError(f"ssl is for turns:, and the URI is {self.uri}")
         self._ssl = (ssl or tls.create_default_context()) if self.uri.secure else None
         self._user, self._password, self._times, self._anonymous = user, password, times, anonymous
+        self._max_stale_nonces = max_stale_nonces
         self._relay, self._family = relay, family
         self._address: Optional[Address] = None
         self._mapped: Optional[Address] = None
@@ -153,7 +156,7 @@ class TurnClient:
         try:
             self._client = Client(self._link.local, self._link.remote, self._user, self._password, families=(self._family,),
                                   transport=self.uri.transport, allocation=self._relay, times=self._times,
-                                  anonymous=self._anonymous)
+                                  anonymous=self._anonymous, max_stale_nonces=self._max_stale_nonces)
             self._drive()
             await self._ready
         except BaseException:
