@@ -28,7 +28,6 @@ class PeerTransport(asyncio.Transport):
     def __init__(self, streams: Streams, link: Link, peer: Address) -> None:
         super().__init__({"peername": peer, "sockname": streams.relay.address})
         self._streams, self.link, self.peer = streams, link, peer
-        self.is_accepted = False
         reader = asyncio.StreamReader(loop=streams.loop)
         self._protocol = asyncio.StreamReaderProtocol(reader, loop=streams.loop)
         self._protocol.connection_made(self)
@@ -47,6 +46,8 @@ class PeerTransport(asyncio.Transport):
 
     def write(self, data: Any) -> None:
         view = memoryview(data).cast("B")
+        if self.link.ended:
+            return  # as asyncio's own transports do
         for place in range(0, len(view), PIECE):
             packet = self._streams.client.send_to(self.peer, view[place : place + PIECE], self._streams.now())
             self.link.send(packet.data)
@@ -119,7 +120,10 @@ class Streams:
             self._wanted[peer] = None
             try:
                 await self.relay._request("connect", peer, lambda now: self.client.tcp_connect(peer, now))
-                return self._by_peer[peer].pair
+                stream = self._by_peer.get(peer)
+                if stream is None:
+                    raise ConnectFailed(f"the connection to {peer} has ended")
+                return stream.pair
             except ConnectFailed as error:
                 if attempt == 2 or error.code is not None:
                     raise
@@ -157,8 +161,9 @@ class Streams:
 
     def connected(self, peer: Address) -> None:
         """The data connection to a peer is bound."""
-        if peer not in self._wanted:
-            self._accepted.put_nowait(self._by_peer[peer])
+        stream = self._by_peer.get(peer)
+        if stream is not None and peer not in self._wanted:
+            self._accepted.put_nowait(stream)
 
     def feed(self, data: bytes, peer: Address) -> None:
         """Takes data of a peer."""
