@@ -115,6 +115,8 @@ class Coturn(unittest.IsolatedAsyncioTestCase):
                 await writer.wait_closed()
                 await asyncio.sleep(0.1)
             await self.accept(relay)
+            with self.assertRaises(ValueError):
+                await relay.send(b"no datagram", peer)
             with self.assertRaises(ConnectFailed):
                 await asyncio.wait_for(relay.connect(("127.0.0.1", server.free_port())), 20)
         peers.close()

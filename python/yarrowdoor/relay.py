@@ -244,11 +244,13 @@ class TurnClient:
     def sendto(self, data: sans_io.Buffer, peer: Address) -> None:
         """Sends data to a peer that has a permission, at once, as a datagram: where the socket is full, it is dropped.
 
-        `Refused` (`no-permission`), `Ended`; `ValueError` for over 65,504 bytes.
+        `Refused` (`no-permission`), `Ended`; `ValueError` for over 65,504 bytes, and with `relay="tcp"`, which has streams.
         """
         client = self._client
         if client is None or self._ended.done():
             raise self._ending()
+        if self._relay == "tcp":
+            raise ValueError("relay='tcp' has streams: use connect, or accept")
         packet = client.send_to(peer, data, self._clock.now())
         if not self._link.send_data(packet.data):  # type: ignore[union-attr]
             self.unsent += 1
@@ -283,7 +285,12 @@ class TurnClient:
                 raise StopAsyncIteration
             taker = self._loop.create_future()
             self._takers.append(taker)
-            await taker
+            try:
+                await taker
+            except asyncio.CancelledError:
+                if self._queue:
+                    self._wake_taker()  # another one, since this one takes nothing
+                raise
         return self._queue.popleft()
 
     async def receive(self) -> Tuple[sans_io.Buffer, Address]:
