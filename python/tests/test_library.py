@@ -53,9 +53,15 @@ class Exchanges(unittest.TestCase):
                 wanted = self.wanted(trace, program)
                 if wanted is not None:
                     with self.subTest(trace=trace.name):
-                        self.assertEqual([*replay(trace.read_text())], wanted)
+                        self.check_same([*replay(trace.read_text())], wanted)
                     compared += 1
         self.assertGreater(compared, 300 if program.exists() else 100)
+
+    def check_same(self, found: List[str], wanted: List[str]) -> None:
+        """Names the first answer that differs: a whole comparison of long lists takes minutes."""
+        for number, (one, other) in enumerate(zip(found, wanted)):
+            self.assertTrue(one == other, f"answer {number}: {one[:200]}, and not {other[:200]}")
+        self.assertEqual(len(found), len(wanted))
 
     def wanted(self, trace: pathlib.Path, program: pathlib.Path) -> "List[str] | None":
         """What a trace is answered: by turn_replay where it is built, else by the transcript. None where neither says."""
