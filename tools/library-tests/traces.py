@@ -30,7 +30,7 @@ def transcripts():
     module = importlib.util.module_from_spec(importlib.util.spec_from_loader("transcripts", loader))
     sys.dont_write_bytecode = True
     loader.exec_module(module)
-    for file in sorted(it for it in module.FOLDER.glob("*/*.txt") if it.parent.name != "states"):
+    for file in sorted(it for it in module.FOLDER.glob("*/*.txt") if it.parent.name != "states" and not module.is_live(it)):
         for calls, answers in module.cases_of(file):
             yield "".join(f"{line}\n" for line in calls), "".join(f"{line}\n" for line in answers)
 

@@ -4,6 +4,9 @@ use Rattle.std.proofs.lemmas.List.{append-nil}
 use Rattle.std.proofs.lemmas.List.{take_all}
 use Rattle.std.proofs.Math.Seq.{take-add, take-append-add}
 use Rattle.std.specs.Io.KnownBytes.{Appends, Consumes, Keeps}
+use Rattle.turn_live.specs.Line.{EndsSo}
+use Rattle.turn_live.specs.declared.line.LineEnd.{LineEnd}
+use Rattle.turn_live.specs.declared.line.LineEnd.TheVariants.{Feed, Input}
 
 pub Consumes-none : (a : Option (List ℕ)) → Consumes a a []
 Consumes-none None = tt
@@ -50,6 +53,13 @@ Consumes-kept (Some u) (Some v) k = sym k
 -- the whole text was written, and then nothing
 pub flush_failed : (a b c : Option (List ℕ)) (text : List ℕ) → Appends a b text → Keeps b c → (count : ℕ) × Appends a c (take count text)
 flush_failed a b c text h k = (length text, subst (Appends a c) (sym (take_all (length text) text (omega arith))) (Appends-kept a b c text h k))
+
+-- what ends a line ends it also after the bytes before that
+pub ends_later : (a b c : Option (List ℕ)) (bytes : List ℕ) (end : LineEnd) → Consumes a b bytes → EndsSo b c end → EndsSo a c end
+ends_later a b c bytes Feed h e = tt
+ends_later None b c bytes Input h e = tt
+ends_later (Some u) None c bytes Input h e = absurd h
+ends_later (Some u) (Some v) c bytes Input h e = e
 
 -- a write that failed writes nothing more
 pub cut_at : (a b c : Option (List ℕ)) (text : List ℕ) (at : ℕ) → Appends a b (take at text) → Appends b c [] → (count : ℕ) × Appends a c (take count text)

@@ -8,14 +8,13 @@ use Rattle.turn_live.specs.Line.{IsLine, IsTaken, feed_at, missing_at}
 use Rattle.turn_live.specs.Lines.{joined_lines}
 use Rattle.turn_live.specs.Session.{AreRead}
 use Rattle.turn_live.specs.declared.line.LineEnd.{LineEnd}
-use Rattle.turn_live.specs.declared.line.LineEnd.TheVariants.{Feed, Input, Size}
+use Rattle.turn_live.specs.declared.line.LineEnd.TheVariants.{Feed, Input}
 use Rattle.turn_live.proofs.KnownLemmas.{Consumes-none, Consumes-then}
 
 -- a line and its LF, whether the LF was read or is missing
 whole_line : (line : List ℕ) (end : LineEnd) → (line ++ feed_at end) ++ missing_at end ≡ line ++ 10 ∷ []
 whole_line line Feed = append-nil (line ++ 10 ∷ [])
 whole_line line Input = ap (λ (front : List ℕ). front ++ 10 ∷ []) (append-nil line)
-whole_line line Size = ap (λ (front : List ℕ). front ++ 10 ∷ []) (append-nil line)
 
 fed-more : (lines : List (List ℕ)) (line : List ℕ) → joined_lines (lines ++ line ∷ []) ≡ joined_lines lines ++ (line ++ 10 ∷ [])
 fed-more lines line =

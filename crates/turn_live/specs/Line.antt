@@ -1,48 +1,44 @@
 -- One line, from a reader.
-use Rattle.std.specs.Prelude.{◌≡◌, ◌≢◌, ℕ, ◌<◌, List, [], ◌∷◌, ◌++◌, All, length, Option, Result, Ok, Err, Vec, ⊤}
+use Rattle.std.specs.Prelude.{◌≡◌, ◌≢◌, ◌⊎◌, ℕ, ◌-◌, List, [], ◌∷◌, ◌++◌, All, length, take, Option, Some, None, OnSome, Result, Ok, Err, Vec, ⊤}
 use Rattle.std.specs.Global.{Global}
 use Rattle.std.specs.Io.KnownBytes.{Consumes, IsAtEnd}
 use Rattle.turn_live.specs.declared.line.LineEnd.{LineEnd}
-use Rattle.turn_live.specs.declared.line.LineEnd.TheVariants.{Feed, Input, Size}
-use Rattle.turn_live.specs.declared.line.Taken.{Taken}
-use Rattle.turn_live.specs.declared.line.Taken.TheVariants.{Byte, Nothing, End}
+use Rattle.turn_live.specs.declared.line.LineEnd.TheVariants.{Feed, Input}
 use Rattle.turn_live.specs.declared.stop.Stop.{Stop}
 use Rattle.turn_live.specs.declared.stop.Stop.TheVariants as Stops
-
--- one read took a byte, or nothing
-abbrev pub TakesByte : Option (List ℕ) → Option (List ℕ) → Result Taken Stop → Type 0
-TakesByte old new (Ok (Byte byte)) = Consumes old new (byte ∷ [])
-TakesByte old new (Ok Nothing) = Consumes old new []
-TakesByte old new (Ok End) = Consumes old new [] × IsAtEnd new
-TakesByte old new (Err stop) = (stop ≡ Stops.ReadFailed) × Consumes old new []
 
 -- a line has no LF in it
 abbrev pub IsLine : List ℕ → Type 0
 IsLine line = All (λ byte. byte ≢ 10) line
 
+-- what is kept of a line: the first bytes of one that is too long, one more than a line may have
+abbrev pub first_bytes : List ℕ → List ℕ
+first_bytes line = take 1048577 line
+
+-- a piece of a line after these bytes, as far as it is kept
+abbrev pub first_of_piece : List ℕ → List ℕ → List ℕ
+first_of_piece front piece = take (1048577 - length front) piece
+
 -- the bytes that were read after the line
 abbrev pub feed_at : LineEnd → List ℕ
 feed_at Feed = 10 ∷ []
 feed_at Input = []
-feed_at Size = []
 
 -- the bytes that the line lacks
 abbrev pub missing_at : LineEnd → List ℕ
 missing_at Feed = []
 missing_at Input = 10 ∷ []
-missing_at Size = 10 ∷ []
 
--- a line without its LF is at the end of the input, or too long
-abbrev pub EndsSo : Option (List ℕ) → List ℕ → LineEnd → Type 0
-EndsSo left line Feed = ⊤
-EndsSo left line Input = IsAtEnd left
-EndsSo left line Size = 1048576 < length line
+-- a line without its LF is at the end of the input, if that is known
+abbrev pub EndsSo : Option (List ℕ) → Option (List ℕ) → LineEnd → Type 0
+EndsSo input left Feed = ⊤
+EndsSo input left Input = OnSome input (IsAtEnd left)
 
 -- a line was read, and nothing after it
 pub record IsTaken (old new : Option (List ℕ)) (line : List ℕ) (end : LineEnd) : Type 0 where
   pub consumed : Consumes old new (line ++ feed_at end)
   pub clear : IsLine line
-  pub ends : EndsSo new line end
+  pub ends : EndsSo old new end
 
 -- the bytes of a line that could not be returned; if the reader failed, its LF was not read
 abbrev pub IsLost : Option (List ℕ) → Option (List ℕ) → Stop → Type 0
@@ -52,5 +48,27 @@ IsLost old new (Stops.Bad bad) = ⊥
 IsLost old new Stops.WriteFailed = ⊥
 
 abbrev pub TakesLine : Option (List ℕ) → Option (List ℕ) → Result (Vec ℕ Global × LineEnd) Stop → Type 0
-TakesLine old new (Ok taken) = IsTaken old new taken.0.items taken.1
+TakesLine old new (Ok taken) = (line : List ℕ) × IsTaken old new line taken.1 × (taken.0.items ≡ first_bytes line)
 TakesLine old new (Err stop) = IsLost old new stop
+
+-- ---- a piece of a line
+
+-- a piece was read, with the LF after it if that ended it
+abbrev pub feed_if : Option LineEnd → List ℕ
+feed_if None = []
+feed_if (Some end) = feed_at end
+
+abbrev pub EndsIf : Option (List ℕ) → Option (List ℕ) → Option LineEnd → Type 0
+EndsIf input left None = ⊤
+EndsIf input left (Some end) = EndsSo input left end
+
+-- A piece of a line was read, and kept as far as a line is kept. `before` and `after` are the kept bytes of the line.
+pub record IsPiece (old new : Option (List ℕ)) (before after piece : List ℕ) (end : Option LineEnd) : Type 0 where
+  pub consumed : Consumes old new (piece ++ feed_if end)
+  pub clear : IsLine piece
+  pub kept : after ≡ before ++ first_of_piece before piece
+  pub ends : EndsIf old new end
+
+abbrev pub TakesSome : Option (List ℕ) → Option (List ℕ) → List ℕ → List ℕ → Result (Option LineEnd) Stop → Type 0
+TakesSome old new before after (Ok end) = (piece : List ℕ) × IsPiece old new before after piece end
+TakesSome old new before after (Err stop) = ((stop ≡ Stops.ReadFailed) ⊎ (stop ≡ Stops.OutOfMemory)) × Consumes old new []

@@ -1,17 +1,17 @@
 -- What a session reads and writes.
-use Rattle.std.specs.Prelude.{◌≡◌, ◌≤◌, ◌⊎◌, ℕ, Bool, true, false, List, [], ◌∷◌, ◌++◌, All, length, take, codes, Option, Some, None, Result, Ok, Err}
+use Rattle.std.specs.Prelude.{◌≡◌, ◌≤◌, ◌⊎◌, ℕ, Bool, true, false, List, [], ◌∷◌, ◌++◌, All, length, take, codes, Option, Some, None, OnSome, Result, Ok, Err}
 use Rattle.std.specs.Io.KnownBytes.{Appends, Consumes, IsAtEnd}
 use Rattle.turn_stun.specs.declared.transport.TransportType.{TransportType}
 use Rattle.turn_client_api.specs.declared.call.Call.{Call}
 use Rattle.turn_client_api.specs.State.{State}
-use Rattle.turn_client_api.specs.Steps.{state_after}
 use Rattle.turn_lines.specs.Text.{bad_text}
+use Rattle.turn_lines.specs.declared.fault.BadKind.{BadKind}
 use Rattle.turn_lines.specs.declared.fault.BadLine.{BadLine}
 use Rattle.turn_lines.specs.declared.head.Head.{Head}
 use Rattle.turn_lines.specs.declared.status.Status.{Status}
 use Rattle.turn_lines.specs.declared.status.Status.TheVariants.{Answered, Malformed, OutOfMemory, ReadFailed, WriteFailed}
 use Rattle.turn_live.specs.Line.{EndsSo, IsLine, IsTaken, missing_at}
-use Rattle.turn_live.specs.Lines.{answer_lines, joined_lines, line_call, line_head, session_of}
+use Rattle.turn_live.specs.Lines.{after_line, joined_lines, line_call, line_head, line_said, session_of}
 use Rattle.turn_live.specs.declared.line.LineEnd.{LineEnd}
 use Rattle.turn_live.specs.declared.line.LineEnd.TheVariants.{Feed, Input}
 use Rattle.turn_live.specs.declared.stop.Stop.{Stop}
@@ -41,47 +41,37 @@ ReadsHead line (Ok head) = line_head line ≡ Ok head
 ReadsHead line (Err (Stops.Bad bad)) = line_head line ≡ Err bad
 ReadsHead line (Err stop) = stop ≡ Stops.OutOfMemory
 
-abbrev pub ReadsCall : TransportType → ℕ → List ℕ → Result Call Stop → Type 0
-ReadsCall relays number line (Ok call) = line_call relays number line ≡ Ok call
-ReadsCall relays number line (Err (Stops.Bad bad)) = line_call relays number line ≡ Err bad
-ReadsCall relays number line (Err stop) = stop ≡ Stops.OutOfMemory
-
--- a line was answered by the answer of its call, and the client has made that call
-pub record IsAnswered (relays : TransportType) (number : ℕ) (s after : State) (line : List ℕ) (old new : Option (List ℕ)) : Type 0 where
-  pub call : Call
-  pub says : line_call relays number line ≡ Ok call
-  pub told : Appends old new (answer_lines s (call ∷ []))
-  pub state : after ≡ state_after call s
+-- A line with this call was answered, and the client has made the call. If it is no call, what is wrong with it was
+-- answered, and the client is as it was.
+pub record IsAnswered (read : Result Call BadKind) (s after : State) (old new : Option (List ℕ)) : Type 0 where
+  pub told : Appends old new (line_said s read)
+  pub state : after ≡ after_line s read
 
 -- the writer failed during that answer
-pub record IsCutOff (relays : TransportType) (number : ℕ) (s : State) (line : List ℕ) (old new : Option (List ℕ)) : Type 0 where
-  pub call : Call
-  pub says : line_call relays number line ≡ Ok call
-  pub count : ℕ
-  pub told : Appends old new (take count (answer_lines s (call ∷ [])))
+abbrev pub IsCutOff : Result Call BadKind → State → Option (List ℕ) → Option (List ℕ) → Type 0
+IsCutOff read s old new = (count : ℕ) × Appends old new (take count (line_said s read))
 
-abbrev pub AnswersLine : TransportType → ℕ → State → State → List ℕ → Option (List ℕ) → Option (List ℕ) → Result (Unit {0}) Stop → Type 0
-AnswersLine relays number s after line old new (Ok _) = IsAnswered relays number s after line old new
-AnswersLine relays number s after line old new (Err (Stops.Bad bad)) = (line_call relays number line ≡ Err bad) × Appends old new []
-AnswersLine relays number s after line old new (Err Stops.OutOfMemory) = Appends old new []
-AnswersLine relays number s after line old new (Err Stops.ReadFailed) = ⊥
-AnswersLine relays number s after line old new (Err Stops.WriteFailed) = IsCutOff relays number s line old new
+abbrev pub AnswersLine : Result Call BadKind → State → State → Option (List ℕ) → Option (List ℕ) → Result (Unit {0}) Stop → Type 0
+AnswersLine read s after old new (Ok _) = IsAnswered read s after old new
+AnswersLine read s after old new (Err (Stops.Bad bad)) = ⊥
+AnswersLine read s after old new (Err Stops.OutOfMemory) = Appends old new []
+AnswersLine read s after old new (Err Stops.ReadFailed) = ⊥
+AnswersLine read s after old new (Err Stops.WriteFailed) = IsCutOff read s old new
 
 -- One step of a session: it reads at most one line, and writes the answer before it ends. It returns whether there
--- may be more lines.
-abbrev pub Steps : TransportType → ℕ → State → State → Option (List ℕ) → Option (List ℕ) → Option (List ℕ) → Option (List ℕ) → Result Bool Stop → Type 0
-Steps relays number s after input left old new (Ok true) =
-    (line : List ℕ) × IsTaken input left line Feed × IsAnswered relays number s after line old new
-Steps relays number s after input left old new (Ok false) =
+-- may be more lines. No line after the first ends a session.
+abbrev pub Steps : TransportType → State → State → Option (List ℕ) → Option (List ℕ) → Option (List ℕ) → Option (List ℕ) → Result Bool Stop → Type 0
+Steps relays s after input left old new (Ok true) =
+    (line : List ℕ) × IsTaken input left line Feed × IsAnswered (line_call relays line) s after old new
+Steps relays s after input left old new (Ok false) =
     (line : List ℕ) × IsTaken input left line Input
-    × (((line ≡ []) × Appends old new []) ⊎ IsAnswered relays number s after line old new)
-Steps relays number s after input left old new (Err (Stops.Bad bad)) =
-    (line : List ℕ) × (end : LineEnd) × IsTaken input left line end × (line_call relays number line ≡ Err bad) × Appends old new []
-Steps relays number s after input left old new (Err Stops.OutOfMemory) = (bytes : List ℕ) × Consumes input left bytes × Appends old new []
-Steps relays number s after input left old new (Err Stops.ReadFailed) =
+    × (((line ≡ []) × (after ≡ s) × Appends old new []) ⊎ IsAnswered (line_call relays line) s after old new)
+Steps relays s after input left old new (Err (Stops.Bad bad)) = ⊥
+Steps relays s after input left old new (Err Stops.OutOfMemory) = (bytes : List ℕ) × Consumes input left bytes × Appends old new []
+Steps relays s after input left old new (Err Stops.ReadFailed) =
     (bytes : List ℕ) × Consumes input left bytes × IsLine bytes × Appends old new []
-Steps relays number s after input left old new (Err Stops.WriteFailed) =
-    (line : List ℕ) × (end : LineEnd) × IsTaken input left line end × IsCutOff relays number s line old new
+Steps relays s after input left old new (Err Stops.WriteFailed) =
+    (line : List ℕ) × (end : LineEnd) × IsTaken input left line end × IsCutOff (line_call relays line) s old new
 
 -- ---- many lines
 
@@ -92,7 +82,7 @@ pub record AreRead (input left : Option (List ℕ)) (lines : List (List ℕ)) (r
   pub whole : joined_lines lines ++ rest ≡ bytes ++ missing_at end
   pub each : All IsLine lines
 
--- the lines were read, and their first bad line is this one
+-- the lines were read, and this one of them ends the session
 pub record Goes (said : List (List ℕ) → List ℕ × Option BadLine) (input left : Option (List ℕ)) (lines : List (List ℕ)) (rest : List ℕ) (end : LineEnd)
     (bad : Option BadLine) : Type 0 where
   pub read : AreRead input left lines rest end
@@ -103,11 +93,10 @@ abbrev pub Talks : (List (List ℕ) → List ℕ × Option BadLine) → Option (
     → Type 0
 -- at the end of the input, with each line answered
 Talks said input left old new (Ok _) =
-    (lines : List (List ℕ)) × (end : LineEnd) × Goes said input left lines [] end None × IsAtEnd left × Appends old new (said lines).0
--- at a bad line, which is the last that was read
+    (lines : List (List ℕ)) × (end : LineEnd) × Goes said input left lines [] end None × OnSome input (IsAtEnd left) × Appends old new (said lines).0
+-- at a first line that ends it, after which nothing was read
 Talks said input left old new (Err (Stops.Bad bad)) =
-    (lines : List (List ℕ)) × (line : List ℕ) × (end : LineEnd) × Goes said input left (lines ++ line ∷ []) [] end (Some bad)
-    × EndsSo left line end × Appends old new (said (lines ++ line ∷ [])).0
+    (line : List ℕ) × (end : LineEnd) × Goes said input left (line ∷ []) [] end (Some bad) × EndsSo input left end × Appends old new []
 -- at a line for which memory allocation failed
 Talks said input left old new (Err Stops.OutOfMemory) =
     (lines : List (List ℕ)) × (rest : List ℕ) × Goes said input left lines rest Feed None × Appends old new (said lines).0
@@ -117,7 +106,7 @@ Talks said input left old new (Err Stops.ReadFailed) =
 -- at a line whose answer could not be written
 Talks said input left old new (Err Stops.WriteFailed) =
     (lines : List (List ℕ)) × (line : List ℕ) × (end : LineEnd) × (count : ℕ) × Goes said input left (lines ++ line ∷ []) [] end None
-    × EndsSo left line end × Appends old new (take count (said (lines ++ line ∷ [])).0)
+    × EndsSo input left end × Appends old new (take count (said (lines ++ line ∷ [])).0)
 
 -- a session from its first line on
 abbrev pub IsSession : Option (List ℕ) → Option (List ℕ) → Option (List ℕ) → Option (List ℕ) → Result (Unit {0}) Stop → Type 0

@@ -1,10 +1,12 @@
-//! One line, from a reader.
+//! One line, from a buffered reader.
 
-ghost use Rattle.turn_live.specs.Line.{TakesByte, TakesLine};
+ghost use Rattle.std.specs.Prelude.{◌≡◌, ◌-◌, ◌++◌, length, take, MatchResult};
+ghost use Rattle.turn_live.specs.Line.{TakesLine, TakesSome};
 
 use crate::stop::Stop;
-use std::alloc::Global;
-use std::io::{ErrorKind, Read};
+use memchr::memchr;
+use std::alloc::{AllocError, Global};
+use std::io::{BufRead, ErrorKind};
 
 /// The maximum length of a line in bytes, without its LF: that of a whole trace.
 pub const MAX_LINE: usize = 1_048_576;
@@ -16,58 +18,63 @@ pub enum LineEnd {
     Feed,
     /// The end of the input.
     Input,
-    /// The limit: it has a byte more than a line may have.
-    Size,
 }
 
-/// The result of one read.
-#[derive(Clone, Copy, Debug, PartialEq, Eq)]
-enum Taken {
-    /// This byte.
-    Byte(u8),
-    /// Nothing, as the read was interrupted.
-    Nothing,
-    /// The end of the input.
-    End,
-}
-
-/// Takes the next line and returns it without its LF. It reads nothing after that.
+/// Takes the next line and returns it without its LF. It takes nothing after that. Of a line that is too long it returns
+/// the first bytes, one more than a line may have.
 ///
 /// # Errors
 ///
 /// `ReadFailed` if the reader fails, except by an interruption, after which it reads again. `OutOfMemory` if memory
 /// allocation for the line failed.
-pub fn take_line<R: Read>(alloc: Global, reader: &mut R) -> Result<(Vec<u8>, LineEnd), Stop>
+pub fn take_line<R: BufRead>(alloc: Global, reader: &mut R) -> Result<(Vec<u8>, LineEnd), Stop>
     ensures { TakesLine (R.remaining reader.old) (R.remaining reader.new) result }
 {
     let mut line = Vec::new(alloc);
     for _ in 0..u64::MAX {
-        if line.len() > MAX_LINE {
-            return Ok((line, LineEnd::Size));
-        }
-        match take_byte(reader)? {
-            Taken::Byte(b'\n') => return Ok((line, LineEnd::Feed)),
-            Taken::Byte(byte) => line.push(byte)?,
-            Taken::Nothing => {}
-            Taken::End => return Ok((line, LineEnd::Input)),
+        if let Some(end) = take_some(reader, &mut line)? {
+            return Ok((line, end));
         }
     }
     Err(Stop::ReadFailed)
 }
 
-/// Reads once, and at most one byte.
-fn take_byte<R: Read>(reader: &mut R) -> Result<Taken, Stop>
-    ensures { TakesByte (R.remaining reader.old) (R.remaining reader.new) result }
+/// Takes what the reader has buffered of the line, after at most one read. Returns what ended the line if it took that too.
+fn take_some<R: BufRead>(reader: &mut R, line: &mut Vec<u8>) -> Result<Option<LineEnd>, Stop>
+    ensures { TakesSome (R.remaining reader.old) (R.remaining reader.new) line.old.items line.new.items result }
 {
-    let mut buffer = [0; 1];
-    match reader.read(&mut buffer) {
-        Ok(0) => Ok(Taken::End),
-        Ok(_) => Ok(Taken::Byte(buffer[0])),
+    let available = match reader.fill_buf() {
+        Ok(available) => available,
         Err(error) => {
             if error.kind() == ErrorKind::Interrupted {
-                return Ok(Taken::Nothing);
+                return Ok(None);
             }
-            Err(Stop::ReadFailed)
+            return Err(Stop::ReadFailed);
+        }
+    };
+    if available.is_empty() {
+        return Ok(Some(LineEnd::Input));
+    }
+    match memchr(b'\n', available) {
+        Some(at) => {
+            keep(line, &available[..at])?;
+            reader.consume(at + 1);
+            Ok(Some(LineEnd::Feed))
+        }
+        None => {
+            let count = available.len();
+            keep(line, available)?;
+            reader.consume(count);
+            Ok(None)
         }
     }
+}
+
+/// Appends a piece of a line, up to the first byte that is too many.
+fn keep(line: &mut Vec<u8>, piece: &[u8]) -> Result<(), AllocError>
+    ensures { MatchResult result (λ _. line.new.items ≡ line.old.items ++ take (1048577 - length line.old.items) piece.now)
+        (λ _. line.new.items ≡ line.old.items) }
+{
+    let room = (MAX_LINE + 1).saturating_sub(line.len());
+    line.extend_from_slice(&piece[..room.min(piece.len())])
 }

@@ -8,23 +8,24 @@ use crate::session::hold_session;
 use crate::stop::Stop;
 use crate::write::tell;
 use std::alloc::Global;
-use std::io::{Read, Write};
+use std::io::{BufRead, Write};
 use std::process::ExitCode;
 use turn_lines::print::bad_text;
 use turn_lines::status::Status;
 
-/// Answers lines as [`run`] does. The exit status says how that ended: 0 at the end of the input, 2 at a bad line, 3
+/// Answers lines as [`run`] does. The exit status says how that ended: 0 at the end of the input, 2 at a bad head, 3
 /// if memory allocation failed, and 4 if reading or writing failed.
-pub fn exit_code<R: Read, W: Write>(alloc: Global, reader: &mut R, writer: &mut W) -> ExitCode
+pub fn exit_code<R: BufRead, W: Write>(alloc: Global, reader: &mut R, writer: &mut W) -> ExitCode
     ensures { Exits (Runs (R.remaining reader.old) (R.remaining reader.new) (W.contents writer.old) (W.contents writer.new)) (exit_status result) }
 {
     ExitCode::from(run(alloc, reader, writer).code())
 }
 
-/// Reads the line that describes a client, and then its calls. The answer to each call is written, and the writer
-/// flushed, before the next line is read. A bad line ends the session with the one line that reports it, a failed
-/// memory allocation with `no memory`, and a reader that fails with `read failed`. It writes nothing else.
-pub fn run<R: Read, W: Write>(alloc: Global, reader: &mut R, writer: &mut W) -> Status
+/// Takes the line that describes a client, and then its calls. The answer to each line after the first is written, and the
+/// writer flushed, before the next line is taken; a line that is no call is answered by what is wrong with it. A bad first
+/// line ends the session with the one line that reports it, a failed memory allocation with `no memory`, and a reader that
+/// fails with `read failed`. It writes nothing else.
+pub fn run<R: BufRead, W: Write>(alloc: Global, reader: &mut R, writer: &mut W) -> Status
     ensures { Runs (R.remaining reader.old) (R.remaining reader.new) (W.contents writer.old) (W.contents writer.new) result }
 {
     match hold_session(alloc, reader, writer) {

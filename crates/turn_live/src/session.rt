@@ -1,16 +1,16 @@
-//! A session: a line that describes a client, and then its calls, each answered before the next line is read.
+//! A session: a line that describes a client, and then its calls, each answered before the next line is taken.
 
 ghost use Rattle.std.specs.Prelude.{◌≡◌};
-ghost use Rattle.turn_lines.specs.Fault.{bad_line};
-ghost use Rattle.turn_live.specs.Lines.{calls_said};
-ghost use Rattle.turn_live.specs.Session.{AnswersLine, IsSession, ReadsCall, ReadsHead, Steps, Talks};
+ghost use Rattle.turn_lines.specs.Fault.{Reads, bad_line};
+ghost use Rattle.turn_live.specs.Lines.{bad_answer, calls_said, line_call};
+ghost use Rattle.turn_live.specs.Session.{AnswersLine, IsSession, ReadsHead, Steps, Talks};
 
 use crate::client::new_client;
 use crate::line::{LineEnd, MAX_LINE, take_line};
 use crate::stop::Stop;
 use crate::write::write_text;
 use std::alloc::Global;
-use std::io::{Read, Write};
+use std::io::{BufRead, Write};
 use turn_client_api::TurnClientApi;
 use turn_client_proto::runs::{Call, reply_to};
 use turn_lines::call::parse_call;
@@ -20,13 +20,13 @@ use turn_lines::head::{Head, parse_head};
 use turn_lines::print::answers_text;
 use turn_types::TransportType;
 
-/// Reads lines to the end of the input, and answers each call before it reads the next line.
+/// Takes lines to the end of the input, and answers each after the first before it takes the next one.
 ///
 /// # Errors
 ///
-/// `Bad` for the first bad line, which is not answered and after which nothing is read; `OutOfMemory`, `ReadFailed`
-/// and `WriteFailed` when they occur.
-pub fn hold_session<R: Read, W: Write>(
+/// `Bad` if the first line does not describe a client, after which nothing is read; `OutOfMemory`, `ReadFailed` and
+/// `WriteFailed` when they occur.
+pub fn hold_session<R: BufRead, W: Write>(
     alloc: Global,
     reader: &mut R,
     writer: &mut W,
@@ -39,7 +39,7 @@ pub fn hold_session<R: Read, W: Write>(
     let client = new_client(alloc, head)?;
     match end {
         LineEnd::Feed => answer_calls(alloc, client, relays, reader, writer),
-        LineEnd::Input | LineEnd::Size => Ok(()),
+        LineEnd::Input => Ok(()),
     }
 }
 
@@ -48,17 +48,24 @@ fn read_head(alloc: Global, line: &[u8]) -> Result<Head, Stop>
     ensures { ReadsHead line.now result }
 {
     if line.len() > MAX_LINE {
-        return Err(bad(1, BadKind::Size));
+        return Err(bad_first(BadKind::Size));
     }
     match parse_head(alloc, line) {
         Ok(head) => Ok(head),
-        Err(FieldError::Malformed) => Err(bad(1, BadKind::Head)),
+        Err(FieldError::Malformed) => Err(bad_first(BadKind::Head)),
         Err(FieldError::OutOfMemory) => Err(Stop::OutOfMemory),
     }
 }
 
-/// Reads calls from the second line to the end of the input, and answers each before it reads the next.
-fn answer_calls<C: TurnClientApi, R: Read, W: Write>(
+/// The error for a first line that does not describe a client.
+fn bad_first(kind: BadKind) -> Stop
+    ensures { result ≡ Stop.Bad (bad_line 1 kind) }
+{
+    Stop::Bad(BadLine { number: 1, kind })
+}
+
+/// Takes lines from the second one to the end of the input, and answers each before it takes the next one.
+fn answer_calls<C: TurnClientApi, R: BufRead, W: Write>(
     alloc: Global,
     client: C,
     relays: TransportType,
@@ -70,78 +77,84 @@ fn answer_calls<C: TurnClientApi, R: Read, W: Write>(
         (W.contents writer.new) result }
 {
     let mut client = client;
-    for number in 2..usize::MAX {
-        if !answer_next(alloc, &mut client, relays, number, reader, writer)? {
+    for _ in 0..u64::MAX {
+        if !answer_next(alloc, &mut client, relays, reader, writer)? {
             return Ok(());
         }
     }
     Err(Stop::ReadFailed)
 }
 
-/// Reads the line with this number, and answers it: the answer is written, and the writer flushed. Returns whether
-/// there may be more lines.
+/// Takes the next line and answers it: the answer is written, and the writer flushed. A line that is no call is answered
+/// by what is wrong with it, and the client stays as it was. Returns whether there may be more lines.
 ///
 /// # Errors
 ///
-/// As for [`hold_session`].
-pub fn answer_next<C: TurnClientApi, R: Read, W: Write>(
+/// `OutOfMemory`, `ReadFailed` and `WriteFailed` when they occur.
+pub fn answer_next<C: TurnClientApi, R: BufRead, W: Write>(
     alloc: Global,
     client: &mut C,
     relays: TransportType,
-    number: usize,
     reader: &mut R,
     writer: &mut W,
 ) -> Result<bool, Stop>
     requires { (C.state client.old).config.allocation_transport ≡ relays }
-    ensures { Steps relays number (C.state client.old) (C.state client.new) (R.remaining reader.old) (R.remaining reader.new) (W.contents writer.old)
+    ensures { Steps relays (C.state client.old) (C.state client.new) (R.remaining reader.old) (R.remaining reader.new) (W.contents writer.old)
         (W.contents writer.new) result }
 {
     let (line, end) = take_line(alloc, reader)?;
     if end == LineEnd::Input && line.is_empty() {
         return Ok(false);
     }
-    answer_line(alloc, client, relays, number, line.as_slice(), writer)?;
+    answer_line(alloc, client, relays, line.as_slice(), writer)?;
     match end {
         LineEnd::Feed => Ok(true),
-        LineEnd::Input | LineEnd::Size => Ok(false),
+        LineEnd::Input => Ok(false),
     }
 }
 
-/// Makes the call of a line, and writes its answer.
+/// Makes the call of a line and writes its answer, or writes what is wrong with the line.
 fn answer_line<C: TurnClientApi, W: Write>(
     alloc: Global,
     client: &mut C,
     relays: TransportType,
-    number: usize,
     line: &[u8],
     writer: &mut W,
 ) -> Result<(), Stop>
     requires { (C.state client.old).config.allocation_transport ≡ relays }
-    ensures { AnswersLine relays number (C.state client.old) (C.state client.new) line.now (W.contents writer.old) (W.contents writer.new) result }
+    ensures { AnswersLine (line_call relays line.now) (C.state client.old) (C.state client.new) (W.contents writer.old) (W.contents writer.new) result }
 {
-    let call = read_call(alloc, relays, number, line)?;
-    let reply = reply_to(alloc, client, &call)?;
-    let text = answers_text(alloc, &[reply])?;
-    write_text(writer, text.as_str())
-}
-
-/// Parses the call of the line with this number.
-fn read_call(alloc: Global, relays: TransportType, number: usize, line: &[u8]) -> Result<Call, Stop>
-    ensures { ReadsCall relays number line.now result }
-{
-    if line.len() > MAX_LINE {
-        return Err(bad(number, BadKind::Size));
-    }
-    match parse_call(alloc, relays, line) {
-        Ok(call) => Ok(call),
-        Err(ReadError::Bad(kind)) => Err(bad(number, kind)),
+    match read_call(alloc, relays, line) {
+        Ok(call) => {
+            let reply = reply_to(alloc, client, &call)?;
+            let text = answers_text(alloc, &[reply])?;
+            write_text(writer, text.as_str())
+        }
+        Err(ReadError::Bad(kind)) => write_text(writer, bad_answer(kind)),
         Err(ReadError::OutOfMemory) => Err(Stop::OutOfMemory),
     }
 }
 
-/// The error for a bad line, which ends a session.
-fn bad(number: usize, kind: BadKind) -> Stop
-    ensures { result ≡ Stop.Bad (bad_line number kind) }
+/// Parses the call of a line.
+fn read_call(alloc: Global, relays: TransportType, line: &[u8]) -> Result<Call, ReadError<BadKind>>
+    ensures { Reads (λ call. call) result (line_call relays line.now) }
 {
-    Stop::Bad(BadLine { number, kind })
+    if line.len() > MAX_LINE {
+        return Err(ReadError::Bad(BadKind::Size));
+    }
+    parse_call(alloc, relays, line)
+}
+
+/// The answer to a line that is no call.
+fn bad_answer(kind: BadKind) -> &'static str
+    ensures { result.now ≡ bad_answer kind }
+{
+    match kind {
+        BadKind::Size => "bad size\n",
+        BadKind::Head => "bad head\n",
+        BadKind::Moment => "bad moment\n",
+        BadKind::Call => "bad call\n",
+        BadKind::Argument => "bad argument\n",
+        BadKind::Payload => "bad payload\n",
+    }
 }

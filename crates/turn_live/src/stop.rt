@@ -6,7 +6,7 @@ use turn_lines::fault::BadLine;
 /// Why a session ends before its input does.
 #[derive(Clone, Copy, Debug, PartialEq, Eq)]
 pub enum Stop {
-    /// This line is bad.
+    /// The first line does not describe a client.
     Bad(BadLine),
     /// Memory allocation failed, for a line, for the client or for an answer.
     OutOfMemory,

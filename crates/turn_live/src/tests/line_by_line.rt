@@ -1,4 +1,4 @@
-//! A reader that returns a line only after the line before it was answered.
+//! A reader that returns bytes only after all whole lines before them were answered.
 //!
 //! The messages were encoded and signed by other means than this client, under the MD5 digest of `user:realm:pass`
 //! (RFC 8489, section 9.2.2).
@@ -8,37 +8,38 @@ use crate::tests::fixture::{HEAD, assert_status, assert_written};
 use std::alloc::Global;
 use std::cell::Cell;
 use std::io;
-use std::io::{ErrorKind, Read, Write};
+use std::io::{BufReader, ErrorKind, Read, Write};
 use std::process::Abort;
 use std::test::Fail;
 use turn_lines::status::Status;
 
-/// A reader of lines, each with its answer. It fails if a line is read before all lines before it were answered.
+/// A reader of pieces, each with the answers to the lines that it ends. It fails if a piece is read before the answers to
+/// those before it were flushed.
 #[derive(Drop)]
 struct Waiting<'a> {
-    line: &'a [u8],
+    piece: &'a [u8],
     script: &'a [(&'a str, &'a str)],
-    /// The number of bytes that must be written and flushed before the next line is read.
+    /// The number of bytes that must be written and flushed before the next piece is read.
     due: usize,
     flushed: &'a Cell<usize>,
 }
 
 impl Read for Waiting<'_> {
     fn read(&mut self, buf: &mut [u8]) -> io::Result<usize> {
-        if self.line.is_empty() {
+        if self.piece.is_empty() {
             if self.flushed.get() != self.due {
                 return Err(io::Error::from(ErrorKind::Other));
             }
             match self.script {
                 [] => return Ok(0),
                 [next, rest @ ..] => {
-                    self.line = next.0.as_bytes();
+                    self.piece = next.0.as_bytes();
                     self.due = self.due.wrapping_add(next.1.len());
                     self.script = rest;
                 }
             }
         }
-        self.line.read(buf)
+        self.piece.read(buf)
     }
 }
 
@@ -61,11 +62,11 @@ impl Write for Telling<'_> {
     }
 }
 
-/// Runs a session on these lines, and returns how it ended and its output.
-fn run_script(alloc: Global, script: &[(&str, &str)]) -> (Status, Vec<u8>) {
+/// Runs a session on these pieces, and returns how it ended and its output.
+fn run_script(alloc: Global, script: &[(&str, &str)]) -> Result<(Status, Vec<u8>), Fail> {
     let flushed = Cell::new(0);
-    let mut reader = Waiting {
-        line: b"",
+    let reader = Waiting {
+        piece: b"",
         script,
         due: 0,
         flushed: &flushed,
@@ -74,17 +75,18 @@ fn run_script(alloc: Global, script: &[(&str, &str)]) -> (Status, Vec<u8>) {
         held: Vec::new(alloc),
         flushed: &flushed,
     };
-    let status = run(alloc, &mut reader, &mut writer);
+    let mut buffered = BufReader::new(alloc, reader)?;
+    let status = run(alloc, &mut buffered, &mut writer);
     let Telling { held, .. } = writer;
-    (status, held)
+    Ok((status, held))
 }
 
-/// Runs a session on these lines, whose answers must be these.
+/// Runs a session on these pieces, whose answers must be these.
 fn is_answered(rt: &impl Abort, alloc: Global, script: &[(&str, &str)]) -> Result<(), Fail> {
-    let (status, written) = run_script(alloc, script);
+    let (status, written) = run_script(alloc, script)?;
     let mut want = String::new(alloc);
-    for line in script {
-        want.push_str(line.1)?;
+    for piece in script {
+        want.push_str(piece.1)?;
     }
     assert_written(rt, written.as_slice(), want.as_bytes());
     assert_status(rt, status, Status::Answered);
@@ -121,4 +123,23 @@ const EXCHANGE: &[(&str, &str)] = &[
 #[test]
 fn each_line_is_answered_before_the_next_is_read(rt: HostRuntime) -> Result<(), Fail> {
     is_answered(&rt, rt.alloc(), EXCHANGE)
+}
+
+/// Several lines in a piece, and pieces that end within a line.
+const PIECES: &[(&str, &str)] = &[
+    (HEAD, ""),
+    ("0 poll\n0 event\n0 dance\n", "wait 0\nnone\nbad call\n"),
+    ("0 eve", ""),
+    ("nt\n0 poll", "none\n"),
+    ("\n\n0 ", "wait 0\nbad moment\n"),
+    (
+        "transmit\n0 event",
+        "send udp 192.168.0.1:1000 10.0.0.2:2000 000300142112a44276b8e0ada0f13d90405d6ae5000d0004000007080019000411000000001a0000\n",
+    ),
+    ("\n", "none\n"),
+];
+
+#[test]
+fn whole_lines_are_answered_before_more_is_read(rt: HostRuntime) -> Result<(), Fail> {
+    is_answered(&rt, rt.alloc(), PIECES)
 }

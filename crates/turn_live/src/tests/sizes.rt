@@ -21,24 +21,33 @@ fn a_line_of_a_mebibyte_is_read(rt: HostRuntime) -> Result<(), Fail> {
     follow(&rt, rt.alloc(), &input, Status::Answered, "ignored\nnone\n")
 }
 
-/// A session with this call after another must end by its size.
+/// A call that is too long must be answered so between others, and at the end of the input.
 fn is_too_long(rt: &impl Abort, alloc: Global, call: &str) -> Result<(), Fail> {
-    let want = "none\nline 3: bad size\n";
-    follow(
-        rt,
-        alloc,
-        &[HEAD, "0 event\n", call],
-        Status::Malformed,
-        want,
-    )?;
-    let more = [HEAD, "0 event\n", call, "00\n0 event\n"];
-    follow(rt, alloc, &more, Status::Malformed, want)
+    let last = [HEAD, "0 event\n", call];
+    follow(rt, alloc, &last, Status::Answered, "none\nbad size\n")?;
+    let more = [HEAD, "0 event\n", call, "\n0 event\n"];
+    follow(rt, alloc, &more, Status::Answered, "none\nbad size\nnone\n")
 }
 
 #[test]
 fn a_longer_line_is_bad(rt: HostRuntime) -> Result<(), Fail> {
     let call = call_of_size(rt.alloc(), 1_048_577)?;
-    is_too_long(&rt, rt.alloc(), call.as_str())
+    is_too_long(&rt, rt.alloc(), call.as_str())?;
+    let longer = call_of_size(rt.alloc(), 1_060_000)?;
+    is_too_long(&rt, rt.alloc(), longer.as_str())
+}
+
+#[test]
+fn a_longer_head_ends_the_session(rt: HostRuntime) -> Result<(), Fail> {
+    let zeros = "0".repeat(rt.alloc(), 1_048_577)?;
+    let input = [zeros.as_str(), "\n0 event\n"];
+    follow(
+        &rt,
+        rt.alloc(),
+        &input,
+        Status::Malformed,
+        "line 1: bad size\n",
+    )
 }
 
 #[test]

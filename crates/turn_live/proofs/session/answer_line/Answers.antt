@@ -6,6 +6,6 @@ use Rattle.turn_live.proofs.session.answer_line.Goals as goal
 
 pub reply_to-requires : goal.reply_to-requires
 reply_to-requires g c = record {
-  callable = subst (λ (relays : TransportType). IsCallable relays c.in_ok-call.call) (sym c.requires)
-      (line_is_callable c.args.relays c.args.number c.args.line.now c.in_ok-call.call c.in_ok-call.ensures);
+  callable = subst (λ (relays : TransportType). IsCallable relays c.in-Ok.call) (sym c.requires)
+      (line_is_callable c.args.relays c.args.line.now c.in-Ok.call c.in-Ok.ensures);
 }
