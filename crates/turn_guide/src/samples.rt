@@ -155,11 +155,19 @@ pub(crate) fn permit<C: TurnClientApi>(
     }
 }
 
-/// When the first of two clients is due.
-pub(crate) fn earlier(one: Rest, other: Rest) -> Rest {
-    match (one, other) {
-        (Rest::Until(first), Rest::Until(second)) => { if second < first { other } else { one } }
-        (Rest::Now, _) | (_, Rest::Ended) => one,
-        (Rest::Ended, _) | (_, Rest::Now) => other,
+/// When the first of these clients is due, or `None` if all have ended.
+pub(crate) fn first_due(rests: &[Rest], now: Instant) -> Option<Instant> {
+    let mut first: Option<Instant> = None;
+    for rest in rests {
+        let due = match *rest {
+            Rest::Until(time) => time,
+            Rest::Now => now,
+            Rest::Ended => continue,
+        };
+        first = match first {
+            Some(time) if time < due => Some(time),
+            _ => Some(due),
+        };
     }
+    first
 }

@@ -7,7 +7,7 @@ use crate::messages::{
 };
 use crate::program::{Program, local, peer, server};
 use crate::samples::{
-    begin, begin_connecting, connect, earlier, greet, iterate, leave, permit, reach,
+    begin, begin_connecting, connect, first_due, greet, iterate, leave, permit, reach,
 };
 use std::alloc::AllocError;
 use std::fmt::Debug;
@@ -124,22 +124,20 @@ fn a_peer_is_heard_over_tcp(rt: HostRuntime) -> Result<(), Fail> {
     Ok(())
 }
 
-/// Asserts that the two clients are due at this time, whichever is named first.
-fn are_due(rt: &impl Abort, one: Rest, other: Rest, want: Rest) {
-    same(rt, earlier(one, other), want);
-    same(rt, earlier(other, one), want);
-}
-
 fn until(millis: u32) -> Rest {
     Rest::Until(at(millis))
 }
 
 #[test]
-fn the_earlier_client_is_due_first(rt: HostRuntime) -> Result<(), Fail> {
-    are_due(&rt, until(1), until(2), until(1));
-    are_due(&rt, until(1), Rest::Ended, until(1));
-    are_due(&rt, until(1), Rest::Now, Rest::Now);
-    are_due(&rt, Rest::Ended, Rest::Now, Rest::Now);
-    are_due(&rt, Rest::Ended, Rest::Ended, Rest::Ended);
+fn the_first_of_several_clients_is_due(rt: HostRuntime) -> Result<(), Fail> {
+    let now = at(5);
+    same(
+        &rt,
+        first_due(&[until(8), until(7), until(9)], now),
+        Some(at(7)),
+    );
+    same(&rt, first_due(&[Rest::Ended, until(8)], now), Some(at(8)));
+    same(&rt, first_due(&[until(8), Rest::Now], now), Some(now));
+    same(&rt, first_due(&[Rest::Ended, Rest::Ended], now), None);
     Ok(())
 }
