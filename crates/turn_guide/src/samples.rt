@@ -7,8 +7,8 @@ use std::alloc::{AllocError, Global};
 use std::net::{IpAddr, SocketAddr};
 use turn_auth::credentials::{CredentialsError, TurnCredentials};
 use turn_client_api::{
-    BindChannelError, CreatePermissionError, DeleteError, SendError, TcpConnectError,
-    TurnClientApi, TurnConfig, TurnEvent,
+    BindChannelError, CreatePermissionError, DeleteError, SendError, TurnClientApi, TurnConfig,
+    TurnEvent,
 };
 use turn_client_proto::tcp::TurnClientTcp;
 use turn_client_proto::udp::TurnClientUdp;
@@ -39,11 +39,11 @@ pub(crate) fn iterate<C: TurnClientApi>(
     requires now_in_range { now ≤ 2 ^ 62 }
 {
     let mut tasks = Vec::new(program.alloc);
-    let rest = drive_client(client, received, now, 64, &mut tasks)?;
+    let rest = drive_client(client, received, now, 64, &mut tasks);
     for task in tasks {
         carry_out(program, client, &task, now)?;
     }
-    Ok(rest)
+    rest
 }
 
 /// Carries out one task of the client.
@@ -119,17 +119,6 @@ pub(crate) fn begin_connecting(
     let mut config = TurnConfig::new(alloc, credentials);
     config.set_allocation_transport(TransportType::Tcp);
     Ok(TurnClientTcp::allocate(alloc, local, server, config, seed)?)
-}
-
-/// Requests a connection to a permitted peer.
-pub(crate) fn connect<C: TurnClientApi>(
-    client: &mut C,
-    peer: SocketAddr,
-    now: Instant,
-) -> Result<(), TcpConnectError>
-    requires now_in_range { now ≤ 2 ^ 62 }
-{
-    client.tcp_connect(peer, now)
 }
 
 /// Deletes the allocation. The loop goes on until the client has ended.

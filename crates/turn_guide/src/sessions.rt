@@ -6,9 +6,7 @@ use crate::messages::{
     ALLOCATED, BOUND, BOUND_AND_DATA, CHALLENGE, CHANNEL_DATA, CONNECTED, DELETED, PERMITTED,
 };
 use crate::program::{Program, local, peer, server};
-use crate::samples::{
-    begin, begin_connecting, connect, first_due, greet, iterate, leave, permit, reach,
-};
+use crate::samples::{begin, begin_connecting, first_due, greet, iterate, leave, permit, reach};
 use std::alloc::AllocError;
 use std::fmt::Debug;
 use std::process::Abort;
@@ -113,7 +111,7 @@ fn a_peer_is_heard_over_tcp(rt: HostRuntime) -> Result<(), Fail> {
         same(&rt, permit(&mut client, tcp, peer().ip(), at(50))?, true);
     }
     run(&mut program, &mut client, PERMIT)?;
-    connect(&mut client, peer(), at(100))?;
+    client.tcp_connect(peer(), at(100))?;
     run(&mut program, &mut client, CONNECT)?;
     same(&rt, program.event, Some(TurnEvent::TcpConnected(peer())));
     same(&rt, program.heard.as_slice(), b"hello".as_slice());
