@@ -380,8 +380,8 @@ static inline yarrowdoor_settings yarrowdoor_settings_of(uint32_t transport, con
    may make it earlier, so poll after it. While an event is to be polled, that time is `now`.
    YARROWDOOR_ALLOCATE_TCP_SOCKET: open a connection from any port of this host to answer->to over answer->transport,
    and pass it to yarrowdoor_allocated_tcp_socket with the id and the addresses of the answer. YARROWDOOR_TCP_CLOSE:
-   close the connection from answer->from to answer->to. YARROWDOOR_CLOSED: the client has ended, and no event is
-   left. */
+   close the connection from answer->from to answer->to. YARROWDOOR_CLOSED: the client has ended; poll the events
+   that are left. */
 static inline uint32_t yarrowdoor_poll(yarrowdoor *client, uint64_t now, yarrowdoor_answer *answer)
 {
     yarrowdoor_request request = yarrowdoor_request_of(YARROWDOOR_CALL_POLL, now);
