@@ -2,7 +2,7 @@
 from __future__ import annotations
 
 import asyncio
-from typing import TYPE_CHECKING, Any, Dict, List, Optional, Tuple
+from typing import Any, Dict, List, Optional, Set, TYPE_CHECKING, Tuple
 
 from . import client as sans_io
 from .client import Address
@@ -104,6 +104,8 @@ class Streams:
         self._links: List[Link] = []
         self._wanted: Dict[Address, Optional[Address]] = {}
         self._accepted: asyncio.Queue[Optional[PeerTransport]] = asyncio.Queue()
+        # The peers whose connections are being opened, and are not in the queue yet.
+        self._offered: Set[Address] = set()
 
     @property
     def client(self) -> sans_io.Client:
@@ -142,13 +144,16 @@ class Streams:
     async def open(self, wanted: sans_io.AllocateTcpSocket) -> None:
         """Opens the data connection that the client wants: asked for by `connect`, or offered by a peer."""
         link = None
-        if wanted.peer in self._wanted or self._accepted.qsize() < BACKLOG:
+        is_offer = wanted.peer not in self._wanted
+        if not is_offer or len(self._offered) + self._accepted.qsize() < BACKLOG:
+            if is_offer:
+                self._offered.add(wanted.peer)
             try:
                 link = await self.relay._connect(self._received, self._lost)
                 self._links.append(link)
                 self._add(link, wanted.peer)
             except OSError:
-                pass
+                self._offered.discard(wanted.peer)
         try:
             self.client.allocated_tcp_socket(wanted, link.local if link else None, self.now())
         except (Ended, Refused):
@@ -163,6 +168,7 @@ class Streams:
         """The data connection to a peer is bound."""
         stream = self._by_peer.get(peer)
         if stream is not None and peer not in self._wanted:
+            self._offered.discard(peer)
             self._accepted.put_nowait(stream)
 
     def feed(self, data: bytes, peer: Address) -> None:
@@ -219,5 +225,6 @@ class Streams:
         for peer, stream in [*self._by_peer.items()]:
             if stream.link is link:
                 del self._by_peer[peer]
+                self._offered.discard(peer)
                 stream.lose(error)
                 self.relay._settle("connect", peer, ConnectFailed(f"the server closed the connection for {peer}"))
