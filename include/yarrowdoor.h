@@ -110,7 +110,8 @@ enum yarrowdoor_kind {
 
     /* of yarrowdoor_recv and yarrowdoor_poll_recv */
     YARROWDOOR_HANDLED = 15,         /* the bytes were for the client itself */
-    YARROWDOOR_IGNORED = 16,         /* the bytes were not for this client */
+    YARROWDOOR_IGNORED = 16,         /* the bytes change nothing: they are not shown to be the server's (as a 401 to a
+                                        wrong password), or not for this client */
     YARROWDOOR_PEER_DATA = 17,       /* peer sent data over transport: len bytes in the buffer, and left more to read */
     YARROWDOOR_PEER_DATA_RANGE = 34, /* peer sent data over transport: len of the bytes passed in, from start on */
     YARROWDOOR_PEER_ICMP = 18, /* an ICMP packet came for data to peer: transport, icmp_type, icmp_code, icmp_data */
@@ -124,10 +125,10 @@ enum yarrowdoor_kind {
     YARROWDOOR_NO = 22,
 
     /* of yarrowdoor_poll_event */
-    YARROWDOOR_ALLOCATION_CREATED = 23,       /* the server relays peer for the client, over transport */
-    YARROWDOOR_ALLOCATION_CREATE_FAILED = 24, /* the server relays no address of family */
-    YARROWDOOR_PERMISSION_CREATED = 25,       /* the IP address of peer has a permission, over transport */
-    YARROWDOOR_PERMISSION_CREATE_FAILED = 26, /* the IP address of peer got no permission, or has it no longer */
+    YARROWDOOR_ALLOCATION_CREATED = 23,       /* peer is the relayed address, of which transport is relayed */
+    YARROWDOOR_ALLOCATION_CREATE_FAILED = 24, /* there is no relayed address of family, for whatever reason */
+    YARROWDOOR_PERMISSION_CREATED = 25,       /* the IP address of peer, whose port is 0, has a permission, over transport */
+    YARROWDOOR_PERMISSION_CREATE_FAILED = 26, /* the IP address of peer, whose port is 0, has no permission (any more) */
     YARROWDOOR_CHANNEL_CREATED = 27,          /* peer has a channel, over transport */
     YARROWDOOR_CHANNEL_CREATE_FAILED = 28,    /* peer got no channel, or has it no longer */
     YARROWDOOR_TCP_CONNECTED = 29,            /* there is a data connection to peer */
@@ -163,10 +164,11 @@ typedef struct yarrowdoor_address {
 
 /* What a new client is and does. yarrowdoor_settings_of gives the usual ones. */
 typedef struct yarrowdoor_settings {
-    uint64_t wait_initial; /* from the first transmission of a request to the second, in nanoseconds; then doubled */
+    uint64_t wait_initial; /* from when a request is made to its second transmission, in nanoseconds; then doubled. The
+                              first one may be held back by the 50 ms between requests, and these count */
     uint64_t wait_max;     /* the longest wait between two transmissions, in nanoseconds */
     uint64_t wait_last;    /* the wait after the last transmission, in nanoseconds */
-    uint32_t wait_count;   /* how often a request is transmitted in all */
+    uint32_t wait_count;   /* how often a request is transmitted in all; less often if it was held back for longer */
     uint32_t has_waits;    /* 0: the waits of RFC 8489, section 6.2.1, and the four above are not read */
     uint32_t transport;    /* between client and server */
     uint32_t allocation_transport; /* between server and peers; over TCP only where transport is TCP (RFC 6062) */
@@ -381,16 +383,17 @@ static inline yarrowdoor_settings yarrowdoor_settings_of(uint32_t transport, con
    YARROWDOOR_ALLOCATE_TCP_SOCKET: open a connection from any port of this host to answer->to over answer->transport,
    and pass it to yarrowdoor_allocated_tcp_socket with the id and the addresses of the answer. YARROWDOOR_TCP_CLOSE:
    close the connection from answer->from to answer->to. YARROWDOOR_CLOSED: the client has ended; poll the events
-   that are left. */
+   that are left. There is none where nobody answers, or the password is wrong: 39.5 s after the start by default. */
 static inline uint32_t yarrowdoor_poll(yarrowdoor *client, uint64_t now, yarrowdoor_answer *answer)
 {
     yarrowdoor_request request = yarrowdoor_request_of(YARROWDOOR_CALL_POLL, now);
     return yarrowdoor_call_plain(client, &request, answer);
 }
 
-/* The next packet that is due. YARROWDOOR_PACKET: send the answer->len bytes in the buffer. YARROWDOOR_NOTHING: none
-   is due. YARROWDOOR_UNREAD_BYTES: read the rest of an earlier answer first. YARROWDOOR_SMALL_BUFFER: the buffer has
-   under YARROWDOOR_MAX_PACKET bytes, which is more than any packet has. */
+/* The next packet that is due. Requests start at least 50 ms apart (RFC 8489, section 6.2.1), so that an allocation
+   with its challenge and a permission take 100 ms or more. YARROWDOOR_PACKET: send the answer->len bytes in the
+   buffer. YARROWDOOR_NOTHING: none is due. YARROWDOOR_UNREAD_BYTES: read the rest of an earlier answer first.
+   YARROWDOOR_SMALL_BUFFER: the buffer has under YARROWDOOR_MAX_PACKET bytes, which is more than any packet has. */
 static inline uint32_t yarrowdoor_poll_transmit(yarrowdoor *client, uint64_t now, uint8_t *buffer, size_t buffer_len,
                                                 yarrowdoor_answer *answer)
 {
@@ -412,7 +415,9 @@ static inline uint32_t yarrowdoor_poll_event(yarrowdoor *client, yarrowdoor_answ
    buffer and answer->left more, for yarrowdoor_read. YARROWDOOR_UNREAD_BYTES: read the rest of an earlier answer
    first. YARROWDOOR_OUT_OF_MEMORY: the client has ended, and a stream gives nothing more; bytes that are not from the
    server, and data of peers over UDP, take no memory. Data that does not fit into the buffer takes none either, so
-   none of it is lost. Over TCP call yarrowdoor_poll_recv afterwards. */
+   none of it is lost. Over TCP call yarrowdoor_poll_recv afterwards. Over UDP the buffer is not used, and may be null.
+   `from` and `to` are compared with the settings' remote and local addresses, so these are to be those of the socket
+   (connect it, and ask getsockname). */
 static inline uint32_t yarrowdoor_recv(yarrowdoor *client, uint32_t transport, const yarrowdoor_address *from,
                                        const yarrowdoor_address *to, const uint8_t *bytes, size_t bytes_len,
                                        uint64_t now, uint8_t *buffer, size_t buffer_len, yarrowdoor_answer *answer)
@@ -543,7 +548,8 @@ static inline uint32_t yarrowdoor_tcp_closed(yarrowdoor *client, const yarrowdoo
 }
 
 /* Requests that the server delete the allocations (RFC 8656, section 8). YARROWDOOR_DONE: poll and transmit until
-   YARROWDOOR_CLOSED. YARROWDOOR_REFUSED: YARROWDOOR_ERROR_NO_ALLOCATION. */
+   YARROWDOOR_CLOSED. YARROWDOOR_REFUSED: YARROWDOOR_ERROR_NO_ALLOCATION. To give up before there is one, free the
+   client: what the server may still grant ends there by its lifetime. */
 static inline uint32_t yarrowdoor_delete(yarrowdoor *client, uint64_t now, yarrowdoor_answer *answer)
 {
     yarrowdoor_request request = yarrowdoor_request_of(YARROWDOOR_CALL_DELETE, now);

@@ -1,4 +1,4 @@
-//! A TURN client that does no I/O (RFC 8656, 6062 and 6156), for programs that sockets and clock belong to.
+//! A TURN client that does no I/O (RFC 8656, 6062 and 6156): sockets and clock are the program's.
 //!
 //! This package gives the surface of the crate `turn-client-proto` 0.7.3, by its names, over the library for C that
 //! `tools/library` builds. The client in that library is proved; this package and its caller are not. It needs no other
@@ -7,7 +7,8 @@
 //! # Getting started
 //!
 //! A client over UDP is [`udp::TurnClientUdp`], and one over TCP [`tcp::TurnClientTcp`]; [`client::TurnClient`] is either
-//! of them. The trait of all clients is [`api::TurnClientApi`], whose documentation has a caller's loop.
+//! of them. The trait of all clients is [`api::TurnClientApi`]; the module [`api`] has an exchange, and `examples/rust` of the
+//! repository a whole program.
 //!
 //! ```
 //! use yarrowdoor::api::TurnConfig;

@@ -1,17 +1,5 @@
-//! The samples of `docs/GUIDE.md`, which `tools/guide` compares with that page, and the sessions that run them.
-//!
-//! To run them, unproved, in this folder:
-//!
-//! ```text
-//! rt try --test
-//! ```
+//! The samples of `docs/GUIDE.md`, which `tools/guide` compares with that page, and runs in sessions.
 #![tactic(auto)]
 
-#[cfg(test)]
-mod messages;
-#[cfg(test)]
-mod program;
-#[cfg(test)]
-mod samples;
-#[cfg(test)]
-mod sessions;
+pub mod program;
+pub mod samples;

@@ -18,7 +18,7 @@ use turn_stun::instant::Instant;
 use turn_stun::transport::{Transmit, TransportType};
 
 /// A client over UDP, which requests an IPv4 address that relays UDP.
-pub(crate) fn begin(
+pub fn begin(
     alloc: Global,
     local: SocketAddr,
     server: SocketAddr,
@@ -30,7 +30,7 @@ pub(crate) fn begin(
 }
 
 /// One iteration of the loop. The result says when the next one is due.
-pub(crate) fn iterate<C: TurnClientApi>(
+pub fn iterate<C: TurnClientApi>(
     program: &mut Program,
     client: &mut C,
     received: Option<Transmit<Vec<u8>>>,
@@ -77,7 +77,7 @@ fn carry_out<C: TurnClientApi>(
 }
 
 /// Requests a channel to the peer as soon as there is an allocation.
-pub(crate) fn reach<C: TurnClientApi>(
+pub fn reach<C: TurnClientApi>(
     client: &mut C,
     peer: SocketAddr,
     event: TurnEvent,
@@ -94,7 +94,7 @@ pub(crate) fn reach<C: TurnClientApi>(
 }
 
 /// The packet that carries a greeting to the peer.
-pub(crate) fn greet<C: TurnClientApi>(
+pub fn greet<C: TurnClientApi>(
     alloc: Global,
     client: &mut C,
     peer: SocketAddr,
@@ -109,7 +109,7 @@ pub(crate) fn greet<C: TurnClientApi>(
 }
 
 /// A client over TCP, whose allocation connects to peers over TCP.
-pub(crate) fn begin_connecting(
+pub fn begin_connecting(
     alloc: Global,
     local: SocketAddr,
     server: SocketAddr,
@@ -122,14 +122,14 @@ pub(crate) fn begin_connecting(
 }
 
 /// Deletes the allocation. The loop goes on until the client has ended.
-pub(crate) fn leave<C: TurnClientApi>(client: &mut C, now: Instant) -> Result<(), DeleteError>
+pub fn leave<C: TurnClientApi>(client: &mut C, now: Instant) -> Result<(), DeleteError>
     requires now_in_range { now ≤ 2 ^ 62 }
 {
     client.delete(now)
 }
 
 /// Whether the permission is active or pending now. `false` says to try again when there is memory.
-pub(crate) fn permit<C: TurnClientApi>(
+pub fn permit<C: TurnClientApi>(
     client: &mut C,
     transport: TransportType,
     peer: IpAddr,
@@ -145,7 +145,7 @@ pub(crate) fn permit<C: TurnClientApi>(
 }
 
 /// When the first of these clients is due, or `None` if all have ended.
-pub(crate) fn first_due(rests: &[Rest], now: Instant) -> Option<Instant> {
+pub fn first_due(rests: &[Rest], now: Instant) -> Option<Instant> {
     let mut first: Option<Instant> = None;
     for rest in rests {
         let due = match *rest {

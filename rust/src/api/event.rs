@@ -27,7 +27,8 @@ pub enum TurnPollRet {
         /// The end of the server.
         remote_addr: SocketAddr,
     },
-    /// The client has ended, and does nothing more.
+    /// The client has ended. Events may be left. There is none where nobody answered, or the password is wrong: by default
+    /// 39.5 s after the start.
     Closed,
 }
 
@@ -47,7 +48,7 @@ pub struct Socket5Tuple {
 pub enum TurnEvent {
     /// The server relays this address, over this transport.
     AllocationCreated(TransportType, SocketAddr),
-    /// The server relays no address of this family.
+    /// There is no relayed address of this family, for whatever reason.
     AllocationCreateFailed(AddressFamily),
     /// This peer has a permission.
     PermissionCreated(TransportType, IpAddr),
