@@ -1,7 +1,8 @@
 """Makes the wheel of the package: a build backend (PEP 517) that needs the standard library alone.
 
 The library for C comes from the folder `YARROWDOOR_DIST`, by default `../dist`, which tools/library makes. The wheel holds
-it, its checksum (`yarrowdoor/SHA256SUMS`), and what proved it (`yarrowdoor/PROOF`). The same files make the same wheel.
+it, its checksum (`yarrowdoor/SHA256SUMS`), and what proved it (`yarrowdoor/PROOF`). The same files make the same wheel. Where
+PROOF does not say that the library is proved, the version of the wheel ends with `+unproved`.
 
     python3 build_wheel.py FOLDER       puts the wheel into the folder, and prints its name
 """
@@ -37,6 +38,19 @@ def dist() -> pathlib.Path:
     return folder
 
 
+def is_proved(proof: str) -> bool:
+    """Whether PROOF has the `logic=proved` of `rt lib`, or ends with a gate that passed, and has nothing that says otherwise."""
+    if re.search(r"NOT PROVED|\bproved=no\b", proof):
+        return False
+    has_passed = re.search(r"^[1-9][0-9]* passed, 0 failed\s*\Z", proof, re.M)
+    return bool(has_passed or re.search(r"(?<!\S)logic=proved(?!\S)", proof))
+
+
+def version(folder: pathlib.Path) -> str:
+    """The version of the wheel: one whose library is not proved says so (a local version of PEP 440)."""
+    return project("version") + ("" if is_proved((folder / "PROOF").read_text()) else "+unproved")
+
+
 def platform(library: bytes) -> str:
     """The tag of the machine and the C library that this library needs."""
     machine = MACHINES.get(struct.unpack_from("<H", library, 18)[0])
@@ -56,8 +70,8 @@ def files(folder: pathlib.Path) -> "dict[str, bytes]":
     return found
 
 
-def metadata() -> bytes:
-    head = [("Metadata-Version", "2.1"), ("Name", project("name")), ("Version", project("version")),
+def metadata(version: str) -> bytes:
+    head = [("Metadata-Version", "2.1"), ("Name", project("name")), ("Version", version),
             ("Summary", project("description")), ("License", "MIT OR Apache-2.0"), ("Requires-Python", project("requires-python")),
             ("Description-Content-Type", "text/markdown")]
     lines = "".join(f"{name}: {value}\n" for name, value in head)
@@ -70,11 +84,12 @@ def sum_of(data: bytes) -> str:
 
 def build_wheel(wheel_directory, config_settings=None, metadata_directory=None):
     """Makes the wheel, and returns its name (PEP 517)."""
-    found = files(dist())
+    folder = dist()
+    found = files(folder)
     tag = f"py3-none-{platform(found[f'yarrowdoor/{LIBRARY}'])}"
-    about = f"{project('name')}-{project('version')}"
+    about = f"{project('name')}-{version(folder)}"
     info = f"{about}.dist-info"
-    found[f"{info}/METADATA"] = metadata()
+    found[f"{info}/METADATA"] = metadata(version(folder))
     found[f"{info}/LICENSE"] = (HERE.parent / "LICENSE").read_bytes() if (HERE.parent / "LICENSE").exists() else b""
     found[f"{info}/WHEEL"] = f"Wheel-Version: 1.0\nGenerator: build_wheel\nRoot-Is-Purelib: false\nTag: {tag}\n".encode()
     record = "".join(f"{name},sha256={sum_of(data)},{len(data)}\n" for name, data in found.items())
