@@ -3,8 +3,11 @@
 A peer sends back what it gets. Packets are lost, late and doubled by the numbers of a seed.
 """
 import asyncio
+import contextlib
 import heapq
 import random
+import socket
+import struct
 from typing import Callable, Dict, List, Optional, Tuple
 
 from yarrowdoor import client as sans_io
@@ -79,6 +82,41 @@ class Network:
 
     def of(self, kind: type) -> List[sans_io.Event]:
         return [it for it in self.events if isinstance(it, kind)]
+
+
+class StreamEndpoint:
+    """A server on a socket of this host, over TCP. It has one client at a time."""
+
+    def __init__(self, server: Server) -> None:
+        self.server = server
+        self.uri = ""
+
+    @classmethod
+    async def start(cls, server: Server) -> "StreamEndpoint":
+        endpoint = cls(server)
+        endpoint.listener = await asyncio.start_server(endpoint.serve, "127.0.0.1", 0)
+        endpoint.uri = "turn:%s:%d?transport=tcp" % endpoint.listener.sockets[0].getsockname()
+        return endpoint
+
+    async def serve(self, reader: asyncio.StreamReader, writer: asyncio.StreamWriter) -> None:
+        self.writer = writer
+        source = writer.get_extra_info("peername")
+        with contextlib.suppress(asyncio.IncompleteReadError, ConnectionError):
+            while True:
+                head = await reader.readexactly(20)
+                data = head + await reader.readexactly(int.from_bytes(head[2:4], "big"))
+                for answer, _ in self.server.receive(data, source, asyncio.get_running_loop().time()):
+                    writer.write(answer)
+
+    def end(self, resets: bool) -> None:
+        """Ends the connection of the client, by a reset or orderly."""
+        if resets:
+            self.writer.get_extra_info("socket").setsockopt(socket.SOL_SOCKET, socket.SO_LINGER, struct.pack("ii", 1, 0))
+        self.writer.close()
+
+    def close(self) -> None:
+        self.listener.close()
+        self.writer.close()
 
 
 class Endpoint(asyncio.DatagramProtocol):

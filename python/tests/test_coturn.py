@@ -21,6 +21,16 @@ class Echo(asyncio.DatagramProtocol):
         self.transport.sendto(data, source)
 
 
+class Sink(asyncio.DatagramProtocol):
+    """A peer that keeps what it gets."""
+
+    def __init__(self, came: "asyncio.Queue[bytes]") -> None:
+        self.came = came
+
+    def datagram_received(self, data: bytes, source) -> None:
+        self.came.put_nowait(data)
+
+
 @contextlib.asynccontextmanager
 async def echo_peer() -> AsyncIterator["tuple[str, int]"]:
     transport, _ = await asyncio.get_running_loop().create_datagram_endpoint(Echo, local_addr=("127.0.0.1", 0))
@@ -75,6 +85,22 @@ class Coturn(unittest.IsolatedAsyncioTestCase):
 
     async def test_tls(self) -> None:
         await self.echo(self.server.uri("turns:localhost:{tls_port}"), ssl=self.tls())
+
+    async def test_the_longest_messages(self) -> None:
+        """They pass over TCP. With one more coturn would answer nothing any more on this connection."""
+        came: "asyncio.Queue[bytes]" = asyncio.Queue()
+        loop = asyncio.get_running_loop()
+        sink, _ = await loop.create_datagram_endpoint(lambda: Sink(came), local_addr=("127.0.0.1", 0))
+        self.addCleanup(sink.close)
+        peer = sink.get_extra_info("sockname")
+        async with TurnClient(self.server.uri("turn:127.0.0.1:{port}?transport=tcp"), "user", "pass") as relay:
+            for prepare, most in ((relay.permit(peer[0]), 65_468), (relay.bind(peer), 65_500)):
+                await prepare
+                await relay.send(bytes(most), peer)
+                self.assertEqual(len(await asyncio.wait_for(came.get(), 5)), most)
+                with self.assertRaises(ValueError):
+                    await relay.send(bytes(most + 1), peer)
+            await asyncio.wait_for(relay.permit("127.0.0.9"), 5)  # it still answers
 
     async def test_a_certificate_that_nobody_trusts(self) -> None:
         self.tls()

@@ -25,6 +25,11 @@ class Reading(unittest.TestCase):
         mapped = b"\0\2" + struct.pack("!H", 4000 ^ 0x2112) + bytes(a ^ b for a, b in zip(bytes(15) + b"\1", COOKIE + TRANSACTION))
         self.assertEqual(reasons.read(message(0x0103, attribute(0x0020, mapped))).mapped, ("::1", 4000))
 
+    def test_a_phrase_that_cannot_be_printed(self) -> None:
+        for phrase, wanted in ((b"Unauthorized\0\0", "Unauthorized"), (b"\0", ""), (b"a\x1b[31m b\n", "a[31m b"),
+                               (b"\xff", "\ufffd"), ("für dich nicht".encode(), "für dich nicht")):
+            self.assertEqual(reasons.read(message(0x0113, attribute(0x0009, b"\0\0\4\1" + phrase))).error, (401, wanted))
+
     def test_methods(self) -> None:
         for kind, method in ((0x0118, reasons.CREATE_PERMISSION), (0x0119, reasons.CHANNEL_BIND), (0x011A, reasons.CONNECT)):
             self.assertEqual(reasons.read(message(kind, ERROR)).method, method)

@@ -1,5 +1,6 @@
 """A client against the server of the tests: in a time of its own, and through a socket and an event loop."""
 import asyncio
+import re
 import time
 import unittest
 import unittest.mock
@@ -11,7 +12,7 @@ from yarrowdoor.client import (
     AllocationCreated, AllocationCreateFailed, ChannelCreated, ChannelCreateFailed, PermissionCreated, PermissionCreateFailed,
 )
 
-from .network import SECOND, Endpoint, Network
+from .network import SECOND, Endpoint, Network, StreamEndpoint
 from .server import Server
 
 
@@ -117,6 +118,31 @@ class InItsOwnTime(unittest.TestCase):
         self.assertEqual(network.sent_packets, 4)
         self.assertEqual(network.events, [AllocationCreateFailed(4)])
         self.assertEqual(network.now, 8 * SECOND)  # 1 + 2 + 2, and 3 after the last one
+
+    def test_the_times_of_the_readme(self) -> None:
+        server = Server()
+        server.is_dead = True
+        times = Times(initial=200_000_000, longest=800_000_000, last=1_600_000_000, count=4)
+        network = Network(server, times=times)
+        network.run(60)
+        self.assertEqual((network.sent_packets, network.now), (4, 3 * SECOND))
+
+
+class Arguments(unittest.TestCase):
+    """What is no client, told when it is made."""
+
+    def test_credentials(self) -> None:
+        for user, password, name in ((None, "pass", "user"), ("user", None, "password"), (5, "pass", "user")):
+            with self.assertRaisesRegex(TypeError, f"^{name} is str or bytes, and not "):
+                TurnClient("turn:127.0.0.1", user, password)
+
+    def test_times(self) -> None:
+        for times in (3, 0.5, (1, 2, 3, 4)):
+            with self.assertRaisesRegex(TypeError, "^times is a yarrowdoor.Times, whose waits are nanoseconds"):
+                TurnClient("turn:127.0.0.1", "user", "pass", times=times)
+        for times in (Times(initial=0.5), Times(initial=-1), Times(initial=1 << 64)):
+            with self.assertRaisesRegex(ValueError, "^times.initial is a whole number of nanoseconds"):
+                TurnClient("turn:127.0.0.1", "user", "pass", times=times)
 
 
 class ThroughASocket(unittest.IsolatedAsyncioTestCase):
@@ -227,8 +253,32 @@ class ThroughASocket(unittest.IsolatedAsyncioTestCase):
         endpoint = await self.serve()
         endpoint.server.is_dead = True
         times = Times(initial=100_000_000, longest=SECOND, last=100_000_000, count=2)
-        with self.assertRaises(AllocationFailed):
+        with self.assertRaisesRegex(AllocationFailed, r"^no answer from turn:127\.0\.0\.1:\d+\?transport=udp in 0\.2 s$") as failed:
             await TurnClient(endpoint.uri, "user", "pass", times=times).open()
+        self.assertEqual((failed.exception.code, failed.exception.phrase), (None, ""))
+
+    async def test_a_server_that_is_silent_after_its_challenge(self) -> None:
+        endpoint = await self.serve()
+        receive = endpoint.server.receive
+
+        def receive_once(*it: object) -> "list[object]":
+            packets = receive(*it)
+            endpoint.server.is_dead = True
+            return packets
+
+        endpoint.server.receive = receive_once
+        times = Times(initial=100_000_000, longest=SECOND, last=100_000_000, count=2)
+        with self.assertRaisesRegex(AllocationFailed, "^no answer from turn:.* in 0.[23] s$") as failed:
+            await TurnClient(endpoint.uri, "user", "pass", times=times).open()
+        self.assertIs(type(failed.exception), AllocationFailed)
+
+    async def test_entering_with_a_limit(self) -> None:
+        endpoint = await self.serve()
+        endpoint.server.is_dead = True
+        relay = TurnClient(endpoint.uri, "user", "pass")
+        with self.assertRaises(asyncio.TimeoutError):
+            await asyncio.wait_for(relay.__aenter__(), 0.1)
+        self.assertTrue(relay.closed)
 
     async def test_a_server_that_dies(self) -> None:
         endpoint = await self.serve()
@@ -237,16 +287,106 @@ class ThroughASocket(unittest.IsolatedAsyncioTestCase):
             relay.on_lost = told.append
             await relay.permit("10.1.0.1")
             endpoint.server.is_dead = True
-            with self.assertRaises(Ended):
+            why = f"^the connection to the server has ended: no answer from {re.escape(str(relay.uri))} to a refresh$"
+            with self.assertRaisesRegex(Ended, why):
                 async for _ in relay:
                     self.fail("nothing comes")
             self.assertTrue(relay.closed)
-            with self.assertRaises(Ended):
-                await relay.wait_closed()
-            with self.assertRaises(Ended):
-                await relay.permit("10.1.0.2")
+            peer = ("10.1.0.1", 1)
+            for call in (relay.wait_closed, relay.receive, lambda: relay.permit("10.1.0.2"), lambda: relay.send(b"", peer)):
+                with self.assertRaisesRegex(Ended, why):
+                    await call()
+            self.assertEqual(relay.address, ("10.9.9.9", 40000))
         self.assertEqual([(it.what, it.peer) for it in told], [("permission", "10.1.0.1")])
         self.assertEqual(list(relay.lost), told)
+
+    async def test_a_server_that_forgets(self) -> None:
+        endpoint = await self.serve()
+        async with TurnClient(endpoint.uri, "user", "pass", clock=Clock(rate=600)) as relay:
+            endpoint.server.allocations.clear()
+            with self.assertRaisesRegex(Ended, r"^the server does not renew the relayed address \(437 no\)$"):
+                await relay.wait_closed()
+
+    async def test_a_connection_that_ends(self) -> None:
+        for resets in (False, True):
+            endpoint = await StreamEndpoint.start(Server())
+            self.addCleanup(endpoint.close)
+            async with TurnClient(endpoint.uri, "user", "pass") as relay:
+                endpoint.end(resets)
+                with self.assertRaisesRegex(Ended, "^the connection to the server has ended: .*(closed|reset)") as ended:
+                    await relay.receive()
+                self.assertIs(type(ended.exception.__cause__), ConnectionResetError if resets else type(None))
+                with self.assertRaises(Ended) as again:
+                    await relay.permit("10.1.0.1")
+                self.assertEqual(str(again.exception), str(ended.exception))
+
+    async def test_what_is_not_open(self) -> None:
+        relay = TurnClient("turn:127.0.0.1", "user", "pass")
+        peer = ("10.1.0.1", 1)
+        calls = (relay.wait_closed, relay.receive, relay.__anext__, lambda: relay.permit(peer[0]), lambda: relay.bind(peer),
+                 lambda: relay.send(b"", peer))
+        for call in calls:
+            with self.assertRaisesRegex(Ended, "^the client was not opened$"):
+                await call()
+        for read in (lambda: relay.address, lambda: relay.local_address, lambda: relay.sendto(b"", ("10.1.0.1", 1))):
+            with self.assertRaisesRegex(Ended, "^the client was not opened$"):
+                read()
+        await relay.close()
+        self.assertFalse(relay.closed)
+
+    async def test_calls_that_do_not_fit(self) -> None:
+        endpoint = await self.serve()
+        async with TurnClient(endpoint.uri, "user", "pass") as relay:
+            for name, call in (("connect", relay.connect(("10.1.0.1", 1))), ("accept", relay.accept())):
+                with self.assertRaisesRegex(ValueError, f"^{name} needs relay='tcp'$"):
+                    await call
+            peer = ("2001:db8::1", 1)
+            why = "^no-allocation: the relayed address is IPv4, and 2001:db8::1 is IPv6"
+            for call in (relay.permit(peer[0]), relay.bind(peer), relay.send(b"", peer)):
+                with self.assertRaisesRegex(Refused, why) as refused:
+                    await call
+                self.assertEqual(refused.exception.reason, "no-allocation")
+            with self.assertRaisesRegex(ValueError, "^'localhost' is not an IP address$"):
+                await relay.permit("localhost")
+
+    async def test_data_that_does_not_fit(self) -> None:
+        endpoint = await self.serve()
+        peer = ("10.1.0.1", 9000)
+        async with TurnClient(endpoint.uri, "user", "pass") as relay:
+            for prepare, most in ((relay.permit(peer[0]), 65_468), (relay.bind(peer), 65_500)):
+                await prepare
+                relay.sendto(bytes(most), peer)
+                self.assertEqual(await asyncio.wait_for(relay.receive(), 5), (bytes(most), peer))
+                for call in (relay.sendto, relay.send):
+                    with self.assertRaisesRegex(ValueError, "and at most 65507 fit$"):
+                        await (call(bytes(most + 1), peer) or asyncio.sleep(0))
+            self.assertEqual(relay.unsent, 0)
+            with unittest.mock.patch("yarrowdoor.relay.MAX_MESSAGE", 1 << 20):
+                relay.sendto(bytes(65_501), peer)
+            self.assertEqual(relay.unsent, 1)  # the socket says EMSGSIZE
+            relay.sendto(b"hello", peer)
+            self.assertEqual((await asyncio.wait_for(relay.receive(), 5), relay.unsent), ((b"hello", peer), 1))
+
+    async def test_sending_lets_others_run(self) -> None:
+        endpoint = await self.serve()
+        peer = ("10.1.0.1", 9000)
+        async with TurnClient(endpoint.uri, "user", "pass") as relay:
+            await relay.permit(peer[0])
+            others = 0
+
+            async def other() -> None:
+                nonlocal others
+                while True:
+                    others += 1
+                    await asyncio.sleep(0)
+
+            task = asyncio.ensure_future(other())
+            for _ in range(100):
+                await relay.send(b"hello", peer)
+            task.cancel()
+            self.assertGreaterEqual(others, 99)
+            meanwhile = [await asyncio.wait_for(relay.receive(), 5) for _ in range(100)]
+            self.assertEqual(meanwhile, [(b"hello", peer)] * 100)
 
     async def test_the_queue_is_bounded(self) -> None:
         endpoint = await self.serve()

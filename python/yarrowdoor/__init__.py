@@ -6,7 +6,8 @@
         async for data, peer in relay:
             print(peer, data)
 
-The library is proved; this package is tested, and not proved. `README.md` beside it says how to begin.
+The library is proved, where `PROOF` in the package says so; this package is tested, and not proved. The README says how to
+begin. In a wheel it is the description: `importlib.metadata.metadata("yarrowdoor").get_payload()`.
 """
 from .client import Address, Client, Times
 from .errors import (

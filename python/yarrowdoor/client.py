@@ -14,7 +14,7 @@ The caller passes in bytes and times, and gets packets to send, data of peers, e
 Times are nanoseconds of a clock that never goes back, from 0 to 2^62. An address is what sockets have: `(IP, port)`, and for
 IPv6 `(IP, port, flow, scope)` where one of the two is not 0. Transports are `"udp"` and `"tcp"`.
 
-What an answer of the server means, and when, is specified by `docs/MACHINE.md` of the sources, and proved of the library.
+What an answer of the server means, and when, is specified by `docs/MACHINE.md` in the repository, and proved of the library.
 
 Errors: `ValueError` where the arguments are no call; `Refused` where the client refuses one; `MemoryError` where a memory
 allocation failed, after which the client is valid and may have ended: poll it; `Busy` for a second thread at the same time.
@@ -50,14 +50,22 @@ _REASONS = {1: "already-exists", 2: "no-allocation", 3: "no-permission", 4: "no-
 
 @dataclass(frozen=True)
 class Times:
-    """When a request is transmitted again over UDP, in nanoseconds (RFC 8489, section 6.2.1)."""
+    """How long a request waits for its answer, as whole numbers of nanoseconds (RFC 8489, section 6.2.1).
+
+    Over UDP it is transmitted `count` times: the second time after `initial`, and each further time after twice the wait
+    before, but at most `longest`. It fails `last` after the last one: by default after 0.5 + 1 + 2 + 4 + 8 + 16 + 8 = 39.5 s.
+    Over TCP and TLS it is transmitted once, and fails as late. Each request has this time for itself, and entering a
+    `TurnClient` makes two. Three seconds for each:
+
+        Times(initial=200_000_000, longest=800_000_000, last=1_600_000_000, count=4)    # 0.2 + 0.4 + 0.8 + 1.6 = 3 s
+    """
 
     initial: int = 500_000_000
-    """from the first transmission to the second; then it doubles"""
+    """from the first transmission to the second, in nanoseconds; then it doubles"""
     longest: int = 1 << 62
-    """the longest wait between two transmissions"""
+    """the longest wait between two transmissions, in nanoseconds"""
     last: int = 8_000_000_000
-    """the wait after the last transmission"""
+    """the wait after the last transmission, in nanoseconds"""
     count: int = 7
     """how often a request is transmitted in all"""
 
@@ -249,6 +257,36 @@ def unpacked(address: bytes) -> Address:
     return (name, port, flow, scope) if flow or scope else (name, port)
 
 
+def packed_ip(ip: str) -> bytes:
+    """An IP address as the library has it, with port 0. `ValueError` where it is none."""
+    try:
+        return packed((ip, 0))
+    except (ValueError, TypeError):
+        raise ValueError(f"{ip!r} is not an IP address") from None
+
+
+def credential(name: str, value: Union[str, bytes]) -> bytes:
+    """A user name or password as bytes. `TypeError` where it is neither text nor bytes."""
+    if isinstance(value, str):
+        return value.encode()
+    if isinstance(value, (bytes, bytearray, memoryview)):
+        return bytes(value)
+    raise TypeError(f"{name} is str or bytes, and not {type(value).__name__}")
+
+
+def check_times(times: Optional[Times]) -> None:
+    """`TypeError` where it is not `Times`, and `ValueError` where a number in it is none."""
+    if times is None:
+        return
+    if not isinstance(times, Times):
+        raise TypeError(f"times is a yarrowdoor.Times, whose waits are nanoseconds, and not {type(times).__name__}: {times!r}")
+    for name, bits, what in (("initial", 64, "of nanoseconds"), ("longest", 64, "of nanoseconds"), ("last", 64, "of nanoseconds"),
+                             ("count", 32, "of transmissions")):
+        value = getattr(times, name)
+        if not isinstance(value, int) or not 0 <= value < 1 << bits:
+            raise ValueError(f"times.{name} is a whole number {what}, from 0 to 2^{bits} - 1, and not {value!r}")
+
+
 def _ip(address: bytes) -> str:
     return unpacked(address)[0]
 
@@ -281,7 +319,10 @@ class Client:
     the relayed addresses: 4, 6 or both. `algorithms` sign requests, the preferred one first (RFC 8489, section 14.5 and
     14.6). `anonymous` hides the user name (section 14.4). The transaction IDs are drawn from `seed`: 32 bytes that nobody
     else knows; the system's random numbers by default. The client answers `max_stale_nonces` challenges in a row, 1 to 65,535,
-    and the next one ends it (docs/REAL-SERVERS.md). A client that nothing refers to any more is freed.
+    and the next one ends it (`docs/REAL-SERVERS.md` in the repository). A client that nothing refers to any more is freed.
+
+    `anonymous` is `"auto"` (as the client sees the server offer it: never, so far), `"required"` (always) or `"disabled"` (never).
+    `TypeError` where user or password is neither text nor bytes, or `times` is not `Times`.
     """
 
     def __init__(self, local: Address, remote: Address, user: Union[str, bytes], password: Union[str, bytes], *,
@@ -293,6 +334,7 @@ class Client:
             raise ValueError("there are one or two families, and one or two algorithms")
         if not 1 <= max_stale_nonces <= 65_535:
             raise ValueError(f"the limit of challenges is 1 to 65,535, and not {max_stale_nonces}")
+        check_times(times)
         waits = (times.initial, times.longest, times.last, times.count, 1) if times else (0, 0, 0, 0, 0)
         self._local, self._remote = packed(tuple(local)), packed(tuple(remote))
         self._way, self._relay_way = _number(_TRANSPORTS, transport), _number(_TRANSPORTS, allocation)
@@ -301,8 +343,8 @@ class Client:
                                        _number(_ANONYMOUS, anonymous), max_stale_nonces, 0, self._local, self._remote)
         except struct.error as error:
             raise ValueError(f"a number of the settings does not fit: {error}") from None
-        user, password = (it.encode() if isinstance(it, str) else bytes(it) for it in (user, password))
-        self._handle = c.Handle(library or c.load(), settings, user, password, os.urandom(32) if seed is None else seed)
+        names = credential("user", user), credential("password", password)
+        self._handle = c.Handle(library or c.load(), settings, *names, os.urandom(32) if seed is None else seed)
         self._way_name, self._local_name, self._remote_name = transport, unpacked(self._local), unpacked(self._remote)
         self._relay_name = allocation
         self._recv, self._send_to = self._handle.recv, self._handle.send_to
@@ -386,7 +428,7 @@ class Client:
 
         `Refused`: `no-allocation`, `already-exists`.
         """
-        self._ask(now, c.CREATE_PERMISSION, transport=self._relay(transport), peer=packed((ip, 0)))
+        self._ask(now, c.CREATE_PERMISSION, transport=self._relay(transport), peer=packed_ip(ip))
 
     def bind_channel(self, peer: Address, now: int, *, transport: Optional[str] = None) -> None:
         """Requests a channel, and with it a permission (RFC 8656, section 12). An event says what the server answers.
@@ -431,7 +473,7 @@ class Client:
 
     def have_permission(self, ip: str, *, transport: Optional[str] = None) -> bool:
         """Whether an IP address has an active permission."""
-        answer, _ = self._handle.call(0, c.HAVE_PERMISSION, 0, self._relay(transport), peer=packed((ip, 0)))
+        answer, _ = self._handle.call(0, c.HAVE_PERMISSION, 0, self._relay(transport), peer=packed_ip(ip))
         return answer.kind == c.YES
 
     def relayed_addresses(self) -> List[AllocationCreated]:

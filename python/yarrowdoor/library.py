@@ -112,7 +112,8 @@ class Library:
             loaded = ctypes.PyDLL(self.path)
             self.new, self.call, self.free = loaded.yarrowdoor_new, loaded.yarrowdoor_call, loaded.yarrowdoor_free
         except (OSError, AttributeError) as error:
-            raise LibraryError(f"the library for C is not loaded: {error}. tools/library of the sources builds it") from None
+            why = f"the library for C is not loaded: {error}. A wheel has it; in the repository tools/library builds it"
+            raise LibraryError(why) from None
         # No argtypes: values of ctypes are passed as they are, which takes half the time.
         self.new.restype = self.call.restype = ctypes.c_uint32
         self.free.restype = None

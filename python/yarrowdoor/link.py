@@ -19,6 +19,7 @@ class Link(asyncio.DatagramProtocol, asyncio.Protocol):
         self.writable.set()
         self.frames: Optional[reasons.Frames] = None
         self.ended = False
+        self._was_refused = False
         self.on_pause: Callable[[], None] = lambda: None
         self.on_resume: Callable[[], None] = lambda: None
 
@@ -36,6 +37,7 @@ class Link(asyncio.DatagramProtocol, asyncio.Protocol):
         self._received(data, self)
 
     def error_received(self, exc: Exception) -> None:
+        self._was_refused = True
         self._lost(self, exc)
 
     def connection_lost(self, exc: Optional[Exception]) -> None:
@@ -58,11 +60,12 @@ class Link(asyncio.DatagramProtocol, asyncio.Protocol):
             self._write(data)
 
     def send_data(self, data: bytes) -> bool:
-        """Sends data, or drops it where the socket is full."""
+        """Sends data, or drops it where the socket is full or refuses it (then asyncio calls `error_received` meanwhile)."""
         if not self.writable.is_set() or self.ended:
             return False
+        self._was_refused = False
         self._write(data)
-        return True
+        return not self._was_refused
 
     def close(self) -> None:
         """Closes the socket, when what was sent has left it."""

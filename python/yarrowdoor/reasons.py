@@ -1,8 +1,8 @@
 """What the server's packets say beside what the client answers: error codes, and the mapped address.
 
 An error code tells why a request fails. Nobody has to have signed it, so it is a hint: anyone who knows the addresses can
-send such a packet (`docs/REAL-SERVERS.md`, "The reason in an unsigned error"). The mapped address is read from the success
-that the client has accepted, and only from what its integrity attribute covers.
+send such a packet (`docs/REAL-SERVERS.md` in the repository, "The reason in an unsigned error"). The mapped address is read
+from the success that the client has accepted, and only from what its integrity attribute covers.
 """
 from __future__ import annotations
 
@@ -10,7 +10,8 @@ import socket
 import struct
 from typing import Iterator, NamedTuple, Optional, Tuple
 
-__all__ = ["ALLOCATE", "CHANNEL_BIND", "CONNECT", "CREATE_PERMISSION", "Frames", "Response", "is_about_credentials", "read"]
+__all__ = ["ALLOCATE", "CHANNEL_BIND", "CONNECT", "CREATE_PERMISSION", "Frames", "Response", "is_about_credentials", "is_challenge",
+           "read"]
 
 # Methods (RFC 8656, section 17; RFC 6062, section 6.1).
 ALLOCATE, REFRESH, CREATE_PERMISSION, CHANNEL_BIND, CONNECT = 0x003, 0x004, 0x008, 0x009, 0x00A
@@ -44,7 +45,7 @@ def read(message: bytes) -> Optional[Response]:
         if name in _INTEGRITIES:
             break
         if name == _ERROR_CODE and kind & _CLASS == _ERROR and len(value) >= 4 and error is None:
-            error = 100 * (value[2] & 7) + value[3], value[4:].decode(errors="replace").strip()
+            error = 100 * (value[2] & 7) + value[3], _printable(value[4:])
         elif name == _MAPPED and kind & _CLASS == _SUCCESS and mapped is None:
             mapped = _address(value, transaction)
     method = (kind & 0x000F) | (kind & 0x00E0) >> 1 | (kind & 0x3E00) >> 2
@@ -54,6 +55,16 @@ def read(message: bytes) -> Optional[Response]:
 def is_about_credentials(code: int) -> bool:
     """Whether an error to a signed ALLOCATE means that user name or password are wrong: 401, and with some servers 400."""
     return code in (400, 401)
+
+
+def is_challenge(code: int) -> bool:
+    """Whether an error may ask for the same request again, with a new nonce (RFC 8489, section 9.2.5): 401 and 438."""
+    return code in (401, 438)
+
+
+def _printable(phrase: bytes) -> str:
+    """A phrase without what cannot be printed: some servers end it by NUL bytes, and anyone may send control characters."""
+    return "".join(it for it in phrase.decode(errors="replace") if it.isprintable()).strip()
 
 
 def _attributes(data: bytes) -> Iterator[Tuple[int, bytes]]:

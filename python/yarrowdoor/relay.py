@@ -7,14 +7,14 @@ import socket
 import ssl as tls
 from dataclasses import dataclass
 from types import TracebackType
-from typing import Any, AsyncIterator, Awaitable, Callable, Deque, Dict, List, Optional, Set, Tuple, Type, Union
+from typing import Any, AsyncIterator, Awaitable, Callable, Deque, Dict, List, Optional, Set, Tuple, Type, TypeVar, Union
 
 from . import client as sans_io
 from . import reasons
 from .client import Address, Client, Times
 from .clock import Clock
 from .errors import (
-    AllocationFailed, ChannelFailed, ConnectFailed, Ended, PermissionFailed, Refused, WrongCredentials, YarrowdoorError,
+    AllocationFailed, ChannelFailed, ConnectFailed, Ended, PermissionFailed, Refused, WrongCredentials,
 )
 from .link import Link
 from .streams import Streams
@@ -22,8 +22,11 @@ from .uri import TurnUri, parse
 
 __all__ = ["Lost", "TurnClient"]
 
-# So many requests are pending at a time: all that are pending under one nonce are challenged together (docs/REAL-SERVERS.md).
+# So many requests are pending at a time: all that are pending under one nonce are challenged together
+# (docs/REAL-SERVERS.md in the repository).
 MAX_REQUESTS = 8
+# A datagram over IPv4 carries so many bytes, and coturn reads no longer message of a stream: the connection then hangs.
+MAX_MESSAGE = 65_507
 # How long a signed answer may still come after one that said, unsigned, why it fails.
 GRACE = 1.0
 # A timer of the event loop may stand still while the computer sleeps, so that none is longer, in seconds.
@@ -32,14 +35,17 @@ MAX_SLEEP = 15.0
 DELETE_WAIT = 2.0
 
 Receiver = Callable[[sans_io.Buffer, Address], None]
+_Error = TypeVar("_Error", bound=Exception)
 
 
 @dataclass(frozen=True)
 class Lost:
-    """What a peer had, and has no longer: its `"permission"` (then `peer` is an IP address) or its `"channel"`."""
+    """What a peer had, and has no longer."""
 
     what: str
+    """`"permission"` or `"channel"`"""
     peer: Union[str, Address]
+    """of a permission the IP address, of a channel the address with its port"""
 
 
 class TurnClient:
@@ -52,14 +58,29 @@ class TurnClient:
 
     `uri` is that of the server (RFC 7065), as text or parsed. `relay` is the transport between server and peers: `"udp"`, or
     `"tcp"` for streams (`connect`, `accept`; RFC 6062), which needs a URI with TCP. `family` is that of the relayed address,
-    4 or 6. `ssl` is the context for `turns:` URIs, by default `ssl.create_default_context()`. `times` are those of
-    retransmissions. At most `queue` packets of peers wait to be taken; a further one is dropped and counted. With
-    `receiver` there is no queue: it is called with data and peer. `anonymous` hides the user name (`client.Client`).
+    4 or 6. `ssl` is the context for `turns:` URIs, by default `ssl.create_default_context()`. `times` says how long a request
+    waits for its answer (`Times`). At most `queue` packets of peers wait to be taken; a further one is dropped and counted. With
+    `receiver` there is no queue: it is called with data and peer, in the event loop, and must neither block nor raise.
+    `anonymous` hides the user name (RFC 8489, section 14.4): `"required"` always, `"disabled"` never, and `"auto"` never so far.
     `max_stale_nonces` is how many challenges in a row are answered, at least as many as peers have permissions and channels:
     their refreshes may all be challenged at once.
 
+    Peers are IP addresses with ports; names are not resolved. What is counted and told:
+
+    - `dropped`: packets of peers that came and were dropped, since `queue` of them were waiting.
+    - `unsent`: packets to peers that the socket did not take. What is lost further on, nobody counts.
+    - `lost`: the last 1,024 permissions and channels that the server no longer renews, as `Lost`; `on_lost`, if it is set, is
+      called with each.
+
     Entering it raises `AllocationFailed` where there is no relayed address, and `WrongCredentials` where it is for user name
-    or password. It is used in one event loop.
+    or password. Both have `code` and `phrase`, what an error response said. `times` limits the wait for each answer. Over TCP
+    and TLS the connection comes before: the system gives up on it after about two minutes, and asyncio on the handshake of TLS
+    after 60 s. `asyncio.wait_for(client.open(), seconds)` limits it all. It is used in one event loop.
+
+    Over UDP nothing tells that the server is gone until a request to it has no answer: refreshes come every few minutes, and
+    one fails after 39.5 s (`times`). Until then `closed` is False. `address` keeps its last value.
+
+    Making it raises `ValueError` or `TypeError`, which names the argument.
     """
 
     def __init__(self, uri: Union[str, TurnUri], user: Union[str, bytes], password: Union[str, bytes], *, relay: str = "udp",
@@ -76,7 +97,9 @@ class TurnClient:
         if ssl is not None and not self.uri.secure:
             raise ValueError(f"ssl is for turns:, and the URI is {self.uri}")
         self._ssl = (ssl or tls.create_default_context()) if self.uri.secure else None
-        self._user, self._password, self._times, self._anonymous = user, password, times, anonymous
+        sans_io.check_times(times)
+        self._user, self._password = sans_io.credential("user", user), sans_io.credential("password", password)
+        self._times, self._anonymous = times, anonymous
         self._max_stale_nonces = max_stale_nonces
         self._relay, self._family = relay, family
         self._address: Optional[Address] = None
@@ -84,9 +107,9 @@ class TurnClient:
         self.dropped = 0
         """How many packets of peers were dropped, since `queue` of them were waiting."""
         self.unsent = 0
-        """How many packets to peers were dropped, since the socket did not take them."""
+        """How many packets to peers were dropped, since the socket was full or refused them. Later losses are not counted."""
         self.lost: Deque[Lost] = collections.deque(maxlen=1024)
-        """What peers have lost: the server does not renew it, or was restarted."""
+        """What peers have lost, the last 1,024 of it: the server does not renew it, or was restarted."""
         self.on_lost: Optional[Callable[[Lost], None]] = None
         """Called with each of these, if it is set."""
         self._deliver: Receiver = receiver or self._queue_data
@@ -101,8 +124,13 @@ class TurnClient:
         self._timer: Optional[asyncio.TimerHandle] = None
         self._due = -1
         self._tasks: Set[asyncio.Future[Any]] = set()
-        self._error: Optional[Exception] = None
-        self._why = "the server gives no relayed address"
+        self._error: Optional[Ended] = None
+        # What the end is about: the error response that is being handled, and the last error of the socket over UDP, or the one
+        # that ended the connection, with words for it.
+        self._told: Optional[Tuple[int, str]] = None
+        self._socket_error: Optional[Exception] = None
+        self._broken = ""
+        self._heard = 0
         self._client: Optional[Client] = None
         self._link: Optional[Link] = None
         self._driving = self._is_leaving = self._is_used = False
@@ -150,6 +178,7 @@ class TurnClient:
         self._streams = Streams(self)
         try:
             self._link = await self._connect(self._control_received, self._control_lost)
+            self._heard = self._clock.now()
         except OSError as error:
             self._is_unreachable = True
             raise AllocationFailed(f"no connection to {self.uri}: {error}") from error
@@ -179,10 +208,12 @@ class TurnClient:
             self._end(None)
 
     async def wait_closed(self) -> None:
-        """Waits until the client has ended. Raises `Ended` where it ended by itself: the server is gone, or refuses it."""
+        """Waits until the client has ended. Raises `Ended` where it ended by itself, or was not opened; its text says why."""
+        if self._client is None:
+            raise self._ending()
         await asyncio.wait([self._ended])
         if self._error is not None:
-            raise self._error
+            raise self._ending()
 
     @property
     def closed(self) -> bool:
@@ -191,9 +222,12 @@ class TurnClient:
 
     @property
     def address(self) -> Address:
-        """The relayed address: peers send to it, and see data come from it."""
+        """The relayed address: peers send to it, and see data come from it. It stays readable after the end.
+
+        `Ended` where there never was one.
+        """
         if self._address is None:
-            raise Ended("there is no relayed address")
+            raise self._ending() if self._client is None or self._ended.done() else Ended("there is no relayed address yet")
         return self._address
 
     @property
@@ -211,26 +245,36 @@ class TurnClient:
     async def permit(self, ip: str) -> None:
         """Lets an IP address send to the relayed address, and get data (RFC 8656, section 9). It is renewed until the end.
 
-        Waits for the server's answer. `PermissionFailed`, `Ended`; `ValueError` where it is no IP address.
+        Waits for the server's answer. `PermissionFailed`, `Ended`; `ValueError` where it is no IP address; `Refused`
+        (`no-allocation`) where it has another family than the relayed address.
         """
-        ip = sans_io.unpacked(sans_io.packed((ip, 0)))[0]
-        if not self._open().have_permission(ip):
+        ip = sans_io.unpacked(sans_io.packed_ip(ip))[0]
+        client = self._open()
+        self._check_family(ip)
+        if not client.have_permission(ip):
             await self._request("permit", ip, lambda now: self._open().create_permission(ip, now))
 
     async def bind(self, peer: Address) -> None:
         """Gives a peer a channel, and a permission: its packets then have 4 bytes of header (RFC 8656, section 12).
 
-        Waits for the server's answer. `ChannelFailed`, `Ended`; `Refused` where the peer's earlier channel is still reserved.
+        Waits for the server's answer. `ChannelFailed`, `Ended`; `Refused` where the peer's earlier channel is still reserved
+        (`expired`), and where it has another family than the relayed address (`no-allocation`).
         """
         peer = sans_io.unpacked(sans_io.packed(peer))
+        self._open()
+        self._check_family(peer[0])
         await self._request("bind", peer, lambda now: self._open().bind_channel(peer, now))
 
     async def send(self, data: sans_io.Buffer, peer: Address) -> None:
-        """Sends data to a peer, at most 65,504 bytes: requests its permission first, and waits where the socket is full.
+        """Sends data to a peer: requests its permission first, and waits where the socket is full.
 
-        It does not wait for the data to arrive. `PermissionFailed`, `Ended`.
+        It does not wait for the data to arrive, but always lets the event loop do other work first. `PermissionFailed`, `Ended`;
+        `Refused` (`no-allocation`) for another family than that of the relayed address; `ValueError` for data that does not fit
+        (`sendto`).
         """
         link = self._open_link()
+        # Each time, since asyncio reads one datagram in a round of its loop. Before, so that a send that is cancelled is none.
+        await asyncio.sleep(0)
         while not link.writable.is_set():
             await link.writable.wait()
         try:
@@ -244,32 +288,54 @@ class TurnClient:
     def sendto(self, data: sans_io.Buffer, peer: Address) -> None:
         """Sends data to a peer that has a permission, at once, as a datagram: where the socket is full, it is dropped.
 
-        `Refused` (`no-permission`), `Ended`; `ValueError` for over 65,504 bytes, and with `relay="tcp"`, which has streams.
+        With its header a message has at most 65,507 bytes. So data has at most 65,500 for a peer with a channel, else 65,468,
+        and for an IPv6 peer 65,456. `Refused` (`no-permission`; `no-allocation` for another family than that of the relayed
+        address), `Ended`; `ValueError` for longer data, and with `relay="tcp"`, which has streams.
         """
         client = self._client
         if client is None or self._ended.done():
             raise self._ending()
         if self._relay == "tcp":
             raise ValueError("relay='tcp' has streams: use connect, or accept")
-        packet = client.send_to(peer, data, self._clock.now())
+        try:
+            packet = client.send_to(peer, data, self._clock.now())
+        except Refused:
+            self._check_family(peer[0])
+            raise
+        if len(packet.data) > MAX_MESSAGE:
+            raise ValueError(f"the message to {peer} has {len(packet.data)} bytes with its header, and at most {MAX_MESSAGE} fit")
         if not self._link.send_data(packet.data):  # type: ignore[union-attr]
             self.unsent += 1
+
+    def _check_family(self, ip: str) -> None:
+        """Refuses a peer that the relayed address cannot reach."""
+        if (":" in ip) != (self._family == 6):
+            other = 4 if self._family == 6 else 6
+            detail = f"the relayed address is IPv{self._family}, and {ip} is IPv{other} (family={other} gets such an address)"
+            raise Refused("no-allocation", detail=detail)
 
     async def connect(self, peer: Address) -> Tuple[asyncio.StreamReader, asyncio.StreamWriter]:
         """Connects to a peer over TCP, by the server (RFC 6062, section 4.3). It needs `relay="tcp"`.
 
-        `PermissionFailed`, `ConnectFailed`, `Ended`.
+        `PermissionFailed`, `ConnectFailed`, `Ended`; `Refused` where there is such a connection, or the peer has another family;
+        `ValueError` with `relay="udp"`.
         """
+        self._check_streams("connect")
         self._open()
         return await self._streams.connect(sans_io.unpacked(sans_io.packed(peer)))
 
     async def accept(self) -> Tuple[asyncio.StreamReader, asyncio.StreamWriter]:
         """Waits for a peer to connect to the relayed address over TCP: `writer.get_extra_info("peername")` is which.
 
-        The peer needs a permission (RFC 6062, section 4.4). `Ended`.
+        The peer needs a permission (RFC 6062, section 4.4). `Ended`; `ValueError` with `relay="udp"`.
         """
+        self._check_streams("accept")
         self._open()
         return await self._streams.accept()
+
+    def _check_streams(self, call: str) -> None:
+        if self._relay != "tcp":
+            raise ValueError(f"{call} needs relay='tcp'")
 
     # Data of peers
 
@@ -277,11 +343,13 @@ class TurnClient:
         return self
 
     async def __anext__(self) -> Tuple[sans_io.Buffer, Address]:
-        """The next data of a peer. It ends when the client is closed; `Ended` where the client ended by itself."""
+        """The next data of a peer. It ends when the client is closed; `Ended` where it ended by itself, or was not opened."""
         while not self._queue:
-            if self._client is None or self._ended.done():
+            if self._client is None:
+                raise self._ending()
+            if self._ended.done():
                 if self._error is not None:
-                    raise self._error
+                    raise self._ending()
                 raise StopAsyncIteration
             taker = self._loop.create_future()
             self._takers.append(taker)
@@ -294,11 +362,11 @@ class TurnClient:
         return self._queue.popleft()
 
     async def receive(self) -> Tuple[sans_io.Buffer, Address]:
-        """The next data of a peer, and the peer. `Ended` where the client has ended."""
+        """The next data of a peer, and the peer. `Ended` where the client has ended, or was not opened."""
         try:
             return await self.__anext__()
         except StopAsyncIteration:
-            raise Ended("the client was closed") from None
+            raise self._ending() from None
 
     def _queue_data(self, data: sans_io.Buffer, peer: Address) -> None:
         if len(self._queue) >= self._queue_max:
@@ -356,25 +424,30 @@ class TurnClient:
 
     def _note(self, data: bytes, link: Link, ignored: bool) -> None:
         """Reads what the server's responses say: the mapped address, and why a request fails."""
+        self._told = None
         messages = [data] if link.frames is None else link.frames.messages(data)
         for message in messages:
             response = reasons.read(message)
             if response is None or response.transaction not in self._sent:
                 continue
+            self._heard, self._socket_error = self._clock.now(), None
             if response.error is not None:
+                self._told = response.error
+                if not ignored and reasons.is_challenge(response.error[0]):
+                    continue  # The client takes it as one, and asks again: nothing has failed.
                 self._hints[response.method] = response.error
                 if response.method == reasons.ALLOCATE and ignored:
                     self._fail_soon(response.error)
             elif response.mapped is not None and response.method == reasons.ALLOCATE and not ignored:
                 self._mapped = response.mapped
+            elif response.method == reasons.REFRESH and not ignored:
+                self._hints.pop(reasons.REFRESH, None)
 
-    def _fail_soon(self, hint: Optional[Tuple[int, str]], why: str = "the server refuses") -> None:
+    def _fail_soon(self, hint: Optional[Tuple[int, str]], why: str = "") -> None:
         """Gives up the allocation, unless a signed answer comes soon."""
         def fail() -> None:
             if not self._ready.done():
-                wrong = hint is not None and reasons.is_about_credentials(hint[0])
-                error = WrongCredentials("user name or password are wrong", hint) if wrong else AllocationFailed(why, hint)
-                self._ready.set_exception(error)
+                self._ready.set_exception(AllocationFailed(why) if hint is None else _refusal(hint))
 
         if not self._ready.done():
             self._loop.call_later(GRACE, fail)
@@ -383,6 +456,7 @@ class TurnClient:
         """A socket error of UDP, or the end of the stream."""
         if self._client is None or self._ended.done():
             return
+        self._socket_error = error
         if link.frames is None:
             self._is_unreachable = True
             self._fail_soon(None, f"no answer from {self.uri}: {error}")
@@ -390,7 +464,7 @@ class TurnClient:
         self._client.recv(b"", self._clock.now())
         self._take_rest(self._clock.now())
         self._client.protocol_error()
-        self._why = f"the connection to the server has ended: {error or 'it was closed'}"
+        self._broken = f"the connection to the server has ended: {error or 'the server closed it'}"
         self._drive()
 
     # The client
@@ -416,7 +490,7 @@ class TurnClient:
                     self._streams.drop(rest.local)
                 else:
                     self._take_events(client)
-                    self._end(None if self._is_leaving else Ended("the client has ended"))
+                    self._end(None if self._is_leaving else _because(Ended(self._why_ended()), self._socket_error))
         finally:
             self._driving = False
 
@@ -437,6 +511,7 @@ class TurnClient:
 
     def _wake(self) -> None:
         self._timer = None
+        self._told = None
         self._drive()
 
     def _take_events(self, client: Client) -> None:
@@ -450,7 +525,7 @@ class TurnClient:
             self._address = event.address
             _settle(self._ready, None)
         elif isinstance(event, sans_io.AllocationCreateFailed):
-            _settle(self._ready, AllocationFailed(self._why, self._hints.get(reasons.ALLOCATE)))
+            _settle(self._ready, self._failure())
         elif isinstance(event, sans_io.PermissionCreated):
             self._grant("permit", event.ip)
         elif isinstance(event, sans_io.PermissionCreateFailed):
@@ -527,24 +602,50 @@ class TurnClient:
         assert self._link is not None
         return self._link
 
-    def _ending(self) -> YarrowdoorError:
-        return Ended("the client has ended") if self._client is not None else Ended("the client was not opened")
+    def _ending(self) -> Ended:
+        """Why a call is not made any more, as a new error for each."""
+        if self._client is None:
+            return Ended("the client was not opened")
+        if self._error is None:
+            return Ended("the client was closed")
+        return _because(Ended(*self._error.args), self._error.__cause__)
 
-    def _end(self, error: Optional[Exception]) -> None:
+    def _why_ended(self) -> str:
+        """Why the client has ended by itself: what was last heard of the server, or that nothing was."""
+        if self._broken:
+            return self._broken
+        if self._told is not None and reasons.is_challenge(self._told[0]):
+            return f"the server has challenged over max_stale_nonces={self._max_stale_nonces} requests in a row ({self._told[0]})"
+        told = self._told or self._hints.get(reasons.REFRESH)
+        if told is not None:
+            return f"the server does not renew the relayed address ({told[0]} {told[1]})".replace(" )", ")")
+        why = f": {self._socket_error}" if self._socket_error else ""
+        return f"the connection to the server has ended: no answer from {self.uri} to a refresh{why}"
+
+    def _failure(self) -> AllocationFailed:
+        """Why there is no relayed address."""
+        hint = self._hints.get(reasons.ALLOCATE)
+        if self._broken:
+            return _because(AllocationFailed(self._broken, hint), self._socket_error)
+        if hint is not None:
+            return _refusal(hint)
+        if self._told is not None:
+            return AllocationFailed(self._why_ended())
+        waited = (self._clock.now() - self._heard) / 1e9
+        return AllocationFailed(f"no answer from {self.uri} in {waited:.1f} s")
+
+    def _end(self, error: Optional[Ended]) -> None:
         """Closes all, with the error for whoever waits, or None where the caller has closed it."""
         if not self._ended.done():
             if not self._ready.done():
-                hint = self._hints.get(reasons.ALLOCATE)
-                wrong = hint is not None and reasons.is_about_credentials(hint[0])
-                kind = WrongCredentials if wrong and error is not None else AllocationFailed
-                self._ready.set_exception(kind("the server gave no relayed address", hint))
+                self._ready.set_exception(self._failure() if error is not None else AllocationFailed("the client was closed"))
                 self._ready.exception()
             self._error = error
             self._ended.set_result(None)
             if self._client is not None:
                 self._client.close()
         for waiter in self._pending.values():
-            _settle(waiter, Ended("the client has ended"))
+            _settle(waiter, self._ending())
         while self._wake_taker():
             pass
         self._streams.end()
@@ -553,6 +654,19 @@ class TurnClient:
             self._timer = None
         if self._link is not None:
             self._link.close()
+
+
+def _refusal(hint: Tuple[int, str]) -> AllocationFailed:
+    """The failure of an allocation by an error response."""
+    if reasons.is_about_credentials(hint[0]):
+        return WrongCredentials("user name or password are wrong", hint)
+    return AllocationFailed("the server refuses", hint)
+
+
+def _because(error: _Error, cause: Optional[BaseException]) -> _Error:
+    """An error with its cause, as `raise .. from` makes it."""
+    error.__cause__ = cause
+    return error
 
 
 def _settle(waiter: asyncio.Future[None], error: Optional[Exception]) -> bool:

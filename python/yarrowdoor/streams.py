@@ -116,7 +116,7 @@ class Streams:
 
     async def connect(self, peer: Address) -> Pair:
         """Has the server connect to a peer. A connection that the server closed before it was bound is tried once more:
-        its nonce may have been stale (docs/REAL-SERVERS.md)."""
+        its nonce may have been stale (docs/REAL-SERVERS.md in the repository)."""
         await self.relay.permit(peer[0])
         for attempt in (1, 2):
             self._wanted[peer] = None
@@ -138,7 +138,7 @@ class Streams:
         found = await self._accepted.get()
         if found is None:
             self._accepted.put_nowait(None)
-            raise Ended("the client has ended")
+            raise self.relay._ending()
         return found.pair
 
     async def open(self, wanted: sans_io.AllocateTcpSocket) -> None:
