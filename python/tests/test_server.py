@@ -300,6 +300,22 @@ class ThroughASocket(unittest.IsolatedAsyncioTestCase):
         self.assertEqual([(it.what, it.peer) for it in told], [("permission", "10.1.0.1")])
         self.assertEqual(list(relay.lost), told)
 
+    async def test_a_server_that_is_gone(self) -> None:
+        endpoint = await self.serve()
+        async with TurnClient(endpoint.uri, "user", "pass", clock=Clock(rate=600)) as relay:
+            endpoint.close()
+            why = "^the connection to the server has ended: no answer from .* to a refresh: .*refused"
+            with self.assertRaisesRegex(Ended, why) as ended:
+                await relay.wait_closed()
+            self.assertIsInstance(ended.exception.__cause__, ConnectionRefusedError)
+
+    async def test_a_server_that_challenges_without_end(self) -> None:
+        endpoint = await self.serve()
+        async with TurnClient(endpoint.uri, "user", "pass", max_stale_nonces=20) as relay:
+            endpoint.server.nonce_life = 0  # no nonce is good for the next request
+            with self.assertRaisesRegex(Ended, r"^the server has challenged over max_stale_nonces=20 requests in a row \(438\)$"):
+                await relay.permit("10.1.0.1")
+
     async def test_a_server_that_forgets(self) -> None:
         endpoint = await self.serve()
         async with TurnClient(endpoint.uri, "user", "pass", clock=Clock(rate=600)) as relay:
