@@ -257,6 +257,16 @@ class ThroughASocket(unittest.IsolatedAsyncioTestCase):
             await TurnClient(endpoint.uri, "user", "pass", times=times).open()
         self.assertEqual((failed.exception.code, failed.exception.phrase), (None, ""))
 
+    async def test_a_server_that_is_silent_over_tcp(self) -> None:
+        """A request is sent once, and fails as late as over UDP."""
+        server = Server()
+        server.is_dead = True
+        endpoint = await StreamEndpoint.start(server)
+        self.addCleanup(endpoint.close)
+        times = Times(initial=100_000_000, longest=SECOND, last=200_000_000, count=3)
+        with self.assertRaisesRegex(AllocationFailed, r"^no answer from turn:.*\?transport=tcp in 0\.5 s$"):
+            await TurnClient(endpoint.uri, "user", "pass", times=times).open()
+
     async def test_a_server_that_is_silent_after_its_challenge(self) -> None:
         endpoint = await self.serve()
         receive = endpoint.server.receive
@@ -313,7 +323,8 @@ class ThroughASocket(unittest.IsolatedAsyncioTestCase):
         endpoint = await self.serve()
         async with TurnClient(endpoint.uri, "user", "pass", max_stale_nonces=20) as relay:
             endpoint.server.nonce_life = 0  # no nonce is good for the next request
-            with self.assertRaisesRegex(Ended, r"^the server has challenged over max_stale_nonces=20 requests in a row \(438\)$"):
+            why = r"^the server has challenged over max_stale_nonces=20 requests in a row \(438\)$"
+            with self.assertRaisesRegex(Ended, why):
                 await relay.permit("10.1.0.1")
 
     async def test_a_server_that_forgets(self) -> None:
