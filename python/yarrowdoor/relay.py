@@ -578,7 +578,8 @@ class TurnClient:
                 self._drive()
                 await asyncio.wait([waiter])
         except Refused as refusal:
-            exists = refusal.reason == "already-exists" and key[0] != "connect"
+            # It is also the reason where no channel number is left.
+            exists = refusal.reason == "already-exists" and (key[0] == "permit" or key in self._granted)
             _settle(waiter, None if exists else refusal)
         except Exception as error:
             _settle(waiter, error)
