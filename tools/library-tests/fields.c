@@ -335,6 +335,7 @@ static uint32_t challenged_twice(const yarrowdoor_settings *good, uint16_t limit
     for (uint64_t now = 0; now <= 50000000; now += 50000000) {
         check("ALLOCATE", yarrowdoor_poll_transmit(client, now, buffer, BUFFER, &answer), YARROWDOOR_PACKET);
         memcpy(bytes + 8, buffer + 8, 12); /* the transaction ID of the request */
+        bytes[27] = now == 0 ? 1 : 38;     /* a 401, and then a 438 */
         check("challenge", yarrowdoor_recv(client, YARROWDOOR_UDP, &s.remote, &s.local, bytes, len, now, buffer, BUFFER,
                                            &answer), YARROWDOOR_HANDLED);
     }
