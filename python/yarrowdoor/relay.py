@@ -134,6 +134,8 @@ class TurnClient:
         self._client: Optional[Client] = None
         self._link: Optional[Link] = None
         self._driving = self._is_leaving = self._is_used = False
+        # Whether data was sent by `send` since something was received.
+        self._has_sent = False
 
     # Beginning and end
 
@@ -268,13 +270,16 @@ class TurnClient:
     async def send(self, data: sans_io.Buffer, peer: Address) -> None:
         """Sends data to a peer: requests its permission first, and waits where the socket is full.
 
-        It does not wait for the data to arrive, but always lets the event loop do other work first. `PermissionFailed`, `Ended`;
+        It does not wait for the data to arrive. Where nothing was received since the last `send`, it lets the event loop do other
+        work first, so that a loop of sends does not keep it from reading. `PermissionFailed`, `Ended`;
         `Refused` (`no-allocation`) for another family than that of the relayed address; `ValueError` for data that does not fit
         (`sendto`).
         """
         link = self._open_link()
-        # Each time, since asyncio reads one datagram in a round of its loop. Before, so that a send that is cancelled is none.
-        await asyncio.sleep(0)
+        # asyncio reads one datagram in a round of its loop. Before the data is sent, so that a send that is cancelled is none.
+        if self._has_sent:
+            await asyncio.sleep(0)
+        self._has_sent = True
         while not link.writable.is_set():
             await link.writable.wait()
         try:
@@ -399,6 +404,7 @@ class TurnClient:
         client = self._client
         if client is None or self._ended.done():
             return
+        self._has_sent = False
         now = self._clock.now()
         answer = client.recv(data, now)
         if isinstance(answer, sans_io.PeerData):
