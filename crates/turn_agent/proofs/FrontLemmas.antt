@@ -1,15 +1,13 @@
 -- The transactions in front, which are not due before a time.
-use Rattle.std.proofs.Common.{◌≡◌, ℕ, zero, suc, ◌+◌, ◌-◌, ◌<◌, ◌≤◌, Bool, true, false, ltb, List, [], ◌∷◌, ◌++◌, length, take, drop, get_or, set, min, Some, None, refl, ◌∙◌, arith}
+use Rattle.std.proofs.Common.{◌≡◌, ℕ, zero, suc, ◌+◌, ◌-◌, ◌<◌, ◌≤◌, Bool, true, false, ltb, List, [], ◌∷◌, ◌++◌, length, take, drop, get_or, set, Some, None, refl, arith}
 use Rattle.std.specs.List.{list_any, position, position_or_len}
 use Rattle.std.proofs.Math.Seq.{take-length}
-use Rattle.std.proofs.Math.Nat.{min-le_left, min-le_right}
-use Rattle.std.proofs.lemmas.Bool.{or_parts, ltb-true, lt-ltb, and_right, lt-leb}
+use Rattle.std.proofs.lemmas.Bool.{or_parts, lt-ltb}
 use Rattle.std.proofs.lemmas.List.{length-append, length-set, take-append-le, take-set-le}
-use Rattle.std.proofs.lemmas.List.Folds.{list_any_more}
 use Rattle.turn_stun.specs.declared.transport.TransportType.{TransportType}
-use Rattle.turn_agent.specs.Agent.{is_due, transaction_timeout}
-use Rattle.turn_agent.specs.Front.{IsFront, front_at, no_front}
-use Rattle.turn_agent.specs.Schedule.{Timers, resends_of}
+use Rattle.turn_agent.specs.Agent.{is_due}
+use Rattle.turn_agent.specs.Front.{IsFront}
+use Rattle.turn_agent.specs.Schedule.{Timers}
 use Rattle.turn_agent.specs.declared.front.Front.{Front}
 use Rattle.turn_agent.specs.declared.transaction.Transaction.{Transaction}
 use Rattle.turn_agent.proofs.AgentLemmas.{position-unpassed}
@@ -38,45 +36,6 @@ pub record IsPassed (timers : Timers) (transport : TransportType) (now : ℕ) (t
 take_nothing : {X : Type 0} (p : X → Bool) (xs : List X) → list_any p (take 0 xs) ≡ false
 take_nothing p [] = refl
 take_nothing p (x ∷ xs) = refl
-
-pub IsFront-none : (timers : Timers) (transport : TransportType) (ts : List Transaction) → IsFront timers transport ts no_front
-IsFront-none timers transport ts = record { within = omega arith; waits = λ now before. take_nothing (is_due timers transport now) ts }
-
-pub IsPassed-start : (timers : Timers) (transport : TransportType) (now : ℕ) (ts : List Transaction) (front : Front) → IsFront timers transport ts front
-    → IsPassed timers transport now ts (front_at front now).count (front_at front now).until
-IsPassed-start timers transport now ts front is = by (ltb now front.until) refl
-  where
-    by : (b : Bool) → ltb now front.until ≡ b → IsPassed timers transport now ts (front_at front now).count (front_at front now).until
-    by true before = rw before (record { front = is; none = is.waits now (ltb-true now front.until before) })
-    by false past = rw past (record { front = IsFront-none timers transport ts; none = take_nothing (is_due timers transport now) ts })
-
--- one more that is not due before a time, and not now
-IsPassed-more : (timers : Timers) (transport : TransportType) (now : ℕ) (ts : List Transaction) (place until after : ℕ) (d : Transaction) → IsPassed timers transport now ts place until
-    → place < length ts → after ≤ until → ((m : ℕ) → m < after → is_due timers transport m (get_or ts place d) ≡ false) → is_due timers transport now (get_or ts place d) ≡ false
-    → IsPassed timers transport now ts (place + 1) after
-IsPassed-more timers transport now ts place until after d is within earlier waits not_now = record {
-  front = record {
-    within = omega (arith, within);
-    waits = λ m before. list_any_more (is_due timers transport m) ts place d within ∙ rw (is.front.waits m (omega (arith, before, earlier)), waits m before) refl;
-  };
-  none = list_any_more (is_due timers transport now) ts place d within ∙ rw (is.none, not_now) refl;
-}
-
--- one that was sent as often as configured
-pub IsPassed-last : (timers : Timers) (transport : TransportType) (now : ℕ) (ts : List Transaction) (place until : ℕ) (d : Transaction) → IsPassed timers transport now ts place until
-    → place < length ts → ltb (get_or ts place d).resends (resends_of timers transport) ≡ false → IsPassed timers transport now ts (place + 1) until
-IsPassed-last timers transport now ts place until d is within last =
-    IsPassed-more timers transport now ts place until until d is within (omega arith) (λ m before. rw last refl) (rw last refl)
-
--- one that waits
-pub IsPassed-waiting : (timers : Timers) (transport : TransportType) (now : ℕ) (ts : List Transaction) (place until : ℕ) (d : Transaction) → IsPassed timers transport now ts place until
-    → place < length ts → now < transaction_timeout timers transport (get_or ts place d)
-    → IsPassed timers transport now ts (place + 1) (min until (transaction_timeout timers transport (get_or ts place d)))
-IsPassed-waiting timers transport now ts place until d is within later =
-    let next = transaction_timeout timers transport (get_or ts place d) in
-    IsPassed-more timers transport now ts place until (min until next) d is within (min-le_left until next)
-    (λ m before. and_right _ _ (lt-leb next m (omega (arith, before, min-le_right until next))))
-    (and_right _ _ (lt-leb next now later))
 
 -- after the last place none is due
 pub IsPassed-all : (timers : Timers) (transport : TransportType) (now : ℕ) (ts : List Transaction) (place until : ℕ) → IsPassed timers transport now ts place until → length ts ≤ place

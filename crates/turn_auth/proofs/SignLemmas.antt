@@ -2,7 +2,7 @@
 use Rattle.std.proofs.Common.{◌≡◌, ℕ, ◌+◌, ◌-◌, ◌≤◌, Bool, true, false, not, List, [], ◌∷◌, ◌++◌, length, take, replicate, Some, eqb, refl, sym, ap, ◌∙◌, arith}
 use Rattle.std.specs.Prelude.{◌||◌, find}
 use Rattle.std.proofs.lemmas.List.{length-append, length-replicate, take_at, take_all}
-use Rattle.std.proofs.lemmas.Bool.{and_parts, and_from, eq-eqb}
+use Rattle.std.proofs.lemmas.Bool.{and_parts, eq-eqb}
 use Rattle.turn_stun.specs.Message.{Attribute, IsMessage, padded_len, attributes_of}
 use Rattle.turn_stun.specs.Attributes.{seen_after, is_sha1, is_sha256}
 use Rattle.turn_stun.specs.Writer.{AddsAttribute, with_length, with_attribute, attribute_bytes}
@@ -25,13 +25,6 @@ length-with_attribute kind value message header =
     let long : 4 ≤ length (message ++ attribute_bytes kind value) = rw (length-append message (attribute_bytes kind value)) (omega arith) in
     length-with_length _ (message ++ attribute_bytes kind value) long
     ∙ rw (length-append message (attribute_bytes kind value), length-attribute_bytes kind value) refl
-
--- what is unsigned stays so with one more attribute that does not carry integrity
-pub unsigned_more : (attributes : List Attribute) (a : Attribute) → is_unsigned attributes ≡ true → is_plain a.kind ≡ true → is_unsigned (attributes ++ a ∷ []) ≡ true
-unsigned_more [] a h plain = rw plain refl
-unsigned_more (b ∷ later) a h plain =
-    let both = and_parts _ _ h in
-    and_from _ _ both.0 (unsigned_more later a both.1 plain)
 
 -- ---- the text that integrity covers stays when its attribute is added
 

@@ -47,7 +47,7 @@ use Rattle.turn_client_laws.proofs.GrantOriginLemmas.{has-mapped}
 use Rattle.turn_client_laws.proofs.ChallengeJudgement.{Challenged-is, bind-is}
 use Rattle.turn_client_laws.proofs.StandLemmas.{has-contains}
 use Rattle.turn_client_laws.proofs.RunKeepLemmas.{IsKept}
-use Rattle.turn_client_laws.proofs.Edits.{IsAskable, KeepsAllEdits, IgnoresAll, KeepsHeeded}
+use Rattle.turn_client_laws.proofs.Edits.{KeepsAllEdits, IgnoresAll, KeepsHeeded}
 use Rattle.turn_client_laws.proofs.EditsOfReplies.{deadline-walk, effects-walk, fail-walk, gone-walk, one-of, removed, requested-walk, spelled-else, unlisted-walk, without-allocates}
 
 -- ---- what may be requested again
@@ -57,11 +57,6 @@ pub purposes-listed : (id : ℕ) (s : State) (p : Purpose) → Has p (purposes_o
 purposes-listed id s p there =
     let (l, kept, e) = has-mapped (λ (l : Listing). l.purpose) p (filter (λ (l : Listing). eqb l.id id) s.listed) there in
     (l, (has-filter (λ (l : Listing). eqb l.id id) l s.listed kept).0, sym e)
-
--- one request for an allocation
-pub asks-allocation : (s : State) (p : Purpose) → Has p (ForAllocation ∷ []) → IsAskable s p
-asks-allocation s p (inl e) = inl e
-asks-allocation s p (inr none) = absurd none
 
 -- the request that binds a connection that exists
 bind-askable : (c : DataConnection) (p : Purpose) (s : State) → Has (Connection c) s.grants → is_bind_of c.local p ≡ true → list_any (is_asked_by p) s.grants ≡ true

@@ -1,8 +1,8 @@
 -- What remains after time has passed.
-use Rattle.std.proofs.Common.{◌≡◌, ℕ, suc, ◌<◌, Bool, true, false, ◌&&◌, ◌||◌, not, List, [], ◌∷◌, ◌++◌, length, filter, filter_map, find, fold, reverse, Option, Some, None, ◌⊎◌, inl, inr, refl, sym}
-use Rattle.std.proofs.Common.{subst, ◌∙◌, arith}
+use Rattle.std.proofs.Common.{◌≡◌, ℕ, ◌<◌, Bool, true, false, ◌&&◌, ◌||◌, not, List, [], ◌∷◌, ◌++◌, filter, filter_map, find, fold, reverse, Option, Some, None, ◌⊎◌, inl, inr, refl, sym}
+use Rattle.std.proofs.Common.{subst, ◌∙◌}
 use Rattle.std.specs.Prelude.{All, IfSome, ⊤, slice_get}
-use Rattle.std.proofs.lemmas.List.{length-reverse, reverse-append}
+use Rattle.std.proofs.lemmas.List.{reverse-append}
 use Rattle.std.proofs.lemmas.Option.{none-some, same_Some}
 use Rattle.std.proofs.lemmas.Bool.{not-true, leb-false, and_parts}
 use Rattle.std.specs.declared.net.socket_addr.SocketAddr.{SocketAddr}
@@ -64,12 +64,6 @@ shrinks-then s t u first later = record {
 append-empty : {X : Type 0} (xs ys : List X) → xs ++ ys ≡ [] → (xs ≡ []) × (ys ≡ [])
 append-empty [] ys e = (refl, e)
 append-empty (x ∷ xs) ys e = cc
-
-reverse-empty : {X : Type 0} (xs : List X) → reverse xs ≡ [] → xs ≡ []
-reverse-empty [] e = refl
-reverse-empty {X = X} (x ∷ xs) e =
-    let same : length {A = X} [] ≡ suc (length xs) = rw e at (length-reverse (x ∷ xs)) in
-    absurd (omega (arith, same))
 
 has-reverse : {X : Type 0} (x : X) (xs : List X) → Has x xs → Has x (reverse xs)
 has-reverse x [] h = absurd h

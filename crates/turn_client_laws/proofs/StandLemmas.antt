@@ -1,5 +1,5 @@
 -- What is active in a list of grants, and what a change of the list leaves of it.
-use Rattle.std.proofs.Common.{◌≡◌, ℕ, zero, suc, Bool, true, false, cond, List, [], ◌∷◌, ◌++◌, map, filter, fold, ◌⊎◌, inl, inr, refl, sym, ◌∙◌, arith}
+use Rattle.std.proofs.Common.{◌≡◌, ℕ, zero, suc, Bool, true, false, cond, List, [], ◌∷◌, ◌++◌, map, filter, ◌⊎◌, inl, inr, refl, sym, ◌∙◌, arith}
 use Rattle.std.specs.List.{Contains}
 use Rattle.std.specs.declared.net.ip_addr.IpAddr.{IpAddr}
 use Rattle.std.specs.declared.net.socket_addr.SocketAddr.{SocketAddr}
@@ -213,7 +213,3 @@ leaves-trans s t u first second = left-trans s.grants t.grants u.grants first se
 pub leaves-cond : (b : Bool) (s t u : State) → Leaves s t → Leaves s u → Leaves s (cond b t u)
 leaves-cond true s t u k l = k
 leaves-cond false s t u k l = l
-
-pub leaves-fold : {X : Type 0} (f : State → X → State) → ((t : State) (x : X) → Leaves t (f t x)) → (xs : List X) (s : State) → Leaves s (fold f s xs)
-leaves-fold f step [] s = leaves-same s
-leaves-fold f step (x ∷ xs) s = leaves-trans s (f s x) (fold f (f s x) xs) (step s x) (leaves-fold f step xs (f s x))

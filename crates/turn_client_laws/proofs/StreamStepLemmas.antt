@@ -1,5 +1,5 @@
 -- Bytes received over streams keep their local addresses distinct.
-use Rattle.std.proofs.Common.{◌≡◌, ◌≢◌, ℕ, zero, suc, ◌++◌, Bool, true, false, not, cond, ◌&&◌, List, [], ◌∷◌, take, drop, Option, Some, None, refl, subst, sym, inl, inr}
+use Rattle.std.proofs.Common.{◌≡◌, ◌≢◌, ℕ, zero, suc, ◌++◌, Bool, true, false, not, cond, List, [], ◌∷◌, take, drop, Option, Some, None, refl, subst, sym, inl, inr}
 use Rattle.std.specs.Prelude.{find, is_some}
 use Rattle.std.specs.declared.net.socket_addr.SocketAddr.{SocketAddr}
 use Rattle.turn_stun.specs.declared.transport.TransportType.{TransportType}
@@ -10,12 +10,11 @@ use Rattle.turn_client_api.specs.State.{State}
 use Rattle.turn_client_api.specs.declared.state.Mode.{Mode}
 use Rattle.turn_client_api.specs.declared.state.Mode.TheVariants.{Control, Waiting, Bound, Broken}
 use Rattle.turn_client_api.specs.declared.state.Stream.{Stream}
-use Rattle.turn_client_api.specs.Grants.{same_transport}
 use Rattle.turn_client_api.specs.Connections.{connection_at}
 use Rattle.turn_client_api.specs.Payloads.{Payload, Outcome, Handled, Ignored, PeerData, PeerIcmp, channel_sent, datagram_step, is_channel_frame, is_message, message_step}
 use Rattle.turn_client_api.specs.Streams.{broken_at, frame_step, framed_by, framed_stream_step, go_on, is_ready, max_steps, poll_recv_step, stream_at, next_frame_step, detached_frame_step}
 use Rattle.turn_client_api.specs.Streams.{first_ready_step, steps_until_payload, with_bytes}
-use Rattle.turn_client_api.specs.Receive.{connection_gone, first_frame_step, is_from_server, piece_step, recv_step, stream_step, tcp_closed_step, then_all}
+use Rattle.turn_client_api.specs.Receive.{connection_gone, first_frame_step, is_from_server, piece_step, recv_step, stream_step, then_all}
 use Rattle.turn_client_laws.specs.LawsStreams.{AreApart}
 use Rattle.turn_client_laws.proofs.StreamApartLemmas.{Apart, NotBroken, bound-NotBroken, bound-apart, broken-apart, bytes-apart, bytes-NotBroken, emptied-apart, filter-apart, found-NotBroken}
 use Rattle.turn_client_laws.proofs.StreamDrainLemmas.{broken_by, bytes_by, found-ready, mode_by}
@@ -157,6 +156,3 @@ recv_over Tcp transport from to bytes now s = by (is_from_server transport from 
 
 pub recv-apart : (transport : TransportType) (from to : SocketAddr) (bytes : List ℕ) (now : ℕ) (s : State) → StayApart s (recv_step transport from to bytes now s).1
 recv-apart transport from to bytes now s = recv_over s.transport transport from to bytes now s
-
-pub tcp_closed-same : (local remote : SocketAddr) (s : State) → Same s (tcp_closed_step local remote s)
-tcp_closed-same local remote s = same-cond (same_transport s.transport Tcp && same_address remote s.remote) s (connection_gone local s) s (gone-same local s) refl

@@ -92,9 +92,6 @@ leads-append (one ∷ front) later s t u (first, lead) second = (first, leads-ap
 
 -- ---- the step of a stream
 
-one-leads : (one : Input) (s t : State) → DiffersInStreams s one.before → DiffersInStreams (processed one).1 t → InputsLead (one ∷ []) s t
-one-leads one s t first last = (first, last)
-
 framed-leads : (l : Bool) (stream : Stream) (now : ℕ) (t : State) → InputsLead (frame_taken l stream now t) t (framed_stream_step stream now t).1
 framed-leads l stream now t = by (begins_no_frame stream.bytes) (frame_len stream.bytes)
   where

@@ -1,34 +1,23 @@
 -- What holds for a client over TCP holds after each call.
-use Rattle.std.proofs.Common.{◌≡◌, ◌∙◌, ℕ, List, true, false, Option, None, Some, Result, Ok, Err, IsOk, OnErr, OnOk, ap, inl, inr, refl, subst, sym}
+use Rattle.std.proofs.Common.{◌≡◌, ◌∙◌, ℕ, List, true, false, Option, None, Some, Result, Ok, Err, IsOk, OnErr, OnOk, ap, inl, inr, refl, sym}
 use Rattle.std.proofs.lemmas.Bool.{false_from_ne_true, false≢true}
 use Rattle.std.specs.declared.net.socket_addr.SocketAddr.{SocketAddr}
 use Rattle.turn_stun.specs.declared.transport.TransportType.{TransportType}
 use Rattle.turn_stun.specs.declared.transport.TransportType.TheVariants.{Tcp}
 use Rattle.turn_client_api.specs.Answers.{RecvEnds, takes_no_memory}
-use Rattle.turn_client_api.specs.Config.{Config}
 use Rattle.turn_client_api.specs.Payloads.{Outcome}
 use Rattle.turn_client_api.specs.Receive.{is_from_server, recv_step}
-use Rattle.turn_client_api.specs.State.{State, initial}
+use Rattle.turn_client_api.specs.State.{State}
 use Rattle.turn_client_api.specs.Steps.{Leaves}
 use Rattle.turn_client_api.specs.Streams.{stream_at}
 use Rattle.turn_client_api.specs.declared.call.Call.{Call}
 use Rattle.turn_client_api.specs.declared.state.Stream.{Stream}
 use Rattle.turn_client_laws.proofs.AddressLemmas.{same_address-self}
-use Rattle.turn_client_laws.proofs.InAllocation.{initial-GrantsHaveAllocations, leaves-GrantsHaveAllocations}
-use Rattle.turn_client_laws.proofs.SendOrderLemmas.{initial-steady, leaves-steadies}
+use Rattle.turn_client_laws.proofs.InAllocation.{leaves-GrantsHaveAllocations}
+use Rattle.turn_client_laws.proofs.SendOrderLemmas.{leaves-steadies}
 use Rattle.turn_client_core.specs.StreamSteps.{piece_at, piece_takes_none}
 use Rattle.turn_client_proto.specs.OverTcp.{IsTcpClient}
 use Rattle.turn_client_proto.proofs.CarrierLemmas.{leaves-SameCarriers}
-
-new-client : (local remote : SocketAddr) (config : Config) (seed : List ℕ) → IsTcpClient (initial Tcp local remote config seed)
-new-client local remote config seed = record {
-  carrier = refl;
-  steady = initial-steady Tcp local remote config seed;
-  housed = initial-GrantsHaveAllocations Tcp local remote config seed;
-}
-
-pub initial-IsTcpClient : (s : State) (local remote : SocketAddr) (config : Config) (seed : List ℕ) → s ≡ initial Tcp local remote config seed → IsTcpClient s
-initial-IsTcpClient s local remote config seed e = subst IsTcpClient (sym e) (new-client local remote config seed)
 
 pub leaves-IsTcpClient : (call : Call) (s t : State) → Leaves call s t → IsTcpClient s → IsTcpClient t
 leaves-IsTcpClient call s t leaves h = record {

@@ -1,32 +1,18 @@
 -- What holds for a client over UDP holds after each call.
-use Rattle.std.proofs.Common.{◌≡◌, ◌∙◌, ℕ, List, Result, Ok, Err, OnErr, OnOk, ap, inl, inr, refl, subst, sym}
-use Rattle.std.specs.declared.net.socket_addr.SocketAddr.{SocketAddr}
+use Rattle.std.proofs.Common.{◌≡◌, ◌∙◌, ℕ, List, Result, Ok, Err, OnErr, OnOk, ap, inl, inr, refl}
 use Rattle.turn_stun.specs.declared.transport.TransportType.TheVariants.{Udp}
-use Rattle.turn_client_api.specs.Config.{Config}
 use Rattle.turn_client_api.specs.Effect.{closed}
 use Rattle.turn_client_api.specs.Payloads.{Outcome, datagram_step}
 use Rattle.turn_client_api.specs.Receive.{recv_step}
-use Rattle.turn_client_api.specs.State.{State, initial}
+use Rattle.turn_client_api.specs.State.{State}
 use Rattle.turn_client_api.specs.Steps.{Leaves}
 use Rattle.turn_client_api.specs.declared.call.Call.{Call}
 use Rattle.turn_client_laws.proofs.AddressLemmas.{same_address-self}
-use Rattle.turn_client_laws.proofs.InAllocation.{initial-GrantsHaveAllocations, leaves-GrantsHaveAllocations}
-use Rattle.turn_client_laws.proofs.SendOrderLemmas.{initial-steady, leaves-steadies}
+use Rattle.turn_client_laws.proofs.InAllocation.{leaves-GrantsHaveAllocations}
+use Rattle.turn_client_laws.proofs.SendOrderLemmas.{leaves-steadies}
 use Rattle.turn_client_proto.specs.OverUdp.{IsUdpClient}
 use Rattle.turn_client_proto.proofs.CarrierLemmas.{leaves-SameCarriers}
 use Rattle.turn_client_proto.proofs.NoStreamLemmas.{leaves-no_streams}
-
-new-client : (local remote : SocketAddr) (config : Config) (seed : List ℕ) → config.allocation_transport ≡ Udp → IsUdpClient (initial Udp local remote config seed)
-new-client local remote config seed relays = record {
-  carrier = refl;
-  relays = relays;
-  no_streams = refl;
-  steady = initial-steady Udp local remote config seed;
-  housed = initial-GrantsHaveAllocations Udp local remote config seed;
-}
-
-pub initial-IsUdpClient : (s : State) (local remote : SocketAddr) (config : Config) (seed : List ℕ) → config.allocation_transport ≡ Udp → s ≡ initial Udp local remote config seed → IsUdpClient s
-initial-IsUdpClient s local remote config seed relays e = subst IsUdpClient (sym e) (new-client local remote config seed relays)
 
 pub leaves-IsUdpClient : (call : Call) (s t : State) → Leaves call s t → IsUdpClient s → IsUdpClient t
 leaves-IsUdpClient call s t leaves h =

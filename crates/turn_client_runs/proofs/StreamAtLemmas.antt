@@ -12,7 +12,7 @@ use Rattle.turn_client_laws.specs.LawsBodies.{IsAsideFrom}
 use Rattle.turn_client_laws.proofs.AddressLemmas.{same_address-true}
 use Rattle.turn_client_laws.proofs.FrameRestLemmas.{bytes_by}
 use Rattle.turn_client_laws.proofs.GrantOriginLemmas.{has-mapped}
-use Rattle.turn_client_laws.proofs.HasLemmas.{Has, find-none, has-found}
+use Rattle.turn_client_laws.proofs.HasLemmas.{Has, has-found}
 use Rattle.turn_client_laws.proofs.StreamApartLemmas.{IsNoneOf, differ-sym, ends}
 
 -- ---- lists
@@ -178,12 +178,6 @@ find-fed a bytes (x ∷ xs) stream apart waits e = by (same_address x.local a) r
 pub fed-found : (a : SocketAddr) (bytes : List ℕ) (s : State) (stream : Stream) → IsAlone a s → stream_at a s ≡ Some stream
     → find is_ready (with_bytes a bytes s).streams ≡ cond (is_ready (record stream { bytes = bytes })) (Some (record stream { bytes = bytes })) None
 fed-found a bytes s stream alone e = find-fed a bytes s.streams stream alone.distinct alone.others e
-
--- without a stream at this local address none is ready
-pub none-found : (a : SocketAddr) (s : State) → IsAlone a s → stream_at a s ≡ None → find is_ready s.streams ≡ None
-none-found a s alone e =
-    find-none is_ready s.streams
-    (λ x there. alone.others x there (none-false (λ (y : Stream). same_address y.local a) s.streams e x there))
 
 -- ---- what changes this stream alone
 

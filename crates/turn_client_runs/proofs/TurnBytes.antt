@@ -1,13 +1,10 @@
 -- Each step of a stream takes a byte at least from what the streams hold.
 use Rattle.std.proofs.Common.{◌≡◌, ◌≤◌, ◌<◌, ◌+◌, ◌-◌, ℕ, zero, suc, max, Bool, true, false, not, cond, List, [], ◌∷◌, ◌++◌, length, map, filter, take, drop, Option, Some, None, inl, inr, refl, sym}
 use Rattle.std.proofs.Common.{◌∙◌, arith}
-use Rattle.std.specs.Prelude.{find, is_some}
+use Rattle.std.specs.Prelude.{find}
 use Rattle.std.proofs.lemmas.Bool.{false_from_ne_true}
 use Rattle.std.proofs.lemmas.List.{length-append, length-drop}
 use Rattle.std.specs.declared.net.socket_addr.SocketAddr.{SocketAddr}
-use Rattle.turn_stun.specs.declared.transport.TransportType.{TransportType}
-use Rattle.turn_stun.specs.declared.transport.TransportType.TheVariants.{Udp, Tcp}
-use Rattle.turn_stun.specs.declared.transport.Transmit.{Transmit}
 use Rattle.turn_types.specs.Frames.{begins_no_frame, frame_len}
 use Rattle.turn_types.proofs.FrameLemmas.{frame_len-IsWhole}
 use Rattle.turn_agent.specs.Agent.{same_address}
@@ -15,21 +12,16 @@ use Rattle.turn_client_api.specs.State.{State}
 use Rattle.turn_client_api.specs.declared.state.Mode.{Mode}
 use Rattle.turn_client_api.specs.declared.state.Mode.TheVariants.{Control, Waiting, Bound, Broken}
 use Rattle.turn_client_api.specs.declared.state.Stream.{Stream}
-use Rattle.turn_client_api.specs.Payloads.{Payload, Outcome, Handled, Ignored, PeerData, PeerIcmp, channel_sent, datagram_step, is_channel_frame, is_message, message_step}
+use Rattle.turn_client_api.specs.Payloads.{Payload, Outcome, Handled, Ignored, PeerData, PeerIcmp}
 use Rattle.turn_client_api.specs.Streams.{broken_at, frame_step, framed_by, framed_stream_step, go_on, is_ready, max_steps, payload_in, poll_recv_step, stream_at, next_frame_step, first_ready_step}
 use Rattle.turn_client_api.specs.Streams.{detached_frame_step, steps_until_payload, with_bytes, without_stream}
-use Rattle.turn_client_api.specs.Receive.{connection_gone, first_frame_step, is_from_server, piece_step, recv_step, stream_step, then_all}
-use Rattle.turn_client_api.specs.Connections.{connection_at}
-use Rattle.turn_client_laws.specs.Handled.{Input, datagram_input, fed_taken, frame_taken, handled, is_front, piece_inputs, poll_recv_inputs, recv_inputs, stream_inputs, stream_inputs_taken}
+use Rattle.turn_client_api.specs.Receive.{first_frame_step, piece_step, recv_step, stream_step, then_all}
+use Rattle.turn_client_laws.specs.Handled.{Input, fed_taken, frame_taken, is_front, piece_inputs, poll_recv_inputs, recv_inputs, stream_inputs, stream_inputs_taken}
 use Rattle.turn_client_laws.specs.Handled.{taken_first, taken_in, taken_of_len, then_taken, inputs_taken, unless_given}
-use Rattle.turn_client_laws.specs.LawsHandled.{TakesInput}
-use Rattle.turn_client_api.specs.Steps.{state_after}
-use Rattle.turn_client_api.specs.declared.call.Call.{Call}
-use Rattle.turn_client_api.specs.declared.call.Call.TheVariants.{Recv, PollRecv}
 use Rattle.turn_client_laws.proofs.AddressLemmas.{same_address-true}
-use Rattle.turn_client_laws.proofs.StreamCallLemmas.{IsOpened, others-opened}
+use Rattle.turn_client_laws.proofs.StreamCallLemmas.{IsOpened}
 use Rattle.turn_client_laws.proofs.StreamDrainLemmas.{broken_by, broken_by-Sets, bytes_by, bytes_by-Sets, found-ready, map-map, mode_by, mode_by-KeepsHeld, ready-waits}
-use Rattle.turn_client_laws.proofs.StreamMessageLemmas.{Rebound, Same, frame-rebound, message-same, same-cond}
+use Rattle.turn_client_laws.proofs.StreamMessageLemmas.{Rebound, frame-rebound}
 use Rattle.turn_client_laws.proofs.StreamWeightLemmas.{Sets, found-le-top, kept-Sets, later-Sets, top, top-set, weight, weight-set}
 
 -- ---- one stream
@@ -222,61 +214,3 @@ opened-weight s t (inl same) = rw same (omega arith)
 opened-weight s t (inr (local, is)) = rw is (let less = weight-left local s.streams in let more = weight-more local Waiting (without_stream local s).streams in omega (arith, less, more))
 
 -- ---- input
-
-gone-same : (local : SocketAddr) (s : State) → Same s (connection_gone local s)
-gone-same local s = same-cond (is_some (connection_at local s)) s _ _ refl refl
-
-stream-takes : (to : SocketAddr) (stream : Stream) (piece : List ℕ) (now : ℕ) (s : State) → stream_at to s ≡ Some stream
-    → TakesOf piece (stream_inputs stream piece now s) s (stream_step stream piece now s).1
-stream-takes to stream [] now s found =
-    let same = gone-same stream.local s in
-    let less = weight-left stream.local (connection_gone stream.local s).streams in
-    let as_many : weight (connection_gone stream.local s).streams ≡ weight s.streams = rw same refl in
-    omega (arith, less, as_many)
-stream-takes to stream (b ∷ bytes) now s found = piece-takes to s stream.mode stream (b ∷ bytes) now found (omega arith)
-
-datagram-weight : (bytes : List ℕ) (now : ℕ) (s : State) → weight (datagram_step bytes now s).1.streams ≡ weight s.streams
-datagram-weight bytes now s = by (is_message bytes) (is_channel_frame bytes)
-  where
-    by : (b c : Bool) → weight (cond {A = Outcome × State} b (message_step bytes now s) (cond {A = Outcome × State} c (channel_sent s bytes, s) (Ignored, s))).1.streams ≡ weight s.streams
-    by true c = rw (message-same bytes now s) refl
-    by false true = refl
-    by false false = refl
-
--- one input that is a datagram, or inputs made of bytes
-abbrev TakesOfPacket : List ℕ → List Input → State → State → Type 0
-TakesOfPacket bytes turns s t = length turns + weight t.streams ≤ weight s.streams + (1 + length bytes)
-
-recv_over : (carrier : TransportType) (transport : TransportType) (from to : SocketAddr) (bytes : List ℕ) (now : ℕ) (s : State)
-    → (let u = record s { transport = carrier } in TakesOfPacket bytes (recv_inputs transport from to bytes now u) u (recv_step transport from to bytes now u).1)
-recv_over Udp transport from to bytes now s = by (is_from_server transport from u) (same_address to s.local)
-  where
-    u : State
-    u = record s { transport = Udp }
-
-    by : (b c : Bool) → TakesOfPacket bytes (cond b (cond c (datagram_input bytes now u ∷ []) []) []) u
-        (cond {A = Outcome × State} b (cond {A = Outcome × State} c (datagram_step bytes now u) (Ignored, u)) (Ignored, u)).1
-    by true true = let kept = datagram-weight bytes now u in omega (arith, kept)
-    by true false = omega arith
-    by false c = omega arith
-recv_over Tcp transport from to bytes now s = by (is_from_server transport from u) refl (stream_at to s) refl
-  where
-    u : State
-    u = record s { transport = Tcp }
-
-    by : (b : Bool) → is_from_server transport from u ≡ b → (o : Option Stream) → stream_at to s ≡ o
-        → TakesOfPacket bytes (recv_inputs transport from to bytes now u) u (recv_step transport from to bytes now u).1
-    by false e o f = rw e (omega arith)
-    by true e None f = rw (e, f) (omega arith)
-    by true e (Some stream) f = let takes = stream-takes to stream bytes now u f in rw (e, f) (omega (arith, takes))
-
--- the inputs of a call, and what the streams hold then
-pub recv-takes : (packet : Transmit (List ℕ)) (now : ℕ) (s : State) → length (handled (Recv packet now) s) + weight (state_after (Recv packet now) s).streams ≤ weight s.streams +
-    (1 + length packet.payload)
-recv-takes packet now s = recv_over s.transport packet.transport packet.from packet.to packet.payload now s
-
-pub poll_recv-takes : (now : ℕ) (s : State) → length (handled (PollRecv now) s) + weight (state_after (PollRecv now) s).streams ≤ weight s.streams
-poll_recv-takes now s = poll-takes now s
-
-pub others-weight : (call : Call) (s : State) → (TakesInput call → ⊥) → weight (state_after call s).streams ≤ weight s.streams
-others-weight call s other = opened-weight s (state_after call s) (others-opened call s other)

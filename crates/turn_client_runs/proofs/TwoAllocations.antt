@@ -4,12 +4,10 @@ use Rattle.std.specs.List.{IsDistinct}
 use Rattle.turn_types.specs.declared.family.AddressFamily.{AddressFamily}
 use Rattle.turn_types.specs.declared.family.AddressFamily.TheVariants.{IPV4, IPV6}
 use Rattle.turn_client_api.specs.Config.{same_family}
-use Rattle.turn_client_api.specs.State.{State}
 use Rattle.turn_client_api.specs.declared.grant.Grant.{Grant}
 use Rattle.turn_client_api.specs.declared.grant.Grant.TheVariants.{Allocation, Permission, Channel, Connect, Offer, Connection}
 use Rattle.turn_client_api.specs.declared.grant.Relay.{Relay}
 use Rattle.turn_client_api.specs.Grants.{as_allocation, allocations, family_of}
-use Rattle.turn_client_laws.specs.LawsDoubles.{HasNoDoubles}
 use Rattle.turn_client_laws.proofs.DoubleLemmas.{AreSingle, IsSingle}
 
 -- how many of these are of the family
@@ -66,9 +64,3 @@ both-families (a ∷ relays) = by (family_of a.relayed) refl (both-families rela
         → length (a ∷ relays) ≡ length (some IPV4 (a ∷ relays)) + length (some IPV6 (a ∷ relays))
     by IPV4 e later = rw e (omega (arith, later))
     by IPV6 e later = rw e (omega (arith, later))
-
-pub allocations-two : (s : State) → HasNoDoubles s → length (allocations s) ≤ 2
-allocations-two s h =
-    let four = one-of_family IPV4 s.grants h in
-    let six = one-of_family IPV6 s.grants h in
-    omega (arith, both-families (allocations s), four, six)

@@ -1,5 +1,5 @@
 -- Known bytes that are read or written in sequence.
-use Rattle.std.proofs.Common.{ℕ, ◌+◌, ◌≤◌, List, [], ◌++◌, Option, Some, None, length, take, drop, refl, sym, ap, subst, ◌∙◌, append_assoc, arith}
+use Rattle.std.proofs.Common.{ℕ, ◌+◌, List, [], ◌++◌, Option, Some, None, length, take, drop, refl, sym, ap, subst, ◌∙◌, append_assoc, arith}
 use Rattle.std.proofs.lemmas.List.{append-nil}
 use Rattle.std.proofs.lemmas.List.{take_all}
 use Rattle.std.proofs.Math.Seq.{take-add, take-append-add}
@@ -42,9 +42,6 @@ Appends-kept (Some u) None c xs h k = absurd h
 Appends-kept (Some u) (Some v) None xs h k = absurd k
 Appends-kept (Some u) (Some v) (Some w) xs h k = k ∙ h
 
-pub Appends-all : (a b : Option (List ℕ)) (text : List ℕ) (at : ℕ) → length text ≤ at → Appends a b (take at text) → Appends a b text
-Appends-all a b text at whole h = subst (Appends a b) (take_all at text whole) h
-
 pub Consumes-kept : (a b : Option (List ℕ)) → Keeps a b → Consumes a b []
 Consumes-kept None b k = tt
 Consumes-kept (Some u) None k = absurd k
@@ -60,7 +57,3 @@ ends_later a b c bytes Feed h e = tt
 ends_later None b c bytes Input h e = tt
 ends_later (Some u) None c bytes Input h e = absurd h
 ends_later (Some u) (Some v) c bytes Input h e = e
-
--- a write that failed writes nothing more
-pub cut_at : (a b c : Option (List ℕ)) (text : List ℕ) (at : ℕ) → Appends a b (take at text) → Appends b c [] → (count : ℕ) × Appends a c (take count text)
-cut_at a b c text at h k = (at, subst (Appends a c) (append-nil (take at text)) (Appends-then a b c (take at text) [] h k))

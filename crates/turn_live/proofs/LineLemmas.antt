@@ -7,12 +7,12 @@ use Rattle.std.proofs.lemmas.List.Elements.{All-append}
 use Rattle.std.proofs.Math.Seq.{take-append-add}
 use Rattle.std.specs.Io.KnownBytes.{Consumes, IsAtEnd, Keeps}
 use Rattle.memchr.specs.Find.{IsFirstByte, is_byte}
-use Rattle.turn_live.specs.Line.{EndsIf, EndsSo, IsLine, IsLost, IsPiece, IsTaken, feed_at, first_bytes, first_of_piece}
+use Rattle.turn_live.specs.Line.{IsLine, IsLost, IsPiece, IsTaken, feed_at, first_bytes, first_of_piece}
 use Rattle.turn_live.specs.declared.line.LineEnd.{LineEnd}
 use Rattle.turn_live.specs.declared.line.LineEnd.TheVariants.{Feed, Input}
 use Rattle.turn_live.specs.declared.stop.Stop.{Stop}
 use Rattle.turn_live.specs.declared.stop.Stop.TheVariants as Stops
-use Rattle.turn_live.proofs.KnownLemmas.{Consumes-kept, Consumes-none, Consumes-then, ends_later}
+use Rattle.turn_live.proofs.KnownLemmas.{Consumes-kept, Consumes-then, ends_later}
 
 -- The beginning of a line was read, and kept as far as a line is kept.
 pub record IsBegun (old new : Option (List ℕ)) (kept : List ℕ) : Type 0 where
@@ -37,9 +37,6 @@ take_both most line piece = ⊎_elim
 
 no_bytes : IsLine []
 no_bytes k d low = absurd (omega arith)
-
-pub begun_none : (a : Option (List ℕ)) → IsBegun a a []
-begun_none a = record { line = []; consumed = Consumes-none a; clear = no_bytes; kept_is = refl }
 
 pub begun_more : (a b c : Option (List ℕ)) (before after piece : List ℕ) → IsBegun a b before → IsPiece b c before after piece None → IsBegun a c after
 begun_more a b c before after piece k p = record {

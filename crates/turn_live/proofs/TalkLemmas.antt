@@ -1,12 +1,12 @@
 -- A session, step by step.
-use Rattle.std.proofs.Common.{◌≡◌, ℕ, ◌+◌, true, false, List, [], ◌∷◌, ◌++◌, Option, Some, None, Result, Ok, Err, length, take, inl, inr, refl, sym, ap, subst, ◌∙◌, arith}
+use Rattle.std.proofs.Common.{◌≡◌, ℕ, ◌+◌, true, false, List, [], ◌∷◌, ◌++◌, Option, Some, None, Result, Ok, Err, length, take, inl, inr, refl, sym, ap, subst, ◌∙◌}
 use Rattle.std.proofs.lemmas.List.{append-nil}
 use Rattle.std.specs.Io.KnownBytes.{Appends}
 use Rattle.turn_stun.specs.declared.transport.TransportType.{TransportType}
 use Rattle.turn_client_api.specs.State.{State}
 use Rattle.turn_lines.specs.declared.fault.BadLine.{BadLine}
 use Rattle.turn_lines.specs.declared.head.Head.{Head}
-use Rattle.turn_live.specs.Line.{IsLine, IsLost, IsTaken, feed_at}
+use Rattle.turn_live.specs.Line.{IsLost, IsTaken, feed_at}
 use Rattle.turn_live.specs.Lines.{after_line, after_lines, calls_said, client_of, line_call, line_head, line_said, session_of, session_with}
 use Rattle.turn_live.specs.Session.{AreRead, Goes, Steps, Talks}
 use Rattle.turn_live.specs.declared.line.LineEnd.{LineEnd}
@@ -118,13 +118,6 @@ stops relays s now after a b c w x y Stops.WriteFailed k (line, end, taken, cut)
   ends_later a b c k.read.bytes end k.read.consumed taken.ends,
   cut_more relays s now k.lines line cut.0 w x y k.state k.told cut.1,
 )
-
-no_bytes : IsLine []
-no_bytes k d low = absurd (omega arith)
-
--- the loop's counter is used up
-pub tires : (relays : TransportType) (s now : State) (a b w x : Option (List ℕ)) → GoesOn relays s now a b w x → Talks (calls_said relays s) a b w x (Err Stops.ReadFailed)
-tires relays s now a b w x k = (k.lines, [], goes relays s a b k.lines [] Feed k.read, no_bytes, k.told)
 
 -- ---- the first line
 

@@ -13,10 +13,6 @@ use Rattle.turn_lines.specs.declared.fault.BadLine.{BadLine}
 abbrev pub with_front : List Call → Result (List Call) BadLine → Result (List Call) BadLine
 with_front front reading = reading >>= λ calls. Ok (front ++ calls)
 
-pub with_front-nil : (reading : Result (List Call) BadLine) → with_front [] reading ≡ reading
-with_front-nil (Ok calls) = refl
-with_front-nil (Err bad) = refl
-
 moved : (front : List Call) (call : Call) (reading : Result (List Call) BadLine) → with_front (front ++ call ∷ []) reading ≡ with_front front (reading >>= λ calls. Ok (call ∷ calls))
 moved front call (Ok calls) = ap Ok (append_assoc front (call ∷ []) calls)
 moved front call (Err bad) = refl

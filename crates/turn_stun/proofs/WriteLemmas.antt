@@ -1,9 +1,9 @@
 -- What writing an attribute does to the bytes of a message.
 use Rattle.std.proofs.Common.{◌≡◌, ℕ, ◌+◌, ◌-◌, ◌*◌, ◌^◌, ◌<◌, ◌≤◌, List, [], ◌∷◌, ◌++◌, length, take, drop, replicate, refl, subst, sym, ap, ◌∙◌, arith, append_assoc, lit≤}
-use Rattle.std.proofs.lemmas.List.{take-take, take_at, take_all, take-append-drop, drop_at, drop-drop, drop-append-le, take-append-le, length-append, length-take, length-drop, get_or-drop, append-nil}
+use Rattle.std.proofs.lemmas.List.{take-take, take_at, drop_at, drop-drop, drop-append-le, take-append-le, length-append, length-take, length-drop, get_or-drop, append-nil}
 use Rattle.std.proofs.lemmas.List.{length-replicate}
 use Rattle.std.specs.Int.{w16, to_be_bytes}
-use Rattle.turn_stun.specs.Number.{big_endian, u16_at, u32_at}
+use Rattle.turn_stun.specs.Number.{big_endian, u16_at}
 use Rattle.turn_stun.specs.Message.{Attribute, AreAttributes, IsAttributeThen, IsMessage, type_of, length_of, cookie_of, id_of, attributes_of, padded_len}
 use Rattle.turn_stun.specs.Writer.{AddsAttribute, Extends, IsWritten, header_of, with_length, with_attribute, attribute_bytes}
 use Rattle.turn_stun.proofs.FaultLemmas.{fault_of-none, no_fault-IsFaultless, IsMessage-no_fault, attributes_of-is}
@@ -58,38 +58,6 @@ take-with_length-append : (n k : ℕ) (front more : List ℕ) → 4 ≤ length f
 take-with_length-append n k front more header len =
     ap (take k) (with_length-append n front more header)
     ∙ take_at (with_length n front) more k (length-with_length n front header ∙ len)
-
-take-with_length : (n k : ℕ) (message : List ℕ) → 4 ≤ k → k ≤ length message → take k (with_length n message) ≡ with_length n (take k message)
-take-with_length n k message header within =
-    let len : length (take k message) ≡ k = rw length-take (omega arith) in
-    ap (λ m. take k (with_length n m)) (sym (take-append-drop k message))
-    ∙ take-with_length-append n k (take k message) (drop k message) (omega (arith, len)) len
-
--- a message that is written begins with itself
-pub Extends-itself : (message : List ℕ) → IsWritten message → Extends message message
-Extends-itself message is = record {
-  header = is.faultless.long;
-  len = omega arith;
-  cut = ap (with_length (length message - 20)) (take_all (length message) message (omega arith)) ∙ is.told;
-}
-
-pub Extends-twice : (old middle new : List ℕ) → Extends old middle → Extends middle new → Extends old new
-Extends-twice old middle new first second =
-    let n = length middle - 20 in
-    let k = length old in
-    let header : 4 ≤ k = omega (arith, first.header) in
-    let shorter : take k (take (length middle) new) ≡ take k new = take-take k (length middle) new first.len in
-    let long : 4 ≤ length (take k new) = rw length-take (omega (arith, first.header, first.len, second.len)) in
-    let within : k ≤ length (take (length middle) new) = rw length-take (omega (arith, first.len, second.len)) in
-    let front : take k middle ≡ with_length n (take k new) =
-    ap (take k) (sym second.cut)
-    ∙ (take-with_length n k (take (length middle) new) header within ∙ ap (with_length n) shorter) in
-    record {
-      header = first.header;
-      len = omega (arith, first.len, second.len);
-      cut = sym (with_length-twice (k - 20) n (take k new) long)
-          ∙ (ap (with_length (k - 20)) (sym front) ∙ first.cut);
-    }
 
 pub with_attribute-Extends : (kind : ℕ) (value message : List ℕ) → IsWritten message → Extends message (with_attribute kind value message)
 unfolding with_attribute
@@ -152,13 +120,6 @@ AreAttributes-push (b ∷ later) at bytes more a are is =
       AreAttributes-push later (at + (4 + padded_len (length b.value))) are.0 more a are.2
           (subst (λ n. IsAttributeThen n more a []) behind is),
     )
-
--- a number within the front stays when bytes follow
-u32_at-append : (xs ys : List ℕ) (i : ℕ) → i + 3 < length xs → u32_at (xs ++ ys) i ≡ u32_at xs i
-u32_at-append xs ys i h =
-    let first : i + 1 < length xs = omega arith in
-    let second : i + 2 + 1 < length xs = omega arith in
-    rw (u16_at-append xs ys i first, u16_at-append xs ys (i + 2) second) refl
 
 -- a message with bytes after it, and its length field set to n
 module _ (n : ℕ) (message more : List ℕ) (twenty : 20 ≤ length message) where

@@ -1,8 +1,8 @@
 -- What the calls of a buffer count.
 use Rattle.std.proofs.Common.{◌≡◌, ℕ, ◌+◌, ◌-◌, ◌^◌, ◌<◌, ◌≤◌, Bool, true, false, nat_lt, if◌then◌else◌, List, [], length, drop, refl, sym, ap, subst, ◌∙◌, arith}
-use Rattle.std.proofs.lemmas.Bool.{ltb-false, le-ltb}
+use Rattle.std.proofs.lemmas.Bool.{le-ltb}
 use Rattle.std.proofs.lemmas.List.{length-drop}
-use Rattle.turn_types.specs.Buffers.{Buffered, UpdatesCounts, IsKept, capped, with_taken, with_moved, settled, broken_off, cut_off, front_by, front_offset, left_of}
+use Rattle.turn_types.specs.Buffers.{Buffered, UpdatesCounts, IsKept, capped, with_taken, with_moved, settled, cut_off, front_by, front_offset, left_of}
 use Rattle.turn_types.specs.Streams.{Stream, with_piece}
 use Rattle.turn_types.specs.declared.tcp.counts.TcpCounts.{TcpCounts}
 
@@ -15,22 +15,6 @@ stays-IsCounted b is =
       moved = rw still (omega (arith, is.bounded, is.paid));
       start = rw still (omega arith);
     }
-
-zero_or : (n : ℕ) (b : Bool) → nat_lt 0 n ≡ b → 0 ≡ (if b then 0 else n)
-zero_or n true e = refl
-zero_or n false e = omega (arith, ltb-false 0 n e)
-
-zero_both : (b : Bool) → ◌≡◌ {A = ℕ} (if b then 0 else 0) 0
-zero_both true = refl
-zero_both false = refl
-
--- breaking moves nothing
-pub broken_off-IsCounted : (b : Buffered) → IsKept b → UpdatesCounts b (broken_off 0 b) (left_of b.stream.bytes (broken_off 0 b)) (b.start + left_of b.stream.bytes (broken_off 0 b))
-broken_off-IsCounted b is = record {
-  taken = omega arith;
-  moved = rw (zero_both (nat_lt 0 (b.start + left_of b.stream.bytes (broken_off 0 b)))) (omega (arith, is.bounded, is.paid));
-  start = zero_or (b.start + left_of b.stream.bytes (broken_off 0 b)) _ refl;
-}
 
 -- a buffer before its rest may move
 abbrev front_cut : ℕ → Buffered → Buffered

@@ -92,9 +92,6 @@ one_byte-append : (bytes more : List ℕ) (k : ℕ) → one_byte bytes ≡ Some 
 one_byte-append [] more k h = cc
 one_byte-append (b ∷ bytes) more k h = h
 
-first_byte-nil : begins_no_frame [] ≡ false
-first_byte-nil = refl
-
 framed-within : (bytes : List ℕ) (begins : Bool) → begins_no_frame bytes ≡ begins → (k : ℕ) → (if begins then Some 1 else frame_len bytes) ≡ Some k → (0 < k) × (k ≤ length bytes)
 framed-within [] true e k h = cc
 framed-within (b ∷ bytes) true e k h = let one : 1 ≡ k = cc in (omega arith, omega arith)
