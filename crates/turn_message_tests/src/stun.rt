@@ -3,6 +3,7 @@
 mod fixture;
 mod memory;
 mod messages;
-mod moments;
+mod text;
+mod times;
 mod values;
 mod writing;

@@ -13,6 +13,7 @@ pub mod header;
 pub mod method;
 pub(crate) mod parse;
 mod seen;
+mod text;
 pub mod write;
 
 use crate::attribute::typed::AttributeFromRaw;

@@ -86,3 +86,10 @@ impl fmt::Debug for TransactionId {
         write!(f, "{high:08x}{low:016x}")
     }
 }
+
+/// `0x` and the twenty-four hexadecimal digits of the ID.
+impl fmt::Display for TransactionId {
+    fn fmt<W: fmt::Write>(&self, f: &mut fmt::Formatter<W>) -> fmt::Result {
+        write!(f, "0x{self:?}")
+    }
+}

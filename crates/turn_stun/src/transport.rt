@@ -2,6 +2,7 @@
 
 ghost use Rattle.std.specs.Prelude.{◌≡◌};
 
+use std::fmt;
 use std::net::SocketAddr;
 
 /// The transport of a packet.
@@ -11,6 +12,16 @@ pub enum TransportType {
     Udp,
     /// A stream of bytes.
     Tcp,
+}
+
+/// `UDP` or `TCP`.
+impl fmt::Display for TransportType {
+    fn fmt<W: fmt::Write>(&self, f: &mut fmt::Formatter<W>) -> fmt::Result {
+        match self {
+            TransportType::Udp => write!(f, "UDP"),
+            TransportType::Tcp => write!(f, "TCP"),
+        }
+    }
 }
 
 /// A packet, which the caller sends or has received: its bytes, source, destination and transport.

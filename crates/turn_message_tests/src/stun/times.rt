@@ -11,7 +11,7 @@ use turn_stun::transaction::TransactionId;
 use turn_stun::transport::{Transmit, TransportType};
 
 #[test]
-fn moments_stop_at_the_greatest(rt: HostRuntime) {
+fn times_stop_at_the_greatest(rt: HostRuntime) {
     let greatest = Instant::from_nanos(u64::MAX);
     same(&rt, greatest.as_nanos(), 9_223_372_036_854_775_807);
     same(&rt, greatest.plus(Duration::from_nanos(1)), greatest);
@@ -25,32 +25,6 @@ fn differences_stop_at_zero(rt: HostRuntime) {
     let later = Instant::from_nanos(5);
     same(&rt, later.since(earlier), Duration::from_nanos(2));
     same(&rt, earlier.since(later), Duration::ZERO);
-}
-
-fn assert_printed(rt: &impl Abort, alloc: Global, moment: Instant, expected: &str) {
-    let text = format!(in alloc; "{moment}").expect(rt, "memory");
-    same(rt, text.as_str(), expected);
-}
-
-#[test]
-fn moments_are_printed_in_seconds(rt: HostRuntime) {
-    let quarter_hour = Instant::ZERO.plus(Duration::from_secs(900));
-    assert_printed(&rt, rt.alloc(), quarter_hour, "900.000000000s");
-    let moment = Instant::from_nanos(1_000_000_005);
-    assert_printed(&rt, rt.alloc(), moment, "1.000000005s");
-}
-
-fn assert_printed_id(rt: &impl Abort, alloc: Global, bytes: [u8; 12], expected: &str) {
-    let id = TransactionId::from_bytes(bytes);
-    let text = format!(in alloc; "{id:?}").expect(rt, "memory");
-    same(rt, text.as_str(), expected);
-}
-
-#[test]
-fn ids_are_printed_in_hexadecimal(rt: HostRuntime) {
-    assert_printed_id(&rt, rt.alloc(), FIRST_ID, "76b8e0ada0f13d90405d6ae5");
-    let zeros = *b"\x00\x00\x00\x0c\x00\x00\x00\x00\x00\x00\x0a\xbc";
-    assert_printed_id(&rt, rt.alloc(), zeros, "0000000c0000000000000abc");
 }
 
 /// An ID and the one after it.
