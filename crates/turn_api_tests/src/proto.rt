@@ -3,5 +3,6 @@
 mod calls;
 mod fixture;
 mod memory;
+mod original_paths;
 mod paths;
 mod worked_runs;
