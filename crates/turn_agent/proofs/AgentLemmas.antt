@@ -162,23 +162,23 @@ pub poll_step-over : (a : Agent) (now i : ℕ) (t : Transaction) → timed_out_t
 poll_step-over a now i t first taken = rw (first ∙ taken) refl
 
 -- the least of all is not above the start value
-fold_min-le : (start : ℕ) (moments : List ℕ) → fold min start moments ≤ start
+fold_min-le : (start : ℕ) (times : List ℕ) → fold min start times ≤ start
 fold_min-le start [] = omega arith
-fold_min-le start (m ∷ moments) = omega (arith, fold_min-le (min start m) moments, min-le_left start m)
+fold_min-le start (m ∷ times) = omega (arith, fold_min-le (min start m) times, min-le_left start m)
 
 -- before the earliest time of all none is found, if each fails the test before its own time
-find-before : (next : Transaction → ℕ) (p : Transaction → Bool) (moment : ℕ) → ((t : Transaction) → moment < next t → p t ≡ false) → (start : ℕ) (ts : List Transaction)
-    → moment < fold min start (map next ts) → find p ts ≡ None
-find-before next p moment waits start [] before = refl
-find-before next p moment waits start (t ∷ ts) before =
+find-before : (next : Transaction → ℕ) (p : Transaction → Bool) (time : ℕ) → ((t : Transaction) → time < next t → p t ≡ false) → (start : ℕ) (ts : List Transaction)
+    → time < fold min start (map next ts) → find p ts ≡ None
+find-before next p time waits start [] before = refl
+find-before next p time waits start (t ∷ ts) before =
     let here = waits t (omega (arith, before, fold_min-le (min start (next t)) (map next ts), min-le_right start (next t))) in
-    rw here (find-before next p moment waits (min start (next t)) ts before)
+    rw here (find-before next p time waits (min start (next t)) ts before)
 
-pub IsSilentAt-before : (a : Agent) (moment : ℕ) → moment < fold min (2 ^ 63 - 1) (map (transaction_timeout a.timers a.transport) a.transactions) → IsSilentAt a moment
-IsSilentAt-before a moment before =
+pub IsSilentAt-before : (a : Agent) (time : ℕ) → time < fold min (2 ^ 63 - 1) (map (transaction_timeout a.timers a.transport) a.transactions) → IsSilentAt a time
+IsSilentAt-before a time before =
     let next = transaction_timeout a.timers a.transport in
-    let none_due = find-before next (is_due a.timers a.transport moment) moment (λ t later. and_right _ _ (lt-leb (next t) moment later)) (2 ^ 63 - 1) a.transactions before in
-    let none_over = find-before next (is_timed_out a.timers a.transport moment) moment (λ t later. and_right _ _ (lt-leb (next t) moment later)) (2 ^ 63 - 1) a.transactions before in
+    let none_due = find-before next (is_due a.timers a.transport time) time (λ t later. and_right _ _ (lt-leb (next t) time later)) (2 ^ 63 - 1) a.transactions before in
+    let none_over = find-before next (is_timed_out a.timers a.transport time) time (λ t later. and_right _ _ (lt-leb (next t) time later)) (2 ^ 63 - 1) a.transactions before in
     record { sends_nothing = rw none_due refl; gives_nothing_up = none_over }
 
 -- what is neither due nor timed out waits further
@@ -240,8 +240,8 @@ is_due-counted timers transport now ts i d at =
 -- ---- the time that is kept
 
 -- before it nothing is due
-pub IsSilentAt-quiet : (a : Agent) (now soonest moment : ℕ) → IsQuietUntil a now soonest → moment < soonest → IsSilentAt a moment
-IsSilentAt-quiet a now soonest moment quiet before = IsSilentAt-before a moment (rw (← quiet.1.1) before)
+pub IsSilentAt-quiet : (a : Agent) (now soonest time : ℕ) → IsQuietUntil a now soonest → time < soonest → IsSilentAt a time
+IsSilentAt-quiet a now soonest time quiet before = IsSilentAt-before a time (rw (← quiet.1.1) before)
 
 pub poll_step-quiet : (a : Agent) (now soonest : ℕ) → IsQuietUntil a now soonest → ◌≡◌ {A = StunAgentPollRet × Agent} (WaitUntil soonest, a) (agent_poll_step a now)
 poll_step-quiet a now soonest quiet =
@@ -257,12 +257,12 @@ due-quiet a now soonest quiet =
 min_assoc : (a b c : ℕ) → min (min a b) c ≡ min a (min b c)
 min_assoc a b c = omega arith
 
-fold_min-min : (a b : ℕ) (moments : List ℕ) → fold min (min a b) moments ≡ min a (fold min b moments)
+fold_min-min : (a b : ℕ) (times : List ℕ) → fold min (min a b) times ≡ min a (fold min b times)
 fold_min-min a b [] = refl
-fold_min-min a b (m ∷ moments) = rw (min_assoc a b m) (fold_min-min a (min b m) moments)
+fold_min-min a b (m ∷ times) = rw (min_assoc a b m) (fold_min-min a (min b m) times)
 
 -- the least of all and of a time that is not past the greatest
-pub earliest-known : (a : Agent) (moment soonest : ℕ) → IsSoonest a.timers a.transport a.transactions (Some soonest) → moment < 2 ^ 63 → min moment soonest ≡ earliest a moment
-earliest-known a moment soonest known range =
-    let start : min moment (2 ^ 63 - 1) ≡ moment = min-eq_left (omega (arith, range)) in
-    rw known.1 (sym (fold_min-min moment (2 ^ 63 - 1) (map (transaction_timeout a.timers a.transport) a.transactions)) ∙ rw start refl)
+pub earliest-known : (a : Agent) (time soonest : ℕ) → IsSoonest a.timers a.transport a.transactions (Some soonest) → time < 2 ^ 63 → min time soonest ≡ earliest a time
+earliest-known a time soonest known range =
+    let start : min time (2 ^ 63 - 1) ≡ time = min-eq_left (omega (arith, range)) in
+    rw known.1 (sym (fold_min-min time (2 ^ 63 - 1) (map (transaction_timeout a.timers a.transport) a.transactions)) ∙ rw start refl)

@@ -101,7 +101,7 @@ next_timeout a now =
 
 -- the earlier of this time and the earliest time at which a wait ends
 abbrev pub earliest : Agent → ℕ → ℕ
-earliest a moment = fold min moment (map (transaction_timeout a.timers a.transport) a.transactions)
+earliest a time = fold min time (map (transaction_timeout a.timers a.transport) a.transactions)
 
 -- the agent without the transaction with this ID
 abbrev pub transaction_removed : ℕ → Agent → Agent
@@ -154,13 +154,13 @@ handle_step a message from =
 -- ---- the returned time
 
 -- at this time nothing is retransmitted and nothing times out
-pub record IsSilentAt (a : Agent) (moment : ℕ) : Type 0 where
-  pub sends_nothing : (agent_transmit_step a moment).0 ≡ None
-  pub gives_nothing_up : timed_out_transaction a moment ≡ None
+pub record IsSilentAt (a : Agent) (time : ℕ) : Type 0 where
+  pub sends_nothing : (agent_transmit_step a time).0 ≡ None
+  pub gives_nothing_up : timed_out_transaction a time ≡ None
 
 -- nothing is due before the time that `poll` returns
 abbrev pub IsSilentUntil : StunAgentPollRet → Agent → Type 0
-IsSilentUntil (WaitUntil t) a = (moment : ℕ) → moment < t → IsSilentAt a moment
+IsSilentUntil (WaitUntil t) a = (time : ℕ) → time < t → IsSilentAt a time
 IsSilentUntil (TransactionTimedOut id) a = Unit {0}
 
 -- if the returned time is not later than now, a request is due, so a caller that sends what is due
@@ -181,9 +181,9 @@ IsEnded (TransactionTimedOut id) a = is_outstanding id a.transactions ≡ false
 abbrev pub IsProgress : Timers → TransportType → ℕ → List Transaction → Progress → Type 0
 IsProgress timers transport now ts (Over place) =
     (place < length ts) × (find (is_timed_out timers transport now) ts ≡ slice_get ts place)
-IsProgress timers transport now ts (Waiting moment) =
+IsProgress timers transport now ts (Waiting time) =
     (find (is_timed_out timers transport now) ts ≡ None) × (0 < length ts)
-    × (moment ≡ fold min (2 ^ 63 - 1) (map (transaction_timeout timers transport) ts))
+    × (time ≡ fold min (2 ^ 63 - 1) (map (transaction_timeout timers transport) ts))
 IsProgress timers transport now ts Idle = ts ≡ []
 
 -- ---- the time that is kept
@@ -191,12 +191,12 @@ IsProgress timers transport now ts Idle = ts ≡ []
 -- it is the earliest time at which a wait ends, if it is known
 abbrev pub IsSoonest : Timers → TransportType → List Transaction → Option ℕ → Type 0
 IsSoonest timers transport ts None = Unit {0}
-IsSoonest timers transport ts (Some moment) =
-    (0 < length ts) × (moment ≡ fold min (2 ^ 63 - 1) (map (transaction_timeout timers transport) ts))
+IsSoonest timers transport ts (Some time) =
+    (0 < length ts) × (time ≡ fold min (2 ^ 63 - 1) (map (transaction_timeout timers transport) ts))
 
 -- it is that time, and in the future
 abbrev pub IsQuietUntil : Agent → ℕ → ℕ → Type 0
-IsQuietUntil a now moment = (now < moment) × IsSoonest a.timers a.transport a.transactions (Some moment)
+IsQuietUntil a now time = (now < time) × IsSoonest a.timers a.transport a.transactions (Some time)
 
 -- ---- what is kept beside the transactions
 

@@ -224,13 +224,13 @@ impl StunAgent {
     }
 
     /// The earlier of this time and the earliest time at which a wait ends: when to call `poll`
-    /// again, for a caller that itself has something to do at `moment`.
-    pub fn earliest(&self, moment: Instant) -> Instant
-        ensures { result ≡ earliest self.now moment }
+    /// again, for a caller that itself has something to do at `time`.
+    pub fn earliest(&self, time: Instant) -> Instant
+        ensures { result ≡ earliest self.now time }
     {
         match self.soonest {
-            Some(soonest) => moment.min(soonest),
-            None => least_with(moment, &self.transactions, &self.schedule),
+            Some(soonest) => time.min(soonest),
+            None => least_with(time, &self.transactions, &self.schedule),
         }
     }
 
@@ -324,8 +324,8 @@ impl StunAgent {
         ensures alarm { IsSilentUntil result self.new }
         ensures busy { HasRequestDue result self.new now }
     {
-        if let Some(moment) = self.quiet_until(now) {
-            return StunAgentPollRet::WaitUntil(moment);
+        if let Some(time) = self.quiet_until(now) {
+            return StunAgentPollRet::WaitUntil(time);
         }
         // The oldest first, one a call (our choice): in the order in which the caller made its requests.
         match progress_of(&self.transactions, &self.schedule, now) {
@@ -333,9 +333,9 @@ impl StunAgent {
                 let given_up = self.take_out(place);
                 StunAgentPollRet::TransactionTimedOut(given_up.id)
             }
-            Progress::Waiting(moment) => {
-                self.soonest = Some(moment);
-                StunAgentPollRet::WaitUntil(moment)
+            Progress::Waiting(time) => {
+                self.soonest = Some(time);
+                StunAgentPollRet::WaitUntil(time)
             }
             Progress::Idle => {
                 StunAgentPollRet::WaitUntil(now.plus(Duration::from_secs(IDLE_SECONDS)))
@@ -386,7 +386,7 @@ impl StunAgent {
         ensures { IsTrue result → due self.now now ≡ None }
     {
         match self.quiet_until(now) {
-            Some(_moment) => true,
+            Some(_time) => true,
             None => false,
         }
     }

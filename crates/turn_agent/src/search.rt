@@ -72,13 +72,13 @@ pub(crate) fn progress_of(
 
 /// The earlier of this time and the earliest time at which a wait ends.
 pub(crate) fn least_with(
-    moment: Instant,
+    time: Instant,
     transactions: &[Transaction],
     schedule: &Schedule,
 ) -> Instant
-    ensures { result ≡ fold min moment (map (transaction_timeout schedule.now.timers schedule.now.transport) transactions.now) }
+    ensures { result ≡ fold min time (map (transaction_timeout schedule.now.timers schedule.now.transport) transactions.now) }
 {
-    let mut least = moment;
+    let mut least = time;
     for transaction in transactions {
         least = least.min(transaction.transaction_timeout(schedule));
     }

@@ -12,21 +12,21 @@ use Rattle.turn_client_api.specs.declared.poll.TurnPollRet.TheVariants.{WaitUnti
 
 -- the grant does not expire before this time; an expired allocation has done so already
 abbrev pub Lasts : ℕ → Grant → Type 0
-Lasts moment (Allocation a) = a.is_expired ≡ false → moment ≤ a.expiry
-Lasts moment (Permission ip (Active expiry)) = moment ≤ expiry
-Lasts moment (Channel number peer (Active expiry)) = moment ≤ expiry
-Lasts moment (Connection c) = IfSome c.deadline (λ deadline. moment ≤ deadline)
-Lasts moment _ = ⊤
+Lasts time (Allocation a) = a.is_expired ≡ false → time ≤ a.expiry
+Lasts time (Permission ip (Active expiry)) = time ≤ expiry
+Lasts time (Channel number peer (Active expiry)) = time ≤ expiry
+Lasts time (Connection c) = IfSome c.deadline (λ deadline. time ≤ deadline)
+Lasts time _ = ⊤
 
 -- Nothing is due from now on before that time: no packet is due, and `poll_transmit` changes nothing, no
 -- transaction ends, no event, offer or close is pending, and no grant expires.
-pub record IsIdleUntil (now moment : ℕ) (s : State) : Type 0 where
-  pub sends_nothing : (t : ℕ) → now ≤ t → t < moment → transmit_step t s ≡ (None, s)
-  pub ends_nothing : (t : ℕ) → now ≤ t → t < moment → timed_out_transaction (agent_of s) t ≡ None
+pub record IsIdleUntil (now time : ℕ) (s : State) : Type 0 where
+  pub sends_nothing : (t : ℕ) → now ≤ t → t < time → transmit_step t s ≡ (None, s)
+  pub ends_nothing : (t : ℕ) → now ≤ t → t < time → timed_out_transaction (agent_of s) t ≡ None
   pub no_event : s.events ≡ []
   pub no_offer : next_offer s ≡ None
   pub no_close : s.closes ≡ []
-  pub grants_last : All (Lasts moment) s.grants
+  pub grants_last : All (Lasts time) s.grants
 
 -- Something is due now: an event is pending, or a packet is due, or the call before, whose state is the
 -- first, timed a transaction out.
@@ -38,7 +38,7 @@ HasWorkNow now was s =
 -- a caller that sleeps until the returned time misses no deadline, and one that does what is due does not
 -- call for nothing
 abbrev pub IsTimely : TurnPollRet → ℕ → State → State → Type 0
-IsTimely (WaitUntil moment) now was s = (now < moment → IsIdleUntil now moment s) × (moment ≤ now → HasWorkNow now was s)
+IsTimely (WaitUntil time) now was s = (now < time → IsIdleUntil now time s) × (time ≤ now → HasWorkNow now was s)
 IsTimely (AllocateTcpSocket id socket peer) now was s = ⊤
 IsTimely (TcpClose local remote) now was s = ⊤
 IsTimely Ended now was s = ⊤

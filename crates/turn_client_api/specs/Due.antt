@@ -63,7 +63,7 @@ refresh_time_by_kind _ = None
 -- when the grant is to be refreshed, unless a request for it is pending
 unfoldable pub refresh_time : State → Grant → Option ℕ
 refresh_time s grant =
-    option_and_then (λ moment. if is_refreshable grant s && not (has_request grant s) then Some moment else None) (refresh_time_by_kind grant)
+    option_and_then (λ time. if is_refreshable grant s && not (has_request grant s) then Some time else None) (refresh_time_by_kind grant)
 
 -- ---- when a client has to be polled again
 

@@ -136,15 +136,15 @@ next_offer s =
     if is_allocated s.phase then slice_get (filter_map (λ a. first_unreported (family_of a.relayed) s) (allocations s)) 0
     else None
 
-abbrev pub told : Grant → Grant
-told (Offer offer) = Offer (record offer { is_reported = true })
-told grant = grant
+abbrev pub as_reported : Grant → Grant
+as_reported (Offer offer) = Offer (record offer { is_reported = true })
+as_reported grant = grant
 
 -- the first of a family is reported to the caller
 abbrev pub first_reported : AddressFamily → List Grant → List Grant
 first_reported family [] = []
 first_reported family (g ∷ others) =
-    if is_some (unreported_in family g) then told g ∷ others else g ∷ first_reported family others
+    if is_some (unreported_in family g) then as_reported g ∷ others else g ∷ first_reported family others
 
 abbrev pub offer_step : DataOffer → State → TurnPollRet × State
 offer_step offer s = (

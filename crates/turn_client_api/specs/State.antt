@@ -39,7 +39,7 @@ abbrev pub max_time : ℕ
 max_time = 2 ^ 63 - 1
 
 abbrev pub later_by : ℕ → ℕ → ℕ
-later_by duration moment = min (moment + duration) max_time
+later_by duration time = min (time + duration) max_time
 
 -- ---- the state
 

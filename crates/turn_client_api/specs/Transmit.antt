@@ -27,7 +27,7 @@ refresh_purpose now _ = None
 
 -- the time to refresh the grant has come
 unfoldable pub is_refresh_due : ℕ → State → Grant → Bool
-is_refresh_due now s grant = option_map_or (λ moment. nat_le moment now) (refresh_time s grant) false
+is_refresh_due now s grant = option_map_or (λ time. nat_le time now) (refresh_time s grant) false
 
 -- an allocation itself is refreshed first, then its channels, then its permissions
 abbrev pub is_ranked : ℕ → Grant → Bool

@@ -83,7 +83,8 @@ answered-other id fresh transactions unsent outstanding = by (fresh == id) refl
 
 -- ---- a challenge is answered, or concerns no request
 
-pub answered-is : (s : State) (message : List ℕ) (challenge : Challenge) (now : ℕ) (purpose : Purpose) → s.challenges < s.config.max_stale_nonces → retried (purposes_of (id_of message) s) ≡ Some purpose
+pub answered-is : (s : State) (message : List ℕ) (challenge : Challenge) (now : ℕ) (purpose : Purpose) → s.challenges < s.config.max_stale_nonces
+    → retried (purposes_of (id_of message) s) ≡ Some purpose
     → challenge_step message challenge now s ≡ (Handled, state_after_retry s (id_of message) purpose challenge now)
 answered-is s message challenge now purpose few found = rw (lt-ltb s.challenges s.config.max_stale_nonces few, found) refl
 

@@ -15,7 +15,7 @@ use Rattle.turn_client_laws.proofs.AddressLemmas.{same_address-true, same_ip-tru
 use Rattle.turn_client_api.specs.Calls.{active_channel, is_in_progress, is_offer_of, progress_to, without_first}
 use Rattle.turn_client_api.specs.Effect.{new_allocation}
 use Rattle.turn_client_api.specs.Grants.{channel_at, channel_peer, is_channel_of, is_for, is_permission_of, permission_progress, same_ip}
-use Rattle.turn_client_api.specs.Poll.{told, first_reported, unreported_in}
+use Rattle.turn_client_api.specs.Poll.{as_reported, first_reported, unreported_in}
 use Rattle.turn_client_api.specs.declared.grant.Grant.{Grant}
 use Rattle.turn_client_api.specs.declared.grant.Grant.TheVariants.{Allocation, Permission, Channel, Connect, Offer, Connection}
 use Rattle.turn_client_api.specs.declared.grant.DataOffer.{DataOffer}

@@ -89,12 +89,12 @@ fold-min-from m n xs le =
 
 -- ---- before the earliest time
 
-below-all : (now n : ℕ) (xs : List ℕ) → now < fold min n xs → All (λ moment. now < moment) xs
-below-all now n [] lt = All-nil (λ moment. now < moment)
+below-all : (now n : ℕ) (xs : List ℕ) → now < fold min n xs → All (λ time. now < time) xs
+below-all now n [] lt = All-nil (λ time. now < time)
 below-all now n (x ∷ xs) lt =
     let le : fold min (min n x) xs ≤ min n x = fold-min-le (min n x) xs in
     let here : now < x = omega (arith, le, lt) in
-    All-cons (λ moment. now < moment) x xs here (below-all now (min n x) xs lt)
+    All-cons (λ time. now < time) x xs here (below-all now (min n x) xs lt)
 
 filter_map-same : (f h : Grant → Option ℕ) → ((g : Grant) → f g ≡ h g) → (gs : List Grant) → filter_map f gs ≡ filter_map h gs
 filter_map-same f h same [] = refl
@@ -114,7 +114,7 @@ lapse-same grants listed s (Connection c) = refl
 
 -- nothing expires before the earliest time at which something does
 pub early-all : (now : ℕ) (grants : List Grant) (listed : List Listing) (s : State) → now < fold min never (filter_map (lapse_in listed) grants)
-    → All (λ moment. now < moment) (expiry_times (with_lists grants listed s))
+    → All (λ time. now < time) (expiry_times (with_lists grants listed s))
 early-all now grants listed s lt =
     rw (filter_map-same (lapse_of (with_lists grants listed s)) (lapse_in listed) (lapse-same grants listed s) grants) (below-all now never (filter_map (lapse_in listed) grants) lt)
 
@@ -219,12 +219,12 @@ relay_ends-both now (Some a) (Some b) = by (nat_lt now a.expiry)
     by false = refl
 
 -- from the expiries of all but the allocations, the two allocations, and the first refresh
-pub soonest-is : (now pause moment : ℕ) (s : State) (first second : Option Relay) → moment ≤ max_time → pause ≤ max_time
+pub soonest-is : (now pause time : ℕ) (s : State) (first second : Option Relay) → time ≤ max_time → pause ≤ max_time
     → filter_map as_allocation s.grants ≡ option_to_list first ++ option_to_list second
-    → min (fold min (fold min (min moment (fold min max_time (filter_map end_in s.grants))) (relay_ends now (option_to_list first))) (relay_ends now (option_to_list second)))
+    → min (fold min (fold min (min time (fold min max_time (filter_map end_in s.grants))) (relay_ends now (option_to_list first))) (relay_ends now (option_to_list second)))
     (max pause (fold min max_time (filter_map (refresh_time s) s.grants)))
-    ≡ fold min moment (all_times now pause s)
-soonest-is now pause moment s first second low early relays =
+    ≡ fold min time (all_times now pause s)
+soonest-is now pause time s first second low early relays =
     let ends = filter_map end_in s.grants in
     let times = filter_map (refresh_time s) s.grants in
     let end = fold min max_time ends in
@@ -232,25 +232,25 @@ soonest-is now pause moment s first second low early relays =
     let one = relay_ends now (option_to_list first) in
     let two = relay_ends now (option_to_list second) in
     -- the parts of the sum
-    let whole : fold min moment (all_times now pause s) ≡ min (fold min moment (flat_map (end_of now) s.grants))
-    (fold min moment (flat_map (λ g. map (max pause) (option_to_list (refresh_time s g))) s.grants)) =
-    fold-min-both moment (end_of now) (λ g. map (max pause) (option_to_list (refresh_time s g))) s.grants in
-    let later : fold min moment (flat_map (λ g. map (max pause) (option_to_list (refresh_time s g))) s.grants) ≡ min moment (max pause refresh) =
-    ap (λ (xs : List ℕ). fold min moment xs) (flat-mapped pause (refresh_time s) s.grants)
-    ∙ (fold-min-from moment max_time (map (max pause) times) low ∙ ap (λ (k : ℕ). min moment k) (fold-min-max pause max_time times early)) in
-    let all_ends : fold min moment (flat_map (end_of now) s.grants) ≡ min (fold min moment (flat_map (relay_end_in now) s.grants))
-    (fold min moment (flat_map (λ g. option_to_list (end_in g)) s.grants)) =
-    ap (λ (xs : List ℕ). fold min moment xs) (flat-same (end_of now) (λ g. relay_end_in now g ++ option_to_list (end_in g)) (end-parts now) s.grants)
-    ∙ fold-min-both moment (relay_end_in now) (λ g. option_to_list (end_in g)) s.grants in
-    let own_ends : fold min moment (flat_map (λ g. option_to_list (end_in g)) s.grants) ≡ min moment end =
-    ap (λ (xs : List ℕ). fold min moment xs) (flat-options end_in s.grants) ∙ fold-min-from moment max_time ends low in
-    let relay_parts : fold min moment (flat_map (relay_end_in now) s.grants) ≡ min (fold min moment one) (fold min moment two) =
-    ap (λ (xs : List ℕ). fold min moment xs) (flat-relays now s.grants ∙ (ap (relay_ends now) relays ∙ relay_ends-both now first second)) ∙ fold-min-append moment one two in
+    let whole : fold min time (all_times now pause s) ≡ min (fold min time (flat_map (end_of now) s.grants))
+    (fold min time (flat_map (λ g. map (max pause) (option_to_list (refresh_time s g))) s.grants)) =
+    fold-min-both time (end_of now) (λ g. map (max pause) (option_to_list (refresh_time s g))) s.grants in
+    let later : fold min time (flat_map (λ g. map (max pause) (option_to_list (refresh_time s g))) s.grants) ≡ min time (max pause refresh) =
+    ap (λ (xs : List ℕ). fold min time xs) (flat-mapped pause (refresh_time s) s.grants)
+    ∙ (fold-min-from time max_time (map (max pause) times) low ∙ ap (λ (k : ℕ). min time k) (fold-min-max pause max_time times early)) in
+    let all_ends : fold min time (flat_map (end_of now) s.grants) ≡ min (fold min time (flat_map (relay_end_in now) s.grants))
+    (fold min time (flat_map (λ g. option_to_list (end_in g)) s.grants)) =
+    ap (λ (xs : List ℕ). fold min time xs) (flat-same (end_of now) (λ g. relay_end_in now g ++ option_to_list (end_in g)) (end-parts now) s.grants)
+    ∙ fold-min-both time (relay_end_in now) (λ g. option_to_list (end_in g)) s.grants in
+    let own_ends : fold min time (flat_map (λ g. option_to_list (end_in g)) s.grants) ≡ min time end =
+    ap (λ (xs : List ℕ). fold min time xs) (flat-options end_in s.grants) ∙ fold-min-from time max_time ends low in
+    let relay_parts : fold min time (flat_map (relay_end_in now) s.grants) ≡ min (fold min time one) (fold min time two) =
+    ap (λ (xs : List ℕ). fold min time xs) (flat-relays now s.grants ∙ (ap (relay_ends now) relays ∙ relay_ends-both now first second)) ∙ fold-min-append time one two in
     -- the steps of the code
-    let first_step : fold min (min moment end) one ≡ min end (fold min moment one) = ap (λ (k : ℕ). fold min k one) (commuted moment end) ∙ fold-min-acc end moment one in
-    let le : fold min moment one ≤ moment = fold-min-le moment one in
-    let second_step : fold min (fold min (min moment end) one) two ≡ min (min end (fold min moment one)) (fold min moment two) =
-    ap (λ (k : ℕ). fold min k two) (first_step ∙ capped end (fold min moment one) moment le) ∙ fold-min-acc (min end (fold min moment one)) moment two in
+    let first_step : fold min (min time end) one ≡ min end (fold min time one) = ap (λ (k : ℕ). fold min k one) (commuted time end) ∙ fold-min-acc end time one in
+    let le : fold min time one ≤ time = fold-min-le time one in
+    let second_step : fold min (fold min (min time end) one) two ≡ min (min end (fold min time one)) (fold min time two) =
+    ap (λ (k : ℕ). fold min k two) (first_step ∙ capped end (fold min time one) time le) ∙ fold-min-acc (min end (fold min time one)) time two in
     omega (arith, whole, later, all_ends, own_ends, relay_parts, second_step, le)
   where
     commuted : (a b : ℕ) → min a b ≡ min b a

@@ -23,10 +23,10 @@ const REFRESH_AHEAD: u64 = 60_000_000_000;
 const SHORT_LIFETIME: u64 = 120_000_000_000;
 
 /// The time so many nanoseconds earlier, or the start of the clock if that is later.
-fn earlier(moment: Instant, nanos: u64) -> Instant
-    ensures { result ≡ moment - nanos }
+fn earlier(time: Instant, nanos: u64) -> Instant
+    ensures { result ≡ time - nanos }
 {
-    Instant::from_nanos(moment.as_nanos().saturating_sub(nanos))
+    Instant::from_nanos(time.as_nanos().saturating_sub(nanos))
 }
 
 /// When the allocation is to be refreshed.
@@ -93,32 +93,32 @@ pub(crate) fn is_refreshed(grant: &Grant) -> bool
 pub(crate) fn refresh_time(grants: &[Grant], listed: &[Listing], grant: &Grant) -> Option<Instant>
     ensures { (s : State) → result ≡ refresh_time (with_lists grants.now listed.now s) grant.now }
 {
-    let moment = refresh_time_by_kind(grant)?;
+    let time = refresh_time_by_kind(grant)?;
     if !is_in_use(grants, listed, grant) {
         return None;
     }
     if has_request(listed, grant) {
         return None;
     }
-    Some(moment)
+    Some(time)
 }
 
 /// The earlier of the time and the other one, if there is one.
-pub(crate) fn least(moment: Instant, other: Option<Instant>) -> Instant
-    ensures { result ≡ fold min moment (option_to_list other) }
+pub(crate) fn least(time: Instant, other: Option<Instant>) -> Instant
+    ensures { result ≡ fold min time (option_to_list other) }
 {
     match other {
-        Some(other) => moment.min(other),
-        None => moment,
+        Some(other) => time.min(other),
+        None => time,
     }
 }
 
 /// The time, if there is one, but not before the pause between two requests ends.
-pub(crate) fn after_pause(pause: Instant, moment: Option<Instant>) -> Option<Instant>
-    ensures { option_to_list result ≡ map (max pause) (option_to_list moment) }
+pub(crate) fn after_pause(pause: Instant, time: Option<Instant>) -> Option<Instant>
+    ensures { option_to_list result ≡ map (max pause) (option_to_list time) }
 {
-    match moment {
-        Some(moment) => Some(pause.max(moment)),
+    match time {
+        Some(time) => Some(pause.max(time)),
         None => None,
     }
 }

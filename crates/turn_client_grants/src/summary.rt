@@ -188,12 +188,12 @@ fn lapse_in(listed: &[Listing], grant: &Grant) -> Option<u64>
 }
 
 /// The earlier of the time and the other one, if there is one.
-fn least_nanos(moment: u64, other: Option<u64>) -> u64
-    ensures { result ≡ fold min moment (option_to_list other) }
+fn least_nanos(time: u64, other: Option<u64>) -> u64
+    ensures { result ≡ fold min time (option_to_list other) }
 {
     match other {
-        Some(other) => moment.min(other),
-        None => moment,
+        Some(other) => time.min(other),
+        None => time,
     }
 }
 

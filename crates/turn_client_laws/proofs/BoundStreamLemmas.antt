@@ -78,17 +78,17 @@ module _ (local peer : SocketAddr) where
   pub bringing : IsBrought (IsBoundAt local peer) (IsBindInput local peer)
   bringing = record {
     differs = λ s t differs. differs.bound local peer;
-    message = λ one over whole h. inl (same-bound one.before (message_step one.bytes one.moment one.before).1 (message-same one.bytes one.moment one.before) h);
-    binds = λ one stream of waits whole. binds one stream of waits whole (bind-leaves stream.local one.bytes one.moment one.before);
+    message = λ one over whole h. inl (same-bound one.before (message_step one.bytes one.time one.before).1 (message-same one.bytes one.time one.before) h);
+    binds = λ one stream of waits whole. binds one stream of waits whole (bind-leaves stream.local one.bytes one.time one.before);
     gone = gone-bound;
     ended = λ s h. h;
   }
     where
       binds : (one : Input) (stream : Stream) → one.stream ≡ Some stream → stream.mode ≡ Waiting → is_message one.bytes ≡ true
-          → BindsOrLeaves stream.local one.bytes one.before (bind_step stream.local one.bytes one.moment one.before)
-          → IsBoundAt local peer (bind_step stream.local one.bytes one.moment one.before) → IsBoundAt local peer one.before ⊎ IsBindInput local peer one
-      binds one stream of waits whole (inl b) h = bind-bound one stream (bind_step stream.local one.bytes one.moment one.before) of waits whole b h
-      binds one stream of waits whole (inr (leaves, same)) h = inl (same-bound one.before (bind_step stream.local one.bytes one.moment one.before) same h)
+          → BindsOrLeaves stream.local one.bytes one.before (bind_step stream.local one.bytes one.time one.before)
+          → IsBoundAt local peer (bind_step stream.local one.bytes one.time one.before) → IsBoundAt local peer one.before ⊎ IsBindInput local peer one
+      binds one stream of waits whole (inl b) h = bind-bound one stream (bind_step stream.local one.bytes one.time one.before) of waits whole b h
+      binds one stream of waits whole (inr (leaves, same)) h = inl (same-bound one.before (bind_step stream.local one.bytes one.time one.before) same h)
 
   -- a new stream waits
   opened-bound : (s t : State) → IsOpened s t → IsBoundAt local peer t → IsBoundAt local peer s

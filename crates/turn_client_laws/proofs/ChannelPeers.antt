@@ -149,7 +149,7 @@ leaves-channels call s t leaves asked distinct number peer expiry there = by (le
     turned one among turn =
         let founded = before-kept StayFounded (edits-IsKept StayFounded StayFounded-KeepsAllEdits (λ s streams h. h)) call s one among (λ l here. has-all (HasItsGrant s) l s.listed asked here) in
         let apart = before-kept _ (edits-IsKept _ (grants-KeepsAllEdits AreApart AreApart-KeepsGrants) (λ s streams h. h)) call s one among distinct in
-        (turn, by-grant number peer expiry one.bytes one.moment one.before founded apart turn.grant.0 turn.grant.1 turn.grant.2)
+        (turn, by-grant number peer expiry one.bytes one.time one.before founded apart turn.grant.0 turn.grant.1 turn.grant.2)
 
     never : (call : Call) → IsEndedNow call s channel → ⊥
     never (Delete now) e = e

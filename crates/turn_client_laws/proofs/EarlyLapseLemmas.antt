@@ -80,7 +80,7 @@ fold-rest f (x ∷ xs) s each = ap (λ t. fold f t xs) (each x (inl refl)) ∙ f
 
 -- the grant does not expire by now
 abbrev IsEarly : ℕ → State → Grant → Type 0
-IsEarly now s g = (moment : ℕ) → lapse_of s g ≡ Some moment → now < moment
+IsEarly now s g = (time : ℕ) → lapse_of s g ≡ Some time → now < time
 
 late-le : (a b : ℕ) → b < a → leb a b ≡ false
 late-le a b less = false_from_ne_true (leb a b) (λ e. let le = leb-true a b e in omega (arith, le, less))
@@ -139,9 +139,9 @@ and_then-false : (a b : Bool) → b ≡ false → (a && b) ≡ false
 and_then-false true b e = e
 and_then-false false b e = refl
 
-lapse-else : (b : Bool) (moment : ℕ) → b ≡ false → cond b None (Some moment) ≡ Some moment
-lapse-else true moment e = cc
-lapse-else false moment e = refl
+lapse-else : (b : Bool) (time : ℕ) → b ≡ false → cond b None (Some time) ≡ Some time
+lapse-else true time e = cc
+lapse-else false time e = refl
 
 -- an expired allocation with a pending request stays, and else one whose expiry has not passed
 stays-by : (past expired asked : Bool) → ((expired && asked) ≡ false → past ≡ false) → (past && (false || not asked || not expired)) ≡ false
@@ -205,11 +205,11 @@ module _ (now : ℕ) (s : State) (early : (g : Grant) → Has g s.grants → IsE
     ),
   )
 
-pub lapsed-none : (now : ℕ) (s : State) → All (λ moment. now < moment) (expiry_times s) → lapsed None now s ≡ s
+pub lapsed-none : (now : ℕ) (s : State) → All (λ time. now < time) (expiry_times s) → lapsed None now s ≡ s
 lapsed-none now s all = fold-rest (lapsed_allocation None [] now) (allocations s) s by
   where
     early : (g : Grant) → Has g s.grants → IsEarly now s g
-    early g h moment e = has-all (λ m. now < m) moment (expiry_times s) all (filter_map-has (lapse_of s) g moment s.grants h e)
+    early g h time e = has-all (λ m. now < m) time (expiry_times s) all (filter_map-has (lapse_of s) g time s.grants h e)
 
     is-allocation : (g : Grant) (a : Relay) → as_allocation g ≡ Some a → IsEarly now s g → IsEarly now s (Allocation a)
     is-allocation (Allocation b) a e is = rw (← same_Some b a e) is

@@ -152,7 +152,8 @@ module _ (Heeded : Type 0) (R : State → State → Type 0) (k : KeepsHeeded Hee
   then : (s t u : State) → R s t → R t u → R s u
   then s t u = k.edits.trans s t u
 
-  retry-walk : (s : State) (message : List ℕ) (id : ℕ) (purpose : Purpose) (d : Challenge) (now : ℕ) → IsBegun s.phase → challenge_in s message ≡ Some d → ltb s.challenges s.config.max_stale_nonces ≡ true
+  retry-walk : (s : State) (message : List ℕ) (id : ℕ) (purpose : Purpose) (d : Challenge) (now : ℕ) → IsBegun s.phase
+      → challenge_in s message ≡ Some d → ltb s.challenges s.config.max_stale_nonces ≡ true
       → Has purpose (purposes_of id s) → R s (state_after_retry s id purpose d now)
   retry-walk s message id purpose d now begun e few answers =
       let a = with_held d s in

@@ -31,7 +31,7 @@ use Rattle.turn_client_api.specs.Receive.{connection_gone}
 use Rattle.turn_client_api.specs.Requests.{request_started, channel_bind_method, connect_method, create_permission_method, refresh_method, request_for, requested}
 use Rattle.turn_client_api.specs.Payloads.{is_answered}
 use Rattle.turn_client_laws.specs.LawsOrder.{IsBegun, IsUngranted}
-use Rattle.turn_client_api.specs.Poll.{told, first_reported, unreported_in}
+use Rattle.turn_client_api.specs.Poll.{as_reported, first_reported, unreported_in}
 use Rattle.turn_client_laws.proofs.HasLemmas.{Has, filter-has, has-filter, has-filter_map, has-left, map-has}
 use Rattle.turn_client_laws.proofs.Edits.{IsAskable, IsSpelled, KeepsEdits, SparesAllocations, listing, outline, AllocationsStay, KeepsHeeded, aged}
 
@@ -73,7 +73,7 @@ deadline-outline local deadline (Channel number peer progress) = refl
 deadline-outline local deadline (Connect peer) = refl
 deadline-outline local deadline (Offer offer) = refl
 
-told-aged : (g : Grant) → aged (told g) ≡ aged g
+told-aged : (g : Grant) → aged (as_reported g) ≡ aged g
 told-aged (Offer offer) = refl
 told-aged (Allocation a) = refl
 told-aged (Permission ip progress) = refl
@@ -85,7 +85,7 @@ pub told-alike : (family : AddressFamily) (gs : List Grant) → map aged (first_
 told-alike family [] = refl
 told-alike family (g ∷ gs) = by (is_some (unreported_in family g)) (told-alike family gs)
   where
-    by : (b : Bool) → map aged (first_reported family gs) ≡ map aged gs → map aged (cond b (told g ∷ gs) (g ∷ first_reported family gs)) ≡ map aged (g ∷ gs)
+    by : (b : Bool) → map aged (first_reported family gs) ≡ map aged gs → map aged (cond b (as_reported g ∷ gs) (g ∷ first_reported family gs)) ≡ map aged (g ∷ gs)
     by true later = rw (told-aged g) refl
     by false later = rw later refl
 

@@ -27,7 +27,7 @@ use Rattle.turn_client_api.specs.Effect.{closed, transaction_ended, reserved}
 use Rattle.turn_client_api.specs.Due.{has_event, has_reply}
 use Rattle.turn_client_api.specs.Poll.{answer_by, answer_step, channel_lapsed, connections_unbound, failed, timed_out_step, allocation_expires, failed_by_timeout, is_timed_out_offer}
 use Rattle.turn_client_api.specs.Poll.{is_lapsed_channel, is_listed_for_allocation, is_over, lapsed, lapsed_allocation, lapsed_in, last_channel_lapsed, next_offer, offer_step, offers_timed_out}
-use Rattle.turn_client_api.specs.Poll.{permissions_lapsed, poll_step, refreshes_timed_out, set_free, timed_step, told, first_reported, unbound, unreported_in, timed_out_purposes}
+use Rattle.turn_client_api.specs.Poll.{permissions_lapsed, poll_step, refreshes_timed_out, set_free, timed_step, as_reported, first_reported, unbound, unreported_in, timed_out_purposes}
 use Rattle.turn_client_laws.specs.LawsBodies.{TellsOfFailed, can_fail, max_failures}
 use Rattle.turn_client_api.specs.declared.event.TurnEvent.{TurnEvent}
 use Rattle.turn_client_api.specs.declared.event.TurnEvent.TheVariants.{AllocationCreateFailed}
@@ -134,10 +134,10 @@ told-count transport which (g ∷ gs) spares = by (which g) refl (told-count tra
 failed-tells : (which : Grant → Bool) (s : State) → Spares which → TellsOfFailed s (failed which s)
 unfolding count told_of
 failed-tells which s spares =
-    let told = told-count s.config.allocation_transport which s.grants spares in
+    let as_reported = told-count s.config.allocation_transport which s.grants spares in
     let front = length-append (reverse (failures_among which s)) s.events in
     let turned = length-reverse (failures_among which s) in
-    omega (arith, told, front, turned)
+    omega (arith, as_reported, front, turned)
 
 unbound-tells : (which : Grant → Bool) (s : State) → Spares which → TellsOfFailed s (unbound which s)
 unbound-tells which s spares = failed-tells which s spares
@@ -287,7 +287,7 @@ unfolding count
 told-can_fail family [] = refl
 told-can_fail family (g ∷ gs) = by (is_some (unreported_in family g)) (told-can_fail family gs)
   where
-    same : (g : Grant) → count (told g ∷ gs) ≡ count (g ∷ gs)
+    same : (g : Grant) → count (as_reported g ∷ gs) ≡ count (g ∷ gs)
     same (Offer offer) = refl
     same (Allocation a) = refl
     same (Permission ip progress) = refl
@@ -295,7 +295,7 @@ told-can_fail family (g ∷ gs) = by (is_some (unreported_in family g)) (told-ca
     same (Connect peer) = refl
     same (Connection c) = refl
 
-    by : (b : Bool) → count (first_reported family gs) ≡ count gs → count (cond b (told g ∷ gs) (g ∷ first_reported family gs)) ≡ count (g ∷ gs)
+    by : (b : Bool) → count (first_reported family gs) ≡ count gs → count (cond b (as_reported g ∷ gs) (g ∷ first_reported family gs)) ≡ count (g ∷ gs)
     by true later = same g
     by false later = omega (arith, later, count-cons g (first_reported family gs), count-cons g gs)
 

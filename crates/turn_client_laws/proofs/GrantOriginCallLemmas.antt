@@ -32,23 +32,23 @@ use Rattle.turn_client_laws.proofs.StandLemmas.{Leaves, Left, kept-same, kept-tr
 
 -- ---- data connections
 
-deadline-kept : (local : SocketAddr) (moment : ℕ) (g : Grant) → IsActiveGrant (deadline_set local (Some moment) g) → IsSameGrant g (deadline_set local (Some moment) g)
-deadline-kept local moment (Connection c) = by (same_address c.local local)
+deadline-kept : (local : SocketAddr) (time : ℕ) (g : Grant) → IsActiveGrant (deadline_set local (Some time) g) → IsSameGrant g (deadline_set local (Some time) g)
+deadline-kept local time (Connection c) = by (same_address c.local local)
   where
     waits : Grant
-    waits = Connection (record c { deadline = Some moment })
+    waits = Connection (record c { deadline = Some time })
 
     by : (b : Bool) → IsActiveGrant (cond b waits (Connection c)) → IsSameGrant (Connection c) (cond b waits (Connection c))
-    by true stands = absurd (none-some moment (sym stands))
+    by true stands = absurd (none-some time (sym stands))
     by false stands = kept-same (Connection c) stands
-deadline-kept local moment (Allocation a) = kept-same (Allocation a)
-deadline-kept local moment (Permission ip progress) = kept-same (Permission ip progress)
-deadline-kept local moment (Channel number peer progress) = kept-same (Channel number peer progress)
-deadline-kept local moment (Connect peer) = kept-same (Connect peer)
-deadline-kept local moment (Offer offer) = kept-same (Offer offer)
+deadline-kept local time (Allocation a) = kept-same (Allocation a)
+deadline-kept local time (Permission ip progress) = kept-same (Permission ip progress)
+deadline-kept local time (Channel number peer progress) = kept-same (Channel number peer progress)
+deadline-kept local time (Connect peer) = kept-same (Connect peer)
+deadline-kept local time (Offer offer) = kept-same (Offer offer)
 
-deadline-left : (local : SocketAddr) (moment : ℕ) (grants : List Grant) → Left grants (map (deadline_set local (Some moment)) grants)
-deadline-left local moment grants = left-map (deadline_set local (Some moment)) (deadline-kept local moment) grants
+deadline-left : (local : SocketAddr) (time : ℕ) (grants : List Grant) → Left grants (map (deadline_set local (Some time)) grants)
+deadline-left local time grants = left-map (deadline_set local (Some time)) (deadline-kept local time) grants
 
 again-leaves : (c : DataConnection) (id : ℕ) (d : Challenge) (now : ℕ) (s : State) → Leaves s (bind_again c id d now s)
 again-leaves c id d now s = by (find (is_bind_of c.local) (purposes_of id s)) refl

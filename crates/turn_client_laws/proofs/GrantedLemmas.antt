@@ -66,21 +66,21 @@ delete-ends now s g = by (is_allocated s.phase)
 -- ---- what the inputs of a call grant
 
 -- an allocation, a permission or a channel is granted over the control connection
-control-grants : (g : Grant) (one : Input) → IsOverControl one → is_message one.bytes ≡ true → Covers (message_step one.bytes one.moment one.before).1.grants g → Covers one.before.grants g
+control-grants : (g : Grant) (one : Input) → IsOverControl one → is_message one.bytes ≡ true → Covers (message_step one.bytes one.time one.before).1.grants g → Covers one.before.grants g
     ⊎ IsGrantedIn g one
-control-grants g one over whole covers = by g (message-brings g one.bytes one.moment one.before covers)
+control-grants g one over whole covers = by g (message-brings g one.bytes one.time one.before covers)
   where
     Grants : Grant → Type 0
-    Grants g = IsGrant g one.bytes one.moment one.before
+    Grants g = IsGrant g one.bytes one.time one.before
 
     turn : (g : Grant) → Grants g → IsGrantInput g one
     turn g grant = record { over = over; whole = whole; grant = grant }
 
     -- a connection is not
-    connection : (c : DataConnection) (was : Grant) → IsGrantedBy one.bytes one.moment one.before was → IsSameGrant was (Connection c) → ⊥
+    connection : (c : DataConnection) (was : Grant) → IsGrantedBy one.bytes one.time one.before was → IsSameGrant was (Connection c) → ⊥
     connection c (Connection d) is kept = unlike is.purpose is.given
       where
-        unlike : (p : Purpose) → IsGivenFor p one.bytes one.moment one.before (Connection d) → ⊥
+        unlike : (p : Purpose) → IsGivenFor p one.bytes one.time one.before (Connection d) → ⊥
         unlike ForAllocation given = given
         unlike (ForRefresh family lifetime) given = given
         unlike (ForPermission ip) given = given
@@ -145,14 +145,14 @@ pub bringing : (g : Grant) → IsBrought (λ s. Covers s.grants g) (IsGrantedIn 
 bringing g = record {
   differs = λ s t differs covers. subst (λ (x : List Grant). Covers x g) (ap (λ (x : State). x.grants) differs.others) covers;
   message = control-grants g;
-  binds = λ one stream of waits whole. binds one stream of waits whole (bind-leaves stream.local one.bytes one.moment one.before);
+  binds = λ one stream of waits whole. binds one stream of waits whole (bind-leaves stream.local one.bytes one.time one.before);
   gone = λ local s. covers-left s.grants (connection_gone local s).grants g (gone-leaves local s);
   ended = λ s covers. covers;
 }
   where
     binds : (one : Input) (stream : Stream) → one.stream ≡ Some stream → stream.mode ≡ Waiting → is_message one.bytes ≡ true
-        → BindsOrLeaves stream.local one.bytes one.before (bind_step stream.local one.bytes one.moment one.before)
-        → Covers (bind_step stream.local one.bytes one.moment one.before).grants g → Covers one.before.grants g ⊎ IsGrantedIn g one
+        → BindsOrLeaves stream.local one.bytes one.before (bind_step stream.local one.bytes one.time one.before)
+        → Covers (bind_step stream.local one.bytes one.time one.before).grants g → Covers one.before.grants g ⊎ IsGrantedIn g one
     binds one stream of waits whole (inl b) covers = bind-covers one stream g _ of waits whole b covers
     binds one stream of waits whole (inr (leaves, same)) covers = inl (covers-left one.before.grants _ g leaves covers)
 

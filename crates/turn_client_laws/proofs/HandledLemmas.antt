@@ -158,7 +158,7 @@ recv_over Udp transport from to bytes now s = by (is_from_server transport from 
     u = record s { transport = Udp }
 
     one : Input
-    one = record { stream = None; bytes = bytes; is_lent = true; moment = now; before = u }
+    one = record { stream = None; bytes = bytes; is_lent = true; time = now; before = u }
 
     by : (b c : Bool) → AreOf (cond b (cond c (one ∷ []) []) []) (cond {A = Outcome × State} b (cond {A = Outcome × State} c (datagram_step bytes now u) (Ignored, u)) (Ignored, u)).0
     by true true = one-AreOf one
@@ -191,8 +191,8 @@ pub turn-IsFromPermitted : (t : Input) → IsPermittedInput t
 turn-IsFromPermitted t = by t.stream t
   where
     by : (o : Option Stream) (t : Input) → IsPermittedInput (record t { stream = o })
-    by None t = datagram-IsMessageFromPermitted t.bytes t.moment t.before
-    by (Some stream) t = frame-IsFromPermitted stream t.bytes t.moment t.before
+    by None t = datagram-IsMessageFromPermitted t.bytes t.time t.before
+    by (Some stream) t = frame-IsFromPermitted stream t.bytes t.time t.before
 
 -- ---- the input that returns it
 
@@ -280,7 +280,7 @@ tells_over Udp transport from to bytes now s = by (is_from_server transport from
     u = record s { transport = Udp }
 
     one : Input
-    one = record { stream = None; bytes = bytes; is_lent = true; moment = now; before = u }
+    one = record { stream = None; bytes = bytes; is_lent = true; time = now; before = u }
 
     by : (b c : Bool) → Tells (cond b (cond c (one ∷ []) []) []) (cond {A = Outcome × State} b (cond {A = Outcome × State} c (datagram_step bytes now u) (Ignored, u)) (Ignored, u)).0
     by true true h = (one, inl refl, refl)

@@ -128,18 +128,18 @@ stray-grants message now s answers none = by (judgement_of s message) refl (judg
 -- ---- it binds no connection
 
 -- a connection that is bound is unchanged if another one waits anew
-deadline-has : (local : SocketAddr) (moment : ℕ) (c : DataConnection) (gs : List Grant) (s : State) → c.deadline ≡ None
-    → Has (Connection c) (with_deadline local (Some moment) (record s { grants = gs })).grants → Has (Connection c) gs
-deadline-has local moment c [] s none h = absurd h
-deadline-has local moment c (Connection d ∷ gs) s none h = by (same_address d.local local) refl (deadline-has local moment c gs s none)
+deadline-has : (local : SocketAddr) (time : ℕ) (c : DataConnection) (gs : List Grant) (s : State) → c.deadline ≡ None
+    → Has (Connection c) (with_deadline local (Some time) (record s { grants = gs })).grants → Has (Connection c) gs
+deadline-has local time c [] s none h = absurd h
+deadline-has local time c (Connection d ∷ gs) s none h = by (same_address d.local local) refl (deadline-has local time c gs s none)
   where
     Later : Type 0
-    Later = Has (Connection c) (with_deadline local (Some moment) (record s { grants = gs })).grants
+    Later = Has (Connection c) (with_deadline local (Some time) (record s { grants = gs })).grants
 
-    waits : Connection c ≡ Connection (record d { deadline = Some moment }) → ⊥
-    waits e = let same : c ≡ record d { deadline = Some moment } = cc in none-some moment (sym none ∙ ap (λ (x : DataConnection). x.deadline) same)
+    waits : Connection c ≡ Connection (record d { deadline = Some time }) → ⊥
+    waits e = let same : c ≡ record d { deadline = Some time } = cc in none-some time (sym none ∙ ap (λ (x : DataConnection). x.deadline) same)
 
-    anew : (Connection c ≡ Connection (record d { deadline = Some moment })) ⊎ Later → (Later → Has (Connection c) gs) → Has (Connection c) (Connection d ∷ gs)
+    anew : (Connection c ≡ Connection (record d { deadline = Some time })) ⊎ Later → (Later → Has (Connection c) gs) → Has (Connection c) (Connection d ∷ gs)
     anew (inl e) later = absurd (waits e)
     anew (inr there) later = inr (later there)
 
@@ -150,16 +150,16 @@ deadline-has local moment c (Connection d ∷ gs) s none h = by (same_address d.
     by : (b : Bool) → same_address d.local local ≡ b → (Later → Has (Connection c) gs) → Has (Connection c) (Connection d ∷ gs)
     by true e later = anew (rw e at h) later
     by false e later = stays (rw e at h) later
-deadline-has local moment c (Allocation a ∷ gs) s none (inl e) = inl e
-deadline-has local moment c (Allocation a ∷ gs) s none (inr h) = inr (deadline-has local moment c gs s none h)
-deadline-has local moment c (Permission ip progress ∷ gs) s none (inl e) = inl e
-deadline-has local moment c (Permission ip progress ∷ gs) s none (inr h) = inr (deadline-has local moment c gs s none h)
-deadline-has local moment c (Channel number peer progress ∷ gs) s none (inl e) = inl e
-deadline-has local moment c (Channel number peer progress ∷ gs) s none (inr h) = inr (deadline-has local moment c gs s none h)
-deadline-has local moment c (Connect peer ∷ gs) s none (inl e) = inl e
-deadline-has local moment c (Connect peer ∷ gs) s none (inr h) = inr (deadline-has local moment c gs s none h)
-deadline-has local moment c (Offer offer ∷ gs) s none (inl e) = inl e
-deadline-has local moment c (Offer offer ∷ gs) s none (inr h) = inr (deadline-has local moment c gs s none h)
+deadline-has local time c (Allocation a ∷ gs) s none (inl e) = inl e
+deadline-has local time c (Allocation a ∷ gs) s none (inr h) = inr (deadline-has local time c gs s none h)
+deadline-has local time c (Permission ip progress ∷ gs) s none (inl e) = inl e
+deadline-has local time c (Permission ip progress ∷ gs) s none (inr h) = inr (deadline-has local time c gs s none h)
+deadline-has local time c (Channel number peer progress ∷ gs) s none (inl e) = inl e
+deadline-has local time c (Channel number peer progress ∷ gs) s none (inr h) = inr (deadline-has local time c gs s none h)
+deadline-has local time c (Connect peer ∷ gs) s none (inl e) = inl e
+deadline-has local time c (Connect peer ∷ gs) s none (inr h) = inr (deadline-has local time c gs s none h)
+deadline-has local time c (Offer offer ∷ gs) s none (inl e) = inl e
+deadline-has local time c (Offer offer ∷ gs) s none (inr h) = inr (deadline-has local time c gs s none h)
 
 -- a connection that is bound afterwards existed before
 abbrev BindsNothing : DataConnection → State → State → Type 0

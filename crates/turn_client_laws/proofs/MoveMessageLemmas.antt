@@ -417,9 +417,9 @@ frame_in_mode (Bound peer) stream bytes now s = turns-same _ bytes now s
 frame_in_mode Broken stream bytes now s = turns-same _ bytes now s
 
 -- an input that is processed requests this, and removes grants so
-pub turn-turns : (one : Input) → Turns (λ g. IsRemovedByInput g one) one.bytes one.moment one.before (processed one).1
+pub turn-turns : (one : Input) → Turns (λ g. IsRemovedByInput g one) one.bytes one.time one.before (processed one).1
 turn-turns one = by one.stream
   where
-    by : (o : Option Stream) → Turns (λ g. IsRemovedByInput g (record one { stream = o })) one.bytes one.moment one.before (processed (record one { stream = o })).1
-    by None = datagram-turns one.bytes one.moment one.before
-    by (Some stream) = frame_in_mode stream.mode stream one.bytes one.moment one.before
+    by : (o : Option Stream) → Turns (λ g. IsRemovedByInput g (record one { stream = o })) one.bytes one.time one.before (processed (record one { stream = o })).1
+    by None = datagram-turns one.bytes one.time one.before
+    by (Some stream) = frame_in_mode stream.mode stream one.bytes one.time one.before

@@ -25,7 +25,7 @@ use Rattle.turn_client_api.specs.Effect.{closed, transaction_ended}
 use Rattle.turn_client_api.specs.Due.{has_event, has_reply, is_paused}
 use Rattle.turn_client_api.specs.Poll.{answer_by, answer_step, channel_lapsed, connections_unbound, timed_out_purposes, timed_out_step, allocation_expires, failed_by_timeout, is_lapsed_channel}
 use Rattle.turn_client_api.specs.Poll.{is_listed_for_allocation, lapsed, lapsed_allocation, lapsed_in, last_channel_lapsed, next_offer, offer_step, offers_timed_out, permissions_lapsed, poll_step}
-use Rattle.turn_client_api.specs.Poll.{refreshes_timed_out, set_free, timed_step, told, first_reported, unreported_in}
+use Rattle.turn_client_api.specs.Poll.{refreshes_timed_out, set_free, timed_step, as_reported, first_reported, unreported_in}
 use Rattle.turn_client_api.specs.Transmit.{idle_step, queue_step, refreshes_in, reply_step, sent, sent_at_once, transmit_step}
 use Rattle.turn_client_api.specs.declared.call.Call.{Call}
 use Rattle.turn_client_api.specs.declared.call.Call.TheVariants.{Poll, PollTransmit}
@@ -212,7 +212,7 @@ pub told-loses : (Taken : Grant → Type 0) (family : AddressFamily) (gs : List 
 told-loses Taken family [] g h = absurd h
 told-loses Taken family (x ∷ gs) g h = by (is_some (unreported_in family x)) h (told-loses Taken family gs g)
   where
-    told-grant_identity : (g : Grant) → grant_identity g ≡ grant_identity (told g)
+    told-grant_identity : (g : Grant) → grant_identity g ≡ grant_identity (as_reported g)
     told-grant_identity (Offer offer) = refl
     told-grant_identity (Allocation a) = refl
     told-grant_identity (Permission ip progress) = refl
@@ -224,8 +224,8 @@ told-loses Taken family (x ∷ gs) g h = by (is_some (unreported_in family x)) h
     further (inl (is, there, same)) = inl (is, inr there, same)
     further (inr taken) = inr taken
 
-    by : (b : Bool) → Has g (x ∷ gs) → (Has g gs → Remains g (first_reported family gs) ⊎ Taken g) → Remains g (cond b (told x ∷ gs) (x ∷ first_reported family gs)) ⊎ Taken g
-    by true (inl is) later = inl (told x, inl refl, rw is (told-grant_identity x))
+    by : (b : Bool) → Has g (x ∷ gs) → (Has g gs → Remains g (first_reported family gs) ⊎ Taken g) → Remains g (cond b (as_reported x ∷ gs) (x ∷ first_reported family gs)) ⊎ Taken g
+    by true (inl is) later = inl (as_reported x, inl refl, rw is (told-grant_identity x))
     by true (inr there) later = inl (g, inr there, refl)
     by false (inl is) later = inl (g, inl is, refl)
     by false (inr there) later = further (later there)

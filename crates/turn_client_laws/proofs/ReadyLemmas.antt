@@ -114,12 +114,12 @@ empty (q ∷ qs) no_reply no_request = by q.is_request refl
     by false is = let h : true ≡ false = rw is at no_reply in cc
 
 -- what is before the later of two times, and not before the first, is before the second
-early : (m moment least pause : ℕ) → m < least → least ≤ max pause moment → pause ≤ m → leb moment m ≡ false
-early m moment least pause before later over = by (leb moment m) refl
+early : (m time least pause : ℕ) → m < least → least ≤ max pause time → pause ≤ m → leb time m ≡ false
+early m time least pause before later over = by (leb time m) refl
   where
-    by : (b : Bool) → leb moment m ≡ b → leb moment m ≡ false
+    by : (b : Bool) → leb time m ≡ b → leb time m ≡ false
     by false e = e
-    by true e = absurd (omega (arith, before, later, max-le {a = pause} {b = moment} {k = m} over (leb-true moment m e)))
+    by true e = absurd (omega (arith, before, later, max-le {a = pause} {b = time} {k = m} over (leb-true time m e)))
 
 -- no refresh is due before the pause has ended and its own time has come
 not_refreshed : (now m : ℕ) (t : State) → m < least_due now t → is_paused m t ≡ false → (g : Grant) → Has g t.grants → is_refresh_due m t g ≡ false
@@ -128,9 +128,9 @@ not_refreshed now m t before idle g h = by (refresh_time t g) refl
   where
     by : (r : Option ℕ) → refresh_time t g ≡ r → is_refresh_due m t g ≡ false
     by None none = rw none refl
-    by (Some moment) some =
-        let later : least_due now t ≤ max (pause_end t) moment = least-grant now (max (pause_end t) moment) t g h (has-right _ (end_of now g) _ (rw some (inl refl))) in
-        rw some (early m moment (least_due now t) (pause_end t) before later (ltb-false m (pause_end t) idle))
+    by (Some time) some =
+        let later : least_due now t ≤ max (pause_end t) time = least-grant now (max (pause_end t) time) t g h (has-right _ (end_of now g) _ (rw some (inl refl))) in
+        rw some (early m time (least_due now t) (pause_end t) before later (ltb-false m (pause_end t) idle))
 
 -- ---- an idle client
 
@@ -328,9 +328,9 @@ used-due : (now : ℕ) (t : State) (g : Grant) → is_refresh_due now t g ≡ tr
 unfolding refresh_time
 used-due now t g due = by (is_refreshable g t) refl
   where
-    none : (used request : Bool) (o : Option ℕ) → used ≡ false → option_and_then (λ (moment : ℕ). if used && request then Some moment else None) o ≡ None
+    none : (used request : Bool) (o : Option ℕ) → used ≡ false → option_and_then (λ (time : ℕ). if used && request then Some time else None) o ≡ None
     none false request None e = refl
-    none false request (Some moment) e = refl
+    none false request (Some time) e = refl
     none true request o e = let no : true ≡ false = e in cc
 
     by : (b : Bool) → is_refreshable g t ≡ b → is_refreshable g t ≡ true
@@ -422,14 +422,14 @@ refresh-later now m t g pause h = by (refresh_time t g) refl
   where
     by : (o : Option ℕ) → refresh_time t g ≡ o → now < m
     by None e = absurd (rw e at h)
-    by (Some moment) e = at (rw e at h)
+    by (Some time) e = at (rw e at h)
       where
-        later : (b : Bool) → leb moment now ≡ b → now < max (pause_end t) moment
-        later true f = omega (arith, pause (rw e (rw f refl)), le-max_left (pause_end t) moment)
-        later false f = omega (arith, leb-false moment now f, le-max_right (pause_end t) moment)
+        later : (b : Bool) → leb time now ≡ b → now < max (pause_end t) time
+        later true f = omega (arith, pause (rw e (rw f refl)), le-max_left (pause_end t) time)
+        later false f = omega (arith, leb-false time now f, le-max_right (pause_end t) time)
 
-        at : (m ≡ max (pause_end t) moment) ⊎ ⊥ → now < m
-        at (inl same) = rw same (later (leb moment now) refl)
+        at : (m ≡ max (pause_end t) time) ⊎ ⊥ → now < m
+        at (inl same) = rw same (later (leb time now) refl)
         at (inr none) = absurd none
 
 -- what is due of a grant that is active is later than now, except a refresh whose time has come

@@ -27,8 +27,8 @@ use Rattle.turn_client_laws.proofs.TurnEndLemmas.{calls-end}
 -- the client, causes nothing.
 pub record IsBrought (P : State → Type 0) (Did : Input → Type 0) : Type 0 where
   pub differs : (s t : State) → DiffersInStreams s t → P t → P s
-  pub message : (one : Input) → IsOverControl one → is_message one.bytes ≡ true → P (message_step one.bytes one.moment one.before).1 → P one.before ⊎ Did one
-  pub binds : (one : Input) (stream : Stream) → one.stream ≡ Some stream → stream.mode ≡ Waiting → is_message one.bytes ≡ true → P (bind_step stream.local one.bytes one.moment one.before)
+  pub message : (one : Input) → IsOverControl one → is_message one.bytes ≡ true → P (message_step one.bytes one.time one.before).1 → P one.before ⊎ Did one
+  pub binds : (one : Input) (stream : Stream) → one.stream ≡ Some stream → stream.mode ≡ Waiting → is_message one.bytes ≡ true → P (bind_step stream.local one.bytes one.time one.before)
       → P one.before ⊎ Did one
   pub gone : (local : SocketAddr) (s : State) → P (connection_gone local s) → P s
   pub ended : (s : State) → P (closed s) → P s
@@ -43,7 +43,7 @@ module _ (P : State → Type 0) (Did : Input → Type 0) (k : IsBrought P Did) w
   datagram-brings : (one : Input) → one.stream ≡ None → P (processed (record one { stream = None })).1 → Brings one
   datagram-brings one of = by (is_message one.bytes) refl (is_channel_frame one.bytes)
     where
-      by : (b : Bool) → is_message one.bytes ≡ b → (c : Bool) → P (cond {A = Outcome × State} b (message_step one.bytes one.moment one.before)
+      by : (b : Bool) → is_message one.bytes ≡ b → (c : Bool) → P (cond {A = Outcome × State} b (message_step one.bytes one.time one.before)
           (cond {A = Outcome × State} c (channel_sent one.before one.bytes, one.before) (Ignored, one.before))).1 → Brings one
       by true e c h = k.message one (rw of tt) e h
       by false e true h = inl h
@@ -53,7 +53,7 @@ module _ (P : State → Type 0) (Did : Input → Type 0) (k : IsBrought P Did) w
   control-brings one stream of mode = by (not (begins_message one.bytes)) (is_message one.bytes) refl
     where
       by : (b c : Bool) → is_message one.bytes ≡ c → P (cond {A = Outcome × State} b (channel_sent one.before one.bytes, one.before)
-          (cond {A = Outcome × State} c (message_step one.bytes one.moment one.before) (Handled, one.before))).1 → Brings one
+          (cond {A = Outcome × State} c (message_step one.bytes one.time one.before) (Handled, one.before))).1 → Brings one
       by true c e h = inl h
       by false true e h = k.message one (rw of mode) e h
       by false false e h = inl h
@@ -62,7 +62,7 @@ module _ (P : State → Type 0) (Did : Input → Type 0) (k : IsBrought P Did) w
   waiting-brings one stream of mode = by (not (begins_message one.bytes)) (is_message one.bytes) refl
     where
       by : (b c : Bool) → is_message one.bytes ≡ c → P (cond {A = Outcome × State} b (Ignored, one.before)
-          (cond {A = Outcome × State} c (Handled, bind_step stream.local one.bytes one.moment one.before) (Handled, one.before))).1 → Brings one
+          (cond {A = Outcome × State} c (Handled, bind_step stream.local one.bytes one.time one.before) (Handled, one.before))).1 → Brings one
       by true c e h = inl h
       by false true e h = k.binds one stream of mode e h
       by false false e h = inl h

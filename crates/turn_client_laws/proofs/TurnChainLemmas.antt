@@ -177,7 +177,7 @@ recv_over Udp transport from to bytes now s = by (is_from_server transport from 
     u = record s { transport = Udp }
 
     one : Input
-    one = record { stream = None; bytes = bytes; is_lent = true; moment = now; before = u }
+    one = record { stream = None; bytes = bytes; is_lent = true; time = now; before = u }
 
     by : (b c : Bool) → Does (cond b (cond c (one ∷ []) []) []) u (cond {A = Outcome × State} b (cond {A = Outcome × State} c (datagram_step bytes now u) (Ignored, u)) (Ignored, u)).1
     by true true = inl (differs-same u, differs-same (processed one).1)

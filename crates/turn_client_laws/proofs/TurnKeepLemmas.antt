@@ -20,8 +20,8 @@ module _ (R : State → State → Type 0) (k : IsKept R) where
   made-kept one = by one.stream
     where
       by : (o : Option Stream) → R one.before (processed (record one { stream = o })).1
-      by None = datagram-kept R k one.bytes one.moment one.before
-      by (Some stream) = frame-kept R k stream one.bytes one.moment one.before
+      by None = datagram-kept R k one.bytes one.time one.before
+      by (Some stream) = frame-kept R k stream one.bytes one.time one.before
 
   differs-kept : (s t : State) → DiffersInStreams s t → R s t
   differs-kept s t differs = subst (R s) (sym differs.others) (k.streams s t.streams)

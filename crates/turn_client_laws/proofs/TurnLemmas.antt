@@ -27,17 +27,17 @@ pub record IsBringing (P : State → Type 0) (Did : Deed) : Type 0 where
 module _ (P : State → Type 0) (Did : Deed) (k : IsBringing P Did) where
   -- the input is a whole message, which did it
   abbrev DidIn : Input → Type 0
-  DidIn one = (is_message one.bytes ≡ true) × Did one.bytes one.moment one.before
+  DidIn one = (is_message one.bytes ≡ true) × Did one.bytes one.time one.before
 
-  whole-did : (one : Input) → is_message one.bytes ≡ true → P one.before ⊎ Did one.bytes one.moment one.before → P one.before ⊎ DidIn one
+  whole-did : (one : Input) → is_message one.bytes ≡ true → P one.before ⊎ Did one.bytes one.time one.before → P one.before ⊎ DidIn one
   whole-did one whole (inl there) = inl there
   whole-did one whole (inr did) = inr (whole, did)
 
   pub brought : IsBrought P DidIn
   brought = record {
     differs = λ s t differs h. k.streams s t.streams (subst P differs.others h);
-    message = λ one over whole h. whole-did one whole (k.message one.bytes one.moment one.before whole h);
-    binds = λ one stream of waits whole h. whole-did one whole (k.binds stream.local one.bytes one.moment one.before whole h);
+    message = λ one over whole h. whole-did one whole (k.message one.bytes one.time one.before whole h);
+    binds = λ one stream of waits whole h. whole-did one whole (k.binds stream.local one.bytes one.time one.before whole h);
     gone = k.gone;
     ended = k.ended;
   }

@@ -250,7 +250,7 @@ turn-two : (one : Input) → AllAmongTwo one.before → AllAmongTwo (processed o
 turn-two one h =
     two-more (λ p. Has (listing (id_of one.bytes) p) one.before.listed) one.before (processed one).1 (h (id_of one.bytes)) (λ l there. by l ((turn-turns one).1 l there)) h
   where
-    by : (l : Listing) → Has l one.before.listed ⊎ IsListedAgain one.bytes one.moment one.before (processed one).1 l → Has l one.before.listed
+    by : (l : Listing) → Has l one.before.listed ⊎ IsListedAgain one.bytes one.time one.before (processed one).1 l → Has l one.before.listed
         ⊎ ((l.id ≡ fresh_id one.before) × Has (listing (id_of one.bytes) l.purpose) one.before.listed)
     by l (inl old) = inl old
     by l (inr (purpose, asked, answers, (made, is))) = inr (is, purpose-with (id_of one.bytes) l.purpose one.before (contains-has l.purpose (purposes_of (id_of one.bytes) one.before) answers))

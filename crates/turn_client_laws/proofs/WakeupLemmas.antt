@@ -15,10 +15,10 @@ use Rattle.turn_client_api.specs.declared.event.TurnEvent.{TurnEvent}
 use Rattle.turn_client_laws.proofs.PeerLemmas.{Contains-here, Contains-later}
 
 -- the earliest of some times and one more
-pub record IsFolded (first least : ℕ) (moments : List ℕ) : Type 0 where
+pub record IsFolded (first least : ℕ) (times : List ℕ) : Type 0 where
   pub below : least ≤ first
-  pub below_all : All (λ other. least ≤ other) moments
-  pub one : (least ≡ first) ⊎ Contains moments least
+  pub below_all : All (λ other. least ≤ other) times
+  pub one : (least ≡ first) ⊎ Contains times least
 
 min-one : (a b : ℕ) → (min a b ≡ a) ⊎ (min a b ≡ b)
 min-one a b = by (cases_lt a b)
@@ -27,40 +27,40 @@ min-one a b = by (cases_lt a b)
     by (inl h) = inl (min-eq_left (omega (arith, h)))
     by (inr h) = inr (omega (arith, h))
 
-fold-IsFolded : (first : ℕ) (moments : List ℕ) → IsFolded first (fold min first moments) moments
+fold-IsFolded : (first : ℕ) (times : List ℕ) → IsFolded first (fold min first times) times
 fold-IsFolded first [] = record { below = omega arith; below_all = All-nil _; one = inl refl }
-fold-IsFolded first (m ∷ moments) = by (fold-IsFolded (min first m) moments)
+fold-IsFolded first (m ∷ times) = by (fold-IsFolded (min first m) times)
   where
     least : ℕ
-    least = fold min (min first m) moments
+    least = fold min (min first m) times
 
-    which : (least ≡ min first m) ⊎ Contains moments least → (least ≡ first) ⊎ Contains (m ∷ moments) least
-    which (inr there) = inr (Contains-later least m moments there)
+    which : (least ≡ min first m) ⊎ Contains times least → (least ≡ first) ⊎ Contains (m ∷ times) least
+    which (inr there) = inr (Contains-later least m times there)
     which (inl is) = pick (min-one first m)
       where
-        pick : (min first m ≡ first) ⊎ (min first m ≡ m) → (least ≡ first) ⊎ Contains (m ∷ moments) least
+        pick : (min first m ≡ first) ⊎ (min first m ≡ m) → (least ≡ first) ⊎ Contains (m ∷ times) least
         pick (inl e) = inl (is ∙ e)
-        pick (inr e) = inr (rw (is ∙ e) (Contains-here m moments))
+        pick (inr e) = inr (rw (is ∙ e) (Contains-here m times))
 
-    by : IsFolded (min first m) least moments → IsFolded first least (m ∷ moments)
+    by : IsFolded (min first m) least times → IsFolded first least (m ∷ times)
     by f = record {
       below = let b = f.below in omega (arith, b, min-le_left first m);
-      below_all = All-cons (λ other. least ≤ other) m moments (let b = f.below in omega (arith, b, min-le_right first m)) f.below_all;
+      below_all = All-cons (λ other. least ≤ other) m times (let b = f.below in omega (arith, b, min-le_right first m)) f.below_all;
       one = which f.one;
     }
 
-from_first : (greatest first : ℕ) (moments : List ℕ) → first ≤ greatest → IsLeast (fold min greatest (first ∷ moments)) (first ∷ moments)
-from_first greatest first moments h = rw e (by (fold-IsFolded first moments))
+from_first : (greatest first : ℕ) (times : List ℕ) → first ≤ greatest → IsLeast (fold min greatest (first ∷ times)) (first ∷ times)
+from_first greatest first times h = rw e (by (fold-IsFolded first times))
   where
     e : min greatest first ≡ first
     e = omega (arith, h)
 
-    which : (fold min first moments ≡ first) ⊎ Contains moments (fold min first moments) → Contains (first ∷ moments) (fold min first moments)
-    which (inl is) = rw is (Contains-here first moments)
-    which (inr there) = Contains-later (fold min first moments) first moments there
+    which : (fold min first times ≡ first) ⊎ Contains times (fold min first times) → Contains (first ∷ times) (fold min first times)
+    which (inl is) = rw is (Contains-here first times)
+    which (inr there) = Contains-later (fold min first times) first times there
 
-    by : IsFolded first (fold min first moments) moments → IsLeast (fold min first moments) (first ∷ moments)
-    by f = record { one = which f.one; least = All-cons (λ other. fold min first moments ≤ other) first moments f.below f.below_all }
+    by : IsFolded first (fold min first times) times → IsLeast (fold min first times) (first ∷ times)
+    by f = record { one = which f.one; least = All-cons (λ other. fold min first times ≤ other) first times f.below f.below_all }
 
 -- the longest wait ends at the greatest `Instant` at most, so the minimum is one of the times
 pub due-IsLeast : (now : ℕ) (s : State) → IsLeast (least_due now s) (due_times now s)
@@ -131,23 +131,23 @@ quiet now s old none no_reply =
 pub wakeup-others : (now : ℕ) (s : State) → s.phase ≢ New → s.phase ≢ Allocated → s.events ≡ [] → has_reply s ≡ false → next_wakeup false now s ≡ least_due now s
 wakeup-others now s old other none no_reply =
     let asleep = quiet now s (phase-old s.phase old) none no_reply in
-    asleep ∙ other_moment (is_allocated s.phase) (phase-other s.phase other)
+    asleep ∙ other_time (is_allocated s.phase) (phase-other s.phase other)
   where
-    other_moment : (b : Bool) → b ≡ false → cond b (max now (least_due now s)) (least_due now s) ≡ least_due now s
-    other_moment true e = absurd (wrong e)
+    other_time : (b : Bool) → b ≡ false → cond b (max now (least_due now s)) (least_due now s) ≡ least_due now s
+    other_time true e = absurd (wrong e)
       where
         wrong : true ≡ false → ⊥
         wrong h = cc
-    other_moment false e = refl
+    other_time false e = refl
 
 pub wakeup-allocated : (now : ℕ) (s : State) → s.phase ≡ Allocated → s.events ≡ [] → has_reply s ≡ false → next_wakeup false now s ≡ max now (least_due now s)
 wakeup-allocated now s live none no_reply =
     let asleep = quiet now s (ap is_new live) none no_reply in
-    asleep ∙ later_moment (is_allocated s.phase) (ap is_allocated live)
+    asleep ∙ later_time (is_allocated s.phase) (ap is_allocated live)
   where
-    later_moment : (b : Bool) → b ≡ true → cond b (max now (least_due now s)) (least_due now s) ≡ max now (least_due now s)
-    later_moment true e = refl
-    later_moment false e = absurd (wrong e)
+    later_time : (b : Bool) → b ≡ true → cond b (max now (least_due now s)) (least_due now s) ≡ max now (least_due now s)
+    later_time true e = refl
+    later_time false e = absurd (wrong e)
       where
         wrong : false ≡ true → ⊥
         wrong h = cc

@@ -32,7 +32,7 @@ pause-within s = by s.last_send
   where
     by : (o : Option ℕ) → option_map_or (later_by pause) o 0 ≤ max_time
     by None = omega arith
-    by (Some moment) = min-le_right (moment + pause) max_time
+    by (Some time) = min-le_right (time + pause) max_time
 
 joined : (p a b e r : ℕ) → min (min a (max p b)) (min e (max p r)) ≡ min (min a e) (max p (min b r))
 joined p a b e r = omega arith

@@ -24,7 +24,7 @@ pub record Input : Type 0 where
   pub bytes : List ℕ
   -- what the caller passed in begins with these bytes
   pub is_lent : Bool
-  pub moment : ℕ
+  pub time : ℕ
   -- the state just before
   pub before : State
 
@@ -33,8 +33,8 @@ abbrev pub processed : Input → Outcome × State
 processed t = by t.stream
   where
     by : Option Stream → Outcome × State
-    by None = datagram_step t.bytes t.moment t.before
-    by (Some stream) = frame_step stream t.bytes t.moment t.before
+    by None = datagram_step t.bytes t.time t.before
+    by (Some stream) = frame_step stream t.bytes t.time t.before
 
 -- the payload that it returns to the caller: a range of what the caller passed in, or owned
 abbrev pub input_payload : Input → Option Payload
@@ -42,13 +42,13 @@ input_payload t = payload_in (if t.is_lent then (processed t).0 else owned (proc
 
 -- what peers sent, in order
 abbrev pub payloads : List Input → List Payload
-payloads turns = filter_map input_payload turns
+payloads inputs = filter_map input_payload inputs
 
 -- ---- a step of a stream
 
 abbrev pub stream_input : Bool → Stream → List ℕ → ℕ → State → Input
 stream_input is_lent stream bytes now t =
-    record { stream = Some stream; bytes = bytes; is_lent = is_lent; moment = now; before = t }
+    record { stream = Some stream; bytes = bytes; is_lent = is_lent; time = now; before = t }
 
 -- the first frame has so many bytes, or the stream waits for more
 abbrev pub taken_of_len : Bool → Stream → ℕ → State → Option ℕ → List Input
@@ -128,7 +128,7 @@ stream_inputs stream piece now s = piece_inputs stream piece now s
 -- ---- a call
 
 abbrev pub datagram_input : List ℕ → ℕ → State → Input
-datagram_input bytes now s = record { stream = None; bytes = bytes; is_lent = true; moment = now; before = s }
+datagram_input bytes now s = record { stream = None; bytes = bytes; is_lent = true; time = now; before = s }
 
 abbrev pub recv_inputs : TransportType → SocketAddr → SocketAddr → List ℕ → ℕ → State → List Input
 recv_inputs transport from to bytes now s = if is_from_server transport from s then by s.transport (stream_at to s) else []

@@ -62,8 +62,8 @@ AllocatesInOrder s = AsksInTime s × AsksItsFamilies s × HasConfiguredFamilies 
 -- the input granted the allocation: a first one in answer to a request for its family
 abbrev pub IsAllocationInput : Relay → Input → Type 0
 IsAllocationInput a one =
-    (turn : IsGrantInput (Allocation a) one)
-    × (turn.grant.1.purpose ≡ ForAllocation → IsAskedForFamilies (id_of one.bytes) one.before)
+    (input : IsGrantInput (Allocation a) one)
+    × (input.grant.1.purpose ≡ ForAllocation → IsAskedForFamilies (id_of one.bytes) one.before)
 
 -- each allocation after the call existed before, is deleted now, or was granted so
 abbrev pub AllocatesAsAsked : Call → State → State → Type 0

@@ -48,7 +48,7 @@ TellsOfFailed s t = length t.events + max_failures t ≤ length s.events + max_f
 
 -- the least of these, or the greatest `Instant`
 abbrev pub least_of : List ℕ → ℕ
-least_of moments = fold min max_time moments
+least_of times = fold min max_time times
 
 -- when a queued request may be sent
 abbrev pub soonest_queued : State → ℕ

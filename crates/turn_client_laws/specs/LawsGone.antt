@@ -71,7 +71,7 @@ IsClosedWith call s g = (end : IsStreamEnd call s (state_after call s)) × (is_c
 abbrev pub IsTimeUp : ℕ → State → Type 0
 IsTimeUp now s =
     IsSome (timed_out_transaction (agent_of s) now)
-    ⊎ ((s.phase ≡ Allocated) × ((moment : ℕ) × Contains (expiry_times s) moment × (moment ≤ now)))
+    ⊎ ((s.phase ≡ Allocated) × ((time : ℕ) × Contains (expiry_times s) time × (time ≤ now)))
 
 -- the request that times out now was made for the grant
 abbrev pub IsGivenUp : ℕ → State → Grant → Type 0

@@ -86,7 +86,7 @@ IsGrant g message now s = (was : Grant) × IsGrantedBy message now s was × IsSa
 pub record IsGrantInput (g : Grant) (one : Input) : Type 0 where
   pub over : IsOverControl one
   pub whole : is_message one.bytes ≡ true
-  pub grant : IsGrant g one.bytes one.moment one.before
+  pub grant : IsGrant g one.bytes one.time one.before
 
 -- a connection is bound over itself, and all other grants are granted over the control connection
 abbrev pub IsGrantedIn : Grant → Input → Type 0
@@ -108,7 +108,7 @@ HasCause call s g = WasActive s g ⊎ IsEndedNow call s g ⊎ IsDoneBy (IsGrante
 -- the input granted the channel, in answer to the request for its number and its peer
 abbrev pub IsChannelInput : ℕ → SocketAddr → ℕ → Input → Type 0
 IsChannelInput number peer expiry one =
-    (turn : IsGrantInput (Channel number peer (Active expiry)) one) × (turn.grant.1.purpose ≡ ForChannel number peer)
+    (input : IsGrantInput (Channel number peer (Active expiry)) one) × (input.grant.1.purpose ≡ ForChannel number peer)
 
 -- why the channel is active after the call: it was before, with this expiry, or an input granted it
 abbrev pub HasChannelCause : ℕ → SocketAddr → ℕ → Call → State → Type 0

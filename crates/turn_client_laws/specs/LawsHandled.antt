@@ -34,7 +34,7 @@ IgnoresBytes local bytes stream frame now s =
 -- bytes after it were put back. The place of a payload does not count.
 pub record IsFrameOf (stream : Stream) (now : ℕ) (s : State) (one : Input) (p : Outcome × State) : Type 0 where
   pub taken_of : one.stream ≡ Some stream
-  pub at : one.moment ≡ now
+  pub at : one.time ≡ now
   pub alone : one.before ≡ with_bytes stream.local [] s
   pub rest : List ℕ
   pub cut : stream.bytes ≡ one.bytes ++ rest

@@ -11,4 +11,4 @@ Deed = List ℕ → ℕ → State → Type 0
 
 -- a whole message did it that this call processed
 abbrev pub IsBroughtBy : Deed → Call → State → Type 0
-IsBroughtBy Did call s = IsDoneBy (λ one. (is_message one.bytes ≡ true) × Did one.bytes one.moment one.before) call s
+IsBroughtBy Did call s = IsDoneBy (λ one. (is_message one.bytes ≡ true) × Did one.bytes one.time one.before) call s

@@ -24,5 +24,5 @@ with_reserved s = granted_at (ms 100) (allocation_of_v4 ∷ Channel 0x4000 peer 
 
 -- the allocation alone remains, and a refresh of it was requested, to which the reply had a shorter
 -- lifetime
-abbrev pub with_refresh_in_vain : State → State
-with_refresh_in_vain s = record (granted_at (ms 940_000) (allocation_of_v4 ∷ []) s) { listed = listings 7 (ForRefresh IPV4 1800 ∷ []) }
+abbrev pub with_timed_out_refresh : State → State
+with_timed_out_refresh s = record (granted_at (ms 940_000) (allocation_of_v4 ∷ []) s) { listed = listings 7 (ForRefresh IPV4 1800 ∷ []) }

@@ -88,10 +88,10 @@ IsListedAgain message now s t l =
     (purpose : Purpose) × IsAnswer message s purpose × IsAnswer message s l.purpose × IsListedAs purpose now s t l
 
 abbrev pub IsMadeByInput : Transaction → Input → Type 0
-IsMadeByInput x one = IsMadeAgain one.bytes one.moment one.before (processed one).1 x
+IsMadeByInput x one = IsMadeAgain one.bytes one.time one.before (processed one).1 x
 
 abbrev pub IsListedByInput : Listing → Input → Type 0
-IsListedByInput l one = IsListedAgain one.bytes one.moment one.before (processed one).1 l
+IsListedByInput l one = IsListedAgain one.bytes one.time one.before (processed one).1 l
 
 -- ---- a call
 

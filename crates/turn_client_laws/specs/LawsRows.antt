@@ -52,7 +52,7 @@ peer = V4 (xor_v4 (10 ∷ 0 ∷ 0 ∷ 3 ∷ []) 9000)
 
 -- a client over UDP with these grants, that sent its last request at this time and awaits nothing
 abbrev pub granted_at : ℕ → List Grant → State → State
-granted_at moment grants s = record s {
+granted_at time grants s = record s {
   config = record s.config { allocation_transport = Udp; request_timers = None; max_stale_nonces = default_max_stale_nonces };
   transport = Udp;
   phase = Allocated;
@@ -60,7 +60,7 @@ granted_at moment grants s = record s {
   listed = [];
   transactions = [];
   queue = [];
-  last_send = Some moment;
+  last_send = Some time;
   events = [];
   closes = [];
 }
@@ -84,8 +84,8 @@ with_both_families s = granted_at 0 (new_allocation 1000 50_000_000 relayed_v4 �
 -- it has an allocation over IPv4 and a permission, which was granted at 100 ms, and sent its last request
 -- at this time
 abbrev pub with_permission : ℕ → State → State
-with_permission moment s =
-    granted_at moment (new_allocation 1800 50_000_000 relayed_v4 ∷ Permission ip_of_peer (Active 300_100_000_000) ∷ []) s
+with_permission time s =
+    granted_at time (new_allocation 1800 50_000_000 relayed_v4 ∷ Permission ip_of_peer (Active 300_100_000_000) ∷ []) s
 
 -- it requests a permission at 60 ms, 10 ms after its last request
 abbrev pub asking_at_60_ms : State → State
@@ -106,25 +106,25 @@ requesting_by timers transport text s = record (requesting text s) {
   transport = transport;
 }
 
-abbrev pub told_and_then : (ℕ → State → List TurnPollRet) → TurnPollRet × State → List TurnPollRet
-told_and_then later (WaitUntil moment, s) = WaitUntil moment ∷ later moment s
-told_and_then later (answer, s) = answer ∷ []
+abbrev pub poll_and_then : (ℕ → State → List TurnPollRet) → TurnPollRet × State → List TurnPollRet
+poll_and_then later (WaitUntil time, s) = WaitUntil time ∷ later time s
+poll_and_then later (answer, s) = answer ∷ []
 
 -- The results of so many calls of `poll`: each at the time that the one before returned, once what is due
 -- was sent.
-unfoldable pub told_in_turn : ℕ → ℕ → State → List TurnPollRet
-told_in_turn zero now s = []
-told_in_turn (suc n) now s = told_and_then (told_in_turn n) (poll_step now (transmit_step now s).1)
+unfoldable pub polls_in_sequence : ℕ → ℕ → State → List TurnPollRet
+polls_in_sequence zero now s = []
+polls_in_sequence (suc n) now s = poll_and_then (polls_in_sequence n) (poll_step now (transmit_step now s).1)
 
 -- these times, in milliseconds, and then that it has ended
 abbrev pub waits_and_ends : List ℕ → List TurnPollRet
-waits_and_ends moments = map (λ m. WaitUntil (m * 1_000_000)) moments ++ Ended ∷ []
+waits_and_ends times = map (λ m. WaitUntil (m * 1_000_000)) times ++ Ended ∷ []
 
 -- the client waits for a first ALLOCATE until each of these times in sequence, and has ended after the last
 -- one
 abbrev pub WaitsInSilence : Option Timers → TransportType → List ℕ → Type 0
-WaitsInSilence timers transport moments =
-    (text : List ℕ) (s : State) → told_in_turn (suc (length moments)) 0 (requesting_by timers transport text s) ≡ waits_and_ends moments
+WaitsInSilence timers transport times =
+    (text : List ℕ) (s : State) → polls_in_sequence (suc (length times)) 0 (requesting_by timers transport text s) ≡ waits_and_ends times
 
 -- ---- the first ALLOCATE (RFC 8656, section 7.1)
 

@@ -18,7 +18,7 @@ ghost use Rattle.turn_client_laws.specs.LawsBodies.{AreTakenUpTo, IsAsideFrom, I
 /// the time until which a channel is reserved. An expired allocation has none while a request for it is
 /// pending.
 pub fn nothing_lapses_early()
-    ensures { (now : ℕ) (s : State) → All (λ moment. now < moment) (expiry_times s) → lapsed None now s ≡ s }
+    ensures { (now : ℕ) (s : State) → All (λ time. now < time) (expiry_times s) → lapsed None now s ≡ s }
 {}
 
 /// For each event that a `poll` queues there is one grant fewer that can fail: so it queues at most as many

@@ -10,7 +10,7 @@ ghost use Rattle.turn_client_api.specs.Calls.{bind_channel_step, free_number};
 ghost use Rattle.turn_client_api.specs.Poll.{poll_step};
 ghost use Rattle.turn_client_laws.specs.LawsRows.{peer, ip_of_peer};
 ghost use Rattle.turn_client_laws.specs.LawsMessages.{ms};
-ghost use Rattle.turn_client_laws.specs.LawsLapses.{with_both, with_channel_alone, with_refresh_in_vain, with_reserved};
+ghost use Rattle.turn_client_laws.specs.LawsLapses.{with_both, with_channel_alone, with_timed_out_refresh, with_reserved};
 
 /// The grants that expire if they are granted at 100 ms and not refreshed (RFC 8656, sections 9 and 12): a
 /// permission at 300.1 s, and a channel at 600.1 s.
@@ -32,6 +32,6 @@ pub fn grants_lapse()
     ensures same_number { (s : State) → free_number (poll_step (ms 900_200) (with_reserved s)).1 ≡ Some 0x4000 }
     ensures allocation { (s : State) → (poll_step (ms 900_200) (with_reserved s)).0 ≡ WaitUntil (ms 940_050) }
     // If its refresh failed, the allocation expires, and the client ends with it.
-    ensures unrefreshed { (s : State) → (poll_step (ms 940_050) (with_refresh_in_vain s)).0 ≡ WaitUntil (ms 1_000_050) }
-    ensures ended { (s : State) → (poll_step (ms 1_000_050) (with_refresh_in_vain s)).0 ≡ Closed }
+    ensures unrefreshed { (s : State) → (poll_step (ms 940_050) (with_timed_out_refresh s)).0 ≡ WaitUntil (ms 1_000_050) }
+    ensures ended { (s : State) → (poll_step (ms 1_000_050) (with_timed_out_refresh s)).0 ≡ Closed }
 {}

@@ -12,7 +12,8 @@ ghost use Rattle.turn_client_api.specs.declared.event.TurnEvent.TheVariants.{Per
 ghost use Rattle.turn_client_api.specs.Payloads.{Handled};
 ghost use Rattle.turn_client_laws.specs.LawsRows.{peer, ip_of_peer, relayed_v4, relayed_v6};
 ghost use Rattle.turn_client_laws.specs.LawsMessages.{IgnoresCopy, IgnoresUnsigned, Ignores, WhenSigned, after_message, allocating, allocation_of_v4};
-ghost use Rattle.turn_client_laws.specs.LawsMessages.{allowing, asking_channel, asking_connection, asking_first, asking_permission, bad_request_reply, both_allocated};
+ghost use Rattle.turn_client_laws.specs.LawsMessages.{allowing, asking_channel, asking_connection};
+ghost use Rattle.turn_client_laws.specs.LawsMessages.{asking_first, asking_permission, bad_request_reply, both_allocated};
 ghost use Rattle.turn_client_laws.specs.LawsMessages.{challenged, channel_bound, channel_not_bound};
 ghost use Rattle.turn_client_laws.specs.LawsMessages.{connected, granted_channel, granted_permission, granted_v4, granted_v6, held_by_it, lasting_600_s};
 ghost use Rattle.turn_client_laws.specs.LawsMessages.{lifetime_behind, mismatched, not_connected, offer_of, one_allocated, one_family_alone};

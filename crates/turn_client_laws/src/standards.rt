@@ -69,8 +69,8 @@ pub fn numbers_are_the_standards() -> (
     ensures connection_attempt { result.7.value ≡ connection_attempt_method }
     // The pause of a client that has sent nothing ends at time 0, and the machine's sums stop at the
     // greatest `Instant`.
-    ensures first_moment { result.8 ≡ 0 }
-    ensures last_moment { result.9 ≡ max_time }
+    ensures first_time { result.8 ≡ 0 }
+    ensures last_time { result.9 ≡ max_time }
 {
     (
         ALLOCATE,

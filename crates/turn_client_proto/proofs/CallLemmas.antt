@@ -41,7 +41,7 @@ module _ {Kept : State → Type 0} (keeps : (call : Call) (s t : State) → Leav
       → Kept t
   channel-keeps (Ok x) transport peer now h = keeps (Call.BindChannel transport peer now) s t (inl h.1)
   channel-keeps (Err Bind.AlreadyExists) transport peer now h = keeps (Call.BindChannel transport peer now) s t (inl h.1)
-  channel-keeps (Err (Bind.ExpiredChannelExists moment)) transport peer now h = keeps (Call.BindChannel transport peer now) s t (inl h.1)
+  channel-keeps (Err (Bind.ExpiredChannelExists time)) transport peer now h = keeps (Call.BindChannel transport peer now) s t (inl h.1)
   channel-keeps (Err Bind.NoAllocation) transport peer now h = keeps (Call.BindChannel transport peer now) s t (inl h.1)
   channel-keeps (Err Bind.OutOfMemory) transport peer now h = keeps (Call.BindChannel transport peer now) s t (inr h.1)
 

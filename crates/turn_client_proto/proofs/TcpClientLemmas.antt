@@ -22,8 +22,8 @@ use Rattle.turn_client_proto.proofs.CarrierLemmas.{leaves-SameCarriers}
 pub leaves-IsTcpClient : (call : Call) (s t : State) → Leaves call s t → IsTcpClient s → IsTcpClient t
 leaves-IsTcpClient call s t leaves h = record {
   carrier = (leaves-SameCarriers call s t leaves).0 ∙ h.carrier;
-  steady = leaves-steadies call s t leaves h.steady;
-  housed = leaves-GrantsHaveAllocations call s t leaves h.housed;
+  fits_phase = leaves-steadies call s t leaves h.fits_phase;
+  have_allocations = leaves-GrantsHaveAllocations call s t leaves h.have_allocations;
 }
 
 -- ---- a piece of a stream

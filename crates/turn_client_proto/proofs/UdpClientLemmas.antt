@@ -21,8 +21,8 @@ leaves-IsUdpClient call s t leaves h =
       carrier = same.0 ∙ h.carrier;
       relays = same.1 ∙ h.relays;
       no_streams = leaves-no_streams call s t leaves h.carrier h.relays h.no_streams;
-      steady = leaves-steadies call s t leaves h.steady;
-      housed = leaves-GrantsHaveAllocations call s t leaves h.housed;
+      fits_phase = leaves-steadies call s t leaves h.fits_phase;
+      have_allocations = leaves-GrantsHaveAllocations call s t leaves h.have_allocations;
     }
 
 -- ---- a datagram

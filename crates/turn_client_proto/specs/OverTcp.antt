@@ -8,5 +8,5 @@ use Rattle.turn_client_api.specs.State.{State}
 -- It may have streams, whatever its allocations relay over. The rest holds for every client.
 pub record IsTcpClient (s : State) : Type 0 where
   pub carrier : s.transport ≡ Tcp
-  pub steady : FitsPhase s
-  pub housed : GrantsHaveAllocations s
+  pub fits_phase : FitsPhase s
+  pub have_allocations : GrantsHaveAllocations s

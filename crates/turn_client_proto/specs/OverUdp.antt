@@ -13,5 +13,5 @@ pub record IsUdpClient (s : State) : Type 0 where
   pub carrier : s.transport ≡ Udp
   pub relays : s.config.allocation_transport ≡ Udp
   pub no_streams : s.streams ≡ []
-  pub steady : FitsPhase s
-  pub housed : GrantsHaveAllocations s
+  pub fits_phase : FitsPhase s
+  pub have_allocations : GrantsHaveAllocations s

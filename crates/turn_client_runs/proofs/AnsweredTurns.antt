@@ -51,26 +51,26 @@ message-begins bytes e = by (ltb (length bytes) 20) (is_stun_header bytes) refl 
 -- ---- the effect of the input
 
 made_in_mode : (m : Mode) (stream : Stream) (bytes : List ℕ) (now : ℕ) (s : State) → m ≡ Control → is_message bytes ≡ true
-    → (processed (record { stream = Some (record stream { mode = m }); bytes = bytes; is_lent = true; moment = now; before = s })).1 ≡ (message_step bytes now s).1
+    → (processed (record { stream = Some (record stream { mode = m }); bytes = bytes; is_lent = true; time = now; before = s })).1 ≡ (message_step bytes now s).1
 made_in_mode Control stream bytes now s e whole = rw (message-begins bytes whole, whole) refl
 made_in_mode Waiting stream bytes now s e whole = cc
 made_in_mode (Bound peer) stream bytes now s e whole = cc
 made_in_mode Broken stream bytes now s e whole = cc
 
-pub made-control : (one : Input) → IsOverControl one → is_message one.bytes ≡ true → (processed one).1 ≡ (message_step one.bytes one.moment one.before).1
+pub made-control : (one : Input) → IsOverControl one → is_message one.bytes ≡ true → (processed one).1 ≡ (message_step one.bytes one.time one.before).1
 made-control one over whole = by one.stream over
   where
-    by : (o : Option Stream) → IsOverControl (record one { stream = o }) → (processed (record one { stream = o })).1 ≡ (message_step one.bytes one.moment one.before).1
+    by : (o : Option Stream) → IsOverControl (record one { stream = o }) → (processed (record one { stream = o })).1 ≡ (message_step one.bytes one.time one.before).1
     by None over = rw whole refl
-    by (Some stream) over = made_in_mode stream.mode stream one.bytes one.moment one.before over whole
+    by (Some stream) over = made_in_mode stream.mode stream one.bytes one.time one.before over whole
 
 waiting_in_mode : (m : Mode) (stream : Stream) (bytes : List ℕ) (now : ℕ) (s : State) → m ≡ Waiting → is_message bytes ≡ true
-    → (processed (record { stream = Some (record stream { mode = m }); bytes = bytes; is_lent = true; moment = now; before = s })).1 ≡ bind_step stream.local bytes now s
+    → (processed (record { stream = Some (record stream { mode = m }); bytes = bytes; is_lent = true; time = now; before = s })).1 ≡ bind_step stream.local bytes now s
 waiting_in_mode Waiting stream bytes now s e whole = rw (message-begins bytes whole, whole) refl
 waiting_in_mode Control stream bytes now s e whole = cc
 waiting_in_mode (Bound peer) stream bytes now s e whole = cc
 waiting_in_mode Broken stream bytes now s e whole = cc
 
 pub made-waiting : (one : Input) (stream : Stream) → one.stream ≡ Some stream → stream.mode ≡ Waiting → is_message one.bytes ≡ true
-    → (processed one).1 ≡ bind_step stream.local one.bytes one.moment one.before
-made-waiting one stream of mode whole = rw of (waiting_in_mode stream.mode stream one.bytes one.moment one.before mode whole)
+    → (processed one).1 ≡ bind_step stream.local one.bytes one.time one.before
+made-waiting one stream of mode whole = rw of (waiting_in_mode stream.mode stream one.bytes one.time one.before mode whole)

@@ -105,7 +105,7 @@ module _ (l : Listing) (wanted : GivesBack l.purpose → ⊥) where
   turn-asks : (one : Input) → AreTogether one.before → Has l (processed one).1.listed → Has l one.before.listed ⊎ IsRequestedByInput l.id l.purpose one
   turn-asks one together there = by (turn-relists one l there)
     where
-      by : Has l one.before.listed ⊎ IsRelisted one.bytes one.moment one.before (processed one).1 l → Has l one.before.listed ⊎ IsRequestedByInput l.id l.purpose one
+      by : Has l one.before.listed ⊎ IsRelisted one.bytes one.time one.before (processed one).1 l → Has l one.before.listed ⊎ IsRequestedByInput l.id l.purpose one
       by (inl old) = inl old
       by (inr (purpose, made, is, for)) = inr (purpose, listed-for one.bytes one.before purpose l.purpose together wanted for, made, is)
 

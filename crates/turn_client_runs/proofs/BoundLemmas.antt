@@ -96,12 +96,12 @@ module _ (P : State → Type 0) (Did : Input → Type 0) (k : IsBrought P Did) (
   abbrev Ends : Input → Type 0
   Ends one = Did one × HasTransactionEnded one
 
-  bind-ends : (one : Input) (stream : Stream) → one.stream ≡ Some stream → stream.mode ≡ Waiting → is_message one.bytes ≡ true → P (bind_step stream.local one.bytes one.moment one.before)
+  bind-ends : (one : Input) (stream : Stream) → one.stream ≡ Some stream → stream.mode ≡ Waiting → is_message one.bytes ≡ true → P (bind_step stream.local one.bytes one.time one.before)
       → P one.before ⊎ Ends one
-  bind-ends one stream of mode whole h = by (bind-leaves stream.local one.bytes one.moment one.before)
+  bind-ends one stream of mode whole h = by (bind-leaves stream.local one.bytes one.time one.before)
     where
       t : State
-      t = bind_step stream.local one.bytes one.moment one.before
+      t = bind_step stream.local one.bytes one.time one.before
 
       made : (processed one).1 ≡ t
       made = waiting-made stream.local one (rw of (mode, refl)) whole
@@ -115,7 +115,7 @@ module _ (P : State → Type 0) (Did : Input → Type 0) (k : IsBrought P Did) (
       bound (inr ended) = did ended (k.binds one stream of mode whole h)
 
       by : BindsOrLeaves stream.local one.bytes one.before t → P one.before ⊎ Ends one
-      by (inl b) = bound (binds-ended stream.local one.bytes one.moment one.before b)
+      by (inl b) = bound (binds-ended stream.local one.bytes one.time one.before b)
       by (inr (leaves, same)) = inl (spares one.before t leaves same h)
 
   pub bringing-ends : IsBrought P (λ one. Did one × HasTransactionEnded one)

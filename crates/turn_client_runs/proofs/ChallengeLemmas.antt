@@ -18,7 +18,7 @@ use Rattle.turn_client_laws.proofs.PhasesGoOn.{challenge-IsCounted, leaves-keeps
 use Rattle.turn_client_laws.proofs.TurnBringLemmas.{turn-brings}
 use Rattle.turn_client_laws.proofs.TurnChainLemmas.{calls-do}
 use Rattle.turn_client_laws.proofs.TurnLemmas.{brought}
-use Rattle.turn_client_runs.specs.Challenges.{CountsIt, IsChallengeInput, IsHeededAmong, IsWithinChallengeLimit, answers_in, is_answer}
+use Rattle.turn_client_runs.specs.Challenges.{CountsIt, IsChallengeInput, IsReplyAcceptedAmong, IsWithinChallengeLimit, answers_in, is_answer}
 use Rattle.turn_client_runs.specs.Holds.{Reaches}
 use Rattle.turn_client_runs.specs.Inputs.{IsAmong, handled_in}
 use Rattle.turn_client_runs.proofs.HoldLemmas.{kept-behind}
@@ -51,15 +51,15 @@ leaves-patient call s t leaves = (leaves-keeps call s t leaves).1
 pub challenge-counts : (one : Input) → IsChallengeInput one → CountsIt one
 challenge-counts one c =
     subst (λ (p : Outcome × State). IsChallengeCounted one.before p.1) (sym (control-made one c.over c.whole))
-    (challenge-IsCounted one.bytes one.moment one.before c.challenge c.judged)
+    (challenge-IsCounted one.bytes one.time one.before c.challenge c.judged)
 
 -- ---- how many in sequence
 
 abbrev IsHeededIn : Input → Type 0
-IsHeededIn one = ((processed one).1.challenges < one.before.challenges) × (is_message one.bytes ≡ true) × IsReplyAccepted one.bytes one.moment one.before
+IsHeededIn one = ((processed one).1.challenges < one.before.challenges) × (is_message one.bytes ≡ true) × IsReplyAccepted one.bytes one.time one.before
 
 abbrev IsWellHeeded : Input → Type 0
-IsWellHeeded one = (is_message one.bytes ≡ true) × IsReplyAccepted one.bytes one.moment one.before
+IsWellHeeded one = (is_message one.bytes ≡ true) × IsReplyAccepted one.bytes one.time one.before
 
 -- an input makes the count no less, or is accepted
 turn-grows : (one : Input) → (one.before.challenges ≤ (processed one).1.challenges) ⊎ IsHeededIn one
@@ -82,7 +82,7 @@ turn-grows one = by (ltb (processed one).1.challenges n) refl
 
 -- the count grows by each answer, or one of these inputs is accepted
 abbrev Counts : State → State → List Input → Type 0
-Counts s t turns = (s.challenges + answers_in turns ≤ t.challenges) ⊎ IsHeededAmong turns
+Counts s t turns = (s.challenges + answers_in turns ≤ t.challenges) ⊎ IsReplyAcceptedAmong turns
 
 lead-counts : (turns : List Input) (s t : State) → InputsLead turns s t → Counts s t turns
 lead-counts [] s t lead = let same : t.challenges ≡ s.challenges = ap (λ (x : State). x.challenges) lead.others in inl (omega (arith, same))
@@ -148,7 +148,7 @@ run-counts s (call ∷ calls) = by (call-counts call s) (run-counts (state_after
 pub run-configured : (s : State) (calls : List Call) → (state_after_all s calls).config ≡ s.config
 run-configured s calls = kept-behind (λ (t : State). t.config ≡ s.config) (λ call t u leaves same. leaves-configured call t u leaves ∙ same) s calls refl
 
-pub few-answered : (s : State) (calls : List Call) → IsWithinChallengeLimit s → (answers_in (handled_in s calls) ≤ s.config.max_stale_nonces) ⊎ IsHeededAmong (handled_in s calls)
+pub few-answered : (s : State) (calls : List Call) → IsWithinChallengeLimit s → (answers_in (handled_in s calls) ≤ s.config.max_stale_nonces) ⊎ IsReplyAcceptedAmong (handled_in s calls)
 few-answered s calls patient = by (run-counts s calls)
   where
     last : IsWithinChallengeLimit (state_after_all s calls)
@@ -157,6 +157,6 @@ few-answered s calls patient = by (run-counts s calls)
     same : (state_after_all s calls).config.max_stale_nonces ≡ s.config.max_stale_nonces
     same = ap (λ (c : Config). c.max_stale_nonces) (run-configured s calls)
 
-    by : Counts s (state_after_all s calls) (handled_in s calls) → (answers_in (handled_in s calls) ≤ s.config.max_stale_nonces) ⊎ IsHeededAmong (handled_in s calls)
+    by : Counts s (state_after_all s calls) (handled_in s calls) → (answers_in (handled_in s calls) ≤ s.config.max_stale_nonces) ⊎ IsReplyAcceptedAmong (handled_in s calls)
     by (inl counts) = inl (omega (arith, counts, last, same))
     by (inr among) = inr among

@@ -26,7 +26,7 @@ use Rattle.turn_client_runs.specs.Granted.{ComesIn, IsInFront}
 
 -- it is processed now, and is first in its stream
 abbrev IsFrame : ℕ → Input → Type 0
-IsFrame now one = (one.moment ≡ now) × ((stream : Stream) × (one.stream ≡ Some stream) × IsInFront one.bytes stream.bytes)
+IsFrame now one = (one.time ≡ now) × ((stream : Stream) × (one.stream ≡ Some stream) × IsInFront one.bytes stream.bytes)
 
 abbrev AllFrames : ℕ → List Input → Type 0
 AllFrames now turns = (one : Input) → Has one turns → IsFrame now one
@@ -116,7 +116,7 @@ recv-comes Udp packet now s e one = by (is_from_server packet.transport packet.f
     u : State
     u = record s { transport = Udp }
 
-    by : (b c : Bool) → Has one (cond b (cond c (record { stream = None; bytes = packet.payload; is_lent = true; moment = now; before = u } ∷ []) []) []) → ComesIn (Recv packet now) one
+    by : (b c : Bool) → Has one (cond b (cond c (record { stream = None; bytes = packet.payload; is_lent = true; time = now; before = u } ∷ []) []) []) → ComesIn (Recv packet now) one
     by true true (inl same) = rw same (refl, refl)
     by true true (inr none) = absurd none
     by true false none = absurd none

@@ -102,7 +102,7 @@ given-kept p was g message now s kept given = by (kept-alike was g kept)
 -- what the input grants: a connection that it binds, and all else as the machine says
 abbrev pub IsGivenAt : Input → Purpose → Grant → Type 0
 IsGivenAt one p (Connection c) = IsGivenIn one p (Connection c)
-IsGivenAt one p g = IsGivenFor p one.bytes one.moment one.before g
+IsGivenAt one p g = IsGivenFor p one.bytes one.time one.before g
 
 -- The input is a success, and answers a request for the purpose.
 pub record IsAccepting (purpose : Purpose) (one : Input) : Type 0 where
@@ -130,14 +130,14 @@ pub record Granting (g : Grant) (one : Input) : Type 0 where
 
 -- over the control connection
 module _ (one : Input) (over : IsOverControl one) (whole : is_message one.bytes ≡ true) where
-  accepting : judgement_of one.before one.bytes ≡ SignedSuccess → (was : Grant) (is : IsGrantedBy one.bytes one.moment one.before was) → IsAccepting is.purpose one
+  accepting : judgement_of one.before one.bytes ≡ SignedSuccess → (was : Grant) (is : IsGrantedBy one.bytes one.time one.before was) → IsAccepting is.purpose one
   accepting judged was is = record {
     whole = whole;
     success = is.success;
     signed = is.signed;
     listed = is.listed;
     outstanding = is.outstanding;
-    ended = rw (made-control one over whole) (success-ends one.bytes one.moment one.before judged);
+    ended = rw (made-control one over whole) (success-ends one.bytes one.time one.before judged);
     heard = heard;
   }
     where
@@ -146,10 +146,10 @@ module _ (one : Input) (over : IsOverControl one) (whole : is_message one.bytes 
           let is : judgement_of one.before one.bytes ≡ requesting_judgement one.before one.bytes = rw e refl in
           requesting-unsigned (answers_one one.before one.bytes) (challenge_in one.before one.bytes) (sym is ∙ judged)
 
-  granted : (g : Grant) → judgement_of one.before one.bytes ≡ SignedSuccess → IsGrant g one.bytes one.moment one.before → Granting g one
-  granted g judged (was, is, kept) = by g (accepting judged was is) (given-kept is.purpose was g one.bytes one.moment one.before kept is.given)
+  granted : (g : Grant) → judgement_of one.before one.bytes ≡ SignedSuccess → IsGrant g one.bytes one.time one.before → Granting g one
+  granted g judged (was, is, kept) = by g (accepting judged was is) (given-kept is.purpose was g one.bytes one.time one.before kept is.given)
     where
-      none : (p : Purpose) (c : DataConnection) → IsGivenFor p one.bytes one.moment one.before (Connection c) → ⊥
+      none : (p : Purpose) (c : DataConnection) → IsGivenFor p one.bytes one.time one.before (Connection c) → ⊥
       none ForAllocation c h = h
       none (ForRefresh family lifetime) c h = h
       none (ForPermission ip) c h = h
@@ -157,7 +157,7 @@ module _ (one : Input) (over : IsOverControl one) (whole : is_message one.bytes 
       none (ForConnect peer) c h = h
       none (ForBind local peer id) c h = h
 
-      by : (h : Grant) → IsAccepting is.purpose one → IsGivenFor is.purpose one.bytes one.moment one.before h → Granting h one
+      by : (h : Grant) → IsAccepting is.purpose one → IsGivenFor is.purpose one.bytes one.time one.before h → Granting h one
       by (Allocation a) accepts given = record { over = over; purpose = is.purpose; accepting = accepts; given = given }
       by (Permission ip progress) accepts given = record { over = over; purpose = is.purpose; accepting = accepts; given = given }
       by (Channel number peer progress) accepts given = record { over = over; purpose = is.purpose; accepting = accepts; given = given }
@@ -165,10 +165,10 @@ module _ (one : Input) (over : IsOverControl one) (whole : is_message one.bytes 
       by (Offer offer) accepts given = record { over = over; purpose = is.purpose; accepting = accepts; given = given }
       by (Connection c) accepts given = absurd (none is.purpose c given)
 
-  control-grants : (g : Grant) → Covers (message_step one.bytes one.moment one.before).1.grants g → Covers one.before.grants g ⊎ Granting g one
-  control-grants g covers = by (message-grants g one.bytes one.moment one.before covers)
+  control-grants : (g : Grant) → Covers (message_step one.bytes one.time one.before).1.grants g → Covers one.before.grants g ⊎ Granting g one
+  control-grants g covers = by (message-grants g one.bytes one.time one.before covers)
     where
-      by : Covers one.before.grants g ⊎ ((judgement_of one.before one.bytes ≡ SignedSuccess) × IsGrant g one.bytes one.moment one.before) → Covers one.before.grants g ⊎ Granting g one
+      by : Covers one.before.grants g ⊎ ((judgement_of one.before one.bytes ≡ SignedSuccess) × IsGrant g one.bytes one.time one.before) → Covers one.before.grants g ⊎ Granting g one
       by (inl there) = inl there
       by (inr (judged, grant)) = inr (granted g judged grant)
 
@@ -176,13 +176,13 @@ module _ (one : Input) (over : IsOverControl one) (whole : is_message one.bytes 
 
 module _ (one : Input) (stream : Stream) (of : one.stream ≡ Some stream) (waits : stream.mode ≡ Waiting) (whole : is_message one.bytes ≡ true) where
   -- the request is no longer outstanding
-  bind-ends : (b : Binds stream.local one.bytes one.before (bind_step stream.local one.bytes one.moment one.before)) → one.before.phase ≡ Allocated → IsNotAwaited one.bytes (processed one).1
+  bind-ends : (b : Binds stream.local one.bytes one.before (bind_step stream.local one.bytes one.time one.before)) → one.before.phase ≡ Allocated → IsNotAwaited one.bytes (processed one).1
   bind-ends b phase =
-      let steps : bind_step stream.local one.bytes one.moment one.before ≡ bind_answered b.c one.bytes one.moment one.before = rw (phase, b.found, b.method) refl in
+      let steps : bind_step stream.local one.bytes one.time one.before ≡ bind_answered b.c one.bytes one.time one.before = rw (phase, b.found, b.method) refl in
       let judged : IsAccepted (bind_judgement one.before b.c.local one.bytes) = rw b.judged tt in
-      rw (made-waiting one stream of waits whole, steps) (bind-ended b.c one.bytes one.moment one.before judged)
+      rw (made-waiting one stream of waits whole, steps) (bind-ended b.c one.bytes one.time one.before judged)
 
-  bind-accepting : (b : Binds stream.local one.bytes one.before (bind_step stream.local one.bytes one.moment one.before)) → one.before.phase ≡ Allocated
+  bind-accepting : (b : Binds stream.local one.bytes one.before (bind_step stream.local one.bytes one.time one.before)) → one.before.phase ≡ Allocated
       → (turn : IsBindInput stream.local b.c.peer one) → IsAccepting (ForBind stream.local turn.asked turn.number) one
   bind-accepting b phase turn = record {
     whole = whole;
@@ -195,11 +195,11 @@ module _ (one : Input) (stream : Stream) (of : one.stream ≡ Some stream) (wait
   }
 
   -- the connection is the one from the local address over which the message was received
-  bound-granting : (b : Binds stream.local one.bytes one.before (bind_step stream.local one.bytes one.moment one.before)) → one.before.phase ≡ Allocated → (g : Grant) (c : DataConnection)
+  bound-granting : (b : Binds stream.local one.bytes one.before (bind_step stream.local one.bytes one.time one.before)) → one.before.phase ≡ Allocated → (g : Grant) (c : DataConnection)
       → c.local ≡ b.c.local → IsSameGrant (Connection c) g → Granting g one
   bound-granting b phase (Connection d) c at (same, none) =
       let here : c.local ≡ stream.local = at ∙ found-local stream.local b.c _ b.found in
-      let turn = binds-turn one stream (bind_step stream.local one.bytes one.moment one.before) of waits whole b in
+      let turn = binds-turn one stream (bind_step stream.local one.bytes one.time one.before) of waits whole b in
       record {
         over = rw of (waits, sym here ∙ ap (λ (x : DataConnection). x.local) same);
         purpose = ForBind stream.local turn.asked turn.number;
@@ -212,8 +212,8 @@ module _ (one : Input) (stream : Stream) (of : one.stream ≡ Some stream) (wait
   bound-granting b phase (Connect peer) c at k = absurd k
   bound-granting b phase (Offer offer) c at k = absurd k
 
-  bind-covers : (g : Grant) → one.before.phase ≡ Allocated → Binds stream.local one.bytes one.before (bind_step stream.local one.bytes one.moment one.before)
-      → Covers (bind_step stream.local one.bytes one.moment one.before).grants g → Covers one.before.grants g ⊎ Granting g one
+  bind-covers : (g : Grant) → one.before.phase ≡ Allocated → Binds stream.local one.bytes one.before (bind_step stream.local one.bytes one.time one.before)
+      → Covers (bind_step stream.local one.bytes one.time one.before).grants g → Covers one.before.grants g ⊎ Granting g one
   bind-covers g phase b (is, there, kept) = by (has-mapped (deadline_set b.c.local None) is one.before.grants (subst (Has is) b.grants there))
     where
       at : (x : Grant) → Has x one.before.grants → (is ≡ x) ⊎ ((c : DataConnection) × (is ≡ Connection c) × (c.local ≡ b.c.local)) → Covers one.before.grants g ⊎ Granting g one
@@ -223,11 +223,11 @@ module _ (one : Input) (stream : Stream) (of : one.stream ≡ Some stream) (wait
       by : (x : Grant) × Has x one.before.grants × (is ≡ deadline_set b.c.local None x) → Covers one.before.grants g ⊎ Granting g one
       by (x, before, e) = at x before (deadline-has b.c.local is x e)
 
-  binds-grants : (g : Grant) → Covers (bind_step stream.local one.bytes one.moment one.before).grants g → Covers one.before.grants g ⊎ Granting g one
-  binds-grants g = by one.before.phase refl (bind-leaves stream.local one.bytes one.moment one.before)
+  binds-grants : (g : Grant) → Covers (bind_step stream.local one.bytes one.time one.before).grants g → Covers one.before.grants g ⊎ Granting g one
+  binds-grants g = by one.before.phase refl (bind-leaves stream.local one.bytes one.time one.before)
     where
       t : State
-      t = bind_step stream.local one.bytes one.moment one.before
+      t = bind_step stream.local one.bytes one.time one.before
 
       same : t ≡ one.before → Covers t.grants g → Covers one.before.grants g ⊎ Granting g one
       same e covers = inl (subst (λ (u : State). Covers u.grants g) e covers)

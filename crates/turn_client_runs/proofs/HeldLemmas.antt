@@ -153,15 +153,15 @@ bringing : IsBrought IsLate IsFirst
 bringing = record {
   differs = λ s t differs h. subst IsLate differs.others h;
   message = control;
-  binds = λ one stream of waits whole h. inl (bind-late stream.local one.bytes one.moment one.before h);
+  binds = λ one stream of waits whole h. inl (bind-late stream.local one.bytes one.time one.before h);
   gone = gone-late;
   ended = closed-late;
 }
   where
-    control : (one : Input) → IsOverControl one → is_message one.bytes ≡ true → IsLate (message_step one.bytes one.moment one.before).1 → IsLate one.before ⊎ IsFirst one
-    control one over whole h = by (message-late one.bytes one.moment one.before h)
+    control : (one : Input) → IsOverControl one → is_message one.bytes ≡ true → IsLate (message_step one.bytes one.time one.before).1 → IsLate one.before ⊎ IsFirst one
+    control one over whole h = by (message-late one.bytes one.time one.before h)
       where
-        by : IsLate one.before ⊎ Answers one.bytes one.moment one.before → IsLate one.before ⊎ IsFirst one
+        by : IsLate one.before ⊎ Answers one.bytes one.time one.before → IsLate one.before ⊎ IsFirst one
         by (inl late) = inl late
         by (inr (d, none, judged, held)) = inr (
           d,

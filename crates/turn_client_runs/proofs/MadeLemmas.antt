@@ -22,20 +22,20 @@ whole-begins bytes whole = lt-ltb (type_of bytes) 0x4000 (no_fault-IsFaultless b
     none (Some x) e = cc
 
 -- over the control connection the message is processed
-pub control-made : (one : Input) → IsOverControl one → is_message one.bytes ≡ true → processed one ≡ message_step one.bytes one.moment one.before
+pub control-made : (one : Input) → IsOverControl one → is_message one.bytes ≡ true → processed one ≡ message_step one.bytes one.time one.before
 control-made one over whole = by one.stream refl
   where
-    by : (o : Option Stream) → one.stream ≡ o → processed one ≡ message_step one.bytes one.moment one.before
+    by : (o : Option Stream) → one.stream ≡ o → processed one ≡ message_step one.bytes one.time one.before
     by None e = rw (e, whole) refl
     by (Some stream) e =
         let mode : stream.mode ≡ Control = rw e at over in
         rw (e, mode, whole-begins one.bytes whole, whole) refl
 
 -- on a connection that waits it binds, or not
-pub waiting-made : (local : SocketAddr) (one : Input) → IsOverWaiting local one → is_message one.bytes ≡ true → (processed one).1 ≡ bind_step local one.bytes one.moment one.before
+pub waiting-made : (local : SocketAddr) (one : Input) → IsOverWaiting local one → is_message one.bytes ≡ true → (processed one).1 ≡ bind_step local one.bytes one.time one.before
 waiting-made local one over whole = by one.stream refl
   where
-    by : (o : Option Stream) → one.stream ≡ o → (processed one).1 ≡ bind_step local one.bytes one.moment one.before
+    by : (o : Option Stream) → one.stream ≡ o → (processed one).1 ≡ bind_step local one.bytes one.time one.before
     by None e = absurd (rw e at over)
     by (Some stream) e =
         let (mode, ends) : (stream.mode ≡ Waiting) × (stream.local ≡ local) = rw e at over in

@@ -145,7 +145,7 @@ recv_over Udp transport from to bytes now s = by (is_from_server transport from 
     u = record s { transport = Udp }
 
     one : Input
-    one = record { stream = None; bytes = bytes; is_lent = true; moment = now; before = u }
+    one = record { stream = None; bytes = bytes; is_lent = true; time = now; before = u }
 
     by : (b c : Bool) → AreIn (cond b (cond c (one ∷ []) []) [])
     by true true = datagram-in one refl

@@ -39,16 +39,16 @@ turn_in_mode : (m : Mode) (one : Input) (stream : Stream) → KeepsRealm one.bef
 turn_in_mode Control one stream = by (not (begins_message one.bytes)) (is_message one.bytes)
   where
     by : (b c : Bool) → KeepsRealm one.before (cond {A = Outcome × State} b (channel_sent one.before one.bytes, one.before)
-        (cond {A = Outcome × State} c (message_step one.bytes one.moment one.before) (Handled, one.before))).1
+        (cond {A = Outcome × State} c (message_step one.bytes one.time one.before) (Handled, one.before))).1
     by true c = same-realm one.before
-    by false true = (message-keeps one.bytes one.moment one.before).2
+    by false true = (message-keeps one.bytes one.time one.before).2
     by false false = same-realm one.before
 turn_in_mode Waiting one stream = by (not (begins_message one.bytes)) (is_message one.bytes)
   where
     by : (b c : Bool) → KeepsRealm one.before (cond {A = Outcome × State} b (Ignored, one.before)
-        (cond {A = Outcome × State} c (Handled, bind_step stream.local one.bytes one.moment one.before) (Handled, one.before))).1
+        (cond {A = Outcome × State} c (Handled, bind_step stream.local one.bytes one.time one.before) (Handled, one.before))).1
     by true c = same-realm one.before
-    by false true = (bind-keeps stream.local one.bytes one.moment one.before).2
+    by false true = (bind-keeps stream.local one.bytes one.time one.before).2
     by false false = same-realm one.before
 turn_in_mode (Bound peer) one stream = same-realm one.before
 turn_in_mode Broken one stream = same-realm one.before
@@ -56,9 +56,9 @@ turn_in_mode Broken one stream = same-realm one.before
 turn-realm : (one : Input) → KeepsRealm one.before (processed one).1
 turn-realm one = by one.stream
   where
-    datagram : (b c : Bool) → KeepsRealm one.before (cond {A = Outcome × State} b (message_step one.bytes one.moment one.before)
+    datagram : (b c : Bool) → KeepsRealm one.before (cond {A = Outcome × State} b (message_step one.bytes one.time one.before)
         (cond {A = Outcome × State} c (channel_sent one.before one.bytes, one.before) (Ignored, one.before))).1
-    datagram true c = (message-keeps one.bytes one.moment one.before).2
+    datagram true c = (message-keeps one.bytes one.time one.before).2
     datagram false true = same-realm one.before
     datagram false false = same-realm one.before
 

@@ -150,11 +150,11 @@ module _ (all more : SocketAddr → List ℕ) where
 
     -- what a client over UDP receives is stored in no stream
     datagram-steps : (b c : Bool) (s : State) → Held more s.streams
-        → Steps more (cond b (cond c (record { stream = None; bytes = packet.payload; is_lent = true; moment = now; before = s } ∷ []) []) [])
+        → Steps more (cond b (cond c (record { stream = None; bytes = packet.payload; is_lent = true; time = now; before = s } ∷ []) []) [])
         (cond {A = Outcome × State} b (cond {A = Outcome × State} c (datagram_step packet.payload now s) (Ignored, s)) (Ignored, s)).1
     datagram-steps true true s held = (only, by (is_message packet.payload) (is_channel_frame packet.payload))
       where
-        only : (one : Input) → Has one (record { stream = None; bytes = packet.payload; is_lent = true; moment = now; before = s } ∷ []) → (stream : Stream) → one.stream ≡ Some stream
+        only : (one : Input) → Has one (record { stream = None; bytes = packet.payload; is_lent = true; time = now; before = s } ∷ []) → (stream : Stream) → one.stream ≡ Some stream
             → Ends more stream.local stream.bytes
         only one (inl e) stream of = absurd (no_stream (sym (ap (λ (x : Input). x.stream) e) ∙ of))
           where

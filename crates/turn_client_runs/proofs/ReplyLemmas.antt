@@ -31,12 +31,12 @@ unlike e = cc
 -- on a connection that waits it is awaited no longer
 pub bind-reply-ended : (one : Input) → IsBindReply one → IsNotAwaited one.bytes (processed one).1
 bind-reply-ended one b =
-    subst (λ (t : State). IsNotAwaited one.bytes t) (sym (made ∙ answered)) (bind-ended b.connection one.bytes one.moment one.before accepted)
+    subst (λ (t : State). IsNotAwaited one.bytes t) (sym (made ∙ answered)) (bind-ended b.connection one.bytes one.time one.before accepted)
   where
-    made : (processed one).1 ≡ bind_step b.local one.bytes one.moment one.before
+    made : (processed one).1 ≡ bind_step b.local one.bytes one.time one.before
     made = waiting-made b.local one b.over b.whole
 
-    answered : bind_step b.local one.bytes one.moment one.before ≡ bind_answered b.connection one.bytes one.moment one.before
+    answered : bind_step b.local one.bytes one.time one.before ≡ bind_answered b.connection one.bytes one.time one.before
     answered = rw (b.phase, b.found, b.method) refl
 
     accepted : IsAccepted (bind_judgement one.before b.connection.local one.bytes)
@@ -46,7 +46,7 @@ pub reply-ends : (one : Input) → IsReplyInput one → EndsItsRequest one
 reply-ends one (inl c) = (
   accepted-outstanding one.bytes one.before c.accepted,
   subst (λ (p : Outcome × State). IsNotAwaited one.bytes p.1) (sym (control-made one c.over c.whole))
-      (accepted-gone one.bytes one.moment one.before c.accepted),
+      (accepted-gone one.bytes one.time one.before c.accepted),
 )
 reply-ends one (inr b) = (bind-outstanding b.local one.bytes one.before b.accepted, bind-reply-ended one b)
 
@@ -68,9 +68,9 @@ module _ (P : State → Bool) (Did : Input → Type 0) (k : IsBrought (λ s. P s
   bringing-anew = record {
     differs = k.differs;
     message = λ one over whole h.
-        anew one (message_step one.bytes one.moment one.before).1 (ap (λ (p : Outcome × State). p.1) (control-made one over whole)) h (k.message one over whole h);
+        anew one (message_step one.bytes one.time one.before).1 (ap (λ (p : Outcome × State). p.1) (control-made one over whole)) h (k.message one over whole h);
     binds = λ one stream of waits whole h.
-        anew one (bind_step stream.local one.bytes one.moment one.before) (waiting-made stream.local one (rw of (waits, refl)) whole) h
+        anew one (bind_step stream.local one.bytes one.time one.before) (waiting-made stream.local one (rw of (waits, refl)) whole) h
         (k.binds one stream of waits whole h);
     gone = k.gone;
     ended = k.ended;

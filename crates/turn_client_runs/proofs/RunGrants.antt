@@ -32,7 +32,7 @@ use Rattle.turn_client_laws.proofs.HasLemmas.{Has, has-right}
 use Rattle.turn_client_laws.proofs.ListedGrants.{initial-HasGrantsAsked, leaves-HasGrantsAsked}
 use Rattle.turn_client_laws.proofs.SendOrderLemmas.{initial-steady, leaves-steadies}
 use Rattle.turn_client_laws.proofs.StandLemmas.{contains-has, covers-has, covers-stood}
-use Rattle.turn_client_runs.specs.Granted.{GrantsAddress, HasReply, IsAllocated, IsAnsweredIn, IsGivenBack, IsGivenIn, IsGranted, IsGranting, IsRelayed, HoldsThrough}
+use Rattle.turn_client_runs.specs.Granted.{GrantsAddress, HasReply, IsAllocated, IsAnsweredIn, IsDeletedBy, IsGivenIn, IsGranted, IsGranting, IsRelayed, HoldsThrough}
 use Rattle.turn_client_runs.proofs.AskedFamilies.{asks-family, turns-signed}
 use Rattle.turn_client_runs.proofs.AskedLemmas.{was-asked}
 use Rattle.turn_client_runs.proofs.AskedPeers.{HasAskedPeers, turns-ask-peers}
@@ -130,14 +130,14 @@ IsAcceptedEnd g call s = IsEndedBy call s g × ((now : ℕ) → call ≡ Delete 
 abbrev Causes : Grant → Call → State → Type 0
 Causes g call s = IsAcceptedEnd g call s ⊎ IsDoneFor (IsGranting g) call s
 
-same-moment : (n m : ℕ) → Delete n ≡ Delete m → n ≡ m
-same-moment n m e = cc
+same-time : (n m : ℕ) → Delete n ≡ Delete m → n ≡ m
+same-time n m e = cc
 
 call-grants : (g : Grant) → IsActiveGrant g → (call : Call) (s : State) → Keeps s → WasActive (state_after call s) g → WasActive s g ⊎ Causes g call s
 call-grants g stands call s keeps stood = by (call-causes g call s stood)
   where
     deleted : (now : ℕ) → call ≡ Delete now → IsEndedBy call s g → ((delete_step now s).0 ≡ Ok tt) ⊎ ((delete_step now s).1 ≡ s) → WasActive s g ⊎ Causes g call s
-    deleted now how ended (inl accepted) = inr (inl (ended, λ other e. subst (λ (n : ℕ). (delete_step n s).0 ≡ Ok tt) (same-moment now other (sym how ∙ e)) accepted))
+    deleted now how ended (inl accepted) = inr (inl (ended, λ other e. subst (λ (n : ℕ). (delete_step n s).0 ≡ Ok tt) (same-time now other (sym how ∙ e)) accepted))
     deleted now how ended (inr same) = inl (subst (λ (t : State). WasActive t g) (ap (λ (c : Call). state_after c s) how ∙ same) stood)
 
     by : WasActive s g ⊎ IsCaused g call s → WasActive s g ⊎ Causes g call s
@@ -219,7 +219,7 @@ module _ (first : State) (unlisted : first.listed ≡ []) (hold : HoldNothing fi
         later = is.later;
         split = is.split;
         front = front;
-        turn = one;
+        input = one;
         back = back;
         cut = e;
         comes = turns-come is.call s one (among one front back e);
@@ -253,7 +253,7 @@ module _ (first : State) (empty : first.grants ≡ []) (unlisted : first.listed 
       (record { earlier = is.earlier; call = is.call; later = is.later; split = is.split; did = done; holds = is.holds })
 
   run-gave : (a : Relay) (calls : List Call) (is : IsDoneLast (Causes (Allocation a)) (λ s. WasActive s (Allocation a)) calls first)
-      → IsAcceptedEnd (Allocation a) is.call (state_after_all first is.earlier) → IsGivenBack a calls first
+      → IsAcceptedEnd (Allocation a) is.call (state_after_all first is.earlier) → IsDeletedBy a calls first
   run-gave a calls is ((b, now, what, how, ends, was), accepted) = record {
     earlier = is.earlier;
     now = now;

@@ -176,7 +176,7 @@ turn-together one h = together-more Came one.before (processed one).1 with (λ l
     with : (l other : Listing) → Came l → Came other → Together l.purpose other.purpose
     with l other here there = h (listing (id_of one.bytes) l.purpose) (listing (id_of one.bytes) other.purpose) here there refl
 
-    by : (l : Listing) → Has l one.before.listed ⊎ IsListedAgain one.bytes one.moment one.before (processed one).1 l → Has l one.before.listed ⊎ ((l.id ≡ fresh_id one.before) × Came l)
+    by : (l : Listing) → Has l one.before.listed ⊎ IsListedAgain one.bytes one.time one.before (processed one).1 l → Has l one.before.listed ⊎ ((l.id ≡ fresh_id one.before) × Came l)
     by l (inl old) = inl old
     by l (inr (purpose, asked, answers, (made, is))) = inr (is, purpose-with (id_of one.bytes) l.purpose one.before (contains-has l.purpose (purposes_of (id_of one.bytes) one.before) answers))
 

@@ -20,11 +20,11 @@ HasTransactionEnded one = IsNotAwaited one.bytes (processed one).1
 -- outstanding CONNECTION_BIND that was made for it, which is no longer outstanding after the input (RFC
 -- 6062, section 4.3).
 abbrev pub HasSuccess : SocketAddr → SocketAddr → List Input → Type 0
-HasSuccess local peer turns = IsAmong (λ one. IsBindInput local peer one × HasTransactionEnded one) turns
+HasSuccess local peer inputs = IsAmong (λ one. IsBindInput local peer one × HasTransactionEnded one) inputs
 
 -- so did one of these inputs for the data connection
 abbrev pub HasConnectionSuccess : DataConnection → List Input → Type 0
-HasConnectionSuccess c turns = IsAmong (λ one. IsConnecting c one × HasTransactionEnded one) turns
+HasConnectionSuccess c inputs = IsAmong (λ one. IsConnecting c one × HasTransactionEnded one) inputs
 
 -- one of these calls bound the stream at this local address to this peer by such an input, and it is bound
 -- since

@@ -33,13 +33,13 @@ is_answer one = nat_lt one.before.challenges (processed one).1.challenges
 
 -- so many challenges are answered by these inputs
 abbrev pub answers_in : List Input → ℕ
-answers_in turns = length (filter is_answer turns)
+answers_in inputs = length (filter is_answer inputs)
 
 -- one of these inputs is a signed reply to an outstanding request, after which challenges are counted anew
-abbrev pub IsHeededAmong : List Input → Type 0
-IsHeededAmong turns =
+abbrev pub IsReplyAcceptedAmong : List Input → Type 0
+IsReplyAcceptedAmong inputs =
     IsAmong (λ one. ((processed one).1.challenges < one.before.challenges)
-    × (is_message one.bytes ≡ true) × IsReplyAccepted one.bytes one.moment one.before) turns
+    × (is_message one.bytes ≡ true) × IsReplyAccepted one.bytes one.time one.before) inputs
 
 -- each challenge among the inputs of the calls is counted if it is answered
 abbrev pub CountsAll : State → List Call → Type 0
@@ -47,4 +47,4 @@ CountsAll s calls = (one : Input) → Contains (handled_in s calls) one → IsCh
 
 -- at most as many are answered by the calls as configured, unless challenges are counted anew among them
 abbrev pub AnswersFew : State → List Call → Type 0
-AnswersFew s calls = (answers_in (handled_in s calls) ≤ s.config.max_stale_nonces) ⊎ IsHeededAmong (handled_in s calls)
+AnswersFew s calls = (answers_in (handled_in s calls) ≤ s.config.max_stale_nonces) ⊎ IsReplyAcceptedAmong (handled_in s calls)

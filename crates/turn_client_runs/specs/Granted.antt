@@ -46,16 +46,16 @@ IsOverIts g one = IsOverControl one
 -- least 600 s in answer to a REFRESH for more than 0 s; a permission for 300 s; a channel for 600 s.
 abbrev pub IsGivenIn : Input → Purpose → Grant → Type 0
 IsGivenIn one ForAllocation (Allocation a) =
-    (n : ℕ) × (lifetime_in one.bytes ≡ Some n) × (a.expiry ≡ later_by (seconds n) one.moment)
+    (n : ℕ) × (lifetime_in one.bytes ≡ Some n) × (a.expiry ≡ later_by (seconds n) one.time)
     × Contains (relayed_in one.bytes) a.relayed
     × (list_any (λ family. is_of_family family a.relayed) one.before.families ≡ true)
 IsGivenIn one (ForRefresh family lifetime) (Allocation a) =
     (1 ≤ lifetime) × (is_of_family family a.relayed ≡ true)
-    × ((n : ℕ) × (lifetime_in one.bytes ≡ Some n) × (min_lifetime ≤ n) × (a.expiry ≡ later_by (seconds n) one.moment))
+    × ((n : ℕ) × (lifetime_in one.bytes ≡ Some n) × (min_lifetime ≤ n) × (a.expiry ≡ later_by (seconds n) one.time))
 IsGivenIn one (ForPermission ip) (Permission other (Active expiry)) =
-    (same_ip other ip ≡ true) × (expiry ≡ later_by permission_lifetime one.moment)
+    (same_ip other ip ≡ true) × (expiry ≡ later_by permission_lifetime one.time)
 IsGivenIn one (ForChannel number peer) (Channel other to (Active expiry)) =
-    (other ≡ number) × (to ≡ peer) × (expiry ≡ later_by channel_lifetime one.moment)
+    (other ≡ number) × (to ≡ peer) × (expiry ≡ later_by channel_lifetime one.time)
 IsGivenIn one (ForBind local peer id) (Connection c) = (c.local ≡ local) × (c.deadline ≡ None)
 IsGivenIn one _ _ = ⊥
 
@@ -121,8 +121,8 @@ IsFrameInFront one = by one.stream
 
 -- the input is processed in this call, and at its time
 abbrev pub ComesIn : Call → Input → Type 0
-ComesIn (Recv packet now) one = (one.moment ≡ now) × IsWholeOrInFront packet.payload one
-ComesIn (PollRecv now) one = (one.moment ≡ now) × IsFrameInFront one
+ComesIn (Recv packet now) one = (one.time ≡ now) × IsWholeOrInFront packet.payload one
+ComesIn (PollRecv now) one = (one.time ≡ now) × IsFrameInFront one
 ComesIn _ one = ⊥
 
 -- ---- an own request
@@ -134,7 +134,7 @@ IsAsked id p now s t = (request : Purpose) × IsListedFor request p × IsMade re
 
 -- the input made it, in answer to a request that was made for the same
 abbrev pub IsRequestedByInput : ℕ → Purpose → Input → Type 0
-IsRequestedByInput id p one = IsAsked id p one.moment one.before (processed one).1
+IsRequestedByInput id p one = IsAsked id p one.time one.before (processed one).1
 
 -- the call requests this itself, and made it
 abbrev pub IsAskedItself : ℕ → Purpose → Call → State → Type 0
@@ -173,14 +173,14 @@ pub record IsAnsweredIn (Did : Purpose → Input → Type 0) (P : State → Type
   pub later : List Call
   pub split : calls ≡ earlier ++ call ∷ later
   pub front : List Input
-  pub turn : Input
+  pub input : Input
   pub back : List Input
-  pub cut : handled call (state_after_all first earlier) ≡ front ++ turn ∷ back
-  pub comes : ComesIn call turn
-  pub received : HasArrived (earlier ++ call ∷ []) first turn
+  pub cut : handled call (state_after_all first earlier) ≡ front ++ input ∷ back
+  pub comes : ComesIn call input
+  pub received : HasArrived (earlier ++ call ∷ []) first input
   pub purpose : Purpose
-  pub did : Did purpose turn
-  pub asked : WasAskedBefore (id_of turn.bytes) purpose earlier first front
+  pub did : Did purpose input
+  pub asked : WasAskedBefore (id_of input.bytes) purpose earlier first front
   pub holds : HoldsThrough P later (state_after call (state_after_all first earlier))
 
 -- An input of one of these calls granted it with the expiry that it has, and no later call removed it or
@@ -203,7 +203,7 @@ IsAllocated relayed calls first = IsAnsweredIn (GrantsAddress relayed) (IsRelaye
 
 -- One of these calls, an accepted `delete`, ended it at the time of the call, after an input of an earlier
 -- call had granted it. No later call removed it or gave it another expiry.
-pub record IsGivenBack (a : Relay) (calls : List Call) (first : State) : Type 0 where
+pub record IsDeletedBy (a : Relay) (calls : List Call) (first : State) : Type 0 where
   pub earlier : List Call
   pub now : ℕ
   pub later : List Call
@@ -217,7 +217,7 @@ pub record IsGivenBack (a : Relay) (calls : List Call) (first : State) : Type 0 
 
 -- why it is active after these calls
 abbrev pub HasReply : Grant → List Call → State → Type 0
-HasReply (Allocation a) calls first = IsGranted (Allocation a) calls first ⊎ IsGivenBack a calls first
+HasReply (Allocation a) calls first = IsGranted (Allocation a) calls first ⊎ IsDeletedBy a calls first
 HasReply g calls first = IsGranted g calls first
 
 -- each grant of this kind that is active after any calls of a new client was granted in them

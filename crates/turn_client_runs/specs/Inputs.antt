@@ -32,4 +32,4 @@ answered_in s (call ∷ calls) = delivered_by call s ++ answered_in (state_after
 
 -- one of these inputs did it
 abbrev pub IsAmong : (Input → Type 0) → List Input → Type 0
-IsAmong Did turns = (one : Input) × Contains turns one × Did one
+IsAmong Did inputs = (one : Input) × Contains inputs one × Did one

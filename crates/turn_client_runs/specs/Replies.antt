@@ -63,7 +63,7 @@ pub record MakesInCall (id : ℕ) (call : Call) (s : State) : Type 0 where
 
 -- one of these inputs makes a request under the ID
 abbrev pub IsMadeAmong : ℕ → List Input → Type 0
-IsMadeAmong id turns = IsAmong (InputMakesRequest id) turns
+IsMadeAmong id inputs = IsAmong (InputMakesRequest id) inputs
 
 -- one of these calls does
 abbrev pub IsMadeIn : ℕ → State → List Call → Type 0

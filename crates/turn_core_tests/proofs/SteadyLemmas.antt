@@ -71,7 +71,7 @@ module _ (s t : State) where
       → FitsPhase s → FitsPhase t
   channel-steady (Ok x) transport peer now h = leaves-steadies (Call.BindChannel transport peer now) s t (inl h.1)
   channel-steady (Err Bind.AlreadyExists) transport peer now h = leaves-steadies (Call.BindChannel transport peer now) s t (inl h.1)
-  channel-steady (Err (Bind.ExpiredChannelExists moment)) transport peer now h = leaves-steadies (Call.BindChannel transport peer now) s t (inl h.1)
+  channel-steady (Err (Bind.ExpiredChannelExists time)) transport peer now h = leaves-steadies (Call.BindChannel transport peer now) s t (inl h.1)
   channel-steady (Err Bind.NoAllocation) transport peer now h = leaves-steadies (Call.BindChannel transport peer now) s t (inl h.1)
   channel-steady (Err Bind.OutOfMemory) transport peer now h = leaves-steadies (Call.BindChannel transport peer now) s t (inr h.1)
 

@@ -122,7 +122,7 @@ impl Place {
 fn tells(client: &mut Client, now: u32, want: &Want<'_>) -> Result<bool, AllocError> {
     let told = client.poll(at(now))?;
     Ok(match want {
-        Want::Wait(moment) => told == TurnPollRet::WaitUntil(at(*moment)),
+        Want::Wait(time) => told == TurnPollRet::WaitUntil(at(*time)),
         Want::Closed => told == TurnPollRet::Closed,
         Want::Offer(id, place) => told == offer(*id, client.control(), *place),
         _ => false,

@@ -18,7 +18,7 @@ turned-going n now start given s t answer e told after =
 -- once there is nothing to do, the client is not polled again
 once_more-rests : (now : ℕ) (given : List Given) (rest : Rest) (s : State) → (rest ≡ Now → ⊥)
     → once_more now (record { given = given; rest = rest; client = s }) ≡ record { given = given; rest = rest; client = s }
-once_more-rests now given (Until moment) s other = refl
+once_more-rests now given (Until time) s other = refl
 once_more-rests now given Now s other = absurd (other refl)
 once_more-rests now given Ended s other = refl
 

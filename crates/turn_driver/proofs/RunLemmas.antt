@@ -20,7 +20,7 @@ use Rattle.turn_client_api.specs.declared.poll.TurnPollRet.TheVariants as Poll
 use Rattle.turn_driver.specs.Given.{Given, FromPeer, Happened, ToSend}
 use Rattle.turn_driver.specs.Next.{Answer, Does, Rests, by_streams, by_time, next_step, to_send, to_tell, waiting}
 use Rattle.turn_driver.specs.Run.{IsAsk, IsRun, IsWhole, all_given, asked_for, given_by}
-use Rattle.turn_driver.specs.Driver.{DriveState, begun, going, once_more, stands, drive_steps, with_answer}
+use Rattle.turn_driver.specs.Driver.{DriveState, begun, going, once_more, driven, drive_steps, with_answer}
 use Rattle.turn_driver.specs.declared.task.Rest.{Rest}
 use Rattle.turn_driver.specs.declared.task.Rest.TheVariants.{Until, Now, Ended}
 
@@ -49,14 +49,14 @@ told-run now rest (None, s) = first now (PollTransmit now) s (to_send rest (tran
 waiting-run : (now : ℕ) (rest : Rest) (s : State) → GoesOn now [] s (waiting now rest s)
 waiting-run now rest s = first now PollEvent s (waiting now rest s) (inr (inr (inl refl))) (told-run now rest (event_step s))
 
-until-run : (later : Bool) (now moment : ℕ) (s : State) → GoesOn now [] s (cond later (Rests (Until moment), s) (waiting now Now s))
-until-run true now moment s = ([], tt, (refl, refl))
-until-run false now moment s = waiting-run now Now s
+until-run : (later : Bool) (now time : ℕ) (s : State) → GoesOn now [] s (cond later (Rests (Until time), s) (waiting now Now s))
+until-run true now time s = ([], tt, (refl, refl))
+until-run false now time s = waiting-run now Now s
 
 time-run : (now : ℕ) (p : TurnPollRet × State) → GoesOn now (asked_for p.0) p.1 (by_time now p)
 time-run now (Poll.AllocateTcpSocket id socket peer, s) = ([], tt, (refl, refl))
 time-run now (Poll.TcpClose local remote, s) = ([], tt, (refl, refl))
-time-run now (Poll.WaitUntil moment, s) = until-run (nat_lt now moment) now moment s
+time-run now (Poll.WaitUntil time, s) = until-run (nat_lt now time) now time s
 time-run now (Poll.Closed, s) = waiting-run now Ended s
 
 streams-run : (now : ℕ) (p : Option Payload × State) → GoesOn now (option_to_list (option_map FromPeer p.0)) p.1 (by_streams now p)
@@ -107,7 +107,7 @@ answer-run now given s (Rests rest, t) (calls, all, told) = (calls, all, (sym (a
 once_more-run : (now : ℕ) (given : List Given) (rest : Rest) (s : State) → Runs now (record { given = given; rest = rest; client = s })
     (once_more now (record { given = given; rest = rest; client = s }))
 once_more-run now given Now s = answer-run now given s (next_step now s) (next-run now s)
-once_more-run now given (Until moment) s = ([], tt, (sym (append-nil given), refl))
+once_more-run now given (Until time) s = ([], tt, (sym (append-nil given), refl))
 once_more-run now given Ended s = ([], tt, (sym (append-nil given), refl))
 
 turned-run : (n now : ℕ) (t : DriveState) → Runs now t (drive_steps n now t)
@@ -130,6 +130,6 @@ turn-whole (Some packet) most now t = by (turned-run most now (begun (Some packe
 
 -- the same holds of the list that is returned
 pub whole-ok : {E : Type 0} (r : Result Rest E) (came : Option (Transmit (List ℕ))) (most now : ℕ) (t : DriveState) (tasks : List Task) (s : State)
-    → IfOk r (λ rest. stands tasks rest s ≡ drive_steps most now (begun came now t)) → OnOk r (IsWhole came now t (stands tasks Now s))
+    → IfOk r (λ rest. driven tasks rest s ≡ drive_steps most now (begun came now t)) → OnOk r (IsWhole came now t (driven tasks Now s))
 whole-ok (Ok rest) came most now t tasks s told = subst (λ (u : DriveState). IsWhole came now t (record u { rest = Now })) (sym told) (turn-whole came most now t)
 whole-ok (Err e) came most now t tasks s told = tt

@@ -20,12 +20,12 @@ pub record DriveState : Type 0 where
   pub client : State
 
 -- a list of tasks and a client, with what follows
-abbrev pub stands : List Task → Rest → State → DriveState
-stands tasks rest s = record { given = map given_of tasks; rest = rest; client = s }
+abbrev pub driven : List Task → Rest → State → DriveState
+driven tasks rest s = record { given = map given_of tasks; rest = rest; client = s }
 
 -- the same while work may be left
 abbrev pub drive_state : List Task → State → DriveState
-drive_state tasks s = stands tasks Now s
+drive_state tasks s = driven tasks Now s
 
 abbrev pub going : List Given → State → DriveState
 going given s = record { given = given; rest = Now; client = s }

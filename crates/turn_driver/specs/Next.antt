@@ -46,7 +46,7 @@ waiting now rest s = to_tell now rest (event_step s)
 abbrev pub by_time : ℕ → TurnPollRet × State → Answer × State
 by_time now (Poll.AllocateTcpSocket id socket peer, s) = (Does (ToOpen id socket peer), s)
 by_time now (Poll.TcpClose local remote, s) = (Does (ToClose local remote), s)
-by_time now (Poll.WaitUntil moment, s) = if nat_lt now moment then (Rests (Until moment), s) else waiting now Now s
+by_time now (Poll.WaitUntil time, s) = if nat_lt now time then (Rests (Until time), s) else waiting now Now s
 by_time now (Poll.Closed, s) = waiting now Ended s
 
 abbrev pub poll_answer : ℕ → State → Answer × State
@@ -66,7 +66,7 @@ next_step now s = by_streams now (poll_recv_step now s)
 -- Until the wake-up time nothing is due: no packet, no event, no timeout of a request and no expiry of a grant.
 -- A client that has ended has no event and no packet left.
 abbrev pub IsRestful : Rest → ℕ → State → Type 0
-IsRestful (Until moment) now s = (now < moment) × IsIdleUntil now moment s
+IsRestful (Until time) now s = (now < time) × IsIdleUntil now time s
 IsRestful Now now s = ⊤
 IsRestful Ended now s = (s.events ≡ []) × (transmit_step now s ≡ (None, s))
 
@@ -86,7 +86,7 @@ SendEnds now s t = NoPacket (event_step s) t
 
 -- it failed for the packet, when `poll` had nothing else to return
 abbrev pub NothingSent : ℕ → TurnPollRet × State → State → Type 0
-NothingSent now (Poll.WaitUntil moment, s) t = (moment ≤ now) × SendEnds now s t
+NothingSent now (Poll.WaitUntil time, s) t = (time ≤ now) × SendEnds now s t
 NothingSent now (Poll.Closed, s) t = SendEnds now s t
 NothingSent now _ t = ⊥
 

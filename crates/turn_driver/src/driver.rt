@@ -4,7 +4,7 @@ ghost use Rattle.std.specs.Prelude.{◌≡◌, ◌≤◌, ◌^◌, IfOk, OnErr, 
 ghost use Rattle.turn_driver.specs.Given.{packet_in, packet_of};
 ghost use Rattle.turn_driver.specs.Next.{IsRestful};
 ghost use Rattle.turn_driver.specs.Run.{IsWhole};
-ghost use Rattle.turn_driver.specs.Driver.{Draws, Stops, StopsAtHand, begun, drive_state, stands, drive_step, drive_steps};
+ghost use Rattle.turn_driver.specs.Driver.{Draws, Stops, StopsAtHand, begun, drive_state, driven, drive_step, drive_steps};
 
 use crate::next::{Next, next_task};
 use crate::task::{Rest, Task};
@@ -30,7 +30,7 @@ pub fn drive_client<C: TurnClientApi>(
     tasks: &mut Vec<Task>,
 ) -> Result<Rest, AllocError>
     requires now_in_range { now ≤ 2 ^ 62 }
-    ensures ok { IfOk result (λ rest. stands tasks.new.items rest (C.state client.new) ≡ drive_step most came now tasks.old.items (C.state client.old)) }
+    ensures ok { IfOk result (λ rest. driven tasks.new.items rest (C.state client.new) ≡ drive_step most came now tasks.old.items (C.state client.old)) }
     ensures whole { OnOk result (IsWhole (packet_in came) now (drive_state tasks.old.items (C.state client.old))
         (drive_state tasks.new.items (C.state client.new))) }
     ensures restful { IfOk result (λ rest. IsRestful rest now (C.state client.new)) }
@@ -87,7 +87,7 @@ fn poll_tasks<C: TurnClientApi>(
     tasks: &mut Vec<Task>,
 ) -> Result<Rest, AllocError>
     requires now_in_range { now ≤ 2 ^ 62 }
-    ensures ok { IfOk result (λ rest. stands tasks.new.items rest (C.state client.new)
+    ensures ok { IfOk result (λ rest. driven tasks.new.items rest (C.state client.new)
         ≡ drive_steps most now (drive_state tasks.old.items (C.state client.old))) }
     ensures restful { IfOk result (λ rest. IsRestful rest now (C.state client.new)) }
     ensures no_memory { OnErr result (Draws most now (drive_state tasks.old.items (C.state client.old)) (drive_state tasks.new.items (C.state client.new))) }

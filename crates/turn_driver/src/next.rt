@@ -63,9 +63,9 @@ fn poll<C: TurnClientApi>(client: &mut C, now: Instant) -> Result<Next, AllocErr
             local_addr,
             remote_addr,
         })),
-        TurnPollRet::WaitUntil(moment) => {
-            if now < moment {
-                Ok(Next::Rest(Rest::Until(moment)))
+        TurnPollRet::WaitUntil(time) => {
+            if now < time {
+                Ok(Next::Rest(Rest::Until(time)))
             } else {
                 what_waits(client, now, Rest::Now)
             }

@@ -18,7 +18,7 @@ use Rattle.turn_client_api.specs.declared.call.Call.TheVariants as Calls
 use Rattle.turn_client_api.specs.declared.poll.Socket5Tuple.{Socket5Tuple}
 use Rattle.turn_lines.specs.Address.{address_of}
 use Rattle.turn_lines.specs.Arguments.{address_if_any, data_ends_of, one_address_of, packet_of, sending_of, transport_and_address_of, transport_and_ip_of, tuple_of, two_addresses_of, way_of}
-use Rattle.turn_lines.specs.Call.{call_of, call_with, if_short, is_short, moment_of, name_of}
+use Rattle.turn_lines.specs.Call.{call_of, call_with, if_short, is_short, instant_of, name_of}
 use Rattle.turn_lines.specs.Fault.{needed}
 use Rattle.turn_lines.specs.Field.{bytes_of, is_lower_hex, transport_of}
 use Rattle.turn_lines.specs.Line.{call_line, HasLine, IsIp, IsSpelled, IsSpelledIfAny, IsTuple, text_if_any, tuple_fields}
@@ -99,8 +99,8 @@ with_name relays now rest =
 call_of-parts : (relays : TransportType) (now : ℕ) (rest : List (List ℕ)) (line : List ℕ) → parts_of 32 line ≡ decimal now ∷ rest → now ≤ 2 ^ 62 → call_of relays line ≡ with_name relays now rest
 unfolding call_of
 call_of-parts relays now rest line e h =
-    ap (λ parts. needed {A = ℕ × List (List ℕ)} (next moment_of parts) Bad.Moment (λ at. with_name relays at.0 at.1)) e
-    ∙ ap (λ o. needed {A = ℕ × List (List ℕ)} (option_map (λ value. (value, rest)) o) Bad.Moment (λ at. with_name relays at.0 at.1)) (decimal_up_to-decimal (2 ^ 62) now h (omega arith))
+    ap (λ parts. needed {A = ℕ × List (List ℕ)} (next instant_of parts) Bad.Time (λ at. with_name relays at.0 at.1)) e
+    ∙ ap (λ o. needed {A = ℕ × List (List ℕ)} (option_map (λ value. (value, rest)) o) Bad.Time (λ at. with_name relays at.0 at.1)) (decimal_up_to-decimal (2 ^ 62) now h (omega arith))
 
 -- the fields of a line whose first field is a time
 call_of-fields : (relays : TransportType) (now : ℕ) (rest : List (List ℕ)) → now ≤ 2 ^ 62 → AllFree 32 rest → call_of relays (fields_text (decimal now ∷ rest)) ≡ with_name relays now rest

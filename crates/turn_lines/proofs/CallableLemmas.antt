@@ -10,7 +10,7 @@ use Rattle.turn_client_api.specs.declared.call.Call.{Call}
 use Rattle.turn_client_api.specs.declared.call.Call.TheVariants as Calls
 use Rattle.turn_client_proto.specs.Run.{IsCallable}
 use Rattle.turn_lines.specs.Arguments.{data_ends_of, one_address_of, packet_of, sending_of, transport_and_address_of, transport_and_ip_of, tuple_of, two_addresses_of}
-use Rattle.turn_lines.specs.Call.{call_of, call_with, has_short_payload, if_short, is_short, moment_of, name_of}
+use Rattle.turn_lines.specs.Call.{call_of, call_with, has_short_payload, if_short, is_short, instant_of, name_of}
 use Rattle.turn_lines.specs.Fault.{needed}
 use Rattle.turn_lines.specs.Number.{decimal_up_to, is_decimal}
 use Rattle.turn_lines.specs.Parts.{ends, next, parts_of}
@@ -29,10 +29,10 @@ low_decimal most text n h =
     let g = of_guard (is_decimal text && nat_le value most) value n h in
     subst (λ m. m ≤ most) g.1 (leb-true value most (both g.0).1)
 
-low_moment : (fields : List (List ℕ)) (now : ℕ × List (List ℕ)) → next moment_of fields ≡ Some now → now.0 ≤ 2 ^ 62
-low_moment [] now h = cc
-low_moment (field ∷ fields) now h =
-    let m = of_map (λ value. (value, fields)) (moment_of field) now h in
+low_time : (fields : List (List ℕ)) (now : ℕ × List (List ℕ)) → next instant_of fields ≡ Some now → now.0 ≤ 2 ^ 62
+low_time [] now h = cc
+low_time (field ∷ fields) now h =
+    let m = of_map (λ value. (value, fields)) (instant_of field) now h in
     subst (λ (at : ℕ × List (List ℕ)). at.0 ≤ 2 ^ 62) m.2 (low_decimal (2 ^ 62) field m.0 m.1)
 
 -- the call is allowed, unless it sends too many bytes
@@ -76,10 +76,10 @@ callable_with relays now Name.Have fields call low h = mapped relays (λ p. Call
 pub callable_line : (relays : TransportType) (line : List ℕ) (call : Call) → call_of relays line ≡ Ok call → IsCallable relays call
 unfolding call_of
 callable_line relays line call h =
-    let at = of_needed (next moment_of (parts_of 32 line)) Bad.Moment
+    let at = of_needed (next instant_of (parts_of 32 line)) Bad.Time
     (λ now. needed (next name_of now.1) Bad.Call (λ name. needed (call_with now.0 name.0 name.1) Bad.Argument (if_short relays))) call h in
     let name = of_needed (next name_of at.0.1) Bad.Call (λ name. needed (call_with at.0.0 name.0 name.1) Bad.Argument (if_short relays)) call at.2 in
     let made = of_needed (call_with at.0.0 name.0.0 name.0.1) Bad.Argument (if_short relays) call name.2 in
     let kept = of_then (has_short_payload relays made.0) Bad.Payload made.0 call made.2 in
-    let low : at.0.0 ≤ 2 ^ 62 = low_moment (parts_of 32 line) at.0 at.1 in
+    let low : at.0.0 ≤ 2 ^ 62 = low_time (parts_of 32 line) at.0 at.1 in
     subst (IsCallable relays) kept.1 (callable_with relays at.0.0 name.0.0 name.0.1 made.0 low made.1 kept.0)

@@ -18,8 +18,8 @@ use Rattle.turn_lines.specs.declared.fault.BadKind.{BadKind}
 use Rattle.turn_lines.specs.declared.fault.BadKind.TheVariants as Bad
 
 -- nanoseconds
-abbrev pub moment_of : List ℕ → Option ℕ
-moment_of = decimal_up_to (2 ^ 62)
+abbrev pub instant_of : List ℕ → Option ℕ
+instant_of = decimal_up_to (2 ^ 62)
 
 -- the calls that bring the client time, packets or sockets, or take its output, each with its name
 abbrev pub driving_calls : List (List ℕ × CallName)
@@ -93,6 +93,6 @@ if_short relays call = if has_short_payload relays call then Ok call else Err Ba
 -- NOW CALL, and the arguments, for a client whose allocation is over this transport
 unfoldable pub call_of : TransportType → List ℕ → Result Call BadKind
 call_of relays line =
-    needed (next moment_of (parts_of 32 line)) Bad.Moment (λ now.
+    needed (next instant_of (parts_of 32 line)) Bad.Time (λ now.
     needed (next name_of now.1) Bad.Call (λ name.
     needed (call_with now.0 name.0 name.1) Bad.Argument (if_short relays)))

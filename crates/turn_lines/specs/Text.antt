@@ -64,7 +64,7 @@ socket_fields id socket peer =
 
 -- the result of `poll`
 abbrev pub poll_fields : TurnPollRet → List (List ℕ)
-poll_fields (WaitUntil moment) = codes "wait" ∷ decimal moment ∷ []
+poll_fields (WaitUntil time) = codes "wait" ∷ decimal time ∷ []
 poll_fields (AllocateTcpSocket id socket peer) = socket_fields id socket peer
 poll_fields (TcpClose local remote) = codes "close" ∷ address_text local ∷ address_text remote ∷ []
 poll_fields Closed = codes "closed" ∷ []
@@ -158,7 +158,7 @@ answers_text replies = flat_map (λ reply. line_text (reply_fields reply)) repli
 abbrev pub kind_text : BadKind → List ℕ
 kind_text Bad.Size = codes "size"
 kind_text Bad.Head = codes "head"
-kind_text Bad.Moment = codes "moment"
+kind_text Bad.Time = codes "moment"
 kind_text Bad.Call = codes "call"
 kind_text Bad.Argument = codes "argument"
 kind_text Bad.Payload = codes "payload"

@@ -2,7 +2,7 @@
 
 ghost use Rattle.std.specs.Prelude.{◌≡◌, Some, None, MatchOption};
 ghost use Rattle.turn_client_api.specs.declared.call.Call.{Call};
-ghost use Rattle.turn_lines.specs.Call.{call_of, call_with, has_short_payload, moment_of, name_of};
+ghost use Rattle.turn_lines.specs.Call.{call_of, call_with, has_short_payload, instant_of, name_of};
 ghost use Rattle.turn_lines.specs.Call.{have_of, is_short, permissions_call, without_arguments};
 ghost use Rattle.turn_lines.specs.Fault.{Reads};
 ghost use Rattle.turn_lines.specs.Field.{Gives};
@@ -36,7 +36,7 @@ const MAX_PAYLOAD: usize = 65_504;
 ///
 /// # Errors
 ///
-/// The first of these: `Moment` if the first field is not a time, `Call` if the second is not the name of a
+/// The first of these: `Time` if the first field is not a time, `Call` if the second is not the name of a
 /// call, `Argument` if the other fields are not the arguments of that call, `Payload` if it is a `send` of
 /// too many bytes for an allocation over UDP. `OutOfMemory` if memory allocation for the bytes of a packet
 /// failed.
@@ -49,7 +49,7 @@ pub fn parse_call(
     ensures { Reads (λ call. call) result (call_of relays line.now) }
 {
     let mut fields = Parts::new(line, b' ');
-    let now = take_moment(&mut fields).ok_or(ReadError::Bad(BadKind::Moment))?;
+    let now = take_instant(&mut fields).ok_or(ReadError::Bad(BadKind::Time))?;
     let name = take_name(&mut fields).ok_or(ReadError::Bad(BadKind::Call))?;
     match take_arguments(alloc, name, now, &mut fields) {
         Ok(call) => {
@@ -64,8 +64,8 @@ pub fn parse_call(
     }
 }
 
-fn take_moment(fields: &mut Parts<'_>) -> Option<Instant>
-    ensures { MatchOption result (next moment_of fields.old ≡ None) (λ now. next moment_of fields.old ≡ Some (now, fields.new)) }
+fn take_instant(fields: &mut Parts<'_>) -> Option<Instant>
+    ensures { MatchOption result (next instant_of fields.old ≡ None) (λ now. next instant_of fields.old ≡ Some (now, fields.new)) }
 {
     let nanos = parse_decimal(fields.next()?, GREATEST_MOMENT)?;
     Some(Instant::from_nanos(nanos))

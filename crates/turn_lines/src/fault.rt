@@ -19,7 +19,7 @@ pub enum BadKind {
     /// The line is not a head: it does not describe a client.
     Head,
     /// The call has no valid time.
-    Moment,
+    Time,
     /// There is no such call.
     Call,
     /// The arguments are not those of this call, or there is one too many or too few.

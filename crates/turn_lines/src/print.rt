@@ -41,7 +41,7 @@ fn kind_text(kind: BadKind) -> &'static str
     match kind {
         BadKind::Size => "size",
         BadKind::Head => "head",
-        BadKind::Moment => "moment",
+        BadKind::Time => "moment",
         BadKind::Call => "call",
         BadKind::Argument => "argument",
         BadKind::Payload => "payload",

@@ -152,7 +152,7 @@ fn bad_answer(kind: BadKind) -> &'static str
     match kind {
         BadKind::Size => "bad size\n",
         BadKind::Head => "bad head\n",
-        BadKind::Moment => "bad moment\n",
+        BadKind::Time => "bad moment\n",
         BadKind::Call => "bad call\n",
         BadKind::Argument => "bad argument\n",
         BadKind::Payload => "bad payload\n",

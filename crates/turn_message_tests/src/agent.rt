@@ -27,7 +27,7 @@ static TO_THE_GREATEST: [Step; 4] = [
 
 // A deadline past the largest time is returned as that time, and one for no outstanding request as 9999 s.
 #[test]
-fn moments_stop_at_the_greatest(rt: HostRuntime) {
+fn times_stop_at_the_greatest(rt: HostRuntime) {
     let mut agent = agent_with(rt.alloc(), TransportType::Udp, u64::MAX, u64::MAX, 2, 0);
     follow_all(&rt, &mut agent, &TO_THE_GREATEST);
 }
@@ -63,7 +63,7 @@ static TWO_AT_ONCE: [Step; 12] = [
 ];
 
 #[test]
-fn two_due_at_one_moment_go_in_their_order(rt: HostRuntime) {
+fn two_due_at_one_time_go_in_their_order(rt: HostRuntime) {
     let mut agent = short_agent(rt.alloc());
     follow_all(&rt, &mut agent, &TWO_AT_ONCE);
 }
@@ -96,7 +96,7 @@ static EARLIEST: [Step; 8] = [
 
 // Before `poll` the earliest time is computed from all requests, after it the stored one is used.
 #[test]
-fn earliest_moment_counts_the_callers_own(rt: HostRuntime) {
+fn earliest_time_counts_the_callers_own(rt: HostRuntime) {
     let mut agent = short_agent(rt.alloc());
     follow_all(&rt, &mut agent, &EARLIEST);
 }
@@ -128,7 +128,7 @@ static BACK: [Step; 7] = [
 
 // A wait counts from the time of its transmission, even if that is before the time of an earlier one.
 #[test]
-fn moments_may_go_back(rt: HostRuntime) {
+fn times_may_go_back(rt: HostRuntime) {
     let mut agent = agent_with(rt.alloc(), TransportType::Udp, 2_000_000, u64::MAX, 3, 5);
     follow_all(&rt, &mut agent, &BACK);
 }

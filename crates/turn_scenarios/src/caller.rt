@@ -90,7 +90,7 @@ impl Caller {
         &mut self,
         client: &mut C,
         rules: &[Rule<'_>],
-        moment: u32,
+        time: u32,
     ) -> Result<(), AllocError> {
         let mut slept = false;
         for _ in 0..MANY {
@@ -102,13 +102,13 @@ impl Caller {
                 self.draw_events(client)?;
                 break;
             }
-            if iteration.until > moment {
+            if iteration.until > time {
                 break;
             }
             slept = iteration.until > self.now;
             self.now = iteration.until;
         }
-        self.now = moment;
+        self.now = time;
         Ok(())
     }
 
@@ -135,9 +135,9 @@ impl Caller {
     /// The wake-up time that the client returns.
     fn poll<C: TurnClientApi>(&mut self, client: &mut C) -> Result<u32, AllocError> {
         match client.poll(at(self.now))? {
-            TurnPollRet::WaitUntil(moment) => {
+            TurnPollRet::WaitUntil(time) => {
                 // A caller with a clock of milliseconds rounds up.
-                let millis = moment.as_nanos().div_ceil(1_000_000);
+                let millis = time.as_nanos().div_ceil(1_000_000);
                 Ok(u32::try_from(millis).unwrap_or(u32::MAX))
             }
             _ => {

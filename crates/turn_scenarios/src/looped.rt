@@ -106,16 +106,16 @@ impl<'a> Looped<'a> {
     }
 
     /// Runs the loop up to this time, and sleeps between its iterations.
-    fn wait<C: TurnClientApi>(&mut self, client: &mut C, moment: u32) -> Result<(), AllocError> {
+    fn wait<C: TurnClientApi>(&mut self, client: &mut C, time: u32) -> Result<(), AllocError> {
         for _ in 0..MANY {
             let rest = self.iterate(client)?;
             let until = self.wakes(rest);
-            if until > moment || self.has_ended {
+            if until > time || self.has_ended {
                 break;
             }
             self.now = until;
         }
-        self.now = moment;
+        self.now = time;
         Ok(())
     }
 
@@ -150,8 +150,8 @@ impl<'a> Looped<'a> {
     fn wakes(&mut self, rest: Rest) -> u32 {
         self.has_more = rest == Rest::Now;
         let told = match rest {
-            Rest::Until(moment) => {
-                let millis = moment.as_nanos().div_ceil(1_000_000);
+            Rest::Until(time) => {
+                let millis = time.as_nanos().div_ceil(1_000_000);
                 u32::try_from(millis).unwrap_or(u32::MAX)
             }
             Rest::Now => self.now,
@@ -183,9 +183,9 @@ impl<'a> Looped<'a> {
 
     /// The task that is expected now, if there is one.
     fn next_want(&mut self) -> Option<Want<'a>> {
-        let (moment, want) = *self.rows.get(self.done)?;
+        let (time, want) = *self.rows.get(self.done)?;
         self.done = self.done.saturating_add(1);
-        if moment == self.now { Some(want) } else { None }
+        if time == self.now { Some(want) } else { None }
     }
 }
 

@@ -184,7 +184,7 @@ fn are_addresses(found: &[(TransportType, SocketAddr)], places: &[Place]) -> boo
 /// Whether the reply is the expected one.
 fn is_wanted(alloc: Global, reply: &Reply, want: &Want<'_>) -> Result<bool, AllocError> {
     match (reply, want) {
-        (Reply::Poll(TurnPollRet::WaitUntil(told)), Want::Wait(moment)) => Ok(*told == at(*moment)),
+        (Reply::Poll(TurnPollRet::WaitUntil(told)), Want::Wait(time)) => Ok(*told == at(*time)),
         (Reply::Poll(TurnPollRet::Closed), Want::Closed) => Ok(true),
         (Reply::Transmit(None), Want::Nothing) => Ok(true),
         (Reply::Transmit(Some(packet)), want) => is_packet(alloc, packet, want),

@@ -115,7 +115,7 @@ fn event_of(want: &Want<'_>) -> Option<TurnEvent> {
 /// Whether the client reported this event at this time.
 fn happens(caller: &mut Caller, now: u32, want: &Want<'_>) -> bool {
     match caller.next_event() {
-        Some((moment, event)) => moment == now && event_of(want) == Some(event),
+        Some((time, event)) => time == now && event_of(want) == Some(event),
         None => matches!(want, Want::Nothing),
     }
 }

@@ -26,9 +26,9 @@ impl Model for Instant {
 
     ghost Value = { ℕ };
 
-    ghost view = { λ moment. moment.nanos };
+    ghost view = { λ time. time.nanos };
 
-    ghost invariant = { λ moment. moment.nanos < 2 ^ 63 };
+    ghost invariant = { λ time. time.nanos < 2 ^ 63 };
 
     ghost inverse = { λ nanos. record { nanos = nanos } };
 }

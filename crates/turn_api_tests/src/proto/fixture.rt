@@ -208,7 +208,7 @@ fn call(alloc: Global, ask: Ask<'_>) -> Result<Call, AllocError>
 
 fn is_wanted(reply: &Reply, want: Want<'_>) -> bool {
     match (reply, want) {
-        (Reply::Poll(TurnPollRet::WaitUntil(told)), Want::Wait(moment)) => *told == at(moment),
+        (Reply::Poll(TurnPollRet::WaitUntil(told)), Want::Wait(time)) => *told == at(time),
         (Reply::Poll(TurnPollRet::Closed), Want::Closed) => true,
         (Reply::Transmit(None), Want::Nothing) => true,
         (Reply::Transmit(Some(packet)), Want::Send(bytes)) => sends(packet, bytes),

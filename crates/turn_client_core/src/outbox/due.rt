@@ -24,7 +24,7 @@ impl Outbox {
         ensures { result ≡ option_map_or (later_by pause) self.now.last_send 0 }
     {
         match self.last_send {
-            Some(moment) => moment.plus(Duration::from_millis(PAUSE_MILLIS)),
+            Some(time) => time.plus(Duration::from_millis(PAUSE_MILLIS)),
             None => Instant::ZERO,
         }
     }
@@ -44,10 +44,10 @@ impl Outbox {
     }
 
     /// The earliest of this time and of those at which a request is to be retransmitted or timed out.
-    pub(crate) fn earliest(&self, moment: Instant) -> Instant
-        ensures { result ≡ fold min moment (map (transaction_timeout self.now.timers self.now.transport) self.now.transactions) }
+    pub(crate) fn earliest(&self, time: Instant) -> Instant
+        ensures { result ≡ fold min time (map (transaction_timeout self.now.timers self.now.transport) self.now.transactions) }
     {
-        self.agent.earliest(moment)
+        self.agent.earliest(time)
     }
 
     /// Times out the oldest request whose last wait has ended, if there is one. It is no longer
@@ -56,7 +56,7 @@ impl Outbox {
         ensures { (result, self.new) ≡ give_up_step now self.old }
     {
         match self.agent.poll(now) {
-            StunAgentPollRet::WaitUntil(_moment) => None,
+            StunAgentPollRet::WaitUntil(_time) => None,
             StunAgentPollRet::TransactionTimedOut(id) => Some(id),
         }
     }

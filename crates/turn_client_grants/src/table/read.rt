@@ -319,12 +319,12 @@ impl GrantTable {
 
     /// The earliest of the time and those at which a grant expires or is to be refreshed, where no
     /// request is sent before the pause ends.
-    pub fn soonest(&self, moment: Instant, now: Instant, pause: Instant) -> Instant
-        ensures { (s : State) → result ≡ fold min moment (all_times now pause (with_table self.now s)) }
+    pub fn soonest(&self, time: Instant, now: Instant, pause: Instant) -> Instant
+        ensures { (s : State) → result ≡ fold min time (all_times now pause (with_table self.now s)) }
     {
-        let _moment = moment.as_nanos();
+        let _time = time.as_nanos();
         let _pause = pause.as_nanos();
-        let ends = least(moment, Some(self.summary.end));
+        let ends = least(time, Some(self.summary.end));
         let first_end = relay_end(&self.summary.first, now);
         let first = least(ends, first_end);
         let second_end = relay_end(&self.summary.second, now);
@@ -346,7 +346,7 @@ impl GrantTable {
 
     /// Whether nothing expires at this time or earlier.
     pub(crate) fn is_early(&self, now: Instant) -> bool
-        ensures { (s : State) → result ≡ true → All (λ moment. now < moment) (expiry_times (with_table self.now s)) }
+        ensures { (s : State) → result ≡ true → All (λ time. now < time) (expiry_times (with_table self.now s)) }
     {
         now.as_nanos() < self.summary.lapse
     }

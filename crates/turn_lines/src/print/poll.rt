@@ -15,8 +15,8 @@ pub fn poll_text(alloc: Global, told: &TurnPollRet) -> Result<String, AllocError
     ensures { IfOk result (λ text. string_bytes text ≡ fields_text (poll_fields told.now)) }
 {
     match told {
-        TurnPollRet::WaitUntil(moment) => {
-            let nanos = moment.as_nanos();
+        TurnPollRet::WaitUntil(time) => {
+            let nanos = time.as_nanos();
             format!(in alloc; "wait {nanos}")
         }
         TurnPollRet::AllocateTcpSocket {

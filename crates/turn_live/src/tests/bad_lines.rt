@@ -54,7 +54,7 @@ fn a_payload_that_fits_no_packet_is_bad(rt: HostRuntime) -> Result<(), Fail> {
 }
 
 #[test]
-fn moments_end_at_two_to_the_62(rt: HostRuntime) -> Result<(), Fail> {
+fn times_end_at_two_to_the_62(rt: HostRuntime) -> Result<(), Fail> {
     let last = [HEAD, "4611686018427387904 event\n"];
     follow(&rt, rt.alloc(), &last, Status::Answered, "none\n")?;
     let behind = [HEAD, "4611686018427387905 event\n"];
@@ -70,7 +70,7 @@ fn a_bad_head_is_told_at_once(rt: HostRuntime) -> Result<(), Fail> {
 }
 
 #[test]
-fn moments_may_go_back(rt: HostRuntime) -> Result<(), Fail> {
+fn times_may_go_back(rt: HostRuntime) -> Result<(), Fail> {
     let input = [HEAD, "5 event\n0 event\n"];
     follow(&rt, rt.alloc(), &input, Status::Answered, "none\nnone\n")
 }

@@ -78,30 +78,30 @@ static SCHEDULES: [Schedule; 6] = [
 /// The time of the next step after this one, or `None` if the request times out at this one.
 fn step_after(agent: &mut StunAgent, now: Instant) -> Option<Instant> {
     match agent.poll(now) {
-        StunAgentPollRet::WaitUntil(moment) => Some(now.max(moment)),
+        StunAgentPollRet::WaitUntil(time) => Some(now.max(time)),
         StunAgentPollRet::TransactionTimedOut(_) => None,
     }
 }
 
 /// Polls the agent at the times that it returns; a request must be due at these times. Returns when it timed
 /// out, in at most 40 steps.
-fn end_of(rt: &impl Abort, agent: &mut StunAgent, moments: &mut Iter<u64>) -> Option<u64> {
+fn end_of(rt: &impl Abort, agent: &mut StunAgent, times: &mut Iter<u64>) -> Option<u64> {
     let mut now = Instant::ZERO;
     for _ in 0..40 {
-        let Some(moment) = step_after(agent, now) else {
+        let Some(time) = step_after(agent, now) else {
             return Some(now.as_nanos());
         };
-        now = moment;
+        now = time;
         if due(rt, agent, now.as_nanos()).0.is_some() {
-            same(rt, moments.next().copied(), Some(now.as_nanos()));
+            same(rt, times.next().copied(), Some(now.as_nanos()));
         }
     }
     None
 }
 
 /// The agent sends a request at these times, the first of which is 0, and the request times out at `end`.
-fn follows(rt: &impl Abort, mut agent: StunAgent, moments: &[u64], end: u64) {
-    let mut wanted = moments.iter();
+fn follows(rt: &impl Abort, mut agent: StunAgent, times: &[u64], end: u64) {
+    let mut wanted = times.iter();
     sends(rt, &mut agent, 1, 0);
     same(rt, wanted.next().copied(), Some(0));
     same(rt, end_of(rt, &mut agent, &mut wanted), Some(end));

@@ -80,7 +80,7 @@ pub fn follow(rt: &impl Abort, agent: &mut StunAgent, step: Step) {
         Step::GivesUp(now, n) => gives_up(rt, agent, now, n),
         Step::Ends(n, want) => same(rt, agent.end(id(n)), want),
         Step::Outstanding(want) => same(rt, agent.outstanding(), want),
-        Step::Earliest(moment, want) => same(rt, agent.earliest(at(moment)), at(want)),
+        Step::Earliest(time, want) => same(rt, agent.earliest(at(time)), at(want)),
     }
 }
 

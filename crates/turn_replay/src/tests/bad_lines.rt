@@ -35,7 +35,7 @@ udp L R udp 4 sha1 auto 75 70 S 1,2,3,18446744073709551616;\
 udp L R udp 4 sha1 auto 75 70 S 1,2,3,;udp L R udp 4 sha1 auto 75 70 S 1, 2,3,4";
 
 // Each up to a `;`, and A is the transport and the addresses from the server to the client.
-const BAD_MOMENTS: &str = "; ; 0 poll;poll;00 poll;+0 poll;-1 poll;0x1 poll;0\u{a0}poll;\
+const BAD_TIMES: &str = "; ; 0 poll;poll;00 poll;+0 poll;-1 poll;0x1 poll;0\u{a0}poll;\
 4611686018427387905 poll;99999999999999999999 poll";
 
 const BAD_CALLS: &str =
@@ -108,7 +108,7 @@ fn are_bad_lines(rt: &impl Abort, alloc: Global, lines: &str, kind: &str) -> Res
 
 #[test]
 fn every_field_of_a_call_is_tested(rt: HostRuntime) -> Result<(), Fail> {
-    are_bad_lines(&rt, rt.alloc(), BAD_MOMENTS, "moment")?;
+    are_bad_lines(&rt, rt.alloc(), BAD_TIMES, "moment")?;
     are_bad_lines(&rt, rt.alloc(), BAD_CALLS, "call")?;
     are_bad_lines(&rt, rt.alloc(), BAD_ARGUMENTS, "argument")
 }

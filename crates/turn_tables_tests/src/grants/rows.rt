@@ -114,7 +114,7 @@ fn reserved_until(
 }
 
 /// A reserved channel keeps its peer until the end of its reservation, inclusive.
-fn moments_reserved(rt: &impl Abort, alloc: Global) -> Result<(), AllocError> {
+fn times_reserved(rt: &impl Abort, alloc: Global) -> Result<(), AllocError> {
     same(rt, reserved_until(alloc, peer(), seconds(0))?, None);
     let last = reserved_until(alloc, peer_ipv6(), seconds(900))?;
     same(rt, last, Some(seconds(900)));
@@ -189,7 +189,7 @@ fn deadlines(rt: &impl Abort, alloc: Global) -> Result<(), AllocError> {
 #[test]
 fn worked_rows(rt: HostRuntime) -> Result<(), Fail> {
     numbers_left(&rt, rt.alloc())?;
-    moments_reserved(&rt, rt.alloc())?;
+    times_reserved(&rt, rt.alloc())?;
     refreshes(&rt, rt.alloc())?;
     wakeups(&rt, rt.alloc())?;
     deadlines(&rt, rt.alloc())?;

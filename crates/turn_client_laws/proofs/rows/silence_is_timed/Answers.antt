@@ -1,20 +1,20 @@
 use Rattle.std.proofs.Common.{refl}
 use Rattle.turn_agent.specs.Schedule.{schedule}
-use Rattle.turn_client_laws.specs.LawsRows.{told_in_turn}
+use Rattle.turn_client_laws.specs.LawsRows.{polls_in_sequence}
 use Rattle.turn_client_laws.proofs.rows.silence_is_timed.Goals as goal
 
 pub returns-clause-default : goal.returns-clause-default
-unfolding told_in_turn
+unfolding polls_in_sequence
 returns-clause-default c = λ text s. refl
 
 pub returns-clause-set : goal.returns-clause-set
-unfolding told_in_turn
+unfolding polls_in_sequence
 returns-clause-set c = λ text s. refl
 
 pub returns-clause-tcp : goal.returns-clause-tcp
-unfolding schedule told_in_turn
+unfolding schedule polls_in_sequence
 returns-clause-tcp c = λ text s. refl
 
 pub returns-clause-tcp_set : goal.returns-clause-tcp_set
-unfolding schedule told_in_turn
+unfolding schedule polls_in_sequence
 returns-clause-tcp_set c = λ text s. refl

@@ -3,7 +3,7 @@ use Rattle.std.specs.Prelude.{IfOk}
 use Rattle.std.proofs.lemmas.Result.{on_err_weaker}
 use Rattle.turn_stun.specs.declared.transport.Transmit.{Transmit}
 use Rattle.turn_driver.specs.Given.{packet_in, packet_of}
-use Rattle.turn_driver.specs.Driver.{Draws, DriveState, begun, stands, drive_steps}
+use Rattle.turn_driver.specs.Driver.{Draws, DriveState, begun, driven, drive_steps}
 use Rattle.turn_driver.specs.declared.task.Task.{Task}
 use Rattle.turn_driver.specs.declared.task.Rest.TheVariants.{Now}
 use Rattle.turn_driver.proofs.RunLemmas.{whole-ok}
@@ -16,18 +16,18 @@ begins : (came : Option (Transmit (Vec ℕ Global))) (now : ℕ) (was is : Drive
     → is ≡ begun (packet_in came) now was
 begins came now was is packet e told = told ∙ sym (ap (λ packet. begun packet now was) e)
 
-starts : (g : Over) (c : goal.After-poll_tasks g) → stands c.match-came.tasks.items Now (g.C.TurnClientApi.state c.match-came.client) ≡ begun (packet_in c.args.came) c.args.now
-    (stands c.args.tasks.now.items Now (g.C.TurnClientApi.state c.args.client.now))
+starts : (g : Over) (c : goal.After-poll_tasks g) → driven c.match-came.tasks.items Now (g.C.TurnClientApi.state c.match-came.client) ≡ begun (packet_in c.args.came) c.args.now
+    (driven c.args.tasks.now.items Now (g.C.TurnClientApi.state c.args.client.now))
 starts g c =
     let state = g.C.TurnClientApi.state in
     elim c.match-came.branch [
       | in-Some+in_ok-receive w ↦
-          ap (λ (v : Vec Task Global). stands v.items Now (state c.match-came.client)) w.tasks-is
-          ∙ (ap (λ client. stands w.receive.new.tasks.items Now (state client)) w.client-is
+          ap (λ (v : Vec Task Global). driven v.items Now (state c.match-came.client)) w.tasks-is
+          ∙ (ap (λ client. driven w.receive.new.tasks.items Now (state client)) w.client-is
           ∙ begins c.args.came c.args.now _ _ (Some (packet_of w.in-Some.packet)) (ap packet_in w.in-Some.is) w.in_ok-receive.ensures.ok)
       | in_default w ↦
-          ap (λ (v : Vec Task Global). stands v.items Now (state c.match-came.client)) w.tasks-is
-          ∙ (ap (λ client. stands c.args.tasks.now.items Now (state client)) w.client-is
+          ap (λ (v : Vec Task Global). driven v.items Now (state c.match-came.client)) w.tasks-is
+          ∙ (ap (λ client. driven c.args.tasks.now.items Now (state client)) w.client-is
           ∙ begins c.args.came c.args.now _ _ None (ap packet_in w.in_default.is) refl)
     ]
 
@@ -35,11 +35,11 @@ pub returns-clause-whole : goal.returns-clause-whole
 returns-clause-whole g c =
     let state = g.C.TurnClientApi.state in
     whole-ok c.poll_tasks.result (packet_in c.args.came) c.args.most c.args.now _ c.poll_tasks.new.tasks.items (state c.poll_tasks.new.client)
-    (subst (λ (t : DriveState). IfOk c.poll_tasks.result (λ rest. stands c.poll_tasks.new.tasks.items rest (state c.poll_tasks.new.client) ≡ drive_steps c.args.most c.args.now t))
+    (subst (λ (t : DriveState). IfOk c.poll_tasks.result (λ rest. driven c.poll_tasks.new.tasks.items rest (state c.poll_tasks.new.client) ≡ drive_steps c.args.most c.args.now t))
     (starts g c) c.poll_tasks.ensures.ok)
 
 pub returns-clause-no_memory : goal.returns-clause-no_memory
 returns-clause-no_memory g c =
     let state = g.C.TurnClientApi.state in
-    on_err_weaker _ (λ draws. inr (subst (λ (t : DriveState). Draws c.args.most c.args.now t (stands c.poll_tasks.new.tasks.items Now (state c.poll_tasks.new.client)))
+    on_err_weaker _ (λ draws. inr (subst (λ (t : DriveState). Draws c.args.most c.args.now t (driven c.poll_tasks.new.tasks.items Now (state c.poll_tasks.new.client)))
     (starts g c) draws)) c.poll_tasks.ensures.no_memory

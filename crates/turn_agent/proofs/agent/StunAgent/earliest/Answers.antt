@@ -8,6 +8,6 @@ pub returns-in-Some : goal.returns-in-Some
 returns-in-Some c =
     let a = the_view c.self.inside in
     let known : IsSoonest a.timers a.transport a.transactions (Some c.in-Some.soonest) = rw c.in-Some.is at c.self.invariant.earliest in
-    let range : c.args.moment < 2 ^ 63 = search rules in
-    let least : c.min.result ≡ min c.args.moment c.in-Some.soonest = search rules in
-    rw (least, ← c.self.view_is) (earliest-known a c.args.moment c.in-Some.soonest known range)
+    let range : c.args.time < 2 ^ 63 = search rules in
+    let least : c.min.result ≡ min c.args.time c.in-Some.soonest = search rules in
+    rw (least, ← c.self.view_is) (earliest-known a c.args.time c.in-Some.soonest known range)

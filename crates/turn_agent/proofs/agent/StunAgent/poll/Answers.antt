@@ -5,11 +5,11 @@ use Rattle.turn_agent.proofs.TransactionLemmas.{is_outstanding-without}
 use Rattle.turn_agent.proofs.agent.StunAgent.poll.Goals as goal
 
 pub returns-in-Some-clause-step : goal.returns-in-Some-clause-step
-returns-in-Some-clause-step c = poll_step-quiet c.args.self.now c.args.now c.in-Some.moment c.in-Some.ensures
+returns-in-Some-clause-step c = poll_step-quiet c.args.self.now c.args.now c.in-Some.time c.in-Some.ensures
 
 pub returns-in-Some-clause-alarm : goal.returns-in-Some-clause-alarm
-returns-in-Some-clause-alarm c = λ moment before.
-    IsSilentAt-quiet c.args.self.now c.args.now c.in-Some.moment moment c.in-Some.ensures before
+returns-in-Some-clause-alarm c = λ time before.
+    IsSilentAt-quiet c.args.self.now c.args.now c.in-Some.time time c.in-Some.ensures before
 
 pub returns-in-Over-clause-step : goal.returns-in-Over-clause-step
 returns-in-Over-clause-step c =
@@ -30,6 +30,6 @@ returns-in-Waiting-clause-busy c = λ past before.
     some_due a.timers a.transport c.args.now (2 ^ 63 - 1) a.transactions waits.0 before (rw (← waits.2) past)
 
 pub returns-in-Waiting-clause-alarm : goal.returns-in-Waiting-clause-alarm
-returns-in-Waiting-clause-alarm c = λ moment before.
+returns-in-Waiting-clause-alarm c = λ time before.
     let waits = rw c.deref.ensures.value at c.in-Waiting.ensures in
-    IsSilentAt-before (the_view c.self.inside) moment (rw (← waits.2) before)
+    IsSilentAt-before (the_view c.self.inside) time (rw (← waits.2) before)

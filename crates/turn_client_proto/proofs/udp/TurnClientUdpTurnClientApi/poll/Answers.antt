@@ -6,4 +6,4 @@ pub invariant_of-self : goal.invariant_of-self
 invariant_of-self c = poll-keeps leaves-IsUdpClient _ _ c.args.now c.poll.ensures.after c.self.invariant
 
 pub returns-clause-alarm : goal.returns-clause-alarm
-returns-clause-alarm c = rw (← c.self.view_is) (c.poll.ensures.alarm c.self.invariant.steady c.self.invariant.housed)
+returns-clause-alarm c = rw (← c.self.view_is) (c.poll.ensures.alarm c.self.invariant.fits_phase c.self.invariant.have_allocations)
