@@ -26,3 +26,4 @@ pub mod SocketLemmas
 pub mod TransmitLemmas
 pub mod TurnLemmas
 pub mod UngrantedLemmas
+pub mod UnreadLemmas

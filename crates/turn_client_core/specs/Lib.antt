@@ -16,3 +16,4 @@ pub mod Sending
 pub mod Sent
 pub mod ProtocolRecv
 pub mod StreamSteps
+pub mod Unread

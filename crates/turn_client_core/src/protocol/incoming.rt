@@ -9,3 +9,4 @@ pub(crate) mod judge;
 mod message;
 mod peer_data;
 mod response;
+mod unread;

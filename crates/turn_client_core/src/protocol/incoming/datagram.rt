@@ -1,11 +1,13 @@
 //! A datagram of the server (RFC 8656, sections 3.1 and 12.6).
 
-ghost use Rattle.std.specs.Prelude.{◌≡◌, [], if◌then◌else◌, IfOk, IsOk, OnErr, OnOk, true};
+ghost use Rattle.std.specs.Prelude.{◌≡◌, [], if◌then◌else◌, IfOk, IsOk, None, OnErr, OnOk, true};
 ghost use Rattle.turn_client_api.specs.Answers.{datagram_takes_none, is_data_indication};
 ghost use Rattle.turn_client_api.specs.Effect.{closed};
+ghost use Rattle.turn_client_api.specs.Judgement.{class_in, method_in};
 ghost use Rattle.turn_client_api.specs.Memory.{message_takes_memory, packet_takes_memory};
 ghost use Rattle.turn_client_api.specs.Payloads.{Ignored, channel_sent, datagram_step, is_channel_frame, message_step};
 ghost use Rattle.turn_client_core.specs.ProtocolRecv.{IsPart, outcome_in};
+ghost use Rattle.turn_stun.specs.Message.{header_fault_of, id_of};
 
 use crate::protocol::TurnClientProtocol;
 use crate::protocol_recv::TurnProtocolRecv;
@@ -13,6 +15,7 @@ use std::alloc::AllocError;
 use turn_client_api::Phase;
 use turn_stun::instant::Instant;
 use turn_stun::message::Message;
+use turn_stun::message::header::MessageHeader;
 use turn_types::channel::ChannelData;
 
 impl TurnClientProtocol {
@@ -34,9 +37,42 @@ impl TurnClientProtocol {
         // Only messages allocate memory, and only those that require an action.
         ensures wanted { OnErr result (packet_takes_memory bytes.now self.old ≡ true) }
     {
+        match MessageHeader::from_bytes(bytes) {
+            Ok(header) => self.headed(&header, bytes, now),
+            Err(_) => Ok(self.frame_sent(bytes)),
+        }
+    }
+
+    /// Processes a datagram with this header of a STUN message. If it is not a whole message, it is not
+    /// for the client.
+    ///
+    /// # Errors
+    ///
+    /// If memory allocation fails. The client has ended then, and nothing else has changed.
+    fn headed(
+        &mut self,
+        header: &MessageHeader,
+        bytes: &[u8],
+        now: Instant,
+    ) -> Result<TurnProtocolRecv, AllocError>
+        requires headed { header_fault_of bytes.now ≡ None }
+        requires class { header.now.message_type.class ≡ class_in bytes.now }
+        requires method { header.now.message_type.method.value ≡ method_in bytes.now }
+        requires id { header.now.transaction_id ≡ id_of bytes.now }
+        requires before { self.old.phase ≡ Phase.Authenticating → self.old.grants ≡ [] }
+        ensures answer { IfOk result (λ told. outcome_in bytes.now told ≡ (datagram_step bytes.now now self.old).0) }
+        ensures part { IfOk result (IsPart bytes.now self.old self.new) }
+        ensures after { OnOk result (self.new ≡ (datagram_step bytes.now now self.old).1) }
+        ensures no_memory { OnErr result (self.new ≡ closed self.old) }
+        ensures free { datagram_takes_none bytes.now ≡ true → IsOk result }
+        ensures wanted { OnErr result (packet_takes_memory bytes.now self.old ≡ true) }
+    {
+        if self.is_ignored_unread(header.message_type, header.transaction_id) {
+            return Ok(TurnProtocolRecv::Ignored);
+        }
         match Message::from_bytes(bytes) {
             Ok(message) => self.message_or_end(&message, now),
-            Err(_) => Ok(self.frame_sent(bytes)),
+            Err(_) => Ok(TurnProtocolRecv::Ignored),
         }
     }
 

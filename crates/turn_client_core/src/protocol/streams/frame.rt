@@ -66,7 +66,7 @@ impl TurnClientProtocol {
         ensures wanted { OnErr result (packet_takes_memory frame.now self.old ≡ true) }
     {
         match Message::from_bytes(frame) {
-            Ok(message) => self.message(&message, now),
+            Ok(message) => self.message_unless_ignored(&message, now),
             Err(_) => Ok(TurnProtocolRecv::Handled),
         }
     }

@@ -1,0 +1,174 @@
+-- Messages that are ignored whatever attributes they contain.
+use Rattle.std.proofs.Common.{◌≡◌, ◌==◌, ℕ, Bool, true, false, not, ◌&&◌, ◌||◌, List, length, Option, Some, None, is_some, is_none, ap, refl, subst, arith}
+use Rattle.std.proofs.lemmas.Bool.{and_parts, le-ltb, lt-leb, ltb-false, ltb-true, not-false, not-true, or_parts}
+use Rattle.std.specs.Prelude.{if◌then◌else◌, nat_lt, nat_le, ◌<◌}
+use Rattle.turn_auth.specs.LongTerm.{Challenge}
+use Rattle.turn_auth.specs.Validation.{judged, validation_of}
+use Rattle.turn_auth.specs.declared.validation.Validation.{Validation}
+use Rattle.turn_auth.specs.declared.validation.Validation.TheVariants.{Validated, ResendRequest, Refused}
+use Rattle.turn_agent.specs.Agent.{is_outstanding}
+use Rattle.turn_stun.proofs.FaultLemmas.{guard_none}
+use Rattle.turn_stun.specs.Message.{cookie_of, fault_of, header_fault_of, id_of, is_stun_header, type_of}
+use Rattle.turn_stun.specs.Number.{u16_at}
+use Rattle.turn_stun.specs.declared.error.ParseError.{ParseError}
+use Rattle.turn_stun.specs.declared.message.header.MessageClass.{MessageClass}
+use Rattle.turn_stun.specs.declared.message.header.MessageClass.TheVariants.{Request, Indication, Success, Error}
+use Rattle.turn_types.specs.Channel.{channel_fault_of}
+use Rattle.turn_client_api.specs.Grants.{purposes_of}
+use Rattle.turn_client_api.specs.Judgement as J
+use Rattle.turn_client_api.specs.Judgement.{challenge_in, class_in, judgement_of, method_in}
+use Rattle.turn_client_api.specs.Payloads.{Ignored, channel_sent, datagram_step, is_channel_frame, is_message, message_step}
+use Rattle.turn_client_api.specs.Requests.{connection_attempt_method, data_method}
+use Rattle.turn_client_api.specs.Retry.{retried}
+use Rattle.turn_client_api.specs.State.{State, auth_of}
+use Rattle.turn_client_api.specs.declared.state.Phase.{Phase}
+use Rattle.turn_client_api.specs.declared.state.Phase.TheVariants.{New, Requesting, Authenticating, Allocated, Closed}
+use Rattle.turn_client_core.specs.Unread.{is_ignored_unread}
+use Rattle.turn_client_core.proofs.RetryLemmas.{unknown-is}
+
+none-is : {A : Type 0} (o : Option A) → is_some o ≡ false → o ≡ None
+none-is None h = refl
+none-is (Some x) h = cc
+
+module _ (s : State) (message : List ℕ) (now : ℕ) where
+  -- ---- what is ignored, by its judgement
+
+  unrelated-step : judgement_of s message ≡ J.Unrelated → message_step message now s ≡ (Ignored, s)
+  unrelated-step e = rw e refl
+
+  request-step : (method_in message == connection_attempt_method) ≡ false → judgement_of s message ≡ J.SignedRequest → message_step message now s ≡ (Ignored, s)
+  request-step other e = rw (e, other) refl
+
+  challenged-step : (challenge : Challenge) → s.challenges < s.config.max_stale_nonces → retried (purposes_of (id_of message) s) ≡ None → judgement_of s message ≡ J.Challenged challenge
+      → message_step message now s ≡ (Ignored, s)
+  challenged-step challenge few none e = rw e (unknown-is s message challenge now few none)
+
+  -- ---- by the class, to a client with an allocation
+
+  of-request : s.phase ≡ Allocated → class_in message ≡ Request → (method_in message == connection_attempt_method) ≡ false → message_step message now s ≡ (Ignored, s)
+  of-request phase class other = by (validation_of (auth_of s) message) refl
+    where
+      by : (v : Validation) → validation_of (auth_of s) message ≡ v → message_step message now s ≡ (Ignored, s)
+      by (Validated algorithm) e = request-step other (rw (phase, class, e, class) refl)
+      by (Refused integrity) e = unrelated-step (rw (phase, class, e) refl)
+      by (ResendRequest algorithm) e = unrelated-step (rw (phase, class, e) refl)
+
+  of-indication : s.phase ≡ Allocated → class_in message ≡ Indication → (method_in message == data_method) ≡ false → (method_in message == connection_attempt_method) ≡ false
+      → message_step message now s ≡ (Ignored, s)
+  of-indication phase class other another = unrelated-step (rw (phase, class, other, another) refl)
+
+  of-success : s.phase ≡ Allocated → class_in message ≡ Success → is_outstanding (id_of message) s.transactions ≡ false → message_step message now s ≡ (Ignored, s)
+  of-success phase class ended = by (validation_of (auth_of s) message) refl
+    where
+      by : (v : Validation) → validation_of (auth_of s) message ≡ v → message_step message now s ≡ (Ignored, s)
+      by (Validated algorithm) e = unrelated-step (rw (phase, class, e, class, ended) refl)
+      by (Refused integrity) e = unrelated-step (rw (phase, class, e) refl)
+      by (ResendRequest algorithm) e = unrelated-step (rw (phase, class, e) refl)
+
+  of-error : s.phase ≡ Allocated → class_in message ≡ Error → is_outstanding (id_of message) s.transactions ≡ false → retried (purposes_of (id_of message) s) ≡ None
+      → s.challenges < s.config.max_stale_nonces → message_step message now s ≡ (Ignored, s)
+  of-error phase class ended none few = by (challenge_in s message) refl (judged (Some s.config.credentials) s.held message) refl
+    where
+      by : (o : Option Challenge) → challenge_in s message ≡ o → (v : Validation) → judged (Some s.config.credentials) s.held message ≡ v → message_step message now s ≡ (Ignored, s)
+      by (Some challenge) g v f = challenged-step challenge few none (rw (phase, class, g) refl)
+      by None g (Validated algorithm) f = unrelated-step (rw (phase, class, g, f, class, ended) refl)
+      by None g (Refused integrity) f = unrelated-step (rw (phase, class, g, f) refl)
+      by None g (ResendRequest algorithm) f = unrelated-step (rw (phase, class, g, f) refl)
+
+  pub ignored-is : is_ignored_unread (class_in message) (method_in message) (id_of message) s ≡ true → message_step message now s ≡ (Ignored, s)
+  ignored-is = by s.phase refl (class_in message) refl
+    where
+      by : (p : Phase) → s.phase ≡ p → (k : MessageClass) → class_in message ≡ k → is_ignored_unread k (method_in message) (id_of message) s ≡ true → message_step message now s ≡ (Ignored, s)
+      by New e k f h = let no : false ≡ true = rw e at h in cc
+      by Requesting e k f h = let no : false ≡ true = rw e at h in cc
+      by Authenticating e k f h = let no : false ≡ true = rw e at h in cc
+      by Allocated e Request f h =
+          let ignored : not (method_in message == connection_attempt_method) ≡ true = rw e at h in
+          of-request e f (not-true _ ignored)
+      by Allocated e Indication f h =
+          let ignored : not ((method_in message == data_method) || (method_in message == connection_attempt_method)) ≡ true = rw e at h in
+          let (other, another) = or_parts _ _ (not-true _ ignored) in
+          of-indication e f other another
+      by Allocated e Success f h =
+          let ignored : not (is_outstanding (id_of message) s.transactions) ≡ true = rw e at h in
+          of-success e f (not-true _ ignored)
+      by Allocated e Error f h =
+          let ignored : (not (is_outstanding (id_of message) s.transactions) && not (is_some (retried (purposes_of (id_of message) s))) && nat_lt s.challenges s.config.max_stale_nonces) ≡ true = rw e at h in
+          let unlisted = and_parts (not (is_outstanding (id_of message) s.transactions) && not (is_some (retried (purposes_of (id_of message) s)))) (nat_lt s.challenges s.config.max_stale_nonces) ignored in
+          let ended = and_parts (not (is_outstanding (id_of message) s.transactions)) (not (is_some (retried (purposes_of (id_of message) s)))) unlisted.0 in
+          of-error e f (not-true _ ended.0) (none-is _ (not-true _ ended.1)) (ltb-true _ _ unlisted.1)
+      by Closed e k f h = let no : false ≡ true = rw e at h in cc
+
+-- ---- datagrams with the header of a message
+
+pub unheaded : (bytes : List ℕ) (fault : ParseError) → header_fault_of bytes ≡ Some fault → is_message bytes ≡ false
+unfolding fault_of
+unheaded bytes fault = by (nat_lt (length bytes) 20) (not (is_stun_header bytes)) refl refl
+  where
+    by : (a b : Bool) → nat_lt (length bytes) 20 ≡ a → not (is_stun_header bytes) ≡ b → header_fault_of bytes ≡ Some fault → is_message bytes ≡ false
+    by true b e f = rw e (λ h. refl)
+    by false true e f = rw (e, f) (λ h. refl)
+    by false false e f = rw (e, f) (λ h. cc)
+
+pub no-channel : (bytes : List ℕ) → header_fault_of bytes ≡ None → is_channel_frame bytes ≡ false
+unfolding channel_fault_of
+no-channel bytes h =
+    let one = guard_none (nat_lt (length bytes) 20) _ _ h in
+    let two = guard_none (not (is_stun_header bytes)) _ _ one.1 in
+    let bits = and_parts (nat_lt (type_of bytes) 0x4000) _ (and_parts (nat_lt (type_of bytes) 0x4000 && (cookie_of bytes == 0x2112a442)) _ (not-false (is_stun_header bytes) two.0)).0 in
+    let short : nat_lt (length bytes) 4 ≡ false = le-ltb _ _ (omega (arith, ltb-false (length bytes) 20 one.0)) in
+    let least : nat_le 0x4000 (u16_at bytes 0) ≡ false = lt-leb _ _ (ltb-true _ _ bits.0) in
+    rw (short, least) refl
+
+pub ignored-datagram : (bytes : List ℕ) (now : ℕ) (s : State) → header_fault_of bytes ≡ None → is_ignored_unread (class_in bytes) (method_in bytes) (id_of bytes) s ≡ true
+    → datagram_step bytes now s ≡ (Ignored, s)
+ignored-datagram bytes now s headed ignored = by (is_message bytes) refl
+  where
+    by : (b : Bool) → is_message bytes ≡ b → datagram_step bytes now s ≡ (Ignored, s)
+    by true e = rw e (ignored-is s bytes now ignored)
+    by false e = rw (e, no-channel bytes headed) refl
+
+-- the header says so
+pub ignored-headed : (bytes : List ℕ) (now : ℕ) (s : State) (class : MessageClass) (method id : ℕ) → header_fault_of bytes ≡ None → class ≡ class_in bytes → method ≡ method_in bytes → id ≡ id_of bytes
+    → is_ignored_unread class method id s ≡ true → datagram_step bytes now s ≡ (Ignored, s)
+ignored-headed bytes now s class method id headed is named same ignored =
+    ignored-datagram bytes now s headed
+    (subst (λ k. is_ignored_unread k (method_in bytes) (id_of bytes) s ≡ true) is
+    (subst (λ m. is_ignored_unread class m (id_of bytes) s ≡ true) named
+    (subst (λ i. is_ignored_unread class method i s ≡ true) same ignored)))
+
+pub ignored-message : (message : List ℕ) (now : ℕ) (s : State) (class : MessageClass) (method id : ℕ) → class ≡ class_in message → method ≡ method_in message → id ≡ id_of message
+    → is_ignored_unread class method id s ≡ true → message_step message now s ≡ (Ignored, s)
+ignored-message message now s class method id is named same ignored =
+    ignored-is s message now
+    (subst (λ k. is_ignored_unread k (method_in message) (id_of message) s ≡ true) is
+    (subst (λ m. is_ignored_unread class m (id_of message) s ≡ true) named
+    (subst (λ i. is_ignored_unread class method i s ≡ true) same ignored)))
+
+-- what has the header of a message and is none
+pub cut-datagram : (bytes : List ℕ) (now : ℕ) (s : State) (fault : ParseError) → header_fault_of bytes ≡ None → fault_of bytes ≡ Some fault → datagram_step bytes now s ≡ (Ignored, s)
+cut-datagram bytes now s fault headed cut =
+    let none : is_message bytes ≡ false = ap is_none cut in
+    rw (none, no-channel bytes headed) refl
+
+-- what has no header of one
+pub frame-outcome : (bytes : List ℕ) (now : ℕ) (s : State) (fault : ParseError) → header_fault_of bytes ≡ Some fault
+    → (if is_channel_frame bytes then channel_sent s bytes else Ignored) ≡ (datagram_step bytes now s).0
+frame-outcome bytes now s fault unread = by (is_channel_frame bytes) refl
+  where
+    none : is_message bytes ≡ false
+    none = unheaded bytes fault unread
+
+    by : (b : Bool) → is_channel_frame bytes ≡ b → (if is_channel_frame bytes then channel_sent s bytes else Ignored) ≡ (datagram_step bytes now s).0
+    by true e = rw (none, e) refl
+    by false e = rw (none, e) refl
+
+pub frame-after : (bytes : List ℕ) (now : ℕ) (s : State) (fault : ParseError) → header_fault_of bytes ≡ Some fault → s ≡ (datagram_step bytes now s).1
+frame-after bytes now s fault unread = by (is_channel_frame bytes) refl
+  where
+    none : is_message bytes ≡ false
+    none = unheaded bytes fault unread
+
+    by : (b : Bool) → is_channel_frame bytes ≡ b → s ≡ (datagram_step bytes now s).1
+    by true e = rw (none, e) refl
+    by false e = rw (none, e) refl

@@ -1,0 +1,10 @@
+use Rattle.std.proofs.Common.{◌∙◌, ◌==◌, ap, is_some, map}
+use Rattle.std.specs.Prelude.{filter}
+use Rattle.turn_client_api.specs.Grants.{purposes_of}
+use Rattle.turn_client_api.specs.Retry.{retried}
+use Rattle.turn_client_core.proofs.protocol.TurnClientProtocol.asks_again.Goals as goal
+
+pub returns : goal.returns
+returns c =
+    let listed = c.purposes_of.ensures ∙ ap (λ all. map (λ l. l.purpose) (filter (λ l. l.id == c.args.id) all)) c.table.ensures.listed in
+    c.is_some.ensures ∙ ap is_some (c.retried.ensures ∙ ap retried (listed ∙ ap (purposes_of c.args.id) c.self.view_is))
