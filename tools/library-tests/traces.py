@@ -1,9 +1,9 @@
 #!/usr/bin/env python3
 """usage: traces.py OUT [COUNT]
 
-Writes traces into the folder OUT/traces, a file each: those of the repository (the transcripts, the programs' inputs, the
-pages' examples, and the bad lines and sizes that turn_replay is tested with), and COUNT that are drawn from them, 1,000
-unless told otherwise. The answers that a transcript says are in a file of the same name in OUT/answers.
+Writes traces into the folder OUT/traces, a file each: those of the repository (the transcripts, but for the streams that
+are cut at each place, the programs' inputs and the pages' examples), and COUNT that are drawn from them, 1,000 unless told
+otherwise. The answers that a transcript says are in a file of the same name in OUT/answers, if all its lines are calls.
 
 A drawn trace begins as one of the repository, so that its client has what the server granted. Then calls are changed,
 left out, repeated and added, and bytes of packets flipped and cut. The same traces are drawn each time.
@@ -16,7 +16,7 @@ import re
 import sys
 
 ROOT = pathlib.Path(__file__).resolve().parent.parent.parent
-TESTS = ROOT / "crates" / "turn_replay" / "src" / "tests"
+PROGRAM = "turn_replay"
 HEAD = re.compile(r"^(udp|tcp) \S+:\d+ \S+:\d+ (udp|tcp) ")
 ADDRESSES = ["10.0.0.3:9000", "10.0.0.3:9001", "10.0.0.2:2000", "192.168.0.1:1000", "192.168.0.1:1001",
              "10.0.0.4:40000", "[00000000000000000000000000000001]:40000", "[20010db8000000000000000000000001]:9000"]
@@ -24,48 +24,29 @@ TRANSPORTS = ["udp", "udp", "tcp"]
 
 
 def transcripts():
-    """The traces of the transcripts, and their answers, as tools/transcripts reads them."""
+    """The traces of the transcripts, each with its answers, or with None if a line of it is bad."""
     path = str(ROOT / "tools" / "transcripts")
     loader = importlib.machinery.SourceFileLoader("transcripts", path)
     module = importlib.util.module_from_spec(importlib.util.spec_from_loader("transcripts", loader))
+    # Its dataclass looks itself up there.
+    sys.modules[module.__name__] = module
     sys.dont_write_bytecode = True
     loader.exec_module(module)
-    for file in sorted(it for it in module.FOLDER.glob("*/*.txt") if it.parent.name != "states" and not module.is_live(it)):
-        for calls, answers in module.cases_of(file):
-            yield "".join(f"{line}\n" for line in calls), "".join(f"{line}\n" for line in answers)
+    for file in sorted(it for it in module.FOLDER.glob("*/*.txt") if it.parent.name not in ("states", "cuts")):
+        for case in module.cases_of(file):
+            trace = case.trace()
+            answers, status = case.wanted(PROGRAM)
+            # The package for Python reads texts.
+            if PROGRAM in case.programs and (is_text(trace)):
+                yield trace.decode(), "".join(f"{line}\n" for line in answers) if status == 0 else None
 
 
-def constants():
-    """The texts of turn_replay's tests of bad lines, by name."""
-    text = (TESTS / "fixture.rt").read_text() + (TESTS / "bad_lines.rt").read_text()
-    found = {}
-    for name, value in re.findall(r'const (\w+): &str\s*=\s*"((?:[^"\\]|\\[\s\S])*)"', text):
-        value = re.sub(r"\\\n\s*", "", value).replace("\\u{a0}", "\u00a0").replace("\\r", "\r")
-        found[name] = value.replace("\\n", "\n")
-    return found
-
-
-def bad_traces():
-    """Traces with a bad line, of every kind, and traces that are just short enough, or just too long."""
-    texts = constants()
-    head = f"{texts['CLIENT']} {texts['SEED']}"
-    for bad in texts["BAD_HEADS"].split(";"):
-        spelled = bad.replace("L", "1.2.3.4:5").replace("R", "6.7.8.9:10").replace("S", texts["SEED"])
-        yield f"{spelled}\n0 poll"
-    for user in (508, 509):
-        yield f"udp 1.2.3.4:5 6.7.8.9:10 udp 4 sha1 auto {'75' * user} 70 {texts['SEED']}"
-    for name in ("BAD_MOMENTS", "BAD_CALLS", "BAD_ARGUMENTS"):
-        for bad in texts[name].split(";"):
-            yield f"{head}\n0 poll\n{bad.replace('A', texts['FROM_SERVER'])}\n0 nothing\n"
-    for client in (texts["CLIENT"], texts["OVER_TCP"]):
-        for count in (65504, 65505):
-            yield f"{client} {texts['SEED']}\n0 send udp 1.2.3.4:5 {'00' * count}\n0 poll"
-    yield head + "\n0 event" * 10000
-    yield head + "\n0 event" * 10001
-    front = f"{head}\n0 recv {texts['FROM_SERVER']} "
-    for size in (1048576, 1048577):
-        yield front + "0" * (size - len(front))
-    yield ""
+def is_text(data):
+    try:
+        data.decode()
+        return True
+    except UnicodeDecodeError:
+        return False
 
 
 def pages():
@@ -160,8 +141,9 @@ def main():
     out, count = pathlib.Path(sys.argv[1]), int(sys.argv[2]) if len(sys.argv) > 2 else 1000
     for folder in ("traces", "answers"):
         (out / folder).mkdir(parents=True, exist_ok=True)
-    answers = dict(transcripts())
-    traces = list(dict.fromkeys([*answers, *pages(), *bad_traces()]))
+    told = dict(transcripts())
+    answers = {trace: text for trace, text in told.items() if text is not None}
+    traces = list(dict.fromkeys([*told, *pages()]))
     good = [it for it in dict.fromkeys([*answers, *pages()]) if HEAD.match(it) and len(it) < 20000]
     for number, trace in enumerate(traces):
         (out / "traces" / f"repository-{number:04}").write_bytes(trace.encode())

@@ -39,6 +39,3 @@ fn main(rt: HostRuntime) -> ExitCode {
         }
     }
 }
-
-#[cfg(test)]
-mod tests;

@@ -24,9 +24,3 @@ use std::process::ExitCode;
 fn main(rt: HostRuntime) -> ExitCode {
     exit_code(rt.alloc(), &mut rt.stdin(), &mut rt.stdout())
 }
-
-#[cfg(test)]
-mod tests;
-
-#[cfg(test)]
-use turn_lines::{print, status};
