@@ -33,8 +33,6 @@ mod looped;
 #[cfg(test)]
 mod memory;
 #[cfg(test)]
-mod replayed;
-#[cfg(test)]
 mod run;
 #[cfg(test)]
 mod server;
