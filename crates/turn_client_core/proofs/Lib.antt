@@ -13,13 +13,16 @@ pub mod IdLemmas
 pub mod IndicationLemmas
 pub mod JudgedLemmas
 pub mod ListLemmas
+pub mod MessageLemmas
 pub mod OutboxLemmas
 pub mod PieceLemmas
 pub mod PollLemmas
 pub mod QueueLemmas
+pub mod ReadLemmas
 pub mod ReplyLemmas
 pub mod ResultLemmas
 pub mod RetryLemmas
+pub mod SeenLemmas
 pub mod SendLemmas
 pub mod SignLemmas
 pub mod SocketLemmas

@@ -1,5 +1,5 @@
 -- Messages that are ignored whatever attributes they contain.
-use Rattle.std.proofs.Common.{◌≡◌, ◌==◌, ℕ, Bool, true, false, not, ◌&&◌, ◌||◌, List, length, Option, Some, None, is_some, is_none, ap, refl, subst, arith}
+use Rattle.std.proofs.Common.{◌≡◌, ◌∙◌, ◌==◌, ℕ, Bool, true, false, not, ◌&&◌, ◌||◌, List, length, Option, Some, None, is_some, is_none, ap, refl, subst, arith}
 use Rattle.std.proofs.lemmas.Bool.{and_parts, le-ltb, lt-leb, ltb-false, ltb-true, not-false, not-true, or_parts}
 use Rattle.std.specs.Prelude.{if◌then◌else◌, nat_lt, nat_le, ◌<◌}
 use Rattle.turn_auth.specs.LongTerm.{Challenge}
@@ -7,8 +7,8 @@ use Rattle.turn_auth.specs.Validation.{judged, validation_of}
 use Rattle.turn_auth.specs.declared.validation.Validation.{Validation}
 use Rattle.turn_auth.specs.declared.validation.Validation.TheVariants.{Validated, ResendRequest, Refused}
 use Rattle.turn_agent.specs.Agent.{is_outstanding}
-use Rattle.turn_stun.proofs.FaultLemmas.{guard_none}
-use Rattle.turn_stun.specs.Message.{cookie_of, fault_of, header_fault_of, id_of, is_stun_header, type_of}
+use Rattle.turn_stun.proofs.FaultLemmas.{IsMessage-no_fault, guard_none}
+use Rattle.turn_stun.specs.Message.{IsMessage, attributes_of, cookie_of, fault_of, header_fault_of, id_of, is_stun_header, type_of}
 use Rattle.turn_stun.specs.Number.{u16_at}
 use Rattle.turn_stun.specs.declared.error.ParseError.{ParseError}
 use Rattle.turn_stun.specs.declared.message.header.MessageClass.{MessageClass}
@@ -17,14 +17,17 @@ use Rattle.turn_types.specs.Channel.{channel_fault_of}
 use Rattle.turn_client_api.specs.Grants.{purposes_of}
 use Rattle.turn_client_api.specs.Judgement as J
 use Rattle.turn_client_api.specs.Judgement.{challenge_in, class_in, judgement_of, method_in}
-use Rattle.turn_client_api.specs.Payloads.{Ignored, channel_sent, datagram_step, is_channel_frame, is_message, message_step}
+use Rattle.turn_client_api.specs.Payloads.{Ignored, channel_sent, data_indicated, datagram_step, is_channel_frame, is_message, message_step}
 use Rattle.turn_client_api.specs.Requests.{connection_attempt_method, data_method}
 use Rattle.turn_client_api.specs.Retry.{retried}
 use Rattle.turn_client_api.specs.State.{State, auth_of}
 use Rattle.turn_client_api.specs.declared.state.Phase.{Phase}
 use Rattle.turn_client_api.specs.declared.state.Phase.TheVariants.{New, Requesting, Authenticating, Allocated, Closed}
-use Rattle.turn_client_core.specs.Unread.{is_ignored_unread}
+use Rattle.turn_client_core.specs.Unread.{indicates_data, is_ignored_unread}
+use Rattle.turn_client_core.proofs.MessageLemmas.{unheaded}
 use Rattle.turn_client_core.proofs.RetryLemmas.{unknown-is}
+use Rattle.turn_client_core.specs.ProtocolRecv.{outcome_in}
+use Rattle.turn_client_core.specs.declared.protocol_recv.TurnProtocolRecv.{TurnProtocolRecv}
 
 none-is : {A : Type 0} (o : Option A) → is_some o ≡ false → o ≡ None
 none-is None h = refl
@@ -93,22 +96,17 @@ module _ (s : State) (message : List ℕ) (now : ℕ) where
           let ignored : not (is_outstanding (id_of message) s.transactions) ≡ true = rw e at h in
           of-success e f (not-true _ ignored)
       by Allocated e Error f h =
-          let ignored : (not (is_outstanding (id_of message) s.transactions) && not (is_some (retried (purposes_of (id_of message) s))) && nat_lt s.challenges s.config.max_stale_nonces) ≡ true = rw e at h in
-          let unlisted = and_parts (not (is_outstanding (id_of message) s.transactions) && not (is_some (retried (purposes_of (id_of message) s)))) (nat_lt s.challenges s.config.max_stale_nonces) ignored in
-          let ended = and_parts (not (is_outstanding (id_of message) s.transactions)) (not (is_some (retried (purposes_of (id_of message) s)))) unlisted.0 in
-          of-error e f (not-true _ ended.0) (none-is _ (not-true _ ended.1)) (ltb-true _ _ unlisted.1)
+          let ended : Bool = not (is_outstanding (id_of message) s.transactions) in
+          let once : Bool = not (is_some (retried (purposes_of (id_of message) s))) in
+          let few : Bool = nat_lt s.challenges s.config.max_stale_nonces in
+          let ignored : (ended && once && few) ≡ true = rw e at h in
+          let first = and_parts (ended && once) few ignored in
+          let both = and_parts ended once first.0 in
+          of-error e f (not-true (is_outstanding (id_of message) s.transactions) both.0)
+          (none-is (retried (purposes_of (id_of message) s)) (not-true _ both.1)) (ltb-true s.challenges s.config.max_stale_nonces first.1)
       by Closed e k f h = let no : false ≡ true = rw e at h in cc
 
 -- ---- datagrams with the header of a message
-
-pub unheaded : (bytes : List ℕ) (fault : ParseError) → header_fault_of bytes ≡ Some fault → is_message bytes ≡ false
-unfolding fault_of
-unheaded bytes fault = by (nat_lt (length bytes) 20) (not (is_stun_header bytes)) refl refl
-  where
-    by : (a b : Bool) → nat_lt (length bytes) 20 ≡ a → not (is_stun_header bytes) ≡ b → header_fault_of bytes ≡ Some fault → is_message bytes ≡ false
-    by true b e f = rw e (λ h. refl)
-    by false true e f = rw (e, f) (λ h. refl)
-    by false false e f = rw (e, f) (λ h. cc)
 
 pub no-channel : (bytes : List ℕ) → header_fault_of bytes ≡ None → is_channel_frame bytes ≡ false
 unfolding channel_fault_of
@@ -172,3 +170,43 @@ frame-after bytes now s fault unread = by (is_channel_frame bytes) refl
     by : (b : Bool) → is_channel_frame bytes ≡ b → s ≡ (datagram_step bytes now s).1
     by true e = rw (none, e) refl
     by false e = rw (none, e) refl
+
+-- ---- Data indications
+
+-- a DATA indication for a client with an allocation
+data-judged : (s : State) (message : List ℕ) → indicates_data s.phase (class_in message) (method_in message) ≡ true → judgement_of s message ≡ J.DataIndication
+data-judged s message = by s.phase refl (class_in message) refl
+  where
+    by : (p : Phase) → s.phase ≡ p → (k : MessageClass) → class_in message ≡ k → indicates_data p k (method_in message) ≡ true → judgement_of s message ≡ J.DataIndication
+    by New e k f h = cc
+    by Requesting e k f h = cc
+    by Authenticating e k f h = cc
+    by Allocated e Request f h = cc
+    by Allocated e Indication f h = rw (e, f, h) refl
+    by Allocated e Success f h = cc
+    by Allocated e Error f h = cc
+    by Closed e k f h = cc
+
+data-headed : (bytes : List ℕ) (now : ℕ) (s : State) → header_fault_of bytes ≡ None → judgement_of s bytes ≡ J.DataIndication
+    → datagram_step bytes now s ≡ (if is_message bytes then data_indicated s bytes else Ignored, s)
+data-headed bytes now s headed judged = by (is_message bytes) refl
+  where
+    by : (b : Bool) → is_message bytes ≡ b → datagram_step bytes now s ≡ (if is_message bytes then data_indicated s bytes else Ignored, s)
+    by true e = rw (e, judged) refl
+    by false e = rw (e, no-channel bytes headed) refl
+
+pub data-datagram : (bytes : List ℕ) (now : ℕ) (s : State) (class : MessageClass) (method : ℕ) → header_fault_of bytes ≡ None → class ≡ class_in bytes → method ≡ method_in bytes
+    → indicates_data s.phase class method ≡ true → datagram_step bytes now s ≡ (if is_message bytes then data_indicated s bytes else Ignored, s)
+data-datagram bytes now s class method headed is named sent =
+    data-headed bytes now s headed (data-judged s bytes
+    (subst (λ k. indicates_data s.phase k (method_in bytes) ≡ true) is
+    (subst (λ m. indicates_data s.phase class m ≡ true) named sent)))
+
+-- of bytes that are a message
+pub data-message : (s : State) (bytes message : List ℕ) (told : TurnProtocolRecv) → bytes ≡ message → IsMessage message (type_of message) (id_of message) (attributes_of message)
+    → outcome_in bytes told ≡ (if is_message bytes then data_indicated s bytes else Ignored) → outcome_in message told ≡ data_indicated s message
+data-message s bytes message told same is h =
+    let whole : is_message message ≡ true = ap is_none (IsMessage-no_fault message _ _ _ is) in
+    let there : outcome_in message told ≡ (if is_message message then data_indicated s message else Ignored) =
+    subst (λ b. outcome_in b told ≡ (if is_message b then data_indicated s b else Ignored)) same h in
+    there ∙ (rw whole refl)

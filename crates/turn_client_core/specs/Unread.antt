@@ -22,3 +22,8 @@ is_ignored_unread class method id s = by s.phase class
     by Allocated Success = not (is_outstanding id s.transactions)
     by Allocated Error = not (is_outstanding id s.transactions) && not (is_some (retried (purposes_of id s))) && nat_lt s.challenges s.config.max_stale_nonces
     by _ _ = false
+
+-- a DATA indication, to a client with an allocation
+abbrev pub indicates_data : Phase → MessageClass → ℕ → Bool
+indicates_data Allocated Indication method = method == data_method
+indicates_data _ _ method = false

@@ -70,6 +70,9 @@ impl TurnClientProtocol {
         if self.is_ignored_unread(header.message_type, header.transaction_id) {
             return Ok(TurnProtocolRecv::Ignored);
         }
+        if self.is_sent_data(header.message_type) {
+            return Ok(self.data_indicated(bytes));
+        }
         match Message::from_bytes(bytes) {
             Ok(message) => self.message_or_end(&message, now),
             Err(_) => Ok(TurnProtocolRecv::Ignored),

@@ -47,7 +47,7 @@ impl TurnClientProtocol {
             Judged::Challenged => self.challenged(message, now),
             Judged::Fatal => self.fatal(message),
             Judged::LateResponse => Ok(TurnProtocolRecv::Handled),
-            Judged::DataIndication => Ok(self.data_indicated(message)),
+            Judged::DataIndication => Ok(self.data_indicated(message.as_bytes())),
             Judged::ConnectionAttempt => self.attempt_indicated(message),
             Judged::SignedRequest => self.requested(message),
             Judged::SignedSuccess => self.succeeded(message, now),

@@ -7,7 +7,7 @@ ghost use Rattle.turn_client_api.specs.Memory.{message_takes_memory};
 ghost use Rattle.turn_client_api.specs.Payloads.{message_step};
 ghost use Rattle.turn_client_api.specs.Retry.{retried};
 ghost use Rattle.turn_client_core.specs.ProtocolRecv.{IsPart, outcome_in};
-ghost use Rattle.turn_client_core.specs.Unread.{is_ignored_unread};
+ghost use Rattle.turn_client_core.specs.Unread.{indicates_data, is_ignored_unread};
 
 use crate::answered_purposes::retried;
 use crate::protocol::TurnClientProtocol;
@@ -52,6 +52,19 @@ impl TurnClientProtocol {
         ensures { result ≡ nat_lt self.now.challenges self.now.config.max_stale_nonces }
     {
         self.challenges < u32::from(self.config.max_stale_nonces().get())
+    }
+
+    /// Whether a message of this type is a Data indication, and the client has an allocation.
+    pub(crate) fn is_sent_data(&self, kind: MessageType) -> bool
+        ensures { result ≡ indicates_data self.now.phase kind.class kind.method.value }
+    {
+        if self.phase != Phase::Allocated {
+            return false;
+        }
+        match kind.class {
+            MessageClass::Indication => kind.method == DATA,
+            MessageClass::Request | MessageClass::Success | MessageClass::Error => false,
+        }
     }
 
     /// Processes a message, unless it is ignored unread.

@@ -1,4 +1,4 @@
-use Rattle.std.proofs.Common.{◌≡◌, ◌∙◌, refl, sym, true}
+use Rattle.std.proofs.Common.{◌≡◌, ◌∙◌, refl, subst, sym, true}
 use Rattle.turn_client_laws.proofs.ChallengeJudgement.{Challenged-is}
 use Rattle.turn_client_api.specs.Judgement.{judgement_of}
 use Rattle.turn_client_api.specs.Memory.{message_takes_memory}
@@ -6,6 +6,8 @@ use Rattle.turn_client_core.specs.declared.protocol.incoming.judge.Judged.TheVar
 use Rattle.turn_client_core.specs.declared.protocol.incoming.judge.Judged.TheVariants.{SignedError}
 use Rattle.turn_client_core.proofs.JudgedLemmas.{challenged-is, data-judged, error-answers, judged-is, request-signs}
 use Rattle.turn_client_core.proofs.ResultLemmas.{on-err}
+use Rattle.turn_client_core.proofs.UnreadLemmas.{data-message}
+use Rattle.turn_client_core.specs.ProtocolRecv.{IsPart}
 use Rattle.turn_client_core.proofs.protocol.TurnClientProtocol.message.Goals as goal
 
 pub returns-in-Unrelated-clause-answer : goal.returns-in-Unrelated-clause-answer
@@ -43,7 +45,12 @@ returns-in-Fatal-clause-after c = rw (judged-is (judgement_of c.args.self.now c.
 
 pub returns-in-DataIndication-clause-answer : goal.returns-in-DataIndication-clause-answer
 returns-in-DataIndication-clause-answer c = rw (judged-is (judgement_of c.args.self.now c.args.message.now) DataIndication (sym c.judge-judged.ensures
-    ∙ c.in-DataIndication.is) tt) c.data_indicated.ensures.outcome
+    ∙ c.in-DataIndication.is) tt) (data-message c.args.self.now c.as_bytes.result.now c.args.message.now c.data_indicated.result c.as_bytes.ensures.bytes c.as_bytes.ensures.message
+    c.data_indicated.ensures.outcome)
+
+pub returns-in-DataIndication-clause-part : goal.returns-in-DataIndication-clause-part
+returns-in-DataIndication-clause-part c =
+    subst (λ bytes. IsPart bytes c.args.self.now c.args.self.now c.data_indicated.result) c.as_bytes.ensures.bytes c.data_indicated.ensures.part
 
 pub returns-in-DataIndication-clause-after : goal.returns-in-DataIndication-clause-after
 returns-in-DataIndication-clause-after c = rw (judged-is (judgement_of c.args.self.now c.args.message.now) DataIndication (sym c.judge-judged.ensures ∙ c.in-DataIndication.is) tt) refl

@@ -1,0 +1,63 @@
+use Rattle.std.proofs.Common.{◌≡◌, ◌+◌, ◌<◌, ◌∙◌, ◌||◌, length, length-drop, drop, fold, None, ap, arith, refl, sym}
+use Rattle.std.proofs.lemmas.Bool.{eqb-false, eqb-true}
+use Rattle.std.proofs.lemmas.List.{take_rest}
+use Rattle.std.specs.List.{list_any}
+use Rattle.std.specs.Option.{option_map}
+use Rattle.turn_stun.specs.Iterator.{placed}
+use Rattle.turn_stun.specs.Message.{attribute_at, attribute_size, attributes_from, padded_len}
+use Rattle.turn_types.specs.Send.{data_kind, peer_kind}
+use Rattle.turn_client_api.specs.Judgement.{is_unknown, later_of}
+use Rattle.turn_client_api.specs.Requests.{icmp_kind}
+use Rattle.turn_client_core.proofs.ReadLemmas.{cut-all, cut-none, end-some, or-none, read-all, step-any, step-fold, walked-all}
+use Rattle.turn_client_core.proofs.indication.Indication.read_all.Goals as goal
+
+pub returns-in_err-raw-clause-cut : goal.returns-in_err-raw-clause-cut
+returns-in_err-raw-clause-cut c =
+    let rest = c.loop-rest.rest.now in
+    let left : 0 < length rest = (let some : length rest ≡ 0 → ⊥ = eqb-false _ _ (sym c.loop-rest-test.ensures) in omega arith) in
+    let none = cut-all _ _ (attributes_from 0 20 (drop 20 c.args.bytes.now)) _
+    c.loop-rest.invariant.peer (cut-none _ rest left c.in_err-raw.ensures.cut) in
+    rw c.from_residual.ensures none
+
+pub loop-rest-preserved : goal.loop-rest-preserved
+loop-rest-preserved c =
+    let rest = c.loop-rest.rest.now in
+    let left : 0 < length rest = (let some : length rest ≡ 0 → ⊥ = eqb-false _ _ (sym c.loop-rest-test.ensures) in omega arith) in
+    let size : c.size-size.result ≡ attribute_size rest = c.size-size.ensures ∙ ap (λ n. 4 + padded_len n) c.in_ok-raw.ensures.len in
+    let first : placed (c.loop-rest.offset, c.in_ok-raw.raw) ≡ attribute_at c.loop-rest.offset rest = rw (c.in_ok-raw.ensures.kind, c.in_ok-raw.ensures.value) refl in
+    let whole = c.in_ok-raw.ensures.whole in
+    let later = take_rest rest c.size-size.result in
+    record {
+      same = c.read.ensures.id ∙ c.loop-rest.invariant.same;
+      place = rw (later, length-drop) (omega (arith, c.loop-rest.invariant.place, size, whole));
+      peer = step-fold (later_of peer_kind) _ _ c.loop-rest.offset c.size-size.result rest _ _ _ left whole first c.read.ensures.peer size later c.loop-rest.invariant.peer;
+      payload = step-fold (later_of data_kind) _ _ c.loop-rest.offset c.size-size.result rest _ _ _ left whole first c.read.ensures.payload size later c.loop-rest.invariant.payload;
+      icmp = step-fold (later_of icmp_kind) _ _ c.loop-rest.offset c.size-size.result rest _ _ _ left whole first c.read.ensures.icmp size later c.loop-rest.invariant.icmp;
+      unknown = step-any is_unknown _ _ c.loop-rest.offset c.size-size.result rest _ _ _ left whole first c.read.ensures.unknown size later c.loop-rest.invariant.unknown;
+    }
+
+pub returns-clause-whole : goal.returns-clause-whole
+returns-clause-whole c =
+    walked-all _ _ (attributes_from 0 20 (drop 20 c.args.bytes.now)) _
+    c.loop-rest.invariant.peer (end-some _ c.loop-rest.rest.now (eqb-true _ _ (sym c.loop-rest-test.ensures)))
+
+pub returns-clause-peer : goal.returns-clause-peer
+returns-clause-peer c =
+    read-all (fold (later_of peer_kind) (option_map placed c.loop-rest.found.peer)) (fold (later_of peer_kind) None) (attributes_from 0 20 (drop 20 c.args.bytes.now)) _
+    c.loop-rest.invariant.peer (end-some _ c.loop-rest.rest.now (eqb-true _ _ (sym c.loop-rest-test.ensures)))
+
+pub returns-clause-payload : goal.returns-clause-payload
+returns-clause-payload c =
+    read-all (fold (later_of data_kind) (option_map placed c.loop-rest.found.«data»)) (fold (later_of data_kind) None) (attributes_from 0 20 (drop 20 c.args.bytes.now)) _
+    c.loop-rest.invariant.payload (end-some _ c.loop-rest.rest.now (eqb-true _ _ (sym c.loop-rest-test.ensures)))
+
+pub returns-clause-icmp : goal.returns-clause-icmp
+returns-clause-icmp c =
+    read-all (fold (later_of icmp_kind) (option_map placed c.loop-rest.found.icmp)) (fold (later_of icmp_kind) None) (attributes_from 0 20 (drop 20 c.args.bytes.now)) _
+    c.loop-rest.invariant.icmp (end-some _ c.loop-rest.rest.now (eqb-true _ _ (sym c.loop-rest-test.ensures)))
+
+pub returns-clause-unknown : goal.returns-clause-unknown
+returns-clause-unknown c =
+    or-none c.loop-rest.found.has_unknown
+    ∙ read-all (λ l. c.loop-rest.found.has_unknown || list_any is_unknown l) (list_any is_unknown) (attributes_from 0 20 (drop 20 c.args.bytes.now)) _
+    c.loop-rest.invariant.unknown (end-some _ c.loop-rest.rest.now (eqb-true _ _ (sym c.loop-rest-test.ensures)))
