@@ -1,5 +1,5 @@
 -- What the allocations relay over stays.
-use Rattle.std.proofs.Common.{◌≡◌, ℕ, List, Option, Some, None, Result, Ok, Err, OnOk, OnErr, ap, inr, ◌∙◌}
+use Rattle.std.proofs.Common.{◌≡◌, ℕ, List, Option, Some, None, ap, inr, ◌∙◌}
 use Rattle.turn_client_api.specs.State.{State}
 use Rattle.turn_client_api.specs.declared.call.Call.{Call}
 use Rattle.turn_client_proto.proofs.CarrierLemmas.{leaves-SameCarriers}
@@ -11,17 +11,12 @@ use Rattle.turn_c_calls.specs.declared.answer.Answer.{Answer}
 abbrev pub SameRelays : Held → Held → Type 0
 SameRelays was now = now.client.config.allocation_transport ≡ was.client.config.allocation_transport
 
-does_kept : (call : Option Call) (index : ℕ) (was now : Held) (buffer after : List ℕ) (a b : Answer)
+pub does_kept : (call : Option Call) (index : ℕ) (was now : Held) (buffer after : List ℕ) (a b : Answer)
     → Does call index was now buffer after a b → SameRelays was now
 does_kept None index was now buffer after a b h = ap (λ (s : State). s.config.allocation_transport) h.client
 does_kept (Some call) index was now buffer after a b h =
     ap (λ (s : State). s.config.allocation_transport) h.client ∙ relays_stay call was.client
 
-fails_kept : (call : Option Call) (was now : Held) (buffer after : List ℕ) → Fails call was now buffer after → SameRelays was now
+pub fails_kept : (call : Option Call) (was now : Held) (buffer after : List ℕ) → Fails call was now buffer after → SameRelays was now
 fails_kept None was now buffer after h = absurd h
 fails_kept (Some call) was now buffer after h = (leaves-SameCarriers call was.client now.client (inr h.client)).1
-
-pub relays_kept : {A E : Type 0} → (r : Result A E) (call : Option Call) (index : ℕ) (was now : Held) (buffer after : List ℕ) (a b : Answer)
-    → OnOk r (Does call index was now buffer after a b) → OnErr r (Fails call was now buffer after) → SameRelays was now
-relays_kept (Ok done) call index was now buffer after a b h g = does_kept call index was now buffer after a b h
-relays_kept (Err e) call index was now buffer after a b h g = fails_kept call was now buffer after g

@@ -1,4 +1,5 @@
 pub mod AddressLemmas
+pub mod EndLemmas
 pub mod KeptLemmas
 pub mod MadeLemmas
 pub mod NthLemmas

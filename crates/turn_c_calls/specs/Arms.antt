@@ -1,16 +1,25 @@
 -- The same for the client and for the bytes to be read, each on its own.
-use Rattle.std.specs.Prelude.{◌≡◌, ◌⊎◌, ℕ, List, length, Option, Some}
+use Rattle.std.specs.Prelude.{◌≡◌, ◌⊎◌, ℕ, List, length, slice_get, Option, Some, None, Result, Ok, Err}
+use Rattle.std.specs.declared.net.ip_addr.IpAddr.{IpAddr}
+use Rattle.std.specs.declared.net.socket_addr.SocketAddr.{SocketAddr}
 use Rattle.std.specs.declared.ops.Range.{Range}
+use Rattle.turn_stun.specs.declared.transport.TransportType.{TransportType}
+use Rattle.turn_client_api.specs.Calls.{can_send_to, permissions_of}
 use Rattle.turn_client_api.specs.Payloads.{Outcome}
 use Rattle.turn_client_api.specs.Payloads as O
 use Rattle.turn_client_api.specs.State.{State}
+use Rattle.turn_client_api.specs.Steps.{EndsWithoutMemory}
 use Rattle.turn_client_api.specs.declared.call.Call.{Call}
 use Rattle.turn_client_proto.specs.Run.{recv_reply}
-use Rattle.turn_c_calls.specs.Answer.{answer_to, bytes_in, data_answer}
+use Rattle.turn_c_calls.specs.Answer.{answer_to, bytes_in, data_answer, found_answer, permission_answer}
 use Rattle.turn_c_calls.specs.Buffer.{PutsIfAny}
 use Rattle.turn_c_calls.specs.Held.{held}
+use Rattle.turn_c_calls.specs.Operation.{Operation}
+use Rattle.turn_c_calls.specs.Request.{call_in, index_in}
 use Rattle.turn_c_calls.specs.Step.{Does, Fails, IsFailed, IsMade}
 use Rattle.turn_c_calls.specs.declared.answer.Answer.{Answer}
+use Rattle.turn_c_calls.specs.declared.judge.Fault.{Fault}
+use Rattle.turn_c_calls.specs.declared.judge.Fault.TheVariants as Faults
 use Rattle.turn_c_calls.specs.declared.code.TheConstants.{PEER_DATA_RANGE}
 
 -- ---- what became of the input
@@ -52,3 +61,42 @@ DoesSo call index s t was unread = Does call index (held s was) (held t unread)
 
 abbrev pub FailsSo : Option Call → State → State → List ℕ → List ℕ → List ℕ → List ℕ → Type 0
 FailsSo call s t was unread = Fails call (held s was) (held t unread)
+
+-- ---- a request of one kind
+
+-- why a request was not answered: it was refused and nothing has changed, or a memory allocation of its call failed
+abbrev pub Lacks : Result Operation Fault → Fault → List ℕ → State → State → List ℕ → List ℕ → List ℕ → List ℕ → Answer → Answer → Type 0
+Lacks (Err refused) fault bytes s t was unread buffer after a b =
+    (fault ≡ refused) × (t ≡ s) × (unread ≡ was) × (after ≡ buffer) × (b ≡ a)
+Lacks (Ok operation) fault bytes s t was unread buffer after a b =
+    (fault ≡ Faults.OutOfMemory) × FailsSo (call_in operation bytes) s t was unread buffer after × (b ≡ a)
+
+-- what it does was done
+abbrev pub Ends : Result Operation Fault → List ℕ → State → State → List ℕ → List ℕ → List ℕ → List ℕ → Answer → Answer → Type 0
+Ends (Err refused) bytes s t was unread buffer after a b = ⊥
+Ends (Ok operation) bytes s t was unread buffer after a b =
+    DoesSo (call_in operation bytes) (index_in operation) s t was unread buffer after a b
+
+-- the same for a call that is made whatever the data, the bytes to be read and the buffer are, or for none
+abbrev pub EndsPlain : Option Call → State → State → Answer → Answer → Type 0
+EndsPlain (Some call) s t a b = MakesPlain call 0 s t a b
+EndsPlain None s t a b = ⊥
+
+abbrev pub LacksPlain : Option Call → Fault → State → State → Answer → Answer → Type 0
+LacksPlain (Some call) fault s t a b = (fault ≡ Faults.OutOfMemory) × EndsWithoutMemory call s t × (b ≡ a)
+LacksPlain None fault s t a b = (fault ≡ Faults.Call) × (t ≡ s) × (b ≡ a)
+
+-- the same where the client is only looked at, for these arguments or for none
+abbrev pub EndsLook : {A : Type 0} → Option A → (A → Answer → Answer) → Answer → Answer → Type 0
+EndsLook (Some x) said a b = b ≡ said x a
+EndsLook None said a b = ⊥
+
+abbrev pub LacksLook : {A : Type 0} → Option A → Fault → Answer → Answer → Type 0
+LacksLook (Some x) fault a b = ⊥
+LacksLook None fault a b = (fault ≡ Faults.Call) × (b ≡ a)
+
+abbrev pub permissions_answer : ℕ → State → TransportType × SocketAddr → Answer → Answer
+permissions_answer index s relayed a = permission_answer (slice_get (permissions_of relayed.0 relayed.1 s) index) a
+
+abbrev pub have_permission_answer : State → TransportType × IpAddr → Answer → Answer
+have_permission_answer s peer a = found_answer (can_send_to peer.0 peer.1 s) a

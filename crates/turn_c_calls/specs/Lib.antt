@@ -5,6 +5,7 @@ pub mod Buffer
 pub mod Held
 pub mod Judge
 pub mod Open
+pub mod Operation
 pub mod Request
 pub mod Settings
 pub mod Step

@@ -2,8 +2,10 @@
 use Rattle.std.specs.Prelude.{ℕ, ◌==◌, ◌^◌, nat_le, if◌then◌else◌, List, [], ◌∷◌, Option, Some, None}
 use Rattle.std.specs.List.{find}
 use Rattle.std.specs.Option.{option_map}
+use Rattle.std.specs.declared.net.ip_addr.IpAddr.{IpAddr}
 use Rattle.std.specs.declared.net.socket_addr.SocketAddr.{SocketAddr}
 use Rattle.turn_stun.specs.declared.transport.Transmit.{Transmit}
+use Rattle.turn_stun.specs.declared.transport.TransportType.{TransportType}
 use Rattle.turn_client_api.specs.declared.call.Call.{Call}
 use Rattle.turn_client_api.specs.declared.call.Call.TheVariants as Calls
 use Rattle.turn_lines.specs.Parts.{◌>>=◌}
@@ -12,8 +14,8 @@ use Rattle.turn_c_calls.specs.declared.address.Address.{Address}
 use Rattle.turn_c_calls.specs.declared.code.TheConstants.{BIND_CHANNEL, TCP_CLOSED, TCP_CONNECT, DELETE, POLL_EVENT, PROTOCOL_ERROR, HAVE_PERMISSION}
 use Rattle.turn_c_calls.specs.declared.code.TheConstants.{NO_FAMILY, PERMISSIONS, CREATE_PERMISSION, POLL, POLL_RECV, READ, RECV, RELAYED_ADDRESSES}
 use Rattle.turn_c_calls.specs.declared.code.TheConstants.{SEND_TO, ALLOCATED_TCP_SOCKET, POLL_TRANSMIT}
-use Rattle.turn_c_calls.specs.declared.request.Operation.{Operation}
-use Rattle.turn_c_calls.specs.declared.request.Operation.TheVariants as Operations
+use Rattle.turn_c_calls.specs.Operation.{Operation}
+use Rattle.turn_c_calls.specs.Operation as Operations
 use Rattle.turn_c_calls.specs.declared.request.Kind.{Kind}
 use Rattle.turn_c_calls.specs.declared.request.Kind.TheVariants as Kinds
 use Rattle.turn_c_calls.specs.declared.request.Request.{Request}
@@ -40,60 +42,64 @@ kind_of code = option_map (λ k. k.1) (find (λ k. code == k.0) kinds)
 abbrev pub local_at : Address → Option (Option SocketAddr)
 local_at a = if a.family == NO_FAMILY then Some None else option_map Some (socket_at a)
 
--- the connection that the caller has opened, or could not open
-abbrev pub socket_operation : ℕ → Request → Option Operation
-socket_operation now r = do
+-- a peer and the transport to it
+abbrev pub peer_of : Request → Option (TransportType × SocketAddr)
+peer_of r = do
+  transport ← transport_of r.transport
+  peer ← socket_at r.peer
+  Some (transport, peer)
+
+-- the IP address of a peer, and the transport to it
+abbrev pub peer_ip_of : Request → Option (TransportType × IpAddr)
+peer_ip_of r = do
+  transport ← transport_of r.transport
+  ip ← ip_at r.peer
+  Some (transport, ip)
+
+-- a relayed address, and what it is relayed over
+abbrev pub relayed_of : Request → Option (TransportType × SocketAddr)
+relayed_of r = do
+  transport ← transport_of r.transport
+  relayed ← socket_at r.from
+  Some (transport, relayed)
+
+abbrev pub tuple_of : Request → Option Socket5Tuple
+tuple_of r = do
   transport ← transport_of r.transport
   from ← socket_at r.from
   to ← socket_at r.to
+  Some (record { transport = transport; from = from; to = to })
+
+-- the connection that the caller has opened, or could not open
+abbrev pub socket_operation : ℕ → Request → Option Operation
+socket_operation now r = do
+  tuple ← tuple_of r
   peer ← socket_at r.peer
   local ← local_at r.local
-  Some (Operations.Call (Calls.AllocatedTcpSocket r.id (record { transport = transport; from = from; to = to }) peer local now))
+  Some (Operations.Plain (Calls.AllocatedTcpSocket r.id tuple peer local now))
 
 -- what a request of each kind does at a time
 abbrev pub operation_with : ℕ → Request → Kind → Option Operation
-operation_with now r Kinds.Delete = Some (Operations.Call (Calls.Delete now))
-operation_with now r Kinds.CreatePermission = do
-  transport ← transport_of r.transport
-  peer ← ip_at r.peer
-  Some (Operations.Call (Calls.CreatePermission transport peer now))
-operation_with now r Kinds.BindChannel = do
-  transport ← transport_of r.transport
-  peer ← socket_at r.peer
-  Some (Operations.Call (Calls.BindChannel transport peer now))
-operation_with now r Kinds.TcpConnect = option_map (λ peer. Operations.Call (Calls.TcpConnect peer now)) (socket_at r.peer)
+operation_with now r Kinds.Delete = Some (Operations.Plain (Calls.Delete now))
+operation_with now r Kinds.CreatePermission = option_map (λ p. Operations.Plain (Calls.CreatePermission p.0 p.1 now)) (peer_ip_of r)
+operation_with now r Kinds.BindChannel = option_map (λ p. Operations.Plain (Calls.BindChannel p.0 p.1 now)) (peer_of r)
+operation_with now r Kinds.TcpConnect = option_map (λ peer. Operations.Plain (Calls.TcpConnect peer now)) (socket_at r.peer)
 operation_with now r Kinds.AllocatedTcpSocket = socket_operation now r
 operation_with now r Kinds.TcpClosed = do
   local ← socket_at r.from
   remote ← socket_at r.to
-  Some (Operations.Call (Calls.TcpClosed local remote now))
-operation_with now r Kinds.SendTo = do
-  transport ← transport_of r.transport
-  to ← socket_at r.peer
-  Some (Operations.SendTo transport to now)
-operation_with now r Kinds.Recv = do
-  transport ← transport_of r.transport
-  from ← socket_at r.from
-  to ← socket_at r.to
-  Some (Operations.Recv (record { transport = transport; from = from; to = to }) now)
+  Some (Operations.Plain (Calls.TcpClosed local remote now))
+operation_with now r Kinds.SendTo = option_map (λ p. Operations.SendTo p.0 p.1 now) (peer_of r)
+operation_with now r Kinds.Recv = option_map (λ tuple. Operations.Recv tuple now) (tuple_of r)
 operation_with now r Kinds.PollRecv = Some (Operations.PollRecv now)
 operation_with now r Kinds.Poll = Some (Operations.Poll now)
 operation_with now r Kinds.PollTransmit = Some (Operations.PollTransmit now)
 operation_with now r Kinds.PollEvent = Some Operations.PollEvent
-operation_with now r Kinds.ProtocolError = Some (Operations.Call Calls.ProtocolError)
+operation_with now r Kinds.ProtocolError = Some (Operations.Plain Calls.ProtocolError)
 operation_with now r Kinds.RelayedAddresses = Some (Operations.RelayedAddresses r.id)
-operation_with now r Kinds.Permissions = do
-  transport ← transport_of r.transport
-  relayed ← socket_at r.from
-  Some (Operations.Permissions transport relayed r.id)
-operation_with now r Kinds.HavePermission = do
-  transport ← transport_of r.transport
-  peer ← ip_at r.peer
-  Some (Operations.Call (Calls.HavePermission transport peer))
+operation_with now r Kinds.Permissions = option_map (λ p. Operations.Permissions p.0 p.1 r.id) (relayed_of r)
+operation_with now r Kinds.HavePermission = option_map (λ p. Operations.Plain (Calls.HavePermission p.0 p.1)) (peer_ip_of r)
 operation_with now r Kinds.Read = Some Operations.Read
-
-abbrev pub operation_of : ℕ → Request → Option Operation
-operation_of now r = kind_of r.kind >>= operation_with now r
 
 -- the packet that has these bytes
 abbrev pub packet_over : Socket5Tuple → List ℕ → Transmit (List ℕ)
@@ -104,7 +110,7 @@ recv_call tuple bytes now = Calls.Recv (packet_over tuple bytes) now
 
 -- the call that is made with this data, if it is one
 abbrev pub call_in : Operation → List ℕ → Option Call
-call_in (Operations.Call call) bytes = Some call
+call_in (Operations.Plain call) bytes = Some call
 call_in (Operations.SendTo transport to now) bytes = Some (Calls.SendTo transport to bytes now)
 call_in (Operations.Recv tuple now) bytes = Some (recv_call tuple bytes now)
 call_in (Operations.PollRecv now) bytes = Some (Calls.PollRecv now)

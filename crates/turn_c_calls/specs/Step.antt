@@ -14,7 +14,7 @@ use Rattle.turn_c_calls.specs.Buffer.{PointsIfAny, Puts, PutsIfAny}
 use Rattle.turn_c_calls.specs.declared.answer.Answer.{Answer}
 use Rattle.turn_c_calls.specs.declared.code.TheConstants.{BYTES, OUT_OF_MEMORY}
 use Rattle.turn_c_calls.specs.declared.judge.Fault.{Fault}
-use Rattle.turn_c_calls.specs.declared.request.Operation.{Operation}
+use Rattle.turn_c_calls.specs.Operation.{Operation}
 use Rattle.turn_c_calls.specs.declared.request.Request.{Request}
 
 -- the bytes that are passed in with a call, of which its answer may name a range
@@ -66,12 +66,14 @@ abbrev pub Answers : Option Call → ℕ → Held → Held → List ℕ → List
 Answers call index was now buffer after a b =
     Does call index was now buffer after a b ⊎ (Fails call was now buffer after × (b ≡ of_kind OUT_OF_MEMORY a))
 
+-- what a request does, or why it is refused
+abbrev pub Finishes : Result Operation Fault → List ℕ → Held → Held → List ℕ → List ℕ → Answer → Answer → Type 0
+Finishes (Err fault) bytes was now buffer after a b = IsRefused (fault_code fault) was now buffer after a b
+Finishes (Ok operation) bytes was now buffer after a b = Answers (call_in operation bytes) (index_in operation) was now buffer after a b
+
 -- One step of a session: a request with its data, what the session held and holds now, the buffer before and after, and
 -- the answer before and after.
 abbrev pub Steps : Request → List ℕ → Held → Held → List ℕ → List ℕ → Answer → Answer → Type 0
 Steps request bytes was now buffer after a b =
-    by (judged was.client.config.allocation_transport request (nat_lt 0 (length was.unread)) (length bytes) (length buffer))
-  where
-    by : Result Operation Fault → Type 0
-    by (Err fault) = IsRefused (fault_code fault) was now buffer after a b
-    by (Ok operation) = Answers (call_in operation bytes) (index_in operation) was now buffer after a b
+    Finishes (judged was.client.config.allocation_transport request (nat_lt 0 (length was.unread)) (length bytes) (length buffer))
+    bytes was now buffer after a b

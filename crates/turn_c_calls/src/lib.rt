@@ -16,6 +16,7 @@ pub mod answer;
 mod buffer;
 pub mod code;
 mod give;
+mod handle;
 mod judge;
 pub mod library;
 mod make;

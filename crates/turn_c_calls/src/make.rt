@@ -1,76 +1,29 @@
-//! What a request does, done with a client.
+//! The calls of a client, each with what it writes to the answer.
 
-ghost use Rattle.std.specs.Prelude.{◌≡◌, ◌≤◌, ◌^◌, ◌+◌, [], nat_lt, length, slice_get, OnOk, OnErr};
-ghost use Rattle.turn_client_api.specs.Calls.{permissions_of, relayed_addresses_of, FitsDatagram};
+ghost use Rattle.std.specs.Prelude.{◌≡◌, ◌≤◌, ◌^◌, ◌+◌, [], length, slice_get, OnOk, OnErr};
+ghost use Rattle.turn_client_api.specs.Calls.{can_send_to, permissions_of, relayed_addresses_of, FitsDatagram};
 ghost use Rattle.turn_client_api.specs.Steps.{EndsWithoutMemory};
 ghost use Rattle.turn_client_proto.specs.Run.{IsCallable};
-ghost use Rattle.turn_c_calls.specs.Answer.{of_kind, permission_answer, relayed_answer};
-ghost use Rattle.turn_c_calls.specs.Arms.{DoesSo, FailsSo, Makes, MakesAside, MakesPlain, Stops};
+ghost use Rattle.turn_c_calls.specs.Answer.{found_answer, of_kind, permission_answer, relayed_answer};
+ghost use Rattle.turn_c_calls.specs.Arms.{Makes, MakesAside, MakesPlain, Stops};
 ghost use Rattle.turn_c_calls.specs.Buffer.{Puts};
-ghost use Rattle.turn_c_calls.specs.Judge.{IsPlainCall, IsReady};
-ghost use Rattle.turn_c_calls.specs.Request.{call_in, index_in};
+ghost use Rattle.turn_c_calls.specs.Judge.{IsPlainCall};
+ghost use Rattle.turn_c_calls.specs.Request.{recv_call};
 
 use crate::answer::Answer;
-use crate::code::{BYTES, NOTHING};
+use crate::code::{BYTES, NO, NOTHING, YES};
 use crate::give::{deliver, give, report, write};
 use crate::plain::reply_to;
-use crate::request::Operation;
 use crate::unread::{Kept, Unread};
 use std::alloc::{AllocError, Global};
-use std::net::SocketAddr;
+use std::net::{IpAddr, SocketAddr};
 use turn_client_api::{Call, Socket5Tuple, TurnClientApi};
 use turn_lines::refusal::Refusal;
 use turn_stun::instant::Instant;
 use turn_stun::transport::{Transmit, TransportType};
 
-/// Does what a request says, which is possible with this data and this buffer.
-///
-/// # Errors
-///
-/// If memory allocation for the call fails. The client is as the call leaves it then, and nothing else has changed.
-pub fn make<C: TurnClientApi>(
-    alloc: Global,
-    client: &mut C,
-    operation: Operation,
-    bytes: &[u8],
-    unread: &mut Unread,
-    buffer: &mut [u8],
-    answer: &mut Answer,
-) -> Result<(), AllocError>
-    requires { IsReady (C.state client.old).config.allocation_transport (nat_lt 0 (length unread.old)) bytes.now (length buffer.old) operation }
-    ensures ok { OnOk result (DoesSo (call_in operation bytes.now) (index_in operation) (C.state client.old) (C.state client.new)
-        unread.old unread.new buffer.old buffer.new answer.old answer.new) }
-    ensures err { OnErr result (FailsSo (call_in operation bytes.now) (C.state client.old) (C.state client.new)
-        unread.old unread.new buffer.old buffer.new) }
-    ensures same { OnErr result (answer.new ≡ answer.old) }
-{
-    match operation {
-        Operation::Call(call) => plain(client, &call, answer)?,
-        Operation::SendTo { transport, to, now } => {
-            send_to(client, transport, to, bytes, now, buffer, answer);
-        }
-        Operation::Recv { tuple, now } => {
-            let packet = Transmit::new(bytes, tuple.transport, tuple.from, tuple.to);
-            let outcome = client.recv(packet, now)?;
-            report(alloc, outcome, unread, buffer, answer);
-        }
-        Operation::PollRecv { now } => poll_recv(client, now, unread, buffer, answer)?,
-        Operation::Poll { now } => poll(client, now, answer)?,
-        Operation::PollTransmit { now } => poll_transmit(client, now, unread, buffer, answer)?,
-        Operation::PollEvent => poll_event(client, answer),
-        Operation::RelayedAddresses { index } => relayed_addresses(client, index, answer),
-        Operation::Permissions {
-            transport,
-            relayed,
-            index,
-        } => permissions(client, transport, relayed, index, answer),
-        Operation::Read => read(unread, buffer, answer),
-    }
-    Ok(())
-}
-
 /// Makes a call whose reply has neither bytes nor a list.
-fn plain<C: TurnClientApi>(
+pub fn plain<C: TurnClientApi>(
     client: &mut C,
     call: &Call,
     answer: &mut Answer,
@@ -87,7 +40,7 @@ fn plain<C: TurnClientApi>(
 }
 
 /// Sends the data to a peer: the packet is written to the buffer.
-fn send_to<C: TurnClientApi>(
+pub fn send_to<C: TurnClientApi>(
     client: &mut C,
     transport: TransportType,
     to: SocketAddr,
@@ -108,8 +61,33 @@ fn send_to<C: TurnClientApi>(
     }
 }
 
+/// Passes in the data that was received.
+pub fn recv<C: TurnClientApi>(
+    alloc: Global,
+    client: &mut C,
+    tuple: Socket5Tuple,
+    bytes: &[u8],
+    now: Instant,
+    unread: &mut Unread,
+    buffer: &mut [u8],
+    answer: &mut Answer,
+) -> Result<(), AllocError>
+    requires time { now ≤ 2 ^ 62 }
+    requires none_left { unread.old ≡ [] }
+    ensures ok { OnOk result (Makes (recv_call tuple bytes.now now) (C.state client.old) (C.state client.new)
+        unread.old unread.new buffer.old buffer.new answer.old answer.new) }
+    ensures err { OnErr result (Stops (recv_call tuple bytes.now now) (C.state client.old) (C.state client.new)
+        unread.old unread.new buffer.old buffer.new) }
+    ensures same { OnErr result (answer.new ≡ answer.old) }
+{
+    let packet = Transmit::new(bytes, tuple.transport, tuple.from, tuple.to);
+    let outcome = client.recv(packet, now)?;
+    report(alloc, outcome, unread, buffer, answer);
+    Ok(())
+}
+
 /// Returns the next data of a peer that the streams hold.
-fn poll_recv<C: TurnClientApi>(
+pub fn poll_recv<C: TurnClientApi>(
     client: &mut C,
     now: Instant,
     unread: &mut Unread,
@@ -132,7 +110,7 @@ fn poll_recv<C: TurnClientApi>(
 }
 
 /// Returns what to do next.
-fn poll<C: TurnClientApi>(
+pub fn poll<C: TurnClientApi>(
     client: &mut C,
     now: Instant,
     answer: &mut Answer,
@@ -148,7 +126,7 @@ fn poll<C: TurnClientApi>(
 }
 
 /// Returns the next packet.
-fn poll_transmit<C: TurnClientApi>(
+pub fn poll_transmit<C: TurnClientApi>(
     client: &mut C,
     now: Instant,
     unread: &mut Unread,
@@ -174,7 +152,7 @@ fn poll_transmit<C: TurnClientApi>(
 }
 
 /// Returns the next event.
-fn poll_event<C: TurnClientApi>(client: &mut C, answer: &mut Answer)
+pub fn poll_event<C: TurnClientApi>(client: &mut C, answer: &mut Answer)
     ensures { MakesPlain Call.PollEvent 0 (C.state client.old) (C.state client.new) answer.old answer.new }
 {
     match client.poll_event() {
@@ -184,14 +162,14 @@ fn poll_event<C: TurnClientApi>(client: &mut C, answer: &mut Answer)
 }
 
 /// The relayed address at this index.
-fn relayed_addresses<C: TurnClientApi>(client: &C, index: u32, answer: &mut Answer)
+pub fn relayed_addresses<C: TurnClientApi>(client: &C, index: u32, answer: &mut Answer)
     ensures { answer.new ≡ relayed_answer (slice_get (relayed_addresses_of (C.state client.now)) index) answer.old }
 {
     answer.set_relayed(client.relayed_addresses().nth(index as usize));
 }
 
 /// The address at this index of those that have a permission in the allocation with this relayed address.
-fn permissions<C: TurnClientApi>(
+pub fn permissions<C: TurnClientApi>(
     client: &C,
     transport: TransportType,
     relayed: SocketAddr,
@@ -203,8 +181,24 @@ fn permissions<C: TurnClientApi>(
     answer.set_permission(client.permissions(transport, relayed).nth(index as usize));
 }
 
+/// Whether there is a permission.
+pub fn have_permission<C: TurnClientApi>(
+    client: &C,
+    transport: TransportType,
+    to: IpAddr,
+    answer: &mut Answer,
+)
+    ensures { answer.new ≡ found_answer (can_send_to transport to (C.state client.now)) answer.old }
+{
+    answer.kind = if client.have_permission(transport, to) {
+        YES
+    } else {
+        NO
+    };
+}
+
 /// Reads the next bytes.
-fn read(unread: &mut Unread, buffer: &mut [u8], answer: &mut Answer)
+pub fn read(unread: &mut Unread, buffer: &mut [u8], answer: &mut Answer)
     ensures { Puts unread.old [] (of_kind BYTES answer.old) buffer.old buffer.new unread.new answer.new }
 {
     answer.kind = BYTES;

@@ -1,8 +1,10 @@
 //! A request of a C program, and which call of a client it is.
 
-ghost use Rattle.std.specs.Prelude.{◌≡◌, ◌^◌, ◌≤◌, ℕ, IfSome};
-ghost use Rattle.turn_c_calls.specs.Request.{operation_of, operation_with, kind_of, local_at, time_of};
+ghost use Rattle.std.specs.Prelude.{◌≡◌, ◌^◌, ◌≤◌, IfSome};
+ghost use Rattle.std.specs.Option.{option_map};
 ghost use Rattle.turn_c_calls.specs.Judge.{IsPossible};
+ghost use Rattle.turn_c_calls.specs.Operation.{Plain};
+ghost use Rattle.turn_c_calls.specs.Request.{kind_of, local_at, operation_with, peer_ip_of, peer_of, relayed_of, time_of, tuple_of};
 
 use crate::address::{Address, ip_at, socket_at, transport_of};
 use crate::code::{
@@ -10,7 +12,7 @@ use crate::code::{
     PERMISSIONS, POLL, POLL_EVENT, POLL_RECV, POLL_TRANSMIT, PROTOCOL_ERROR, READ, RECV,
     RELAYED_ADDRESSES, SEND_TO, TCP_CLOSED, TCP_CONNECT,
 };
-use std::net::SocketAddr;
+use std::net::{IpAddr, SocketAddr};
 use turn_client_api::{Call, Socket5Tuple};
 use turn_stun::instant::Instant;
 use turn_stun::transport::TransportType;
@@ -45,7 +47,7 @@ pub struct Request {
 
 /// The kind of a request.
 #[derive(Clone, Copy, Debug, PartialEq, Eq)]
-enum Kind {
+pub enum Kind {
     /// `delete`.
     Delete,
     /// `create_permission`.
@@ -82,98 +84,6 @@ enum Kind {
     Read,
 }
 
-/// What a request does, without the data that goes with it.
-#[derive(Debug, Drop)]
-pub enum Operation {
-    /// This call, which takes no data, and returns neither bytes nor a list.
-    Call(Call),
-    /// `send_to` of the data.
-    SendTo {
-        /// The transport between the server and the peer.
-        transport: TransportType,
-        /// The peer.
-        to: SocketAddr,
-        /// The time of the call.
-        now: Instant,
-    },
-    /// `recv` of the data.
-    Recv {
-        /// The transport that carried it, its source and its destination.
-        tuple: Socket5Tuple,
-        /// The time of the call.
-        now: Instant,
-    },
-    /// `poll_recv`.
-    PollRecv {
-        /// The time of the call.
-        now: Instant,
-    },
-    /// `poll`.
-    Poll {
-        /// The time of the call.
-        now: Instant,
-    },
-    /// `poll_transmit`.
-    PollTransmit {
-        /// The time of the call.
-        now: Instant,
-    },
-    /// `poll_event`.
-    PollEvent,
-    /// `relayed_addresses`.
-    RelayedAddresses {
-        /// The index of the address.
-        index: u32,
-    },
-    /// `permissions`.
-    Permissions {
-        /// The transport that the server relays over.
-        transport: TransportType,
-        /// The relayed address.
-        relayed: SocketAddr,
-        /// The index of the address.
-        index: u32,
-    },
-    /// The next bytes that an earlier answer left.
-    Read,
-}
-
-/// What a request of this kind does at this time, or none if it lacks a transport or an address.
-fn operation_with(now: Instant, request: &Request, kind: Kind) -> Option<Operation>
-    requires low { now ≤ 2 ^ 62 }
-    ensures value { result ≡ operation_with now request.now kind }
-    ensures possible { IfSome result IsPossible }
-{
-    match kind {
-        Kind::Delete => Some(Operation::Call(Call::Delete { now })),
-        Kind::CreatePermission => create_permission(now, request),
-        Kind::BindChannel => bind_channel(now, request),
-        Kind::TcpConnect => tcp_connect(now, request),
-        Kind::AllocatedTcpSocket => allocated_tcp_socket(now, request),
-        Kind::TcpClosed => tcp_closed(now, request),
-        Kind::SendTo => send_to(now, request),
-        Kind::Recv => recv(now, request),
-        Kind::PollRecv => Some(Operation::PollRecv { now }),
-        Kind::Poll => Some(Operation::Poll { now }),
-        Kind::PollTransmit => Some(Operation::PollTransmit { now }),
-        Kind::PollEvent => Some(Operation::PollEvent),
-        Kind::ProtocolError => Some(Operation::Call(Call::ProtocolError)),
-        Kind::RelayedAddresses => Some(Operation::RelayedAddresses { index: request.id }),
-        Kind::Permissions => permissions(request),
-        Kind::HavePermission => have_permission(request),
-        Kind::Read => Some(Operation::Read),
-    }
-}
-
-/// What a request does at this time, or none if there is no such kind, or it lacks a transport or an address.
-pub fn operation_of(now: Instant, request: &Request) -> Option<Operation>
-    requires low { now ≤ 2 ^ 62 }
-    ensures value { result ≡ operation_of now request.now }
-    ensures possible { IfSome result IsPossible }
-{
-    operation_with(now, request, kind_of(request.kind)?)
-}
-
 /// The time, or none if it is over 2^62 nanoseconds.
 pub fn time_of(nanos: u64) -> Option<Instant>
     ensures value { result ≡ time_of nanos }
@@ -187,7 +97,7 @@ pub fn time_of(nanos: u64) -> Option<Instant>
 }
 
 /// The kind of this number.
-fn kind_of(code: u32) -> Option<Kind>
+pub fn kind_of(code: u32) -> Option<Kind>
     ensures { result ≡ kind_of code }
 {
     match code {
@@ -212,62 +122,92 @@ fn kind_of(code: u32) -> Option<Kind>
     }
 }
 
-fn create_permission(now: Instant, request: &Request) -> Option<Operation>
-    requires low { now ≤ 2 ^ 62 }
-    ensures value { result ≡ operation_with now request.now Kind.CreatePermission }
-    ensures possible { IfSome result IsPossible }
+/// A peer and the transport to it, or none if either is invalid.
+pub fn peer_of(request: &Request) -> Option<(TransportType, SocketAddr)>
+    ensures { result ≡ peer_of request.now }
 {
-    let transport = transport_of(request.transport)?;
-    let peer_addr = ip_at(&request.peer)?;
-    Some(Operation::Call(Call::CreatePermission {
-        transport,
-        peer_addr,
-        now,
-    }))
+    Some((transport_of(request.transport)?, socket_at(&request.peer)?))
 }
 
-fn bind_channel(now: Instant, request: &Request) -> Option<Operation>
-    requires low { now ≤ 2 ^ 62 }
-    ensures value { result ≡ operation_with now request.now Kind.BindChannel }
-    ensures possible { IfSome result IsPossible }
+/// The IP address of a peer and the transport to it, or none if either is invalid.
+pub fn peer_ip_of(request: &Request) -> Option<(TransportType, IpAddr)>
+    ensures { result ≡ peer_ip_of request.now }
 {
-    let transport = transport_of(request.transport)?;
-    let peer_addr = socket_at(&request.peer)?;
-    Some(Operation::Call(Call::BindChannel {
-        transport,
-        peer_addr,
-        now,
-    }))
+    Some((transport_of(request.transport)?, ip_at(&request.peer)?))
 }
 
-fn tcp_connect(now: Instant, request: &Request) -> Option<Operation>
-    requires low { now ≤ 2 ^ 62 }
-    ensures value { result ≡ operation_with now request.now Kind.TcpConnect }
-    ensures possible { IfSome result IsPossible }
+/// A relayed address and what it is relayed over, or none if either is invalid.
+pub fn relayed_of(request: &Request) -> Option<(TransportType, SocketAddr)>
+    ensures { result ≡ relayed_of request.now }
 {
-    let peer_addr = socket_at(&request.peer)?;
-    Some(Operation::Call(Call::TcpConnect { peer_addr, now }))
+    Some((transport_of(request.transport)?, socket_at(&request.from)?))
 }
 
-fn allocated_tcp_socket(now: Instant, request: &Request) -> Option<Operation>
-    requires low { now ≤ 2 ^ 62 }
-    ensures value { result ≡ operation_with now request.now Kind.AllocatedTcpSocket }
-    ensures possible { IfSome result IsPossible }
+/// The transport, the source and the destination, or none if one of them is invalid.
+pub fn tuple_of(request: &Request) -> Option<Socket5Tuple>
+    ensures { result ≡ tuple_of request.now }
 {
-    let five_tuple = Socket5Tuple {
+    Some(Socket5Tuple {
         transport: transport_of(request.transport)?,
         from: socket_at(&request.from)?,
         to: socket_at(&request.to)?,
-    };
+    })
+}
+
+/// The `create_permission` that a request is, or none if it lacks a transport or an address.
+pub fn create_permission(now: Instant, request: &Request) -> Option<Call>
+    requires low { now ≤ 2 ^ 62 }
+    ensures value { option_map Plain result ≡ operation_with now request.now Kind.CreatePermission }
+    ensures possible { IfSome result (IsPossible) }
+{
+    let (transport, peer_addr) = peer_ip_of(request)?;
+    Some(Call::CreatePermission {
+        transport,
+        peer_addr,
+        now,
+    })
+}
+
+/// The `bind_channel` that a request is, or none if it lacks a transport or an address.
+pub fn bind_channel(now: Instant, request: &Request) -> Option<Call>
+    requires low { now ≤ 2 ^ 62 }
+    ensures value { option_map Plain result ≡ operation_with now request.now Kind.BindChannel }
+    ensures possible { IfSome result (IsPossible) }
+{
+    let (transport, peer_addr) = peer_of(request)?;
+    Some(Call::BindChannel {
+        transport,
+        peer_addr,
+        now,
+    })
+}
+
+/// The `tcp_connect` that a request is, or none if it lacks an address.
+pub fn tcp_connect(now: Instant, request: &Request) -> Option<Call>
+    requires low { now ≤ 2 ^ 62 }
+    ensures value { option_map Plain result ≡ operation_with now request.now Kind.TcpConnect }
+    ensures possible { IfSome result (IsPossible) }
+{
+    let peer_addr = socket_at(&request.peer)?;
+    Some(Call::TcpConnect { peer_addr, now })
+}
+
+/// The `allocated_tcp_socket` that a request is, or none if it lacks a transport or an address.
+pub fn allocated_tcp_socket(now: Instant, request: &Request) -> Option<Call>
+    requires low { now ≤ 2 ^ 62 }
+    ensures value { option_map Plain result ≡ operation_with now request.now Kind.AllocatedTcpSocket }
+    ensures possible { IfSome result (IsPossible) }
+{
+    let five_tuple = tuple_of(request)?;
     let peer_addr = socket_at(&request.peer)?;
     let local_addr = local_at(&request.local)?;
-    Some(Operation::Call(Call::AllocatedTcpSocket {
+    Some(Call::AllocatedTcpSocket {
         id: request.id,
         five_tuple,
         peer_addr,
         local_addr,
         now,
-    }))
+    })
 }
 
 /// The local address of a data connection, or `Some(None)` if it could not be opened. None if it is invalid.
@@ -280,61 +220,17 @@ fn local_at(address: &Address) -> Option<Option<SocketAddr>>
     Some(Some(socket_at(address)?))
 }
 
-fn tcp_closed(now: Instant, request: &Request) -> Option<Operation>
+/// The `tcp_closed` that a request is, or none if it lacks an address.
+pub fn tcp_closed(now: Instant, request: &Request) -> Option<Call>
     requires low { now ≤ 2 ^ 62 }
-    ensures value { result ≡ operation_with now request.now Kind.TcpClosed }
-    ensures possible { IfSome result IsPossible }
+    ensures value { option_map Plain result ≡ operation_with now request.now Kind.TcpClosed }
+    ensures possible { IfSome result (IsPossible) }
 {
     let local_addr = socket_at(&request.from)?;
     let remote_addr = socket_at(&request.to)?;
-    Some(Operation::Call(Call::TcpClosed {
+    Some(Call::TcpClosed {
         local_addr,
         remote_addr,
         now,
-    }))
-}
-
-fn send_to(now: Instant, request: &Request) -> Option<Operation>
-    requires low { now ≤ 2 ^ 62 }
-    ensures value { result ≡ operation_with now request.now Kind.SendTo }
-    ensures possible { IfSome result IsPossible }
-{
-    let transport = transport_of(request.transport)?;
-    let to = socket_at(&request.peer)?;
-    Some(Operation::SendTo { transport, to, now })
-}
-
-fn recv(now: Instant, request: &Request) -> Option<Operation>
-    requires low { now ≤ 2 ^ 62 }
-    ensures value { result ≡ operation_with now request.now Kind.Recv }
-    ensures possible { IfSome result IsPossible }
-{
-    let tuple = Socket5Tuple {
-        transport: transport_of(request.transport)?,
-        from: socket_at(&request.from)?,
-        to: socket_at(&request.to)?,
-    };
-    Some(Operation::Recv { tuple, now })
-}
-
-fn permissions(request: &Request) -> Option<Operation>
-    ensures value { (now : ℕ) → result ≡ operation_with now request.now Kind.Permissions }
-    ensures possible { IfSome result IsPossible }
-{
-    let transport = transport_of(request.transport)?;
-    let relayed = socket_at(&request.from)?;
-    Some(Operation::Permissions {
-        transport,
-        relayed,
-        index: request.id,
     })
-}
-
-fn have_permission(request: &Request) -> Option<Operation>
-    ensures value { (now : ℕ) → result ≡ operation_with now request.now Kind.HavePermission }
-    ensures possible { IfSome result IsPossible }
-{
-    let transport = transport_of(request.transport)?;
-    let to = ip_at(&request.peer)?;
-    Some(Operation::Call(Call::HavePermission { transport, to }))
 }

@@ -1,9 +1,7 @@
 //! A client with the bytes that are to be read of it.
 
 use crate::answer::Answer;
-use crate::code::OUT_OF_MEMORY;
-use crate::judge::judged;
-use crate::make::make;
+use crate::handle::handle;
 use crate::request::Request;
 use crate::unread::Unread;
 use std::alloc::Global;
@@ -61,17 +59,11 @@ impl Session {
     )
         ensures { Steps request.now bytes.now self.old self.new buffer.old buffer.new answer.old answer.new }
     {
-        let is_left = self.unread.is_left();
-        match judged(self.relays, request, is_left, bytes, buffer.len()) {
+        let client = &mut self.client;
+        let unread = &mut self.unread;
+        match handle(alloc, client, self.relays, request, bytes, unread, buffer, answer) {
+            Ok(()) => {}
             Err(fault) => answer.kind = fault.code(),
-            Ok(operation) => {
-                let client = &mut self.client;
-                let unread = &mut self.unread;
-                match make(alloc, client, operation, bytes, unread, buffer, answer) {
-                    Ok(()) => {}
-                    Err(_) => answer.kind = OUT_OF_MEMORY,
-                }
-            }
         }
     }
 }

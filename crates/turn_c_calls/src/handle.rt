@@ -1,0 +1,233 @@
+//! A request: what it says, whether that is possible, and how it is answered.
+
+ghost use Rattle.std.specs.Prelude.{◌≡◌, ◌≤◌, ◌^◌, ℕ, List, Bool, nat_lt, length, IfErr, IfSome, OnOk};
+ghost use Rattle.turn_c_calls.specs.Arms.{Ends, EndsLook, EndsPlain, Lacks, LacksLook, LacksPlain, have_permission_answer, permissions_answer};
+ghost use Rattle.turn_c_calls.specs.Judge.{IsPossible, if_fits, judged, judged_as};
+ghost use Rattle.turn_c_calls.specs.Operation.{PollRecv, PollTransmit};
+ghost use Rattle.turn_c_calls.specs.Request.{peer_ip_of, relayed_of};
+
+use crate::answer::Answer;
+use crate::judge::Fault;
+use crate::make;
+use crate::request::{
+    Kind, Request, allocated_tcp_socket, bind_channel, create_permission, kind_of, peer_ip_of,
+    peer_of, relayed_of, tcp_closed, tcp_connect, time_of, tuple_of,
+};
+use crate::unread::Unread;
+use std::alloc::Global;
+use turn_client_api::{Call, TurnClientApi};
+use turn_stun::instant::Instant;
+use turn_stun::transport::TransportType;
+
+/// The most bytes of a `send_to` if the allocation is over UDP.
+const MAX_PAYLOAD: usize = 65_504;
+
+/// The most bytes that a packet adds to the data that it carries to a peer.
+const MAX_FRAME: usize = 64;
+
+/// The most bytes of a message, with its header.
+const MAX_MESSAGE: usize = 65_556;
+
+/// Answers a request with its data, for a client whose allocation is over `relays`.
+///
+/// # Errors
+///
+/// The first of these: `Time`, `Call`, `Payload`, `Unread` if bytes are left and it may return more, `Buffer`. Nothing has
+/// changed then. `OutOfMemory` if a memory allocation of the call fails: the client is as the call leaves it then, and
+/// nothing else has changed.
+pub fn handle<C: TurnClientApi>(
+    alloc: Global,
+    client: &mut C,
+    relays: TransportType,
+    request: &Request,
+    bytes: &[u8],
+    unread: &mut Unread,
+    buffer: &mut [u8],
+    answer: &mut Answer,
+) -> Result<(), Fault>
+    requires { (C.state client.old).config.allocation_transport ≡ relays }
+    ensures ok { OnOk result (Ends (judged (C.state client.old).config.allocation_transport request.now
+        (nat_lt 0 (length unread.old)) (length bytes.now) (length buffer.old)) bytes.now
+        (C.state client.old) (C.state client.new) unread.old unread.new buffer.old buffer.new answer.old answer.new) }
+    ensures err { IfErr result (λ fault. Lacks (judged (C.state client.old).config.allocation_transport request.now
+        (nat_lt 0 (length unread.old)) (length bytes.now) (length buffer.old)) fault bytes.now
+        (C.state client.old) (C.state client.new) unread.old unread.new buffer.old buffer.new answer.old answer.new) }
+{
+    let now = time_of(request.time).ok_or(Fault::Time)?;
+    let kind = kind_of(request.kind).ok_or(Fault::Call)?;
+    match kind {
+        Kind::Delete => plain(client, Some(Call::Delete { now }), answer)?,
+        Kind::CreatePermission => plain(client, create_permission(now, request), answer)?,
+        Kind::BindChannel => plain(client, bind_channel(now, request), answer)?,
+        Kind::TcpConnect => plain(client, tcp_connect(now, request), answer)?,
+        Kind::AllocatedTcpSocket => plain(client, allocated_tcp_socket(now, request), answer)?,
+        Kind::TcpClosed => plain(client, tcp_closed(now, request), answer)?,
+        Kind::SendTo => send_to(client, relays, now, request, bytes, buffer, answer)?,
+        Kind::Recv => recv(alloc, client, now, request, bytes, unread, buffer, answer)?,
+        Kind::PollRecv => poll_recv(client, now, unread, buffer, answer)?,
+        Kind::Poll => make::poll(client, now, answer)?,
+        Kind::PollTransmit => poll_transmit(client, now, unread, buffer, answer)?,
+        Kind::PollEvent => make::poll_event(client, answer),
+        Kind::ProtocolError => plain(client, Some(Call::ProtocolError), answer)?,
+        Kind::RelayedAddresses => make::relayed_addresses(client, request.id, answer),
+        Kind::Permissions => permissions(client, request, answer)?,
+        Kind::HavePermission => have_permission(client, request, answer)?,
+        Kind::Read => make::read(unread, buffer, answer),
+    }
+    Ok(())
+}
+
+/// Makes a call whose reply has neither bytes nor a list, if there is one.
+fn plain<C: TurnClientApi>(
+    client: &mut C,
+    call: Option<Call>,
+    answer: &mut Answer,
+) -> Result<(), Fault>
+    requires { IfSome call IsPossible }
+    ensures ok { OnOk result (EndsPlain call (C.state client.old) (C.state client.new) answer.old answer.new) }
+    ensures err { IfErr result (λ fault. LacksPlain call fault (C.state client.old) (C.state client.new) answer.old answer.new) }
+{
+    match call {
+        None => Err(Fault::Call),
+        Some(call) => {
+            make::plain(client, &call, answer)?;
+            Ok(())
+        }
+    }
+}
+
+fn send_to<C: TurnClientApi>(
+    client: &mut C,
+    relays: TransportType,
+    now: Instant,
+    request: &Request,
+    bytes: &[u8],
+    buffer: &mut [u8],
+    answer: &mut Answer,
+) -> Result<(), Fault>
+    requires time { now ≤ 2 ^ 62 }
+    requires relays { (C.state client.old).config.allocation_transport ≡ relays }
+    ensures ok { OnOk result ((unread : List ℕ) (is_left : Bool) → Ends (judged_as (C.state client.old).config.allocation_transport
+        now request.now is_left (length bytes.now) (length buffer.old) Kind.SendTo) bytes.now
+        (C.state client.old) (C.state client.new) unread unread buffer.old buffer.new answer.old answer.new) }
+    ensures err { IfErr result (λ fault. (unread : List ℕ) (is_left : Bool) → Lacks (judged_as (C.state client.old).config.allocation_transport
+        now request.now is_left (length bytes.now) (length buffer.old) Kind.SendTo) fault bytes.now
+        (C.state client.old) (C.state client.new) unread unread buffer.old buffer.new answer.old answer.new) }
+{
+    let Some((transport, to)) = peer_of(request) else {
+        return Err(Fault::Call);
+    };
+    if relays == TransportType::Udp && bytes.len() > MAX_PAYLOAD {
+        return Err(Fault::Payload);
+    }
+    if buffer.len() < bytes.len() + MAX_FRAME {
+        return Err(Fault::Buffer);
+    }
+    make::send_to(client, transport, to, bytes, now, buffer, answer);
+    Ok(())
+}
+
+fn recv<C: TurnClientApi>(
+    alloc: Global,
+    client: &mut C,
+    now: Instant,
+    request: &Request,
+    bytes: &[u8],
+    unread: &mut Unread,
+    buffer: &mut [u8],
+    answer: &mut Answer,
+) -> Result<(), Fault>
+    requires { now ≤ 2 ^ 62 }
+    ensures ok { OnOk result (Ends (judged_as (C.state client.old).config.allocation_transport now request.now
+        (nat_lt 0 (length unread.old)) (length bytes.now) (length buffer.old) Kind.Recv) bytes.now
+        (C.state client.old) (C.state client.new) unread.old unread.new buffer.old buffer.new answer.old answer.new) }
+    ensures err { IfErr result (λ fault. Lacks (judged_as (C.state client.old).config.allocation_transport now request.now
+        (nat_lt 0 (length unread.old)) (length bytes.now) (length buffer.old) Kind.Recv) fault bytes.now
+        (C.state client.old) (C.state client.new) unread.old unread.new buffer.old buffer.new answer.old answer.new) }
+{
+    let Some(tuple) = tuple_of(request) else {
+        return Err(Fault::Call);
+    };
+    if unread.is_left() {
+        return Err(Fault::Unread);
+    }
+    make::recv(alloc, client, tuple, bytes, now, unread, buffer, answer)?;
+    Ok(())
+}
+
+fn poll_recv<C: TurnClientApi>(
+    client: &mut C,
+    now: Instant,
+    unread: &mut Unread,
+    buffer: &mut [u8],
+    answer: &mut Answer,
+) -> Result<(), Fault>
+    requires { now ≤ 2 ^ 62 }
+    ensures ok { OnOk result ((bytes : List ℕ) → Ends (if_fits (C.state client.old).config.allocation_transport
+        (nat_lt 0 (length unread.old)) (length bytes) (length buffer.old) (PollRecv now)) bytes
+        (C.state client.old) (C.state client.new) unread.old unread.new buffer.old buffer.new answer.old answer.new) }
+    ensures err { IfErr result (λ fault. (bytes : List ℕ) → Lacks (if_fits (C.state client.old).config.allocation_transport
+        (nat_lt 0 (length unread.old)) (length bytes) (length buffer.old) (PollRecv now)) fault bytes
+        (C.state client.old) (C.state client.new) unread.old unread.new buffer.old buffer.new answer.old answer.new) }
+{
+    if unread.is_left() {
+        return Err(Fault::Unread);
+    }
+    make::poll_recv(client, now, unread, buffer, answer)?;
+    Ok(())
+}
+
+fn poll_transmit<C: TurnClientApi>(
+    client: &mut C,
+    now: Instant,
+    unread: &mut Unread,
+    buffer: &mut [u8],
+    answer: &mut Answer,
+) -> Result<(), Fault>
+    requires { now ≤ 2 ^ 62 }
+    ensures ok { OnOk result ((bytes : List ℕ) → Ends (if_fits (C.state client.old).config.allocation_transport
+        (nat_lt 0 (length unread.old)) (length bytes) (length buffer.old) (PollTransmit now)) bytes
+        (C.state client.old) (C.state client.new) unread.old unread.new buffer.old buffer.new answer.old answer.new) }
+    ensures err { IfErr result (λ fault. (bytes : List ℕ) → Lacks (if_fits (C.state client.old).config.allocation_transport
+        (nat_lt 0 (length unread.old)) (length bytes) (length buffer.old) (PollTransmit now)) fault bytes
+        (C.state client.old) (C.state client.new) unread.old unread.new buffer.old buffer.new answer.old answer.new) }
+{
+    if unread.is_left() {
+        return Err(Fault::Unread);
+    }
+    if buffer.len() < MAX_MESSAGE {
+        return Err(Fault::Buffer);
+    }
+    make::poll_transmit(client, now, unread, buffer, answer)?;
+    Ok(())
+}
+
+fn permissions<C: TurnClientApi>(
+    client: &C,
+    request: &Request,
+    answer: &mut Answer,
+) -> Result<(), Fault>
+    ensures ok { OnOk result (EndsLook (relayed_of request.now) (permissions_answer request.now.id (C.state client.now)) answer.old answer.new) }
+    ensures err { IfErr result (λ fault. LacksLook (relayed_of request.now) fault answer.old answer.new) }
+{
+    let Some((transport, relayed)) = relayed_of(request) else {
+        return Err(Fault::Call);
+    };
+    make::permissions(client, transport, relayed, request.id, answer);
+    Ok(())
+}
+
+fn have_permission<C: TurnClientApi>(
+    client: &C,
+    request: &Request,
+    answer: &mut Answer,
+) -> Result<(), Fault>
+    ensures ok { OnOk result (EndsLook (peer_ip_of request.now) (have_permission_answer (C.state client.now)) answer.old answer.new) }
+    ensures err { IfErr result (λ fault. LacksLook (peer_ip_of request.now) fault answer.old answer.new) }
+{
+    let Some((transport, to)) = peer_ip_of(request) else {
+        return Err(Fault::Call);
+    };
+    make::have_permission(client, transport, to, answer);
+    Ok(())
+}
