@@ -67,7 +67,7 @@ plain_bare (Replies.AllocatedTcpSocket result) h = refl
 plain_bare (Replies.Delete result) h = refl
 plain_bare (Replies.RelayedAddresses relayed) h = refl
 plain_bare (Replies.Permissions ips) h = refl
-plain_bare (Replies.HavePermission found) h = refl
+plain_bare (Replies.HavePermission found) h = absurd h
 plain_bare Replies.Done h = refl
 
 plain_reply_of : (call : Call) (s : State) → IsPlainCall call → IsPlain (reply_of call s)
@@ -86,7 +86,7 @@ plain_reply_of Calls.PollEvent s h = absurd h
 plain_reply_of Calls.ProtocolError s h = tt
 plain_reply_of Calls.RelayedAddresses s h = absurd h
 plain_reply_of (Calls.Permissions transport relayed) s h = absurd h
-plain_reply_of (Calls.HavePermission transport to) s h = tt
+plain_reply_of (Calls.HavePermission transport to) s h = absurd h
 
 pub plain_reply : (call : Call) (s t : State) (reply : Reply) → Answered reply s t call → IsPlainCall call → IsPlain reply
 plain_reply call s t reply e h = subst IsPlain (sym (ap (λ (p : Reply × State). p.0) e)) (plain_reply_of call s h)

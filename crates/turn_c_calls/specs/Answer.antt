@@ -148,6 +148,5 @@ IsPlain (Replies.BindChannel result) = ⊤
 IsPlain (Replies.TcpConnect result) = ⊤
 IsPlain (Replies.AllocatedTcpSocket result) = ⊤
 IsPlain (Replies.Delete result) = ⊤
-IsPlain (Replies.HavePermission found) = ⊤
 IsPlain Replies.Done = ⊤
 IsPlain _ = ⊥

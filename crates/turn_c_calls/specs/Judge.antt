@@ -62,7 +62,6 @@ IsPlainCall (Calls.TcpConnect peer now) = ⊤
 IsPlainCall (Calls.AllocatedTcpSocket id tuple peer local now) = ⊤
 IsPlainCall (Calls.TcpClosed local remote now) = ⊤
 IsPlainCall Calls.ProtocolError = ⊤
-IsPlainCall (Calls.HavePermission transport to) = ⊤
 IsPlainCall _ = ⊥
 
 -- which can be made on any client

@@ -4,9 +4,9 @@ use crate::address::{Address, address_of, address_of_ip, transport_code};
 use crate::code::{
     ADDRESS, ALLOCATE_TCP_SOCKET, ALLOCATION_CREATE_FAILED, ALLOCATION_CREATED,
     CHANNEL_CREATE_FAILED, CHANNEL_CREATED, CLOSED, DONE, ERROR_ALREADY_EXISTS, ERROR_EXPIRED,
-    ERROR_NO_ALLOCATION, ERROR_NO_PERMISSION, ERROR_NO_SOCKET, ERROR_OUT_OF_MEMORY, IPV4, IPV6, NO,
+    ERROR_NO_ALLOCATION, ERROR_NO_PERMISSION, ERROR_NO_SOCKET, ERROR_OUT_OF_MEMORY, IPV4, IPV6,
     NOTHING, PACKET, PEER_DATA, PEER_DATA_RANGE, PEER_ICMP, PERMISSION_CREATE_FAILED,
-    PERMISSION_CREATED, REFUSED, TCP_CLOSE, TCP_CONNECT_FAILED, TCP_CONNECTED, WAIT_UNTIL, YES,
+    PERMISSION_CREATED, REFUSED, TCP_CLOSE, TCP_CONNECT_FAILED, TCP_CONNECTED, WAIT_UNTIL,
 };
 use std::net::{IpAddr, SocketAddr};
 use turn_client_api::{TurnEvent, TurnPollRet};
@@ -75,7 +75,6 @@ impl Answer {
             | Reply::AllocatedTcpSocket(Ok(()))
             | Reply::Delete(Ok(()))
             | Reply::Done => self.kind = DONE,
-            Reply::HavePermission(found) => self.kind = if *found { YES } else { NO },
             _ => unreachable!(),
         }
     }

@@ -190,11 +190,8 @@ pub fn have_permission<C: TurnClientApi>(
 )
     ensures { answer.new ≡ found_answer (can_send_to transport to (C.state client.now)) answer.old }
 {
-    answer.kind = if client.have_permission(transport, to) {
-        YES
-    } else {
-        NO
-    };
+    let found = client.have_permission(transport, to);
+    answer.kind = if found { YES } else { NO };
 }
 
 /// Reads the next bytes.

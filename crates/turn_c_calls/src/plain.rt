@@ -54,9 +54,6 @@ pub fn reply_to<C: TurnClientApi>(client: &mut C, call: &Call) -> Result<Reply, 
             now,
         } => tcp_closed(client, *local_addr, *remote_addr, *now),
         Call::ProtocolError => protocol_error(client),
-        Call::HavePermission { transport, to } => {
-            Ok(Reply::HavePermission(client.have_permission(*transport, *to)))
-        }
         _ => unreachable!(),
     }
 }
