@@ -61,7 +61,16 @@ impl Session {
     {
         let client = &mut self.client;
         let unread = &mut self.unread;
-        match handle(alloc, client, self.relays, request, bytes, unread, buffer, answer) {
+        match handle(
+            alloc,
+            client,
+            self.relays,
+            request,
+            bytes,
+            unread,
+            buffer,
+            answer,
+        ) {
             Ok(()) => {}
             Err(fault) => answer.kind = fault.code(),
         }
