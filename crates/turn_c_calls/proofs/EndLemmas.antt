@@ -1,7 +1,7 @@
 -- How a request of one kind ends, by the parts of it that were read.
-use Rattle.std.proofs.Common.{◌≡◌, ℕ, Bool, List, length, Option, Some, None, Result, Ok, Err, inl, inr, refl, sym, ap, ◌∙◌}
+use Rattle.std.proofs.Common.{◌≡◌, ℕ, Bool, List, length, Option, Some, None, Result, Ok, Err, OnOk, inl, inr, refl, sym, ap, ◌∙◌}
 use Rattle.std.specs.Option.{option_map}
-use Rattle.std.specs.Prelude.{slice_get}
+use Rattle.std.specs.Prelude.{IfErr, slice_get}
 use Rattle.std.specs.declared.net.ip_addr.IpAddr.{IpAddr}
 use Rattle.std.specs.declared.net.socket_addr.SocketAddr.{SocketAddr}
 use Rattle.turn_stun.specs.declared.transport.TransportType.{TransportType}
@@ -85,3 +85,8 @@ module _ (bytes : List ℕ) (s t : State) (was unread buffer after : List ℕ) (
   pub lacks_kept : (j : Result Operation Fault) (fault : Fault) → Lacks j fault bytes s t was unread buffer after a b → SameRelays (held s was) (held t unread)
   lacks_kept (Err first) fault h = ap (λ (x : State). x.config.allocation_transport) h.1
   lacks_kept (Ok operation) fault h = fails_kept _ _ _ _ _ h.1
+
+  pub handled_kept : {A : Type 0} → (r : Result A Fault) (j : Result Operation Fault) → OnOk r (Ends j bytes s t was unread buffer after a b)
+      → IfErr r (λ fault. Lacks j fault bytes s t was unread buffer after a b) → SameRelays (held s was) (held t unread)
+  handled_kept (Ok done) j ok err = ends_kept j ok
+  handled_kept (Err fault) j ok err = lacks_kept j fault err
