@@ -228,8 +228,9 @@ impl TurnConfig {
     /// Sets how many challenges in a row the client answers (our choice: RFC 8489, section 9.2.5,
     /// sets no limit). The next one ends the client, so that a server that always requires another
     /// nonce comes to an end. Each challenge over the control connection counts that makes the client
-    /// repeat a request, the first one, too. The count begins anew with the next signed reply to an
-    /// outstanding request.
+    /// repeat a request, the first one, too. The count begins anew with the next signed response to a
+    /// request for a permission, a channel or a CONNECT, and with a refresh that takes effect. The
+    /// success of an ALLOCATE does not reset it, so 1 is used up by the first challenge.
     ///
     /// By default these are 9. Set more for a client with many permissions and channels, or over a
     /// slow link: the refreshes that leave before the first answer returns have one nonce, and if the
