@@ -23,7 +23,7 @@ returns c =
     let unread = c.self.inside.unread in
     let judgement = judged was.config.allocation_transport c.args.request.now (nat_lt 0 (length unread)) (length c.args.bytes.now) (length c.args.buffer.now) in
     let Ended = λ (last : Answer).
-        Finishes judgement c.args.bytes.now (held was unread) (held now c.handle.new.unread) c.args.buffer.now c.handle.new.buffer c.args.answer.now last in
+    Finishes judgement c.args.bytes.now (held was unread) (held now c.handle.new.unread) c.args.buffer.now c.handle.new.buffer c.args.answer.now last in
     rw (← c.self.view_is) (elim c.match-handle.branch [
       | in-Ok w ↦
           subst Ended (sym w.answer-is)
