@@ -78,10 +78,7 @@ impl TurnClientProtocol {
     pub(crate) fn has_active_permission(&self, ip: IpAddr) -> bool
         ensures { result ≡ has_active_permission ip self.now }
     {
-        match self.permission_state(ip) {
-            Some(progress) => matches!(progress, Progress::Active(_)),
-            None => false,
-        }
+        self.ledger.table().has_active_permission(ip)
     }
 
     /// Whether a channel to the peer is pending or active.
