@@ -1,4 +1,4 @@
-//! The tests of `turn_client_api`, `turn_client_requests` and `turn_client_proto`, through their public items.
+//! The tests of `turn_client_api`, `turn_client_requests`, `turn_client_proto` and `turn_lines`, through their public items.
 //!
 //! The gate proves a crate that has tests twice, with them and without. So the tests are here, a module for
 //! each crate, and the crates under test are proved once.
@@ -13,6 +13,8 @@
 mod api;
 #[cfg(test)]
 mod fixture;
+#[cfg(test)]
+mod lines;
 #[cfg(test)]
 mod proto;
 #[cfg(test)]

@@ -1,4 +1,5 @@
 pub mod AddressLemmas
+pub mod AppendsLemmas
 pub mod CallLemmas
 pub mod CallableLemmas
 pub mod HeadLemmas

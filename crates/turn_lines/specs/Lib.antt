@@ -12,3 +12,4 @@ pub mod Parts
 pub mod Refusal
 pub mod Status
 pub mod Text
+pub mod Write

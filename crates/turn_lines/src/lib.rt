@@ -33,3 +33,4 @@ pub mod parts;
 pub mod print;
 pub mod refusal;
 pub mod status;
+pub mod write;

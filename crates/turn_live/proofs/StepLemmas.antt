@@ -14,7 +14,7 @@ use Rattle.turn_live.specs.declared.line.LineEnd.TheVariants.{Feed, Input}
 use Rattle.turn_live.specs.declared.stop.Stop.{Stop}
 use Rattle.turn_live.specs.declared.stop.Stop.TheVariants as Stops
 use Rattle.turn_live.proofs.CallsLemmas.{kept_call, kept_head}
-use Rattle.turn_live.proofs.KnownLemmas.{Appends-none}
+use Rattle.turn_lines.proofs.AppendsLemmas.{Appends-none}
 use Rattle.turn_live.proofs.TalkLemmas.{head_bad, head_unheard}
 
 -- a line that is not a head

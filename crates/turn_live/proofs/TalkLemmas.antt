@@ -14,7 +14,8 @@ use Rattle.turn_live.specs.declared.line.LineEnd.TheVariants.{Feed, Input}
 use Rattle.turn_live.specs.declared.stop.Stop.{Stop}
 use Rattle.turn_live.specs.declared.stop.Stop.TheVariants as Stops
 use Rattle.turn_live.proofs.CallsLemmas.{after_lines-more, calls_said-more, relays_after}
-use Rattle.turn_live.proofs.KnownLemmas.{Appends-cut, Appends-none, Appends-then, ends_later}
+use Rattle.turn_lines.proofs.AppendsLemmas.{Appends-cut, Appends-none, Appends-then}
+use Rattle.turn_live.proofs.KnownLemmas.{ends_later}
 use Rattle.turn_live.proofs.ReadLemmas.{end_read, more_read, none_read, read_behind, rest_read}
 
 -- the state of a session before its next line is read: all lines that were read are answered

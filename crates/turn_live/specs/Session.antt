@@ -5,6 +5,7 @@ use Rattle.turn_stun.specs.declared.transport.TransportType.{TransportType}
 use Rattle.turn_client_api.specs.declared.call.Call.{Call}
 use Rattle.turn_client_api.specs.State.{State}
 use Rattle.turn_lines.specs.Text.{bad_text}
+use Rattle.turn_lines.specs.Write.{PrintsText}
 use Rattle.turn_lines.specs.declared.fault.BadKind.{BadKind}
 use Rattle.turn_lines.specs.declared.fault.BadLine.{BadLine}
 use Rattle.turn_lines.specs.declared.head.Head.{Head}
@@ -16,23 +17,6 @@ use Rattle.turn_live.specs.declared.line.LineEnd.{LineEnd}
 use Rattle.turn_live.specs.declared.line.LineEnd.TheVariants.{Feed, Input}
 use Rattle.turn_live.specs.declared.stop.Stop.{Stop}
 use Rattle.turn_live.specs.declared.stop.Stop.TheVariants as Stops
-
--- ---- writing
-
--- a text was written, or a prefix of it if the writer failed
-abbrev pub Writes : Option (List ℕ) → Option (List ℕ) → List ℕ → Result (Unit {0}) Stop → Type 0
-Writes old new text (Ok _) = Appends old new text
-Writes old new text (Err stop) = (stop ≡ Stops.WriteFailed) × (count : ℕ) × Appends old new (take count text)
-
--- a prefix of these bytes was written, of this length, or nothing if the writer failed
-abbrev pub WritesSome : Option (List ℕ) → Option (List ℕ) → List ℕ → Result ℕ Stop → Type 0
-WritesSome old new bytes (Ok count) = (count ≤ length bytes) × Appends old new (take count bytes)
-WritesSome old new bytes (Err stop) = (stop ≡ Stops.WriteFailed) × Appends old new []
-
--- a text was written and the result is that status, or the writer failed
-abbrev pub PrintsText : Option (List ℕ) → Option (List ℕ) → Status → List ℕ → Status → Type 0
-PrintsText old new status text result =
-    ((result ≡ WriteFailed) × (count : ℕ) × Appends old new (take count text)) ⊎ ((result ≡ status) × Appends old new text)
 
 -- ---- one line
 

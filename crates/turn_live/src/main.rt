@@ -21,20 +21,19 @@ mod line;
 mod program;
 mod session;
 mod stop;
-mod write;
 
 pub use program::{exit_code, run};
 pub use session::answer_next;
 use std::io::BufReader;
 use std::process::ExitCode;
 use turn_lines::status::Status;
-use write::tell;
+use turn_lines::write::write_last;
 
 fn main(rt: HostRuntime) -> ExitCode {
     match BufReader::new(rt.alloc(), rt.stdin()) {
         Ok(mut reader) => exit_code(rt.alloc(), &mut reader, &mut rt.stdout()),
         Err(_) => {
-            let status = tell(&mut rt.stdout(), Status::OutOfMemory, "no memory\n");
+            let status = write_last(&mut rt.stdout(), Status::OutOfMemory, "no memory\n");
             ExitCode::from(status.code())
         }
     }

@@ -6,12 +6,12 @@ ghost use Rattle.turn_live.specs.Session.{Closes, Runs};
 
 use crate::session::hold_session;
 use crate::stop::Stop;
-use crate::write::tell;
 use std::alloc::Global;
 use std::io::{BufRead, Write};
 use std::process::ExitCode;
 use turn_lines::print::bad_text;
 use turn_lines::status::Status;
+use turn_lines::write::write_last;
 
 /// Answers lines as [`run`] does. The exit status says how that ended: 0 at the end of the input, 2 at a bad head, 3
 /// if memory allocation failed, and 4 if reading or writing failed.
@@ -40,11 +40,11 @@ fn close<W: Write>(alloc: Global, stop: Stop, writer: &mut W) -> Status
 {
     match stop {
         Stop::Bad(bad) => match bad_text(alloc, bad) {
-            Ok(text) => tell(writer, Status::Malformed, text.as_str()),
-            Err(_) => tell(writer, Status::OutOfMemory, "no memory\n"),
+            Ok(text) => write_last(writer, Status::Malformed, text.as_str()),
+            Err(_) => write_last(writer, Status::OutOfMemory, "no memory\n"),
         },
-        Stop::OutOfMemory => tell(writer, Status::OutOfMemory, "no memory\n"),
-        Stop::ReadFailed => tell(writer, Status::ReadFailed, "read failed\n"),
+        Stop::OutOfMemory => write_last(writer, Status::OutOfMemory, "no memory\n"),
+        Stop::ReadFailed => write_last(writer, Status::ReadFailed, "read failed\n"),
         Stop::WriteFailed => Status::WriteFailed,
     }
 }

@@ -8,7 +8,6 @@ ghost use Rattle.turn_live.specs.Session.{AnswersLine, IsSession, ReadsHead, Ste
 use crate::client::new_client;
 use crate::line::{LineEnd, MAX_LINE, take_line};
 use crate::stop::Stop;
-use crate::write::write_text;
 use std::alloc::Global;
 use std::io::{BufRead, Write};
 use turn_client_api::TurnClientApi;
@@ -18,6 +17,7 @@ use turn_lines::fault::{BadKind, BadLine, ReadError};
 use turn_lines::field::FieldError;
 use turn_lines::head::{Head, parse_head};
 use turn_lines::print::answers_text;
+use turn_lines::write::write_text;
 use turn_types::TransportType;
 
 /// Takes lines to the end of the input, and answers each after the first before it takes the next one.
@@ -128,9 +128,9 @@ fn answer_line<C: TurnClientApi, W: Write>(
         Ok(call) => {
             let reply = reply_to(alloc, client, &call)?;
             let text = answers_text(alloc, &[reply])?;
-            write_text(writer, text.as_str())
+            Ok(write_text(writer, text.as_str())?)
         }
-        Err(ReadError::Bad(kind)) => write_text(writer, bad_answer(kind)),
+        Err(ReadError::Bad(kind)) => Ok(write_text(writer, bad_answer(kind))?),
         Err(ReadError::OutOfMemory) => Err(Stop::OutOfMemory),
     }
 }

@@ -2,6 +2,7 @@
 
 use std::alloc::{AllocError, AllocFailed};
 use turn_lines::fault::BadLine;
+use turn_lines::write::WriteError;
 
 /// Why a session ends before its input does.
 #[derive(Clone, Copy, Debug, PartialEq, Eq)]
@@ -35,5 +36,16 @@ impl<T: Drop> From<AllocFailed<T>> for Stop {
 
     fn from(_error: AllocFailed<T>) -> Stop {
         Stop::OutOfMemory
+    }
+}
+
+impl From<WriteError> for Stop {
+    ghost use Rattle.std.specs.Prelude.{◌≡◌};
+    ghost use Rattle.turn_live.specs.declared.stop.Stop.TheVariants.{WriteFailed};
+
+    ghost from_gives = { λ _ error. error ≡ WriteFailed };
+
+    fn from(_error: WriteError) -> Stop {
+        Stop::WriteFailed
     }
 }

@@ -37,10 +37,6 @@ answer_of (Err bad) = (Malformed, bad_text bad)
 abbrev pub answer_to : List ℕ → Status × List ℕ
 answer_to trace = answer_of (trace_of trace)
 
--- this text alone was written and the result is that status, or the writer failed
-abbrev pub PrintsText : Option (List ℕ) → Option (List ℕ) → Status → List ℕ → Status → Type 0
-PrintsText old new status text result = (result ≡ WriteFailed) ⊎ ((result ≡ status) × Appends old new text)
-
 -- the bytes read were answered, and nothing else was written
 abbrev pub Answers : Option (List ℕ) → Option (List ℕ) → Option (List ℕ) → Option (List ℕ) → Status → Type 0
 Answers input left old new status = IfSome input (λ bytes.

@@ -1,10 +1,8 @@
 //! The program: a trace in, the answers out.
 
-ghost use Rattle.std.specs.Prelude.{◌≡◌, ◌⊎◌};
-ghost use Rattle.std.specs.Io.KnownBytes.{Appends};
 ghost use Rattle.std.specs.Process.{exit_status};
 ghost use Rattle.turn_lines.specs.Status.{Exits};
-ghost use Rattle.turn_replay.specs.Answer.{PrintsText, Runs};
+ghost use Rattle.turn_replay.specs.Answer.{Runs};
 
 use crate::answer::answer;
 use crate::input::{InputError, read_input};
@@ -12,6 +10,7 @@ use std::alloc::Global;
 use std::io::{Read, Write};
 use std::process::ExitCode;
 use turn_lines::status::Status;
+use turn_lines::write::write_last;
 
 /// Reads a trace and writes its answers, as [`run`] does. The exit status says what was written: 0 the answers to
 /// the calls, 2 which line of the trace is bad, 3 that memory allocation failed, and 4 that the trace could not be
@@ -32,23 +31,10 @@ pub fn run<R: Read, W: Write>(alloc: Global, reader: &mut R, writer: &mut W) -> 
 {
     match read_input(alloc, reader) {
         Ok(text) => match answer(alloc, text.as_slice()) {
-            Ok((status, answers)) => tell(writer, status, answers.as_str()),
-            Err(_) => tell(writer, Status::OutOfMemory, "no memory\n"),
+            Ok((status, answers)) => write_last(writer, status, answers.as_str()),
+            Err(_) => write_last(writer, Status::OutOfMemory, "no memory\n"),
         },
-        Err(InputError::OutOfMemory) => tell(writer, Status::OutOfMemory, "no memory\n"),
-        Err(InputError::ReadFailed) => tell(writer, Status::ReadFailed, "read failed\n"),
+        Err(InputError::OutOfMemory) => write_last(writer, Status::OutOfMemory, "no memory\n"),
+        Err(InputError::ReadFailed) => write_last(writer, Status::ReadFailed, "read failed\n"),
     }
-}
-
-/// Writes a text. Returns its status, or `WriteFailed` if it could not be written.
-fn tell<W: Write>(writer: &mut W, status: Status, text: &str) -> Status
-    ensures { PrintsText (W.contents writer.old) (W.contents writer.new) status text.now result }
-{
-    if writer.write_all(text.as_bytes()).is_err() {
-        return Status::WriteFailed;
-    }
-    if writer.flush().is_err() {
-        return Status::WriteFailed;
-    }
-    status
 }

@@ -1,8 +1,8 @@
 use Rattle.std.proofs.Common.{ℕ, ◌≤◌, List, length, take, subst, arith, length-drop}
 use Rattle.std.proofs.lemmas.List.{take_rest}
 use Rattle.std.specs.Io.KnownBytes.{Appends}
-use Rattle.turn_live.proofs.KnownLemmas.{Appends-more}
-use Rattle.turn_live.proofs.write.write_bytes.Goals as goal
+use Rattle.turn_lines.proofs.AppendsLemmas.{Appends-more}
+use Rattle.turn_lines.proofs.write.write_bytes.Goals as goal
 
 pub loop-preserved : goal.loop-preserved
 loop-preserved g c =

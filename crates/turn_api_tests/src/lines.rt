@@ -1,0 +1,4 @@
+//! The tests of `turn_lines`: what no line of a transcript can say.
+
+mod printing;
+mod writing;
