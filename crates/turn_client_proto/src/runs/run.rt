@@ -31,7 +31,7 @@ pub struct Replayed {
 /// its transaction IDs from this seed, and makes these calls on it.
 ///
 /// The replies are those of `run` in `specs/`: each call by its own step, whatever came before. In the other
-/// clauses an input is one datagram or one frame of a stream:
+/// clauses an input is one datagram, one frame of a stream, or the data of a bound data connection:
 ///
 /// - `granted`: after each call, each allocation, active permission, active channel and bound data connection
 ///   has a signed success among the inputs, to an outstanding request of the client's own. The grant expires as
