@@ -50,12 +50,13 @@ use turn_types::transmit::TransmitBuild;
 /// ```rust
 /// loop {
 ///     let rest = drive_client(&mut client, received.take(), clock.now(), 64, &mut tasks)?;
+///     let is_idle = tasks.is_empty(); // carrying a task out may call the client
 ///     for task in tasks.drain(..) {
 ///         app.carry_out(task, &mut client);
 ///     }
 ///     match rest {
-///         Rest::Until(time) => received = sockets.wait(time),
-///         Rest::Now => {}
+///         Rest::Until(time) if is_idle => received = sockets.wait(time),
+///         Rest::Until(_) | Rest::Now => {}
 ///         Rest::Ended => break,
 ///     }
 /// }

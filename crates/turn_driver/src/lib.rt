@@ -15,12 +15,13 @@
 //! ```text
 //! loop {
 //!     let rest = drive_client(&mut client, came.take(), clock.now(), 64, &mut tasks)?;
+//!     let is_idle = tasks.is_empty(); // carrying a task out may call the client
 //!     for task in tasks.drain(..) {
 //!         app.carry_out(task, &mut client);
 //!     }
 //!     match rest {
-//!         Rest::Until(deadline) => came = sockets.wait(deadline),
-//!         Rest::Now => {}
+//!         Rest::Until(deadline) if is_idle => came = sockets.wait(deadline),
+//!         Rest::Until(_) | Rest::Now => {}
 //!         Rest::Ended => break,
 //!     }
 //! }

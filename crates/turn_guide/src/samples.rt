@@ -40,10 +40,15 @@ pub fn iterate<C: TurnClientApi>(
 {
     let mut tasks = Vec::new(program.alloc);
     let rest = drive_client(client, received, now, 64, &mut tasks);
+    let is_idle = tasks.is_empty();
     for task in tasks {
         carry_out(program, client, &task, now)?;
     }
-    rest
+    match rest? {
+        // A task may have called the client, which has more to do then.
+        Rest::Until(_) if !is_idle => Ok(Rest::Now),
+        rest => Ok(rest),
+    }
 }
 
 /// Carries out one task of the client.
