@@ -1,6 +1,6 @@
 //! HMAC (RFC 2104) over SHA-1 and SHA-256.
 
-ghost use Rattle.std.specs.Prelude.{◌≡◌, ℕ, ◌++◌, ◌≤◌, List, [], length};
+ghost use Rattle.std.specs.Prelude.{◌≡◌, ℕ, ◌++◌, ◌≤◌, List, length};
 ghost use Rattle.sha1.specs.Sha1.{sha1};
 ghost use Rattle.sha2.specs.Sha256.{sha256};
 ghost use Rattle.turn_auth.specs.Hmac.{hmac, filled, key_block, padded};
@@ -16,23 +16,19 @@ const BLOCK_LEN: usize = 64;
 pub fn hmac_sha1(key: &[u8], text: &[u8]) -> [u8; 20]
     ensures { result ≡ hmac sha1 key.now text.now }
 {
-    let mut mac = HmacSha1::new(key);
-    mac.update(text);
-    mac.finalize()
+    HmacSha1::new(key).code(text, &[])
 }
 
 /// The HMAC-SHA256 of the text under the key (RFC 2104), for a key of any length. Allocates no memory.
 pub fn hmac_sha256(key: &[u8], text: &[u8]) -> [u8; 32]
     ensures { result ≡ hmac sha256 key.now text.now }
 {
-    let mut mac = HmacSha256::new(key);
-    mac.update(text);
-    mac.finalize()
+    HmacSha256::new(key).code(text, &[])
 }
 
-/// An HMAC-SHA1 whose text is added in pieces.
+/// An HMAC-SHA1 under a key.
 ///
-/// Both digests are kept after the padded key, so that a kept key costs no digest of it again.
+/// Both digests are kept after the padded key, so that no text costs a digest of it again.
 #[derive(Drop)]
 pub(crate) struct HmacSha1 {
     inner: Sha1,
@@ -40,9 +36,9 @@ pub(crate) struct HmacSha1 {
 }
 
 impl HmacSha1 {
-    /// The HMAC of the empty text.
+    /// The HMAC under this key.
     pub(crate) fn new(key: &[u8]) -> HmacSha1
-        ensures { HoldsSha1 result key.now [] }
+        ensures { HoldsSha1 result key.now }
     {
         let block = sha1_block(key);
         let mut inner = Sha1::new();
@@ -52,35 +48,22 @@ impl HmacSha1 {
         HmacSha1 { inner, outer }
     }
 
-    /// Adds to the text.
-    pub(crate) fn update(&mut self, text: &[u8])
-        ensures { (key before : List ℕ) → HoldsSha1 self.old key before → HoldsSha1 self.new key (before ++ text.now) }
-    {
-        self.inner.update(text);
-    }
-
-    /// The HMAC of the text.
+    /// The HMAC of a text in two pieces.
     #[tactic(auto, unfolding(crate::specs::Hmac::hmac))]
-    pub(crate) fn finalize(self) -> [u8; 20]
-        ensures { (key text : List ℕ) → HoldsSha1 self key text → result ≡ hmac sha1 key text }
+    pub(crate) fn code(&self, front: &[u8], rest: &[u8]) -> [u8; 20]
+        ensures { (key : List ℕ) → HoldsSha1 self.now key → result ≡ hmac sha1 key (front.now ++ rest.now) }
     {
-        let mut outer = self.outer;
-        outer.update(&self.inner.finalize());
+        // there are few pieces, and what is kept is copied once, since each of both costs some percent of a block
+        let mut inner = self.inner.clone().unwrap();
+        inner.update(front);
+        inner.update(rest);
+        let mut outer = self.outer.clone().unwrap();
+        outer.update(&inner.finalize());
         outer.finalize()
-    }
-
-    /// The same HMAC once more.
-    pub(crate) fn fork(&self) -> HmacSha1
-        ensures { result ≡ self.now }
-    {
-        HmacSha1 {
-            inner: self.inner.clone().unwrap(),
-            outer: self.outer.clone().unwrap(),
-        }
     }
 }
 
-/// An HMAC-SHA256 whose text is added in pieces, kept as `HmacSha1` is.
+/// An HMAC-SHA256 under a key, which is kept as `HmacSha1` keeps it.
 #[derive(Drop)]
 pub(crate) struct HmacSha256 {
     inner: Sha256,
@@ -88,9 +71,9 @@ pub(crate) struct HmacSha256 {
 }
 
 impl HmacSha256 {
-    /// The HMAC of the empty text.
+    /// The HMAC under this key.
     pub(crate) fn new(key: &[u8]) -> HmacSha256
-        ensures { HoldsSha256 result key.now [] }
+        ensures { HoldsSha256 result key.now }
     {
         let block = sha256_block(key);
         let mut inner = Sha256::new();
@@ -100,31 +83,17 @@ impl HmacSha256 {
         HmacSha256 { inner, outer }
     }
 
-    /// Adds to the text.
-    pub(crate) fn update(&mut self, text: &[u8])
-        ensures { (key before : List ℕ) → HoldsSha256 self.old key before → HoldsSha256 self.new key (before ++ text.now) }
-    {
-        self.inner.update(text);
-    }
-
-    /// The HMAC of the text.
+    /// The HMAC of a text in two pieces.
     #[tactic(auto, unfolding(crate::specs::Hmac::hmac))]
-    pub(crate) fn finalize(self) -> [u8; 32]
-        ensures { (key text : List ℕ) → HoldsSha256 self key text → result ≡ hmac sha256 key text }
+    pub(crate) fn code(&self, front: &[u8], rest: &[u8]) -> [u8; 32]
+        ensures { (key : List ℕ) → HoldsSha256 self.now key → result ≡ hmac sha256 key (front.now ++ rest.now) }
     {
-        let mut outer = self.outer;
-        outer.update(&self.inner.finalize());
+        let mut inner = self.inner.clone().unwrap();
+        inner.update(front);
+        inner.update(rest);
+        let mut outer = self.outer.clone().unwrap();
+        outer.update(&inner.finalize());
         outer.finalize()
-    }
-
-    /// The same HMAC once more.
-    pub(crate) fn fork(&self) -> HmacSha256
-        ensures { result ≡ self.now }
-    {
-        HmacSha256 {
-            inner: self.inner.clone().unwrap(),
-            outer: self.outer.clone().unwrap(),
-        }
     }
 }
 

@@ -1,6 +1,6 @@
 //! MESSAGE-INTEGRITY and MESSAGE-INTEGRITY-SHA256 (RFC 8489, sections 14.5 and 14.6).
 
-ghost use Rattle.std.specs.Prelude.{◌≡◌, ◌≤◌, ◌<◌, ◌+◌, ◌^◌, ℕ, List, [], length};
+ghost use Rattle.std.specs.Prelude.{◌≡◌, ◌≤◌, ◌<◌, ◌+◌, ◌^◌, ℕ, List, length};
 ghost use Rattle.std.specs.Str.{bytes_eq};
 ghost use Rattle.sha1.specs.Sha1.{sha1};
 ghost use Rattle.sha2.specs.Sha256.{sha256};
@@ -40,13 +40,10 @@ pub(crate) fn sha1_value(mac: &HmacSha1, bytes: &[u8], offset: usize) -> [u8; 20
     requires header { 20 ≤ offset }
     requires within { offset ≤ length bytes.now }
     requires short { offset + 4 < 2 ^ 16 }
-    ensures { (key : List ℕ) → HoldsSha1 mac.now key [] → result ≡ hmac sha1 key (covered_text IntegrityAlgorithm.Sha1 offset bytes.now) }
+    ensures { (key : List ℕ) → HoldsSha1 mac.now key → result ≡ hmac sha1 key (covered_text IntegrityAlgorithm.Sha1 offset bytes.now) }
 {
-    let mut covered = mac.fork();
-    covered.update(&bytes[..2]);
-    covered.update(&((offset + 4) as u16).to_be_bytes());
-    covered.update(&bytes[4..offset]);
-    covered.finalize()
+    let [high, low] = ((offset + 4) as u16).to_be_bytes();
+    mac.code(&[bytes[0], bytes[1], high, low], &bytes[4..offset])
 }
 
 /// The value of a MESSAGE-INTEGRITY-SHA256 at this offset of a message. No byte of it is copied.
@@ -54,18 +51,15 @@ pub(crate) fn sha256_value(mac: &HmacSha256, bytes: &[u8], offset: usize) -> [u8
     requires header { 20 ≤ offset }
     requires within { offset ≤ length bytes.now }
     requires short { offset + 16 < 2 ^ 16 }
-    ensures { (key : List ℕ) → HoldsSha256 mac.now key [] → result ≡ hmac sha256 key (covered_text IntegrityAlgorithm.Sha256 offset bytes.now) }
+    ensures { (key : List ℕ) → HoldsSha256 mac.now key → result ≡ hmac sha256 key (covered_text IntegrityAlgorithm.Sha256 offset bytes.now) }
 {
-    let mut covered = mac.fork();
-    covered.update(&bytes[..2]);
-    covered.update(&((offset + 16) as u16).to_be_bytes());
-    covered.update(&bytes[4..offset]);
-    covered.finalize()
+    let [high, low] = ((offset + 16) as u16).to_be_bytes();
+    mac.code(&[bytes[0], bytes[1], high, low], &bytes[4..offset])
 }
 
 /// Whether the first seen MESSAGE-INTEGRITY is valid under the key, or `None` if none is seen.
 pub(crate) fn sha1_holds(mac: &HmacSha1, message: &Message<'_>) -> Option<bool>
-    ensures { (key : List ℕ) → HoldsSha1 mac.now key [] → result ≡ seen_integrity message.now IntegrityAlgorithm.Sha1 key }
+    ensures { (key : List ℕ) → HoldsSha1 mac.now key → result ≡ seen_integrity message.now IntegrityAlgorithm.Sha1 key }
 {
     let Some((offset, raw)) = message.raw_attribute(AttributeType::MESSAGE_INTEGRITY) else {
         return None;
@@ -81,7 +75,7 @@ pub(crate) fn sha1_holds(mac: &HmacSha1, message: &Message<'_>) -> Option<bool>
 
 /// Whether the first seen MESSAGE-INTEGRITY-SHA256 is valid under the key, or `None` if none is seen.
 pub(crate) fn sha256_holds(mac: &HmacSha256, message: &Message<'_>) -> Option<bool>
-    ensures { (key : List ℕ) → HoldsSha256 mac.now key [] → result ≡ seen_integrity message.now IntegrityAlgorithm.Sha256 key }
+    ensures { (key : List ℕ) → HoldsSha256 mac.now key → result ≡ seen_integrity message.now IntegrityAlgorithm.Sha256 key }
 {
     let Some((offset, raw)) = message.raw_attribute(AttributeType::MESSAGE_INTEGRITY_SHA256) else {
         return None;

@@ -190,9 +190,9 @@ pub(crate) fn add_integrity(
 fn add_sha1(message: &mut MessageWriteVec, mac: &HmacSha1) -> Result<(), AllocError>
     requires room { length message.old + 24 ≤ 65552 }
     requires unsigned { is_unsigned (attributes_of message.old) ≡ true }
-    ensures text { (k : List ℕ) → HoldsSha1 mac.now k [] → OnOk result (message.new ≡ with_integrity IntegrityAlgorithm.Sha1 k message.old) }
+    ensures text { (k : List ℕ) → HoldsSha1 mac.now k → OnOk result (message.new ≡ with_integrity IntegrityAlgorithm.Sha1 k message.old) }
     ensures len { OnOk result (length message.new ≡ length message.old + 24) }
-    ensures holds { (k : List ℕ) → HoldsSha1 mac.now k [] → OnOk result (IntegrityHolds message.new IntegrityAlgorithm.Sha1 k) }
+    ensures holds { (k : List ℕ) → HoldsSha1 mac.now k → OnOk result (IntegrityHolds message.new IntegrityAlgorithm.Sha1 k) }
     ensures same_type { OnOk result (type_of message.new ≡ type_of message.old) }
     ensures same_id { OnOk result (id_of message.new ≡ id_of message.old) }
     ensures kept { Extends message.old message.new }
@@ -211,9 +211,9 @@ fn add_sha1(message: &mut MessageWriteVec, mac: &HmacSha1) -> Result<(), AllocEr
 fn add_sha256(message: &mut MessageWriteVec, mac: &HmacSha256) -> Result<(), AllocError>
     requires room { length message.old + 36 ≤ 65552 }
     requires unsigned { is_unsigned (attributes_of message.old) ≡ true }
-    ensures text { (k : List ℕ) → HoldsSha256 mac.now k [] → OnOk result (message.new ≡ with_integrity IntegrityAlgorithm.Sha256 k message.old) }
+    ensures text { (k : List ℕ) → HoldsSha256 mac.now k → OnOk result (message.new ≡ with_integrity IntegrityAlgorithm.Sha256 k message.old) }
     ensures len { OnOk result (length message.new ≡ length message.old + 36) }
-    ensures holds { (k : List ℕ) → HoldsSha256 mac.now k [] → OnOk result (IntegrityHolds message.new IntegrityAlgorithm.Sha256 k) }
+    ensures holds { (k : List ℕ) → HoldsSha256 mac.now k → OnOk result (IntegrityHolds message.new IntegrityAlgorithm.Sha256 k) }
     ensures same_type { OnOk result (type_of message.new ≡ type_of message.old) }
     ensures same_id { OnOk result (id_of message.new ≡ id_of message.old) }
     ensures kept { Extends message.old message.new }

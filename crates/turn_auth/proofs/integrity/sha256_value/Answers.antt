@@ -1,8 +1,8 @@
-use Rattle.std.proofs.Common.{◌+◌, ◌-◌, [], ◌∙◌, refl, arith}
+use Rattle.std.proofs.Common.{◌+◌, ◌-◌, ◌∙◌, refl, arith}
 use Rattle.turn_auth.proofs.IntegrityLemmas.{covered_pieces}
 use Rattle.turn_auth.proofs.integrity.sha256_value.Goals as goal
 
 pub returns : goal.returns
 returns c = λ key holds.
-    c.finalize.ensures key _ (c.update-3.ensures key _ (c.update-2.ensures key _ (c.update.ensures key [] (rw c.fork-covered.ensures holds))))
-    ∙ rw (c.to_be_bytes.ensures, covered_pieces c.args.bytes.now c.args.offset (c.args.offset + 16) (c.args.offset - 20 + (4 + 32)) c.requires.header (omega arith)) refl
+    c.code.ensures key holds
+    ∙ rw (c.to_be_bytes.ensures, covered_pieces c.args.bytes.now c.args.offset (c.args.offset + 16) (c.args.offset - 20 + (4 + 32)) c.requires.header c.requires.within (omega arith)) refl
