@@ -81,6 +81,10 @@ fn append_padding(out: &mut Vec<u8>, len: usize) -> Result<(), AllocError>
     requires { len ≤ 3 }
     ensures { out.new.items ≡ (if is_ok result then out.old.items ++ replicate len 0 else out.old.items) }
 {
+    // most values need none
+    if len == 0 {
+        return Ok(());
+    }
     let zeros = [0; 3];
     out.extend_from_slice(&zeros[..len])
 }
