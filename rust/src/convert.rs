@@ -10,6 +10,7 @@ use crate::types::AddressFamily;
 use std::net::{IpAddr, Ipv4Addr, Ipv6Addr, SocketAddr, SocketAddrV6};
 
 /// A time: one under 0 is over 2^62 there, and so refused.
+#[inline]
 pub(crate) fn nanos(now: Instant) -> u64 {
     now.as_nanos() as u64
 }
@@ -19,6 +20,7 @@ pub(crate) fn instant(nanos: u64) -> Instant {
     Instant::from_nanos(i64::try_from(nanos).unwrap_or(i64::MAX))
 }
 
+#[inline]
 pub(crate) fn transport_code(transport: TransportType) -> u32 {
     match transport {
         TransportType::Udp => sys::UDP,
@@ -26,6 +28,7 @@ pub(crate) fn transport_code(transport: TransportType) -> u32 {
     }
 }
 
+#[inline]
 pub(crate) fn transport(code: u32) -> TransportType {
     if code == sys::TCP {
         TransportType::Tcp
@@ -34,6 +37,7 @@ pub(crate) fn transport(code: u32) -> TransportType {
     }
 }
 
+#[inline]
 pub(crate) fn address(addr: SocketAddr) -> sys::Address {
     match addr {
         SocketAddr::V4(addr) => {
@@ -63,15 +67,15 @@ pub(crate) fn ip_address(ip: IpAddr) -> sys::Address {
 }
 
 /// The address that the library gave: it has one wherever it is looked at.
+#[inline]
 pub(crate) fn socket(address: &sys::Address) -> SocketAddr {
-    let ip = address.ip;
     debug_assert_ne!(address.family, sys::NO_ADDRESS);
     if address.family == sys::IPV6 {
-        let ip = Ipv6Addr::from(ip);
+        let ip = Ipv6Addr::from(address.ip);
         SocketAddrV6::new(ip, address.port, address.flow, address.scope).into()
     } else {
-        let ip = Ipv4Addr::new(ip[0], ip[1], ip[2], ip[3]);
-        SocketAddr::new(IpAddr::V4(ip), address.port)
+        let [a, b, c, d, ..] = address.ip;
+        SocketAddr::new(IpAddr::V4(Ipv4Addr::new(a, b, c, d)), address.port)
     }
 }
 

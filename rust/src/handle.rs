@@ -53,7 +53,8 @@ impl Handle {
         }
     }
 
-    /// Makes a call, with bytes in, and buffer for bytes out.
+    /// Makes a call, with bytes in, and a buffer for bytes out. It writes to an answer that is all 0, and returns none: a
+    /// copy of so many bytes, right after they were written in parts, would have to wait for them.
     ///
     /// # Panics
     ///
@@ -63,35 +64,75 @@ impl Handle {
         request: &sys::Request,
         bytes: &[u8],
         buffer: &mut [u8],
-    ) -> sys::Answer {
-        self.call_shared(request, bytes, buffer)
+        answer: &mut sys::Answer,
+    ) {
+        // SAFETY: the pointer and the length are those of a slice, which is borrowed mutably.
+        unsafe { self.call_at(request, bytes, buffer.as_mut_ptr(), buffer.len(), answer) }
     }
 
     /// Makes a call that only looks: one for which the client is the same afterwards.
     pub(crate) fn look(&self, request: &sys::Request) -> sys::Answer {
-        self.call_shared(request, &[], &mut [])
+        let mut answer = sys::Answer::default();
+        let buffer: &mut [u8] = &mut [];
+        // SAFETY: the pointer and the length are those of a slice, which is borrowed mutably.
+        unsafe { self.call_at(request, &[], buffer.as_mut_ptr(), 0, &mut answer) };
+        answer
     }
 
-    fn call_shared(&self, request: &sys::Request, bytes: &[u8], buffer: &mut [u8]) -> sys::Answer {
-        let mut answer = sys::Answer::default();
+    /// Makes a call whose bytes are put into a new vector, with room for so many.
+    ///
+    /// # Panics
+    ///
+    /// The time of the request is not from 0 to 2^62 ns.
+    pub(crate) fn call_into(
+        &mut self,
+        request: &sys::Request,
+        bytes: &[u8],
+        room: usize,
+        answer: &mut sys::Answer,
+    ) -> Vec<u8> {
+        let mut written = Vec::with_capacity(room);
+        // SAFETY: the pointer is that of the vector's memory, of `room` bytes or more. The library writes there, and what
+        // stood there before is in nothing that it answers.
+        unsafe { self.call_at(request, bytes, written.as_mut_ptr(), room, answer) };
+        if answer.kind == sys::PACKET {
+            // SAFETY: the library has written so many bytes from the start on, and not more than `room`.
+            unsafe { written.set_len(answer.len) };
+        }
+        written
+    }
+
+    /// Makes a call.
+    ///
+    /// # Safety
+    ///
+    /// The `len` bytes at `buffer` may be written, and overlap nothing else that is passed.
+    unsafe fn call_at(
+        &self,
+        request: &sys::Request,
+        bytes: &[u8],
+        buffer: *mut u8,
+        len: usize,
+        answer: &mut sys::Answer,
+    ) {
         // SAFETY: the client came from `yarrowdoor_new` and is freed only by `drop`. This is the only call of it: it is
-        // not `Sync`, and the library calls nothing back. Each other pointer is that of a reference or a slice, so it is
-        // not null, and is valid for its length; `buffer` and `answer` are borrowed mutably, so they overlap nothing.
+        // not `Sync`, and the library calls nothing back. Each other pointer is that of a reference or a slice, or
+        // `buffer`, so it is not null, and is valid for its length; `answer` is borrowed mutably, so it overlaps nothing.
         unsafe {
             sys::yarrowdoor_call(
                 self.client.as_ptr(),
                 request,
                 bytes.as_ptr(),
                 bytes.len(),
-                buffer.as_mut_ptr(),
-                buffer.len(),
-                &mut answer,
+                buffer,
+                len,
+                answer,
             );
         }
         match answer.kind {
             sys::OUT_OF_MEMORY => out_of_memory(),
             sys::BAD_TIME => panic!("a time is from 0 to 2^62 nanoseconds"),
-            _ => answer,
+            _ => {}
         }
     }
 }

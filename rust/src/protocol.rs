@@ -40,6 +40,7 @@ impl Debug for Buffer {
 }
 
 /// A request of this kind, at this time.
+#[inline]
 fn request(kind: u32, now: Instant) -> sys::Request {
     sys::Request {
         kind,
@@ -100,7 +101,9 @@ impl Protocol {
 
     /// Makes a call without bytes.
     fn call(&mut self, request: &sys::Request) -> sys::Answer {
-        self.handle.call(request, &[], &mut [])
+        let mut answer = sys::Answer::default();
+        self.handle.call(request, &[], &mut [], &mut answer);
+        answer
     }
 
     /// The bytes of an answer: those in the buffer, and those that did not fit into it.
@@ -109,9 +112,9 @@ impl Protocol {
         bytes.extend_from_slice(&self.buffer.0[..answer.len]);
         let mut left = answer.left;
         while left > 0 {
-            let more = self
-                .handle
-                .call(&timeless(sys::CALL_READ), &[], &mut self.buffer.0);
+            let (request, mut more) = (timeless(sys::CALL_READ), sys::Answer::default());
+            self.handle
+                .call(&request, &[], &mut self.buffer.0, &mut more);
             if more.kind != sys::BYTES {
                 unexpected(&more);
             }
@@ -141,9 +144,13 @@ impl Protocol {
             to: address(transmit.to),
             ..request(sys::CALL_RECV, now)
         };
-        let answer = self
-            .handle
-            .call(&request, transmit.data.as_ref(), &mut self.buffer.0);
+        let mut answer = sys::Answer::default();
+        self.handle.call(
+            &request,
+            transmit.data.as_ref(),
+            &mut self.buffer.0,
+            &mut answer,
+        );
         match answer.kind {
             sys::HANDLED => TurnRecvRet::Handled,
             sys::IGNORED => TurnRecvRet::Ignored(transmit),
@@ -169,7 +176,9 @@ impl Protocol {
 
     pub(crate) fn poll_recv(&mut self, now: Instant) -> Option<TurnPeerData<Vec<u8>>> {
         let request = request(sys::CALL_POLL_RECV, now);
-        let answer = self.handle.call(&request, &[], &mut self.buffer.0);
+        let mut answer = sys::Answer::default();
+        self.handle
+            .call(&request, &[], &mut self.buffer.0, &mut answer);
         match answer.kind {
             sys::NOTHING => None,
             sys::PEER_DATA => Some(self.data_of(&answer)),
@@ -179,7 +188,9 @@ impl Protocol {
 
     pub(crate) fn poll_transmit(&mut self, now: Instant) -> Option<Transmit<Data<'static>>> {
         let request = request(sys::CALL_POLL_TRANSMIT, now);
-        let answer = self.handle.call(&request, &[], &mut self.buffer.0);
+        let mut answer = sys::Answer::default();
+        self.handle
+            .call(&request, &[], &mut self.buffer.0, &mut answer);
         match answer.kind {
             sys::NOTHING => None,
             sys::PACKET => Some(Transmit::new(
@@ -205,18 +216,16 @@ impl Protocol {
             ..request(sys::CALL_SEND_TO, now)
         };
         let data = data.as_ref();
-        let mut packet = vec![0; data.len().saturating_add(sys::MAX_OVERHEAD)];
-        let answer = self.handle.call(&request, data, &mut packet);
+        let room = data.len().saturating_add(sys::MAX_OVERHEAD);
+        let mut answer = sys::Answer::default();
+        let packet = self.handle.call_into(&request, data, room, &mut answer);
         match answer.kind {
-            sys::PACKET => {
-                packet.truncate(answer.len);
-                Ok(Some(TransmitBuild::new(
-                    DelayedMessageOrChannelSend::OwnedData(packet),
-                    transport(answer.transport),
-                    socket(&answer.from),
-                    socket(&answer.to),
-                )))
-            }
+            sys::PACKET => Ok(Some(TransmitBuild::new(
+                DelayedMessageOrChannelSend::OwnedData(packet),
+                transport(answer.transport),
+                socket(&answer.from),
+                socket(&answer.to),
+            ))),
             sys::BAD_PAYLOAD => Err(SendError::PayloadTooLong),
             sys::REFUSED => Err(answers::send_error(&answer)),
             _ => unexpected(&answer),
