@@ -27,6 +27,30 @@ pub struct Address {
     pub reserved: u8,
 }
 
+impl Address {
+    ghost use Rattle.std.specs.Prelude.{◌≡◌, Some};
+    ghost use Rattle.turn_c_calls.specs.Address.{address_of, address_of_ip, socket_at};
+
+    /// Becomes this address. It is written in place, so that no copy of it is made.
+    pub fn set(&mut self, addr: &SocketAddr)
+        ensures value { self.new ≡ address_of addr.now }
+        // It is read again as it was.
+        ensures again { socket_at self.new ≡ Some addr.now }
+    {
+        match addr {
+            SocketAddr::V4(addr) => *self = address_of_v4(*addr),
+            SocketAddr::V6(addr) => *self = address_of_v6(*addr),
+        }
+    }
+
+    /// Becomes this IP address, with the port 0.
+    pub fn set_ip(&mut self, ip: IpAddr)
+        ensures { self.new ≡ address_of_ip ip }
+    {
+        self.set(&SocketAddr::new(ip, 0));
+    }
+}
+
 /// No address.
 pub fn no_address() -> Address
     ensures { result ≡ no_address }
@@ -38,18 +62,6 @@ pub fn no_address() -> Address
         port: 0,
         family: NO_FAMILY,
         reserved: 0,
-    }
-}
-
-/// This address as numbers.
-pub fn address_of(addr: SocketAddr) -> Address
-    ensures value { result ≡ address_of addr }
-    // It is read again as it was.
-    ensures again { socket_at result ≡ Some addr }
-{
-    match addr {
-        SocketAddr::V4(addr) => address_of_v4(addr),
-        SocketAddr::V6(addr) => address_of_v6(addr),
     }
 }
 
@@ -89,16 +101,6 @@ fn octets_of(ip: Ipv6Addr) -> [u8; 16]
 {
     let _segments = ip.segments();
     ip.octets()
-}
-
-/// This IP address as numbers, with the port 0.
-pub fn address_of_ip(ip: IpAddr) -> Address
-    ensures { result ≡ address_of_ip ip }
-{
-    match ip {
-        IpAddr::V4(ip) => address_of(SocketAddr::V4(SocketAddrV4::new(ip, 0))),
-        IpAddr::V6(ip) => address_of(SocketAddr::V6(SocketAddrV6::new(ip, 0, 0, 0))),
-    }
 }
 
 /// The address of these numbers, or none if its family is neither 4 nor 6.

@@ -1,6 +1,6 @@
 //! The answer to a request.
 
-use crate::address::{Address, address_of, address_of_ip, transport_code};
+use crate::address::{Address, transport_code};
 use crate::code::{
     ADDRESS, ALLOCATE_TCP_SOCKET, ALLOCATION_CREATE_FAILED, ALLOCATION_CREATED,
     CHANNEL_CREATE_FAILED, CHANNEL_CREATED, CLOSED, DONE, ERROR_ALREADY_EXISTS, ERROR_EXPIRED,
@@ -55,6 +55,7 @@ pub struct Answer {
 
 impl Answer {
     ghost use Rattle.std.specs.Prelude.{◌≡◌};
+    ghost use Rattle.turn_c_calls.specs.Address.{address_of, address_of_ip};
     ghost use Rattle.turn_c_calls.specs.Answer.{IsPlain, answer_to, data_answer, event_answer, icmp_answer, packet_answer};
     ghost use Rattle.turn_c_calls.specs.Answer.{peer_answer, permission_answer, poll_answer, refusal_answer, relayed_answer};
 
@@ -96,50 +97,55 @@ impl Answer {
                 self.kind = ALLOCATE_TCP_SOCKET;
                 self.id = *id;
                 self.transport = transport_code(socket.transport);
-                self.from = address_of(socket.from);
-                self.to = address_of(socket.to);
-                self.peer = address_of(*peer_addr);
+                self.from.set(&socket.from);
+                self.to.set(&socket.to);
+                self.peer.set(peer_addr);
             }
             TurnPollRet::TcpClose {
                 local_addr,
                 remote_addr,
             } => {
                 self.kind = TCP_CLOSE;
-                self.from = address_of(*local_addr);
-                self.to = address_of(*remote_addr);
+                self.from.set(local_addr);
+                self.to.set(remote_addr);
             }
             TurnPollRet::Closed => self.kind = CLOSED,
         }
     }
 
     /// A packet to send, but for its bytes.
-    pub(crate) fn set_packet(&mut self, transport: TransportType, from: SocketAddr, to: SocketAddr)
-        ensures { self.new ≡ packet_answer transport from to self.old }
+    pub(crate) fn set_packet(
+        &mut self,
+        transport: TransportType,
+        from: &SocketAddr,
+        to: &SocketAddr,
+    )
+        ensures { self.new ≡ packet_answer transport from.now to.now self.old }
     {
         self.kind = PACKET;
         self.transport = transport_code(transport);
-        self.from = address_of(from);
-        self.to = address_of(to);
+        self.from.set(from);
+        self.to.set(to);
     }
 
     /// Data of a peer, but for its bytes.
-    pub(crate) fn set_peer_data(&mut self, transport: TransportType, peer: SocketAddr)
-        ensures { self.new ≡ data_answer transport peer self.old }
+    pub(crate) fn set_peer_data(&mut self, transport: TransportType, peer: &SocketAddr)
+        ensures { self.new ≡ data_answer transport peer.now self.old }
     {
-        self.set_peer(PEER_DATA, transport, address_of(peer));
+        self.set_peer(PEER_DATA, transport, peer);
     }
 
     /// Data of a peer that lies in the data that was passed in.
     pub(crate) fn set_peer_data_range(
         &mut self,
         transport: TransportType,
-        peer: SocketAddr,
+        peer: &SocketAddr,
         start: usize,
         len: usize,
     )
-        ensures { self.new ≡ record (data_answer transport peer self.old) { kind = PEER_DATA_RANGE; start = start; len = len } }
+        ensures { self.new ≡ record (data_answer transport peer.now self.old) { kind = PEER_DATA_RANGE; start = start; len = len } }
     {
-        self.set_peer(PEER_DATA_RANGE, transport, address_of(peer));
+        self.set_peer(PEER_DATA_RANGE, transport, peer);
         self.start = start;
         self.len = len;
     }
@@ -148,14 +154,14 @@ impl Answer {
     pub(crate) fn set_peer_icmp(
         &mut self,
         transport: TransportType,
-        peer: SocketAddr,
+        peer: &SocketAddr,
         icmp_type: u8,
         icmp_code: u8,
         icmp_data: u32,
     )
-        ensures { self.new ≡ icmp_answer transport peer icmp_type icmp_code icmp_data self.old }
+        ensures { self.new ≡ icmp_answer transport peer.now icmp_type icmp_code icmp_data self.old }
     {
-        self.set_peer(PEER_ICMP, transport, address_of(peer));
+        self.set_peer(PEER_ICMP, transport, peer);
         self.icmp_type = icmp_type;
         self.icmp_code = icmp_code;
         self.icmp_data = icmp_data;
@@ -167,7 +173,7 @@ impl Answer {
     {
         match event {
             TurnEvent::AllocationCreated(transport, relayed) => {
-                self.set_peer(ALLOCATION_CREATED, *transport, address_of(*relayed));
+                self.set_peer(ALLOCATION_CREATED, *transport, relayed);
             }
             TurnEvent::AllocationCreateFailed(family) => {
                 self.kind = ALLOCATION_CREATE_FAILED;
@@ -177,24 +183,24 @@ impl Answer {
                 };
             }
             TurnEvent::PermissionCreated(transport, peer) => {
-                self.set_peer(PERMISSION_CREATED, *transport, address_of_ip(*peer));
+                self.set_peer_ip(PERMISSION_CREATED, *transport, *peer);
             }
             TurnEvent::PermissionCreateFailed(transport, peer) => {
-                self.set_peer(PERMISSION_CREATE_FAILED, *transport, address_of_ip(*peer));
+                self.set_peer_ip(PERMISSION_CREATE_FAILED, *transport, *peer);
             }
             TurnEvent::ChannelCreated(transport, peer) => {
-                self.set_peer(CHANNEL_CREATED, *transport, address_of(*peer));
+                self.set_peer(CHANNEL_CREATED, *transport, peer);
             }
             TurnEvent::ChannelCreateFailed(transport, peer) => {
-                self.set_peer(CHANNEL_CREATE_FAILED, *transport, address_of(*peer));
+                self.set_peer(CHANNEL_CREATE_FAILED, *transport, peer);
             }
             TurnEvent::TcpConnected(peer) => {
                 self.kind = TCP_CONNECTED;
-                self.peer = address_of(*peer);
+                self.peer.set(peer);
             }
             TurnEvent::TcpConnectFailed(peer) => {
                 self.kind = TCP_CONNECT_FAILED;
-                self.peer = address_of(*peer);
+                self.peer.set(peer);
             }
         }
     }
@@ -222,7 +228,7 @@ impl Answer {
         ensures { self.new ≡ relayed_answer relayed self.old }
     {
         match relayed {
-            Some((transport, addr)) => self.set_peer(ADDRESS, transport, address_of(addr)),
+            Some((transport, addr)) => self.set_peer(ADDRESS, transport, &addr),
             None => self.kind = NOTHING,
         }
     }
@@ -234,18 +240,27 @@ impl Answer {
         match ip {
             Some(ip) => {
                 self.kind = ADDRESS;
-                self.peer = address_of_ip(ip);
+                self.peer.set_ip(ip);
             }
             None => self.kind = NOTHING,
         }
     }
 
     /// An answer of this kind about a peer.
-    fn set_peer(&mut self, kind: u32, transport: TransportType, peer: Address)
-        ensures { self.new ≡ peer_answer kind transport peer self.old }
+    fn set_peer(&mut self, kind: u32, transport: TransportType, peer: &SocketAddr)
+        ensures { self.new ≡ peer_answer kind transport (address_of peer.now) self.old }
     {
         self.kind = kind;
         self.transport = transport_code(transport);
-        self.peer = peer;
+        self.peer.set(peer);
+    }
+
+    /// An answer of this kind about the IP address of a peer.
+    fn set_peer_ip(&mut self, kind: u32, transport: TransportType, peer: IpAddr)
+        ensures { self.new ≡ peer_answer kind transport (address_of_ip peer) self.old }
+    {
+        self.kind = kind;
+        self.transport = transport_code(transport);
+        self.peer.set_ip(peer);
     }
 }

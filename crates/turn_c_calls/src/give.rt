@@ -33,7 +33,7 @@ pub fn report<T: AsSlice<u8> + Drop>(
         TurnRecvRet::PeerData(given) => match given.place() {
             Some(place) => {
                 let len = given.data().len();
-                answer.set_peer_data_range(given.transport, given.peer, place.start, len);
+                answer.set_peer_data_range(given.transport, &given.peer, place.start, len);
             }
             // Bytes that lie nowhere in the input are owned, and so are not copied.
             None => match given.into_owned(alloc) {
@@ -47,7 +47,7 @@ pub fn report<T: AsSlice<u8> + Drop>(
             icmp_type,
             icmp_code,
             icmp_data,
-        } => answer.set_peer_icmp(transport, peer, icmp_type, icmp_code, icmp_data),
+        } => answer.set_peer_icmp(transport, &peer, icmp_type, icmp_code, icmp_data),
     }
 }
 
@@ -61,7 +61,7 @@ pub fn deliver(
     requires { unread.old ≡ [] }
     ensures { Puts (payload_of given) unread.old (data_answer given.transport given.peer answer.old) buffer.old buffer.new unread.new answer.new }
 {
-    answer.set_peer_data(given.transport, given.peer);
+    answer.set_peer_data(given.transport, &given.peer);
     give(Kept::Given(given), unread, buffer, answer);
 }
 
@@ -84,7 +84,7 @@ pub fn write<T: DelayedTransmitBuild>(
     ensures { (u : List ℕ) → Puts (T.bytes packet.payload) u (packet_answer packet.transport packet.from packet.to answer.old)
         buffer.old buffer.new u answer.new }
 {
-    answer.set_packet(packet.transport, packet.from, packet.to);
+    answer.set_packet(packet.transport, &packet.from, &packet.to);
     let len = packet.payload.len();
     let (front, _) = buffer.split_at_mut(len);
     packet.write_into(front);

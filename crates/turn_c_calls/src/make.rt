@@ -144,7 +144,7 @@ pub fn poll_transmit<C: TurnClientApi>(
     match client.poll_transmit(now)? {
         None => answer.kind = NOTHING,
         Some(packet) => {
-            answer.set_packet(packet.transport, packet.from, packet.to);
+            answer.set_packet(packet.transport, &packet.from, &packet.to);
             give(Kept::Packet(packet.payload), unread, buffer, answer);
         }
     }
